@@ -1,0 +1,13 @@
+pub mod Rows
+pub mod LineLemmas
+pub mod ReadLemmas
+pub mod StepLemmas
+pub mod GoLemmas
+pub mod GrammarLemmas
+pub mod PartLemmas
+pub mod LawfulLemmas
+pub mod SourceLemmas
+pub mod ScoreLemmas
+pub mod WrittenLemmas
+pub mod UnwrappedLemmas
+pub mod RecordsLemmas

@@ -1,0 +1,148 @@
+-- What a reader of lines has done, as what a source answers.
+use Rattle.std.proofs.Common.{◌≡◌, ℕ, suc, ◌+◌, ◌-◌, ◌<◌, ◌≤◌, inl, inr, Bool, true, false, eqb, Option, Some, None, Result, Ok, Err, List, [], ◌∷◌, ◌++◌, length, take, refl, ap, sym, ◌∙◌, arith, IsTrue, ⊎_elim}
+use Rattle.std.specs.List.{list_any}
+use Rattle.std.proofs.lemmas.List.{append-nil, length-append, take_at}
+use Rattle.std.proofs.lemmas.List.Folds.{list_any-append}
+use Rattle.std.proofs.lemmas.Bool.{cond-true, cond-false, or_left, or_right, or_from, ne_eqb}
+use Rattle.fq_text.specs.declared.encoding.Encoding.{Encoding}
+use Rattle.fq_text.specs.declared.fault.Fault.{Fault}
+use Rattle.fq_text.specs.declared.fault.Fault.TheVariants as fault
+use Rattle.fq_text.specs.declared.fault.Stop.{Stop}
+use Rattle.fq_text.specs.declared.fault.Stop.TheVariants as stop
+use Rattle.fq_text.specs.declared.fault.TextFault.{TextFault}
+use Rattle.fq_text.specs.Lines.{lines, is_whole, whole_part}
+use Rattle.fq_text.specs.Grammar.{Read, Front, End, Faulty, Found, front}
+use Rattle.fq_text.specs.Reading.{Lined, rest_of, IsSound, Reads, NoLf}
+use Rattle.fq_text.specs.Steps.{Goes, Ends, Waits, Stops}
+use Rattle.fq_text.specs.Sources.{Sourced, numbered, text_fault, KeepsCount, GivesRecord, EndsText, LacksRecord, FaultIs, if_read, if_endless, StopsText}
+use Rattle.fq_text.proofs.StepLemmas.{rest_is, lines_left}
+use Rattle.fq_text.proofs.LawfulLemmas.{front_is_lawful, front_encoding}
+
+abbrev is_lf : ℕ → Bool
+is_lf c = eqb c 10
+
+no_lf_any : (xs : List ℕ) → NoLf xs (length xs) → list_any is_lf xs ≡ false
+no_lf_any [] none = refl
+no_lf_any (x ∷ xs) none = or_from _ _ (ne_eqb x 10 (none 0 (omega arith))) (no_lf_any xs (λ k lt. none (suc k) (omega arith)))
+
+none_whole : (xs : List ℕ) → NoLf xs (length xs) → whole_part xs ≡ []
+none_whole [] none = refl
+none_whole (x ∷ xs) none = cond-false _ _ _ (no_lf_any (x ∷ xs) none)
+
+whole_has_lf : (b : ℕ) (bs : List ℕ) → is_whole (b ∷ bs) ≡ true → list_any is_lf (b ∷ bs) ≡ true
+whole_has_lf b [] whole = or_left _ _ whole
+whole_has_lf b (c ∷ bs) whole = or_right _ _ (whole_has_lf c bs whole)
+
+-- whole lines, and bytes without a line end behind them
+pub whole_part-append : (xs ys : List ℕ) → is_whole xs ≡ true → NoLf ys (length ys) → whole_part (xs ++ ys) ≡ xs
+whole_part-append [] ys whole none = none_whole ys none
+whole_part-append (b ∷ []) ys whole none =
+    cond-true _ (b ∷ whole_part ys) [] (or_left _ _ whole) ∙ ap (λ zs. b ∷ zs) (none_whole ys none)
+whole_part-append (b ∷ c ∷ bs) ys whole none =
+    cond-true _ (b ∷ whole_part ((c ∷ bs) ++ ys)) [] (or_right _ _ (list_any-append is_lf (c ∷ bs) ys ∙ or_left _ _ (whole_has_lf c bs whole)))
+    ∙ ap (λ zs. b ∷ zs) (whole_part-append (c ∷ bs) ys whole none)
+
+some_used : (e : Encoding) (r : Read) (used : List ℕ) → front e (lines used ++ []) ≡ Found r [] → 0 < length used
+some_used e r [] is = absurd (let h : End ≡ Found r [] = is in cc)
+some_used e r (b ∷ bs) is = omega arith
+
+module _ {F : Type 0} (tells : F → Bool) (to_come : F → List ℕ) (e : Encoding) where
+  -- a reader of lines as a source
+  abbrev pub source_of : Lined F → ℕ → Option (Result (Unit {0}) TextFault) → Sourced F
+  source_of r k last = record { feed = r.feed; encoding = e; chunk = r.chunk; max_reads = r.max_reads; in_hand = r.in_hand; taken = r.taken; given = k; last = last }
+
+  gave_is : (a b : Lined F) (used : List ℕ) (p : Reads tells to_come a b used) → IsTrue (tells a.feed) → take (b.taken - a.taken) (to_come a.feed) ≡ p.gave
+  gave_is a b used p told =
+      let taken = p.taken in
+      let n : b.taken - a.taken ≡ length p.gave = omega arith in
+      ap (λ m. take m (to_come a.feed)) n ∙ ap (take (length p.gave)) (p.fed told) ∙ take_at p.gave (to_come b.feed) (length p.gave) refl
+
+  pub keeps_count : (a b : Lined F) (used : List ℕ) (k m : ℕ) (l n : Option (Result (Unit {0}) TextFault)) → Reads tells to_come a b used → KeepsCount tells to_come (source_of a k l) (source_of b m n)
+  keeps_count a b used k m l n p =
+      let taken = p.taken in
+      record {
+        encoding = refl;
+        chunk = p.chunk;
+        max_reads = p.max_reads;
+        told = p.told;
+        grows = omega arith;
+        fed = λ told. p.fed told ∙ ap (λ xs. xs ++ to_come b.feed) (sym (gave_is a b used p told));
+        length = λ told. let all = ap length (p.fed told) in omega (arith, length-append p.gave (to_come b.feed));
+      }
+
+  pub counted : (a b : Lined F) (used : List ℕ) (k : ℕ) → Reads tells to_come a b used → k + length a.in_hand ≤ a.taken → k + length used + length b.in_hand ≤ b.taken
+  counted a b used k p le =
+      let taken = p.taken in let hand = ap length p.hand in omega (arith, length-append a.in_hand p.gave, length-append used b.in_hand)
+
+  pub gives_record : (a b : Lined F) (k : ℕ) (l : Option (Result (Unit {0}) TextFault)) (r : Read) → l ≡ None → Goes tells to_come a b (front e) (Found r) → IsSound tells to_come b → length a.in_hand < a.chunk →
+      GivesRecord tells to_come (source_of a k l) (source_of b (k + 1) l) r
+  gives_record a b k l r none p sound small = record {
+    lawful = front_is_lawful e p.used r [] (ap (front e) (sym (append-nil (lines p.used))) ∙ p.state []);
+    encoding = front_encoding e (lines p.used) r [] (ap (front e) (sym (append-nil (lines p.used))) ∙ p.state []);
+    record_is = λ told. ap (front e) (lines_left tells to_come a b p.used p.reads p.closed sound told) ∙ p.state (lines (rest_of to_come b));
+    tail = λ told. record {
+      before = p.used;
+      some = some_used e r p.used (p.state []);
+      split = rest_is tells to_come a b p.used p.reads told;
+      at_line = ⊎_elim (λ whole. inl whole)
+          (λ (end : (b.ended ≡ true) × (b.in_hand ≡ [])). inr (ap (λ xs. xs ++ to_come b.feed) end.1 ∙ sound.nothing end.0 (p.reads.told ∙ told))) p.closed;
+    };
+    given = refl;
+    last = none;
+    in_hand = p.small small;
+  }
+
+  pub record_used : (a b : Lined F) (r : Read) (p : Goes tells to_come a b (front e) (Found r)) → 0 < length p.used
+  record_used a b r p = some_used e r p.used (p.state [])
+
+  pub ends_text : (a b : Lined F) (k : ℕ) (l : Option (Result (Unit {0}) TextFault)) → Ends tells to_come a b (front e) → IsSound tells to_come b → EndsText tells to_come (source_of a k l) (source_of b k (Some (Ok tt)))
+  ends_text a b k l p sound = record {
+    end_is = λ told.
+        let none : rest_of to_come b ≡ [] = ap (λ xs. xs ++ to_come b.feed) p.empty ∙ sound.nothing p.ended (p.reads.told ∙ told) in
+        ap (front e) (lines_left tells to_come a b p.used p.reads (inr (p.ended, p.empty)) sound told ∙ ap (λ xs. lines p.used ++ lines xs) none ∙ append-nil (lines p.used)) ∙ p.state;
+    given = refl;
+    last = refl;
+  }
+
+  lacks_record : (a b : Lined F) (k m : ℕ) (l n : Option (Result (Unit {0}) TextFault)) → Waits tells to_come a b (front e) → LacksRecord tells to_come (source_of a k l) (source_of b m n)
+  lacks_record a b k m l n p = λ told read ls is. p.state read ls
+      (ap (λ xs. front e (lines xs)) (sym (ap whole_part (ap (λ xs. a.in_hand ++ xs) (gave_is a b p.used p.reads told) ∙ p.reads.hand) ∙ whole_part-append p.used b.in_hand p.whole p.no_line)) ∙ is)
+
+  pub stops_used : (a b : Lined F) (why : Stop) → Stops tells to_come a b (front e) why → (used : List ℕ) × Reads tells to_come a b used
+  stops_used a b (stop.Fault f) p = (p.used, p.reads)
+  stops_used a b stop.Read p = (p.used, p.reads)
+  stops_used a b stop.Endless p = (p.0.used, p.0.reads)
+  stops_used a b stop.OutOfMemory p = (p.used, p.reads)
+
+  fault_is : (S : Front) (k : ℕ) (f : Fault) → S ≡ Faulty f → FaultIs S k (numbered f k)
+  fault_is S k fault.NoTitle is = (is, refl)
+  fault_is S k fault.BadSequence is = (is, refl)
+  fault_is S k fault.NoPlus is = (is, refl)
+  fault_is S k fault.PlusDiffers is = (is, refl)
+  fault_is S k fault.BadQuality is = (is, refl)
+  fault_is S k fault.QualityLong is = (is, refl)
+  fault_is S k fault.QualityShort is = (is, refl)
+  fault_is S k fault.TooLong is = (is, refl)
+
+  no_device : (P : Type 0) (k : ℕ) (f : Fault) → if_read P (numbered f k) × if_endless P (numbered f k)
+  no_device P k fault.NoTitle = (tt, tt)
+  no_device P k fault.BadSequence = (tt, tt)
+  no_device P k fault.NoPlus = (tt, tt)
+  no_device P k fault.PlusDiffers = (tt, tt)
+  no_device P k fault.BadQuality = (tt, tt)
+  no_device P k fault.QualityLong = (tt, tt)
+  no_device P k fault.QualityShort = (tt, tt)
+  no_device P k fault.TooLong = (tt, tt)
+
+  pub stops_text : (a b : Lined F) (k : ℕ) (l : Option (Result (Unit {0}) TextFault)) (why : Stop) → Stops tells to_come a b (front e) why →
+      StopsText tells to_come (source_of a k l) (source_of b k (Some (Err (text_fault why (k + 1))))) (text_fault why (k + 1))
+  stops_text a b k l (stop.Fault f) p = record {
+    fault_is = λ told. fault_is _ (k + 1) f (p.state told);
+    given = refl;
+    last = refl;
+    lacks = (no_device _ (k + 1) f).0;
+    endless = (no_device _ (k + 1) f).1;
+  }
+  stops_text a b k l stop.Read p = record { fault_is = λ told. tt; given = refl; last = refl; lacks = lacks_record a b k k l None p; endless = tt }
+  stops_text a b k l stop.Endless p = record { fault_is = λ told. tt; given = refl; last = refl; lacks = lacks_record a b k k l None p.0; endless = p.1 }
+  stops_text a b k l stop.OutOfMemory p = record { fault_is = λ told. tt; given = refl; last = refl; lacks = tt; endless = tt }

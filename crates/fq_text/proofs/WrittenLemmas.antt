@@ -1,0 +1,173 @@
+-- What was written is read again.
+use Rattle.std.proofs.Common.{◌≡◌, ℕ, ◌+◌, ◌<◌, ◌≤◌, Bool, true, false, not, eqb, Option, Some, None, zero, suc, List, [], ◌∷◌, ◌++◌, length, map, refl, ap, sym, ◌∙◌, arith, append_assoc, ⊎_elim}
+use Rattle.std.specs.List.{list_all}
+use Rattle.std.proofs.lemmas.Bool.{cond-true, cond-false, cases_Bool, and_parts, and_from, not-true, not_from_false, not_from_true, le-ltb, leb-true, ne_eqb}
+use Rattle.fq_text.specs.declared.encoding.Encoding.{Encoding}
+use Rattle.fq_text.specs.declared.encoding.Encoding.TheVariants.{Sanger, Illumina13}
+use Rattle.std.proofs.lemmas.List.{append-nil, length-map}
+use Rattle.fq_text.specs.Scores.{is_scored, recoded}
+use Rattle.fq_text.specs.Lines.{pieces, before_first_piece, without_cr, lines}
+use Rattle.fq_text.specs.Grammar.{limit, is_base, IsLawful, Read, Found, front, begins_with, title_fault, sequence_fault, plus_fault, quality_fault}
+use Rattle.fq_text.specs.Steps.{in_quality}
+use Rattle.fq_text.specs.Written.{line, written, as_written, CanRecode, ReadsBack}
+use Rattle.fq_text.specs.Records.{with_first, from_front, records_within, records}
+use Rattle.fq_text.proofs.ScoreLemmas.{all_recoded_scored}
+use Rattle.fq_text.proofs.RecordsLemmas.{room_enough}
+use Rattle.fq_text.proofs.GrammarLemmas.{title_goes, sequence_goes, sequence_ends, plus_goes, quality_goes, quality_ends}
+
+abbrev not_lf : ℕ → Bool
+not_lf b = not (eqb b 10)
+
+pieces_line : (l ys : List ℕ) → list_all not_lf l ≡ true → pieces (l ++ 10 ∷ ys) ≡ l ∷ pieces ys
+pieces_line [] ys clean = refl
+pieces_line (x ∷ xs) ys clean = let parts = and_parts _ _ clean in
+    cond-false (eqb x 10) _ _ (not-true _ parts.0) ∙ ap (before_first_piece x) (pieces_line xs ys parts.1)
+
+lines_line : (l ys : List ℕ) → list_all not_lf l ≡ true → without_cr l ≡ l → lines (line l ++ ys) ≡ l ∷ lines ys
+lines_line l ys clean plain =
+    ap lines (append_assoc l (10 ∷ []) ys) ∙ ap (map without_cr) (pieces_line l ys clean) ∙ ap (λ m. m ∷ lines ys) plain
+
+-- bytes from 33 on hold neither line end
+base_high : (b : ℕ) → is_base b ≡ true → 33 ≤ b
+base_high b is = leb-true 33 b (and_parts _ _ is).0
+
+clean_bases : (l : List ℕ) → list_all is_base l ≡ true → list_all not_lf l ≡ true
+clean_bases [] all = refl
+clean_bases (b ∷ bs) all = let parts = and_parts _ _ all in let high = base_high b parts.0 in
+    and_from _ _ (not_from_false _ (ne_eqb b 10 (λ e. absurd (omega arith)))) (clean_bases bs parts.1)
+
+plain_bases : (l : List ℕ) → list_all is_base l ≡ true → without_cr l ≡ l
+plain_bases [] all = refl
+plain_bases (b ∷ []) all = let high = base_high b (and_parts _ _ all).0 in cond-false (eqb b 13) _ _ (ne_eqb b 13 (λ e. absurd (omega arith)))
+plain_bases (b ∷ c ∷ bs) all = ap (λ xs. b ∷ xs) (plain_bases (c ∷ bs) (and_parts _ _ all).1)
+
+plain_title : (title : List ℕ) → without_cr title ≡ title → without_cr (64 ∷ title) ≡ 64 ∷ title
+plain_title [] plain = refl
+plain_title (b ∷ bs) plain = ap (λ xs. 64 ∷ xs) plain
+
+scored_base : (e : Encoding) (b : ℕ) → is_scored e b ≡ true → is_base b ≡ true
+scored_base Sanger b is = is
+scored_base Illumina13 b is = let parts = and_parts _ _ is in let high = leb-true 64 b parts.0 in and_from _ _ (Rattle.std.proofs.lemmas.Bool.le-leb 33 b (omega arith)) parts.1
+
+scored_bases : (e : Encoding) (l : List ℕ) → list_all (is_scored e) l ≡ true → list_all is_base l ≡ true
+scored_bases e [] all = refl
+scored_bases e (b ∷ bs) all = let parts = and_parts _ _ all in and_from _ _ (scored_base e b parts.0) (scored_bases e bs parts.1)
+
+-- the four lines
+four_lines : (r : Read) (text : List ℕ) → IsLawful r → without_cr r.title ≡ r.title →
+    lines (written r.title r.seq r.qual ++ text) ≡ (64 ∷ r.title) ∷ r.seq ∷ (43 ∷ []) ∷ r.qual ∷ lines text
+four_lines r text lawful plain =
+    let quals = scored_bases r.encoding r.qual lawful.scores in
+    let regrouped : written r.title r.seq r.qual ++ text ≡ line (64 ∷ r.title) ++ (line r.seq ++ (line (43 ∷ []) ++ (line r.qual ++ text))) =
+    append_assoc (line (64 ∷ r.title) ++ line r.seq ++ line (43 ∷ [])) (line r.qual) text
+    ∙ append_assoc (line (64 ∷ r.title) ++ line r.seq) (line (43 ∷ [])) (line r.qual ++ text)
+    ∙ append_assoc (line (64 ∷ r.title)) (line r.seq) (line (43 ∷ []) ++ (line r.qual ++ text)) in
+    ap lines regrouped
+    ∙ lines_line (64 ∷ r.title) (line r.seq ++ (line (43 ∷ []) ++ (line r.qual ++ text))) lawful.one_line (plain_title r.title plain)
+    ∙ ap (λ ls. (64 ∷ r.title) ∷ ls) (lines_line r.seq (line (43 ∷ []) ++ (line r.qual ++ text)) (clean_bases r.seq lawful.bases) (plain_bases r.seq lawful.bases)
+    ∙ ap (λ ls. r.seq ∷ ls) (lines_line (43 ∷ []) (line r.qual ++ text) refl refl
+    ∙ ap (λ ls. (43 ∷ []) ∷ ls) (lines_line r.qual text (clean_bases r.qual quals) (plain_bases r.qual quals))))
+
+-- no line has a fault
+sound_title : (title : List ℕ) → length title < limit → title_fault (64 ∷ title) ≡ None
+sound_title title fits = cond-false _ _ _ (le-ltb limit (length (64 ∷ title)) (omega arith))
+
+sound_seq : (seq : List ℕ) → length seq ≤ limit → list_all is_base seq ≡ true → begins_with 64 seq ≡ false → sequence_fault 0 seq ≡ None
+sound_seq seq fits bases plain =
+    cond-false _ _ _ (le-ltb limit (length seq) fits) ∙ cond-false _ _ _ plain ∙ cond-false _ _ _ (le-ltb limit (0 + length seq) (omega arith))
+    ∙ cond-false _ _ _ (not_from_true _ bases)
+
+sound_qual : (e : Encoding) (bases : ℕ) (qual : List ℕ) → bases ≤ limit → length qual ≡ bases → list_all (is_scored e) qual ≡ true → quality_fault e bases 0 qual ≡ None
+sound_qual e bases qual fits same scores =
+    cond-false _ _ _ (le-ltb limit (length qual) (omega arith)) ∙ cond-false _ _ _ (le-ltb bases (0 + length qual) (omega arith)) ∙ cond-false _ _ _ (not_from_true _ scores)
+
+sound_plus : (title : List ℕ) → plus_fault title (43 ∷ []) ≡ None
+sound_plus title = refl
+
+-- the way to the quality
+to_quality : (r : Read) (ls : List (List ℕ)) → IsLawful r → front r.encoding ((64 ∷ r.title) ∷ r.seq ∷ (43 ∷ []) ∷ ls) ≡ in_quality r.encoding r.title r.seq [] ls
+to_quality r ls lawful =
+    title_goes r.encoding 64 r.title (r.seq ∷ (43 ∷ []) ∷ ls) (sound_title r.title lawful.title_fits)
+    ∙ sequence_goes r.encoding r.title [] r.seq ((43 ∷ []) ∷ ls) (not-true _ lawful.no_plus) (sound_seq r.seq lawful.seq_fits lawful.bases (not-true _ lawful.no_title))
+    ∙ sequence_ends r.encoding r.title r.seq (43 ∷ []) ls refl
+    ∙ plus_goes r.encoding r.title r.seq (43 ∷ []) ls (sound_plus r.title)
+
+nil_qual : (qual : List ℕ) → length qual ≡ 0 → qual ≡ []
+nil_qual [] none = refl
+nil_qual (b ∷ bs) none = absurd (omega arith)
+
+-- the record stands in front of the lines, and behind it what stands in front of the others
+record StandsBefore (encoding : Encoding) (read : Read) (ls others : List (List ℕ)) : Type 0 where
+  rest : List (List ℕ)
+  found : front encoding ls ≡ Found read rest
+  then : front encoding rest ≡ front encoding others
+
+-- an empty read leaves its empty quality line behind
+stands_before : (r : Read) (text : List ℕ) → IsLawful r → without_cr r.title ≡ r.title →
+    StandsBefore r.encoding r (lines (written r.title r.seq r.qual ++ text)) (lines text)
+stands_before r text lawful plain =
+    let same = lawful.same_len in
+    let fits = lawful.seq_fits in
+    let four = ap (front r.encoding) (four_lines r text lawful plain) ∙ to_quality r (r.qual ∷ lines text) lawful in
+    ⊎_elim
+    (λ none.
+    let empty : r.qual ≡ [] = nil_qual r.qual (omega arith) in
+    record {
+      rest = r.qual ∷ lines text;
+      found = four ∙ quality_ends r.encoding r.title r.seq [] (r.qual ∷ lines text) (omega arith) ∙ ap (λ q. Found (record { encoding = r.encoding; title = r.title; seq = r.seq; qual = q }) (r.qual ∷ lines text)) (sym empty);
+      then = ap (λ q. front r.encoding (q ∷ lines text)) empty;
+    })
+    (λ some.
+    record {
+      rest = lines text;
+      found = four ∙ quality_goes r.encoding r.title r.seq [] r.qual (lines text) (omega arith) (sound_qual r.encoding (length r.seq) r.qual fits same lawful.scores)
+          ∙ quality_ends r.encoding r.title r.seq r.qual (lines text) (omega arith);
+      then = refl;
+    })
+    (Rattle.std.proofs.lemmas.Bool.cases_eq (length r.seq) 0)
+
+-- a record with bases stands first, whatever lines follow it
+pub found_first : (r : Read) (ls : List (List ℕ)) → IsLawful r → without_cr r.title ≡ r.title → 0 < length r.seq →
+    front r.encoding (lines (written r.title r.seq r.qual) ++ ls) ≡ Found r ls
+found_first r ls lawful plain some =
+    let same = lawful.same_len in
+    ap (λ xs. front r.encoding (lines xs ++ ls)) (sym (append-nil (written r.title r.seq r.qual)))
+    ∙ ap (λ xs. front r.encoding (xs ++ ls)) (four_lines r [] lawful plain)
+    ∙ to_quality r (r.qual ∷ ls) lawful
+    ∙ quality_goes r.encoding r.title r.seq [] r.qual ls (omega arith) (sound_qual r.encoding (length r.seq) r.qual lawful.seq_fits same lawful.scores)
+    ∙ quality_ends r.encoding r.title r.seq r.qual ls (omega arith)
+
+-- the records of lines in front of which one stands, before what stands in front of others
+records_of : (n : ℕ) (e : Encoding) (r : Read) (ls others : List (List ℕ)) → length others < n → StandsBefore e r ls others →
+    records_within (suc (suc n)) e ls ≡ with_first r (records_within (suc (length others)) e others)
+records_of n e r ls others fewer stands =
+    ap (from_front (records_within (suc n) e)) stands.found
+    ∙ ap (λ f. with_first r (from_front (records_within n e) f)) stands.then
+    ∙ ap (with_first r) (room_enough (suc n) (suc (length others)) e others (omega arith) (omega arith))
+
+-- a lawful record is read again
+reads_lawful : (r : Read) (text : List ℕ) → IsLawful r → without_cr r.title ≡ r.title →
+    records r.encoding (written r.title r.seq r.qual ++ text) ≡ with_first r (records r.encoding text)
+reads_lawful r text lawful plain =
+    let whole = lines (written r.title r.seq r.qual ++ text) in
+    let len : suc (length whole) ≡ suc (suc (length (lines text) + 3)) = omega (arith, ap length (four_lines r text lawful plain)) in
+    ap (λ n. records_within n r.encoding whole) len
+    ∙ records_of (length (lines text) + 3) r.encoding r whole (lines text) (omega arith) (stands_before r text lawful plain)
+
+-- recoding keeps a record lawful
+lawful_as_written : (recode : Option Encoding) (r : Read) → IsLawful r → CanRecode recode r.qual → IsLawful (as_written recode r)
+lawful_as_written None r lawful can = lawful
+lawful_as_written (Some e) r lawful can = record {
+      one_line = lawful.one_line;
+      title_fits = lawful.title_fits;
+      seq_fits = lawful.seq_fits;
+      bases = lawful.bases;
+      no_title = lawful.no_title;
+      no_plus = lawful.no_plus;
+      same_len = length-map r.qual (recoded e) ∙ lawful.same_len;
+      scores = all_recoded_scored e r.qual can;
+    }
+
+pub reads_back : ReadsBack
+reads_back r None text lawful plain can = reads_lawful r text lawful plain
+reads_back r (Some e) text lawful plain can = reads_lawful (as_written (Some e) r) text (lawful_as_written (Some e) r lawful can) plain

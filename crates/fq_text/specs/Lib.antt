@@ -1,0 +1,10 @@
+pub mod Lines
+pub mod Scores
+pub mod Grammar
+pub mod Devices
+pub mod Steps
+pub mod Reading
+pub mod Sources
+pub mod Written
+pub mod Unwrapped
+pub mod Records

@@ -1,0 +1,132 @@
+-- What a source of records is, and what its calls answer.
+use Rattle.std.specs.Prelude.{◌≡◌, ℕ, ◌+◌, ◌-◌, ◌<◌, ◌≤◌, ◌⊎◌, Bool, true, IsTrue, Option, Some, None, Result, List, [], ◌++◌, length, take}
+use Rattle.std.specs.declared.result.Result.TheVariants as res
+use Rattle.fq_text.specs.declared.encoding.Encoding.{Encoding}
+use Rattle.fq_text.specs.declared.fault.Fault.{Fault}
+use Rattle.fq_text.specs.declared.fault.Fault.TheVariants as fault
+use Rattle.fq_text.specs.declared.fault.Stop.{Stop}
+use Rattle.fq_text.specs.declared.fault.Stop.TheVariants as stop
+use Rattle.fq_text.specs.declared.fault.TextFault.{TextFault}
+use Rattle.fq_text.specs.declared.fault.TextFault.TheVariants as text
+use Rattle.fq_text.specs.Lines.{lines, is_whole, whole_part}
+use Rattle.fq_text.specs.Grammar.{Read, Front, End, Faulty, Found, front, IsLawful}
+
+-- A source: its feed, the bytes in hand, how many bytes were taken and records given,
+-- and once that is a fault or the end, its last answer.
+pub record Sourced (F : Type 0) : Type 0 where
+  pub feed : F
+  pub encoding : Encoding
+  pub chunk : ℕ
+  pub max_reads : ℕ
+  pub in_hand : List ℕ
+  pub taken : ℕ
+  pub given : ℕ
+  pub last : Option (Result (Unit {0}) TextFault)
+
+-- a fault of a record with its number
+abbrev pub numbered : Fault → ℕ → TextFault
+numbered fault.NoTitle k = text.NoTitle k
+numbered fault.BadSequence k = text.BadSequence k
+numbered fault.NoPlus k = text.NoPlus k
+numbered fault.PlusDiffers k = text.PlusDiffers k
+numbered fault.BadQuality k = text.BadQuality k
+numbered fault.QualityLong k = text.QualityLong k
+numbered fault.QualityShort k = text.QualityShort k
+numbered fault.TooLong k = text.TooLong k
+
+abbrev pub text_fault : Stop → ℕ → TextFault
+text_fault (stop.Fault f) k = numbered f k
+text_fault stop.Read k = text.Read
+text_fault stop.Endless k = text.Endless
+text_fault stop.OutOfMemory k = text.OutOfMemory
+
+-- the answer of a source that gave its last answer
+abbrev pub answer_of : Result (Unit {0}) TextFault → Result (Option Read) TextFault
+answer_of (res.Ok x) = res.Ok None
+answer_of (res.Err f) = res.Err f
+
+-- the bytes that a source still has to read records from
+abbrev pub rest_in : {F : Type 0} → (F → List ℕ) → Sourced F → List ℕ
+rest_in to_come s = s.in_hand ++ to_come s.feed
+
+-- what stands next
+abbrev pub front_of : {F : Type 0} → (F → List ℕ) → Sourced F → Front
+front_of to_come s = front s.encoding (lines (rest_in to_come s))
+
+-- the bytes in hand before a call, and those that the feed gave in it
+abbrev pub held : {F : Type 0} → (F → List ℕ) → Sourced F → Sourced F → List ℕ
+held to_come old new = old.in_hand ++ take (new.taken - old.taken) (to_come old.feed)
+
+-- a text is a rest of another, from the start of a line on
+pub record IsTail (whole tail : List ℕ) : Type 0 where
+  pub before : List ℕ
+  pub some : 0 < length before
+  pub split : whole ≡ before ++ tail
+  pub at_line : (is_whole before ≡ true) ⊎ (tail ≡ [])
+
+-- What every call keeps: the number of bytes taken grows by those that the feed gave.
+pub record KeepsCount {F : Type 0} (tells : F → Bool) (to_come : F → List ℕ) (old new : Sourced F) : Type 0 where
+  pub encoding : new.encoding ≡ old.encoding
+  pub chunk : new.chunk ≡ old.chunk
+  pub max_reads : new.max_reads ≡ old.max_reads
+  pub told : tells new.feed ≡ tells old.feed
+  pub grows : old.taken ≤ new.taken
+  pub fed : IsTrue (tells old.feed) → to_come old.feed ≡ take (new.taken - old.taken) (to_come old.feed) ++ to_come new.feed
+  pub length : IsTrue (tells old.feed) → new.taken - old.taken ≤ length (to_come old.feed)
+
+-- a record was answered
+pub record GivesRecord {F : Type 0} (tells : F → Bool) (to_come : F → List ℕ) (old new : Sourced F) (read : Read) : Type 0 where
+  pub lawful : IsLawful read
+  pub encoding : read.encoding ≡ old.encoding
+  pub record_is : IsTrue (tells old.feed) → front_of to_come old ≡ Found read (lines (rest_in to_come new))
+  pub tail : IsTrue (tells old.feed) → IsTail (rest_in to_come old) (rest_in to_come new)
+  pub given : new.given ≡ old.given + 1
+  pub last : new.last ≡ None
+  pub in_hand : length new.in_hand < new.chunk
+
+-- the end was answered
+pub record EndsText {F : Type 0} (tells : F → Bool) (to_come : F → List ℕ) (old new : Sourced F) : Type 0 where
+  pub end_is : IsTrue (tells old.feed) → front_of to_come old ≡ End
+  pub given : new.given ≡ old.given
+  pub last : new.last ≡ Some (res.Ok tt)
+
+-- no whole record was read
+abbrev pub LacksRecord : {F : Type 0} → (F → Bool) → (F → List ℕ) → Sourced F → Sourced F → Type 0
+LacksRecord tells to_come old new = IsTrue (tells old.feed) → (read : Read) (ls : List (List ℕ)) →
+    front old.encoding (lines (whole_part (held to_come old new))) ≡ Found read ls → ⊥
+
+abbrev pub FaultIs : Front → ℕ → TextFault → Type 0
+FaultIs front k (text.NoTitle n) = (front ≡ Faulty fault.NoTitle) × (n ≡ k)
+FaultIs front k (text.BadSequence n) = (front ≡ Faulty fault.BadSequence) × (n ≡ k)
+FaultIs front k (text.NoPlus n) = (front ≡ Faulty fault.NoPlus) × (n ≡ k)
+FaultIs front k (text.PlusDiffers n) = (front ≡ Faulty fault.PlusDiffers) × (n ≡ k)
+FaultIs front k (text.BadQuality n) = (front ≡ Faulty fault.BadQuality) × (n ≡ k)
+FaultIs front k (text.QualityLong n) = (front ≡ Faulty fault.QualityLong) × (n ≡ k)
+FaultIs front k (text.QualityShort n) = (front ≡ Faulty fault.QualityShort) × (n ≡ k)
+FaultIs front k (text.TooLong n) = (front ≡ Faulty fault.TooLong) × (n ≡ k)
+FaultIs front k text.Read = Unit {0}
+FaultIs front k text.Endless = Unit {0}
+FaultIs front k text.OutOfMemory = Unit {0}
+
+abbrev pub if_read : Type 0 → TextFault → Type 0
+if_read P text.Read = P
+if_read P text.Endless = P
+if_read P _ = Unit {0}
+
+abbrev pub if_endless : Type 0 → TextFault → Type 0
+if_endless P text.Endless = P
+if_endless P _ = Unit {0}
+
+-- a fault was answered
+pub record StopsText {F : Type 0} (tells : F → Bool) (to_come : F → List ℕ) (old new : Sourced F) (why : TextFault) : Type 0 where
+  pub fault_is : IsTrue (tells old.feed) → FaultIs (front_of to_come old) (old.given + 1) why
+  pub given : new.given ≡ old.given
+  pub last : new.last ≡ Some (res.Err why)
+  pub lacks : if_read (LacksRecord tells to_come old new) why
+  pub endless : if_endless (new.max_reads ≤ new.taken) why
+
+-- how often the feed failed in a call
+abbrev pub failed_in : {T : Type 0} → Result T TextFault → ℕ
+failed_in (res.Ok x) = 0
+failed_in (res.Err text.Read) = 1
+failed_in (res.Err _) = 0

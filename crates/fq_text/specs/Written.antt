@@ -1,0 +1,43 @@
+-- A record as it is written.
+use Rattle.std.specs.Prelude.{◌≡◌, ℕ, ◌+◌, IsTrue, Option, Some, None, List, [], ◌∷◌, ◌++◌, length, map}
+use Rattle.std.specs.List.{list_all}
+use Rattle.fq_text.specs.declared.encoding.Encoding.{Encoding}
+use Rattle.fq_text.specs.declared.encoding.Encoding.TheVariants.{Sanger}
+use Rattle.fq_text.specs.Lines.{without_cr}
+use Rattle.fq_text.specs.Scores.{is_scored, recoded}
+use Rattle.fq_text.specs.Grammar.{Read, IsLawful}
+use Rattle.fq_text.specs.Records.{Records, with_first, records}
+
+-- a line with its line end
+abbrev pub line : List ℕ → List ℕ
+line bytes = bytes ++ 10 ∷ []
+
+-- four lines
+abbrev pub written : List ℕ → List ℕ → List ℕ → List ℕ
+written title seq qual = line (64 ∷ title) ++ line seq ++ line (43 ∷ []) ++ line qual
+
+-- how many bytes these are: two marks, four line ends, and what stands between them
+abbrev pub written_len : List ℕ → List ℕ → List ℕ → ℕ
+written_len title seq qual = length title + length seq + length qual + 6
+
+-- the quality as it is written: as it stands, or each score at offset 33
+abbrev pub written_quality : Option Encoding → List ℕ → List ℕ
+written_quality None qual = qual
+written_quality (Some encoding) qual = map (recoded encoding) qual
+
+-- each byte has a score in the encoding that it is recoded from
+abbrev pub CanRecode : Option Encoding → List ℕ → Type 0
+CanRecode None qual = Unit {0}
+CanRecode (Some encoding) qual = IsTrue (list_all (is_scored encoding) qual)
+
+-- the record that was written: recoded it is in Sanger's encoding
+abbrev pub as_written : Option Encoding → Read → Read
+as_written None read = read
+as_written (Some encoding) read = record read { encoding = Sanger; qual = map (recoded encoding) read.qual }
+
+-- what was written is read again, recoded or not, and whatever follows it is read as it would be alone
+abbrev pub ReadsBack : Type 0
+ReadsBack = (read : Read) (recode : Option Encoding) (text : List ℕ) →
+    IsLawful read → without_cr read.title ≡ read.title → CanRecode recode read.qual →
+    let first = as_written recode read in
+    records first.encoding (written read.title read.seq (written_quality recode read.qual) ++ text) ≡ with_first first (records first.encoding text)

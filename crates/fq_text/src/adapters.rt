@@ -1,0 +1,152 @@
+//! Readers and writers of the standard library, as devices.
+
+ghost use Rattle.std.specs.Prelude.{◌≡◌, ◌<◌, ◌+◌};
+
+use crate::feed::{Feed, FeedFailed};
+use crate::outlet::{Outlet, OutletFailed};
+use std::io::{Read, Write};
+use std::marker::Model;
+
+/// A reader as a feed, such as an opened file.
+///
+/// Nothing is said of its bytes, since what a file holds is not known: the feed tells none. Each error is a failure, also one
+/// that only says that a signal came (`ErrorKind::Interrupted`), and is then gone: a feed says that it failed, and not why.
+#[derive(Drop)]
+pub struct FromRead<R: Read> {
+    reader: R,
+    failures: u64,
+}
+
+impl<R: Read> Model for FromRead<R> {
+    ghost use Rattle.fq_text.specs.Devices.{Adapted};
+
+    ghost Value = { Adapted R };
+
+    ghost view = { λ d. record { inner = d.reader; failures = d.failures } };
+}
+
+impl<R: Read> FromRead<R> {
+    /// The feed of a reader, with no failures so far.
+    pub fn new(reader: R) -> FromRead<R>
+        ensures { result ≡ record { inner = reader; failures = 0 } }
+    {
+        FromRead {
+            reader,
+            failures: 0,
+        }
+    }
+
+    /// The reader, as it stands.
+    pub fn into_inner(self) -> R
+        ensures { result ≡ self.inner }
+    {
+        let FromRead {
+            reader,
+            failures: _,
+        } = self;
+        reader
+    }
+}
+
+impl<R: Read> Feed for FromRead<R> {
+    ghost use Rattle.std.specs.Prelude.{false, []};
+
+    ghost tells = { λ _. false };
+
+    ghost to_come = { λ _. [] };
+
+    ghost failure_count = { λ d. d.failures };
+
+    fn read(&mut self, buf: &mut [u8]) -> Result<usize, FeedFailed> {
+        match self.reader.read(buf) {
+            Ok(n) => Ok(n),
+            Err(_) => {
+                self.failures += 1;
+                Err(FeedFailed)
+            }
+        }
+    }
+
+    fn failures(&self) -> u64 {
+        self.failures
+    }
+}
+
+/// A writer as an outlet, such as a file that was made.
+///
+/// Nothing is said of its bytes: the outlet tells none. Each error is a failure, also one that only says that a signal came
+/// (`ErrorKind::Interrupted`), and so is a write that takes none of the bytes that it is given.
+#[derive(Drop)]
+pub struct FromWrite<W: Write> {
+    writer: W,
+    failures: u64,
+}
+
+impl<W: Write> Model for FromWrite<W> {
+    ghost use Rattle.fq_text.specs.Devices.{Adapted};
+
+    ghost Value = { Adapted W };
+
+    ghost view = { λ d. record { inner = d.writer; failures = d.failures } };
+}
+
+impl<W: Write> FromWrite<W> {
+    /// The outlet of a writer, with no failures so far.
+    pub fn new(writer: W) -> FromWrite<W>
+        ensures { result ≡ record { inner = writer; failures = 0 } }
+    {
+        FromWrite {
+            writer,
+            failures: 0,
+        }
+    }
+
+    /// The writer, as it stands. It isn't flushed.
+    pub fn into_inner(self) -> W
+        ensures { result ≡ self.inner }
+    {
+        let FromWrite {
+            writer,
+            failures: _,
+        } = self;
+        writer
+    }
+
+    // One failure more.
+    fn fail(&mut self) -> OutletFailed
+        requires { self.old.failures < u64.MAX }
+        ensures { self.new ≡ record self.old { failures = self.old.failures + 1 } }
+    {
+        self.failures += 1;
+        OutletFailed
+    }
+}
+
+impl<W: Write> Outlet for FromWrite<W> {
+    ghost use Rattle.std.specs.Prelude.{false, []};
+
+    ghost tells = { λ _. false };
+
+    ghost taken = { λ _. [] };
+
+    ghost failure_count = { λ d. d.failures };
+
+    fn write(&mut self, bytes: &[u8]) -> Result<usize, OutletFailed> {
+        match self.writer.write(bytes) {
+            Ok(0) if !bytes.is_empty() => Err(self.fail()),
+            Ok(n) => Ok(n),
+            Err(_) => Err(self.fail()),
+        }
+    }
+
+    fn flush(&mut self) -> Result<(), OutletFailed> {
+        match self.writer.flush() {
+            Ok(()) => Ok(()),
+            Err(_) => Err(self.fail()),
+        }
+    }
+
+    fn failures(&self) -> u64 {
+        self.failures
+    }
+}

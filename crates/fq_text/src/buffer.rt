@@ -1,0 +1,174 @@
+//! The bytes that were read and are not used up.
+
+ghost use Rattle.std.specs.Prelude.{◌≡◌, ℕ, ◌+◌, ◌-◌, ◌<◌, ◌≤◌, [], length, take, drop, IfOk, OnOk, MatchResult};
+ghost use Rattle.fq_text.specs.Lines.{without_cr};
+ghost use Rattle.fq_text.specs.Reading.{Moved, MovesOr, fails};
+
+use crate::fault::Stop;
+use crate::feed::Feed;
+use std::alloc::{AllocError, Global};
+use std::marker::Model;
+
+/// How many bytes of a piece are its line: all but one CR at the end.
+pub(crate) fn trimmed(piece: &[u8]) -> usize
+    ensures within { result ≤ length piece.now }
+    ensures line { without_cr piece.now ≡ take result piece.now }
+{
+    let len = piece.len();
+    if len > 0 && piece[len - 1] == b'\r' {
+        len - 1
+    } else {
+        len
+    }
+}
+
+// Makes room for a chunk behind the first `filled` bytes.
+fn grow(bytes: &mut Vec<u8>, filled: usize, chunk: usize) -> Result<(), AllocError>
+    requires filled { filled ≤ length bytes.old.items }
+    requires room { filled + chunk < u64.MAX }
+    ensures room { OnOk result (filled + chunk ≤ length bytes.new.items) }
+    ensures within { filled ≤ length bytes.new.items }
+    ensures kept { take filled bytes.new.items ≡ take filled bytes.old.items }
+{
+    if bytes.len() < filled + chunk {
+        bytes.resize(filled + chunk, 0)?;
+    }
+    Ok(())
+}
+
+// Reads once, behind the first `filled` bytes.
+fn read_more<F: Feed>(
+    feed: &mut F,
+    bytes: &mut Vec<u8>,
+    filled: usize,
+    chunk: usize,
+) -> Result<usize, Stop>
+    requires failures { F.failure_count feed.old < u64.MAX }
+    requires filled { filled ≤ length bytes.old.items }
+    requires room { filled + chunk < u64.MAX }
+    requires some { 0 < chunk }
+    ensures moved { MatchResult result (λ n. Moved F.tells F.to_come feed.old feed.new (take filled bytes.old.items) (take (filled + n) bytes.new.items) chunk n)
+        (MovesOr F.tells F.to_come feed.old feed.new (take filled bytes.old.items) (take filled bytes.new.items)) }
+    ensures within { MatchResult result (λ n. filled + n ≤ length bytes.new.items) (λ _. filled ≤ length bytes.new.items) }
+    ensures failures { F.failure_count feed.new ≡ F.failure_count feed.old + fails result }
+    ensures told { F.tells feed.new ≡ F.tells feed.old }
+{
+    grow(bytes, filled, chunk)?;
+    match feed.read(&mut bytes[filled..filled + chunk]) {
+        Ok(n) => Ok(n),
+        Err(_) => Err(Stop::Read),
+    }
+}
+
+/// The line that was used up last, and the bytes behind it that are in hand.
+#[derive(Drop)]
+pub(crate) struct Buffer {
+    bytes: Vec<u8>,
+    // The last line.
+    line_start: usize,
+    line_end: usize,
+    // The bytes in hand.
+    start: usize,
+    filled: usize,
+}
+
+impl Model for Buffer {
+    ghost use Rattle.std.specs.Prelude.{◌-◌, ◌≤◌, drop, take, length};
+    ghost use Rattle.fq_text.specs.Reading.{Buffered};
+
+    ghost Value = { Buffered };
+
+    ghost view = { λ b. record {
+      line = take (b.line_end - b.line_start) (drop b.line_start b.bytes.items);
+      in_hand = take (b.filled - b.start) (drop b.start b.bytes.items);
+    } };
+
+    ghost invariant = { λ b. (b.line_start ≤ b.line_end) × (b.line_end ≤ b.start) × (b.start ≤ b.filled) × (b.filled ≤ length b.bytes.items) };
+}
+
+impl Buffer {
+    ghost use Rattle.fq_text.specs.Reading.{Buffered};
+
+    /// Nothing in hand, and room for a chunk.
+    pub(crate) fn new(alloc: Global, chunk: usize) -> Result<Buffer, AllocError>
+        ensures { IfOk result (λ b. b ≡ record { line = []; in_hand = [] }) }
+    {
+        let mut bytes = Vec::new(alloc);
+        bytes.resize(chunk, 0)?;
+        Ok(Buffer {
+            bytes,
+            line_start: 0,
+            line_end: 0,
+            start: 0,
+            filled: 0,
+        })
+    }
+
+    /// The line that was used up last.
+    pub(crate) fn line(&self) -> &[u8]
+        ensures { result.now ≡ self.now.line }
+    {
+        &self.bytes[self.line_start..self.line_end]
+    }
+
+    /// The bytes in hand.
+    pub(crate) fn in_hand(&self) -> &[u8]
+        ensures { result.now ≡ self.now.in_hand }
+    {
+        &self.bytes[self.start..self.filled]
+    }
+
+    /// How many bytes are in hand.
+    pub(crate) fn len(&self) -> usize
+        ensures { result ≡ length self.now.in_hand }
+    {
+        self.filled - self.start
+    }
+
+    /// Uses up the next line: `len` bytes without its line end, `used` with it.
+    pub(crate) fn use_line(&mut self, len: usize, used: usize)
+        requires within { len ≤ used }
+        requires in_hand { used ≤ length self.old.in_hand }
+        ensures { self.new ≡ record { line = without_cr (take len self.old.in_hand); in_hand = drop used self.old.in_hand } }
+    {
+        let start = self.start;
+        let end = start + trimmed(&self.bytes[start..start + len]);
+        self.line_start = start;
+        self.line_end = end;
+        self.start = start + used;
+    }
+
+    // Moves the bytes in hand to the front, where at least as many have been used up.
+    fn make_room(&mut self)
+        ensures { self.new ≡ record { line = []; in_hand = self.old.in_hand } }
+    {
+        let len = self.filled - self.start;
+        self.line_start = 0;
+        self.line_end = 0;
+        if len <= self.start {
+            self.bytes.copy_within(self.start..self.filled, 0);
+            self.start = 0;
+            self.filled = len;
+        }
+    }
+
+    /// Reads once, at most `chunk` bytes.
+    pub(crate) fn read_from<F: Feed>(&mut self, feed: &mut F, chunk: usize) -> Result<usize, Stop>
+        requires failures { F.failure_count feed.old < u64.MAX }
+        requires some { 0 < chunk }
+        requires small { chunk ≤ 1048576 }
+        ensures moved { MatchResult result (Moved F.tells F.to_come feed.old feed.new self.old.in_hand self.new.in_hand chunk)
+            (MovesOr F.tells F.to_come feed.old feed.new self.old.in_hand self.new.in_hand) }
+        ensures failures { F.failure_count feed.new ≡ F.failure_count feed.old + fails result }
+        ensures told { F.tells feed.new ≡ F.tells feed.old }
+    {
+        self.make_room();
+        match read_more(feed, &mut self.bytes, self.filled, chunk) {
+            Ok(n) => {
+                self.filled += n;
+                Ok(n)
+            }
+            Err(stop) => Err(stop),
+        }
+    }
+}

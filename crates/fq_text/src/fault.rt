@@ -1,0 +1,102 @@
+//! What can be wrong with a text.
+
+ghost use Rattle.std.specs.Prelude.{◌≡◌};
+
+use std::alloc::AllocError;
+use thiserror::Error;
+
+/// A fault of a record.
+#[derive(Clone, Copy, Debug, PartialEq, Eq)]
+pub(crate) enum Fault {
+    NoTitle,
+    BadSequence,
+    NoPlus,
+    PlusDiffers,
+    BadQuality,
+    QualityLong,
+    QualityShort,
+    TooLong,
+}
+
+/// Why a text gave no further record. The number that a fault of the text carries is its record's, counted from 1.
+///
+/// The rules are those of the FASTQ format (Cock et al., Nucleic Acids Research 38(6), 1767 to 1771, 2010).
+#[derive(Clone, Copy, Debug, PartialEq, Eq, Error)]
+pub enum TextFault {
+    /// A line where a title is expected doesn't begin with `@`.
+    #[error("record {0}: the title line doesn't begin with @")]
+    NoTitle(u64),
+    /// A sequence line begins with `@`, or holds a byte outside 33 to 126.
+    #[error("record {0}: a sequence line has a byte that is no base")]
+    BadSequence(u64),
+    /// The text ends before the line that begins with `+`.
+    #[error("record {0}: the text ends before the + line")]
+    NoPlus(u64),
+    /// The line that begins with `+` holds more, and not the title.
+    #[error("record {0}: the + line holds another title")]
+    PlusDiffers(u64),
+    /// A quality byte has no score in the encoding.
+    #[error("record {0}: a quality byte has no score in this encoding")]
+    BadQuality(u64),
+    /// The quality has more bytes than the sequence.
+    #[error("record {0}: the quality is longer than the sequence")]
+    QualityLong(u64),
+    /// The text ends before the quality is as long as the sequence.
+    #[error("record {0}: the text ends before the quality is as long as the sequence")]
+    QualityShort(u64),
+    /// A line, or the joined sequence, has more than 1,048,576 bytes.
+    #[error("record {0}: a line or the sequence has more than 1048576 bytes")]
+    TooLong(u64),
+    /// The feed failed.
+    #[error("the input could not be read")]
+    Read,
+    /// As many reads were made as are allowed, and one more is needed.
+    #[error("the input does not end")]
+    Endless,
+    /// Memory was refused.
+    #[error("out of memory")]
+    OutOfMemory,
+}
+
+/// Why a record couldn't be read.
+#[derive(Clone, Copy, Debug, PartialEq, Eq)]
+pub(crate) enum Stop {
+    Fault(Fault),
+    Read,
+    Endless,
+    OutOfMemory,
+}
+
+impl Stop {
+    ghost use Rattle.fq_text.specs.Sources.{text_fault};
+
+    /// The fault of the record of this number.
+    pub(crate) fn numbered(self, number: u64) -> TextFault
+        ensures { result ≡ text_fault self number }
+    {
+        match self {
+            Stop::Fault(Fault::NoTitle) => TextFault::NoTitle(number),
+            Stop::Fault(Fault::BadSequence) => TextFault::BadSequence(number),
+            Stop::Fault(Fault::NoPlus) => TextFault::NoPlus(number),
+            Stop::Fault(Fault::PlusDiffers) => TextFault::PlusDiffers(number),
+            Stop::Fault(Fault::BadQuality) => TextFault::BadQuality(number),
+            Stop::Fault(Fault::QualityLong) => TextFault::QualityLong(number),
+            Stop::Fault(Fault::QualityShort) => TextFault::QualityShort(number),
+            Stop::Fault(Fault::TooLong) => TextFault::TooLong(number),
+            Stop::Read => TextFault::Read,
+            Stop::Endless => TextFault::Endless,
+            Stop::OutOfMemory => TextFault::OutOfMemory,
+        }
+    }
+}
+
+impl From<AllocError> for Stop {
+    ghost use Rattle.std.specs.Prelude.{◌≡◌};
+    ghost use Rattle.fq_text.specs.declared.fault.Stop.TheVariants.{OutOfMemory};
+
+    ghost from_gives = { λ _ e. e ≡ OutOfMemory };
+
+    fn from(_e: AllocError) -> Stop {
+        Stop::OutOfMemory
+    }
+}

@@ -1,0 +1,92 @@
+//! What is wrong with one line of a record. The length of a line is judged where it is read.
+
+ghost use Rattle.std.specs.Prelude.{◌≡◌, ◌+◌, ◌<◌, ◌≤◌, ℕ, true, length};
+ghost use Rattle.std.specs.List.{list_all};
+ghost use Rattle.fq_text.specs.Grammar.{limit, is_base, begins_with as begins, title_fault as fault_of_title, sequence_fault as fault_of_sequence, plus_fault as fault_of_plus, quality_fault as fault_of_quality};
+
+use crate::encoding::Encoding;
+use crate::fault::Fault;
+use crate::lines::LIMIT;
+
+/// Whether a line begins with a mark.
+pub(crate) fn begins_with(line: &[u8], mark: u8) -> bool
+    ensures { result ≡ begins mark line.now }
+{
+    match line {
+        [] => false,
+        [first, ..] => *first == mark,
+    }
+}
+
+/// Whether each byte is printable and not blank: 33 to 126.
+pub(crate) fn all_bases(line: &[u8]) -> bool
+    ensures { result ≡ list_all is_base line.now }
+{
+    let mut all = true;
+    for byte in line {
+        all = all & ((33 <= *byte) & (*byte <= 126));
+    }
+    all
+}
+
+pub(crate) fn title_fault(line: &[u8]) -> Option<Fault>
+    requires { length line.now ≤ limit }
+    ensures { result ≡ fault_of_title line.now }
+{
+    if begins_with(line, b'@') {
+        None
+    } else {
+        Some(Fault::NoTitle)
+    }
+}
+
+/// The fault of a sequence line behind so many bases.
+pub(crate) fn sequence_fault(bases: usize, line: &[u8]) -> Option<Fault>
+    requires before { bases ≤ limit }
+    requires line { length line.now ≤ limit }
+    ensures { result ≡ fault_of_sequence bases line.now }
+{
+    if begins_with(line, b'@') {
+        return Some(Fault::BadSequence);
+    }
+    if bases + line.len() > LIMIT {
+        return Some(Fault::TooLong);
+    }
+    if !all_bases(line) {
+        return Some(Fault::BadSequence);
+    }
+    None
+}
+
+pub(crate) fn plus_fault(title: &[u8], line: &[u8]) -> Option<Fault>
+    requires mark { begins 43 line.now ≡ true }
+    requires line { length line.now ≤ limit }
+    ensures { result ≡ fault_of_plus title.now line.now }
+{
+    let rest = &line[1..];
+    if rest.is_empty() || rest == title {
+        None
+    } else {
+        Some(Fault::PlusDiffers)
+    }
+}
+
+/// The fault of a quality line behind so many quality bytes.
+pub(crate) fn quality_fault(
+    encoding: Encoding,
+    bases: usize,
+    before: usize,
+    line: &[u8],
+) -> Option<Fault>
+    requires before { before ≤ limit }
+    requires line { length line.now ≤ limit }
+    ensures { result ≡ fault_of_quality encoding bases before line.now }
+{
+    if before + line.len() > bases {
+        return Some(Fault::QualityLong);
+    }
+    if !encoding.all_scored(line) {
+        return Some(Fault::BadQuality);
+    }
+    None
+}

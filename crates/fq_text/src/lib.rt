@@ -1,0 +1,33 @@
+//! FASTQ texts: reading, writing, and the devices that they come from and go to.
+#![tactic(auto)]
+
+mod adapters;
+mod buffer;
+mod encoding;
+mod fault;
+mod feed;
+mod judge;
+pub mod laws;
+mod lines;
+mod memory;
+mod outlet;
+mod parse;
+mod record;
+mod source;
+mod unwrapped;
+mod view;
+mod writing;
+
+pub use adapters::{FromRead, FromWrite};
+pub use encoding::{Encoding, from_score33};
+pub use fault::TextFault;
+pub use feed::{Feed, FeedFailed, ScriptFeed};
+pub use memory::OutOfMemory;
+pub use outlet::{Outlet, OutletFailed, ScriptOutlet, Sent, send};
+pub use record::FastqRecord;
+pub use source::{NoSource, Source};
+pub use view::{ReadView, is_lawful};
+pub use writing::put_record;
+
+#[cfg(test)]
+mod tests;

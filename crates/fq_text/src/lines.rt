@@ -1,0 +1,190 @@
+//! The lines of a feed, read as they are needed.
+
+ghost use Rattle.std.specs.Prelude.{◌≡◌, ℕ, ◌+◌, ◌-◌, ◌*◌, ◌<◌, ◌≤◌, Bool, true, false, List, [], ◌∷◌, ◌++◌, length, take, drop, slice_index, IsTrue, Ok, Err, IfOk, IfErr, IfSome, OnOk, OnErr, is_ok, if◌then◌else◌, MatchResult};
+ghost use Rattle.fq_text.specs.Lines.{without_cr};
+ghost use Rattle.fq_text.specs.Grammar.{limit};
+ghost use Rattle.fq_text.specs.Reading.{Lined, IsSound, Reads, Advances, Halts, fails};
+
+use crate::buffer::Buffer;
+use crate::fault::{Fault, Stop};
+use crate::feed::Feed;
+use memchr::memchr;
+use std::marker::Model;
+
+pub(crate) const LIMIT: usize = 1_048_576;
+
+/// A feed that is read by lines.
+#[derive(Drop)]
+pub(crate) struct LineReader<F: Feed> {
+    feed: F,
+    chunk: usize,
+    max_reads: u64,
+    reads: u64,
+    taken: u64,
+    // The feed has answered that nothing comes any more.
+    ended: bool,
+    buffer: Buffer,
+}
+
+impl<F: Feed> Model for LineReader<F> {
+    ghost use Rattle.std.specs.Prelude.{◌≡◌, ◌*◌, ◌<◌, ◌≤◌, ◌^◌, [], IsTrue, false};
+    ghost use Rattle.fq_text.specs.Reading.{Lined};
+
+    ghost Value = { Lined F };
+
+    ghost view = { λ r. record {
+      feed = r.feed;
+      line = r.buffer.line;
+      in_hand = r.buffer.in_hand;
+      ended = r.ended;
+      taken = r.taken;
+      chunk = r.chunk;
+      max_reads = r.max_reads;
+    } };
+
+    ghost invariant = { λ r. (0 < r.chunk) × (r.chunk ≤ 1048576) × (r.max_reads ≤ 2 ^ 40) × (r.reads ≤ r.max_reads) × (r.taken ≤ r.reads * r.chunk)
+        × (r.ended ≡ false → r.reads ≤ r.taken)
+        × (IsTrue r.ended → IsTrue (F.tells r.feed) → F.to_come r.feed ≡ []) };
+}
+
+impl<F: Feed> LineReader<F> {
+    ghost use Rattle.std.specs.Prelude.{◌^◌};
+    ghost use Rattle.fq_text.specs.Reading.{LacksLine, Fills, NoLf, IsLineEnd};
+    ghost use Rattle.fq_text.specs.declared.fault.Fault.TheVariants.{TooLong};
+
+    pub(crate) fn new(feed: F, buffer: Buffer, chunk: usize, max_reads: u64) -> LineReader<F>
+        requires empty { buffer ≡ record { line = []; in_hand = [] } }
+        requires some { 0 < chunk }
+        requires small { chunk ≤ 1048576 }
+        requires few { max_reads ≤ 2 ^ 40 }
+        ensures { result ≡ record { feed = feed; line = []; in_hand = []; ended = false; taken = 0; chunk = chunk; max_reads = max_reads } }
+    {
+        LineReader {
+            feed,
+            chunk,
+            max_reads,
+            reads: 0,
+            taken: 0,
+            ended: false,
+            buffer,
+        }
+    }
+
+    /// The feed, as it stands.
+    pub(crate) fn feed(&self) -> &F
+        ensures { result.now ≡ self.now.feed }
+    {
+        &self.feed
+    }
+
+    /// The feed, as it stands.
+    pub(crate) fn into_feed(self) -> F
+        ensures { result ≡ self.feed }
+    {
+        self.feed
+    }
+
+    /// The last line.
+    pub(crate) fn line(&self) -> &[u8]
+        ensures { result.now ≡ self.now.line }
+    {
+        self.buffer.line()
+    }
+
+    /// The bytes in hand.
+    pub(crate) fn hand(&self) -> &[u8]
+        ensures { result.now ≡ self.now.in_hand }
+    {
+        self.buffer.in_hand()
+    }
+
+    /// Takes the next line out of the bytes in hand: `len` bytes without its line end, `used` with it.
+    pub(crate) fn take_line(&mut self, len: usize, used: usize)
+        requires within { len ≤ used }
+        requires in_hand { used ≤ length self.old.in_hand }
+        ensures { self.new ≡ record self.old { line = without_cr (take len self.old.in_hand); in_hand = drop used self.old.in_hand } }
+    {
+        self.buffer.use_line(len, used);
+    }
+
+    // Reads once more.
+    fn fill(&mut self) -> Result<(), Stop>
+        requires failures { F.failure_count self.old.feed < u64.MAX }
+        requires going { self.old.ended ≡ false }
+        requires small { length self.old.in_hand ≤ 1048577 }
+        ensures fills { Fills F.tells F.to_come self.old self.new result }
+        ensures sound { IsSound F.tells F.to_come self.new }
+        ensures failures { F.failure_count self.new.feed ≡ F.failure_count self.old.feed + fails result }
+    {
+        if self.reads == self.max_reads {
+            return Err(Stop::Endless);
+        }
+        let n = self.buffer.read_from(&mut self.feed, self.chunk)?;
+        self.reads += 1;
+        self.taken += n as u64;
+        self.ended = n == 0;
+        Ok(())
+    }
+
+    /// Goes on to the next line, if there is one.
+    pub(crate) fn advance(&mut self) -> Result<bool, Stop>
+        requires failures { F.failure_count self.old.feed < u64.MAX }
+        requires sound { IsSound F.tells F.to_come self.old }
+        ensures step { MatchResult result (Advances F.tells F.to_come self.old self.new) (Halts F.tells F.to_come self.old self.new) }
+        ensures sound { IsSound F.tells F.to_come self.new }
+        ensures failures { F.failure_count self.new.feed ≡ F.failure_count self.old.feed + fails result }
+    {
+        // So many bytes in hand hold no LF.
+        let mut scanned = 0;
+        loop {
+            if let Some(at) = self.line_end_from(scanned) {
+                self.take_line(at, at + 1);
+                return self.judged();
+            }
+            scanned = self.in_hand();
+            if scanned > LIMIT + 1 {
+                return Err(Stop::Fault(Fault::TooLong));
+            }
+            if self.ended {
+                if scanned == 0 {
+                    return Ok(false);
+                }
+                self.take_line(scanned, scanned);
+                return self.judged();
+            }
+            self.fill()?;
+        }
+    }
+
+    // How many bytes are in hand.
+    fn in_hand(&self) -> usize
+        ensures { result ≡ length self.now.in_hand }
+    {
+        self.buffer.len()
+    }
+
+    // The place of the first LF in hand, of which the first bytes hold none.
+    fn line_end_from(&self, scanned: usize) -> Option<usize>
+        requires within { scanned ≤ length self.now.in_hand }
+        requires none { NoLf self.now.in_hand scanned }
+        ensures place { IsLineEnd self.now.in_hand result }
+        ensures fits { IfSome result (λ at. at < u64.MAX) }
+    {
+        match memchr(b'\n', &self.hand()[scanned..]) {
+            Some(at) => Some(scanned + at),
+            None => None,
+        }
+    }
+
+    // The answer behind a line that was taken.
+    fn judged(&self) -> Result<bool, Stop>
+        ensures ok { IfOk result (λ more. (more ≡ true) × (length self.now.line ≤ limit)) }
+        ensures err { IfErr result (λ stop. (stop ≡ Stop.Fault TooLong) × (limit < length self.now.line)) }
+    {
+        if self.line().len() > LIMIT {
+            Err(Stop::Fault(Fault::TooLong))
+        } else {
+            Ok(true)
+        }
+    }
+}

@@ -1,0 +1,165 @@
+//! Where texts go: a device that takes bytes, and the sending of a whole text to it.
+
+ghost use Rattle.std.specs.Prelude.{◌≡◌, ℕ, ◌+◌, ◌<◌, ◌≤◌, Bool, true, List, [], ◌++◌, length, take, drop, IsTrue, IfOk, IfErr, OnOk, OnErr, is_ok, if◌then◌else◌};
+
+use std::alloc::Global;
+use std::marker::Model;
+use thiserror::Error;
+
+/// The outlet failed in this call, and took nothing.
+#[derive(Clone, Copy, Debug, PartialEq, Eq, Error)]
+#[error("the outlet failed")]
+pub struct OutletFailed;
+
+/// A device that takes bytes, such as a file that is written.
+///
+/// An outlet tells its bytes for good or never. Memory does ([`ScriptOutlet`]), and a file doesn't
+/// ([`FromWrite`](crate::FromWrite)). What the contracts say of the bytes taken is said of outlets that tell them; the counts hold
+/// of all.
+pub trait Outlet {
+    /// Whether the outlet tells its bytes.
+    ghost tells: { Self → Bool };
+
+    /// The bytes taken so far, oldest first.
+    ghost taken: { Self → List ℕ };
+
+    /// How many writes and flushes have failed.
+    ghost failure_count: { Self → ℕ };
+
+    /// Takes the first n of these bytes behind those that it has, and answers n: 1 or more, unless there are none to take.
+    ///
+    /// A failure takes nothing, and is counted.
+    fn write(&mut self, bytes: &[u8]) -> Result<usize, OutletFailed>
+        requires { failure_count self.old < u64.MAX }
+        ensures within { IfOk result (λ n. n ≤ length bytes.now) }
+        ensures some { IfOk result (λ n. 0 < length bytes.now → 0 < n) }
+        ensures moved { IfOk result (λ n. IsTrue (tells self.old) → taken self.new ≡ taken self.old ++ take n bytes.now) }
+        ensures err { OnErr result (IsTrue (tells self.old) → taken self.new ≡ taken self.old) }
+        ensures failures { failure_count self.new ≡ failure_count self.old + (if is_ok result then 0 else 1) }
+        ensures told { tells self.new ≡ tells self.old };
+
+    /// Passes on what was taken, as to a disk. It takes nothing. A failure is counted.
+    fn flush(&mut self) -> Result<(), OutletFailed>
+        requires { failure_count self.old < u64.MAX }
+        ensures kept { IsTrue (tells self.old) → taken self.new ≡ taken self.old }
+        ensures failures { failure_count self.new ≡ failure_count self.old + (if is_ok result then 0 else 1) }
+        ensures told { tells self.new ≡ tells self.old };
+
+    /// How many writes and flushes have failed so far.
+    fn failures(&self) -> u64
+        ensures { result ≡ failure_count self.now };
+}
+
+/// An outlet into memory that cuts its writes, and fails when it is told to. It shows how a program behaves on such a device.
+///
+/// A growth that is refused in a write is a failure of that write.
+#[derive(Drop)]
+pub struct ScriptOutlet {
+    bytes: Vec<u8>,
+    cut: usize,
+    // The writes up to and with the one that fails, or 0.
+    fails_in: u64,
+    flush_fails: bool,
+    failures: u64,
+}
+
+impl Model for ScriptOutlet {
+    ghost use Rattle.std.specs.Prelude.{◌<◌};
+    ghost use Rattle.fq_text.specs.Devices.{Taken};
+
+    ghost Value = { Taken };
+
+    ghost view = { λ o. record { bytes = o.bytes.items; failures = o.failures } };
+
+    ghost invariant = { λ o. 0 < o.cut };
+}
+
+impl ScriptOutlet {
+    /// An outlet that has taken nothing. It takes at most `cut` bytes (1 or more) with each write.
+    ///
+    /// The write of number `fail_at` fails, counted from 1, or none at 0. Each flush fails where `flush_fails` is true.
+    pub fn new(alloc: Global, cut: usize, fail_at: u64, flush_fails: bool) -> ScriptOutlet
+        requires { 0 < cut }
+        ensures { result ≡ record { bytes = []; failures = 0 } }
+    {
+        ScriptOutlet {
+            bytes: Vec::new(alloc),
+            cut,
+            fails_in: fail_at,
+            flush_fails,
+            failures: 0,
+        }
+    }
+
+    /// The bytes taken so far.
+    pub fn bytes(&self) -> &[u8]
+        ensures { result.now ≡ self.now.bytes }
+    {
+        self.bytes.as_slice()
+    }
+}
+
+impl Outlet for ScriptOutlet {
+    ghost tells = { λ _. true };
+
+    ghost taken = { λ o. o.bytes };
+
+    ghost failure_count = { λ o. o.failures };
+
+    fn write(&mut self, bytes: &[u8]) -> Result<usize, OutletFailed> {
+        if self.fails_in == 1 {
+            self.fails_in = 0;
+            self.failures += 1;
+            return Err(OutletFailed);
+        }
+        self.fails_in = self.fails_in.saturating_sub(1);
+        let n = bytes.len().min(self.cut);
+        if self.bytes.extend_from_slice(&bytes[..n]).is_err() {
+            self.failures += 1;
+            return Err(OutletFailed);
+        }
+        Ok(n)
+    }
+
+    fn flush(&mut self) -> Result<(), OutletFailed> {
+        if self.flush_fails {
+            self.failures += 1;
+            return Err(OutletFailed);
+        }
+        Ok(())
+    }
+
+    fn failures(&self) -> u64 {
+        self.failures
+    }
+}
+
+/// An outlet failed before all bytes were sent.
+#[derive(Clone, Copy, Debug, PartialEq, Eq, Error)]
+#[error("the outlet failed after {count} bytes")]
+pub struct Sent {
+    /// How many bytes went out, from the first on: fewer than were to be sent.
+    pub count: usize,
+}
+
+/// Sends all bytes, by as many writes as the outlet makes of them. It makes no write where there are no bytes, and doesn't flush.
+///
+/// The first failure ends it: the outlet has then taken the first `count` bytes, and failed once in this call.
+pub fn send<O: Outlet>(outlet: &mut O, bytes: &[u8]) -> Result<(), Sent>
+    requires { O.failure_count outlet.old < u64.MAX }
+    ensures ok { OnOk result (IsTrue (O.tells outlet.old) → O.taken outlet.new ≡ O.taken outlet.old ++ bytes.now) }
+    ensures short { IfErr result (λ sent. sent.count < length bytes.now) }
+    ensures err { IfErr result (λ sent. IsTrue (O.tells outlet.old) → O.taken outlet.new ≡ O.taken outlet.old ++ take sent.count bytes.now) }
+    ensures failures { O.failure_count outlet.new ≡ O.failure_count outlet.old + (if is_ok result then 0 else 1) }
+    ensures told { O.tells outlet.new ≡ O.tells outlet.old }
+    ensures empty { bytes.now ≡ [] → outlet.new ≡ outlet.old }
+{
+    let mut sent = 0;
+    while sent < bytes.len() {
+        match outlet.write(&bytes[sent..]) {
+            Ok(n) => sent += n,
+            Err(_) => return Err(Sent { count: sent }),
+        }
+    }
+    Ok(())
+}

@@ -1,0 +1,174 @@
+//! Reads a record line by line.
+
+ghost use Rattle.std.specs.Prelude.{◌≡◌, ◌+◌, ◌*◌, ◌<◌, ◌≤◌, ℕ, true, List, [], ◌∷◌, length, MatchResult, MatchOption, IfOk, IfErr, IfSome, Ok, None, OnOk};
+ghost use Rattle.fq_text.specs.Grammar.{limit, begins_with, front, Read, Found};
+ghost use Rattle.fq_text.specs.Reading.{IsSound, fails};
+ghost use Rattle.fq_text.specs.declared.fault.Stop.TheVariants.{OutOfMemory};
+ghost use Rattle.fq_text.specs.Steps.{in_sequence, at_plus, in_quality, Goes, Ends, Stops, FindsTitle, FindsPlus, FindsRecord, FindsRest, FindsNext};
+
+use crate::encoding::Encoding;
+use crate::fault::{Fault, Stop};
+use crate::feed::Feed;
+use crate::judge::{begins_with, plus_fault, quality_fault, sequence_fault, title_fault};
+use crate::lines::LineReader;
+use crate::record::{FastqRecord, Parts};
+use crate::unwrapped::first_record;
+use std::alloc::Global;
+
+// Reads to the first title, if there is one, and makes room for so many bytes of its record.
+fn read_title<F: Feed>(
+    alloc: Global,
+    encoding: Encoding,
+    room: usize,
+    lines: &mut LineReader<F>,
+) -> Result<Option<Parts>, Stop>
+    requires failures { F.failure_count lines.old.feed < u64.MAX }
+    requires sound { IsSound F.tells F.to_come lines.old }
+    ensures step { MatchResult result (FindsTitle F.tells F.to_come lines.old lines.new encoding) (Stops F.tells F.to_come lines.old lines.new (front encoding)) }
+    ensures sound { IsSound F.tells F.to_come lines.new }
+    ensures failures { F.failure_count lines.new.feed ≡ F.failure_count lines.old.feed + fails result }
+{
+    while lines.advance()? {
+        let line = lines.line();
+        if !line.is_empty() {
+            return match title_fault(line) {
+                Some(fault) => Err(Stop::Fault(fault)),
+                None => Ok(Some(Parts::new(alloc, encoding, &line[1..], room)?)),
+            };
+        }
+    }
+    Ok(None)
+}
+
+// Reads the sequence lines, and the plus line.
+fn read_sequence<F: Feed>(lines: &mut LineReader<F>, parts: &mut Parts) -> Result<(), Stop>
+    requires failures { F.failure_count lines.old.feed < u64.MAX }
+    requires sound { IsSound F.tells F.to_come lines.old }
+    requires bases { parts.old.seq ≡ [] }
+    requires scores { parts.old.qual ≡ [] }
+    ensures step { MatchResult result (FindsPlus F.tells F.to_come lines.old lines.new parts.old parts.new)
+        (Stops F.tells F.to_come lines.old lines.new (in_sequence parts.old.encoding parts.old.title [])) }
+    ensures sound { IsSound F.tells F.to_come lines.new }
+    ensures failures { F.failure_count lines.new.feed ≡ F.failure_count lines.old.feed + fails result }
+{
+    while lines.advance()? {
+        let line = lines.line();
+        if begins_with(line, b'+') {
+            return Ok(());
+        }
+        match sequence_fault(parts.seq().len(), line) {
+            Some(fault) => return Err(Stop::Fault(fault)),
+            None => parts.push_bases(line)?,
+        }
+    }
+    Err(Stop::Fault(Fault::NoPlus))
+}
+
+// Reads the quality lines.
+fn read_quality<F: Feed>(lines: &mut LineReader<F>, parts: &mut Parts) -> Result<(), Stop>
+    requires failures { F.failure_count lines.old.feed < u64.MAX }
+    requires sound { IsSound F.tells F.to_come lines.old }
+    requires bases { length parts.old.seq ≤ limit }
+    requires scores { parts.old.qual ≡ [] }
+    ensures step { MatchResult result (FindsRecord F.tells F.to_come lines.old lines.new parts.old parts.new)
+        (Stops F.tells F.to_come lines.old lines.new (in_quality parts.old.encoding parts.old.title parts.old.seq [])) }
+    ensures sound { IsSound F.tells F.to_come lines.new }
+    ensures failures { F.failure_count lines.new.feed ≡ F.failure_count lines.old.feed + fails result }
+{
+    let bases = parts.seq().len();
+    while parts.qual().len() < bases {
+        if !lines.advance()? {
+            return Err(Stop::Fault(Fault::QualityShort));
+        }
+        let line = lines.line();
+        match quality_fault(parts.encoding(), bases, parts.qual().len(), line) {
+            Some(fault) => return Err(Stop::Fault(fault)),
+            None => parts.push_scores(line)?,
+        }
+    }
+    Ok(())
+}
+
+// Reads the next record at one stroke, where it stands whole in hand in four unwrapped lines.
+fn read_in_hand<F: Feed>(
+    alloc: Global,
+    encoding: Encoding,
+    lines: &mut LineReader<F>,
+) -> Result<Option<FastqRecord>, Stop>
+    requires { IsSound F.tells F.to_come lines.old }
+    ensures found { IfOk result (λ o. IfSome o (λ r. Goes F.tells F.to_come lines.old lines.new (front encoding) (Found r))) }
+    ensures none { result ≡ Ok None → lines.new ≡ lines.old }
+    ensures err { IfErr result (λ stop. (stop ≡ OutOfMemory) × (lines.new ≡ lines.old)) }
+    ensures sound { IsSound F.tells F.to_come lines.new }
+    ensures feed { lines.new.feed ≡ lines.old.feed }
+{
+    let hand = lines.hand();
+    let shape = match first_record(encoding, hand) {
+        Some(shape) => shape,
+        None => return Ok(None),
+    };
+    let len = shape.title + shape.bases + shape.bases + 6;
+    let record = FastqRecord::of_lines(alloc, encoding, &hand[1..len - 1], shape)?;
+    lines.take_line(0, len);
+    Ok(Some(record))
+}
+
+// Reads the next record line by line, if there is one, into room for so many bytes.
+fn read_by_lines<F: Feed>(
+    alloc: Global,
+    encoding: Encoding,
+    room: usize,
+    lines: &mut LineReader<F>,
+) -> Result<Option<FastqRecord>, Stop>
+    requires failures { F.failure_count lines.old.feed < u64.MAX }
+    requires sound { IsSound F.tells F.to_come lines.old }
+    ensures step { MatchResult result (FindsNext F.tells F.to_come lines.old lines.new encoding) (Stops F.tells F.to_come lines.old lines.new (front encoding)) }
+    ensures sound { IsSound F.tells F.to_come lines.new }
+    ensures failures { F.failure_count lines.new.feed ≡ F.failure_count lines.old.feed + fails result }
+{
+    match read_title(alloc, encoding, room, lines)? {
+        None => Ok(None),
+        Some(mut parts) => {
+            read_rest(lines, &mut parts)?;
+            Ok(Some(FastqRecord::of_parts(parts)))
+        }
+    }
+}
+
+// Reads the next record, if there is one, into room for so many bytes.
+pub(crate) fn read_record<F: Feed>(
+    alloc: Global,
+    encoding: Encoding,
+    room: usize,
+    lines: &mut LineReader<F>,
+) -> Result<Option<FastqRecord>, Stop>
+    requires failures { F.failure_count lines.old.feed < u64.MAX }
+    requires sound { IsSound F.tells F.to_come lines.old }
+    ensures step { MatchResult result (FindsNext F.tells F.to_come lines.old lines.new encoding) (Stops F.tells F.to_come lines.old lines.new (front encoding)) }
+    ensures sound { IsSound F.tells F.to_come lines.new }
+    ensures failures { F.failure_count lines.new.feed ≡ F.failure_count lines.old.feed + fails result }
+{
+    match read_in_hand(alloc, encoding, lines) {
+        Ok(Some(record)) => Ok(Some(record)),
+        Ok(None) => read_by_lines(alloc, encoding, room, lines),
+        Err(stop) => Err(stop),
+    }
+}
+
+// Reads what follows a title.
+fn read_rest<F: Feed>(lines: &mut LineReader<F>, parts: &mut Parts) -> Result<(), Stop>
+    requires failures { F.failure_count lines.old.feed < u64.MAX }
+    requires sound { IsSound F.tells F.to_come lines.old }
+    requires bases { parts.old.seq ≡ [] }
+    requires scores { parts.old.qual ≡ [] }
+    ensures step { MatchResult result (FindsRest F.tells F.to_come lines.old lines.new parts.old parts.new)
+        (Stops F.tells F.to_come lines.old lines.new (in_sequence parts.old.encoding parts.old.title [])) }
+    ensures sound { IsSound F.tells F.to_come lines.new }
+    ensures failures { F.failure_count lines.new.feed ≡ F.failure_count lines.old.feed + fails result }
+{
+    read_sequence(lines, parts)?;
+    match plus_fault(parts.title(), lines.line()) {
+        Some(fault) => Err(Stop::Fault(fault)),
+        None => read_quality(lines, parts),
+    }
+}

@@ -1,0 +1,194 @@
+//! Scores, written records, and the devices that texts come from and go to.
+
+ghost use Rattle.std.specs.Prelude.{◌≤◌, length};
+
+use crate::*;
+use std::io;
+use std::io::{ErrorKind, Read, Write};
+use std::process::Abort;
+use std::test::Fail;
+
+#[test]
+fn quality_bytes_have_scores(rt: HostRuntime) {
+    let rows = [
+        (Encoding::Sanger, 32, None),
+        (Encoding::Sanger, 33, Some(0)),
+        (Encoding::Sanger, 126, Some(93)),
+        (Encoding::Sanger, 127, None),
+        (Encoding::Illumina13, 63, None),
+        (Encoding::Illumina13, 64, Some(0)),
+        (Encoding::Illumina13, 126, Some(62)),
+        (Encoding::Illumina13, 127, None),
+    ];
+    for (encoding, byte, score) in rows {
+        assert_eq!(rt; encoding.score(byte), score, "{encoding:?} {byte}");
+    }
+}
+
+#[test]
+fn one_byte_without_a_score_is_enough(rt: HostRuntime) {
+    assert!(rt; Encoding::Sanger.all_scored(b"!I~"));
+    assert!(rt; !Encoding::Sanger.all_scored(b"I I"));
+    assert!(rt; Encoding::Illumina13.all_scored(b"@h~"));
+    assert!(rt; !Encoding::Illumina13.all_scored(b"hh?"));
+    assert!(rt; Encoding::Illumina13.all_scored(b""));
+}
+
+#[test]
+fn scores_are_written_at_offset_33(rt: HostRuntime) {
+    for (score, byte) in [(0, b'!'), (2, b'#'), (40, b'I'), (62, b'_'), (93, b'~')] {
+        assert_eq!(rt; from_score33(score), byte);
+    }
+}
+
+fn writes(
+    rt: &impl Abort,
+    out: &mut Vec<u8>,
+    title: &[u8],
+    seq: &[u8],
+    qual: &[u8],
+    recode: Option<Encoding>,
+) -> Result<(), OutOfMemory> {
+    match recode {
+        None => put_record(out, title, seq, qual, None),
+        Some(encoding) => {
+            assert!(rt; encoding.all_scored(qual));
+            put_record(out, title, seq, qual, Some(encoding))
+        }
+    }
+}
+
+#[test]
+fn records_are_written_behind_a_text(rt: HostRuntime) -> Result<(), Fail> {
+    let illumina = Some(Encoding::Illumina13);
+    let mut out = Vec::from_slice(rt.alloc(), b"x")?;
+    writes(&rt, &mut out, b"t", b"AC", b"hB", None)?;
+    assert_eq!(rt; out.as_slice(), b"x@t\nAC\n+\nhB\n".as_slice());
+
+    let mut out = Vec::from_slice(rt.alloc(), b"x")?;
+    writes(&rt, &mut out, b"t", b"AC", b"hB", illumina)?;
+    assert_eq!(rt; out.as_slice(), b"x@t\nAC\n+\nI#\n".as_slice());
+
+    let mut out = Vec::new(rt.alloc());
+    writes(&rt, &mut out, b"q", b"A", b"@", illumina)?;
+    assert_eq!(rt; out.as_slice(), b"@q\nA\n+\n!\n".as_slice());
+    writes(&rt, &mut out, b"", b"A", b"~", illumina)?;
+    writes(&rt, &mut out, b"s 1", b"AN", b"!~", Some(Encoding::Sanger))?;
+    writes(&rt, &mut out, b"e", b"", b"", illumina)?;
+    assert_eq!(rt; out.as_slice(), b"@q\nA\n+\n!\n@\nA\n+\n_\n@s 1\nAN\n+\n!~\n@e\n\n+\n\n".as_slice());
+    Ok(())
+}
+
+#[test]
+fn a_send_stops_at_the_first_failure(rt: HostRuntime) -> Result<(), Fail> {
+    let mut outlet = ScriptOutlet::new(rt.alloc(), 2, 3, false);
+    let sent = send(&mut outlet, b"abcdef");
+    assert_eq!(rt; sent, Err(Sent { count: 4 }));
+    assert_eq!(rt; outlet.bytes(), b"abcd".as_slice());
+    assert_eq!(rt; outlet.failures(), 1);
+
+    let mut outlet = ScriptOutlet::new(rt.alloc(), 4, 0, false);
+    assert_eq!(rt; send(&mut outlet, b"abcdef"), Ok(()));
+    assert_eq!(rt; outlet.bytes(), b"abcdef".as_slice());
+    assert_eq!(rt; outlet.failures(), 0);
+    Ok(())
+}
+
+#[test]
+fn no_bytes_make_no_write(rt: HostRuntime) {
+    let mut outlet = ScriptOutlet::new(rt.alloc(), 1, 1, false);
+    assert_eq!(rt; send(&mut outlet, b""), Ok(()));
+    assert_eq!(rt; outlet.failures(), 0);
+    assert_eq!(rt; send(&mut outlet, b"a"), Err(Sent { count: 0 }));
+    assert_eq!(rt; outlet.failures(), 1);
+}
+
+#[test]
+fn a_flush_fails_where_it_is_told_to(rt: HostRuntime) {
+    let mut outlet = ScriptOutlet::new(rt.alloc(), 1, 0, true);
+    assert_eq!(rt; outlet.flush(), Err(OutletFailed));
+    assert_eq!(rt; outlet.failures(), 1);
+    let mut outlet = ScriptOutlet::new(rt.alloc(), 1, 0, false);
+    assert_eq!(rt; outlet.flush(), Ok(()));
+}
+
+#[test]
+fn failures_have_texts(rt: HostRuntime) -> Result<(), Fail> {
+    let text = format!(in rt.alloc(); "{}", Sent { count: 4 })?;
+    assert_eq!(rt; text.as_str(), "the outlet failed after 4 bytes");
+    let text = format!(in rt.alloc(); "{}", OutletFailed)?;
+    assert_eq!(rt; text.as_str(), "the outlet failed");
+    Ok(())
+}
+
+// A file's other end: each first call is cut short by a signal.
+#[derive(Drop)]
+struct Signalled {
+    calls: u8,
+}
+
+impl Signalled {
+    fn answer(&mut self) -> io::Result<()> {
+        if self.calls == 0 {
+            self.calls = 1;
+            return Err(io::Error::from(ErrorKind::Interrupted));
+        }
+        Ok(())
+    }
+}
+
+impl Read for Signalled {
+    fn read(&mut self, _buf: &mut [u8]) -> io::Result<usize> {
+        self.answer()?;
+        Ok(0)
+    }
+}
+
+impl Write for Signalled {
+    fn write(&mut self, _buf: &[u8]) -> io::Result<usize> {
+        self.answer()?;
+        Ok(0)
+    }
+
+    fn flush(&mut self) -> io::Result<()> {
+        self.answer()
+    }
+}
+
+#[test]
+fn a_readers_error_is_a_failure(rt: HostRuntime) {
+    let mut buf = [0u8; 4];
+    let mut feed = FromRead::new(Signalled { calls: 0 });
+    assert_eq!(rt; feed.read(&mut buf), Err(FeedFailed));
+    assert_eq!(rt; feed.failures(), 1);
+    assert_eq!(rt; feed.read(&mut buf), Ok(0));
+    assert_eq!(rt; feed.failures(), 1);
+    assert_eq!(rt; feed.into_inner().calls, 1);
+}
+
+#[test]
+fn a_writers_error_and_a_write_of_nothing_are_failures(rt: HostRuntime) {
+    let mut outlet = FromWrite::new(Signalled { calls: 0 });
+    assert_eq!(rt; outlet.flush(), Err(OutletFailed));
+    assert_eq!(rt; outlet.failures(), 1);
+    assert_eq!(rt; outlet.write(b"a"), Err(OutletFailed));
+    assert_eq!(rt; outlet.failures(), 2);
+    assert_eq!(rt; outlet.write(b""), Ok(0));
+    assert_eq!(rt; outlet.flush(), Ok(()));
+    assert_eq!(rt; outlet.failures(), 2);
+    let mut outlet = FromWrite::new(Signalled { calls: 0 });
+    assert_eq!(rt; outlet.write(b"a"), Err(OutletFailed));
+    assert_eq!(rt; outlet.failures(), 1);
+}
+
+#[test]
+fn bytes_pass_through_readers_and_writers(rt: HostRuntime) -> Result<(), Fail> {
+    let mut buf = [0u8; 4];
+    let mut feed = FromRead::new(b"abc".as_slice());
+    assert_eq!(rt; feed.read(&mut buf), Ok(3));
+    assert_eq!(rt; buf[..3], b"abc"[..]);
+    let mut outlet = FromWrite::new(Vec::new(rt.alloc()));
+    assert_eq!(rt; send(&mut outlet, b"abcdef"), Ok(()));
+    assert_eq!(rt; outlet.into_inner().as_slice(), b"abcdef".as_slice());
+    Ok(())
+}

@@ -1,0 +1,107 @@
+//! A read whose parts lie elsewhere.
+
+ghost use Rattle.std.specs.Prelude.{◌≡◌, ◌↔◌, ◌==◌, not, IsTrue};
+ghost use Rattle.std.specs.List.{list_all};
+ghost use Rattle.fq_text.specs.Grammar.{Read, IsLawful};
+
+use crate::encoding::Encoding;
+use crate::judge::{all_bases, begins_with};
+use crate::lines::LIMIT;
+use memchr::memchr;
+use std::marker::Model;
+
+// Whether a title is one line.
+fn is_one_line(title: &[u8]) -> bool
+    ensures { result ≡ list_all (λ b. not (b == 10)) title.now }
+{
+    match memchr(b'\n', title) {
+        None => true,
+        Some(_) => false,
+    }
+}
+
+/// Whether the parts make a record that a FASTQ text can hold: the title has no line feed and fewer than 1,048,576
+/// bytes, the sequence has at most 1,048,576 bytes, all from 33 to 126, and begins neither with `@` nor with `+`,
+/// and the quality has as many bytes, each with a score in the encoding.
+pub fn is_lawful(encoding: Encoding, title: &[u8], seq: &[u8], qual: &[u8]) -> bool
+    ensures { IsTrue result ↔ IsLawful (record { encoding = encoding; title = title.now; seq = seq.now; qual = qual.now }) }
+{
+    if !is_one_line(title) || title.len() >= LIMIT {
+        return false;
+    }
+    if seq.len() > LIMIT || !all_bases(seq) || begins_with(seq, b'@') || begins_with(seq, b'+') {
+        return false;
+    }
+    qual.len() == seq.len() && encoding.all_scored(qual)
+}
+
+/// One read, lent out of a record or a block: title, sequence and quality as [`FastqRecord`](crate::FastqRecord) has them,
+/// with the same rules.
+#[derive(Drop)]
+pub struct ReadView<'a> {
+    encoding: Encoding,
+    title: &'a [u8],
+    seq: &'a [u8],
+    qual: &'a [u8],
+}
+
+impl<'a> Model for ReadView<'a> {
+    ghost use Rattle.fq_text.specs.Grammar.{Read, IsLawful};
+
+    ghost Value = { Read };
+
+    ghost view = { λ v. record { encoding = v.encoding; title = v.title.now; seq = v.seq.now; qual = v.qual.now } };
+
+    ghost invariant = { λ v. IsLawful (record { encoding = v.encoding; title = v.title.now; seq = v.seq.now; qual = v.qual.now }) };
+}
+
+impl<'a> ReadView<'a> {
+    ghost use Rattle.fq_text.specs.Grammar.{Read, IsLawful};
+
+    /// A read of these parts, which [`is_lawful`] tests.
+    pub fn new(
+        encoding: Encoding,
+        title: &'a [u8],
+        seq: &'a [u8],
+        qual: &'a [u8],
+    ) -> ReadView<'a>
+        requires { IsLawful (record { encoding = encoding; title = title.now; seq = seq.now; qual = qual.now }) }
+        ensures { result ≡ record { encoding = encoding; title = title.now; seq = seq.now; qual = qual.now } }
+    {
+        ReadView {
+            encoding,
+            title,
+            seq,
+            qual,
+        }
+    }
+
+    /// How the quality bytes stand for scores.
+    pub fn encoding(&self) -> Encoding
+        ensures { result ≡ self.now.encoding }
+    {
+        self.encoding
+    }
+
+    /// The title: what follows the `@` of the title line, without the line end.
+    pub fn title(&self) -> &'a [u8]
+        ensures title { result.now ≡ self.now.title }
+        ensures lawful { IsLawful self.now }
+    {
+        self.title
+    }
+
+    /// The sequence, one byte a base.
+    pub fn seq(&self) -> &'a [u8]
+        ensures { result.now ≡ self.now.seq }
+    {
+        self.seq
+    }
+
+    /// The quality bytes, one a base.
+    pub fn qual(&self) -> &'a [u8]
+        ensures { result.now ≡ self.now.qual }
+    {
+        self.qual
+    }
+}

@@ -1,0 +1,84 @@
+//! Writes a record.
+
+ghost use Rattle.std.specs.Prelude.{◌≡◌, ◌+◌, ◌≤◌, ◌++◌, ◌∷◌, [], length, min, OnOk, OnErr, IsOk, vec_len, vec_capacity};
+ghost use Rattle.fq_text.specs.Written.{written, written_len, written_quality, CanRecode};
+
+use crate::encoding::Encoding;
+use crate::memory::OutOfMemory;
+
+/// Appends a record to `out` as four unwrapped lines, each ended by LF: `@` and the title, the sequence, a bare `+`, the quality
+/// (Cock, Fields, Goto, Heuer and Rice, Nucleic Acids Research 38(6), 2010).
+///
+/// Quality bytes are kept, unless `recode` names their encoding: then each is written as its score plus 33, so the written record
+/// is in Sanger's encoding, as Trimmomatic's step TOPHRED33 writes it. The condition is that each quality byte has a score there.
+///
+/// Memory is asked for once, for the whole record, and only where `out` lacks the room. A refusal leaves `out` as it was.
+pub fn put_record(
+    out: &mut Vec<u8>,
+    title: &[u8],
+    seq: &[u8],
+    qual: &[u8],
+    recode: Option<Encoding>,
+) -> Result<(), OutOfMemory>
+    requires { CanRecode recode qual.now }
+    ensures ok { OnOk result (out.new.items ≡ out.old.items ++ written title.now seq.now (written_quality recode qual.now)) }
+    ensures err { OnErr result (out.new.items ≡ out.old.items) }
+    ensures room { vec_len out.old + written_len title.now seq.now qual.now ≤ vec_capacity out.old → IsOk result }
+{
+    out.reserve(len_written(title, seq, qual))?;
+    append(out, title, seq, qual, recode);
+    Ok(())
+}
+
+// The marks `@` and `+`, four line ends, and what stands between them. No text is longer than `usize::MAX`.
+fn len_written(title: &[u8], seq: &[u8], qual: &[u8]) -> usize
+    ensures { result ≡ min (written_len title.now seq.now qual.now) usize.MAX }
+{
+    title
+        .len()
+        .saturating_add(seq.len())
+        .saturating_add(qual.len())
+        .saturating_add(6)
+}
+
+fn append(
+    out: &mut Vec<u8>,
+    title: &[u8],
+    seq: &[u8],
+    qual: &[u8],
+    recode: Option<Encoding>,
+)
+    requires scored { CanRecode recode qual.now }
+    requires room { vec_len out.old + written_len title.now seq.now qual.now ≤ vec_capacity out.old }
+    ensures { out.new.items ≡ out.old.items ++ written title.now seq.now (written_quality recode qual.now) }
+{
+    append_head(out, title, seq);
+    append_quality(out, qual, recode);
+    out.push(b'\n').unwrap();
+}
+
+fn append_head(out: &mut Vec<u8>, title: &[u8], seq: &[u8])
+    requires { vec_len out.old + length title.now + length seq.now + 5 ≤ vec_capacity out.old }
+    ensures items { out.new.items ≡ out.old.items ++ (64 ∷ title.now ++ 10 ∷ seq.now ++ 10 ∷ 43 ∷ 10 ∷ []) }
+    ensures capacity { vec_capacity out.old ≤ vec_capacity out.new }
+{
+    out.push(b'@').unwrap();
+    out.extend_from_slice(title).unwrap();
+    out.push(b'\n').unwrap();
+    out.extend_from_slice(seq).unwrap();
+    out.extend_from_slice(b"\n+\n").unwrap();
+}
+
+fn append_quality(out: &mut Vec<u8>, qual: &[u8], recode: Option<Encoding>)
+    requires scored { CanRecode recode qual.now }
+    requires room { vec_len out.old + length qual.now ≤ vec_capacity out.old }
+    ensures items { out.new.items ≡ out.old.items ++ written_quality recode qual.now }
+    ensures capacity { vec_capacity out.old ≤ vec_capacity out.new }
+{
+    let start = out.len();
+    out.extend_from_slice(qual).unwrap();
+    match recode {
+        None => {}
+        Some(encoding) => encoding.recode(&mut out[start..]),
+    }
+}
