@@ -4,7 +4,7 @@ use Rattle.std.proofs.Math.Seq.{take-add}
 use Rattle.std.proofs.lemmas.List.{drop-drop, take_all, take-take, drop-take, length-take, length-drop}
 use Rattle.fq_text.specs.declared.encoding.Encoding.{Encoding}
 use Rattle.fq_text.specs.Lines.{without_cr, is_whole, lines}
-use Rattle.fq_text.specs.Grammar.{Read, IsLawful, Found, front}
+use Rattle.fq_text.specs.Grammar.{Found, front}
 use Rattle.fq_text.specs.Written.{line, written}
 use Rattle.fq_text.specs.Reading.{Lined}
 use Rattle.fq_text.specs.Steps.{Goes}
@@ -71,9 +71,9 @@ written_first e hand t n p =
     let titled : take (t + 1) (drop 1 hand) ≡ title ++ 10 ∷ [] = part_then hand 1 t (t + 1) 10 (omega arith) (omega arith) p.title_end in
     let bases : take (n + 1) (drop (t + 2) hand) ≡ seq ++ 10 ∷ [] = part_then hand (t + 2) n (t + n + 2) 10 (omega arith) (omega arith) p.seq_end in
     let plus : take 2 (drop (t + n + 3) hand) ≡ 43 ∷ 10 ∷ [] =
-        parted hand (t + n + 3) (t + n + 4) 1 1 2 refl (omega arith)
-        ∙ ap (λ ys. ys ++ take 1 (drop (t + n + 4) hand)) (one_at hand (t + n + 3) 43 (omega arith) p.plus)
-        ∙ ap (λ ys. 43 ∷ ys) (one_at hand (t + n + 4) 10 (omega arith) p.plus_end) in
+    parted hand (t + n + 3) (t + n + 4) 1 1 2 refl (omega arith)
+    ∙ ap (λ ys. ys ++ take 1 (drop (t + n + 4) hand)) (one_at hand (t + n + 3) 43 (omega arith) p.plus)
+    ∙ ap (λ ys. 43 ∷ ys) (one_at hand (t + n + 4) 10 (omega arith) p.plus_end) in
     let scores : take (n + 1) (drop (t + n + 5) hand) ≡ qual ++ 10 ∷ [] = part_then hand (t + n + 5) n (t + n + n + 5) 10 (omega arith) (omega arith) p.qual_end in
     let last = fourth ∙ ap (λ ys. ys ++ take (n + 1) (drop (t + n + 5) hand)) plus ∙ ap (λ ys. (43 ∷ 10 ∷ []) ++ ys) scores in
     let later = third ∙ ap (λ ys. ys ++ take (n + 3) (drop (t + n + 3) hand)) bases ∙ ap (λ ys. (seq ++ 10 ∷ []) ++ ys) last in
@@ -105,8 +105,8 @@ found_in_hand e hand t n ls p =
 pub unwrapped_front : (e : Encoding) (bytes : List ℕ) (t n k : ℕ) → t + n + n + 4 ≤ k → unwrapped e t n (take k bytes) ≡ unwrapped e t n bytes
 unwrapped_front e bytes t n k le =
     let part : (a m : ℕ) → a + m ≤ k → take m (drop a (take k bytes)) ≡ take m (drop a bytes) =
-        λ a m within. let sum : a + (k - a) ≡ k = omega arith in
-        ap (λ j. take m (drop a (take j bytes))) (sym sum) ∙ ap (take m) (drop-take a (k - a) bytes) ∙ take-take m (k - a) (drop a bytes) (omega arith) in
+    λ a m within. let sum : a + (k - a) ≡ k = omega arith in
+    ap (λ j. take m (drop a (take j bytes))) (sym sum) ∙ ap (take m) (drop-take a (k - a) bytes) ∙ take-take m (k - a) (drop a bytes) (omega arith) in
     let title = take-take t k bytes (omega arith) in
     let seq = part (t + 1) n (omega arith) in
     let qual = part (t + n + 4) n (omega arith) in

@@ -1,5 +1,5 @@
 -- What was written is read again.
-use Rattle.std.proofs.Common.{◌≡◌, ℕ, ◌+◌, ◌<◌, ◌≤◌, Bool, true, false, not, eqb, Option, Some, None, zero, suc, List, [], ◌∷◌, ◌++◌, length, map, refl, ap, sym, ◌∙◌, arith, append_assoc, ⊎_elim}
+use Rattle.std.proofs.Common.{◌≡◌, ℕ, ◌+◌, ◌<◌, ◌≤◌, Bool, true, false, not, eqb, Option, Some, None, suc, List, [], ◌∷◌, ◌++◌, length, map, refl, ap, sym, ◌∙◌, arith, append_assoc, ⊎_elim}
 use Rattle.std.specs.List.{list_all}
 use Rattle.std.proofs.lemmas.Bool.{cond-true, cond-false, cases_Bool, and_parts, and_from, not-true, not_from_false, not_from_true, le-ltb, leb-true, ne_eqb}
 use Rattle.fq_text.specs.declared.encoding.Encoding.{Encoding}
@@ -158,15 +158,15 @@ reads_lawful r text lawful plain =
 lawful_as_written : (recode : Option Encoding) (r : Read) → IsLawful r → CanRecode recode r.qual → IsLawful (as_written recode r)
 lawful_as_written None r lawful can = lawful
 lawful_as_written (Some e) r lawful can = record {
-      one_line = lawful.one_line;
-      title_fits = lawful.title_fits;
-      seq_fits = lawful.seq_fits;
-      bases = lawful.bases;
-      no_title = lawful.no_title;
-      no_plus = lawful.no_plus;
-      same_len = length-map r.qual (recoded e) ∙ lawful.same_len;
-      scores = all_recoded_scored e r.qual can;
-    }
+  one_line = lawful.one_line;
+  title_fits = lawful.title_fits;
+  seq_fits = lawful.seq_fits;
+  bases = lawful.bases;
+  no_title = lawful.no_title;
+  no_plus = lawful.no_plus;
+  same_len = length-map r.qual (recoded e) ∙ lawful.same_len;
+  scores = all_recoded_scored e r.qual can;
+}
 
 pub reads_back : ReadsBack
 reads_back r None text lawful plain can = reads_lawful r text lawful plain

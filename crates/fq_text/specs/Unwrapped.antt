@@ -3,7 +3,6 @@ use Rattle.std.specs.Prelude.{◌≡◌, ℕ, ◌+◌, ◌<◌, ◌≤◌, List,
 use Rattle.fq_text.specs.declared.encoding.Encoding.{Encoding}
 use Rattle.fq_text.specs.Lines.{without_cr}
 use Rattle.fq_text.specs.Grammar.{Read, IsLawful}
-use Rattle.fq_text.specs.Written.{written}
 
 -- the record of which a title of t bytes, a sequence of n bases and a quality stand in these bytes, the lines without the first mark
 abbrev pub unwrapped : Encoding → ℕ → ℕ → List ℕ → Read

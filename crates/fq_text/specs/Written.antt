@@ -6,7 +6,7 @@ use Rattle.fq_text.specs.declared.encoding.Encoding.TheVariants.{Sanger}
 use Rattle.fq_text.specs.Lines.{without_cr}
 use Rattle.fq_text.specs.Scores.{is_scored, recoded}
 use Rattle.fq_text.specs.Grammar.{Read, IsLawful}
-use Rattle.fq_text.specs.Records.{Records, with_first, records}
+use Rattle.fq_text.specs.Records.{with_first, records}
 
 -- a line with its line end
 abbrev pub line : List ℕ → List ℕ

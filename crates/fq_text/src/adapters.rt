@@ -1,6 +1,7 @@
 //! Readers and writers of the standard library, as devices.
 
-ghost use Rattle.std.specs.Prelude.{◌≡◌, ◌<◌, ◌+◌};
+ghost use Rattle.std.specs.Prelude.{◌≡◌, ◌<◌, ◌≤◌, ◌+◌, length, IfOk, is_ok, if◌then◌else◌};
+ghost use Rattle.std.specs.Io.KnownBytes.{ReadConsumes, WriteAppends};
 
 use crate::feed::{Feed, FeedFailed};
 use crate::outlet::{Outlet, OutletFailed};
@@ -14,7 +15,7 @@ use std::marker::Model;
 #[derive(Drop)]
 pub struct FromRead<R: Read> {
     reader: R,
-    failures: u64,
+    failed_reads: u64,
 }
 
 impl<R: Read> Model for FromRead<R> {
@@ -22,7 +23,7 @@ impl<R: Read> Model for FromRead<R> {
 
     ghost Value = { Adapted R };
 
-    ghost view = { λ d. record { inner = d.reader; failures = d.failures } };
+    ghost view = { λ d. record { inner = d.reader; failures = d.failed_reads } };
 }
 
 impl<R: Read> FromRead<R> {
@@ -32,7 +33,7 @@ impl<R: Read> FromRead<R> {
     {
         FromRead {
             reader,
-            failures: 0,
+            failed_reads: 0,
         }
     }
 
@@ -42,7 +43,7 @@ impl<R: Read> FromRead<R> {
     {
         let FromRead {
             reader,
-            failures: _,
+            failed_reads: _,
         } = self;
         reader
     }
@@ -57,18 +58,24 @@ impl<R: Read> Feed for FromRead<R> {
 
     ghost failure_count = { λ d. d.failures };
 
-    fn read(&mut self, buf: &mut [u8]) -> Result<usize, FeedFailed> {
+    fn read(&mut self, buf: &mut [u8]) -> Result<usize, FeedFailed>
+        requires { self.old.failures < u64.MAX }
+        ensures within { IfOk result (λ n. n ≤ length buf.old) }
+        ensures failures { self.new.failures ≡ self.old.failures + (if is_ok result then 0 else 1) }
+        // Where the reader's own bytes are known, they move as a read moves them.
+        ensures reader { ReadConsumes (R.remaining self.old.inner) (R.remaining self.new.inner) result buf.new }
+    {
         match self.reader.read(buf) {
             Ok(n) => Ok(n),
             Err(_) => {
-                self.failures += 1;
+                self.failed_reads += 1;
                 Err(FeedFailed)
             }
         }
     }
 
     fn failures(&self) -> u64 {
-        self.failures
+        self.failed_reads
     }
 }
 
@@ -79,7 +86,7 @@ impl<R: Read> Feed for FromRead<R> {
 #[derive(Drop)]
 pub struct FromWrite<W: Write> {
     writer: W,
-    failures: u64,
+    failed_calls: u64,
 }
 
 impl<W: Write> Model for FromWrite<W> {
@@ -87,7 +94,7 @@ impl<W: Write> Model for FromWrite<W> {
 
     ghost Value = { Adapted W };
 
-    ghost view = { λ d. record { inner = d.writer; failures = d.failures } };
+    ghost view = { λ d. record { inner = d.writer; failures = d.failed_calls } };
 }
 
 impl<W: Write> FromWrite<W> {
@@ -97,7 +104,7 @@ impl<W: Write> FromWrite<W> {
     {
         FromWrite {
             writer,
-            failures: 0,
+            failed_calls: 0,
         }
     }
 
@@ -107,7 +114,7 @@ impl<W: Write> FromWrite<W> {
     {
         let FromWrite {
             writer,
-            failures: _,
+            failed_calls: _,
         } = self;
         writer
     }
@@ -117,7 +124,7 @@ impl<W: Write> FromWrite<W> {
         requires { self.old.failures < u64.MAX }
         ensures { self.new ≡ record self.old { failures = self.old.failures + 1 } }
     {
-        self.failures += 1;
+        self.failed_calls += 1;
         OutletFailed
     }
 }
@@ -131,7 +138,14 @@ impl<W: Write> Outlet for FromWrite<W> {
 
     ghost failure_count = { λ d. d.failures };
 
-    fn write(&mut self, bytes: &[u8]) -> Result<usize, OutletFailed> {
+    fn write(&mut self, bytes: &[u8]) -> Result<usize, OutletFailed>
+        requires { self.old.failures < u64.MAX }
+        ensures within { IfOk result (λ n. n ≤ length bytes.now) }
+        ensures some { IfOk result (λ n. 0 < length bytes.now → 0 < n) }
+        ensures failures { self.new.failures ≡ self.old.failures + (if is_ok result then 0 else 1) }
+        // Where the writer's own bytes are known, they grow as a write makes them.
+        ensures writer { WriteAppends (W.contents self.old.inner) (W.contents self.new.inner) result bytes.now }
+    {
         match self.writer.write(bytes) {
             Ok(0) if !bytes.is_empty() => Err(self.fail()),
             Ok(n) => Ok(n),
@@ -147,6 +161,6 @@ impl<W: Write> Outlet for FromWrite<W> {
     }
 
     fn failures(&self) -> u64 {
-        self.failures
+        self.failed_calls
     }
 }

@@ -56,7 +56,8 @@ impl Encoding {
         requires { list_all (is_scored self) bytes.old ≡ true }
         ensures { bytes.new ≡ map (recoded self) bytes.old }
     {
-        let shift = self.offset() - 33;
+        let offset = self.offset();
+        let shift = offset - 33;
         for byte in bytes.iter_mut() {
             *byte -= shift;
         }
@@ -68,5 +69,5 @@ pub fn from_score33(score: u8) -> u8
     requires { score ≤ 93 }
     ensures { result ≡ score + 33 }
 {
-    score + 33
+    33 + score
 }

@@ -97,6 +97,15 @@ impl ScriptOutlet {
     {
         self.bytes.as_slice()
     }
+
+    // One failure more.
+    fn fail(&mut self) -> OutletFailed
+        requires { self.old.failures < u64.MAX }
+        ensures { self.new ≡ record self.old { failures = self.old.failures + 1 } }
+    {
+        self.failures += 1;
+        OutletFailed
+    }
 }
 
 impl Outlet for ScriptOutlet {
@@ -109,24 +118,22 @@ impl Outlet for ScriptOutlet {
     fn write(&mut self, bytes: &[u8]) -> Result<usize, OutletFailed> {
         if self.fails_in == 1 {
             self.fails_in = 0;
-            self.failures += 1;
-            return Err(OutletFailed);
+            return Err(self.fail());
         }
         self.fails_in = self.fails_in.saturating_sub(1);
         let n = bytes.len().min(self.cut);
-        if self.bytes.extend_from_slice(&bytes[..n]).is_err() {
-            self.failures += 1;
-            return Err(OutletFailed);
+        match self.bytes.extend_from_slice(&bytes[..n]) {
+            Ok(()) => Ok(n),
+            Err(_) => Err(self.fail()),
         }
-        Ok(n)
     }
 
     fn flush(&mut self) -> Result<(), OutletFailed> {
         if self.flush_fails {
-            self.failures += 1;
-            return Err(OutletFailed);
+            Err(self.fail())
+        } else {
+            Ok(())
         }
-        Ok(())
     }
 
     fn failures(&self) -> u64 {

@@ -122,6 +122,7 @@ impl<F: Feed> Source<F> {
         ensures count { KeepsCount F.tells F.to_come self.old self.new }
         ensures bound { self.new.given ≤ self.new.taken }
         ensures limit { self.new.taken ≤ self.new.max_reads * self.new.chunk }
+        ensures fits { self.new.taken ≤ 2 ^ 60 }
     {
         match self.last {
             Some(Ok(())) => Ok(None),
@@ -139,6 +140,7 @@ impl<F: Feed> Source<F> {
         ensures count { KeepsCount F.tells F.to_come self.old self.new }
         ensures bound { self.new.given ≤ self.new.taken }
         ensures limit { self.new.taken ≤ self.new.max_reads * self.new.chunk }
+        ensures fits { self.new.taken ≤ 2 ^ 60 }
     {
         match read_record(self.alloc, self.encoding, self.room, &mut self.lines) {
             Ok(Some(record)) => {

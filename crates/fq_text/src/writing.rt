@@ -41,13 +41,7 @@ fn len_written(title: &[u8], seq: &[u8], qual: &[u8]) -> usize
         .saturating_add(6)
 }
 
-fn append(
-    out: &mut Vec<u8>,
-    title: &[u8],
-    seq: &[u8],
-    qual: &[u8],
-    recode: Option<Encoding>,
-)
+fn append(out: &mut Vec<u8>, title: &[u8], seq: &[u8], qual: &[u8], recode: Option<Encoding>)
     requires scored { CanRecode recode qual.now }
     requires room { vec_len out.old + written_len title.now seq.now qual.now ≤ vec_capacity out.old }
     ensures { out.new.items ≡ out.old.items ++ written title.now seq.now (written_quality recode qual.now) }

@@ -75,7 +75,10 @@ fn records_are_written_behind_a_text(rt: HostRuntime) -> Result<(), Fail> {
     writes(&rt, &mut out, b"", b"A", b"~", illumina)?;
     writes(&rt, &mut out, b"s 1", b"AN", b"!~", Some(Encoding::Sanger))?;
     writes(&rt, &mut out, b"e", b"", b"", illumina)?;
-    assert_eq!(rt; out.as_slice(), b"@q\nA\n+\n!\n@\nA\n+\n_\n@s 1\nAN\n+\n!~\n@e\n\n+\n\n".as_slice());
+    assert_eq!(rt;
+        out.as_slice(),
+        b"@q\nA\n+\n!\n@\nA\n+\n_\n@s 1\nAN\n+\n!~\n@e\n\n+\n\n".as_slice()
+    );
     Ok(())
 }
 

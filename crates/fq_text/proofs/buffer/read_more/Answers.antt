@@ -1,4 +1,4 @@
-use Rattle.std.proofs.Common.{◌+◌, ◌-◌, length, take, drop, arith, ap, ◌∙◌, Ok}
+use Rattle.std.proofs.Common.{length, take, arith, ap, ◌∙◌, Ok}
 use Rattle.std.proofs.lemmas.List.{length-take, length-drop, length-take-le}
 use Rattle.fq_text.proofs.ReadLemmas.{written_behind}
 use Rattle.fq_text.proofs.buffer.read_more.Goals as goal

@@ -1,4 +1,4 @@
-use Rattle.std.proofs.Common.{◌≡◌, ◌+◌, ◌-◌, ◌≤◌, List, ℕ, drop, take, ap, sym, subst, ◌∙◌, arith}
+use Rattle.std.proofs.Common.{◌+◌, ◌-◌, List, ℕ, drop, ap, sym, subst, ◌∙◌, arith}
 use Rattle.fq_text.specs.Grammar.{Read, IsLawful, Found, front}
 use Rattle.fq_text.specs.Steps.{Goes}
 use Rattle.fq_text.specs.Unwrapped.{unwrapped, StandsFirst}

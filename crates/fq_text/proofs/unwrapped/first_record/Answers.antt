@@ -1,5 +1,5 @@
 use Rattle.std.proofs.Common.{subst}
-use Rattle.fq_text.specs.Grammar.{Read, IsLawful}
+use Rattle.fq_text.specs.Grammar.{IsLawful}
 use Rattle.fq_text.proofs.UnwrappedLemmas.{parts_of_hand, plain_title_of_hand}
 use Rattle.fq_text.proofs.unwrapped.first_record.Goals as goal
 

@@ -1,4 +1,4 @@
-use Rattle.std.proofs.Common.{◌≡◌, ℕ, suc, ◌<◌, ◌≤◌, true, not, eqb, List, [], ◌∷◌, length, get_or, refl, ap, sym, arith, ⊎_elim}
+use Rattle.std.proofs.Common.{◌≡◌, ℕ, suc, ◌<◌, ◌≤◌, true, not, eqb, List, [], ◌∷◌, length, get_or, refl, sym, arith, ⊎_elim}
 use Rattle.std.specs.List.{list_all}
 use Rattle.std.proofs.lemmas.Bool.{cases_Bool, and_from, not_from_false, not_from_true}
 use Rattle.std.proofs.lemmas.List.Folds.{list_all_at}

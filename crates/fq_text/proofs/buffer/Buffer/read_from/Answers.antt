@@ -1,4 +1,4 @@
-use Rattle.std.proofs.Common.{ap, ◌∙◌, arith}
+use Rattle.std.proofs.Common.{ap, ◌∙◌}
 use Rattle.fq_text.specs.Reading.{Buffered}
 use Rattle.fq_text.proofs.ReadLemmas.{hand_moved, hand_stays}
 use Rattle.fq_text.proofs.buffer.Buffer.read_from.Goals as goal

@@ -1,4 +1,4 @@
-use Rattle.std.proofs.Common.{◌≡◌, ℕ, ◌+◌, ◌-◌, ◌<◌, ◌≤◌, true, List, ◌++◌, length, map, take, drop, get_or, set, arith, ap, sym, ◌∙◌}
+use Rattle.std.proofs.Common.{◌≡◌, ℕ, ◌-◌, ◌<◌, ◌≤◌, true, List, ◌++◌, length, map, take, drop, get_or, set, arith, ap, ◌∙◌}
 use Rattle.std.specs.List.{list_all}
 use Rattle.std.proofs.lemmas.List.{length-map, length-take, get_or_default, get_or-append_right, get_or-drop}
 use Rattle.std.proofs.lemmas.List.Edits.{map_over_more}
@@ -21,15 +21,15 @@ next_scored e was now i all within is =
 
 pub overflow_sub-byte : goal.overflow_sub-byte
 overflow_sub-byte c =
-    let is = c.offset-shift.ensures in
+    let is = c.offset-offset.ensures in
     let scored = next_scored c.args.self c.args.bytes.now c.loop-byte.bytes c.loop-byte.byte-index c.requires (omega arith) c.loop-byte.invariant in omega arith
 
 pub loop-byte-preserved : goal.loop-byte-preserved
 loop-byte-preserved c =
-    let is = c.offset-shift.ensures in
+    let is = c.offset-offset.ensures in
     let low = low_offset c.args.self in
     let next = get_or c.loop-byte.bytes c.loop-byte.byte-index 0 in
     let scored = next_scored c.args.self c.args.bytes.now c.loop-byte.bytes c.loop-byte.byte-index c.requires (omega arith) c.loop-byte.invariant in
-    let same : next - (c.offset-shift.result - 33) ≡ recoded c.args.self next = omega arith in
+    let same : next - (c.offset-offset.result - 33) ≡ recoded c.args.self next = omega arith in
     ap (λ b. set c.loop-byte.bytes c.loop-byte.byte-index b) same
     ∙ map_over_more (recoded c.args.self) c.args.bytes.now c.loop-byte.bytes c.loop-byte.byte-index next (omega arith) c.loop-byte.invariant (get_or_default c.loop-byte.bytes c.loop-byte.byte-index 0 next (omega arith))

@@ -1,0 +1,72 @@
+use Rattle.std.proofs.Common.{◌≡◌, Bool, true, false, List, [], ◌∷◌, ◌++◌, refl, sym, ap, ◌∙◌}
+use Rattle.rtrb.specs.Ends.{SameRing}
+use Rattle.rtrb.specs.declared.end.End.{End}
+use Rattle.fq_lane.specs.Line.{Line, Name}
+use Rattle.fq_lane.specs.Slots.{slots_of, items_of, IsLine}
+use Rattle.fq_lane.specs.declared.slot.Slot.{Slot}
+use Rattle.fq_lane.specs.declared.slot.Slot.TheVariants.{Item, Mark}
+
+module _ {T : Type 0} where
+  items-append : (ss ts : List (Slot T)) → items_of (ss ++ ts) ≡ items_of ss ++ items_of ts
+  items-append [] ts = refl
+  items-append (Item x ∷ ss) ts = ap (λ ys. x ∷ ys) (items-append ss ts)
+  items-append (Mark ∷ ss) ts = items-append ss ts
+
+  -- slots of an item more, and of the mark behind
+  pub slots-item : (xs : List T) (x : T) → slots_of xs false ++ Item x ∷ [] ≡ slots_of (xs ++ x ∷ []) false
+  slots-item [] x = refl
+  slots-item (y ∷ xs) x = ap (λ ss. Item y ∷ ss) (slots-item xs x)
+
+  pub slots-mark : (xs : List T) → slots_of xs false ++ Mark ∷ [] ≡ slots_of xs true
+  slots-mark [] = refl
+  slots-mark (y ∷ xs) = ap (λ ss. Item y ∷ ss) (slots-mark xs)
+
+  items-slots : (xs : List T) (b : Bool) → items_of (slots_of xs b) ≡ xs
+  items-slots [] false = refl
+  items-slots [] true = refl
+  items-slots (x ∷ xs) b = ap (λ ys. x ∷ ys) (items-slots xs b)
+
+  -- an item more
+  pub item_items : (ss ts : List (Slot T)) (x : T) → IsLine ss false → ts ≡ ss ++ Item x ∷ [] → items_of ts ≡ items_of ss ++ x ∷ []
+  item_items ss ts x line is = ap items_of is ∙ items-append ss (Item x ∷ [])
+
+  pub item_line : (ss ts : List (Slot T)) (x : T) → IsLine ss false → ts ≡ ss ++ Item x ∷ [] → IsLine ts false
+  item_line ss ts x line is =
+      is ∙ ap (λ us. us ++ Item x ∷ []) line ∙ slots-item (items_of ss) x ∙ ap (λ ys. slots_of ys false) (sym (item_items ss ts x line is))
+
+  append-none : (xs : List T) → xs ++ [] ≡ xs
+  append-none [] = refl
+  append-none (x ∷ xs) = ap (λ ys. x ∷ ys) (append-none xs)
+
+  -- the mark behind the items
+  pub mark_items : (ss ts : List (Slot T)) → IsLine ss false → ts ≡ ss ++ Mark ∷ [] → items_of ts ≡ items_of ss
+  mark_items ss ts line is = ap items_of is ∙ items-append ss (Mark ∷ []) ∙ append-none (items_of ss)
+
+  pub mark_line : (ss ts : List (Slot T)) → IsLine ss false → ts ≡ ss ++ Mark ∷ [] → IsLine ts true
+  mark_line ss ts line is =
+      is ∙ ap (λ us. us ++ Mark ∷ []) line ∙ slots-mark (items_of ss) ∙ ap (λ ys. slots_of ys true) (sym (mark_items ss ts line is))
+
+  -- nothing stands behind the mark
+  whole : (xs ys : List T) (rest : List (Slot T)) → slots_of xs true ++ rest ≡ slots_of ys true → xs ≡ ys
+  whole [] [] rest e = refl
+  whole [] (y ∷ ys) rest e = cc
+  whole (x ∷ xs) [] rest e = cc
+  whole (x ∷ xs) (y ∷ ys) rest e =
+      let t : slots_of xs true ++ rest ≡ slots_of ys true = cc in
+      let r : xs ≡ ys = whole xs ys rest t in
+      cc
+
+  -- what was got up to the mark is all that was sent
+  pub whole_items : (got rest sent : List (Slot T)) → IsLine got true → IsLine sent true → got ++ rest ≡ sent → items_of got ≡ items_of sent
+  whole_items got rest sent g s e = whole (items_of got) (items_of sent) rest (ap (λ us. us ++ rest) (sym g) ∙ e ∙ s)
+
+  pub line_along : (ss ts : List (Slot T)) (b : Bool) → IsLine ss b → ts ≡ ss → IsLine ts b
+  line_along ss ts b line is = is ∙ line ∙ ap (λ us. slots_of (items_of us) b) (sym is)
+
+  pub line_is : (m n : Name) (xs ys : List T) (b c : Bool) → m ≡ n → xs ≡ ys → b ≡ c
+      → (let l : Line T = record { name = m; items = xs; marked = b } in l) ≡ (let l : Line T = record { name = n; items = ys; marked = c } in l)
+  line_is m n xs ys b c p q r = cc
+
+module _ {T A P : Type 0} where
+  pub same_name : (a b : End T A P) → SameRing a b → (let n : Name = (b.words, (b.slots, b.names)) in n) ≡ (let n : Name = (a.words, (a.slots, a.names)) in n)
+  same_name a b r = let p = r.0 in let q = r.1 in let s = r.2 in cc

@@ -1,0 +1,27 @@
+-- What a take answers, and what it does to what was got.
+use Rattle.std.specs.Prelude.{◌≡◌, true, false, Option, Some, None}
+use Rattle.rtrb.specs.Ring.{received}
+use Rattle.rtrb.specs.declared.consumer.Consumer.{Consumer}
+use Rattle.fq_lane.specs.Line.{Line, with_item, with_mark}
+use Rattle.fq_lane.specs.Slots.{IsLine}
+use Rattle.fq_lane.specs.Ends.{receiver_line}
+use Rattle.fq_lane.specs.declared.slot.Slot.{Slot}
+use Rattle.fq_lane.specs.declared.rx.Taken.{Taken}
+use Rattle.fq_lane.specs.declared.rx.Taken.TheVariants.{Item, Empty, Closed}
+
+-- an item was got, and only where the mark was not; nothing was got, and the mark was not; the mark was got, now or before
+abbrev pub Takes : {T : Type 0} → Taken T → Line T → Line T → Type 0
+Takes (Item x) old new = (old.marked ≡ false) × (new ≡ with_item old x)
+Takes Empty old new = (old.marked ≡ false) × (new ≡ old)
+Takes Closed old new = new ≡ with_mark old
+
+-- an answer of a take that waits, which never finds the lane empty
+abbrev pub taken_of : {T : Type 0} → Option T → Taken T
+taken_of (Some x) = Item x
+taken_of None = Closed
+
+-- what a pop of the ring answers, where the mark was not got before: an item more, nothing, or the mark
+abbrev pub Pops : {T A P : Type 0} → Taken T → Consumer (Slot T) A P → Consumer (Slot T) A P → Type 0
+Pops (Item x) b c = IsLine (received c) false × (receiver_line c false ≡ with_item (receiver_line b false) x)
+Pops Empty b c = IsLine (received c) false × (receiver_line c false ≡ receiver_line b false)
+Pops Closed b c = IsLine (received c) true × (receiver_line c true ≡ with_mark (receiver_line b false))

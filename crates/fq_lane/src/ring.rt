@@ -1,0 +1,73 @@
+// What a lane does with its ring, said of the lines that the ring's ends stand for.
+ghost use Rattle.std.specs.Prelude.{◌≡◌, ◌<◌, false, true, IsTrue, IfSome};
+ghost use Rattle.rtrb.specs.Ring.{sent, known_free, received, all_sent};
+ghost use Rattle.fq_lane.specs.Line.{with_item, with_mark};
+ghost use Rattle.fq_lane.specs.Slots.{IsLine};
+ghost use Rattle.fq_lane.specs.Ends.{sender_line, receiver_line, end_line, consumer_name, finished_name, IsOpen};
+ghost use Rattle.fq_lane.specs.Take.{Pops};
+
+use crate::rx::Taken;
+use crate::slot::Slot;
+use rtrb::{Consumer, Finished, Producer};
+
+// Whether a slot is free beside the one that is kept for the mark.
+pub(crate) fn has_room<T>(producer: &mut Producer<Slot<T>>) -> bool
+    requires { IsOpen producer.old }
+    ensures open { IsOpen producer.new }
+    ensures unchanged { sender_line producer.new false ≡ sender_line producer.old false }
+    ensures room { IsTrue result → 1 < known_free producer.new }
+{
+    producer.cached_slots() > 1 || producer.slots() > 1
+}
+
+// Pushes an item, beside the slot that is kept for the mark.
+pub(crate) fn push_item<T>(producer: &mut Producer<Slot<T>>, item: T)
+    requires open { IsOpen producer.old }
+    requires room { 1 < known_free producer.old }
+    ensures open { IsOpen producer.new }
+    ensures sent { sender_line producer.new false ≡ with_item (sender_line producer.old false) item }
+{
+    producer.push_reserved(Slot::Item(item));
+}
+
+// Pushes the mark, into the slot that is kept for it.
+pub(crate) fn push_mark<T>(producer: &mut Producer<Slot<T>>)
+    requires { IsOpen producer.old }
+    ensures marked { IsLine (sent producer.new) true }
+    ensures sent { sender_line producer.new true ≡ with_mark (sender_line producer.old false) }
+{
+    producer.push_reserved(Slot::Mark);
+}
+
+// What is left of a producer behind the mark. `None` where the consumer was dropped before.
+pub(crate) fn finish<T: Drop>(producer: Producer<Slot<T>>) -> Option<Finished<Slot<T>>>
+    requires { IsLine (sent producer) true }
+    ensures { IfSome result (λ end. IsLine (all_sent end) true × (end_line end ≡ sender_line producer true)) }
+{
+    producer.finish()
+}
+
+// Pops an item or the mark, whichever is next.
+pub(crate) fn pop<T>(consumer: &mut Consumer<Slot<T>>) -> Taken<T>
+    requires { IsLine (received consumer.old) false }
+    ensures { Pops result consumer.old consumer.new }
+{
+    match consumer.pop() {
+        Ok(Slot::Item(item)) => Taken::Item(item),
+        Ok(Slot::Mark) => Taken::Closed,
+        Err(_) => Taken::Empty,
+    }
+}
+
+// Looks at all that was ever sent, from behind the mark: it is what was got.
+pub(crate) fn see_all<T: Drop>(consumer: &mut Consumer<Slot<T>>, finished: Finished<Slot<T>>)
+    requires got { IsLine (received consumer.old) true }
+    requires sent { IsLine (all_sent finished) true }
+    requires one_lane { finished_name finished ≡ consumer_name consumer.old }
+    ensures got { IsLine (received consumer.new) true }
+    ensures unchanged { receiver_line consumer.new true ≡ receiver_line consumer.old true }
+    ensures whole { receiver_line consumer.new true ≡ end_line finished }
+{
+    let mut finished = finished;
+    consumer.slots_after(&mut finished);
+}

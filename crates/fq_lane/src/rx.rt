@@ -1,0 +1,141 @@
+// The end of a lane that receives.
+ghost use Rattle.std.specs.Prelude.{◌≡◌, [], false, true};
+ghost use Rattle.rtrb.specs.Ring.{received};
+ghost use Rattle.fq_lane.specs.Ends.{consumer_name};
+ghost use Rattle.fq_lane.specs.Take.{Takes, taken_of};
+
+use crate::parkers::Parkers;
+use crate::ring;
+use crate::slot::Slot;
+use crate::tx::End;
+use crossbeam_utils::Backoff;
+use rtrb::Consumer;
+use std::marker::Model;
+use std::sync::{Arc, Wait};
+
+/// The receiver of a lane. It can move to another thread where its items can.
+///
+/// Contracts see the lane's name, the items that were got, in order, and whether the mark was got behind them.
+///
+/// Keep it until the sender's end is there, also behind the mark: [`Tx::close`] gives an end only while it is.
+///
+/// [`Tx::close`]: crate::Tx::close
+pub struct Rx<T: Drop> {
+    consumer: Consumer<Slot<T>>,
+    closed: bool,
+    parkers: Arc<Parkers>,
+}
+
+impl<T: Drop> Model for Rx<T> {
+    ghost use Rattle.fq_lane.specs.Line.{Line};
+    ghost use Rattle.fq_lane.specs.Slots.{IsLine};
+    ghost use Rattle.fq_lane.specs.Ends.{receiver_line};
+    ghost use Rattle.rtrb.specs.Ring.{received};
+
+    ghost Value = { Line T };
+
+    ghost view = { λ r. receiver_line r.consumer r.closed };
+
+    ghost invariant = { λ r. IsLine (received r.consumer) r.closed };
+}
+
+/// What a receiver found.
+#[derive(Debug, Drop, PartialEq, Eq)]
+pub enum Taken<T> {
+    /// The next item.
+    Item(T),
+    /// Nothing was there. The sender may send more at any time.
+    Empty,
+    /// The mark was there, now or in an earlier call. No item comes any more.
+    Closed,
+}
+
+impl<T: Drop> Rx<T> {
+    pub(crate) fn over(consumer: Consumer<Slot<T>>, parkers: Arc<Parkers>) -> Rx<T>
+        requires { received consumer ≡ [] }
+        ensures { result ≡ record { name = consumer_name consumer; items = []; marked = false } }
+    {
+        Rx {
+            consumer,
+            closed: false,
+            parkers,
+        }
+    }
+
+    /// Takes the next item, or the mark, if it is there. After `Closed` the answer is `Closed` for good. It waits for
+    /// nobody.
+    ///
+    /// A sender that sleeps is woken, behind the pop.
+    pub fn take(&mut self) -> Taken<T>
+        ensures { Takes result self.old self.new }
+    {
+        if self.closed {
+            return Taken::Closed;
+        }
+        match ring::pop(&mut self.consumer) {
+            Taken::Item(item) => {
+                self.parkers.wake_sender();
+                Taken::Item(item)
+            }
+            Taken::Closed => {
+                self.closed = true;
+                Taken::Closed
+            }
+            Taken::Empty => Taken::Empty,
+        }
+    }
+
+    /// Takes the next item, and waits until it is there: it spins for a short while, and then sleeps until the sender
+    /// moves. `None` is the mark, and after it comes `None` for good.
+    ///
+    /// No wake-up is lost. The sender leaves a token behind each push, of an item or of the mark, and behind its drop, and
+    /// this end sleeps only while there is none. So a push that the last look at the ring missed ends the sleep, and the
+    /// next look finds what was pushed.
+    ///
+    /// Where the sender is dropped and not closed, the mark never comes, and a call on the empty lane does not return.
+    pub fn take_wait(&mut self, rt: &impl Wait) -> Option<T>
+        ensures { Takes (taken_of result) self.old self.new }
+    {
+        let backoff = Backoff::new();
+        for _ in rt.forever() {
+            match self.take() {
+                Taken::Item(item) => return Some(item),
+                Taken::Closed => return None,
+                Taken::Empty => self.parkers.rest_receiver(rt, &backoff),
+            }
+        }
+        unreachable!()
+    }
+
+    /// Whether the mark was got: `Closed`, or `None` of [`Rx::take_wait`], has been answered.
+    pub fn is_closed(&self) -> bool
+        ensures { result ≡ self.now.marked }
+    {
+        self.closed
+    }
+
+    /// Shows that what was got is what was sent, each item once and in order. It needs the end of this very lane, and a
+    /// receiver that has come to the mark, and changes neither list. It waits for nobody.
+    pub fn confirm(&mut self, end: End<T>)
+        requires closed { self.old.marked ≡ true }
+        requires one_lane { end.name ≡ self.old.name }
+        ensures unchanged { self.new ≡ self.old }
+        ensures whole { self.new ≡ end }
+    {
+        let End { finished } = end;
+        ring::see_all(&mut self.consumer, finished);
+    }
+}
+
+impl<T: Drop> Drop for Rx<T> {
+    // A sender that sleeps is woken, behind the leave-taking.
+    fn drop(self) {
+        let Rx {
+            consumer,
+            closed: _,
+            parkers,
+        } = self;
+        drop(consumer);
+        parkers.wake_sender();
+    }
+}

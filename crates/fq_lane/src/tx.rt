@@ -1,0 +1,155 @@
+// The end of a lane that sends, and what is left of it.
+ghost use Rattle.std.specs.Prelude.{◌≡◌, ◌<◌, false, [], OnOk, IfOk, IfErr};
+ghost use Rattle.rtrb.specs.Ring.{sent, known_free};
+ghost use Rattle.fq_lane.specs.Line.{with_item, with_mark};
+ghost use Rattle.fq_lane.specs.Ends.{producer_name};
+
+use crate::parkers::Parkers;
+use crate::ring;
+use crate::slot::Slot;
+use crossbeam_utils::Backoff;
+use rtrb::{Finished, Producer};
+use std::marker::Model;
+use std::sync::{Arc, Wait};
+use thiserror::Error;
+
+/// The sender of a lane. It can move to another thread where its items can.
+///
+/// Contracts see the lane's name and the items that were sent, in order.
+///
+/// A sender that is dropped without [`Tx::close`] leaves a lane that no mark ever comes through: what is still in it can be
+/// taken, and after that the receiver finds nothing, for good.
+pub struct Tx<T: Drop> {
+    producer: Producer<Slot<T>>,
+    parkers: Arc<Parkers>,
+}
+
+impl<T: Drop> Model for Tx<T> {
+    ghost use Rattle.std.specs.Prelude.{false};
+    ghost use Rattle.fq_lane.specs.Line.{Line};
+    ghost use Rattle.fq_lane.specs.Ends.{sender_line, IsOpen};
+
+    ghost Value = { Line T };
+
+    ghost view = { λ t. sender_line t.producer false };
+
+    ghost invariant = { λ t. IsOpen t.producer };
+}
+
+/// The lane had no room for the item, which comes back.
+#[derive(Debug, Drop, PartialEq, Eq, Error)]
+#[error("the lane is full")]
+pub struct Full<T> {
+    /// The item that was not sent.
+    pub item: T,
+}
+
+/// The receiver was gone when the lane was closed: the mark was sent all the same, but there is no [`End`], so this lane
+/// can never be confirmed. [`Tx::close`] alone makes this value.
+#[derive(Debug, Drop, PartialEq, Eq, Error)]
+#[error("the lane's receiver was dropped before the lane was closed")]
+pub struct NotEnded {
+    made_by_close: (),
+}
+
+/// What is left of a sender once its lane is closed. It can move to the receiver's thread, where [`Rx::confirm`] uses it up.
+///
+/// Contracts see the lane's name and all the items that were sent, in order.
+///
+/// [`Rx::confirm`]: crate::Rx::confirm
+#[derive(Drop)]
+pub struct End<T: Drop> {
+    pub(crate) finished: Finished<Slot<T>>,
+}
+
+impl<T: Drop> Model for End<T> {
+    ghost use Rattle.std.specs.Prelude.{true};
+    ghost use Rattle.fq_lane.specs.Line.{Line};
+    ghost use Rattle.fq_lane.specs.Slots.{IsLine};
+    ghost use Rattle.fq_lane.specs.Ends.{end_line};
+    ghost use Rattle.rtrb.specs.Ring.{all_sent};
+
+    ghost Value = { Line T };
+
+    ghost view = { λ e. end_line e.finished };
+
+    ghost invariant = { λ e. IsLine (all_sent e.finished) true };
+}
+
+impl<T: Drop> Tx<T> {
+    pub(crate) fn over(producer: Producer<Slot<T>>, parkers: Arc<Parkers>) -> Tx<T>
+        requires { (sent producer ≡ []) × (0 < known_free producer) }
+        ensures { result ≡ record { name = producer_name producer; items = []; marked = false } }
+    {
+        Tx { producer, parkers }
+    }
+
+    /// Sends the item if the lane has room for it. Otherwise hands it back, and changes nothing. It waits for nobody.
+    ///
+    /// A receiver that sleeps is woken, behind the push.
+    pub fn offer(&mut self, item: T) -> Result<(), Full<T>>
+        ensures ok { OnOk result (self.new ≡ with_item self.old item) }
+        ensures full { IfErr result (λ refused. (refused.item ≡ item) × (self.new ≡ self.old)) }
+    {
+        if ring::has_room(&mut self.producer) {
+            ring::push_item(&mut self.producer, item);
+            self.parkers.wake_receiver();
+            Ok(())
+        } else {
+            Err(Full { item })
+        }
+    }
+
+    /// Sends the item, and waits until the lane has room for it: it spins for a short while, and then sleeps until the
+    /// receiver moves.
+    ///
+    /// No wake-up is lost. The receiver leaves a token behind each pop, and behind its drop, and this end sleeps only
+    /// while there is none. So a pop that the last look at the ring missed ends the sleep, and the next look finds the room.
+    ///
+    /// Where the receiver is dropped while the lane is full, room never comes, and the call does not return.
+    pub fn put(&mut self, rt: &impl Wait, item: T)
+        ensures { self.new ≡ with_item self.old item }
+    {
+        let backoff = Backoff::new();
+        let mut item = item;
+        for _ in rt.forever() {
+            match self.offer(item) {
+                Ok(()) => return,
+                Err(Full { item: back }) => item = back,
+            }
+            self.parkers.rest_sender(rt, &backoff);
+        }
+        unreachable!()
+    }
+
+    /// Sends the mark, for which a slot was kept, and gives the lane's end. It waits for nobody.
+    ///
+    /// [`NotEnded`] comes where the receiver was dropped before the end was given, so keep the receiver, also once it has
+    /// come to the mark. The mark was sent then all the same, and the lane cannot be confirmed.
+    ///
+    /// A receiver that sleeps is woken, behind the push of the mark.
+    pub fn close(self) -> Result<End<T>, NotEnded>
+        ensures { IfOk result (λ end. end ≡ with_mark self) }
+    {
+        let Tx {
+            mut producer,
+            parkers,
+        } = self;
+        ring::push_mark(&mut producer);
+        let finished = ring::finish(producer);
+        parkers.wake_receiver();
+        match finished {
+            Some(finished) => Ok(End { finished }),
+            None => Err(NotEnded { made_by_close: () }),
+        }
+    }
+}
+
+impl<T: Drop> Drop for Tx<T> {
+    // A receiver that sleeps is woken, behind the leave-taking.
+    fn drop(self) {
+        let Tx { producer, parkers } = self;
+        drop(producer);
+        parkers.wake_receiver();
+    }
+}

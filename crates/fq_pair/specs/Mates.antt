@@ -1,0 +1,36 @@
+-- Mates, and the names that tell which belong together.
+use Rattle.std.specs.Prelude.{ℕ, ◌-◌, Bool, ◌||◌, ◌==◌, nat_eq, List, ◌∷◌, [], length, take, if◌then◌else◌}
+use Rattle.std.specs.List.{before_first, ends_with}
+use Rattle.std.specs.Str.{bytes_eq}
+use Rattle.fq_text.specs.Grammar.{Read}
+use Rattle.fq_pair.specs.declared.side.Side.{Side}
+use Rattle.fq_pair.specs.declared.side.Side.TheVariants.{Forward, Reverse}
+
+-- the two reads of a pair
+pub record Mates : Type 0 where
+  pub forward : Read
+  pub reverse : Read
+
+abbrev pub mates_in : Read → Read → Mates
+mates_in forward reverse = record { forward = forward; reverse = reverse }
+
+-- a blank or a tab
+abbrev pub is_gap : ℕ → Bool
+is_gap byte = byte == 32 || byte == 9
+
+-- what a title may end its name with: /1 or /2
+abbrev pub mark_of : Side → List ℕ
+mark_of Forward = 47 ∷ 49 ∷ []
+mark_of Reverse = 47 ∷ 50 ∷ []
+
+-- without an ending, where a text has it
+abbrev pub without_end : List ℕ → List ℕ → List ℕ
+without_end ending text = if ends_with nat_eq text ending then take (length text - length ending) text else text
+
+-- the title up to its first blank or tab, less the mark of its side
+abbrev pub name_of : Side → List ℕ → List ℕ
+name_of side title = without_end (mark_of side) (before_first is_gap title)
+
+-- two titles have one name
+abbrev pub names_match : List ℕ → List ℕ → Bool
+names_match forward reverse = bytes_eq (name_of Forward forward) (name_of Reverse reverse)

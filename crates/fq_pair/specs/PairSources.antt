@@ -1,0 +1,135 @@
+-- What a source of pairs is, and what its calls answer.
+use Rattle.std.specs.Prelude.{◌≡◌, ℕ, ◌+◌, ◌*◌, ◌≤◌, Bool, true, false, IsTrue, Option, Some, None, Result, List, []}
+use Rattle.std.specs.declared.result.Result.TheVariants as res
+use Rattle.fq_text.specs.declared.fault.TextFault.{TextFault}
+use Rattle.fq_text.specs.declared.fault.TextFault.TheVariants as text
+use Rattle.fq_text.specs.Lines.{lines, whole_part}
+use Rattle.fq_text.specs.Sources.{Sourced, rest_in, held, KeepsCount, GivesRecord, EndsText}
+use Rattle.fq_pair.specs.declared.side.Side.{Side}
+use Rattle.fq_pair.specs.declared.side.Side.TheVariants.{Forward, Reverse}
+use Rattle.fq_pair.specs.declared.fault.InputFault.{InputFault}
+use Rattle.fq_pair.specs.declared.fault.InputFault.TheVariants.{Text}
+use Rattle.fq_pair.specs.Mates.{Mates}
+use Rattle.fq_pair.specs.Pairing.{Pairs, PairFront, Ended, Stopped, Met, belong, pair_front, pairs}
+
+-- A source of pairs: the sources of its mates, whether names are checked, how many pairs were given,
+-- and once that is a fault or the end, its last answer.
+pub record PairSourced (F G : Type 0) : Type 0 where
+  pub forward : Sourced F
+  pub reverse : Sourced G
+  pub check_names : Bool
+  pub given : ℕ
+  pub last : Option (Result (Unit {0}) InputFault)
+
+-- nothing has been read from a source
+pub record IsUnasked {F : Type 0} (s : Sourced F) : Type 0 where
+  pub in_hand : s.in_hand ≡ []
+  pub taken : s.taken ≡ 0
+  pub given : s.given ≡ 0
+  pub last : s.last ≡ None
+
+-- the answer of a source that gave its last answer
+abbrev pub answer_of : Result (Unit {0}) InputFault → Result (Option Mates) InputFault
+answer_of (res.Ok x) = res.Ok None
+answer_of (res.Err fault) = res.Err fault
+
+-- what stands next
+abbrev pub front_of : {F G : Type 0} → (F → List ℕ) → (G → List ℕ) → PairSourced F G → PairFront
+front_of to_come to_come' s =
+    pair_front s.check_names s.forward.encoding s.given (lines (rest_in to_come s.forward)) (lines (rest_in to_come' s.reverse))
+
+-- the pairs that are left, and how they end
+abbrev pub pairs_left : {F G : Type 0} → (F → List ℕ) → (G → List ℕ) → PairSourced F G → Pairs
+pairs_left to_come to_come' s =
+    pairs s.check_names s.forward.encoding s.given (rest_in to_come s.forward) (rest_in to_come' s.reverse)
+
+-- What every call keeps: the numbers of bytes taken grow by those that the feeds gave.
+pub record KeepsCounts {F G : Type 0} (tells : F → Bool) (to_come : F → List ℕ) (tells' : G → Bool) (to_come' : G → List ℕ) (old new : PairSourced F G) : Type 0 where
+  pub forward : KeepsCount tells to_come old.forward new.forward
+  pub reverse : KeepsCount tells' to_come' old.reverse new.reverse
+  pub check_names : new.check_names ≡ old.check_names
+
+-- a pair was answered
+pub record GivesPair {F G : Type 0} (tells : F → Bool) (to_come : F → List ℕ) (tells' : G → Bool) (to_come' : G → List ℕ) (old new : PairSourced F G) (m : Mates) : Type 0 where
+  pub pair_is : IsTrue (tells old.forward.feed) → IsTrue (tells' old.reverse.feed) →
+      front_of to_come to_come' old ≡ Met m (lines (rest_in to_come new.forward)) (lines (rest_in to_come' new.reverse))
+  pub forward : GivesRecord tells to_come old.forward new.forward m.forward
+  pub reverse : GivesRecord tells' to_come' old.reverse new.reverse m.reverse
+  pub names : belong old.check_names m ≡ true
+  pub given : new.given ≡ old.given + 1
+  pub last : new.last ≡ None
+
+-- the end was answered
+pub record EndsPairs {F G : Type 0} (tells : F → Bool) (to_come : F → List ℕ) (tells' : G → Bool) (to_come' : G → List ℕ) (old new : PairSourced F G) : Type 0 where
+  pub end_is : IsTrue (tells old.forward.feed) → IsTrue (tells' old.reverse.feed) → front_of to_come to_come' old ≡ Ended
+  pub forward : EndsText tells to_come old.forward new.forward
+  pub reverse : EndsText tells' to_come' old.reverse new.reverse
+  pub given : new.given ≡ old.given
+  pub last : new.last ≡ Some (res.Ok tt)
+
+-- a fault of a device or of memory, of which the texts say nothing
+abbrev pub is_outside : TextFault → Bool
+is_outside text.Read = true
+is_outside text.Endless = true
+is_outside text.OutOfMemory = true
+is_outside _ = false
+
+abbrev pub is_from_outside : InputFault → Bool
+is_from_outside (Text side fault) = is_outside fault
+is_from_outside _ = false
+
+-- a text could not be read on: a read failed, or was one too many
+abbrev pub is_cut : TextFault → Bool
+is_cut text.Read = true
+is_cut text.Endless = true
+is_cut _ = false
+
+abbrev pub is_cut_short : InputFault → Bool
+is_cut_short (Text side fault) = is_cut fault
+is_cut_short _ = false
+
+-- the whole lines of the bytes in hand before a call and those that the feeds gave in it make no pair
+abbrev pub LacksPair : {F G : Type 0} → (F → Bool) → (F → List ℕ) → (G → Bool) → (G → List ℕ) → PairSourced F G → PairSourced F G → Type 0
+LacksPair tells to_come tells' to_come' old new = IsTrue (tells old.forward.feed) → IsTrue (tells' old.reverse.feed) →
+    (pairs old.check_names old.forward.encoding old.given
+    (whole_part (held to_come old.forward new.forward)) (whole_part (held to_come' old.reverse new.reverse))).mates ≡ []
+
+-- the first fact at Text(Forward, Endless), the second at Text(Reverse, Endless)
+abbrev pub if_endless : Type 0 → Type 0 → InputFault → Type 0
+if_endless P Q (Text Forward text.Endless) = P
+if_endless P Q (Text Reverse text.Endless) = Q
+if_endless P Q _ = Unit {0}
+
+-- a fault was answered
+pub record StopsPairs {F G : Type 0} (tells : F → Bool) (to_come : F → List ℕ) (tells' : G → Bool) (to_come' : G → List ℕ) (old new : PairSourced F G) (why : InputFault) : Type 0 where
+  pub fault_is : IsTrue (tells old.forward.feed) → IsTrue (tells' old.reverse.feed) → is_from_outside why ≡ false →
+      front_of to_come to_come' old ≡ Stopped why
+  pub lacks : is_cut_short why ≡ true → LacksPair tells to_come tells' to_come' old new
+  pub endless : if_endless (new.forward.max_reads ≤ new.forward.taken) (new.reverse.max_reads ≤ new.reverse.taken) why
+  pub given : new.given ≡ old.given
+  pub last : new.last ≡ Some (res.Err why)
+
+-- how often the feed of a side failed in a call
+abbrev pub failed_on : {T : Type 0} → Side → Result T InputFault → ℕ
+failed_on Forward (res.Err (Text Forward text.Read)) = 1
+failed_on Reverse (res.Err (Text Reverse text.Read)) = 1
+failed_on _ _ = 0
+
+-- two sources that have given so many records each, and no last answer
+pub record IsReady {F G : Type 0} (forward : Sourced F) (reverse : Sourced G) (given : ℕ) : Type 0 where
+  pub forward_last : forward.last ≡ None
+  pub reverse_last : reverse.last ≡ None
+  pub forward_given : forward.given ≡ given
+  pub reverse_given : reverse.given ≡ given
+
+-- a source of pairs that may be asked on, and one that may not
+abbrev pub asked : {F G : Type 0} → Sourced F → Sourced G → Bool → ℕ → PairSourced F G
+asked forward reverse check given = record { forward = forward; reverse = reverse; check_names = check; given = given; last = None }
+
+abbrev pub stopped : {F G : Type 0} → Sourced F → Sourced G → Bool → ℕ → Result (Unit {0}) InputFault → PairSourced F G
+stopped forward reverse check given last = record { forward = forward; reverse = reverse; check_names = check; given = given; last = Some last }
+
+-- no number of a source passes what its feed may give
+pub record IsBounded {F : Type 0} (s : Sourced F) : Type 0 where
+  pub given : s.given ≤ s.taken
+  pub taken : s.taken ≤ s.max_reads * s.chunk

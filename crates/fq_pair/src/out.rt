@@ -1,0 +1,36 @@
+//! The texts that a run writes.
+
+use std::fmt;
+
+/// A text that a run writes, in the order in which they are written.
+#[derive(Clone, Copy, Debug, PartialEq, Eq)]
+pub enum Out {
+    /// Forward reads whose mate survives too.
+    ForwardPaired,
+    /// Forward reads whose mate is dropped.
+    ForwardUnpaired,
+    /// Reverse reads whose mate survives too.
+    ReversePaired,
+    /// Reverse reads whose mate is dropped.
+    ReverseUnpaired,
+    /// The trim log, with a line for each read.
+    Log,
+}
+
+/// Prints `forward paired`, `forward unpaired`, `reverse paired`, `reverse unpaired` or `trim log`.
+impl fmt::Display for Out {
+    ghost use Rattle.std.specs.Prelude.{Some};
+    ghost use Rattle.fq_pair.specs.Summaries.{out_name};
+
+    ghost output = { λ out. Some (out_name out) };
+
+    fn fmt<W: fmt::Write>(&self, f: &mut fmt::Formatter<W>) -> fmt::Result {
+        match self {
+            Out::ForwardPaired => write!(f, "forward paired"),
+            Out::ForwardUnpaired => write!(f, "forward unpaired"),
+            Out::ReversePaired => write!(f, "reverse paired"),
+            Out::ReverseUnpaired => write!(f, "reverse unpaired"),
+            Out::Log => write!(f, "trim log"),
+        }
+    }
+}

@@ -1,0 +1,64 @@
+//! Two mates.
+
+ghost use Rattle.std.specs.Prelude.{◌≡◌};
+
+use fq_text::{Encoding, FastqRecord, ReadView};
+use std::marker::Model;
+
+/// Two mates in one encoding, as they were read.
+#[derive(Drop)]
+pub struct Pair {
+    forward: FastqRecord,
+    reverse: FastqRecord,
+}
+
+impl Model for Pair {
+    ghost use Rattle.std.specs.Prelude.{◌≡◌};
+    ghost use Rattle.fq_pair.specs.Mates.{Mates};
+
+    ghost Value = { Mates };
+
+    ghost view = { λ p. record { forward = p.forward; reverse = p.reverse } };
+
+    ghost invariant = { λ p. p.forward.encoding ≡ p.reverse.encoding };
+}
+
+impl Pair {
+    ghost use Rattle.fq_pair.specs.Mates.{Mates};
+
+    /// The pair of two mates, which have one encoding.
+    pub fn new(forward: FastqRecord, reverse: FastqRecord) -> Pair
+        requires { forward.encoding ≡ reverse.encoding }
+        ensures { result ≡ record { forward = forward; reverse = reverse } }
+    {
+        Pair { forward, reverse }
+    }
+
+    /// The encoding of both mates.
+    pub fn encoding(&self) -> Encoding
+        ensures forward { result ≡ self.now.forward.encoding }
+        ensures reverse { result ≡ self.now.reverse.encoding }
+    {
+        self.forward.encoding()
+    }
+
+    /// The two mates, lent.
+    pub fn view(&self) -> PairView<'_>
+        ensures forward { result.forward ≡ self.now.forward }
+        ensures reverse { result.reverse ≡ self.now.reverse }
+    {
+        PairView {
+            forward: self.forward.view(),
+            reverse: self.reverse.view(),
+        }
+    }
+}
+
+/// Two mates, lent by a pair or a block.
+#[derive(Drop)]
+pub struct PairView<'a> {
+    /// The mate of the forward input.
+    pub forward: ReadView<'a>,
+    /// The mate of the reverse input.
+    pub reverse: ReadView<'a>,
+}

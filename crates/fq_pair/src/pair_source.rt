@@ -1,0 +1,191 @@
+//! Pairs out of two feeds.
+
+ghost use Rattle.std.specs.Prelude.{◌≡◌, ℕ, suc, ◌+◌, ◌*◌, ◌≤◌, ◌^◌, Some, None, Ok, IfOk, IfErr, IfSome, MatchOption};
+ghost use Rattle.fq_text.specs.Sources.{KeepsCount};
+ghost use Rattle.fq_pair.specs.PairSources.{asked, stopped, GivesPair, EndsPairs, StopsPairs, failed_on, IsBounded, IsReady};
+ghost use Rattle.fq_pair.specs.declared.side.Side.TheVariants.{Forward, Reverse};
+
+use crate::fault::InputFault;
+use crate::name::names_match;
+use crate::pair::Pair;
+use crate::side::Side;
+use fq_text::{Feed, Source};
+use std::marker::Model;
+
+/// The pairs of two texts, one after the other: record k of the forward text and record k of the reverse text.
+///
+/// The names of mates are compared as [`names_match`] does, unless the check is off.
+#[derive(Drop)]
+pub struct PairSource<F: Feed, G: Feed> {
+    forward: Source<F>,
+    reverse: Source<G>,
+    check_names: bool,
+    given: u64,
+    // The end or the fault that was answered.
+    last: Option<Result<(), InputFault>>,
+}
+
+impl<F: Feed, G: Feed> Model for PairSource<F, G> {
+    ghost use Rattle.std.specs.Prelude.{◌≡◌, ◌≤◌, ◌^◌, None};
+    ghost use Rattle.fq_pair.specs.PairSources.{PairSourced, IsBounded, IsReady};
+
+    ghost Value = { PairSourced F G };
+
+    ghost view = { λ s. record {
+      forward = s.forward;
+      reverse = s.reverse;
+      check_names = s.check_names;
+      given = s.given;
+      last = s.last;
+    } };
+
+    ghost invariant = { λ s. (s.forward.encoding ≡ s.reverse.encoding)
+        × IsBounded s.forward
+        × IsBounded s.reverse
+        × (s.given ≤ s.forward.given)
+        × (s.given ≤ s.reverse.given)
+        × (s.given ≤ 2 ^ 60)
+        × (s.last ≡ None → IsReady s.forward s.reverse s.given) };
+}
+
+impl<F: Feed, G: Feed> PairSource<F, G> {
+    ghost use Rattle.fq_pair.specs.PairSources.{PairSourced, IsUnasked, answer_of, KeepsCounts};
+
+    /// The pairs of these sources, of which neither has been asked yet. Both have one encoding.
+    pub fn new(forward: Source<F>, reverse: Source<G>, check_names: bool) -> PairSource<F, G>
+        requires forward { IsUnasked forward }
+        requires reverse { IsUnasked reverse }
+        requires encoding { forward.encoding ≡ reverse.encoding }
+        ensures { result ≡ record { forward = forward; reverse = reverse; check_names = check_names; given = 0; last = None } }
+    {
+        PairSource {
+            forward,
+            reverse,
+            check_names,
+            given: 0,
+            last: None,
+        }
+    }
+
+    /// The next pair, or `None` at the end of both texts. A fault, or the end, is the answer from then on.
+    ///
+    /// The forward record is read first, and its fault is answered first. Then come a fault of the reverse text, a
+    /// missing mate, and names that differ.
+    pub fn next(&mut self) -> Result<Option<Pair>, InputFault>
+        // A last answer stays, and nothing more is read.
+        ensures again { MatchOption self.old.last (Unit {0}) (λ last. (result ≡ answer_of last) × (self.new ≡ self.old)) }
+
+        // Otherwise the answer is what stands in front of the two rests.
+        ensures found { self.old.last ≡ None → IfOk result (λ o. IfSome o (GivesPair F.tells F.to_come G.tells G.to_come self.old self.new)) }
+        ensures end { self.old.last ≡ None → result ≡ Ok None → EndsPairs F.tells F.to_come G.tells G.to_come self.old self.new }
+        ensures fault { self.old.last ≡ None → IfErr result (StopsPairs F.tells F.to_come G.tells G.to_come self.old self.new) }
+
+        // A feed fails where the answer says so, and what the feeds give is counted.
+        ensures forward_failures { self.old.last ≡ None → F.failure_count self.new.forward.feed ≡ F.failure_count self.old.forward.feed + failed_on Forward result }
+        ensures reverse_failures { self.old.last ≡ None → G.failure_count self.new.reverse.feed ≡ G.failure_count self.old.reverse.feed + failed_on Reverse result }
+        ensures count { KeepsCounts F.tells F.to_come G.tells G.to_come self.old self.new }
+        ensures forward_bound { IsBounded self.new.forward }
+        ensures reverse_bound { IsBounded self.new.reverse }
+        ensures pairs_bound { (self.new.given ≤ self.new.forward.given) × (self.new.given ≤ self.new.reverse.given) }
+    {
+        match self.last {
+            Some(Ok(())) => Ok(None),
+            Some(Err(fault)) => Err(fault),
+            None => self.read_next(),
+        }
+    }
+
+    fn read_next(&mut self) -> Result<Option<Pair>, InputFault>
+        requires { self.old.last ≡ None }
+        ensures found { IfOk result (λ o. IfSome o (GivesPair F.tells F.to_come G.tells G.to_come self.old self.new)) }
+        ensures end { result ≡ Ok None → EndsPairs F.tells F.to_come G.tells G.to_come self.old self.new }
+        ensures fault { IfErr result (StopsPairs F.tells F.to_come G.tells G.to_come self.old self.new) }
+        ensures forward_failures { F.failure_count self.new.forward.feed ≡ F.failure_count self.old.forward.feed + failed_on Forward result }
+        ensures reverse_failures { G.failure_count self.new.reverse.feed ≡ G.failure_count self.old.reverse.feed + failed_on Reverse result }
+        ensures count { KeepsCounts F.tells F.to_come G.tells G.to_come self.old self.new }
+        ensures forward_bound { IsBounded self.new.forward }
+        ensures reverse_bound { IsBounded self.new.reverse }
+        ensures pairs_bound { (self.new.given ≤ self.new.forward.given) × (self.new.given ≤ self.new.reverse.given) }
+    {
+        match read_mates(
+            &mut self.forward,
+            &mut self.reverse,
+            self.check_names,
+            self.given,
+        ) {
+            Ok(Some(pair)) => {
+                self.given += 1;
+                Ok(Some(pair))
+            }
+            Ok(None) => {
+                self.last = Some(Ok(()));
+                Ok(None)
+            }
+            Err(fault) => {
+                self.last = Some(Err(fault));
+                Err(fault)
+            }
+        }
+    }
+
+    /// The feeds as they stand.
+    pub fn into_feeds(self) -> (F, G)
+        ensures forward { result.0 ≡ self.forward.feed }
+        ensures reverse { result.1 ≡ self.reverse.feed }
+    {
+        let PairSource {
+            forward,
+            reverse,
+            ..
+        } = self;
+        (forward.into_feed(), reverse.into_feed())
+    }
+}
+
+// Reads the mates of the next pair.
+fn read_mates<F: Feed, G: Feed>(
+    forward: &mut Source<F>,
+    reverse: &mut Source<G>,
+    check_names: bool,
+    given: u64,
+) -> Result<Option<Pair>, InputFault>
+    requires encoding { forward.old.encoding ≡ reverse.old.encoding }
+    requires ready { IsReady forward.old reverse.old given }
+    requires forward_bound { IsBounded forward.old }
+    requires reverse_bound { IsBounded reverse.old }
+    requires fits { given ≤ 2 ^ 60 }
+    ensures found { IfOk result (λ o. IfSome o
+        (GivesPair F.tells F.to_come G.tells G.to_come (asked forward.old reverse.old check_names given) (asked forward.new reverse.new check_names (given + 1)))) }
+    ensures end { result ≡ Ok None →
+        EndsPairs F.tells F.to_come G.tells G.to_come (asked forward.old reverse.old check_names given) (stopped forward.new reverse.new check_names given (Ok tt)) }
+    ensures fault { IfErr result (λ why.
+        StopsPairs F.tells F.to_come G.tells G.to_come (asked forward.old reverse.old check_names given) (stopped forward.new reverse.new check_names given (Err why)) why) }
+    ensures forward_failures { F.failure_count forward.new.feed ≡ F.failure_count forward.old.feed + failed_on Forward result }
+    ensures reverse_failures { G.failure_count reverse.new.feed ≡ G.failure_count reverse.old.feed + failed_on Reverse result }
+    ensures forward_count { KeepsCount F.tells F.to_come forward.old forward.new }
+    ensures reverse_count { KeepsCount G.tells G.to_come reverse.old reverse.new }
+    ensures forward_bounded { IsBounded forward.new }
+    ensures reverse_bounded { IsBounded reverse.new }
+    ensures pairs_bound { (given ≤ forward.new.given) × (given ≤ reverse.new.given) }
+    ensures few { IfOk result (λ o. IfSome o (λ pair. given + 1 ≤ 2 ^ 60)) }
+{
+    let number = given + 1;
+    match forward.next() {
+        Err(fault) => Err(InputFault::Text(Side::Forward, fault)),
+        Ok(Some(first)) => match reverse.next() {
+            Err(fault) => Err(InputFault::Text(Side::Reverse, fault)),
+            Ok(None) => Err(InputFault::MateMissing(Side::Reverse, number)),
+            Ok(Some(second)) => {
+                if check_names && !names_match(first.title(), second.title()) {
+                    return Err(InputFault::NamesDiffer(number));
+                }
+                Ok(Some(Pair::new(first, second)))
+            }
+        },
+        Ok(None) => match reverse.next() {
+            Err(fault) => Err(InputFault::Text(Side::Reverse, fault)),
+            Ok(None) => Ok(None),
+            Ok(Some(_)) => Err(InputFault::MateMissing(Side::Forward, number)),
+        },
+    }
+}

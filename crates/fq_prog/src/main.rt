@@ -1,0 +1,27 @@
+//! Trims pairs of reads. Its one command so far is `EXAMPLE`, which shows what becomes of two built-in pairs.
+#![tactic(auto)]
+
+mod example;
+mod program;
+mod refusal;
+
+use fq_text::FromWrite;
+use program::program;
+use std::process::ExitCode;
+use std::{env, io};
+
+#[cfg(test)]
+mod tests;
+
+fn main(rt: HostRuntime) -> io::Result<ExitCode> {
+    let args: Vec<String> = env::args(&rt)?.collect(rt.alloc())?;
+    let mut words: Vec<&str> = Vec::with_capacity(rt.alloc(), args.len())?;
+    for arg in &args {
+        words.push(arg.as_str())?;
+    }
+    let errors = rt.stderr();
+    let mut out = FromWrite::new(io::writer(&rt));
+    let mut err = FromWrite::new(io::writer(&errors));
+    let status = program(rt.alloc(), &words, &mut out, &mut err);
+    Ok(ExitCode::from(status))
+}

@@ -1,0 +1,67 @@
+-- What a call of a source of pairs answers, of its state as this crate sees it.
+use Rattle.std.proofs.Common.{◌≡◌, ℕ, ◌+◌, ◌*◌, Bool, true, false, IsTrue, Option, Some, None, Result, Ok, Err, IfOk, IfErr, List, [], ◌∷◌, length, refl, ap, ◌∙◌, arith}
+use Rattle.std.specs.Option.{IfSome}
+use Rattle.fq_text.specs.Grammar.{Read}
+use Rattle.fq_text.specs.Lines.{lines}
+use Rattle.fq_text.specs.Sources.{Sourced, rest_in, KeepsCount, GivesRecord}
+use Rattle.fq_pair.specs.declared.side.Side.TheVariants.{Forward, Reverse}
+use Rattle.fq_pair.specs.declared.fault.InputFault.{InputFault}
+use Rattle.fq_pair.specs.Mates.{Mates}
+use Rattle.fq_pair.specs.PairSources.{PairSourced, KeepsCounts, GivesPair, EndsPairs, StopsPairs, failed_on}
+use Rattle.fq_run.specs.Walks.{SideState, side_state, source_state, Draws, Uses, KeepsSettings, Walks, MeetsEnd, MeetsFault, Asks}
+
+module _ {F : Type 0} (tells : F → Bool) (to_come : F → List ℕ) (fails : F → ℕ) where
+  drawn : (old new : Sourced F) (n : ℕ) → KeepsCount tells to_come old new → fails new.feed ≡ fails old.feed + n → Draws (side_state tells to_come fails old) (side_state tells to_come fails new) n
+  drawn old new n k failed = record { told = k.told; max_reads = k.max_reads; grows = k.grows; bytes = k.fed; size = k.length; failures = failed }
+
+  used : (old new : Sourced F) (r : Read) → GivesRecord tells to_come old new r → IsTrue (tells old.feed) → Uses (side_state tells to_come fails old) (side_state tells to_come fails new)
+  used old new r p told = let t = p.tail told in record { used = t.before; split = t.split; at_line = t.at_line }
+
+module _ {F G : Type 0} (tells : F → Bool) (to_come : F → List ℕ) (fails : F → ℕ) (tells' : G → Bool) (to_come' : G → List ℕ) (fails' : G → ℕ) where
+  same_settings : (old new : PairSourced F G) → KeepsCounts tells to_come tells' to_come' old new →
+      KeepsSettings (source_state tells to_come fails tells' to_come' fails' old) (source_state tells to_come fails tells' to_come' fails' new)
+  same_settings old new k =
+      let f = k.forward in
+      record {
+        encoding = f.encoding;
+        check_names = k.check_names;
+        most_bytes = ap (λ n. n * new.forward.chunk) f.max_reads ∙ ap (λ n. old.forward.max_reads * n) f.chunk;
+      }
+
+  -- the answer of a source that goes on
+  pub asks : (old new : PairSourced F G) (r : Result (Option Mates) InputFault) →
+      IfOk r (λ o. IfSome o (GivesPair tells to_come tells' to_come' old new)) →
+      (r ≡ Ok None → EndsPairs tells to_come tells' to_come' old new) →
+      IfErr r (StopsPairs tells to_come tells' to_come' old new) →
+      fails new.forward.feed ≡ fails old.forward.feed + failed_on Forward r →
+      fails' new.reverse.feed ≡ fails' old.reverse.feed + failed_on Reverse r →
+      KeepsCounts tells to_come tells' to_come' old new →
+      Asks (source_state tells to_come fails tells' to_come' fails' old) (source_state tells to_come fails tells' to_come' fails' new) r
+  asks old new (Ok (Some m)) found end fault ff fr k =
+      let f = found.forward in
+      record {
+        same = same_settings old new k;
+        given = found.given;
+        records = f.given;
+        last = found.last;
+        forward = drawn tells to_come fails old.forward new.forward 0 k.forward ff;
+        reverse = drawn tells' to_come' fails' old.reverse new.reverse 0 k.reverse fr;
+        forward_used = used tells to_come fails old.forward new.forward m.forward found.forward;
+        reverse_used = used tells' to_come' fails' old.reverse new.reverse m.reverse found.reverse;
+        leads = λ tf tr. (lines (rest_in to_come new.forward), lines (rest_in to_come' new.reverse), found.pair_is tf tr, (refl, refl));
+      }
+  asks old new (Ok None) found end fault ff fr k =
+      let e = end refl in
+      record {
+        forward = drawn tells to_come fails old.forward new.forward 0 k.forward ff;
+        reverse = drawn tells' to_come' fails' old.reverse new.reverse 0 k.reverse fr;
+        end_is = e.end_is;
+      }
+  asks old new (Err why) found end fault ff fr k =
+      record {
+        forward = drawn tells to_come fails old.forward new.forward _ k.forward ff;
+        reverse = drawn tells' to_come' fails' old.reverse new.reverse _ k.reverse fr;
+        fault_is = fault.fault_is;
+        lacks = fault.lacks;
+        endless = fault.endless;
+      }

@@ -1,0 +1,13 @@
+pub mod OutletLemmas
+pub mod AskLemmas
+pub mod WalkLemmas
+pub mod TextLemmas
+pub mod GatherLemmas
+pub mod BlockLemmas
+pub mod PassLemmas
+pub mod FrontLemmas
+pub mod CutLemmas
+pub mod ReadingLemmas
+pub mod VerdictLemmas
+pub mod EndLemmas
+pub mod RunLemmas

@@ -1,0 +1,10 @@
+pub mod Ranges
+pub mod Choices
+pub mod Outcomes
+pub mod Devices
+pub mod Sending
+pub mod Walks
+pub mod Gathering
+pub mod Fates
+pub mod Writing
+pub mod Endings

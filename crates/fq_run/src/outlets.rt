@@ -1,0 +1,59 @@
+//! The outlets that a run writes to.
+
+use crate::sending::{flush_one, send_to};
+use fq_pair::{Out, Texts};
+use fq_text::Outlet;
+
+/// Where the texts of a run go.
+#[derive(Drop)]
+pub struct Outlets<O> {
+    /// Forward reads whose mate survives too.
+    pub forward_paired: O,
+    /// Forward reads whose mate is dropped.
+    pub forward_unpaired: O,
+    /// Reverse reads whose mate survives too.
+    pub reverse_paired: O,
+    /// Reverse reads whose mate is dropped.
+    pub reverse_unpaired: O,
+    /// The trim log, if one is wanted.
+    pub log: Option<O>,
+}
+
+impl<O: Outlet> Outlets<O> {
+    ghost use Rattle.std.specs.Prelude.{◌≡◌, ◌<◌};
+    ghost use Rattle.fq_run.specs.Devices.{outlet_states, AreHealthy};
+    ghost use Rattle.fq_run.specs.Sending.{Sends, Flushes};
+
+    /// Sends the texts to their outlets, in the order of [`Out`], up to the first outlet that fails, which is answered.
+    ///
+    /// The outlets before that one have then taken their texts, that one a first part of its text, and those behind it
+    /// nothing. A log is written only where one is wanted.
+    pub(crate) fn write(&mut self, texts: &Texts) -> Result<(), Out>
+        requires { AreHealthy (outlet_states O.tells O.taken O.failure_count self.old) }
+        ensures { Sends (outlet_states O.tells O.taken O.failure_count self.old) (outlet_states O.tells O.taken O.failure_count self.new) texts.now result }
+    {
+        send_to(&mut self.forward_paired, texts, Out::ForwardPaired)?;
+        send_to(&mut self.forward_unpaired, texts, Out::ForwardUnpaired)?;
+        send_to(&mut self.reverse_paired, texts, Out::ReversePaired)?;
+        send_to(&mut self.reverse_unpaired, texts, Out::ReverseUnpaired)?;
+        if let Some(log) = &mut self.log {
+            send_to(log, texts, Out::Log)?;
+        }
+        Ok(())
+    }
+
+    /// Flushes each outlet once, in the order of [`Out`], up to the first that fails, which is answered.
+    pub(crate) fn flush(&mut self) -> Result<(), Out>
+        requires { AreHealthy (outlet_states O.tells O.taken O.failure_count self.old) }
+        ensures { Flushes (outlet_states O.tells O.taken O.failure_count self.old) (outlet_states O.tells O.taken O.failure_count self.new) result }
+    {
+        flush_one(&mut self.forward_paired, Out::ForwardPaired)?;
+        flush_one(&mut self.forward_unpaired, Out::ForwardUnpaired)?;
+        flush_one(&mut self.reverse_paired, Out::ReversePaired)?;
+        flush_one(&mut self.reverse_unpaired, Out::ReverseUnpaired)?;
+        if let Some(log) = &mut self.log {
+            flush_one(log, Out::Log)?;
+        }
+        Ok(())
+    }
+}

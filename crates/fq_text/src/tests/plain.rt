@@ -1,0 +1,246 @@
+//! A plain reader of a whole text, by the rules of the format one after the other, and what the streaming reader makes of
+//! the same texts.
+
+ghost use Rattle.std.specs.Prelude.{◌<◌, ◌≤◌};
+
+use super::reading::source;
+use crate::*;
+use std::alloc::Global;
+use std::process::Abort;
+use std::test::Fail;
+
+const LIMIT: usize = 1_048_576;
+
+/// A record, and how many lines it takes.
+#[derive(Drop)]
+struct Plain {
+    title: Vec<u8>,
+    seq: Vec<u8>,
+    qual: Vec<u8>,
+    lines: usize,
+}
+
+// The lines of a text, each without its line end and without one CR before that.
+fn lines(alloc: Global, text: &[u8]) -> Result<Vec<Vec<u8>>, Fail> {
+    let mut lines = Vec::new(alloc);
+    let mut line = Vec::new(alloc);
+    for byte in text {
+        if *byte == b'\n' {
+            lines.push(without_cr(line))?;
+            line = Vec::new(alloc);
+        } else {
+            line.push(*byte)?;
+        }
+    }
+    if !line.is_empty() {
+        lines.push(without_cr(line))?;
+    }
+    Ok(lines)
+}
+
+fn without_cr(mut line: Vec<u8>) -> Vec<u8> {
+    if line.last() == Some(&b'\r') {
+        line.truncate(line.len().saturating_sub(1));
+    }
+    line
+}
+
+fn begins(line: &Vec<u8>, mark: u8) -> bool {
+    line.first() == Some(&mark)
+}
+
+// The record at the front of the lines, numbered k, or `None` at the end.
+fn front(
+    alloc: Global,
+    encoding: Encoding,
+    lines: &[Vec<u8>],
+    k: u64,
+) -> Result<Result<Option<Plain>, TextFault>, Fail> {
+    let skipped = match lines.iter().position(|line| !line.is_empty()) {
+        Some(at) => at,
+        None => return Ok(Ok(None)),
+    };
+    let Some((title, rest)) = lines[skipped..].split_first() else {
+        return Ok(Ok(None));
+    };
+    if title.len() > LIMIT {
+        return Ok(Err(TextFault::TooLong(k)));
+    }
+    if !begins(title, b'@') {
+        return Ok(Err(TextFault::NoTitle(k)));
+    }
+    let bases = rest
+        .iter()
+        .position(|line| begins(line, b'+'))
+        .unwrap_or(rest.len());
+    let bases = bases.min(rest.len());
+    let mut seq = Vec::new(alloc);
+    for line in &rest[..bases] {
+        if let Some(fault) = sequence_fault(line, seq.len(), k) {
+            return Ok(Err(fault));
+        }
+        seq.extend_from_slice(line)?;
+    }
+    let Some((plus, rest)) = rest[bases..].split_first() else {
+        return Ok(Err(TextFault::NoPlus(k)));
+    };
+    if plus.len() > LIMIT {
+        return Ok(Err(TextFault::TooLong(k)));
+    }
+    let name = title.get(1..).unwrap_or(&[]);
+    let repeated = plus.get(1..).unwrap_or(&[]);
+    if !repeated.is_empty() && repeated != name {
+        return Ok(Err(TextFault::PlusDiffers(k)));
+    }
+    let mut qual = Vec::new(alloc);
+    let mut scores = 0usize;
+    for line in rest {
+        if qual.len() >= seq.len() {
+            break;
+        }
+        if let Some(fault) = quality_fault(encoding, line, qual.len(), seq.len(), k) {
+            return Ok(Err(fault));
+        }
+        qual.extend_from_slice(line)?;
+        scores = scores.saturating_add(1);
+    }
+    if qual.len() < seq.len() {
+        return Ok(Err(TextFault::QualityShort(k)));
+    }
+    Ok(Ok(Some(Plain {
+        title: Vec::from_slice(alloc, name)?,
+        seq,
+        qual,
+        lines: skipped
+            .saturating_add(bases)
+            .saturating_add(scores)
+            .saturating_add(2),
+    })))
+}
+
+fn sequence_fault(line: &Vec<u8>, before: usize, k: u64) -> Option<TextFault> {
+    if line.len() > LIMIT {
+        return Some(TextFault::TooLong(k));
+    }
+    if begins(line, b'@') {
+        return Some(TextFault::BadSequence(k));
+    }
+    if before.saturating_add(line.len()) > LIMIT {
+        return Some(TextFault::TooLong(k));
+    }
+    if line.iter().any(|byte| *byte < 33 || *byte > 126) {
+        return Some(TextFault::BadSequence(k));
+    }
+    None
+}
+
+fn quality_fault(
+    encoding: Encoding,
+    line: &Vec<u8>,
+    before: usize,
+    bases: usize,
+    k: u64,
+) -> Option<TextFault> {
+    let lowest = match encoding {
+        Encoding::Sanger => 33,
+        Encoding::Illumina13 => 64,
+    };
+    if line.len() > LIMIT {
+        return Some(TextFault::TooLong(k));
+    }
+    if before.saturating_add(line.len()) > bases {
+        return Some(TextFault::QualityLong(k));
+    }
+    if line.iter().any(|byte| *byte < lowest || *byte > 126) {
+        return Some(TextFault::BadQuality(k));
+    }
+    None
+}
+
+// Both readers give the same records, and end in the same way.
+fn same(
+    rt: &impl Abort,
+    alloc: Global,
+    text: &[u8],
+    encoding: Encoding,
+    chunk: usize,
+) -> Result<usize, Fail>
+    requires some { 0 < chunk }
+    requires small { chunk ≤ 1048576 }
+{
+    let lines = lines(alloc, text)?;
+    let mut source = source(alloc, text, encoding, 1 << 20, chunk)?;
+    let mut rest = lines.as_slice();
+    let mut records = 0usize;
+    for k in 1..u64::MAX {
+        match front(alloc, encoding, rest, k)? {
+            Ok(Some(plain)) => {
+                let record = source.next()?.ok_or("a record")?;
+                assert_eq!(rt; record.title(), plain.title.as_slice());
+                assert_eq!(rt; record.seq(), plain.seq.as_slice());
+                assert_eq!(rt; record.qual(), plain.qual.as_slice());
+                rest = rest.get(plain.lines..).unwrap_or(&[]);
+                records = records.saturating_add(1);
+            }
+            Ok(None) => {
+                assert!(rt; matches!(source.next(), Ok(None)));
+                break;
+            }
+            Err(fault) => {
+                assert!(rt; matches!(source.next(), Err(other) if other == fault));
+                break;
+            }
+        }
+    }
+    Ok(records)
+}
+
+// Numbers that look drawn at random, the same in each run.
+#[derive(Drop)]
+struct Draws(u64);
+
+impl Draws {
+    fn below(&mut self, n: u64) -> u64
+        requires { 0 < n }
+    {
+        self.0 = self
+            .0
+            .wrapping_mul(6_364_136_223_846_793_005)
+            .wrapping_add(1_442_695_040_888_963_407);
+        (self.0 >> 33) % n
+    }
+}
+
+const BYTES: [u8; 9] = [b'@', b'+', b'\n', b'\r', b' ', b'A', b'I', 0, 255];
+
+const PARTS: [&[u8]; 14] = [
+    b"@r\n", b"@\n", b"ACGT\n", b"AC\n", b"A", b"\n", b"\r\n", b"+\n", b"+r\n", b"IIII\n", b"@I\n",
+    b"+I\n", b"I", b"h",
+];
+
+#[test]
+fn drawn_texts_read_as_the_plain_reader_reads_them(rt: HostRuntime) -> Result<(), Fail> {
+    let mut draws = Draws(20_100_101);
+    let mut records = 0usize;
+    for number in 0..10_000u32 {
+        let mut text = Vec::new(rt.alloc());
+        let len = draws.below(201);
+        for _ in 0..len {
+            if number % 2 == 0 {
+                text.push(BYTES[draws.below(9) as usize % 9])?;
+            } else if text.len() < 200 {
+                text.extend_from_slice(PARTS[draws.below(14) as usize % 14])?;
+            }
+        }
+        let encoding = if number % 3 == 0 {
+            Encoding::Illumina13
+        } else {
+            Encoding::Sanger
+        };
+        for chunk in [1, 2, 3, 7, 64] {
+            records = records.saturating_add(same(&rt, rt.alloc(), &text, encoding, chunk)?);
+        }
+    }
+    assert!(rt; records > 1000, "{records} records were drawn");
+    Ok(())
+}

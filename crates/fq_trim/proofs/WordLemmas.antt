@@ -1,0 +1,55 @@
+-- The pieces of a word, and the numbers that they write.
+use Rattle.std.proofs.Common.{◌≡◌, ℕ, ◌+◌, ◌-◌, ◌*◌, ◌<◌, ◌≤◌, Bool, true, List, [], ◌∷◌, length, fold, Result, Ok, Err, Option, Some, None, is_some, not, arith, rules, leb, eqb}
+use Rattle.std.specs.Char.{is_ascii_digit}
+use Rattle.std.specs.List.{list_all, position_or_len}
+use Rattle.std.specs.Str.Parse.{ParsesUnsigned}
+use Rattle.std.proofs.lemmas.Bool.{and_parts, leb-true, ne_eqb, cond-true, not_from_false, false≢true}
+use Rattle.std.proofs.lemmas.List.Elements.{All-from_get_or}
+use Rattle.std.proofs.lemmas.List.Splits.{slice_split_none, length-slice_split}
+use Rattle.std.proofs.lemmas.List.Sums.{fails_before_first}
+use Rattle.std.proofs.lemmas.Str.Parse.{IsDigitsTest, FoldsDigits, IsNumeralModel, numerals_by_fold, digits_value_short, parse_gives}
+use denote.Ref.{Bor}
+use Rattle.fq_trim.specs.declared.fault.StepFaultKind.TheVariants.{WrongCount}
+use Rattle.fq_trim.specs.Words.{pieces, pieces_in, is_number, number_of, numbers_of}
+
+-- a word without a colon is its one piece
+pub pieces_none : (word : List ℕ) → position_or_len (λ b. eqb b 58) word ≡ length word → pieces word ≡ word ∷ []
+pieces_none word none =
+    slice_split_none (λ b. eqb b 58) word
+    (All-from_get_or (λ b. eqb b 58 ≡ Bool.false) word 0 (λ i lt. fails_before_first (λ b. eqb b 58) word i 0 (omega arith)))
+
+-- a word has a piece
+pieces_some : (word : List ℕ) → 0 < length (pieces word)
+pieces_some word = omega (arith, length-slice_split (λ b. eqb b 58) word)
+
+pub pieces_behind : (rest : Option (Bor (List ℕ))) → is_some rest ≡ true → 0 < length (pieces_in rest)
+pieces_behind None is = absurd (false≢true is)
+pieces_behind (Some text) is = pieces_some text.now
+
+digits : IsDigitsTest (λ ds. list_all is_ascii_digit ds ≡ true)
+digits = search rules
+
+reading : FoldsDigits (λ n ds. fold (λ n digit. 10 * n + (digit - 48)) n ds)
+reading = search rules
+
+decimal : IsNumeralModel (λ ds. list_all is_ascii_digit ds ≡ true) number_of
+decimal = numerals_by_fold (λ ds. list_all is_ascii_digit ds ≡ true) digits (λ n ds. fold (λ n digit. 10 * n + (digit - 48)) n ds) reading
+
+pub number_small : (piece : List ℕ) → is_number piece ≡ true → number_of piece ≤ 999999999
+number_small piece is =
+    let parts = and_parts _ (list_all is_ascii_digit piece) is in
+    let short = leb-true (length piece) 9 (and_parts (leb 1 (length piece)) _ parts.0).1 in
+    let small = digits_value_short decimal piece 9 parts.1 short in
+    omega arith
+
+-- what std reads of a piece that is a number
+pub number_read : {E : Type 0} (piece : List ℕ) (r : Result ℕ E) → ParsesUnsigned 32 10 piece r → is_number piece ≡ true → r ≡ Ok (number_of piece)
+number_read piece r h is =
+    let parts = and_parts _ (list_all is_ascii_digit piece) is in
+    let some = leb-true 1 (length piece) (and_parts (leb 1 (length piece)) _ parts.0).0 in
+    let small = number_small piece is in
+    parse_gives decimal 32 piece r h parts.1 some (omega arith)
+
+-- another number of pieces than the kind takes
+pub wrong_count : (smallest : List ℕ) (numbers : List (List ℕ)) → (length numbers ≡ length smallest → ⊥) → numbers_of smallest numbers ≡ Err WrongCount
+wrong_count smallest numbers differ = cond-true (not (eqb (length numbers) (length smallest))) _ _ (not_from_false _ (ne_eqb _ _ differ))

@@ -1,0 +1,15 @@
+use Rattle.std.proofs.Common.{arith}
+use Rattle.fq_trim.proofs.PlaceLemmas.{sum_small}
+use Rattle.fq_trim.proofs.scoring.total_of.Goals as goal
+
+pub overflow_add-total : goal.overflow_add-total
+overflow_add-total c =
+    let small = sum_small c.args.encoding c.args.qual.now c.requires in
+    let left = c.loop-chunk.invariant.left in
+    omega arith
+
+pub returns-clause-bound : goal.returns-clause-bound
+returns-clause-bound c =
+    let small = sum_small c.args.encoding c.args.qual.now c.requires in
+    let left = c.loop-chunk.invariant.left in
+    omega arith

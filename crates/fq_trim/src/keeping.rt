@@ -1,0 +1,190 @@
+//! Which bases a step keeps.
+
+ghost use Rattle.std.specs.Prelude.{true, ◌≡◌, ℕ, ◌+◌, ◌-◌, ◌<◌, ◌≤◌, ◌^◌, length, sum, take, drop, slice_index};
+ghost use Rattle.std.specs.List.{list_all};
+ghost use Rattle.fq_text.specs.Scores.{is_scored};
+ghost use Rattle.fq_trim.specs.Keeping.{scores, keeps, IsBetween, is_in_range};
+ghost use Rattle.fq_trim.specs.declared.step.Step.TheVariants.{Leading, Trailing, Crop, HeadCrop, SlidingWindow, AverageQuality, MinLen};
+
+use crate::scoring::{score_of, total_of};
+use crate::step::Step;
+use fq_text::Encoding;
+
+/// The bases that one step keeps of those that it is given: from `start` up to `stop`, maybe none.
+#[derive(Clone, Copy)]
+pub(crate) struct Span {
+    pub(crate) start: usize,
+    pub(crate) stop: usize,
+}
+
+/// The bases that a step keeps.
+pub(crate) fn kept_by(step: Step, encoding: Encoding, qual: &[u8]) -> Span
+    requires in_range { is_in_range step ≡ true }
+    requires scored { list_all (is_scored encoding) qual.now ≡ true }
+    ensures { IsBetween (keeps step (scores encoding qual.now))
+        (length qual.now) result.start result.stop }
+{
+    match step {
+        Step::Leading(score) => leading(encoding, score, qual),
+        Step::Trailing(score) => trailing(encoding, score, qual),
+        Step::Crop(bases) => crop(bases, qual),
+        Step::HeadCrop(bases) => head_crop(bases, qual),
+        Step::SlidingWindow { width, score } => sliding_window(encoding, width, score, qual),
+        Step::AverageQuality(score) => average_quality(encoding, score, qual),
+        Step::MinLen(bases) => min_len(bases, qual),
+        Step::ToPhred33 => whole(qual),
+    }
+}
+
+// All bases.
+fn whole(qual: &[u8]) -> Span
+    ensures { result ≡ record { start = 0; stop = length qual.now } }
+{
+    stop_at(qual.len())
+}
+
+// The bases before a place.
+fn stop_at(stop: usize) -> Span
+    ensures { result ≡ record { start = 0; stop = stop } }
+{
+    Span { start: 0, stop }
+}
+
+// The bases from a place on.
+fn start_at(start: usize, qual: &[u8]) -> Span
+    ensures { result ≡ record { start = start; stop = length qual.now } }
+{
+    Span {
+        start,
+        stop: qual.len(),
+    }
+}
+
+// From the first base with a score of at least `score` on.
+fn leading(encoding: Encoding, score: u32, qual: &[u8]) -> Span
+    requires { list_all (is_scored encoding) qual.now ≡ true }
+    ensures { IsBetween (keeps (Leading score) (scores encoding qual.now))
+        (length qual.now) result.start result.stop }
+{
+    for (i, byte) in qual.iter().enumerate() {
+        if score <= score_of(encoding, *byte) {
+            return start_at(i, qual);
+        }
+    }
+    start_at(qual.len(), qual)
+}
+
+// Up to the last base with a score of at least `score`.
+fn trailing(encoding: Encoding, score: u32, qual: &[u8]) -> Span
+    requires { list_all (is_scored encoding) qual.now ≡ true }
+    ensures { IsBetween (keeps (Trailing score) (scores encoding qual.now))
+        (length qual.now) result.start result.stop }
+{
+    stop_at(behind_last(encoding, score, qual))
+}
+
+// The first bases.
+fn crop(bases: u32, qual: &[u8]) -> Span
+    ensures { (encoding : Encoding) → IsBetween (keeps (Crop bases) (scores encoding qual.now))
+        (length qual.now) result.start result.stop }
+{
+    stop_at(qual.len().min(bases as usize))
+}
+
+// All but the first bases.
+fn head_crop(bases: u32, qual: &[u8]) -> Span
+    ensures { (encoding : Encoding) → IsBetween (keeps (HeadCrop bases) (scores encoding qual.now))
+        (length qual.now) result.start result.stop }
+{
+    start_at(qual.len().min(bases as usize), qual)
+}
+
+// Up to the last base of a score before the first bad window ends.
+fn sliding_window(encoding: Encoding, width: u32, score: u32, qual: &[u8]) -> Span
+    requires window { 0 < width }
+    requires scored { list_all (is_scored encoding) qual.now ≡ true }
+    ensures { IsBetween (keeps (SlidingWindow width score) (scores encoding qual.now))
+        (length qual.now) result.start result.stop }
+{
+    if qual.len() < width as usize {
+        return stop_at(0);
+    }
+    let least = u64::from(width) * u64::from(score);
+    let first = total_of(encoding, &qual[..width as usize]) as u64;
+    if first < least {
+        return stop_at(0);
+    }
+    let good = good_stop(encoding, width as usize, first, least, qual);
+    stop_at(behind_last(encoding, score, &qual[..good]))
+}
+
+// All bases where the scores sum to at least `score` for each base, else none.
+fn average_quality(encoding: Encoding, score: u32, qual: &[u8]) -> Span
+    requires { list_all (is_scored encoding) qual.now ≡ true }
+    ensures { IsBetween (keeps (AverageQuality score) (scores encoding qual.now))
+        (length qual.now) result.start result.stop }
+{
+    let least = u128::from(score) * qual.len() as u128;
+    if least <= total_of(encoding, qual) {
+        whole(qual)
+    } else {
+        stop_at(0)
+    }
+}
+
+// All bases where there are enough, else none.
+fn min_len(bases: u32, qual: &[u8]) -> Span
+    ensures { (encoding : Encoding) → IsBetween (keeps (MinLen bases) (scores encoding qual.now))
+        (length qual.now) result.start result.stop }
+{
+    if bases as usize <= qual.len() {
+        whole(qual)
+    } else {
+        stop_at(0)
+    }
+}
+
+// The place behind the last base with a score of at least `score`, or 0.
+fn behind_last(encoding: Encoding, score: u32, qual: &[u8]) -> usize
+    requires { list_all (is_scored encoding) qual.now ≡ true }
+    ensures within { result ≤ length qual.now }
+    ensures high { 0 < result → score ≤ slice_index (scores encoding qual.now) (result - 1) }
+    ensures low { (k : ℕ) → result ≤ k → k < length qual.now
+        → slice_index (scores encoding qual.now) k < score }
+{
+    for i in (0..qual.len()).rev() {
+        if score <= score_of(encoding, qual[i]) {
+            return i + 1;
+        }
+    }
+    0
+}
+
+// The place of the last base of the first bad window, or the length where each window is good.
+//
+// The sum of a window is that of the one before, with one score added and one taken away.
+fn good_stop(encoding: Encoding, width: usize, first: u64, least: u64, qual: &[u8]) -> usize
+    requires window { 0 < width }
+    requires fits { width ≤ length qual.now }
+    requires narrow { width < 2 ^ 32 }
+    requires sum { first ≡ sum (take width (scores encoding qual.now)) }
+    requires good { least ≤ first }
+    requires scored { list_all (is_scored encoding) qual.now ≡ true }
+    ensures within { result ≤ length qual.now }
+    ensures some { width ≤ result }
+    ensures windows { (s : ℕ) → s + width ≤ result
+        → least ≤ sum (take width (drop s (scores encoding qual.now))) }
+    ensures bad { result < length qual.now
+        → sum (take width (drop (result + 1 - width) (scores encoding qual.now))) < least }
+{
+    let mut sum = first;
+    for end in width..qual.len() {
+        let entering = score_of(encoding, qual[end]);
+        let leaving = score_of(encoding, qual[end - width]);
+        sum = sum + u64::from(entering) - u64::from(leaving);
+        if sum < least {
+            return end;
+        }
+    }
+    qual.len()
+}

@@ -1,0 +1,23 @@
+//! Trimming a read by a list of steps.
+//!
+//! [`Steps::parse`] reads the list from words such as `LEADING:3` and `SLIDINGWINDOW:4:15`, whose
+//! names are those of the Trimmomatic manual. [`Steps::trim`] tells which bases of a read the list
+//! keeps, from the quality bytes alone; they always follow each other, so the answer is a first
+//! place and the place behind the last. Nothing here takes memory.
+#![tactic(auto)]
+
+mod fault;
+mod keeping;
+mod scoring;
+mod step;
+mod steps;
+mod trimming;
+mod words;
+
+pub use fault::{StepFault, StepFaultKind};
+pub use step::Step;
+pub use steps::Steps;
+pub use trimming::Kept;
+
+#[cfg(test)]
+mod tests;

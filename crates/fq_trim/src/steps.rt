@@ -1,0 +1,129 @@
+//! Lists of steps.
+
+ghost use Rattle.std.specs.Prelude.{◌≡◌, ◌<◌, ◌≤◌, ◌-◌, MatchOption, IfSome, IfOk, IfErr, [], length, map, true};
+ghost use Rattle.std.specs.List.{list_all};
+ghost use Rattle.fq_text.specs.Scores.{is_scored};
+
+use crate::fault::{StepFault, StepFaultKind};
+use crate::step::Step;
+use crate::trimming::{Kept, trim_by};
+use crate::words::parse_word;
+use fq_text::Encoding;
+use std::marker::Model;
+
+/// How many steps a list may have.
+const MOST: usize = 64;
+
+/// A list of 1 to 64 steps, each taken on what the one before left.
+///
+/// The numbers of its steps are at most 999,999,999, and a window has at least one base. It is
+/// held in place, and copied without taking memory.
+#[derive(Clone, Copy, Debug, PartialEq, Eq)]
+pub struct Steps {
+    held: [Step; MOST],
+    count: usize,
+}
+
+impl Model for Steps {
+    ghost use Rattle.std.specs.Prelude.{List, ◌≡◌, ◌++◌, ◌-◌, length, take, replicate};
+    ghost use Rattle.fq_trim.specs.declared.step.Step.{Step};
+    ghost use Rattle.fq_trim.specs.declared.step.Step.TheVariants.{ToPhred33};
+
+    ghost Value = { List Step };
+
+    ghost use Rattle.fq_trim.specs.Steps.{IsHeld, inverse_view};
+
+    ghost view = { λ s. take s.count s.held };
+
+    ghost invariant = { λ s. IsHeld s.held s.count };
+
+    ghost inverse = { λ steps. record {
+      held = steps ++ replicate (64 - length steps) ToPhred33;
+      count = length steps;
+    } };
+
+    ghost inverse_ok = { inverse_view };
+}
+
+impl Steps {
+    ghost use Rattle.fq_trim.specs.Keeping.{kept, scores, places, recodes, is_in_range};
+    ghost use Rattle.fq_trim.specs.Words.{step_of, steps_of, IsFault};
+
+    /// Reads a list of steps, one word a step, in their order. It takes no memory.
+    ///
+    /// A word is split at its colons. The first piece is the name of a step, in capitals; the
+    /// others are its numbers, as many as the step takes: one threshold or length, the window and
+    /// the threshold of SLIDINGWINDOW, none for TOPHRED33. A number has 1 to 9 ASCII digits, so no
+    /// sign; leading zeros are allowed. A window is at least 1.
+    ///
+    /// # Errors
+    ///
+    /// [`NoSteps`](StepFaultKind::NoSteps) at place 0 where there is no word, and
+    /// [`TooMany`](StepFaultKind::TooMany) at place 65 where there are more than 64. Else the place
+    /// of the first faulty word, counted from 1, with the first of its faults in the order
+    /// `Unknown`, `WrongCount`, `BadNumber`, `OutOfRange`.
+    pub fn parse(words: &[&str]) -> Result<Steps, StepFault>
+        ensures value { result ≡ steps_of (map (λ word. word.now) words.now) }
+
+        // The same as laws: each word is its step, or the fault is the first.
+        ensures all { IfOk result (λ steps.
+            map Ok steps ≡ map step_of (map (λ word. word.now) words.now)) }
+        ensures first { IfErr result (λ fault.
+            IsFault fault.kind fault.place (map (λ word. word.now) words.now)) }
+    {
+        if words.is_empty() {
+            return Err(StepFault {
+                place: 0,
+                kind: StepFaultKind::NoSteps,
+            });
+        }
+        if words.len() > MOST {
+            return Err(StepFault {
+                place: MOST + 1,
+                kind: StepFaultKind::TooMany,
+            });
+        }
+        let mut held = [Step::ToPhred33; MOST];
+        for (i, word) in words.iter().enumerate() {
+            match parse_word(word) {
+                Ok(step) => held[i] = step,
+                Err(kind) => return Err(StepFault { place: i + 1, kind }),
+            }
+        }
+        Ok(Steps {
+            held,
+            count: words.len(),
+        })
+    }
+
+    /// The steps in their order: 1 to 64, their numbers within the limits.
+    pub fn as_slice(&self) -> &[Step]
+        ensures steps { result.now ≡ self.now }
+        ensures some { 0 < length self.now }
+        ensures few { length self.now ≤ 64 }
+        ensures in_range { list_all is_in_range self.now ≡ true }
+    {
+        &self.held[..self.count]
+    }
+
+    /// The bases that the steps keep of a read with these quality bytes, or `None` where they keep
+    /// none and the read is dropped. Each byte has to have a score in the encoding.
+    ///
+    /// Each step is taken on the bases that the one before left, so their order counts. An empty
+    /// read is dropped by every list. It takes no memory, and a read may have any length.
+    pub fn trim(&self, encoding: Encoding, qual: &[u8]) -> Option<Kept>
+        requires { list_all (is_scored encoding) qual.now ≡ true }
+        ensures kept { MatchOption result (kept self.now (scores encoding qual.now) ≡ [])
+            (λ k. kept self.now (scores encoding qual.now) ≡ places k.start (k.stop - k.start)) }
+        ensures within { IfSome result (λ k. k.stop ≤ length qual.now) }
+    {
+        trim_by(self.as_slice(), encoding, qual)
+    }
+
+    /// Whether TOPHRED33 is in the list, so that the quality is to be written as score + 33.
+    pub fn reencodes(&self) -> bool
+        ensures { result ≡ recodes self.now }
+    {
+        self.as_slice().contains(&Step::ToPhred33)
+    }
+}

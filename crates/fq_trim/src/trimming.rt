@@ -1,0 +1,42 @@
+//! What a list of steps leaves of a read.
+
+ghost use Rattle.std.specs.Prelude.{true, ◌≡◌, ◌-◌, ◌<◌, ◌≤◌, [], length, MatchOption, IfSome};
+ghost use Rattle.std.specs.List.{list_all};
+ghost use Rattle.fq_text.specs.Scores.{is_scored};
+ghost use Rattle.fq_trim.specs.Keeping.{places, scores, kept, is_in_range};
+
+use crate::keeping::kept_by;
+use crate::step::Step;
+use fq_text::Encoding;
+
+/// The bases that stay of a read: those from `start` up to `stop`, at least one.
+#[derive(Clone, Copy, Debug, PartialEq, Eq)]
+pub struct Kept {
+    /// The place of the first base that stays, counted from 0.
+    pub start: usize,
+    /// The place behind the last base that stays.
+    pub stop: usize,
+    ghost some: { start < stop },
+}
+
+/// The bases that a list of steps keeps, each step taken on what the one before left.
+pub(crate) fn trim_by(steps: &[Step], encoding: Encoding, qual: &[u8]) -> Option<Kept>
+    requires in_range { list_all is_in_range steps.now ≡ true }
+    requires scored { list_all (is_scored encoding) qual.now ≡ true }
+    ensures kept { MatchOption result (kept steps.now (scores encoding qual.now) ≡ [])
+        (λ k. kept steps.now (scores encoding qual.now) ≡ places k.start (k.stop - k.start)) }
+    ensures within { IfSome result (λ k. k.stop ≤ length qual.now) }
+{
+    let mut start = 0;
+    let mut stop = qual.len();
+    for step in steps {
+        let left = kept_by(*step, encoding, &qual[start..stop]);
+        stop = start + left.stop;
+        start += left.start;
+    }
+    if start < stop {
+        Some(Kept { start, stop })
+    } else {
+        None
+    }
+}

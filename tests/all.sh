@@ -1,0 +1,26 @@
+#!/usr/bin/env bash
+# The gate, and behind it the scripts of this folder, each of which counts as one test. The last line sums up.
+set -u
+cd "$(dirname "$0")/.."
+log=$(mktemp)
+trap 'rm -f "$log"' EXIT
+rt ci | tee "$log"
+gate=${PIPESTATUS[0]}
+summary=$(tail -n 1 "$log")
+passed=$(sed -n 's/^\([0-9][0-9]*\) passed, [0-9][0-9]* failed.*/\1/p' <<<"$summary")
+failed=$(sed -n 's/^[0-9][0-9]* passed, \([0-9][0-9]*\) failed.*/\1/p' <<<"$summary")
+: "${passed:=0}" "${failed:=1}"
+if [ "$gate" -ne 0 ] && [ "$failed" -eq 0 ]; then
+  failed=1
+fi
+for script in tests/*.sh; do
+  [ "$script" = tests/all.sh ] && continue
+  echo "== $script"
+  if bash "$script"; then
+    passed=$((passed + 1))
+  else
+    failed=$((failed + 1))
+  fi
+done
+echo "$passed passed, $failed failed"
+[ "$failed" -eq 0 ]

@@ -1,0 +1,108 @@
+#!/usr/bin/env bash
+# What a lane's types rule out must not compile: an offer after the lane was closed, and one end that confirms twice.
+# Each must be refused by exactly one error, the borrow error E0382: a use of a value that was moved (the check writes it
+# error[borrow-e0382]). Beside each stands the same function used rightly, in which no error may be found.
+#
+# Run it from the root of the repository, with rt on the path. It works in a folder of its own, outside the tree.
+set -uo pipefail
+
+root=$(pwd)
+if [ ! -d "$root/crates/fq_lane" ]; then
+    echo "must_not_compile: run this from the root of the repository" >&2
+    exit 2
+fi
+room=$(mktemp -d)
+trap 'rm -rf "$room"' EXIT
+
+mkdir -p "$room/crates/misuse/src" "$room/crates/fq_lane"
+cp "$root/HANDLES" "$room/"
+cp -r "$root"/crates/fq_lane/{src,specs,proofs} "$room/crates/fq_lane/"
+grep -E '^fq_lane[ :]' "$root/crates.txt" >"$room/crates.txt"
+echo "misuse: fq_lane" >>"$room/crates.txt"
+
+failed=0
+
+# try NAME WANTED: checks the source on standard input, and compares the errors that are found ("none", or one code).
+try() {
+    cat >"$room/crates/misuse/src/lib.rt"
+    (cd "$room/crates/misuse" && rt check) >"$room/log" 2>&1
+    local status=$? found
+    found=$(grep -oE '\berror(\[[^]]+\])?:' "$room/log" | sed -E 's/^error(\[(.*)\])?:$/\2/' | tr '\n' ' ')
+    found=${found% }
+    if [ "$2" = none ] && [ $status -eq 0 ] && [ -z "$found" ]; then
+        echo "compiles, as it must: $1"
+    elif [ "$2" != none ] && [ $status -ne 0 ] && [ "$found" = "$2" ]; then
+        echo "refused by $2, as it must be: $1"
+    else
+        echo "WRONG: $1: wanted $2, found '${found:-none}' with status $status; the first lines were:"
+        head -n 20 "$room/log"
+        failed=1
+    fi
+}
+
+try "an offer before the lane is closed" none <<'RT'
+//! A lane that is used as it is meant to be.
+#![tactic(auto)]
+
+use fq_lane::Tx;
+
+pub fn offer_then_close(tx: Tx<u64>) -> bool {
+    let mut tx = tx;
+    let offered = tx.offer(1).is_ok();
+    let closed = tx.close().is_ok();
+    offered && closed
+}
+RT
+
+try "an offer after the lane was closed" borrow-e0382 <<'RT'
+//! A lane that is used after it was closed.
+#![tactic(auto)]
+
+use fq_lane::Tx;
+
+pub fn close_then_offer(tx: Tx<u64>) -> bool {
+    let mut tx = tx;
+    let closed = tx.close().is_ok();
+    let offered = tx.offer(1).is_ok();
+    offered && closed
+}
+RT
+
+try "an end that confirms once" none <<'RT'
+//! A lane that is confirmed as it is meant to be.
+#![tactic(auto)]
+
+ghost use Rattle.std.specs.Prelude.{◌≡◌, true};
+
+use fq_lane::{End, Rx};
+
+pub fn confirm_once(rx: &mut Rx<u64>, end: End<u64>)
+    requires closed { rx.old.marked ≡ true }
+    requires one_lane { end.name ≡ rx.old.name }
+{
+    rx.confirm(end);
+}
+RT
+
+try "one end that confirms twice" borrow-e0382 <<'RT'
+//! A lane that is confirmed twice with one end.
+#![tactic(auto)]
+
+ghost use Rattle.std.specs.Prelude.{◌≡◌, true};
+
+use fq_lane::{End, Rx};
+
+pub fn confirm_twice(rx: &mut Rx<u64>, end: End<u64>)
+    requires closed { rx.old.marked ≡ true }
+    requires one_lane { end.name ≡ rx.old.name }
+{
+    rx.confirm(end);
+    rx.confirm(end);
+}
+RT
+
+if [ $failed -ne 0 ]; then
+    echo "must_not_compile: FAILED"
+    exit 1
+fi
+echo "must_not_compile: ok, 2 misuses refused and 2 uses accepted"
