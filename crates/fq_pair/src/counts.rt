@@ -8,7 +8,8 @@ use fq_text::OutOfMemory;
 use itoa::Buffer;
 use std::alloc::Global;
 
-/// How many pairs were read, and what became of them. Each pair counts once in `pairs` and once in one of the others.
+/// How many pairs were trimmed, and what became of them. Each pair counts once in `pairs` and once in one of the
+/// others.
 #[derive(Clone, Copy, Debug, PartialEq, Eq)]
 pub struct Counts {
     /// All pairs.
@@ -54,7 +55,11 @@ impl Counts {
     }
 }
 
-/// The summary of a run: five lines with the counts in plain decimal, worded as in Trimmomatic's summary.
+/// The summary of a run: five lines, each ended by LF, with the counts in plain decimal. `Input Read Pairs` comes
+/// first, then `Both Surviving`, `Forward Only Surviving`, `Reverse Only Surviving` and `Dropped`.
+///
+/// The words are those that Trimmomatic prints, on a line each and without its percentages. Memory may be refused for
+/// the text.
 pub fn summary(alloc: Global, counts: &Counts) -> Result<String, OutOfMemory>
     ensures { IfOk result (λ text. string_bytes text ≡ summary_of counts.now) }
 {

@@ -4,7 +4,7 @@ use crate::side::Side;
 use fq_text::TextFault;
 use thiserror::Error;
 
-/// Why two texts give no further pair. Pairs are numbered from 1.
+/// Why two texts give no further pair. Records and pairs are numbered from 1.
 #[derive(Clone, Copy, Debug, PartialEq, Eq, Error)]
 pub enum InputFault {
     /// The text of one side is at fault, or couldn't be read.

@@ -1,4 +1,7 @@
-//! Pairs of mates: read from two texts, trimmed, and written with their log and counts.
+//! Pairs of mates: read from two FASTQ texts, trimmed, and put into the four texts of records, the trim log and the
+//! counts that a run writes.
+//!
+//! [`PairSource`] gives the pairs of two inputs, [`Texts`] takes them, one after the other.
 #![tactic(auto)]
 
 mod counts;

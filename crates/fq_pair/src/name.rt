@@ -6,8 +6,10 @@ ghost use Rattle.fq_pair.specs.Mates.{mark_of as mark, name_of as name, names_ma
 use crate::side::Side;
 use memchr::memchr2;
 
-/// The name of a mate: its title up to the first blank or tab, without a final `/1` on the forward side or `/2` on the
-/// reverse side. It may be empty.
+/// The name of a mate, by which the mates of a pair are told: its title up to the first blank or tab, without a final
+/// `/1` on the forward side or `/2` on the reverse side.
+///
+/// One mark goes at most, and no other ending: `a/1/1` becomes `a/1`, and a forward `a/2` stays. A name may be empty.
 pub fn name_of(title: &[u8], side: Side) -> &[u8]
     ensures name { result.now ≡ name side title.now }
     ensures short { length result.now ≤ length title.now }

@@ -13,7 +13,7 @@ pub enum Out {
     ReversePaired,
     /// Reverse reads whose mate is dropped.
     ReverseUnpaired,
-    /// The trim log, with a line for each read.
+    /// The trim log, with a line for each read, dropped or not.
     Log,
 }
 

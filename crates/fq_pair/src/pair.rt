@@ -5,7 +5,7 @@ ghost use Rattle.std.specs.Prelude.{◌≡◌};
 use fq_text::{Encoding, FastqRecord, ReadView};
 use std::marker::Model;
 
-/// Two mates in one encoding, as they were read.
+/// The two reads of a pair as they were read, both in one encoding.
 #[derive(Drop)]
 pub struct Pair {
     forward: FastqRecord,
@@ -54,7 +54,7 @@ impl Pair {
     }
 }
 
-/// Two mates, lent by a pair or a block.
+/// The two reads of a pair, lent by a [`Pair`] or another owner of their bytes.
 #[derive(Drop)]
 pub struct PairView<'a> {
     /// The mate of the forward input.

@@ -12,9 +12,10 @@ use crate::side::Side;
 use fq_text::{Feed, Source};
 use std::marker::Model;
 
-/// The pairs of two texts, one after the other: record k of the forward text and record k of the reverse text.
+/// The pairs of two texts, one after the other: record k of the forward text with record k of the reverse text.
 ///
-/// The names of mates are compared as [`names_match`] does, unless the check is off.
+/// The names of two mates have to match as [`names_match`] tells, unless the check is off. Mates that are out of step
+/// are not searched for.
 #[derive(Drop)]
 pub struct PairSource<F: Feed, G: Feed> {
     forward: Source<F>,
@@ -69,8 +70,9 @@ impl<F: Feed, G: Feed> PairSource<F, G> {
 
     /// The next pair, or `None` at the end of both texts. A fault, or the end, is the answer from then on.
     ///
-    /// The forward record is read first, and its fault is answered first. Then come a fault of the reverse text, a
-    /// missing mate, and names that differ.
+    /// The forward record is read first, and a fault of the forward text is answered before all others. Then come a
+    /// fault of the reverse text, a missing mate, and names that differ. A failed or endless read, and want of
+    /// memory, are answered as a fault of the side that was being read. The record of a mate that is no pair is lost.
     pub fn next(&mut self) -> Result<Option<Pair>, InputFault>
         // A last answer stays, and nothing more is read.
         ensures again { MatchOption self.old.last (Unit {0}) (λ last. (result ≡ answer_of last) × (self.new ≡ self.old)) }
@@ -128,7 +130,7 @@ impl<F: Feed, G: Feed> PairSource<F, G> {
         }
     }
 
-    /// The feeds as they stand.
+    /// The two feeds, as they stand. Bytes that were read and are still in hand go.
     pub fn into_feeds(self) -> (F, G)
         ensures forward { result.0 ≡ self.forward.feed }
         ensures reverse { result.1 ≡ self.reverse.feed }

@@ -16,7 +16,8 @@ use fq_trim::{Kept, Steps};
 use std::alloc::Global;
 use std::marker::Model;
 
-/// What is to be written of trimmed pairs: four texts of records, the trim log, and the counts.
+/// What is to be written of trimmed pairs: four texts of records, the trim log, and the counts. Pairs are added one
+/// after the other, and the texts are used again after [`clear`](Texts::clear).
 #[derive(Drop)]
 pub struct Texts {
     forward_paired: Vec<u8>,
@@ -48,7 +49,7 @@ impl Model for Texts {
 impl Texts {
     ghost use Rattle.fq_pair.specs.Outputs.{Outputs, no_texts, joined, texts_of, text_of};
 
-    /// No texts, and counts of 0.
+    /// Empty texts, and counts of 0. It takes no memory.
     pub fn new(alloc: Global) -> Texts
         ensures { result ≡ no_texts }
     {
@@ -63,7 +64,8 @@ impl Texts {
     }
 
     /// Adds what is to be written of one pair: the records of the mates that survive the steps, a log line for each
-    /// mate, and the counts. All growths are made first, and a refusal leaves everything as it was.
+    /// mate, and the counts. Memory is asked for before anything is written, and a refusal leaves all as it was. The
+    /// condition is that the count of pairs can still grow.
     ///
     /// The record of a mate goes to the paired text of its side where the other mate survives too, else to its
     /// unpaired text. Where TOPHRED33 is in the list, quality bytes are written at offset 33.

@@ -1,5 +1,5 @@
 -- What a call of a source of pairs answers, of its state as this crate sees it.
-use Rattle.std.proofs.Common.{◌≡◌, ℕ, ◌+◌, ◌*◌, Bool, true, false, IsTrue, Option, Some, None, Result, Ok, Err, IfOk, IfErr, List, [], ◌∷◌, length, refl, ap, ◌∙◌, arith}
+use Rattle.std.proofs.Common.{◌≡◌, ℕ, ◌+◌, ◌*◌, Bool, IsTrue, Option, Some, None, Result, Ok, Err, IfOk, IfErr, List, refl, ap, ◌∙◌}
 use Rattle.std.specs.Option.{IfSome}
 use Rattle.fq_text.specs.Grammar.{Read}
 use Rattle.fq_text.specs.Lines.{lines}
@@ -8,7 +8,7 @@ use Rattle.fq_pair.specs.declared.side.Side.TheVariants.{Forward, Reverse}
 use Rattle.fq_pair.specs.declared.fault.InputFault.{InputFault}
 use Rattle.fq_pair.specs.Mates.{Mates}
 use Rattle.fq_pair.specs.PairSources.{PairSourced, KeepsCounts, GivesPair, EndsPairs, StopsPairs, failed_on}
-use Rattle.fq_run.specs.Walks.{SideState, side_state, source_state, Draws, Uses, KeepsSettings, Walks, MeetsEnd, MeetsFault, Asks}
+use Rattle.fq_run.specs.Walks.{side_state, source_state, Draws, Uses, KeepsSettings, Asks}
 
 module _ {F : Type 0} (tells : F → Bool) (to_come : F → List ℕ) (fails : F → ℕ) where
   drawn : (old new : Sourced F) (n : ℕ) → KeepsCount tells to_come old new → fails new.feed ≡ fails old.feed + n → Draws (side_state tells to_come fails old) (side_state tells to_come fails new) n

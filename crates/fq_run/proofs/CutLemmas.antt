@@ -1,16 +1,13 @@
 -- The pairs of texts of which only a first part came.
-use Rattle.std.proofs.Common.{◌≡◌, ℕ, suc, ◌+◌, ◌≤◌, ◌⊎◌, inl, inr, ⊎_elim, Bool, true, false, cond, eqb, Some, None, List, [], ◌∷◌, ◌++◌, length, refl, ap, sym, subst, ◌∙◌, arith, append_assoc}
+use Rattle.std.proofs.Common.{◌≡◌, ℕ, suc, ◌+◌, ◌≤◌, ⊎_elim, Bool, true, false, cond, eqb, List, [], ◌∷◌, ◌++◌, length, refl, ap, sym, subst, ◌∙◌, arith}
 use Rattle.std.specs.List.{list_any}
 use Rattle.std.proofs.lemmas.Bool.{cond-true, cond-false, cases_Bool, or_left, or_right, or_from}
-use Rattle.std.proofs.lemmas.List.{append_cancel_left, append_cancel_right, length-append, nil_from_length}
 use Rattle.std.proofs.lemmas.List.Folds.{list_any-append}
 use Rattle.fq_text.specs.declared.encoding.Encoding.{Encoding}
-use Rattle.fq_text.specs.Lines.{lines, is_whole, whole_part}
+use Rattle.fq_text.specs.Lines.{is_whole, whole_part}
 use Rattle.fq_text.specs.Grammar.{Front, End, Faulty, Found, front}
-use Rattle.fq_text.proofs.LineLemmas.{lines-append}
-use Rattle.fq_pair.specs.declared.fault.InputFault.{InputFault}
 use Rattle.fq_pair.specs.Mates.{Mates}
-use Rattle.fq_pair.specs.Pairing.{Pairs, pairs_of, records_of, with_pair, PairFront, Ended, Stopped, Met, meeting, pair_front}
+use Rattle.fq_pair.specs.Pairing.{Pairs, pairs_of, records_of, PairFront, Ended, Stopped, Met, meeting, pair_front}
 use Rattle.fq_pair.proofs.PairLaws.{pairs_of-met, pairs_of-stopped, pairs_of-ended}
 use Rattle.fq_run.specs.Walks.{Leads}
 use Rattle.fq_run.proofs.FrontLemmas.{met_more}

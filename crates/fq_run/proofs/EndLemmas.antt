@@ -1,5 +1,5 @@
 -- What a run promises, from what it read and wrote.
-use Rattle.std.proofs.Common.{◌≡◌, ℕ, ◌+◌, ◌<◌, ◌≤◌, ◌⊎◌, inl, inr, ⊎_elim, Bool, true, false, IsTrue, Option, Some, None, List, [], ◌∷◌, ◌++◌, length, refl, sym, ap, subst, ◌∙◌, arith}
+use Rattle.std.proofs.Common.{◌≡◌, ◌≤◌, ◌⊎◌, inl, inr, true, false, IsTrue, Option, Some, None, List, [], ◌++◌, length, refl, sym, ap, subst, ◌∙◌, arith}
 use Rattle.std.proofs.lemmas.List.{append-nil}
 use Rattle.fq_text.specs.Lines.{whole_part}
 use Rattle.fq_text.specs.declared.fault.TextFault.TheVariants as text
@@ -11,19 +11,18 @@ use Rattle.fq_pair.specs.declared.fault.InputFault.{InputFault}
 use Rattle.fq_pair.specs.declared.fault.InputFault.TheVariants.{Text}
 use Rattle.fq_pair.specs.Mates.{Mates}
 use Rattle.fq_pair.specs.Pairing.{Pairs, pairs}
-use Rattle.fq_pair.specs.PairSources.{is_cut_short, is_from_outside}
+use Rattle.fq_pair.specs.PairSources.{is_cut_short}
 use Rattle.fq_pair.specs.Outputs.{texts_of, text_of, counts_of}
 use Rattle.fq_run.specs.declared.outcome.Outcome.{Outcome}
 use Rattle.fq_run.specs.declared.outcome.Outcome.TheVariants as outcome
 use Rattle.fq_run.specs.declared.reading.Stop.{Stop}
 use Rattle.fq_run.specs.declared.reading.Stop.TheVariants as stop
 use Rattle.fq_run.specs.Choices.{Choices}
-use Rattle.fq_run.specs.Outcomes.{rank}
 use Rattle.fq_run.specs.Devices.{FeedState, gave, OutletStates, OutletsTook}
 use Rattle.fq_run.specs.Fates.{Fate, Unbroken, FlushFailed, WriteFailed, failed_outlet, block_begun, part_begun, IsCutShort}
-use Rattle.fq_run.specs.Walks.{SourceState, SideState, Walks, MeetsFault, Reads, fed, fresh_side, fresh_source, feed_in}
+use Rattle.fq_run.specs.Walks.{SourceState, Reads, fed, fresh_side, fresh_source, feed_in}
 use Rattle.fq_run.specs.Writing.{Passes, FlushesAfter, is_flush}
-use Rattle.fq_run.specs.Endings.{Run, AreTold, all_pairs, trimmed_outcome, IsTrimmed, ends_whole, feed_of, feed_left, gave_to, failures_in, IsHandedBack, IsCutOff, pairs_given, IsAllThatCame, AreFirst, IsJustified, EveryEnding}
+use Rattle.fq_run.specs.Endings.{Run, AreTold, all_pairs, trimmed_outcome, IsTrimmed, ends_whole, feed_of, feed_left, gave_to, failures_in, IsCutOff, pairs_given, IsAllThatCame, IsJustified, EveryEnding}
 use Rattle.fq_run.proofs.OutletLemmas.{all_took_then, all_took_same}
 use Rattle.fq_run.proofs.ReadingLemmas.{failed_by, gave_is, gave_length, fed_back, reads_first, reads_end, reads_fault, reads_forward, reads_reverse, reads_cut}
 use Rattle.fq_run.proofs.VerdictLemmas.{Kind, OfText, OfRead, OfEndless, OfMemory, kind, Verdict, WantsMemory, FailedAt, CannotRead, HasNoEnd, HasFault, IsOver, read_once, failed_once, not_spawn, at_write, at_read, at_endless, outlet_first, feed_first, lacks_memory, write_last}
@@ -101,8 +100,7 @@ unbroken (FlushFailed out) is = absurd cc
 unbroken (WriteFailed out sent block) is = absurd cc
 
 module _ (c : Choices) (f r : FeedState) (new : SourceState) (before after : OutletStates) (counted : Counts) (why : Option Stop) (failed : Option Out) (o : Outcome)
-  (p : Closes c (fresh_source c f r) new before after counted why failed) (v : Verdict why failed o) (sound : f.failures ≡ 0) (sound' : r.failures ≡ 0) where
-
+    (p : Closes c (fresh_source c f r) new before after counted why failed) (v : Verdict why failed o) (sound : f.failures ≡ 0) (sound' : r.failures ≡ 0) where
   -- the run
   abbrev pub run : Run
   run = record { forward = f; reverse = r; outlets = before; forward_left = Some (feed_in new.forward); reverse_left = Some (feed_in new.reverse); outlets_left = after; outcome = o; counts = counted }

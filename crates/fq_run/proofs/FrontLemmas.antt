@@ -1,12 +1,12 @@
 -- What stands in front of a list of lines stands there too where more lines follow.
-use Rattle.std.proofs.Common.{◌≡◌, ℕ, suc, ◌+◌, ◌-◌, ◌<◌, ◌≤◌, Bool, true, false, cond, eqb, Option, Some, None, List, [], ◌∷◌, ◌++◌, length, refl, ap, sym, ◌∙◌, arith, ⊎_elim}
+use Rattle.std.proofs.Common.{◌≡◌, ℕ, suc, ◌-◌, ◌<◌, Bool, true, eqb, Some, None, List, [], ◌∷◌, ◌++◌, length, refl, ap, sym, ◌∙◌, arith, ⊎_elim}
 use Rattle.std.specs.List.{concat}
 use Rattle.std.proofs.lemmas.Bool.{cond-true, cond-false, cases_Bool}
 use Rattle.fq_text.specs.declared.encoding.Encoding.{Encoding}
-use Rattle.fq_text.specs.Grammar.{Read, Front, End, Faulty, Found, front, begins_with, before_plus, from_plus, quality_lines, behind_quality, title_fault, plus_fault, quality_faults, sequence_faults, unless_faulty, completed, tail_of, from_quality_lines, from_plus_line, from_title_line}
+use Rattle.fq_text.specs.Grammar.{Read, Front, End, Faulty, Found, front, begins_with, before_plus, from_plus, quality_lines, behind_quality, title_fault, plus_fault, quality_faults, sequence_faults, unless_faulty, completed, from_quality_lines, from_plus_line, from_title_line}
 use Rattle.fq_text.proofs.LawfulLemmas.{passed, complete}
 use Rattle.fq_pair.specs.Mates.{Mates, mates_in}
-use Rattle.fq_pair.specs.Pairing.{belong, PairFront, Ended, Stopped, Met, met, meeting, pair_front}
+use Rattle.fq_pair.specs.Pairing.{belong, Stopped, Met, met, meeting, pair_front}
 use Rattle.fq_pair.specs.declared.fault.InputFault.TheVariants.{NamesDiffer}
 
 module _ (more : List (List ℕ)) where
@@ -31,9 +31,10 @@ module _ (more : List (List ℕ)) where
       let first = no_quality n (l ∷ ls) none in
       (all.0 ∙ sym first.0, all.1 ∙ ap (λ ls. Some (ls ++ more)) e))
       (λ some.
-      let rest_of = quality_more (n - length l) ls rest (sym (cond-false (eqb n 0) (Some (l ∷ ls)) (behind_quality (n - length l) ls) some) ∙ is) in
-      (cond-false (eqb n 0) [] (l ∷ quality_lines (n - length l) (ls ++ more)) some ∙ ap (λ ms. l ∷ ms) rest_of.0 ∙ sym (cond-false (eqb n 0) [] (l ∷ quality_lines (n - length l) ls) some),
-      cond-false (eqb n 0) (Some (l ∷ (ls ++ more))) (behind_quality (n - length l) (ls ++ more)) some ∙ rest_of.1))
+      let rest_of = quality_more (n - length l) ls rest (sym (cond-false (eqb n 0) (Some (l ∷ ls)) (behind_quality (n - length l) ls) some) ∙ is) in (
+        cond-false (eqb n 0) [] (l ∷ quality_lines (n - length l) (ls ++ more)) some ∙ ap (λ ms. l ∷ ms) rest_of.0 ∙ sym (cond-false (eqb n 0) [] (l ∷ quality_lines (n - length l) ls) some),
+        cond-false (eqb n 0) (Some (l ∷ (ls ++ more))) (behind_quality (n - length l) (ls ++ more)) some ∙ rest_of.1,
+      ))
       (cases_Bool (eqb n 0))
 
   from_plus_more : (ls : List (List ℕ)) → 0 < length (from_plus ls) → (before_plus (ls ++ more) ≡ before_plus ls) × (from_plus (ls ++ more) ≡ from_plus ls ++ more)

@@ -1,11 +1,11 @@
 -- What outlets took, one text behind another.
-use Rattle.std.proofs.Common.{◌≡◌, ℕ, ◌+◌, ◌<◌, Bool, IsTrue, Option, Some, None, Result, Ok, Err, List, [], ◌++◌, length, take, refl, sym, ap, subst, ◌∙◌, arith, append_assoc}
+use Rattle.std.proofs.Common.{◌≡◌, ℕ, Option, Some, None, Result, Err, List, [], ◌++◌, refl, sym, ap, subst, ◌∙◌, arith, append_assoc}
 use Rattle.std.specs.Option.{IfSome}
 use Rattle.std.proofs.lemmas.List.{append-nil}
 use Rattle.fq_pair.specs.declared.out.Out.{Out}
 use Rattle.fq_pair.specs.declared.out.Out.TheVariants.{ForwardPaired, ForwardUnpaired, ReversePaired, ReverseUnpaired, Log}
-use Rattle.fq_pair.specs.Outputs.{Outputs, text_of}
-use Rattle.fq_run.specs.Devices.{OutletState, OutletStates, AreHealthy, outlet_at, TookText, Took, OutletsTook, failures_at, part_at}
+use Rattle.fq_pair.specs.Outputs.{Outputs}
+use Rattle.fq_run.specs.Devices.{OutletState, OutletStates, AreHealthy, outlet_at, TookText, Took, OutletsTook, failures_at}
 use Rattle.fq_run.specs.Sending.{BreaksAt, Sends, FailsIn}
 
 -- nothing

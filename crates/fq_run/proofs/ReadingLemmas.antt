@@ -1,5 +1,5 @@
 -- What a reading tells of the pairs of two texts.
-use Rattle.std.proofs.Common.{◌≡◌, ℕ, suc, ◌+◌, ◌-◌, ◌≤◌, ◌⊎◌, inl, inr, ⊎_elim, Bool, true, false, IsTrue, Option, Some, None, Result, Ok, Err, List, [], ◌∷◌, ◌++◌, length, take, refl, ap, sym, subst, ◌∙◌, arith, append_assoc}
+use Rattle.std.proofs.Common.{◌≡◌, ℕ, suc, ◌+◌, ◌-◌, ◌≤◌, ◌⊎◌, inl, inr, ⊎_elim, Bool, true, false, IsTrue, Option, Some, None, List, [], ◌∷◌, ◌++◌, length, take, refl, ap, sym, subst, ◌∙◌, arith, append_assoc}
 use Rattle.std.proofs.lemmas.List.{append-nil, append_cancel_left, append_cancel_right, length-append, length-take-le, nil_from_length}
 use Rattle.fq_text.specs.declared.encoding.Encoding.{Encoding}
 use Rattle.fq_text.specs.Lines.{lines, is_whole, whole_part}
@@ -15,7 +15,7 @@ use Rattle.fq_run.specs.declared.reading.Stop.{Stop}
 use Rattle.fq_run.specs.declared.reading.Stop.TheVariants as stop
 use Rattle.fq_run.specs.Choices.{Choices}
 use Rattle.fq_run.specs.Devices.{FeedState, gave, Fed}
-use Rattle.fq_run.specs.Walks.{SideState, SourceState, rest, fed, Draws, Uses, KeepsSettings, Leads, next_front, Walks, MeetsEnd, MeetsFault, faulty, Reads, fresh_side, fresh_source, feed_in}
+use Rattle.fq_run.specs.Walks.{SideState, SourceState, rest, fed, Draws, Uses, Leads, next_front, Walks, faulty, Reads, fresh_side, fresh_source, feed_in}
 use Rattle.fq_run.specs.Endings.{AreFirst}
 use Rattle.fq_run.proofs.WalkLemmas.{draws_then}
 use Rattle.fq_run.proofs.CutLemmas.{behind_whole, whole_split, is_whole-whole_part, whole_part-whole, mates_at, no_forward, no_reverse, at_most}
@@ -65,7 +65,6 @@ nothing xs ys is = let len = ap length is in nil_from_length xs (omega (arith, l
 
 -- A side that was read up to a record, and then on without one.
 module _ (old mid new : SideState) (n : ℕ) (a : Draws old mid 0) (b : Draws mid new n) (told : IsTrue old.tells) (empty : old.in_hand ≡ []) (u : Uses old mid) where
-
   whole_text : old.to_come ≡ fed old new ++ new.to_come
   whole_text = let d = draws_then old mid new n a b in d.bytes told
 

@@ -1,5 +1,5 @@
 -- What a serial run promises.
-use Rattle.std.proofs.Common.{◌≡◌, ℕ, ◌≤◌, IsTrue, Option, Some, None, ◌++◌, refl, sym, ◌∙◌, subst}
+use Rattle.std.proofs.Common.{◌≡◌, ◌≤◌, IsTrue, Option, Some, None, ◌++◌, sym, ◌∙◌, subst}
 use Rattle.fq_pair.specs.declared.out.Out.{Out}
 use Rattle.fq_pair.specs.declared.counts.Counts.{Counts}
 use Rattle.fq_pair.specs.Outputs.{texts_of, text_of}
@@ -17,8 +17,7 @@ use Rattle.fq_run.proofs.VerdictLemmas.{Verdict, verdict, is_serial}
 use Rattle.fq_run.proofs.EndLemmas.{Closes, closes, every, trimmed}
 
 module _ (c : Choices) (f r f' r' : FeedState) (before mid : OutletStates) (counted : Counts) (why : Option Stop) (broken : Option Out)
-  (p : Runs c f r f' r' before mid counted why broken) where
-
+    (p : Runs c f r f' r' before mid counted why broken) where
   -- outlets of which none failed have no failures yet
   pub runs_healthy : AreHealthy before → broken ≡ None → AreHealthy mid
   runs_healthy h none =

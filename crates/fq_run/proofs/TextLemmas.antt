@@ -1,5 +1,5 @@
 -- The texts and counts of pairs, one list behind another.
-use Rattle.std.proofs.Common.{◌≡◌, ℕ, ◌+◌, ◌<◌, ◌≤◌, ◌^◌, Bool, List, [], ◌∷◌, ◌++◌, length, filter, flat_map, min, ⊎_elim, refl, sym, ap, ◌∙◌, arith}
+use Rattle.std.proofs.Common.{◌≡◌, ℕ, ◌+◌, ◌<◌, ◌≤◌, ◌^◌, Bool, List, [], ◌∷◌, ◌++◌, length, filter, flat_map, ⊎_elim, refl, sym, ap, ◌∙◌, arith}
 use Rattle.std.proofs.Math.Nat.{min-eq_left}
 use Rattle.std.proofs.lemmas.Bool.{cond-true, cond-false, cases_Bool}
 use Rattle.std.proofs.lemmas.List.{length-append}
@@ -11,7 +11,7 @@ use Rattle.fq_pair.specs.declared.out.Out.{Out}
 use Rattle.fq_pair.specs.declared.out.Out.TheVariants.{ForwardPaired, ForwardUnpaired, ReversePaired, ReverseUnpaired, Log}
 use Rattle.fq_pair.specs.Mates.{Mates}
 use Rattle.fq_pair.specs.Summaries.{capped_sum, capped}
-use Rattle.fq_pair.specs.Outputs.{Outputs, texts_of, text_of, counts_of, sum_of, joined, both_survive, forward_alone, reverse_alone, none_survive, record_text, log_lines, forward_records, reverse_records}
+use Rattle.fq_pair.specs.Outputs.{texts_of, text_of, counts_of, sum_of, joined, both_survive, forward_alone, reverse_alone, none_survive, record_text, log_lines}
 
 records_then : (record_of : Mates → List ℕ) (test : Mates → Bool) (ms ns : List Mates) →
     flat_map record_of (filter test (ms ++ ns)) ≡ flat_map record_of (filter test ms) ++ flat_map record_of (filter test ns)

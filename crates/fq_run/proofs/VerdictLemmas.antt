@@ -1,15 +1,14 @@
 -- Which outcome a run has, and what it tells.
-use Rattle.std.proofs.Common.{◌≡◌, ℕ, ◌<◌, ◌≤◌, Bool, true, false, ◌||◌, Option, Some, None, Result, Ok, Err, refl, sym, ap, ◌∙◌, arith}
-use Rattle.fq_text.specs.declared.fault.TextFault.{TextFault}
+use Rattle.std.proofs.Common.{◌≡◌, ◌<◌, ◌≤◌, Bool, false, ◌||◌, Option, Some, None, refl, sym, ap, ◌∙◌, arith}
 use Rattle.fq_text.specs.declared.fault.TextFault.TheVariants as text
 use Rattle.fq_pair.specs.declared.out.Out.{Out}
 use Rattle.fq_pair.specs.declared.side.Side.{Side}
 use Rattle.fq_pair.specs.declared.side.Side.TheVariants.{Forward, Reverse}
 use Rattle.fq_pair.specs.declared.fault.InputFault.{InputFault}
-use Rattle.fq_pair.specs.declared.fault.InputFault.TheVariants.{Text, MateMissing, NamesDiffer}
-use Rattle.fq_pair.specs.PairSources.{is_from_outside, is_cut_short, failed_on}
+use Rattle.fq_pair.specs.declared.fault.InputFault.TheVariants.{Text}
+use Rattle.fq_pair.specs.PairSources.{is_from_outside, failed_on}
 use Rattle.fq_run.specs.declared.outcome.Outcome.{Outcome}
-use Rattle.fq_run.specs.declared.outcome.Outcome.TheVariants.{Spawn, Lane, Gate, Memory, Write, Read, Endless, Input, Finished}
+use Rattle.fq_run.specs.declared.outcome.Outcome.TheVariants.{Spawn, Memory, Write, Read, Endless, Input, Finished}
 use Rattle.fq_run.specs.declared.reading.Stop.{Stop}
 use Rattle.fq_run.specs.declared.reading.Stop.TheVariants as stop
 use Rattle.fq_run.specs.Outcomes.{rank, end_of, is_memory, outcome_of}

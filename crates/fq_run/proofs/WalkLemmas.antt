@@ -1,15 +1,13 @@
 -- Reading pairs, one list of them behind another.
-use Rattle.std.proofs.Common.{◌≡◌, ℕ, suc, ◌+◌, ◌-◌, ◌<◌, ◌≤◌, ◌⊎◌, inl, inr, ⊎_elim, Bool, true, IsTrue, Option, Some, None, List, [], ◌∷◌, ◌++◌, length, take, refl, sym, ap, subst, ◌∙◌, arith, append_assoc, add-one}
-use Rattle.std.proofs.lemmas.List.{append-nil, length-append, take_at, length-take-le, nil_from_length}
+use Rattle.std.proofs.Common.{◌≡◌, ℕ, suc, ◌+◌, ◌-◌, ◌≤◌, inl, inr, ⊎_elim, Bool, true, IsTrue, Option, Some, None, List, [], ◌∷◌, ◌++◌, length, take, refl, sym, ap, subst, ◌∙◌, arith, append_assoc}
+use Rattle.std.proofs.lemmas.List.{length-append, take_at, length-take-le, nil_from_length}
 use Rattle.fq_text.specs.declared.encoding.Encoding.{Encoding}
 use Rattle.fq_text.specs.Lines.{lines, is_whole}
 use Rattle.fq_text.proofs.LineLemmas.{whole-append}
-use Rattle.fq_pair.specs.declared.fault.InputFault.{InputFault}
 use Rattle.fq_pair.specs.Mates.{Mates}
-use Rattle.fq_pair.specs.Pairing.{Met, pair_front}
 use Rattle.fq_run.specs.declared.reading.Stop.{Stop}
 use Rattle.fq_run.specs.declared.reading.Stop.TheVariants as stop
-use Rattle.fq_run.specs.Walks.{SideState, SourceState, rest, fed, Draws, Uses, KeepsSettings, Leads, Walks, MeetsEnd, MeetsFault, Reads}
+use Rattle.fq_run.specs.Walks.{SideState, SourceState, rest, fed, Draws, Uses, KeepsSettings, Leads, Walks, Reads}
 
 -- One side.
 

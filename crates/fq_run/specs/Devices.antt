@@ -1,5 +1,5 @@
 -- Devices as contracts see them, and what a run does with them.
-use Rattle.std.specs.Prelude.{◌≡◌, ℕ, ◌+◌, ◌-◌, ◌≤◌, nat_lt, ◌==◌, Bool, IsTrue, Option, Some, None, IfSome, List, [], ◌++◌, length, take, if◌then◌else◌}
+use Rattle.std.specs.Prelude.{◌≡◌, ℕ, ◌+◌, ◌-◌, nat_lt, ◌==◌, Bool, IsTrue, Option, Some, None, IfSome, List, [], ◌++◌, length, take, if◌then◌else◌}
 use Rattle.std.specs.Option.{option_map}
 use Rattle.fq_pair.specs.declared.out.Out.{Out}
 use Rattle.fq_pair.specs.declared.out.Out.TheVariants.{ForwardPaired, ForwardUnpaired, ReversePaired, ReverseUnpaired, Log}

@@ -1,5 +1,5 @@
 -- What a run promises, however it ends.
-use Rattle.std.specs.Prelude.{◌≡◌, ℕ, ◌+◌, ◌<◌, ◌≤◌, ◌⊎◌, Bool, true, false, IsTrue, Option, Some, None, List, [], ◌++◌, length}
+use Rattle.std.specs.Prelude.{◌≡◌, ℕ, ◌<◌, ◌≤◌, ◌⊎◌, Bool, true, false, IsTrue, Option, Some, None, List, [], ◌++◌, length}
 use Rattle.std.specs.Option.{option_map}
 use Rattle.fq_text.specs.Lines.{whole_part}
 use Rattle.fq_pair.specs.declared.out.Out.{Out}
@@ -16,7 +16,7 @@ use Rattle.fq_run.specs.declared.ending.Ending.{Ending}
 use Rattle.fq_run.specs.declared.outlets.Outlets.{Outlets}
 use Rattle.fq_run.specs.Choices.{Choices}
 use Rattle.fq_run.specs.Outcomes.{rank}
-use Rattle.fq_run.specs.Devices.{FeedState, feed_state, gave, Fed, OutletStates, outlet_states, OutletsTook}
+use Rattle.fq_run.specs.Devices.{FeedState, gave, Fed, OutletStates, OutletsTook}
 use Rattle.fq_run.specs.Fates.{Fate, FlushFailed, failed_outlet, block_begun, part_begun, IsCutShort}
 
 -- A run: its feeds and outlets before and after it, its outcome and its counts.

@@ -1,5 +1,5 @@
 -- The ranges of the numbers that a run is set to.
-use Rattle.std.specs.Prelude.{ℕ, ◌≤◌, ◌^◌, Bool, ◌&&◌, nat_le}
+use Rattle.std.specs.Prelude.{ℕ, Bool, ◌&&◌, nat_le}
 
 -- from 1 to the most
 abbrev pub within : ℕ → ℕ → Bool

@@ -1,5 +1,5 @@
 -- What calls on all outlets do.
-use Rattle.std.specs.Prelude.{◌≡◌, ℕ, ◌<◌, Option, Some, None, Result, List, [], length, take}
+use Rattle.std.specs.Prelude.{◌≡◌, ℕ, ◌<◌, Some, None, Result, List, [], length, take}
 use Rattle.std.specs.declared.result.Result.TheVariants as res
 use Rattle.fq_pair.specs.declared.out.Out.{Out}
 use Rattle.fq_pair.specs.Outputs.{Outputs, text_of}

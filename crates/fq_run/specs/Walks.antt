@@ -1,11 +1,9 @@
 -- Reading pairs, one after the other.
 use Rattle.std.specs.Prelude.{◌≡◌, ℕ, suc, ◌+◌, ◌-◌, ◌*◌, ◌≤◌, ◌⊎◌, Bool, true, false, IsTrue, Option, Some, None, Result, List, [], ◌∷◌, ◌++◌, length, take}
 use Rattle.std.specs.declared.result.Result.TheVariants as res
-use Rattle.std.specs.Option.{option_map}
 use Rattle.fq_text.specs.declared.encoding.Encoding.{Encoding}
 use Rattle.fq_text.specs.Lines.{lines, is_whole, whole_part}
 use Rattle.fq_text.specs.Sources.{Sourced}
-use Rattle.fq_pair.specs.declared.side.Side.{Side}
 use Rattle.fq_pair.specs.declared.side.Side.TheVariants.{Forward, Reverse}
 use Rattle.fq_pair.specs.declared.fault.InputFault.{InputFault}
 use Rattle.fq_pair.specs.Mates.{Mates}

@@ -16,3 +16,6 @@ pub use outcome::Outcome;
 pub use outlets::Outlets;
 pub use serial::run_serial;
 pub use settings::{BadSetting, Settings};
+
+#[cfg(test)]
+mod tests;

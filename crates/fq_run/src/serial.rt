@@ -18,7 +18,19 @@ use fq_pair::{Out, PairSource, Texts};
 use fq_text::{Feed, NoSource, Outlet, Source};
 use std::alloc::Global;
 
-/// Trims the pairs of two inputs on this thread, one after the other.
+/// Trims the pairs of two inputs on this thread, one after the other, and writes them.
+///
+/// Record k of the forward input and record k of the reverse input are a pair. Pairs are read, trimmed and written in blocks of
+/// `settings.block_pairs()`; a block that the end of the input leaves part-filled is written too. The texts of a block go to
+/// their outlets in the order of [`Out`]. The pairs before a fault of the inputs are written, and the fault is answered.
+///
+/// Reading stops where memory is refused to a pair, which is lost with all later ones; the pairs in hand are still written. It stops
+/// at a failed write, and then nothing more goes to any outlet. Where no write failed each outlet is flushed once at the end, in
+/// the order of [`Out`], up to the first flush that fails.
+///
+/// Where more than one of these occurred the first in the order of [`Outcome`](crate::Outcome) is answered; `Spawn`, `Lane` and
+/// `Gate` don't arise. The counts are those of the pairs whose block was written whole. Both feeds are handed back as they stand.
+/// The settings for threads aren't used. No device may have failed before the run.
 pub fn run_serial<F: Feed, G: Feed, O: Outlet>(
     alloc: Global,
     settings: &Settings,
@@ -32,8 +44,10 @@ pub fn run_serial<F: Feed, G: Feed, O: Outlet>(
     ensures forward { IsSome result.forward }
     ensures reverse { IsSome result.reverse }
     ensures serial { 4 ≤ rank result.outcome }
+    // Where the run ends whole, it has trimmed all pairs up to the end of the input or its fault.
     ensures whole { let run = run_of (feed_state F.tells F.to_come F.failure_count) (feed_state G.tells G.to_come G.failure_count) (outlet_states O.tells O.taken O.failure_count) forward reverse outlets.old outlets.new result in
         IsTrue (ends_whole run.outcome) → AreTold run → IsTrimmed settings.now run }
+    // At every ending the outlets have the texts of the first pairs, but for a part of the block in which a write failed.
     ensures every { EveryEnding settings.now
         (run_of (feed_state F.tells F.to_come F.failure_count) (feed_state G.tells G.to_come G.failure_count) (outlet_states O.tells O.taken O.failure_count) forward reverse outlets.old outlets.new result) }
 {

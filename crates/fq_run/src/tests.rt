@@ -1,0 +1,155 @@
+mod endings;
+mod rows;
+mod settings;
+
+ghost use Rattle.std.specs.Prelude.{◌≡◌, ◌<◌, [], IfOk};
+
+use crate::{Outcome, Outlets, Settings, run_serial};
+use fq_pair::{Counts, Out};
+use fq_text::{Encoding, ScriptFeed, ScriptOutlet};
+use fq_trim::Steps;
+use std::alloc::Global;
+use std::process::Abort;
+use std::test::Fail;
+
+const LONG: u64 = 1 << 40;
+
+/// The inputs of a run, its settings, and how its devices cut and fail.
+#[derive(Clone, Copy)]
+struct Given<'a> {
+    forward: &'a [u8],
+    reverse: &'a [u8],
+    encoding: Encoding,
+    steps: &'a [&'a str],
+    check_names: bool,
+    block_pairs: u64,
+    chunk: u64,
+    max_reads: u64,
+    /// The most bytes that a feed gives, or an outlet takes, in a call.
+    cut: usize,
+    /// The read of the forward feed that fails, or 0.
+    fails_at_read: u64,
+    /// An outlet, and the write of it that fails.
+    fails_at_write: Option<(Out, u64)>,
+    /// Another one that fails so.
+    fails_at_flush: Option<Out>,
+}
+
+/// What a run leaves.
+#[derive(Clone, Copy)]
+struct Wanted<'a> {
+    forward_paired: &'a [u8],
+    forward_unpaired: &'a [u8],
+    reverse_paired: &'a [u8],
+    reverse_unpaired: &'a [u8],
+    log: &'a [u8],
+    counts: Counts,
+    outcome: Outcome,
+}
+
+fn with_defaults<'a>(forward: &'a [u8], reverse: &'a [u8], steps: &'a [&'a str]) -> Given<'a> {
+    Given {
+        forward,
+        reverse,
+        encoding: Encoding::Sanger,
+        steps,
+        check_names: true,
+        block_pairs: 1024,
+        chunk: 65_536,
+        max_reads: LONG,
+        cut: 1000,
+        fails_at_read: 0,
+        fails_at_write: None,
+        fails_at_flush: None,
+    }
+}
+
+fn counts(pairs: u64, both: u64, forward_only: u64, reverse_only: u64, dropped: u64) -> Counts {
+    Counts {
+        pairs,
+        both,
+        forward_only,
+        reverse_only,
+        dropped,
+    }
+}
+
+/// Nothing written, with this outcome.
+fn nothing(outcome: Outcome) -> Wanted<'static> {
+    Wanted {
+        forward_paired: b"",
+        forward_unpaired: b"",
+        reverse_paired: b"",
+        reverse_unpaired: b"",
+        log: b"",
+        counts: counts(0, 0, 0, 0, 0),
+        outcome,
+    }
+}
+
+fn feed(
+    rt: &impl Abort,
+    alloc: Global,
+    bytes: &[u8],
+    cut: usize,
+    fail_at: u64,
+) -> Result<ScriptFeed, Fail>
+    ensures { IfOk result (λ feed. feed.failures ≡ 0) }
+{
+    assert!(rt; cut > 0);
+    Ok(ScriptFeed::new(alloc, bytes, cut, fail_at)?)
+}
+
+fn outlet(rt: &impl Abort, alloc: Global, given: &Given<'_>, out: Out) -> ScriptOutlet
+    ensures { result ≡ record { bytes = []; failures = 0 } }
+{
+    let cut = given.cut;
+    assert!(rt; cut > 0);
+    let fail_at = match given.fails_at_write {
+        Some((failing, fail_at)) if failing == out => fail_at,
+        _ => 0,
+    };
+    let flush_fails = given.fails_at_flush == Some(out);
+    ScriptOutlet::new(alloc, cut, fail_at, flush_fails)
+}
+
+/// Runs with a log, and compares what the run leaves.
+fn leaves(
+    rt: &impl Abort,
+    alloc: Global,
+    given: &Given<'_>,
+    wanted: &Wanted<'_>,
+) -> Result<(), Fail> {
+    let steps = Steps::parse(given.steps)?;
+    let settings = Settings::new(
+        given.encoding,
+        steps,
+        given.check_names,
+        4,
+        given.block_pairs,
+        4,
+        given.chunk,
+        given.max_reads,
+        LONG,
+    )?;
+    let forward = feed(rt, alloc, given.forward, given.cut, given.fails_at_read)?;
+    let reverse = feed(rt, alloc, given.reverse, given.cut, 0)?;
+    let mut outlets = Outlets {
+        forward_paired: outlet(rt, alloc, given, Out::ForwardPaired),
+        forward_unpaired: outlet(rt, alloc, given, Out::ForwardUnpaired),
+        reverse_paired: outlet(rt, alloc, given, Out::ReversePaired),
+        reverse_unpaired: outlet(rt, alloc, given, Out::ReverseUnpaired),
+        log: Some(outlet(rt, alloc, given, Out::Log)),
+    };
+    let ending = run_serial(alloc, &settings, forward, reverse, &mut outlets);
+    assert_eq!(rt; ending.outcome, wanted.outcome);
+    assert_eq!(rt; ending.counts, wanted.counts);
+    assert_eq!(rt; outlets.forward_paired.bytes(), wanted.forward_paired);
+    assert_eq!(rt; outlets.forward_unpaired.bytes(), wanted.forward_unpaired);
+    assert_eq!(rt; outlets.reverse_paired.bytes(), wanted.reverse_paired);
+    assert_eq!(rt; outlets.reverse_unpaired.bytes(), wanted.reverse_unpaired);
+    let log = outlets.log.ok_or("a log")?;
+    assert_eq!(rt; log.bytes(), wanted.log);
+    assert!(rt; ending.forward.is_some() && ending.reverse.is_some());
+    Ok(())
+}

@@ -1,0 +1,265 @@
+use super::{Given, Wanted, counts, leaves, nothing, with_defaults};
+use crate::Outcome;
+use fq_pair::{InputFault, Side};
+use fq_text::{Encoding, TextFault};
+use std::test::Fail;
+
+pub const TWO_FORWARD: &[u8] = b"@p1/1\nACGT\n+\n#!II\n@p2/1\nGGCC\n+\nIIII\n";
+
+pub const TWO_REVERSE: &[u8] = b"@p1/2\nTTTT\n+\nIIII\n@p2/2\nAAAA\n+\n!!!\"\n";
+
+pub const SEVEN_FORWARD: &[u8] =
+    b"@n1/1\nACGT\n+\nIIII\n@n2/1\nACGT\n+\n##II\n@n3/1\nACGT\n+\nIIII\n@n4/1\nACGT\n+\n##II\n@n5/1\nACGT\n+\nIIII\n@n6/1\nACGT\n+\n##II\n@n7/1\nACGT\n+\nIIII\n";
+
+pub const SEVEN_REVERSE: &[u8] =
+    b"@n1/2\nTTTT\n+\nII##\n@n2/2\nTTTT\n+\nII##\n@n3/2\nTTTT\n+\n!!!!\n@n4/2\nTTTT\n+\nII##\n@n5/2\nTTTT\n+\nII##\n@n6/2\nTTTT\n+\n!!!!\n@n7/2\nTTTT\n+\nII##\n";
+
+pub const SEVEN_STEPS: &[&str] = &["LEADING:3", "TRAILING:3", "MINLEN:2"];
+
+/// What the two pairs leave.
+pub fn two_pairs() -> Wanted<'static> {
+    Wanted {
+        forward_paired: b"@p1/1\nGT\n+\nII\n",
+        forward_unpaired: b"@p2/1\nGGCC\n+\nIIII\n",
+        reverse_paired: b"@p1/2\nTTTT\n+\nIIII\n",
+        reverse_unpaired: b"",
+        log: b"p1 2 2 4 0\np1 4 0 4 0\np2 4 0 4 0\np2 0 0 0 0\n",
+        counts: counts(2, 1, 1, 0, 0),
+        outcome: Outcome::Finished,
+    }
+}
+
+/// What the first of them leaves.
+pub fn first_pair(outcome: Outcome) -> Wanted<'static> {
+    Wanted {
+        forward_paired: b"@p1/1\nGT\n+\nII\n",
+        forward_unpaired: b"",
+        reverse_paired: b"@p1/2\nTTTT\n+\nIIII\n",
+        reverse_unpaired: b"",
+        log: b"p1 2 2 4 0\np1 4 0 4 0\n",
+        counts: counts(1, 1, 0, 0, 0),
+        outcome,
+    }
+}
+
+/// What the seven pairs leave.
+pub fn seven_pairs() -> Wanted<'static> {
+    Wanted {
+        forward_paired: b"@n1/1\nACGT\n+\nIIII\n@n2/1\nGT\n+\nII\n@n4/1\nGT\n+\nII\n@n5/1\nACGT\n+\nIIII\n@n7/1\nACGT\n+\nIIII\n",
+        forward_unpaired: b"@n3/1\nACGT\n+\nIIII\n@n6/1\nGT\n+\nII\n",
+        reverse_paired: b"@n1/2\nTT\n+\nII\n@n2/2\nTT\n+\nII\n@n4/2\nTT\n+\nII\n@n5/2\nTT\n+\nII\n@n7/2\nTT\n+\nII\n",
+        reverse_unpaired: b"",
+        log: b"n1 4 0 4 0\nn1 2 0 2 2\nn2 2 2 4 0\nn2 2 0 2 2\nn3 4 0 4 0\nn3 0 0 0 0\nn4 2 2 4 0\nn4 2 0 2 2\nn5 4 0 4 0\nn5 2 0 2 2\nn6 2 2 4 0\nn6 0 0 0 0\nn7 4 0 4 0\nn7 2 0 2 2\n",
+        counts: counts(7, 5, 2, 0, 0),
+        outcome: Outcome::Finished,
+    }
+}
+
+#[test]
+fn two_pairs_of_which_one_loses_a_mate(rt: HostRuntime) -> Result<(), Fail> {
+    let run = with_defaults(TWO_FORWARD, TWO_REVERSE, &["LEADING:3"]);
+    leaves(&rt, rt.alloc(), &run, &two_pairs())
+}
+
+#[test]
+fn empty_inputs(rt: HostRuntime) -> Result<(), Fail> {
+    let run = with_defaults(b"", b"", &["LEADING:3"]);
+    leaves(&rt, rt.alloc(), &run, &nothing(Outcome::Finished))
+}
+
+#[test]
+fn a_window_cuts_behind_the_last_good_base(rt: HostRuntime) -> Result<(), Fail> {
+    let read = b"@r1\nACGTACGT\n+\n????####\n";
+    let run = with_defaults(read, read, &["SLIDINGWINDOW:4:15"]);
+    let cut = b"@r1\nACGT\n+\n????\n";
+    let wanted = Wanted {
+        forward_paired: cut,
+        reverse_paired: cut,
+        log: b"r1 4 0 4 4\nr1 4 0 4 4\n",
+        counts: counts(1, 1, 0, 0, 0),
+        ..nothing(Outcome::Finished)
+    };
+    leaves(&rt, rt.alloc(), &run, &wanted)
+}
+
+#[test]
+fn a_window_drops_a_shorter_read(rt: HostRuntime) -> Result<(), Fail> {
+    let read = b"@r2\nACG\n+\nIII\n";
+    let run = with_defaults(read, read, &["SLIDINGWINDOW:4:15"]);
+    let wanted = Wanted {
+        log: b"r2 0 0 0 0\nr2 0 0 0 0\n",
+        counts: counts(1, 0, 0, 0, 1),
+        ..nothing(Outcome::Finished)
+    };
+    leaves(&rt, rt.alloc(), &run, &wanted)
+}
+
+#[test]
+fn illumina_qualities_are_recoded(rt: HostRuntime) -> Result<(), Fail> {
+    for (quality, written) in [(b'@', b'!'), (b'~', b'_')] {
+        let read = [b'@', b'q', b'\n', b'A', b'\n', b'+', b'\n', quality, b'\n'];
+        let recoded = [b'@', b'q', b'\n', b'A', b'\n', b'+', b'\n', written, b'\n'];
+        let run = Given {
+            encoding: Encoding::Illumina13,
+            ..with_defaults(&read, &read, &["TOPHRED33"])
+        };
+        let wanted = Wanted {
+            forward_paired: &recoded,
+            reverse_paired: &recoded,
+            log: b"q 1 0 1 0\nq 1 0 1 0\n",
+            counts: counts(1, 1, 0, 0, 0),
+            ..nothing(Outcome::Finished)
+        };
+        leaves(&rt, rt.alloc(), &run, &wanted)?;
+    }
+    Ok(())
+}
+
+#[test]
+fn an_illumina_quality_without_a_score(rt: HostRuntime) -> Result<(), Fail> {
+    let read = b"@q\nA\n+\n?\n";
+    let run = Given {
+        encoding: Encoding::Illumina13,
+        ..with_defaults(read, read, &["TOPHRED33"])
+    };
+    let fault = InputFault::Text(Side::Forward, TextFault::BadQuality(1));
+    leaves(&rt, rt.alloc(), &run, &nothing(Outcome::Input(fault)))
+}
+
+#[test]
+fn an_empty_read_is_dropped(rt: HostRuntime) -> Result<(), Fail> {
+    let reads = b"@e\n\n+\n\n@f\nA\n+\nI\n";
+    let run = with_defaults(reads, reads, &["MINLEN:0"]);
+    let kept = b"@f\nA\n+\nI\n";
+    let wanted = Wanted {
+        forward_paired: kept,
+        reverse_paired: kept,
+        log: b"e 0 0 0 0\ne 0 0 0 0\nf 1 0 1 0\nf 1 0 1 0\n",
+        counts: counts(2, 1, 0, 0, 1),
+        ..nothing(Outcome::Finished)
+    };
+    leaves(&rt, rt.alloc(), &run, &wanted)
+}
+
+#[test]
+fn a_plus_line_with_another_title(rt: HostRuntime) -> Result<(), Fail> {
+    let run = with_defaults(b"@r1\nA\n+other\nI\n", b"@r1\nA\n+\nI\n", &["LEADING:3"]);
+    let fault = InputFault::Text(Side::Forward, TextFault::PlusDiffers(1));
+    leaves(&rt, rt.alloc(), &run, &nothing(Outcome::Input(fault)))
+}
+
+#[test]
+fn a_missing_mate(rt: HostRuntime) -> Result<(), Fail> {
+    let forward = &SEVEN_FORWARD[..108];
+    let reverse = &SEVEN_REVERSE[..90];
+    let run = Given {
+        block_pairs: 2,
+        ..with_defaults(forward, reverse, SEVEN_STEPS)
+    };
+    let wanted = Wanted {
+        forward_paired: b"@n1/1\nACGT\n+\nIIII\n@n2/1\nGT\n+\nII\n@n4/1\nGT\n+\nII\n@n5/1\nACGT\n+\nIIII\n",
+        forward_unpaired: b"@n3/1\nACGT\n+\nIIII\n",
+        reverse_paired: b"@n1/2\nTT\n+\nII\n@n2/2\nTT\n+\nII\n@n4/2\nTT\n+\nII\n@n5/2\nTT\n+\nII\n",
+        reverse_unpaired: b"",
+        log: b"n1 4 0 4 0\nn1 2 0 2 2\nn2 2 2 4 0\nn2 2 0 2 2\nn3 4 0 4 0\nn3 0 0 0 0\nn4 2 2 4 0\nn4 2 0 2 2\nn5 4 0 4 0\nn5 2 0 2 2\n",
+        counts: counts(5, 4, 1, 0, 0),
+        outcome: Outcome::Input(InputFault::MateMissing(Side::Reverse, 6)),
+    };
+    leaves(&rt, rt.alloc(), &run, &wanted)
+}
+
+#[test]
+fn a_missing_mate_on_the_other_side(rt: HostRuntime) -> Result<(), Fail> {
+    let run = Given {
+        block_pairs: 2,
+        check_names: false,
+        ..with_defaults(&SEVEN_REVERSE[..90], &SEVEN_FORWARD[..108], SEVEN_STEPS)
+    };
+    let wanted = Wanted {
+        forward_paired: b"@n1/2\nTT\n+\nII\n@n2/2\nTT\n+\nII\n@n4/2\nTT\n+\nII\n@n5/2\nTT\n+\nII\n",
+        forward_unpaired: b"",
+        reverse_paired: b"@n1/1\nACGT\n+\nIIII\n@n2/1\nGT\n+\nII\n@n4/1\nGT\n+\nII\n@n5/1\nACGT\n+\nIIII\n",
+        reverse_unpaired: b"@n3/1\nACGT\n+\nIIII\n",
+        log: b"n1/2 2 0 2 2\nn1/1 4 0 4 0\nn2/2 2 0 2 2\nn2/1 2 2 4 0\nn3/2 0 0 0 0\nn3/1 4 0 4 0\nn4/2 2 0 2 2\nn4/1 2 2 4 0\nn5/2 2 0 2 2\nn5/1 4 0 4 0\n",
+        counts: counts(5, 4, 0, 1, 0),
+        outcome: Outcome::Input(InputFault::MateMissing(Side::Forward, 6)),
+    };
+    leaves(&rt, rt.alloc(), &run, &wanted)
+}
+
+#[test]
+fn seven_pairs_in_blocks_of_every_size_and_cutting(rt: HostRuntime) -> Result<(), Fail> {
+    for block_pairs in [1, 2, 7, 8] {
+        for cut in 1..8usize {
+            let run = Given {
+                block_pairs,
+                cut,
+                ..with_defaults(SEVEN_FORWARD, SEVEN_REVERSE, SEVEN_STEPS)
+            };
+            leaves(&rt, rt.alloc(), &run, &seven_pairs())?;
+        }
+    }
+    Ok(())
+}
+
+#[test]
+fn seven_pairs_by_small_reads(rt: HostRuntime) -> Result<(), Fail> {
+    for chunk in 1..8u64 {
+        let run = Given {
+            chunk,
+            ..with_defaults(SEVEN_FORWARD, SEVEN_REVERSE, SEVEN_STEPS)
+        };
+        leaves(&rt, rt.alloc(), &run, &seven_pairs())?;
+    }
+    Ok(())
+}
+
+const NAMED_FORWARD: &[u8] = b"@a/1\nACGT\n+\n#!II\n@b/1\nGGCC\n+\nIIII\n";
+
+const NAMED_REVERSE: &[u8] = b"@a/2 x\nTTTT\n+\nIIII\n@c/2\nAAAA\n+\n!!!\"\n";
+
+#[test]
+fn names_that_differ(rt: HostRuntime) -> Result<(), Fail> {
+    let run = with_defaults(NAMED_FORWARD, NAMED_REVERSE, &["LEADING:3"]);
+    let wanted = Wanted {
+        forward_paired: b"@a/1\nGT\n+\nII\n",
+        reverse_paired: b"@a/2 x\nTTTT\n+\nIIII\n",
+        log: b"a 2 2 4 0\na 4 0 4 0\n",
+        counts: counts(1, 1, 0, 0, 0),
+        ..nothing(Outcome::Input(InputFault::NamesDiffer(2)))
+    };
+    leaves(&rt, rt.alloc(), &run, &wanted)
+}
+
+#[test]
+fn names_that_are_not_compared(rt: HostRuntime) -> Result<(), Fail> {
+    let run = Given {
+        check_names: false,
+        ..with_defaults(NAMED_FORWARD, NAMED_REVERSE, &["LEADING:3"])
+    };
+    let wanted = Wanted {
+        forward_paired: b"@a/1\nGT\n+\nII\n",
+        forward_unpaired: b"@b/1\nGGCC\n+\nIIII\n",
+        reverse_paired: b"@a/2 x\nTTTT\n+\nIIII\n",
+        reverse_unpaired: b"",
+        log: b"a 2 2 4 0\na 4 0 4 0\nb 4 0 4 0\nc 0 0 0 0\n",
+        counts: counts(2, 1, 1, 0, 0),
+        outcome: Outcome::Finished,
+    };
+    leaves(&rt, rt.alloc(), &run, &wanted)
+}
+
+#[test]
+fn names_with_a_description(rt: HostRuntime) -> Result<(), Fail> {
+    let forward = b"@M1:7:FC 1:N:0:ACGT\nA\n+\nI\n";
+    let reverse = b"@M1:7:FC 2:N:0:ACGT\nC\n+\nI\n";
+    let run = with_defaults(forward, reverse, &["LEADING:3"]);
+    let wanted = Wanted {
+        forward_paired: forward,
+        reverse_paired: reverse,
+        log: b"M1:7:FC 1 0 1 0\nM1:7:FC 1 0 1 0\n",
+        counts: counts(1, 1, 0, 0, 0),
+        ..nothing(Outcome::Finished)
+    };
+    leaves(&rt, rt.alloc(), &run, &wanted)
+}
