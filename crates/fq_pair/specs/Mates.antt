@@ -1,4 +1,4 @@
--- Mates, and the names that tell which belong together.
+-- Mates, and the names that tell which belong together: titles up to a blank, with the marks /1 and /2 of paired reads.
 use Rattle.std.specs.Prelude.{ℕ, ◌-◌, Bool, ◌||◌, ◌==◌, nat_eq, List, ◌∷◌, [], length, take, if◌then◌else◌}
 use Rattle.std.specs.List.{before_first, ends_with}
 use Rattle.std.specs.Str.{bytes_eq}

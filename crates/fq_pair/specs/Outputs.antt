@@ -1,4 +1,5 @@
--- What is written of a list of pairs: four texts of records, a log, and counts.
+-- What is written of a list of pairs: four texts of records, a log, and counts, as paired-end mode of the Trimmomatic manual
+-- parts them.
 use Rattle.std.specs.Prelude.{◌≡◌, ℕ, ◌+◌, ◌-◌, ◌≤◌, Bool, true, false, not, ◌&&◌, Option, Some, None, List, [], ◌∷◌, ◌++◌, length, take, map, filter, flat_map, slice_index, decimal}
 use Rattle.std.specs.Bool.{then_some}
 use Rattle.fq_text.specs.Grammar.{Read}

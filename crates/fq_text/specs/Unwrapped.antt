@@ -1,4 +1,4 @@
--- A record of four unwrapped lines, as most files have them.
+-- A record of four unwrapped lines, as most FASTQ files have them.
 use Rattle.std.specs.Prelude.{◌≡◌, ℕ, ◌+◌, ◌<◌, ◌≤◌, List, length, take, drop, slice_index}
 use Rattle.fq_text.specs.declared.encoding.Encoding.{Encoding}
 use Rattle.fq_text.specs.Lines.{without_cr}

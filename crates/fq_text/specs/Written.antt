@@ -1,4 +1,5 @@
--- A record as it is written.
+-- A record as it is written: four unwrapped lines of the FASTQ format
+-- (Cock, Fields, Goto, Heuer and Rice, Nucleic Acids Research 38(6), 1767 to 1771, 2010).
 use Rattle.std.specs.Prelude.{◌≡◌, ℕ, ◌+◌, IsTrue, Option, Some, None, List, [], ◌∷◌, ◌++◌, length, map}
 use Rattle.std.specs.List.{list_all}
 use Rattle.fq_text.specs.declared.encoding.Encoding.{Encoding}

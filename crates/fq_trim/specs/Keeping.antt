@@ -1,4 +1,5 @@
--- Which bases of a read a step keeps, and which a list of steps.
+-- Which bases of a read a step keeps, and which a list of steps: the steps of the Trimmomatic manual, in their order.
+-- AVGQUAL, and the place at which SLIDINGWINDOW cuts, are this project's own.
 use Rattle.std.specs.Prelude.{◌≡◌, ℕ, zero, suc, ◌+◌, ◌-◌, ◌*◌, ◌<◌, ◌≤◌, Bool, true, false, ◌&&◌, nat_le, nat_lt, List, [], ◌∷◌, length, take, drop, map, sum, slice_index, if◌then◌else◌}
 use Rattle.std.specs.List.{list_any, list_all}
 use Rattle.fq_text.specs.declared.encoding.Encoding.{Encoding}

@@ -1,4 +1,4 @@
--- The words that name steps, and the steps or the fault that a list of words gives.
+-- The words that name steps, as the Trimmomatic manual spells them, and the steps or the fault that a list of words gives.
 use Rattle.std.specs.Prelude.{true, ◌≡◌, ◌==◌, ℕ, suc, ◌+◌, ◌-◌, ◌*◌, Bool, ◌&&◌, not, nat_le, nat_lt, Option, Some, None, Result, Ok, Err, List, [], ◌∷◌, length, map, fold, slice_index, slice_index_or, is_ok, if◌then◌else◌, codes, ◌<◌, ◌≤◌}
 use Rattle.std.specs.List.{list_all, slice_split}
 use Rattle.std.specs.Cmp.Lexicographic.{pointwise}
