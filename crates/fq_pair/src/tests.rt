@@ -96,6 +96,7 @@ fn trimmed(
     for _ in 0..100 {
         match pairs.next() {
             Ok(Some(pair)) => {
+                assert_eq!(rt; pair.encoding(), pair.view().reverse.encoding());
                 assert!(rt; texts.counts().pairs < u64::MAX);
                 texts.add(pair.view(), &steps)?;
             }
