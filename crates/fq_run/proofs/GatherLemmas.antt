@@ -13,7 +13,7 @@ use Rattle.fq_run.specs.declared.reading.Stop.TheVariants as stop
 use Rattle.fq_run.specs.Walks.{SourceState, Walks, MeetsEnd, MeetsFault, GoesOn}
 use Rattle.fq_run.specs.Gathering.{Gathers}
 use Rattle.fq_run.proofs.WalkLemmas.{walks_none, walks_then}
-use Rattle.fq_run.proofs.TextLemmas.{texts_then}
+use Rattle.fq_pair.proofs.OutputLaws.{texts_of-append}
 
 -- what a call says where it refused, and where it did not
 pub err_says : {T E : Type 0} (r : Result T E) (refused : Bool) (P : Type 0) → refused ≡ is_err r → refused ≡ true → OnErr r P → P
@@ -46,7 +46,7 @@ module _ (steps : List Step) where
       record {
         block = g.block ++ m ∷ [];
         len = omega (arith, length-append g.block (m ∷ []));
-        texts = is ∙ ap (λ (t : Outputs). joined t (texts_of steps (m ∷ []))) g.texts ∙ sym (texts_then steps g.block (m ∷ []));
+        texts = is ∙ ap (λ (t : Outputs). joined t (texts_of steps (m ∷ []))) g.texts ∙ sym (texts_of-append steps g.block (m ∷ []));
         walks = walks_then old now next g.block (m ∷ []) g.walks w;
         goes = record { last = w.last; within = within };
       }

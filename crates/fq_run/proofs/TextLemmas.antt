@@ -1,45 +1,26 @@
 -- The texts and counts of pairs, one list behind another.
-use Rattle.std.proofs.Common.{◌≡◌, ℕ, ◌+◌, ◌<◌, ◌≤◌, ◌^◌, Bool, List, [], ◌∷◌, ◌++◌, length, filter, flat_map, ⊎_elim, refl, sym, ap, ◌∙◌, arith}
+use Rattle.std.proofs.Common.{◌≡◌, ℕ, ◌+◌, ◌<◌, ◌≤◌, ◌^◌, Bool, List, [], ◌∷◌, ◌++◌, length, filter, ⊎_elim, refl, sym, ap, ◌∙◌, arith}
 use Rattle.std.proofs.Math.Nat.{min-eq_left}
 use Rattle.std.proofs.lemmas.Bool.{cond-true, cond-false, cases_Bool}
-use Rattle.std.proofs.lemmas.List.{length-append}
-use Rattle.std.proofs.lemmas.List.Elements.{filter-append}
-use Rattle.std.proofs.lemmas.Grind.{flat_map-append}
 use Rattle.fq_trim.specs.declared.step.Step.{Step}
 use Rattle.fq_pair.specs.declared.counts.Counts.{Counts}
 use Rattle.fq_pair.specs.declared.out.Out.{Out}
 use Rattle.fq_pair.specs.declared.out.Out.TheVariants.{ForwardPaired, ForwardUnpaired, ReversePaired, ReverseUnpaired, Log}
 use Rattle.fq_pair.specs.Mates.{Mates}
 use Rattle.fq_pair.specs.Summaries.{capped_sum, capped}
-use Rattle.fq_pair.specs.Outputs.{texts_of, text_of, counts_of, sum_of, joined, both_survive, forward_alone, reverse_alone, none_survive, record_text, log_lines}
-
-records_then : (record_of : Mates → List ℕ) (test : Mates → Bool) (ms ns : List Mates) →
-    flat_map record_of (filter test (ms ++ ns)) ≡ flat_map record_of (filter test ms) ++ flat_map record_of (filter test ns)
-records_then record_of test ms ns = ap (flat_map record_of) (filter-append test ms ns) ∙ flat_map-append record_of (filter test ms) (filter test ns)
-
-count_then : (test : Mates → Bool) (ms ns : List Mates) → length (filter test (ms ++ ns)) ≡ length (filter test ms) + length (filter test ns)
-count_then test ms ns = ap length (filter-append test ms ns) ∙ length-append (filter test ms) (filter test ns)
+use Rattle.fq_pair.specs.Outputs.{Outputs, texts_of, text_of, counts_of, sum_of, both_survive, forward_alone, reverse_alone, none_survive}
+use Rattle.fq_pair.proofs.OutputLaws.{texts_of-append}
 
 module _ (steps : List Step) (ms ns : List Mates) where
-  pub counts_then : counts_of steps (ms ++ ns) ≡ sum_of (counts_of steps ms) (counts_of steps ns)
-  counts_then =
-      let all = length-append ms ns in
-      let both = count_then (both_survive steps) ms ns in
-      let forward = count_then (forward_alone steps) ms ns in
-      let reverse = count_then (reverse_alone steps) ms ns in
-      let none = count_then (none_survive steps) ms ns in cc
+  counts_then : counts_of steps (ms ++ ns) ≡ sum_of (counts_of steps ms) (counts_of steps ns)
+  counts_then = ap (λ (t : Outputs). t.counts) (texts_of-append steps ms ns)
 
   pub text_then : (out : Out) → text_of out (texts_of steps (ms ++ ns)) ≡ text_of out (texts_of steps ms) ++ text_of out (texts_of steps ns)
-  text_then ForwardPaired = records_then (λ (m : Mates). record_text steps m.forward) (both_survive steps) ms ns
-  text_then ForwardUnpaired = records_then (λ (m : Mates). record_text steps m.forward) (forward_alone steps) ms ns
-  text_then ReversePaired = records_then (λ (m : Mates). record_text steps m.reverse) (both_survive steps) ms ns
-  text_then ReverseUnpaired = records_then (λ (m : Mates). record_text steps m.reverse) (reverse_alone steps) ms ns
-  text_then Log = flat_map-append (log_lines steps) ms ns
-
-  pub texts_then : texts_of steps (ms ++ ns) ≡ joined (texts_of steps ms) (texts_of steps ns)
-  texts_then =
-      let fp = text_then ForwardPaired in let fu = text_then ForwardUnpaired in let rp = text_then ReversePaired in
-      let ru = text_then ReverseUnpaired in let log = text_then Log in let counts = counts_then in cc
+  text_then ForwardPaired = ap (λ (t : Outputs). t.forward_paired) (texts_of-append steps ms ns)
+  text_then ForwardUnpaired = ap (λ (t : Outputs). t.forward_unpaired) (texts_of-append steps ms ns)
+  text_then ReversePaired = ap (λ (t : Outputs). t.reverse_paired) (texts_of-append steps ms ns)
+  text_then ReverseUnpaired = ap (λ (t : Outputs). t.reverse_unpaired) (texts_of-append steps ms ns)
+  text_then Log = ap (λ (t : Outputs). t.log) (texts_of-append steps ms ns)
 
 -- no pairs have no texts
 pub no_text : (steps : List Step) (out : Out) → text_of out (texts_of steps []) ≡ []
