@@ -2,7 +2,7 @@
 PREFIX ?= /usr/local
 PROGRAM = crates/fq_prog/out/fq_prog
 
-.PHONY: build example test install bench-reading bench-lane
+.PHONY: build example test install bench bench-reading bench-lane
 
 # Proves the program and all below it, and leaves it at $(PROGRAM).
 build:
@@ -19,7 +19,10 @@ test:
 install: build
 	install -D -m 755 $(PROGRAM) $(DESTDIR)$(PREFIX)/bin/fq_prog
 
-# Measurements; they give no verdict.
+# Measurements; they give no verdict. BENCH has words for the script, as BENCH='--pairs 50000'.
+bench: build
+	@bash bench/trimming/run.sh $(BENCH)
+
 bench-reading:
 	@bash bench/reading/run.sh
 

@@ -1,14 +1,21 @@
 //! The built-in example.
 
-ghost use Rattle.std.specs.Prelude.{◌≡◌, [], IfErr};
-ghost use Rattle.fq_prog.specs.declared.refusal.Refusal.TheVariants.{Memory};
+ghost use Rattle.std.specs.Prelude.{◌≡◌, ◌++◌, [], IfOk, IfErr, OnOk};
+ghost use Rattle.fq_prog.specs.Example.{example_choices, example_text, sections};
+ghost use Rattle.fq_prog.specs.Faults.{outcome_status};
+ghost use Rattle.fq_prog.specs.declared.trimming.Ended.{Ended};
+ghost use Rattle.fq_prog.specs.declared.unshown.Unshown.TheVariants.{Unrun};
 
-use crate::refusal::Refusal;
+use crate::trimming::Ended;
+use crate::unshown::Unshown;
 use fq_pair::summary;
-use fq_run::{Outcome, Outlets, Settings, run_serial};
+use fq_run::{Outcome, Outlets, Settings, run_threads};
 use fq_text::{Encoding, OutOfMemory, ScriptFeed, ScriptOutlet};
 use fq_trim::Steps;
+use fq_work::OpenGate;
 use std::alloc::Global;
+use std::sync::{Arc, Wait};
+use std::thread::Threads;
 
 const FORWARD: &[u8] = b"@p1/1\nACGT\n+\n#!II\n@p2/1\nGGCC\n+\nIIII\n";
 
@@ -21,7 +28,10 @@ const CHUNK: u64 = 65_536;
 
 const MOST: u64 = 1 << 40;
 
-fn settings() -> Settings {
+// The settings of the example.
+fn settings() -> Settings
+    ensures { result ≡ example_choices }
+{
     match Steps::parse(&["LEADING:3"]) {
         Ok(steps) => {
             match Settings::new(Encoding::Sanger, steps, true, 2, 1, 4, CHUNK, MOST, MOST) {
@@ -34,17 +44,22 @@ fn settings() -> Settings {
 }
 
 fn outlet(alloc: Global) -> ScriptOutlet
-    ensures { result ≡ record { bytes = []; failures = 0 } }
+    ensures { (result.bytes ≡ []) × (result.failures ≡ 0) }
 {
     ScriptOutlet::new(alloc, CUT, 0, false)
 }
 
-/// What the example prints: the texts of the two pairs, each below its label.
-///
-/// Only memory can be missing.
-pub(crate) fn example(alloc: Global) -> Result<Vec<u8>, Refusal>
-    ensures { IfErr result (λ why. why ≡ Memory) }
+/// What the example prints: the texts of the two pairs, each below its label. Its run has two workers and blocks of one pair.
+pub(crate) fn example<R: Threads + Wait + Copy + Send + 'static>(
+    alloc: Global,
+    rt: &R,
+) -> Result<Vec<u8>, Unshown>
+    ensures text { IfOk result (λ text. text.items ≡ example_text) }
+    ensures unrun { IfErr result (λ why. (ended : Ended) → why ≡ Unrun ended → outcome_status ended.outcome ≡ 6) }
 {
+    let Ok(gate) = Arc::new(alloc, OpenGate) else {
+        return Err(Unshown::Memory);
+    };
     let forward = ScriptFeed::new(alloc, FORWARD, CUT, 0)?;
     let reverse = ScriptFeed::new(alloc, REVERSE, CUT, 0)?;
     let mut outlets = Outlets {
@@ -54,12 +69,33 @@ pub(crate) fn example(alloc: Global) -> Result<Vec<u8>, Refusal>
         reverse_unpaired: outlet(alloc),
         log: Some(outlet(alloc)),
     };
-    let ending = run_serial(alloc, &settings(), forward, reverse, &mut outlets);
-    match ending.outcome {
-        Outcome::Finished => {}
+    let ending = run_threads(alloc, rt, &settings(), gate, forward, reverse, &mut outlets);
+    match (ending.outcome, &outlets.log) {
+        (Outcome::Finished, Some(log)) => Ok(labelled(
+            alloc,
+            &outlets,
+            log.bytes(),
+            summary(alloc, &ending.counts)?.as_bytes(),
+        )?),
+        (Outcome::Spawn | Outcome::Lane, _) => Err(Unshown::Unrun(Ended {
+            outcome: ending.outcome,
+            counts: ending.counts,
+        })),
         // Outlets in memory fail for want of memory alone.
-        _ => return Err(Refusal::Memory),
+        _ => Err(Unshown::Memory),
     }
+}
+
+// The texts of the outlets and the summary, each below its label.
+fn labelled(
+    alloc: Global,
+    outlets: &Outlets<ScriptOutlet>,
+    log: &[u8],
+    summary: &[u8],
+) -> Result<Vec<u8>, OutOfMemory>
+    ensures { IfOk result (λ text. text.items ≡ sections outlets.now.forward_paired.bytes outlets.now.forward_unpaired.bytes
+        outlets.now.reverse_paired.bytes outlets.now.reverse_unpaired.bytes log.now summary.now) }
+{
     let mut text = Vec::new(alloc);
     put_section(
         &mut text,
@@ -81,19 +117,15 @@ pub(crate) fn example(alloc: Global) -> Result<Vec<u8>, Refusal>
         b"[reverse unpaired]\n",
         outlets.reverse_unpaired.bytes(),
     )?;
-    if let Some(log) = &outlets.log {
-        put_section(&mut text, b"[trim log]\n", log.bytes())?;
-    }
-    put_section(
-        &mut text,
-        b"[summary]\n",
-        summary(alloc, &ending.counts)?.as_bytes(),
-    )?;
+    put_section(&mut text, b"[trim log]\n", log)?;
+    put_section(&mut text, b"[summary]\n", summary)?;
     Ok(text)
 }
 
-fn put_section(text: &mut Vec<u8>, label: &[u8], section: &[u8]) -> Result<(), OutOfMemory> {
+// Appends a text below its label.
+fn put_section(text: &mut Vec<u8>, label: &[u8], section: &[u8]) -> Result<(), OutOfMemory>
+    ensures { OnOk result (text.new.items ≡ text.old.items ++ (label.now ++ section.now)) }
+{
     text.extend_from_slice(label)?;
-    text.extend_from_slice(section)?;
-    Ok(())
+    text.extend_from_slice(section)
 }

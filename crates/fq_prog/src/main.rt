@@ -1,10 +1,19 @@
-//! Trims pairs of reads. Its one command so far is `EXAMPLE`, which shows what becomes of two built-in pairs.
+//! Trims pairs of reads: the command `PE` for files, and `EXAMPLE`, which shows what becomes of two built-in pairs.
 #![tactic(auto)]
 
 mod example;
+mod fault_line;
+mod help;
 mod program;
 mod refusal;
+mod refusal_line;
+mod report;
+mod request;
+mod trimming;
+mod unshown;
+mod words;
 
+use fq_files::SystemFiles;
 use fq_text::FromWrite;
 use program::program;
 use std::process::ExitCode;
@@ -20,8 +29,9 @@ fn main(rt: HostRuntime) -> io::Result<ExitCode> {
         words.push(arg.as_str())?;
     }
     let errors = rt.stderr();
+    let mut files = SystemFiles::new(rt.alloc(), &rt);
     let mut out = FromWrite::new(io::writer(&rt));
     let mut err = FromWrite::new(io::writer(&errors));
-    let status = program(rt.alloc(), &words, &mut out, &mut err);
+    let status = program(rt.alloc(), &rt, &words, &mut files, &mut out, &mut err);
     Ok(ExitCode::from(status))
 }

@@ -1,79 +1,168 @@
-//! The program, apart from where its words come from and its texts go to.
+//! The program, apart from where its words and files come from and its texts go to.
 
-ghost use Rattle.std.specs.Prelude.{◌≡◌, ◌++◌, false, IsTrue, map, OnOk, IfErr};
-ghost use Rattle.fq_prog.specs.Answers.{asks_example, PrintsNot};
-ghost use Rattle.fq_prog.specs.Refusals.{status_of, line_of};
-ghost use Rattle.fq_prog.specs.declared.refusal.Refusal.{Refusal as Refused};
+ghost use Rattle.std.specs.Prelude.{◌≡◌, ◌≢◌, ◌⊎◌, ◌++◌, Some, None, [], IsSome, IsTrue, map};
+ghost use Rattle.fq_prog.specs.Requests.{Asking, asking_of, wrong_with};
+ghost use Rattle.fq_prog.specs.Words.{AskedFor, words_fault};
+ghost use Rattle.fq_prog.specs.Answers.{device_of, TookText, LacksMemory, Refuses, PairsAnswered, AreRefused, print_line};
+ghost use Rattle.fq_prog.specs.Example.{example_text};
+ghost use Rattle.clap.specs.Words.{kind_of};
+ghost use Rattle.clap.specs.declared.error.kind.ErrorKind.TheVariants.{DisplayHelp, DisplayVersion, OutOfMemory};
 
 use crate::example::example;
 use crate::refusal::Refusal;
+use crate::refusal_line::{refusal_line, refusal_status};
+use crate::report::{cannot_print, out_of_memory, report};
+use crate::request::Request;
+use crate::trimming::trim_files;
+use crate::unshown::Unshown;
+use crate::words::{Asked, read_words};
+use clap::Error;
+use clap::error::ErrorKind;
+use fq_files::Files;
 use fq_text::{Outlet, send};
 use std::alloc::Global;
-
-// Whether the words ask for the example.
-fn asks_for_example(words: &[&str]) -> bool
-    ensures { result ≡ asks_example (map (λ word. word.now) words.now) }
-{
-    match words {
-        [_, word] => *word == "EXAMPLE",
-        _ => false,
-    }
-}
+use std::sync::Wait;
+use std::thread::Threads;
 
 /// Runs the program on its words, of which the first is its name, and answers the exit status.
 ///
+/// `PE [options] F R FP FU RP RU STEPS..` trims the pairs of the files F and R by these steps. The pairs of which both mates survive go
+/// to FP and RP, and a mate that survives alone goes to FU or RU. Where the run ends whole, at the end of the inputs or at a fault of theirs,
+/// the summary goes to `out`. Each refusal and each fault sends one line to `err`; whether that fails changes nothing.
+///
 /// `EXAMPLE` prints what becomes of two built-in pairs under the step `LEADING:3`: the four outputs, the trim log and the
-/// summary, each below a label. The status is then 0, or 4 where `out` failed, or 5 for want of memory. Any other words are
-/// refused with status 1. Each refusal sends one line to `err`; whether that fails changes nothing.
-pub(crate) fn program<O: Outlet, E: Outlet>(
+/// summary, each below a label.
+///
+/// The statuses are 0 for all that is done, help too, 1 for other words, 2 for an encoding, a step, a setting or a name that is bad, 3 at a fault
+/// of the input, 4 for a device, 5 for want of memory, and 6 for threads.
+pub fn program<'a, R: Threads + Wait + Copy + Send + 'static, T: Files, O: Outlet, E: Outlet>(
     alloc: Global,
-    words: &[&str],
+    rt: &R,
+    words: &'a [&'a str],
+    files: &mut T,
     out: &mut O,
     err: &mut E,
 ) -> u8
     requires out { O.failure_count out.old ≡ 0 }
     requires err { E.failure_count err.old ≡ 0 }
 
-    // Other words than those of the example are refused, and only they.
-    ensures usage { asks_example (map (λ word. word.now) words.now) ≡ false → result ≡ 1 }
-    ensures usage_only { result ≡ 1 → asks_example (map (λ word. word.now) words.now) ≡ false }
+    // Words that parse as `PE` are answered as they ask: the pairs are trimmed, or it is told why not. What is wrong with the words
+    // is found before a file is touched.
+    ensures pairs { (a : Asking) → AskedFor (map (λ word. word.now) words.entry.now) (Some a)
+        → PairsAnswered a (T.tells_bytes files.old) (T.bytes_of files.old) (T.bytes_of files.new) (device_of O.tells O.taken O.failure_count out.old out.new) (device_of E.tells E.taken E.failure_count err.old err.new) result }
+    ensures wrong { (a : Asking) → AskedFor (map (λ word. word.now) words.entry.now) (Some a) → IsSome (wrong_with a) → files.new ≡ files.old }
 
-    // `out` fails where the status says so, and is left alone where nothing is printed.
-    ensures printed { result ≡ 0 → O.failure_count out.new ≡ 0 }
-    ensures unprinted { result ≡ 4 → O.failure_count out.new ≡ 1 }
-    ensures unasked { result ≡ 1 → out.new ≡ out.old }
-    ensures no_memory { result ≡ 5 → out.new ≡ out.old }
+    // Other words touch no file. `EXAMPLE` is printed, but where `out`, memory or a thread fails; words that don't parse are refused, but calls for help.
+    ensures example { AskedFor (map (λ word. word.now) words.entry.now) None → (files.new ≡ files.old) × ((result ≡ 0) ⊎ ((result ≡ 4) ⊎ ((result ≡ 5) ⊎ (result ≡ 6)))) }
+    ensures shown { AskedFor (map (λ word. word.now) words.entry.now) None → result ≡ 0 → IsTrue (O.tells out.old) → O.taken out.new ≡ O.taken out.old ++ example_text }
+    ensures refused { words_fault (map (λ word. word.now) words.entry.now) ≢ [] → files.new ≡ files.old }
+    ensures usage { AreRefused (words_fault (map (λ word. word.now) words.entry.now)) → (result ≡ 1) ⊎ (result ≡ 5) }
+    ensures usage_only { result ≡ 1 → (words_fault (map (λ word. word.now) words.entry.now) ≢ []) × (out.new ≡ out.old) }
 
-    // One line for a refusal, if `err` takes it, and none without.
-    ensures silent { result ≡ 0 → err.new ≡ err.old }
-    ensures line { (why : Refused) → result ≡ status_of why → E.failure_count err.new ≡ 0 → IsTrue (E.tells err.old) → E.taken err.new ≡ E.taken err.old ++ line_of why }
+    // Where all is done nothing is told, and `out` has taken all. Where it fails the status says so, or tells of the input; nothing is
+    // printed at any other status, and want of memory is told as such.
+    ensures finished { result ≡ 0 → (O.failure_count out.new ≡ 0) × (err.new ≡ err.old) }
+    ensures quiet { result ≢ 0 → result ≢ 3 → O.failure_count out.new ≡ 0 → out.new ≡ out.old }
+    ensures failed { O.failure_count out.new ≢ 0 → (result ≡ 3) ⊎ ((result ≡ 4) × TookText (device_of E.tells E.taken E.failure_count err.old err.new) print_line) }
+    ensures memory { result ≡ 5 → (out.new ≡ out.old) × LacksMemory (device_of E.tells E.taken E.failure_count err.old err.new) result }
 {
-    let done = if asks_for_example(words) {
-        print_example(alloc, out)
-    } else {
-        Err(Refusal::Usage)
-    };
-    match done {
-        Ok(()) => 0,
-        Err(refusal) => {
+    match read_words(alloc, words) {
+        Ok(Asked::Example) => print_example(alloc, rt, out, err),
+        Ok(Asked::Pairs(request)) => trim_pairs(alloc, rt, &request, files, out, err),
+        Err(error) => refuse_words(alloc, &error, out, err),
+    }
+}
+
+// Trims files, and reports.
+fn trim_pairs<R: Threads + Wait + Copy + Send + 'static, T: Files, O: Outlet, E: Outlet>(
+    alloc: Global,
+    rt: &R,
+    request: &Request<'_>,
+    files: &mut T,
+    out: &mut O,
+    err: &mut E,
+) -> u8
+    requires out { O.failure_count out.old ≡ 0 }
+    requires err { E.failure_count err.old ≡ 0 }
+    ensures pairs { PairsAnswered (asking_of request.now) (T.tells_bytes files.old) (T.bytes_of files.old) (T.bytes_of files.new) (device_of O.tells O.taken O.failure_count out.old out.new) (device_of E.tells E.taken E.failure_count err.old err.new) result }
+    ensures wrong { IsSome (wrong_with (asking_of request.now)) → files.new ≡ files.old }
+    ensures finished { result ≡ 0 → (O.failure_count out.new ≡ 0) × (err.new ≡ err.old) }
+    ensures quiet { result ≢ 0 → result ≢ 3 → O.failure_count out.new ≡ 0 → out.new ≡ out.old }
+    ensures failed { O.failure_count out.new ≢ 0 → (result ≡ 3) ⊎ ((result ≡ 4) × TookText (device_of E.tells E.taken E.failure_count err.old err.new) print_line) }
+    ensures memory { result ≡ 5 → (out.new ≡ out.old) × LacksMemory (device_of E.tells E.taken E.failure_count err.old err.new) result }
+{
+    match trim_files(alloc, rt, request, files) {
+        Ok(ended) => report(alloc, &ended, out, err),
+        Err(refusal) => refuse(alloc, request, refusal, err),
+    }
+}
+
+// Says why nothing was trimmed, and answers the exit status.
+fn refuse<E: Outlet>(alloc: Global, request: &Request<'_>, refusal: Refusal, err: &mut E) -> u8
+    requires { E.failure_count err.old ≡ 0 }
+    ensures { Refuses (asking_of request.now) refusal (device_of E.tells E.taken E.failure_count err.old err.new) result }
+{
+    match refusal_line(alloc, request, refusal) {
+        Ok(line) => {
             // There is nowhere to say that this failed.
-            let _ = send(err, refusal.line().as_bytes());
-            refusal.status()
+            let _ = send(err, line.as_bytes());
+            refusal_status(refusal)
         }
+        Err(_) => out_of_memory(err),
     }
 }
 
 // Prints the example.
-fn print_example<O: Outlet>(alloc: Global, out: &mut O) -> Result<(), Refusal>
-    requires { O.failure_count out.old ≡ 0 }
-    ensures ok { OnOk result (O.failure_count out.new ≡ 0) }
-    ensures err { IfErr result (λ why. PrintsNot why (O.failure_count out.new) (out.new ≡ out.old)) }
+fn print_example<R: Threads + Wait + Copy + Send + 'static, O: Outlet, E: Outlet>(
+    alloc: Global,
+    rt: &R,
+    out: &mut O,
+    err: &mut E,
+) -> u8
+    requires out { O.failure_count out.old ≡ 0 }
+    requires err { E.failure_count err.old ≡ 0 }
+    ensures status { (result ≡ 0) ⊎ ((result ≡ 4) ⊎ ((result ≡ 5) ⊎ (result ≡ 6))) }
+    ensures shown { result ≡ 0 → IsTrue (O.tells out.old) → O.taken out.new ≡ O.taken out.old ++ example_text }
+    ensures finished { result ≡ 0 → (O.failure_count out.new ≡ 0) × (err.new ≡ err.old) }
+    ensures quiet { result ≢ 0 → O.failure_count out.new ≡ 0 → out.new ≡ out.old }
+    ensures failed { O.failure_count out.new ≢ 0 → (result ≡ 4) × TookText (device_of E.tells E.taken E.failure_count err.old err.new) print_line }
+    ensures memory { result ≡ 5 → (out.new ≡ out.old) × LacksMemory (device_of E.tells E.taken E.failure_count err.old err.new) result }
 {
-    match example(alloc) {
+    match example(alloc, rt) {
         Ok(text) => match send(out, &text) {
-            Ok(()) => Ok(()),
-            Err(_) => Err(Refusal::Print),
+            Ok(()) => 0,
+            Err(_) => cannot_print(err),
         },
-        Err(refusal) => Err(refusal),
+        Err(Unshown::Unrun(ended)) => report(alloc, &ended, out, err),
+        Err(Unshown::Memory) => out_of_memory(err),
+    }
+}
+
+// Prints help that was asked for, or what is wrong with the words.
+fn refuse_words<O: Outlet, E: Outlet>(alloc: Global, error: &Error, out: &mut O, err: &mut E) -> u8
+    requires out { O.failure_count out.old ≡ 0 }
+    requires err { E.failure_count err.old ≡ 0 }
+    ensures status { (result ≡ 0) ⊎ ((result ≡ 1) ⊎ ((result ≡ 4) ⊎ (result ≡ 5))) }
+    ensures no_memory { kind_of error.now ≡ OutOfMemory → result ≡ 5 }
+    ensures usage { kind_of error.now ≢ DisplayHelp → kind_of error.now ≢ DisplayVersion → (result ≡ 1) ⊎ (result ≡ 5) }
+    ensures usage_only { result ≡ 1 → (out.new ≡ out.old) × (kind_of error.now ≢ OutOfMemory) }
+    ensures finished { result ≡ 0 → (O.failure_count out.new ≡ 0) × (err.new ≡ err.old) }
+    ensures failed { result ≡ 4 → (O.failure_count out.new ≡ 1) × TookText (device_of E.tells E.taken E.failure_count err.old err.new) print_line }
+    ensures memory { result ≡ 5 → (out.new ≡ out.old) × LacksMemory (device_of E.tells E.taken E.failure_count err.old err.new) result }
+{
+    if error.kind() == ErrorKind::OutOfMemory {
+        return out_of_memory(err);
+    }
+    let Ok(text) = format!(in alloc; "{error}") else {
+        return out_of_memory(err);
+    };
+    if error.use_stderr() {
+        // There is nowhere to say that this failed.
+        let _ = send(err, text.as_bytes());
+        return 1;
+    }
+    match send(out, text.as_bytes()) {
+        Ok(()) => 0,
+        Err(_) => cannot_print(err),
     }
 }

@@ -1,43 +1,33 @@
 //! Why the program did not do what it was asked for.
 
-ghost use Rattle.std.specs.Prelude.{◌≡◌};
-ghost use Rattle.fq_prog.specs.Refusals.{status_of, line_of};
+ghost use Rattle.std.specs.Prelude.{◌≡◌, ◌≢◌};
+ghost use Rattle.fq_prog.specs.Refusals.{status_of};
 
+use fq_files::FileFault;
+use fq_pair::{Out, Side};
+use fq_run::BadSetting;
 use fq_text::OutOfMemory;
+use fq_trim::StepFault;
 
 /// Why the program did not do what it was asked for. Each has an exit status and a line on standard error.
 #[derive(Clone, Copy, Debug, PartialEq, Eq)]
 pub(crate) enum Refusal {
-    /// The words are no command.
-    Usage,
+    /// The encoding has no such name.
+    Encoding,
+    /// The words of the steps are no steps.
+    Step(StepFault),
+    /// A setting is out of its range.
+    Setting(BadSetting),
+    /// This output has the name of an input.
+    SameName(Out),
+    /// The input of this side can't be read.
+    Source(Side),
+    /// This output can't be written.
+    Target(Out),
     /// What was to be printed could not be.
     Print,
     /// Memory was refused.
     Memory,
-}
-
-impl Refusal {
-    /// The exit status.
-    pub(crate) fn status(self) -> u8
-        ensures { result ≡ status_of self }
-    {
-        match self {
-            Refusal::Usage => 1,
-            Refusal::Print => 4,
-            Refusal::Memory => 5,
-        }
-    }
-
-    /// The line on standard error.
-    pub(crate) fn line(self) -> &'static str
-        ensures { result.now ≡ line_of self }
-    {
-        match self {
-            Refusal::Usage => "usage: fq_prog EXAMPLE\n",
-            Refusal::Print => "cannot print\n",
-            Refusal::Memory => "out of memory\n",
-        }
-    }
 }
 
 impl From<OutOfMemory> for Refusal {
@@ -48,5 +38,17 @@ impl From<OutOfMemory> for Refusal {
 
     fn from(_e: OutOfMemory) -> Refusal {
         Refusal::Memory
+    }
+}
+
+/// An input that is not given, or an output that is not made: why, and otherwise want of memory.
+pub(crate) fn file_refused(fault: FileFault, refused: Refusal) -> Refusal
+    ensures refused { fault ≡ FileFault.Refused → result ≡ refused }
+    ensures memory { fault ≡ FileFault.OutOfMemory → result ≡ Refusal.Memory }
+    ensures late { status_of refused ≢ 2 → status_of result ≢ 2 }
+{
+    match fault {
+        FileFault::Refused => refused,
+        FileFault::OutOfMemory => Refusal::Memory,
     }
 }

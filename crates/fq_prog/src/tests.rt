@@ -1,45 +1,97 @@
+mod devices;
+mod lines;
+mod rows;
+mod words;
+
+ghost use Rattle.std.specs.Prelude.{◌≡◌};
+
 use crate::program::program;
-use fq_text::{Outlet, ScriptOutlet};
+use fq_files::{Files, MemoryFiles};
+use fq_text::{OutOfMemory, ScriptOutlet};
+use std::alloc::Global;
+use std::sync::Wait;
 use std::test::Fail;
+use std::thread::Threads;
 
-#[test]
-fn other_words_are_refused(rt: HostRuntime) -> Result<(), Fail> {
-    let rows: [&[&str]; 4] = [
-        &["fq_prog"],
-        &["fq_prog", "example"],
-        &["fq_prog", "EXAMPLE", "f"],
-        &[],
-    ];
-    for words in rows {
-        let mut out = ScriptOutlet::new(rt.alloc(), 1000, 0, false);
-        let mut err = ScriptOutlet::new(rt.alloc(), 1000, 0, false);
-        assert_eq!(rt; program(rt.alloc(), words, &mut out, &mut err), 1);
-        assert_eq!(rt; out.bytes(), b"".as_slice());
-        assert_eq!(rt; err.bytes(), b"usage: fq_prog EXAMPLE\n".as_slice());
+const FORWARD: &[u8] = b"@p1/1\nACGT\n+\n#!II\n@p2/1\nGGCC\n+\nIIII\n";
+
+const REVERSE: &[u8] = b"@p1/2\nTTTT\n+\nIIII\n@p2/2\nAAAA\n+\n!!!\"\n";
+
+// Seven pairs: each record has 18 bytes.
+const SEVEN_FORWARD: &[u8] =
+    b"@n1/1\nACGT\n+\nIIII\n@n2/1\nACGT\n+\n##II\n@n3/1\nACGT\n+\nIIII\n@n4/1\nACGT\n+\n##II\n@n5/1\nACGT\n+\nIIII\n@n6/1\nACGT\n+\n##II\n@n7/1\nACGT\n+\nIIII\n";
+
+const SEVEN_REVERSE: &[u8] =
+    b"@n1/2\nTTTT\n+\nII##\n@n2/2\nTTTT\n+\nII##\n@n3/2\nTTTT\n+\n!!!!\n@n4/2\nTTTT\n+\nII##\n@n5/2\nTTTT\n+\nII##\n@n6/2\nTTTT\n+\n!!!!\n@n7/2\nTTTT\n+\nII##\n";
+
+const RECORD: usize = 18;
+
+const SEVEN_STEPS: &[&'static str] = &["LEADING:3", "TRAILING:3", "MINLEN:2"];
+
+const OUTPUTS: [&str; 5] = ["fp", "fu", "rp", "ru", "log"];
+
+// What a call of the program left.
+#[derive(Drop)]
+struct Called {
+    status: u8,
+    out: ScriptOutlet,
+    err: ScriptOutlet,
+}
+
+fn call<R: Threads + Wait + Copy + Send + 'static, T: Files>(
+    rt: &R,
+    alloc: Global,
+    words: &[&str],
+    files: &mut T,
+) -> Called {
+    call_onto(
+        rt,
+        alloc,
+        words,
+        files,
+        ScriptOutlet::new(alloc, 1000, 0, false),
+    )
+}
+
+// The same, with a standard output of the test's.
+fn call_onto<R: Threads + Wait + Copy + Send + 'static, T: Files>(
+    rt: &R,
+    alloc: Global,
+    words: &[&str],
+    files: &mut T,
+    mut out: ScriptOutlet,
+) -> Called
+    requires { out.failures ≡ 0 }
+{
+    let mut err = ScriptOutlet::new(alloc, 1000, 0, false);
+    let status = program(alloc, rt, words, files, &mut out, &mut err);
+    Called { status, out, err }
+}
+
+// The words that trim `f` and `r`, with these options and steps.
+fn pairs_words(
+    alloc: Global,
+    options: &[&'static str],
+    steps: &[&'static str],
+) -> Result<Vec<&'static str>, OutOfMemory> {
+    let mut words = Vec::from_slice(alloc, &["fq", "PE"])?;
+    words.extend_from_slice(options)?;
+    words.extend_from_slice(&["f", "r", "fp", "fu", "rp", "ru"])?;
+    words.extend_from_slice(steps)?;
+    Ok(words)
+}
+
+fn files_of(alloc: Global, forward: &[u8], reverse: &[u8]) -> Result<MemoryFiles, Fail> {
+    let mut files = MemoryFiles::new(alloc);
+    files.put("f", forward)?;
+    files.put("r", reverse)?;
+    Ok(files)
+}
+
+// Whether the file of this name holds this text.
+fn holds(files: &MemoryFiles, name: &str, text: &[u8]) -> bool {
+    match files.get(name) {
+        Some(bytes) => bytes == text,
+        None => false,
     }
-    Ok(())
-}
-
-#[test]
-fn an_output_that_fails(rt: HostRuntime) -> Result<(), Fail> {
-    let mut out = ScriptOutlet::new(rt.alloc(), 1000, 1, false);
-    let mut err = ScriptOutlet::new(rt.alloc(), 1000, 0, false);
-    let words = ["fq_prog", "EXAMPLE"];
-    assert_eq!(rt; program(rt.alloc(), &words, &mut out, &mut err), 4);
-    assert_eq!(rt; out.failures(), 1);
-    assert_eq!(rt; err.bytes(), b"cannot print\n".as_slice());
-    Ok(())
-}
-
-#[test]
-fn the_example_is_printed(rt: HostRuntime) -> Result<(), Fail> {
-    let mut out = ScriptOutlet::new(rt.alloc(), 7, 0, false);
-    let mut err = ScriptOutlet::new(rt.alloc(), 1000, 0, false);
-    let words = ["fq_prog", "EXAMPLE"];
-    assert_eq!(rt; program(rt.alloc(), &words, &mut out, &mut err), 0);
-    assert!(rt;
-        out.bytes().starts_with(b"[forward paired]\n@p1/1\nGT\n+\nII\n[forward unpaired]\n")
-    );
-    assert_eq!(rt; err.bytes(), b"".as_slice());
-    Ok(())
 }

@@ -13,7 +13,7 @@ use Rattle.fq_run.specs.Sending.{BreaksAt}
 use Rattle.fq_run.specs.Fates.{Unbroken, WriteFailed}
 use Rattle.fq_run.specs.Walks.{SourceState, Walks, Reads, GoesOn}
 use Rattle.fq_run.specs.Gathering.{Gathers}
-use Rattle.fq_run.specs.Writing.{Passes}
+use Rattle.fq_run.specs.Writing.{no_halt, Passes}
 use Rattle.fq_run.proofs.OutletLemmas.{all_took_none, all_took_then, all_took_same}
 use Rattle.fq_run.proofs.TextLemmas.{no_text, text_then, some_pair, counts_added}
 use Rattle.fq_run.proofs.WalkLemmas.{walks_none, walks_then, reads_then}
@@ -39,21 +39,24 @@ module _ (c : Choices) (old : SourceState) (before : OutletStates) where
   module _ (now next : SourceState) (after then : OutletStates) (counted : Counts) (texts : Outputs) (why : Option Stop) where
     -- a write failed in a block
     pub passes_broken : (failed : Out) → Wrote now after counted → Gathers now next c.steps c.block_pairs texts why → BreaksAt after then texts failed →
-        Passes c old next before then counted why (Some failed)
+        Passes c old next before then counted no_halt why (Some failed)
     passes_broken failed w g p =
+        let P : List Mates → Type 0 = λ ms. Reads old next ms why in
         let same = λ (out : Out). ap (λ (t : Outputs). text_of out (texts_of c.steps w.whole) ++ part_at failed p.sent out (text_of out t)) g.texts in
-        let short : p.sent < length (text_of failed (texts_of c.steps g.block)) = let P : Outputs → Type 0 = λ t. p.sent < length (text_of failed t) in subst P g.texts p.short in
+        let short : p.sent < length (text_of failed (texts_of c.steps g.block)) = let Q : Outputs → Type 0 = λ t. p.sent < length (text_of failed t) in subst Q g.texts p.short in
         record {
           whole = w.whole;
           fate = WriteFailed failed p.sent g.block;
+          missed = [];
           counts = w.counts;
-          reads = reads_then old now next w.whole g.block why w.walks g.reads;
+          reads = subst P (sym (append-nil (w.whole ++ g.block))) (reads_then old now next w.whole g.block why w.walks g.reads);
           took = all_took_same before then _ _ (Some failed) same
               (all_took_then before after then (λ out. text_of out (texts_of c.steps w.whole)) (λ out. part_at failed p.sent out (text_of out texts)) (Some failed) w.took p.took);
           failed = refl;
           cut_short = (some_pair c.steps failed g.block p.sent short, g.few, short);
           over = λ going sound. absurd cc;
           unflushed = refl;
+          missed_none = λ sound none. refl;
         }
 
     -- both together
@@ -72,19 +75,21 @@ module _ (c : Choices) (old : SourceState) (before : OutletStates) where
     -- the last block is written
     pub passes_whole : Wrote now after counted → Gathers now next c.steps c.block_pairs texts why → OutletsTook after then (λ out. text_of out texts) None →
         old.forward.given ≡ 0 → old.most_bytes ≤ 2 ^ 60 → c.block_pairs ≤ 65536 → (why ≡ None → ⊥) → (total : Counts) → total ≡ capped counted texts.counts →
-        Passes c old next before then total why None
+        Passes c old next before then total no_halt why None
     passes_whole w g p none few most stopped total is =
         let P : List Mates → Type 0 = λ ms. Reads old next ms why in
         record {
           whole = w.whole ++ g.block;
           fate = Unbroken;
+          missed = [];
           counts = is ∙ counts_block w g none few most;
-          reads = subst P (sym (append-nil (w.whole ++ g.block))) (reads_then old now next w.whole g.block why w.walks g.reads);
+          reads = subst P (sym (append-nil ((w.whole ++ g.block) ++ []) ∙ append-nil (w.whole ++ g.block))) (reads_then old now next w.whole g.block why w.walks g.reads);
           took = all_took_same before then _ _ None (λ out. sym (append-nil (text_of out (texts_of c.steps (w.whole ++ g.block))))) (took_block w g p);
           failed = refl;
           cut_short = tt;
           over = λ going sound. stopped going;
           unflushed = refl;
+          missed_none = λ sound none. refl;
         }
 
     -- another block is written, and more may come

@@ -11,3 +11,16 @@ pub mod ReadingLemmas
 pub mod VerdictLemmas
 pub mod EndLemmas
 pub mod RunLemmas
+pub mod DealLemmas
+pub mod TurnLemmas
+pub mod LaneLemmas
+pub mod CrewLemmas
+pub mod StaffLemmas
+pub mod StartLemmas
+pub mod AttendLemmas
+pub mod MatchLemmas
+pub mod ThreadLemmas
+pub mod FillLemmas
+pub mod DealerLemmas
+pub mod StopLemmas
+pub mod CollectLemmas

@@ -3,13 +3,14 @@ use Rattle.std.proofs.Common.{◌≡◌, Option, Some, None, [], ◌++◌, refl,
 use Rattle.fq_pair.specs.declared.out.Out.{Out}
 use Rattle.fq_pair.specs.declared.counts.Counts.{Counts}
 use Rattle.fq_pair.specs.Outputs.{text_of, texts_of, no_counts}
+use Rattle.fq_run.specs.declared.halt.Halt.{Halt}
 use Rattle.fq_run.specs.declared.reading.Stop.{Stop}
 use Rattle.fq_run.specs.declared.reading.Stop.TheVariants as stop
 use Rattle.fq_run.specs.Choices.{Choices}
 use Rattle.fq_run.specs.Devices.{FeedState, OutletStates}
 use Rattle.fq_run.specs.Fates.{Unbroken}
 use Rattle.fq_run.specs.Walks.{SourceState, GoesOn, fresh_source, feed_in}
-use Rattle.fq_run.specs.Writing.{Passes, Runs}
+use Rattle.fq_run.specs.Writing.{no_halt, Passes, Runs}
 use Rattle.fq_run.proofs.OutletLemmas.{all_took_none, all_took_same}
 use Rattle.fq_run.proofs.TextLemmas.{no_text}
 use Rattle.fq_run.proofs.WalkLemmas.{walks_none}
@@ -19,12 +20,13 @@ pub goes_fresh : (c : Choices) (f r : FeedState) (s : SourceState) → s ≡ fre
 goes_fresh c f r s is = let P : SourceState → Type 0 = λ t. GoesOn t in subst P (sym is) (record { last = refl; within = omega arith })
 
 -- memory was refused before anything was read
-pub runs_refused : (c : Choices) (f r f' r' : FeedState) (o : OutletStates) (counted : Counts) → f' ≡ f → r' ≡ r → counted ≡ no_counts → Runs c f r f' r' o o counted (Some stop.Memory) None
+pub runs_refused : (c : Choices) (f r f' r' : FeedState) (o : OutletStates) (counted : Counts) → f' ≡ f → r' ≡ r → counted ≡ no_counts → Runs c f r f' r' o o counted no_halt (Some stop.Memory) None
 runs_refused c f r f' r' o counted same also none = record {
   new = fresh_source c f r;
   passes = record {
     whole = [];
     fate = Unbroken;
+    missed = [];
     counts = none;
     reads = ([], walks_none (fresh_source c f r) refl);
     took = all_took_same o o (λ out. []) _ None (λ out. sym (nothing out)) (all_took_none o);
@@ -32,6 +34,7 @@ runs_refused c f r f' r' o counted same also none = record {
     cut_short = tt;
     over = λ going sound. absurd cc;
     unflushed = refl;
+    missed_none = λ sound none. refl;
   };
   forward = same;
   reverse = also;
@@ -41,8 +44,8 @@ runs_refused c f r f' r' o counted same also none = record {
     nothing out = let e = no_text c.steps out in rw e refl
 
 -- what was passed from a fresh source on
-pub runs_passed : (c : Choices) (f r f' r' : FeedState) (old new : SourceState) (before after : OutletStates) (counted : Counts) (why : Option Stop) (failed : Option Out) →
-    old ≡ fresh_source c f r → f' ≡ feed_in new.forward → r' ≡ feed_in new.reverse → Passes c old new before after counted why failed → Runs c f r f' r' before after counted why failed
-runs_passed c f r f' r' old new before after counted why failed is first second p =
-    let P : SourceState → Type 0 = λ s. Passes c s new before after counted why failed in
+pub runs_passed : (c : Choices) (f r f' r' : FeedState) (old new : SourceState) (before after : OutletStates) (counted : Counts) (halt : Halt) (why : Option Stop) (failed : Option Out) →
+    old ≡ fresh_source c f r → f' ≡ feed_in new.forward → r' ≡ feed_in new.reverse → Passes c old new before after counted halt why failed → Runs c f r f' r' before after counted halt why failed
+runs_passed c f r f' r' old new before after counted halt why failed is first second p =
+    let P : SourceState → Type 0 = λ s. Passes c s new before after counted halt why failed in
     record { new = new; passes = subst P is p; forward = first; reverse = second }

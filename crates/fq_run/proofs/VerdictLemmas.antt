@@ -1,5 +1,5 @@
 -- Which outcome a run has, and what it tells.
-use Rattle.std.proofs.Common.{◌≡◌, ◌<◌, ◌≤◌, Bool, false, ◌||◌, Option, Some, None, refl, sym, ap, ◌∙◌, arith}
+use Rattle.std.proofs.Common.{◌≡◌, ◌<◌, ◌≤◌, Bool, true, false, ◌||◌, Option, Some, None, refl, sym, ap, ◌∙◌, arith}
 use Rattle.fq_text.specs.declared.fault.TextFault.TheVariants as text
 use Rattle.fq_pair.specs.declared.out.Out.{Out}
 use Rattle.fq_pair.specs.declared.side.Side.{Side}
@@ -8,12 +8,13 @@ use Rattle.fq_pair.specs.declared.fault.InputFault.{InputFault}
 use Rattle.fq_pair.specs.declared.fault.InputFault.TheVariants.{Text}
 use Rattle.fq_pair.specs.PairSources.{is_from_outside, failed_on}
 use Rattle.fq_run.specs.declared.outcome.Outcome.{Outcome}
-use Rattle.fq_run.specs.declared.outcome.Outcome.TheVariants.{Spawn, Memory, Write, Read, Endless, Input, Finished}
+use Rattle.fq_run.specs.declared.outcome.Outcome.TheVariants.{Spawn, Gate, Memory, Write, Read, Endless, Input, Finished}
+use Rattle.fq_run.specs.declared.halt.Halt.{Halt}
 use Rattle.fq_run.specs.declared.reading.Stop.{Stop}
 use Rattle.fq_run.specs.declared.reading.Stop.TheVariants as stop
 use Rattle.fq_run.specs.Outcomes.{rank, end_of, is_memory, outcome_of}
 use Rattle.fq_run.specs.Walks.{faulty}
-use Rattle.fq_run.specs.Writing.{wants_memory, fault_in, occurred}
+use Rattle.fq_run.specs.Writing.{no_halt, wants_memory, fault_in, occurred}
 use Rattle.fq_run.proofs.ReadingLemmas.{failed_by}
 
 -- what a fault is
@@ -33,31 +34,48 @@ kind _ = OfText refl
 abbrev pub lacks_memory : Option Stop → Bool
 lacks_memory why = wants_memory why || is_memory (end_of (fault_in why))
 
--- why a serial run has its outcome
-pub data Verdict (why : Option Stop) (failed : Option Out) (o : Outcome) : Type 0 where
-  WantsMemory : o ≡ Memory → Verdict why failed o
-  FailedAt : (out : Out) → failed ≡ Some out → lacks_memory why ≡ false → o ≡ Write out → Verdict why failed o
-  CannotRead : (side : Side) → failed ≡ None → why ≡ Some (stop.Fault (Text side text.Read)) → o ≡ Read side → Verdict why failed o
-  HasNoEnd : (side : Side) → failed ≡ None → why ≡ Some (stop.Fault (Text side text.Endless)) → o ≡ Endless side → Verdict why failed o
-  HasFault : (fault : InputFault) → failed ≡ None → why ≡ Some (stop.Fault fault) → is_from_outside fault ≡ false → o ≡ Input fault → Verdict why failed o
-  IsOver : failed ≡ None → why ≡ Some stop.End → o ≡ Finished → Verdict why failed o
+-- why a run whose lanes are all confirmed has its outcome
+pub data Verdict (halt : Halt) (why : Option Stop) (failed : Option Out) (o : Outcome) : Type 0 where
+  IsRefused : halt.gate ≡ true → o ≡ Gate → Verdict halt why failed o
+  WantsMemory : o ≡ Memory → Verdict halt why failed o
+  FailedAt : (out : Out) → failed ≡ Some out → halt ≡ no_halt → lacks_memory why ≡ false → o ≡ Write out → Verdict halt why failed o
+  CannotRead : (side : Side) → failed ≡ None → halt ≡ no_halt → why ≡ Some (stop.Fault (Text side text.Read)) → o ≡ Read side → Verdict halt why failed o
+  HasNoEnd : (side : Side) → failed ≡ None → halt ≡ no_halt → why ≡ Some (stop.Fault (Text side text.Endless)) → o ≡ Endless side → Verdict halt why failed o
+  HasFault : (fault : InputFault) → failed ≡ None → halt ≡ no_halt → why ≡ Some (stop.Fault fault) → is_from_outside fault ≡ false → o ≡ Input fault → Verdict halt why failed o
+  IsOver : failed ≡ None → halt ≡ no_halt → why ≡ Some stop.End → o ≡ Finished → Verdict halt why failed o
 
-fault_verdict : (fault : InputFault) (failed : Option Out) → Verdict (Some (stop.Fault fault)) failed (outcome_of (occurred (Some (stop.Fault fault)) failed))
-fault_verdict (Text side text.Read) None = CannotRead side refl refl refl
-fault_verdict (Text side text.Read) (Some out) = FailedAt out refl refl refl
-fault_verdict (Text side text.Endless) None = HasNoEnd side refl refl refl
-fault_verdict (Text side text.Endless) (Some out) = FailedAt out refl refl refl
+-- the outcome of what occurred
+abbrev outcome_at : Halt → Option Stop → Option Out → Outcome
+outcome_at halt why failed = outcome_of (occurred halt why failed)
+
+fault_verdict : (fault : InputFault) (failed : Option Out) → Verdict no_halt (Some (stop.Fault fault)) failed (outcome_at no_halt (Some (stop.Fault fault)) failed)
+fault_verdict (Text side text.Read) None = CannotRead side refl refl refl refl
+fault_verdict (Text side text.Read) (Some out) = FailedAt out refl refl refl refl
+fault_verdict (Text side text.Endless) None = HasNoEnd side refl refl refl refl
+fault_verdict (Text side text.Endless) (Some out) = FailedAt out refl refl refl refl
 fault_verdict (Text side text.OutOfMemory) failed = WantsMemory refl
-fault_verdict _ None = HasFault _ refl refl refl refl
-fault_verdict _ (Some out) = FailedAt out refl refl refl
+fault_verdict _ None = HasFault _ refl refl refl refl refl
+fault_verdict _ (Some out) = FailedAt out refl refl refl refl
 
-pub verdict : (why : Option Stop) (failed : Option Out) → (why ≡ None → failed ≡ None → ⊥) → Verdict why failed (outcome_of (occurred why failed))
-verdict None None over = absurd (over refl refl)
-verdict None (Some out) over = FailedAt out refl refl refl
-verdict (Some stop.End) None over = IsOver refl refl refl
-verdict (Some stop.End) (Some out) over = FailedAt out refl refl refl
-verdict (Some stop.Memory) failed over = WantsMemory refl
-verdict (Some (stop.Fault fault)) failed over = fault_verdict fault failed
+-- where no worker stopped
+sound_verdict : (why : Option Stop) (failed : Option Out) → (why ≡ None → failed ≡ None → ⊥) → Verdict no_halt why failed (outcome_at no_halt why failed)
+sound_verdict None None over = absurd (over refl refl)
+sound_verdict None (Some out) over = FailedAt out refl refl refl refl
+sound_verdict (Some stop.End) None over = IsOver refl refl refl refl
+sound_verdict (Some stop.End) (Some out) over = FailedAt out refl refl refl refl
+sound_verdict (Some stop.Memory) failed over = WantsMemory refl
+sound_verdict (Some (stop.Fault fault)) failed over = fault_verdict fault failed
+
+abbrev halt_of : Bool → Bool → Halt
+halt_of gate memory = record { gate = gate; memory = memory }
+
+halt_verdict : (gate memory : Bool) (why : Option Stop) (failed : Option Out) → (why ≡ None → failed ≡ None → ⊥) → Verdict (halt_of gate memory) why failed (outcome_at (halt_of gate memory) why failed)
+halt_verdict true memory why failed over = IsRefused refl refl
+halt_verdict false true why failed over = WantsMemory refl
+halt_verdict false false why failed over = sound_verdict why failed over
+
+pub verdict : (halt : Halt) (why : Option Stop) (failed : Option Out) → (why ≡ None → failed ≡ None → ⊥) → Verdict halt why failed (outcome_of (occurred halt why failed))
+verdict halt why failed over = halt_verdict halt.gate halt.memory why failed over
 
 -- How often a feed failed.
 
@@ -89,63 +107,73 @@ failed_once side (Some (stop.Fault fault)) = failed_few side fault
 
 -- What an outcome tells.
 
-module _ (why : Option Stop) (failed : Option Out) (o : Outcome) where
-  pub is_serial : Verdict why failed o → 4 ≤ rank o
-  is_serial (WantsMemory is) = let e = ap rank is in omega arith
-  is_serial (FailedAt out at enough is) = let e = ap rank is in omega arith
-  is_serial (CannotRead side none at is) = let e = ap rank is in omega arith
-  is_serial (HasNoEnd side none at is) = let e = ap rank is in omega arith
-  is_serial (HasFault fault none at inside is) = let e = ap rank is in omega arith
-  is_serial (IsOver none at is) = let e = ap rank is in omega arith
+module _ (halt : Halt) (why : Option Stop) (failed : Option Out) (o : Outcome) where
+  pub least : Verdict halt why failed o → 3 ≤ rank o
+  least (IsRefused at is) = let e = ap rank is in omega arith
+  least (WantsMemory is) = let e = ap rank is in omega arith
+  least (FailedAt out at going enough is) = let e = ap rank is in omega arith
+  least (CannotRead side none going at is) = let e = ap rank is in omega arith
+  least (HasNoEnd side none going at is) = let e = ap rank is in omega arith
+  least (HasFault fault none going at inside is) = let e = ap rank is in omega arith
+  least (IsOver none going at is) = let e = ap rank is in omega arith
 
-  pub not_spawn : Verdict why failed o → o ≡ Spawn → ⊥
-  not_spawn v is = let e = ap rank is in let n = is_serial v in absurd (omega arith)
+  -- without a gate none refuses
+  pub is_serial : halt ≡ no_halt → Verdict halt why failed o → 4 ≤ rank o
+  is_serial sound (IsRefused at is) = absurd (let e = sym at ∙ ap (λ (h : Halt). h.gate) sound in cc)
+  is_serial sound (WantsMemory is) = let e = ap rank is in omega arith
+  is_serial sound (FailedAt out at going enough is) = let e = ap rank is in omega arith
+  is_serial sound (CannotRead side none going at is) = let e = ap rank is in omega arith
+  is_serial sound (HasNoEnd side none going at is) = let e = ap rank is in omega arith
+  is_serial sound (HasFault fault none going at inside is) = let e = ap rank is in omega arith
+  is_serial sound (IsOver none going at is) = let e = ap rank is in omega arith
 
-  pub at_write : Verdict why failed o → (out : Out) → o ≡ Write out → failed ≡ Some out
+  pub not_spawn : Verdict halt why failed o → o ≡ Spawn → ⊥
+  not_spawn v is = let e = ap rank is in let n = least v in absurd (omega arith)
+
+  -- a failed write or flush is answered where no worker stopped and memory was not wanted
+  pub at_write : Verdict halt why failed o → (out : Out) → o ≡ Write out → (failed ≡ Some out) × (halt ≡ no_halt) × (lacks_memory why ≡ false)
+  at_write (IsRefused there is) out at = absurd (let e = sym is ∙ at in cc)
   at_write (WantsMemory is) out at = absurd (let e = sym is ∙ at in cc)
-  at_write (FailedAt x there enough is) out at = let e = sym is ∙ at in let same : x ≡ out = cc in there ∙ ap Some same
-  at_write (CannotRead side none there is) out at = absurd (let e = sym is ∙ at in cc)
-  at_write (HasNoEnd side none there is) out at = absurd (let e = sym is ∙ at in cc)
-  at_write (HasFault fault none there inside is) out at = absurd (let e = sym is ∙ at in cc)
-  at_write (IsOver none there is) out at = absurd (let e = sym is ∙ at in cc)
+  at_write (FailedAt x there going enough is) out at = let e = sym is ∙ at in let same : x ≡ out = cc in (there ∙ ap Some same, going, enough)
+  at_write (CannotRead side none going there is) out at = absurd (let e = sym is ∙ at in cc)
+  at_write (HasNoEnd side none going there is) out at = absurd (let e = sym is ∙ at in cc)
+  at_write (HasFault fault none going there inside is) out at = absurd (let e = sym is ∙ at in cc)
+  at_write (IsOver none going there is) out at = absurd (let e = sym is ∙ at in cc)
 
-  -- a failed write or flush is answered where memory was not wanted
-  pub write_last : Verdict why failed o → (out : Out) → o ≡ Write out → lacks_memory why ≡ false
-  write_last (WantsMemory is) out at = absurd (let e = sym is ∙ at in cc)
-  write_last (FailedAt x there enough is) out at = enough
-  write_last (CannotRead side none there is) out at = absurd (let e = sym is ∙ at in cc)
-  write_last (HasNoEnd side none there is) out at = absurd (let e = sym is ∙ at in cc)
-  write_last (HasFault fault none there inside is) out at = absurd (let e = sym is ∙ at in cc)
-  write_last (IsOver none there is) out at = absurd (let e = sym is ∙ at in cc)
-
-  pub at_read : Verdict why failed o → (side : Side) → o ≡ Read side → (why ≡ Some (stop.Fault (Text side text.Read))) × (failed ≡ None)
+  pub at_read : Verdict halt why failed o → (side : Side) → o ≡ Read side → (why ≡ Some (stop.Fault (Text side text.Read))) × (failed ≡ None) × (halt ≡ no_halt)
+  at_read (IsRefused there is) side at = absurd (let e = sym is ∙ at in cc)
   at_read (WantsMemory is) side at = absurd (let e = sym is ∙ at in cc)
-  at_read (FailedAt x there enough is) side at = absurd (let e = sym is ∙ at in cc)
-  at_read (CannotRead x none there is) side at = let e = sym is ∙ at in let same : x ≡ side = cc in (there ∙ ap (λ (s : Side). Some (stop.Fault (Text s text.Read))) same, none)
-  at_read (HasNoEnd x none there is) side at = absurd (let e = sym is ∙ at in cc)
-  at_read (HasFault fault none there inside is) side at = absurd (let e = sym is ∙ at in cc)
-  at_read (IsOver none there is) side at = absurd (let e = sym is ∙ at in cc)
+  at_read (FailedAt x there going enough is) side at = absurd (let e = sym is ∙ at in cc)
+  at_read (CannotRead x none going there is) side at =
+      let e = sym is ∙ at in let same : x ≡ side = cc in (there ∙ ap (λ (s : Side). Some (stop.Fault (Text s text.Read))) same, none, going)
+  at_read (HasNoEnd x none going there is) side at = absurd (let e = sym is ∙ at in cc)
+  at_read (HasFault fault none going there inside is) side at = absurd (let e = sym is ∙ at in cc)
+  at_read (IsOver none going there is) side at = absurd (let e = sym is ∙ at in cc)
 
-  pub at_endless : Verdict why failed o → (side : Side) → o ≡ Endless side → (why ≡ Some (stop.Fault (Text side text.Endless))) × (failed ≡ None)
+  pub at_endless : Verdict halt why failed o → (side : Side) → o ≡ Endless side → (why ≡ Some (stop.Fault (Text side text.Endless))) × (failed ≡ None) × (halt ≡ no_halt)
+  at_endless (IsRefused there is) side at = absurd (let e = sym is ∙ at in cc)
   at_endless (WantsMemory is) side at = absurd (let e = sym is ∙ at in cc)
-  at_endless (FailedAt x there enough is) side at = absurd (let e = sym is ∙ at in cc)
-  at_endless (CannotRead x none there is) side at = absurd (let e = sym is ∙ at in cc)
-  at_endless (HasNoEnd x none there is) side at = let e = sym is ∙ at in let same : x ≡ side = cc in (there ∙ ap (λ (s : Side). Some (stop.Fault (Text s text.Endless))) same, none)
-  at_endless (HasFault fault none there inside is) side at = absurd (let e = sym is ∙ at in cc)
-  at_endless (IsOver none there is) side at = absurd (let e = sym is ∙ at in cc)
+  at_endless (FailedAt x there going enough is) side at = absurd (let e = sym is ∙ at in cc)
+  at_endless (CannotRead x none going there is) side at = absurd (let e = sym is ∙ at in cc)
+  at_endless (HasNoEnd x none going there is) side at =
+      let e = sym is ∙ at in let same : x ≡ side = cc in (there ∙ ap (λ (s : Side). Some (stop.Fault (Text s text.Endless))) same, none, going)
+  at_endless (HasFault fault none going there inside is) side at = absurd (let e = sym is ∙ at in cc)
+  at_endless (IsOver none going there is) side at = absurd (let e = sym is ∙ at in cc)
 
-  pub outlet_first : Verdict why failed o → (out : Out) → failed ≡ Some out → rank o ≤ 5
+  pub outlet_first : Verdict halt why failed o → (out : Out) → failed ≡ Some out → rank o ≤ 5
+  outlet_first (IsRefused there is) out at = let e = ap rank is in omega arith
   outlet_first (WantsMemory is) out at = let e = ap rank is in omega arith
-  outlet_first (FailedAt x there enough is) out at = let e = ap rank is in omega arith
-  outlet_first (CannotRead side none there is) out at = absurd (let e = sym none ∙ at in cc)
-  outlet_first (HasNoEnd side none there is) out at = absurd (let e = sym none ∙ at in cc)
-  outlet_first (HasFault fault none there inside is) out at = absurd (let e = sym none ∙ at in cc)
-  outlet_first (IsOver none there is) out at = absurd (let e = sym none ∙ at in cc)
+  outlet_first (FailedAt x there going enough is) out at = let e = ap rank is in omega arith
+  outlet_first (CannotRead side none going there is) out at = absurd (let e = sym none ∙ at in cc)
+  outlet_first (HasNoEnd side none going there is) out at = absurd (let e = sym none ∙ at in cc)
+  outlet_first (HasFault fault none going there inside is) out at = absurd (let e = sym none ∙ at in cc)
+  outlet_first (IsOver none going there is) out at = absurd (let e = sym none ∙ at in cc)
 
-  pub feed_first : Verdict why failed o → (side : Side) → 0 < failed_by side why → rank o ≤ 6
+  pub feed_first : Verdict halt why failed o → (side : Side) → 0 < failed_by side why → rank o ≤ 6
+  feed_first (IsRefused there is) side some = let e = ap rank is in omega arith
   feed_first (WantsMemory is) side some = let e = ap rank is in omega arith
-  feed_first (FailedAt x there enough is) side some = let e = ap rank is in omega arith
-  feed_first (CannotRead x none there is) side some = let e = ap rank is in omega arith
-  feed_first (HasNoEnd x none there is) side some = absurd (let e = ap (failed_by side) there ∙ endless_none side x in omega arith)
-  feed_first (HasFault fault none there inside is) side some = absurd (let e = ap (failed_by side) there ∙ inside_none side fault inside in omega arith)
-  feed_first (IsOver none there is) side some = absurd (let e = ap (failed_by side) there in omega arith)
+  feed_first (FailedAt x there going enough is) side some = let e = ap rank is in omega arith
+  feed_first (CannotRead x none going there is) side some = let e = ap rank is in omega arith
+  feed_first (HasNoEnd x none going there is) side some = absurd (let e = ap (failed_by side) there ∙ endless_none side x in omega arith)
+  feed_first (HasFault fault none going there inside is) side some = absurd (let e = ap (failed_by side) there ∙ inside_none side fault inside in omega arith)
+  feed_first (IsOver none going there is) side some = absurd (let e = ap (failed_by side) there in omega arith)

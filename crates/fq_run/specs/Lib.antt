@@ -8,3 +8,13 @@ pub mod Gathering
 pub mod Fates
 pub mod Writing
 pub mod Endings
+pub mod Dealing
+pub mod Each
+pub mod Lanes
+pub mod Dealt
+pub mod Filling
+pub mod DealingOut
+pub mod Collecting
+pub mod Stops
+pub mod Crews
+pub mod Threads

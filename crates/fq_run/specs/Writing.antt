@@ -1,10 +1,11 @@
 -- The blocks of a run, read and written.
-use Rattle.std.specs.Prelude.{◌≡◌, Bool, true, false, Option, Some, None, List, [], ◌++◌}
+use Rattle.std.specs.Prelude.{◌≡◌, Bool, true, false, ◌||◌, Option, Some, None, List, [], ◌++◌}
 use Rattle.fq_pair.specs.declared.out.Out.{Out}
 use Rattle.fq_pair.specs.declared.counts.Counts.{Counts}
 use Rattle.fq_pair.specs.declared.fault.InputFault.{InputFault}
 use Rattle.fq_pair.specs.Mates.{Mates}
 use Rattle.fq_pair.specs.Outputs.{texts_of, text_of, counts_of}
+use Rattle.fq_run.specs.declared.halt.Halt.{Halt}
 use Rattle.fq_run.specs.declared.outcome.Occurred.{Occurred}
 use Rattle.fq_run.specs.declared.reading.Stop.{Stop}
 use Rattle.fq_run.specs.declared.reading.Stop.TheVariants as stop
@@ -18,22 +19,28 @@ abbrev pub is_flush : Fate → Bool
 is_flush (FlushFailed out) = true
 is_flush _ = false
 
--- Pairs were read and written, up to where the reading stopped or a write failed.
-pub record Passes (c : Choices) (old new : SourceState) (before after : OutletStates) (counted : Counts) (why : Option Stop) (broken : Option Out) : Type 0 where
+-- no worker has stopped before the last of its blocks
+abbrev pub no_halt : Halt
+no_halt = record { gate = false; memory = false }
+
+-- Pairs were read, up to where the reading stopped, and written, up to where a write failed or a worker stopped: those behind these were missed.
+pub record Passes (c : Choices) (old new : SourceState) (before after : OutletStates) (counted : Counts) (halt : Halt) (why : Option Stop) (broken : Option Out) : Type 0 where
   pub whole : List Mates
   pub fate : Fate
+  pub missed : List Mates
   pub counts : counted ≡ counts_of c.steps whole
-  pub reads : Reads old new (whole ++ block_begun fate) why
+  pub reads : Reads old new ((whole ++ block_begun fate) ++ missed) why
   pub took : OutletsTook before after (λ out. text_of out (texts_of c.steps whole) ++ part_begun c.steps fate out) (failed_outlet fate)
   pub failed : broken ≡ failed_outlet fate
   pub cut_short : IsCutShort c.block_pairs c.steps fate
   pub over : why ≡ None → broken ≡ None → ⊥
   pub unflushed : is_flush fate ≡ false
+  pub missed_none : halt ≡ no_halt → broken ≡ None → missed ≡ []
 
 -- the same from the feeds on
-pub record Runs (c : Choices) (f r f' r' : FeedState) (before after : OutletStates) (counted : Counts) (why : Option Stop) (broken : Option Out) : Type 0 where
+pub record Runs (c : Choices) (f r f' r' : FeedState) (before after : OutletStates) (counted : Counts) (halt : Halt) (why : Option Stop) (broken : Option Out) : Type 0 where
   pub new : SourceState
-  pub passes : Passes c (fresh_source c f r) new before after counted why broken
+  pub passes : Passes c (fresh_source c f r) new before after counted halt why broken
   pub forward : f' ≡ feed_in new.forward
   pub reverse : r' ≡ feed_in new.reverse
 
@@ -42,7 +49,7 @@ abbrev pub FlushesAfter : Option Out → OutletStates → OutletStates → Optio
 FlushesAfter (Some failed) before after result = (result ≡ Some failed) × (after ≡ before)
 FlushesAfter None before after result = OutletsTook before after (λ out. []) result
 
--- what of a run's reading and writing an outcome tells
+-- what of a run's workers, reading and writing an outcome tells
 abbrev pub wants_memory : Option Stop → Bool
 wants_memory (Some stop.Memory) = true
 wants_memory _ = false
@@ -51,5 +58,5 @@ abbrev pub fault_in : Option Stop → Option InputFault
 fault_in (Some (stop.Fault fault)) = Some fault
 fault_in _ = None
 
-abbrev pub occurred : Option Stop → Option Out → Occurred
-occurred why failed = record { gate = false; memory = wants_memory why; failed = failed; fault = fault_in why }
+abbrev pub occurred : Halt → Option Stop → Option Out → Occurred
+occurred halt why failed = record { gate = halt.gate; memory = halt.memory || wants_memory why; failed = failed; fault = fault_in why }

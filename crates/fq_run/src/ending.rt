@@ -1,6 +1,7 @@
 //! What a run leaves.
 
 use crate::outcome::Outcome;
+use fq_lane::NotEnded;
 use fq_pair::Counts;
 
 /// How a run ended, and what it leaves.
@@ -14,4 +15,6 @@ pub struct Ending<F, G> {
     pub forward: Option<F>,
     /// The feed of the reverse input, as it stands.
     pub reverse: Option<G>,
+    /// Why a lane couldn't be confirmed: there exactly where the outcome is [`Outcome::Lane`].
+    pub unended: Option<NotEnded>,
 }

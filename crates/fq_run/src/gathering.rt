@@ -1,6 +1,6 @@
 //! The pairs of a block, read and trimmed.
 
-ghost use Rattle.std.specs.Prelude.{◌≡◌, ◌*◌, ◌≤◌};
+ghost use Rattle.std.specs.Prelude.{◌≡◌, ◌*◌, ◌≤◌, IfOk, IfSome};
 ghost use Rattle.fq_pair.specs.Outputs.{no_texts};
 ghost use Rattle.fq_run.specs.Walks.{source_state, Asks, GoesOn};
 ghost use Rattle.fq_run.specs.Gathering.{Gathers};
@@ -38,12 +38,15 @@ pub(crate) fn gather<F: Feed, G: Feed>(
     None
 }
 
-// The next pair of a source that goes on.
-fn next_pair<F: Feed, G: Feed>(source: &mut PairSource<F, G>) -> Result<Option<Pair>, InputFault>
+/// The next pair of a source that goes on.
+pub(crate) fn next_pair<F: Feed, G: Feed>(
+    source: &mut PairSource<F, G>,
+) -> Result<Option<Pair>, InputFault>
     requires { GoesOn (source_state F.tells F.to_come F.failure_count G.tells G.to_come G.failure_count source.old) }
     ensures asks { Asks (source_state F.tells F.to_come F.failure_count G.tells G.to_come G.failure_count source.old)
         (source_state F.tells F.to_come F.failure_count G.tells G.to_come G.failure_count source.new) result }
     ensures within { source.new.forward.given ≤ source.new.forward.max_reads * source.new.forward.chunk }
+    ensures encoding { IfOk result (λ o. IfSome o (λ m. m.forward.encoding ≡ source.old.forward.encoding)) }
 {
     source.next()
 }

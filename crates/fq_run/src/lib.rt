@@ -1,14 +1,34 @@
 //! Runs of the trimmer: two texts of mates in, the texts of the trimmed pairs, their log and their counts out.
 #![tactic(auto)]
 
+mod collector;
+mod confirming;
+mod crew;
+mod dealer;
+mod dealing;
+mod dealt;
+mod draining;
 mod ending;
+mod filling;
 mod gathering;
+mod halt;
+mod hearing;
+mod job;
+mod lanes;
+pub mod laws;
+mod opening;
 mod outcome;
 mod outlets;
+mod phase;
+mod preparing;
 mod reading;
+mod ready;
+mod seats;
 mod sending;
 mod serial;
 mod settings;
+mod staff;
+mod threads;
 mod written;
 
 pub use ending::Ending;
@@ -16,6 +36,7 @@ pub use outcome::Outcome;
 pub use outlets::Outlets;
 pub use serial::run_serial;
 pub use settings::{BadSetting, Settings};
+pub use threads::run_threads;
 
 #[cfg(test)]
 mod tests;

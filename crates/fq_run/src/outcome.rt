@@ -3,6 +3,7 @@
 ghost use Rattle.std.specs.Prelude.{◌≡◌};
 ghost use Rattle.fq_run.specs.Outcomes.{end_of};
 
+use crate::halt::Halt;
 use crate::reading::Stop;
 use fq_pair::{InputFault, Out, Side};
 use fq_text::TextFault;
@@ -49,13 +50,14 @@ impl Occurred {
     ghost use Rattle.fq_run.specs.Outcomes.{outcome_of};
     ghost use Rattle.fq_run.specs.Writing.{occurred};
 
-    /// What occurred where the reading stopped for this reason, if it did, and this outlet failed, if one did.
-    pub(crate) fn new(stop: Option<Stop>, failed: Option<Out>) -> Occurred
-        ensures { result ≡ occurred stop failed }
+    /// What occurred where workers stopped for these reasons, the reading stopped for this one, if it did, and this outlet failed, if
+    /// one did.
+    pub(crate) fn new(halt: Halt, stop: Option<Stop>, failed: Option<Out>) -> Occurred
+        ensures { result ≡ occurred halt stop failed }
     {
         Occurred {
-            gate: false,
-            memory: matches!(stop, Some(Stop::Memory)),
+            gate: halt.gate,
+            memory: halt.memory || matches!(stop, Some(Stop::Memory)),
             failed,
             fault: match stop {
                 Some(Stop::Fault(fault)) => Some(fault),

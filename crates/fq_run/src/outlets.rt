@@ -20,9 +20,10 @@ pub struct Outlets<O> {
 }
 
 impl<O: Outlet> Outlets<O> {
-    ghost use Rattle.std.specs.Prelude.{◌≡◌, ◌<◌};
+    ghost use Rattle.std.specs.Prelude.{◌≡◌, ◌<◌, None};
     ghost use Rattle.fq_run.specs.Devices.{outlet_states, AreHealthy};
     ghost use Rattle.fq_run.specs.Sending.{Sends, Flushes};
+    ghost use Rattle.fq_run.specs.Writing.{FlushesAfter};
 
     /// Sends the texts to their outlets, in the order of [`Out`], up to the first outlet that fails, which is answered.
     ///
@@ -55,5 +56,16 @@ impl<O: Outlet> Outlets<O> {
             flush_one(log, Out::Log)?;
         }
         Ok(())
+    }
+
+    /// Flushes them where no write failed, as [`Outlets::flush`] does. Answers the outlet that failed, now or before.
+    pub(crate) fn flush_after(&mut self, failed: Option<Out>) -> Option<Out>
+        requires { failed ≡ None → AreHealthy (outlet_states O.tells O.taken O.failure_count self.old) }
+        ensures { FlushesAfter failed (outlet_states O.tells O.taken O.failure_count self.old) (outlet_states O.tells O.taken O.failure_count self.new) result }
+    {
+        match failed {
+            Some(out) => Some(out),
+            None => self.flush().err(),
+        }
     }
 }

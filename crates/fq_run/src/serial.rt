@@ -3,19 +3,21 @@
 ghost use Rattle.std.specs.Prelude.{◌≡◌, ◌≤◌, ◌*◌, ◌^◌, None, IsTrue, IsSome, IfOk, IfErr};
 ghost use Rattle.fq_run.specs.Devices.{feed_state, outlet_states, AreHealthy};
 ghost use Rattle.fq_run.specs.Walks.{source_state, fresh_source, GoesOn};
-ghost use Rattle.fq_run.specs.Writing.{Passes, Runs, FlushesAfter, occurred};
+ghost use Rattle.fq_run.specs.Writing.{Passes, Runs, no_halt};
 ghost use Rattle.fq_run.specs.Outcomes.{rank};
 ghost use Rattle.fq_run.specs.Endings.{run_of, AreTold, ends_whole, IsTrimmed, EveryEnding};
 
 use crate::ending::Ending;
 use crate::gathering::gather;
+use crate::halt::Halt;
+use crate::opening::open;
 use crate::outcome::Occurred;
 use crate::outlets::Outlets;
 use crate::reading::Stop;
 use crate::settings::Settings;
 use crate::written::{Pass, Written};
-use fq_pair::{Out, PairSource, Texts};
-use fq_text::{Feed, NoSource, Outlet, Source};
+use fq_pair::{PairSource, Texts};
+use fq_text::{Feed, Outlet};
 use std::alloc::Global;
 
 /// Trims the pairs of two inputs on this thread, one after the other, and writes them.
@@ -44,6 +46,7 @@ pub fn run_serial<F: Feed, G: Feed, O: Outlet>(
     ensures forward { IsSome result.forward }
     ensures reverse { IsSome result.reverse }
     ensures serial { 4 ≤ rank result.outcome }
+    ensures unended { result.unended ≡ None }
     // Where the run ends whole, it has trimmed all pairs up to the end of the input or its fault.
     ensures whole { let run = run_of (feed_state F.tells F.to_come F.failure_count) (feed_state G.tells G.to_come G.failure_count) (outlet_states O.tells O.taken O.failure_count) forward reverse outlets.old outlets.new result in
         IsTrue (ends_whole run.outcome) → AreTold run → IsTrimmed settings.now run }
@@ -61,12 +64,13 @@ pub fn run_serial<F: Feed, G: Feed, O: Outlet>(
         stop,
         failed,
     } = written;
-    let failed = flush_after(failed, outlets);
+    let failed = outlets.flush_after(failed);
     Ending {
-        outcome: Occurred::new(stop, failed).outcome(),
+        outcome: Occurred::new(Halt::NONE, stop, failed).outcome(),
         counts,
         forward: Some(forward),
         reverse: Some(reverse),
+        unended: None,
     }
 }
 
@@ -84,7 +88,7 @@ fn pass<F: Feed, G: Feed, O: Outlet>(
     ensures { Runs settings.now (feed_state F.tells F.to_come F.failure_count forward) (feed_state G.tells G.to_come G.failure_count reverse)
         (feed_state F.tells F.to_come F.failure_count result.forward) (feed_state G.tells G.to_come G.failure_count result.reverse)
         (outlet_states O.tells O.taken O.failure_count outlets.old) (outlet_states O.tells O.taken O.failure_count outlets.new)
-        result.written.counts result.written.stop result.written.failed }
+        result.written.counts no_halt result.written.stop result.written.failed }
 {
     match open(alloc, settings, forward, reverse) {
         Ok(mut source) => {
@@ -108,33 +112,6 @@ fn pass<F: Feed, G: Feed, O: Outlet>(
     }
 }
 
-// The source of the pairs, or the feeds where memory was refused.
-fn open<F: Feed, G: Feed>(
-    alloc: Global,
-    settings: &Settings,
-    forward: F,
-    reverse: G,
-) -> Result<PairSource<F, G>, (F, G)>
-    requires forward { F.failure_count forward ≡ 0 }
-    requires reverse { G.failure_count reverse ≡ 0 }
-    ensures ok { IfOk result (λ source. source_state F.tells F.to_come F.failure_count G.tells G.to_come G.failure_count source
-        ≡ fresh_source settings.now (feed_state F.tells F.to_come F.failure_count forward) (feed_state G.tells G.to_come G.failure_count reverse)) }
-    ensures few { IfOk result (λ source. source.forward.max_reads * source.forward.chunk ≤ 2 ^ 60) }
-    ensures err { IfErr result (λ feeds. (feeds.0 ≡ forward) × (feeds.1 ≡ reverse)) }
-{
-    let encoding = settings.encoding();
-    let chunk = settings.chunk();
-    let max_reads = settings.max_reads();
-    let forward = match Source::new(alloc, forward, encoding, chunk, max_reads) {
-        Ok(source) => source,
-        Err(NoSource { feed }) => return Err((feed, reverse)),
-    };
-    match Source::new(alloc, reverse, encoding, chunk, max_reads) {
-        Ok(reverse) => Ok(PairSource::new(forward, reverse, settings.check_names())),
-        Err(NoSource { feed }) => Err((forward.into_feed(), feed)),
-    }
-}
-
 // Reads and writes block for block, until the reading stops or a write fails.
 fn write_blocks<F: Feed, G: Feed, O: Outlet>(
     alloc: Global,
@@ -149,7 +126,7 @@ fn write_blocks<F: Feed, G: Feed, O: Outlet>(
     ensures { Passes settings.now (source_state F.tells F.to_come F.failure_count G.tells G.to_come G.failure_count source.old)
         (source_state F.tells F.to_come F.failure_count G.tells G.to_come G.failure_count source.new)
         (outlet_states O.tells O.taken O.failure_count outlets.old) (outlet_states O.tells O.taken O.failure_count outlets.new)
-        result.counts result.stop result.failed }
+        result.counts no_halt result.stop result.failed }
 {
     let mut texts = Texts::new(alloc);
     let mut counts = texts.counts();
@@ -171,16 +148,5 @@ fn write_blocks<F: Feed, G: Feed, O: Outlet>(
                 failed: None,
             };
         }
-    }
-}
-
-// Flushes the outlets where no write failed. Answers the outlet that failed, now or before.
-fn flush_after<O: Outlet>(failed: Option<Out>, outlets: &mut Outlets<O>) -> Option<Out>
-    requires { failed ≡ None → AreHealthy (outlet_states O.tells O.taken O.failure_count outlets.old) }
-    ensures { FlushesAfter failed (outlet_states O.tells O.taken O.failure_count outlets.old) (outlet_states O.tells O.taken O.failure_count outlets.new) result }
-{
-    match failed {
-        Some(out) => Some(out),
-        None => outlets.flush().err(),
     }
 }

@@ -1,16 +1,21 @@
 mod endings;
 mod rows;
+mod seeing;
 mod settings;
 
-ghost use Rattle.std.specs.Prelude.{◌≡◌, ◌<◌, [], IfOk};
+ghost use Rattle.std.specs.Prelude.{◌≡◌, ◌<◌, true, [], IfOk};
+ghost use Rattle.fq_run.specs.Devices.{outlet_states, AreHealthy};
 
-use crate::{Outcome, Outlets, Settings, run_serial};
+use crate::{Ending, Outcome, Outlets, Settings, run_serial, run_threads};
 use fq_pair::{Counts, Out};
 use fq_text::{Encoding, ScriptFeed, ScriptOutlet};
 use fq_trim::Steps;
+use fq_work::{Gate, OpenGate};
 use std::alloc::Global;
 use std::process::Abort;
+use std::sync::{Arc, Wait};
 use std::test::Fail;
+use std::thread::Threads;
 
 const LONG: u64 = 1 << 40;
 
@@ -101,7 +106,7 @@ fn feed(
 }
 
 fn outlet(rt: &impl Abort, alloc: Global, given: &Given<'_>, out: Out) -> ScriptOutlet
-    ensures { result ≡ record { bytes = []; failures = 0 } }
+    ensures { (result.bytes ≡ []) × (result.failures ≡ 0) }
 {
     let cut = given.cut;
     assert!(rt; cut > 0);
@@ -113,43 +118,95 @@ fn outlet(rt: &impl Abort, alloc: Global, given: &Given<'_>, out: Out) -> Script
     ScriptOutlet::new(alloc, cut, fail_at, flush_fails)
 }
 
-/// Runs with a log, and compares what the run leaves.
-fn leaves(
-    rt: &impl Abort,
-    alloc: Global,
-    given: &Given<'_>,
-    wanted: &Wanted<'_>,
-) -> Result<(), Fail> {
-    let steps = Steps::parse(given.steps)?;
-    let settings = Settings::new(
+fn settings_of(given: &Given<'_>, workers: u64, depth: u64) -> Result<Settings, Fail> {
+    Ok(Settings::new(
         given.encoding,
-        steps,
+        Steps::parse(given.steps)?,
         given.check_names,
-        4,
+        workers,
         given.block_pairs,
-        4,
+        depth,
         given.chunk,
         given.max_reads,
         LONG,
-    )?;
-    let forward = feed(rt, alloc, given.forward, given.cut, given.fails_at_read)?;
-    let reverse = feed(rt, alloc, given.reverse, given.cut, 0)?;
-    let mut outlets = Outlets {
+    )?)
+}
+
+fn outlets(rt: &impl Abort, alloc: Global, given: &Given<'_>) -> Outlets<ScriptOutlet>
+    ensures { AreHealthy (outlet_states (λ o. true) (λ o. o.bytes) (λ o. o.failures) result) }
+{
+    Outlets {
         forward_paired: outlet(rt, alloc, given, Out::ForwardPaired),
         forward_unpaired: outlet(rt, alloc, given, Out::ForwardUnpaired),
         reverse_paired: outlet(rt, alloc, given, Out::ReversePaired),
         reverse_unpaired: outlet(rt, alloc, given, Out::ReverseUnpaired),
         log: Some(outlet(rt, alloc, given, Out::Log)),
-    };
-    let ending = run_serial(alloc, &settings, forward, reverse, &mut outlets);
+    }
+}
+
+/// Compares what a run has left.
+fn assert_left(
+    rt: &impl Abort,
+    ending: &Ending<ScriptFeed, ScriptFeed>,
+    outlets: &Outlets<ScriptOutlet>,
+    wanted: &Wanted<'_>,
+) -> Result<(), Fail> {
     assert_eq!(rt; ending.outcome, wanted.outcome);
     assert_eq!(rt; ending.counts, wanted.counts);
     assert_eq!(rt; outlets.forward_paired.bytes(), wanted.forward_paired);
     assert_eq!(rt; outlets.forward_unpaired.bytes(), wanted.forward_unpaired);
     assert_eq!(rt; outlets.reverse_paired.bytes(), wanted.reverse_paired);
     assert_eq!(rt; outlets.reverse_unpaired.bytes(), wanted.reverse_unpaired);
-    let log = outlets.log.ok_or("a log")?;
+    let log = outlets.log.as_ref().ok_or("a log")?;
     assert_eq!(rt; log.bytes(), wanted.log);
     assert!(rt; ending.forward.is_some() && ending.reverse.is_some());
+    assert!(rt; ending.unended.is_none());
+    Ok(())
+}
+
+/// Runs with a log on one thread.
+fn leaves_alone(
+    rt: &impl Abort,
+    alloc: Global,
+    given: &Given<'_>,
+    wanted: &Wanted<'_>,
+) -> Result<(), Fail> {
+    let settings = settings_of(given, 4, 4)?;
+    let forward = feed(rt, alloc, given.forward, given.cut, given.fails_at_read)?;
+    let reverse = feed(rt, alloc, given.reverse, given.cut, 0)?;
+    let mut outlets = outlets(rt, alloc, given);
+    let ending = run_serial(alloc, &settings, forward, reverse, &mut outlets);
+    assert_left(rt, &ending, &outlets, wanted)
+}
+
+/// Runs with a log on so many workers' threads, behind a gate.
+fn leaves_behind<R: Abort + Threads + Wait + Copy + Send + 'static, H: Gate + 'static>(
+    rt: &R,
+    alloc: Global,
+    given: &Given<'_>,
+    settings: &Settings,
+    gate: H,
+    wanted: &Wanted<'_>,
+) -> Result<(), Fail> {
+    let gate = Arc::new(alloc, gate)?;
+    let forward = feed(rt, alloc, given.forward, given.cut, given.fails_at_read)?;
+    let reverse = feed(rt, alloc, given.reverse, given.cut, 0)?;
+    let mut outlets = outlets(rt, alloc, given);
+    let ending = run_threads(alloc, rt, settings, gate, forward, reverse, &mut outlets);
+    assert_left(rt, &ending, &outlets, wanted)
+}
+
+/// Runs with a log on one thread, and then on those of 1 to 5 workers, and compares what each run leaves.
+fn leaves<R: Abort + Threads + Wait + Copy + Send + 'static>(
+    rt: &R,
+    alloc: Global,
+    given: &Given<'_>,
+    wanted: &Wanted<'_>,
+) -> Result<(), Fail> {
+    leaves_alone(rt, alloc, given, wanted)?;
+    for workers in 1..6 {
+        let settings = settings_of(given, workers, 4)?;
+        leaves_behind(rt, alloc, given, &settings, OpenGate, wanted)?;
+    }
     Ok(())
 }

@@ -1,14 +1,22 @@
--- What a device in memory is, apart from how it cuts.
-use Rattle.std.specs.Prelude.{ℕ, List}
+-- What a device is: one in memory by its bytes and its script, and one of the standard library by what is in it.
+use Rattle.std.specs.Prelude.{ℕ, List, Bool}
 
--- the bytes still to come from a feed, and its failures so far
+-- the bytes still to come from a feed, the most that a read moves, the number of reads up to and with the one that fails
+-- (0: none does), and its failures so far
 pub record Coming : Type 0 where
   pub bytes : List ℕ
+  pub cut : ℕ
+  pub fails_in : ℕ
   pub failures : ℕ
 
--- the bytes that an outlet has taken, and its failures so far
+-- the bytes that an outlet has taken, how many it has memory for, the most that a write takes, the number of writes up to
+-- and with the one that fails (0: none does), whether flushes fail, and its failures so far
 pub record Taken : Type 0 where
   pub bytes : List ℕ
+  pub room : ℕ
+  pub cut : ℕ
+  pub fails_in : ℕ
+  pub flush_fails : Bool
   pub failures : ℕ
 
 -- a reader or a writer of the standard library as a device, and its failures so far

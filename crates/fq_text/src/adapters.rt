@@ -1,7 +1,7 @@
 //! Readers and writers of the standard library, as devices.
 
 ghost use Rattle.std.specs.Prelude.{◌≡◌, ◌<◌, ◌≤◌, ◌+◌, length, IfOk, is_ok, if◌then◌else◌};
-ghost use Rattle.std.specs.Io.KnownBytes.{ReadConsumes, WriteAppends};
+ghost use Rattle.std.specs.Io.KnownBytes.{Keeps, ReadConsumes, WriteAppends};
 
 use crate::feed::{Feed, FeedFailed};
 use crate::outlet::{Outlet, OutletFailed};
@@ -153,7 +153,12 @@ impl<W: Write> Outlet for FromWrite<W> {
         }
     }
 
-    fn flush(&mut self) -> Result<(), OutletFailed> {
+    fn flush(&mut self) -> Result<(), OutletFailed>
+        requires { self.old.failures < u64.MAX }
+        ensures failures { self.new.failures ≡ self.old.failures + (if is_ok result then 0 else 1) }
+        // Where the writer's own bytes are known, they stay.
+        ensures writer { Keeps (W.contents self.old.inner) (W.contents self.new.inner) }
+    {
         match self.writer.flush() {
             Ok(()) => Ok(()),
             Err(_) => Err(self.fail()),

@@ -1,6 +1,6 @@
 //! Where the bytes of a text come from.
 
-ghost use Rattle.std.specs.Prelude.{◌≡◌, ℕ, ◌+◌, ◌<◌, ◌≤◌, Bool, true, List, [], ◌++◌, length, take, drop, IsTrue, IfOk, OnErr, is_ok, if◌then◌else◌};
+ghost use Rattle.std.specs.Prelude.{◌≡◌, ℕ, ◌+◌, ◌-◌, ◌<◌, ◌≤◌, ◌==◌, min, Bool, true, List, [], ◌++◌, length, take, drop, IsTrue, IfOk, OnErr, is_ok, is_err, if◌then◌else◌};
 
 use crate::memory::OutOfMemory;
 use std::alloc::Global;
@@ -63,7 +63,7 @@ impl Model for ScriptFeed {
 
     ghost Value = { Coming };
 
-    ghost view = { λ f. record { bytes = drop f.at f.bytes.items; failures = f.failures } };
+    ghost view = { λ f. record { bytes = drop f.at f.bytes.items; cut = f.cut; fails_in = f.fails_in; failures = f.failures } };
 
     ghost invariant = { λ f. (f.at ≤ length f.bytes.items) × (0 < f.cut) };
 }
@@ -78,7 +78,7 @@ impl ScriptFeed {
         fail_at: u64,
     ) -> Result<ScriptFeed, OutOfMemory>
         requires { 0 < cut }
-        ensures { IfOk result (λ feed. feed ≡ record { bytes = bytes.now; failures = 0 }) }
+        ensures { IfOk result (λ feed. feed ≡ record { bytes = bytes.now; cut = cut; fails_in = fail_at; failures = 0 }) }
     {
         let bytes = Vec::from_slice(alloc, bytes)?;
         Ok(ScriptFeed {
@@ -98,7 +98,21 @@ impl Feed for ScriptFeed {
 
     ghost failure_count = { λ f. f.failures };
 
-    fn read(&mut self, buf: &mut [u8]) -> Result<usize, FeedFailed> {
+    fn read(&mut self, buf: &mut [u8]) -> Result<usize, FeedFailed>
+        requires { self.old.failures < u64.MAX }
+
+        // The read that the script names fails, and no other. Else it moves all that is left, or as much as goes in one read and
+        // fits.
+        ensures fails { is_err result ≡ (self.old.fails_in == 1) }
+        ensures count { IfOk result (λ n. n ≡ min (length self.old.bytes) (min self.old.cut (length buf.old))) }
+        ensures script { (self.new.cut ≡ self.old.cut) × (self.new.fails_in ≡ self.old.fails_in - 1) }
+
+        // What each feed does.
+        ensures moved { IfOk result (λ n. self.old.bytes ≡ take n buf.new ++ self.new.bytes) }
+        ensures end { result ≡ Ok 0 → 0 < length buf.old → self.old.bytes ≡ [] }
+        ensures err { OnErr result (self.new.bytes ≡ self.old.bytes) }
+        ensures failures { self.new.failures ≡ self.old.failures + (if is_ok result then 0 else 1) }
+    {
         if self.fails_in == 1 {
             self.fails_in = 0;
             self.failures += 1;

@@ -1,6 +1,6 @@
 //! Where texts go: a device that takes bytes, and the sending of a whole text to it.
 
-ghost use Rattle.std.specs.Prelude.{◌≡◌, ℕ, ◌+◌, ◌<◌, ◌≤◌, Bool, true, List, [], ◌++◌, length, take, drop, IsTrue, IfOk, IfErr, OnOk, OnErr, is_ok, if◌then◌else◌};
+ghost use Rattle.std.specs.Prelude.{◌≡◌, ℕ, ◌≢◌, ◌+◌, ◌-◌, ◌<◌, ◌≤◌, min, Bool, true, List, [], ◌++◌, length, take, drop, IsTrue, IsErr, IfOk, IfErr, OnOk, OnErr, is_ok, is_err, if◌then◌else◌};
 
 use std::alloc::Global;
 use std::marker::Model;
@@ -64,12 +64,12 @@ pub struct ScriptOutlet {
 }
 
 impl Model for ScriptOutlet {
-    ghost use Rattle.std.specs.Prelude.{◌<◌};
+    ghost use Rattle.std.specs.Prelude.{◌<◌, vec_capacity};
     ghost use Rattle.fq_text.specs.Devices.{Taken};
 
     ghost Value = { Taken };
 
-    ghost view = { λ o. record { bytes = o.bytes.items; failures = o.failures } };
+    ghost view = { λ o. record { bytes = o.bytes.items; room = vec_capacity o.bytes; cut = o.cut; fails_in = o.fails_in; flush_fails = o.flush_fails; failures = o.failures } };
 
     ghost invariant = { λ o. 0 < o.cut };
 }
@@ -80,7 +80,7 @@ impl ScriptOutlet {
     /// The write of number `fail_at` fails, counted from 1, or none at 0. Each flush fails where `flush_fails` is true.
     pub fn new(alloc: Global, cut: usize, fail_at: u64, flush_fails: bool) -> ScriptOutlet
         requires { 0 < cut }
-        ensures { result ≡ record { bytes = []; failures = 0 } }
+        ensures { result ≡ record { bytes = []; room = 0; cut = cut; fails_in = fail_at; flush_fails = flush_fails; failures = 0 } }
     {
         ScriptOutlet {
             bytes: Vec::new(alloc),
@@ -115,7 +115,23 @@ impl Outlet for ScriptOutlet {
 
     ghost failure_count = { λ o. o.failures };
 
-    fn write(&mut self, bytes: &[u8]) -> Result<usize, OutletFailed> {
+    fn write(&mut self, bytes: &[u8]) -> Result<usize, OutletFailed>
+        requires { self.old.failures < u64.MAX }
+
+        // The write that the script names fails, and any other only where more memory is needed. Else it takes all the bytes, or
+        // as many as go in one write.
+        ensures fails { self.old.fails_in ≡ 1 → IsErr result }
+        ensures full { OnErr result (self.old.fails_in ≢ 1 → self.old.room < length self.old.bytes + min (length bytes.now) self.old.cut) }
+        ensures count { IfOk result (λ n. n ≡ min (length bytes.now) self.old.cut) }
+        ensures script { (self.new.cut ≡ self.old.cut) × (self.new.fails_in ≡ self.old.fails_in - 1) × (self.new.flush_fails ≡ self.old.flush_fails) }
+        ensures room { self.old.room ≤ self.new.room }
+
+        // What each outlet does.
+        ensures some { IfOk result (λ n. 0 < length bytes.now → 0 < n) }
+        ensures moved { IfOk result (λ n. self.new.bytes ≡ self.old.bytes ++ take n bytes.now) }
+        ensures err { OnErr result (self.new.bytes ≡ self.old.bytes) }
+        ensures failures { self.new.failures ≡ self.old.failures + (if is_ok result then 0 else 1) }
+    {
         if self.fails_in == 1 {
             self.fails_in = 0;
             return Err(self.fail());
@@ -128,7 +144,14 @@ impl Outlet for ScriptOutlet {
         }
     }
 
-    fn flush(&mut self) -> Result<(), OutletFailed> {
+    fn flush(&mut self) -> Result<(), OutletFailed>
+        requires { self.old.failures < u64.MAX }
+
+        // It fails exactly where the script says so, and changes nothing but the count of failures.
+        ensures fails { is_err result ≡ self.old.flush_fails }
+        ensures kept { self.new ≡ record self.old { failures = self.new.failures } }
+        ensures failures { self.new.failures ≡ self.old.failures + (if is_ok result then 0 else 1) }
+    {
         if self.flush_fails {
             Err(self.fail())
         } else {

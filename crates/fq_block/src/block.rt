@@ -1,0 +1,125 @@
+//! A block of pairs.
+
+ghost use Rattle.std.specs.Prelude.{◌≡◌, ◌<◌, ◌≤◌, ◌++◌, ◌∷◌, [], Some, length, slice_get, OnOk, OnErr};
+ghost use Rattle.fq_pair.specs.Mates.{mates_in};
+
+use crate::packing::{append, packed_at, unpack_pair};
+use fq_pair::{Pair, PairView};
+use fq_text::{Encoding, OutOfMemory};
+use std::alloc::Global;
+use std::marker::Model;
+
+/// A number, an encoding, and at most 65,536 pairs, whose reads are all in that encoding.
+///
+/// The pairs lie in one buffer, one behind the other, and where each begins is kept beside it. Contracts see the number,
+/// the encoding and the list of the pairs.
+#[derive(Drop)]
+pub struct Block {
+    number: u64,
+    encoding: Encoding,
+    bytes: Vec<u8>,
+    // Where each pair begins in `bytes`.
+    starts: Vec<usize>,
+}
+
+impl Model for Block {
+    ghost use Rattle.fq_block.specs.Blocks.{Numbered, pairs_at, IsPacked};
+
+    ghost Value = { Numbered };
+
+    ghost view = { λ b. record {
+      number = b.number;
+      encoding = b.encoding;
+      pairs = pairs_at b.encoding b.bytes.items b.starts.items;
+    } };
+
+    ghost invariant = { λ b. IsPacked b.encoding b.bytes.items b.starts.items };
+}
+
+impl Block {
+    ghost use Rattle.std.specs.Prelude.{◌==◌};
+    ghost use Rattle.fq_block.specs.Packing.{packed_pairs};
+    ghost use Rattle.fq_block.specs.Blocks.{Numbered, IsOf};
+
+    /// A block of this number with no pairs. It takes no memory until a pair is pushed.
+    pub fn new(alloc: Global, number: u64, encoding: Encoding) -> Block
+        ensures { result ≡ record { number = number; encoding = encoding; pairs = [] } }
+    {
+        Block {
+            number,
+            encoding,
+            bytes: Vec::new(alloc),
+            starts: Vec::new(alloc),
+        }
+    }
+
+    /// Appends a copy of a pair. Memory is asked for before anything is written, and a refusal leaves the block as it was.
+    ///
+    /// The conditions are that the pair is in the block's encoding, and that the block has fewer than 65,536 pairs.
+    pub fn push(&mut self, pair: &Pair) -> Result<(), OutOfMemory>
+        requires encoding { IsOf self.old.encoding pair.now }
+        requires room { length self.old.pairs < 65536 }
+        ensures ok { OnOk result (self.new ≡ record self.old { pairs = self.old.pairs ++ pair.now ∷ [] }) }
+        ensures err { OnErr result (self.new ≡ self.old) }
+    {
+        append(&mut self.bytes, &mut self.starts, &pair.view())?;
+        Ok(())
+    }
+
+    /// How many pairs it has.
+    pub fn len(&self) -> usize
+        ensures len { result ≡ length self.now.pairs }
+        ensures limit { result ≤ 65536 }
+    {
+        self.starts.len()
+    }
+
+    /// Whether it has no pairs.
+    pub fn is_empty(&self) -> bool
+        ensures { result ≡ (length self.now.pairs == 0) }
+    {
+        self.starts.is_empty()
+    }
+
+    /// Its place among the blocks of a run, from 0.
+    pub fn number(&self) -> u64
+        ensures { result ≡ self.now.number }
+    {
+        self.number
+    }
+
+    /// The encoding of all its reads.
+    pub fn encoding(&self) -> Encoding
+        ensures { result ≡ self.now.encoding }
+    {
+        self.encoding
+    }
+
+    /// The pair at place `i`, from 0 in the order of the pushes, lent out of the block's buffer. Nothing is copied. The
+    /// condition is that `i` is less than [`len`](Block::len).
+    pub fn pair(&self, i: usize) -> PairView<'_>
+        requires { i < length self.now.pairs }
+        ensures { slice_get self.now.pairs i ≡ Some (mates_in result.forward result.reverse) }
+    {
+        let packed = packed_at(self.encoding, &self.bytes, &self.starts, i);
+        unpack_pair(self.encoding, packed)
+    }
+
+    /// The bytes of its pairs, one pair behind the other, each its forward read and then its reverse read. A read is the
+    /// length of its title in bytes and its number of bases, four bytes each, most significant byte first, and then the
+    /// title, the sequence and the quality. Number and encoding are not in these bytes.
+    pub fn packed(&self) -> &[u8]
+        ensures { result.now ≡ packed_pairs self.now.pairs }
+    {
+        &self.bytes
+    }
+
+    /// Takes all pairs out and gives it another number. It keeps its encoding, and its memory for the next pairs.
+    pub fn reset(&mut self, number: u64)
+        ensures { self.new ≡ record { number = number; encoding = self.old.encoding; pairs = [] } }
+    {
+        self.bytes.clear();
+        self.starts.clear();
+        self.number = number;
+    }
+}

@@ -1,0 +1,137 @@
+//! Reads as bytes, and back.
+
+ghost use Rattle.std.specs.Prelude.{◌≡◌, ◌+◌, ◌≤◌, ◌^◌, ◌<◌, ◌++◌, ◌∷◌, [], Some, length, drop, slice_get, OnOk, OnErr, vec_len, vec_capacity};
+ghost use Rattle.fq_text.specs.Grammar.{IsLawful};
+ghost use Rattle.fq_pair.specs.Mates.{mates_in};
+ghost use Rattle.fq_block.specs.Packing.{packed_length, packed_read, packed_pair, room_of, length_in, read_in, behind_read, pair_in, HoldsRead, HoldsPair};
+ghost use Rattle.fq_block.specs.Blocks.{pairs_at, IsPacked};
+
+use fq_pair::PairView;
+use fq_text::{Encoding, OutOfMemory, ReadView};
+
+/// Appends a pair, and the place where it begins. Memory is asked for first, and a refusal leaves both as they were.
+pub(crate) fn append(
+    bytes: &mut Vec<u8>,
+    starts: &mut Vec<usize>,
+    pair: &PairView<'_>,
+) -> Result<(), OutOfMemory>
+    ensures bytes { OnOk result (bytes.new.items ≡ bytes.old.items ++ packed_pair (mates_in pair.now.forward pair.now.reverse)) }
+    ensures starts { OnOk result (starts.new.items ≡ starts.old.items ++ vec_len bytes.old ∷ []) }
+    ensures err_bytes { OnErr result (bytes.new.items ≡ bytes.old.items) }
+    ensures err_starts { OnErr result (starts.new.items ≡ starts.old.items) }
+    ensures forward { IsLawful pair.now.forward }
+    ensures reverse { IsLawful pair.now.reverse }
+{
+    let start = bytes.len();
+    bytes.reserve(packed_len(pair))?;
+    starts.push(start)?;
+    append_pair(bytes, pair);
+    Ok(())
+}
+
+// How many bytes a pair takes.
+fn packed_len(pair: &PairView<'_>) -> usize
+    ensures len { result ≡ room_of pair.now.forward + room_of pair.now.reverse }
+    ensures forward { IsLawful pair.now.forward }
+    ensures reverse { IsLawful pair.now.reverse }
+{
+    read_len(&pair.forward) + read_len(&pair.reverse)
+}
+
+// How many bytes a read takes.
+fn read_len(read: &ReadView<'_>) -> usize
+    ensures len { result ≡ room_of read.now }
+    ensures small { result < 2 ^ 23 }
+    ensures lawful { IsLawful read.now }
+{
+    read.title().len() + 2 * read.seq().len() + 8
+}
+
+// Appends a pair to bytes that have room for it.
+fn append_pair(out: &mut Vec<u8>, pair: &PairView<'_>)
+    requires { vec_len out.old + (room_of pair.now.forward + room_of pair.now.reverse) ≤ vec_capacity out.old }
+    ensures { out.new.items ≡ out.old.items ++ packed_pair (mates_in pair.now.forward pair.now.reverse) }
+{
+    append_read(out, &pair.forward);
+    append_read(out, &pair.reverse);
+}
+
+// Appends a read, for which there is room.
+fn append_read(out: &mut Vec<u8>, read: &ReadView<'_>)
+    requires { vec_len out.old + room_of read.now ≤ vec_capacity out.old }
+    ensures items { out.new.items ≡ out.old.items ++ packed_read read.now }
+    ensures len { vec_len out.new ≡ vec_len out.old + room_of read.now }
+    ensures capacity { vec_capacity out.old ≤ vec_capacity out.new }
+{
+    let title = read.title();
+    let seq = read.seq();
+    append_length(out, title.len());
+    append_length(out, seq.len());
+    out.extend_from_slice(title).unwrap();
+    out.extend_from_slice(seq).unwrap();
+    out.extend_from_slice(read.qual()).unwrap();
+}
+
+// Appends a length in four bytes, for which there is room.
+#[tactic(auto, unfolding(crate::specs::Packing::packed_length))]
+fn append_length(out: &mut Vec<u8>, len: usize)
+    requires fits { len < 2 ^ 32 }
+    requires room { vec_len out.old + 4 ≤ vec_capacity out.old }
+    ensures items { out.new.items ≡ out.old.items ++ packed_length len }
+    ensures len { vec_len out.new ≡ vec_len out.old + 4 }
+    ensures capacity { vec_capacity out.old ≤ vec_capacity out.new }
+{
+    let bytes = (len as u32).to_be_bytes();
+    out.extend_from_slice(&bytes).unwrap();
+}
+
+/// The bytes from the pair at place `i` on.
+pub(crate) fn packed_at<'a>(
+    encoding: Encoding,
+    bytes: &'a [u8],
+    starts: &[usize],
+    i: usize,
+) -> &'a [u8]
+    requires packed { IsPacked encoding bytes.now starts.now }
+    requires within { i < length starts.now }
+    ensures held { HoldsPair encoding result.now }
+    ensures pair { slice_get (pairs_at encoding bytes.now starts.now) i ≡ Some (pair_in encoding result.now) }
+{
+    let (_, packed) = bytes.split_at(starts[i]);
+    packed
+}
+
+/// The pair at the front of packed bytes.
+pub(crate) fn unpack_pair(encoding: Encoding, packed: &[u8]) -> PairView<'_>
+    requires { HoldsPair encoding packed.now }
+    ensures { mates_in result.forward result.reverse ≡ pair_in encoding packed.now }
+{
+    let (forward, behind) = unpack_read(encoding, packed);
+    let (reverse, _) = unpack_read(encoding, behind);
+    PairView { forward, reverse }
+}
+
+// The read at the front of packed bytes, and the bytes behind it.
+fn unpack_read(encoding: Encoding, packed: &[u8]) -> (ReadView<'_>, &[u8])
+    requires { HoldsRead encoding packed.now }
+    ensures read { result.0 ≡ read_in encoding packed.now }
+    ensures behind { result.1.now ≡ behind_read packed.now }
+{
+    let (title_len, lengths) = unpack_length(packed);
+    let (bases, parts) = unpack_length(lengths);
+    let (title, scored) = parts.split_at(title_len);
+    let (seq, scores) = scored.split_at(bases);
+    let (qual, behind) = scores.split_at(bases);
+    (ReadView::new(encoding, title, seq, qual), behind)
+}
+
+// The length in the first four bytes, and the bytes behind them.
+#[tactic(auto, unfolding(crate::specs::Packing::length_in))]
+fn unpack_length(packed: &[u8]) -> (usize, &[u8])
+    requires { 4 ≤ length packed.now }
+    ensures length { result.0 ≡ length_in packed.now }
+    ensures behind { result.1.now ≡ drop 4 packed.now }
+{
+    let (bytes, behind) = packed.split_first_chunk::<4>().unwrap();
+    (u32::from_be_bytes(*bytes) as usize, behind)
+}

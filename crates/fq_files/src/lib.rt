@@ -1,0 +1,13 @@
+//! Files by name: where a program's inputs come from and its outputs go, in memory or on a disk.
+#![tactic(auto)]
+
+mod files;
+mod memory;
+mod system;
+
+pub use files::{FileFault, Files};
+pub use memory::{MemoryFiles, MemoryTarget};
+pub use system::{SystemFiles, SystemTarget};
+
+#[cfg(test)]
+mod tests;

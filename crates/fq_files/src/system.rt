@@ -1,0 +1,165 @@
+//! Files of the system.
+
+use crate::files::{FileFault, Files};
+use fq_text::{FromRead, OutOfMemory, Outlet, OutletFailed};
+use std::alloc::Global;
+use std::fs::{self, File, Metadata, OpenOptions};
+use std::io::Write;
+use std::os::unix::fs::MetadataExt;
+use std::rt;
+
+/// What tells one file of the system from all others: its device, and its number there.
+#[derive(Clone, Copy, PartialEq, Eq)]
+struct Identity {
+    device: u64,
+    number: u64,
+}
+
+impl Identity {
+    fn of(metadata: &Metadata) -> Identity {
+        Identity {
+            device: metadata.dev(),
+            number: metadata.ino(),
+        }
+    }
+}
+
+/// The files of the system, which tell no bytes.
+///
+/// A file that was opened as an input is refused as an output, under whatever name, and is left as it is.
+#[derive(Drop)]
+pub struct SystemFiles<'a, R: rt::Files<File = File>> {
+    runtime: &'a R,
+    inputs: Vec<Identity>,
+}
+
+impl<'a, R: rt::Files<File = File>> SystemFiles<'a, R> {
+    /// The files that this runtime reaches.
+    pub fn new(alloc: Global, runtime: &'a R) -> SystemFiles<'a, R> {
+        SystemFiles {
+            runtime,
+            inputs: Vec::new(alloc),
+        }
+    }
+
+    // Whether this file was opened as an input.
+    fn is_input(&self, metadata: &Metadata) -> bool {
+        let identity = Identity::of(metadata);
+        self.inputs.iter().any(|input| *input == identity)
+    }
+}
+
+impl<'a, R: rt::Files<File = File>> Files for SystemFiles<'a, R> {
+    ghost use Rattle.std.specs.Prelude.{false, None};
+
+    type In = FromRead<File>;
+
+    type Target = SystemTarget;
+
+    ghost tells_bytes = { λ _. false };
+
+    ghost bytes_of = { λ _ _. None };
+
+    fn source(&mut self, name: &str) -> Result<FromRead<File>, FileFault> {
+        let Ok(file) = File::open(self.runtime, name) else {
+            return Err(FileFault::Refused);
+        };
+        let Ok(metadata) = file.metadata() else {
+            return Err(FileFault::Refused);
+        };
+        if metadata.is_dir() {
+            return Err(FileFault::Refused);
+        }
+        self.inputs
+            .push(Identity::of(&metadata))
+            .map_err(OutOfMemory::from)?;
+        Ok(FromRead::new(file))
+    }
+
+    fn leads_to_input(&self, name: &str) -> bool {
+        match fs::metadata(self.runtime, name) {
+            Ok(metadata) => self.is_input(&metadata),
+            Err(_) => false,
+        }
+    }
+
+    fn target(&mut self, name: &str) -> Result<SystemTarget, FileFault> {
+        // It is opened as it stands, and emptied only once it is known to be no input.
+        let mut options = OpenOptions::new();
+        let opened = options.write(true).create(true).open(self.runtime, name);
+        let Ok(file) = opened else {
+            return Err(FileFault::Refused);
+        };
+        let Ok(metadata) = file.metadata() else {
+            return Err(FileFault::Refused);
+        };
+        if self.is_input(&metadata) {
+            return Err(FileFault::Refused);
+        }
+        let is_regular = metadata.is_file();
+        if is_regular && file.set_len(0).is_err() {
+            return Err(FileFault::Refused);
+        }
+        Ok(SystemTarget {
+            file,
+            is_regular,
+            failed_calls: 0,
+        })
+    }
+
+    fn done(&mut self, _name: &str, _target: SystemTarget) {}
+}
+
+/// A file of the system that is written. It tells no bytes.
+///
+/// It is written without a buffer, so write large pieces. A flush of a regular file waits until its bytes are on the disk, and fails
+/// where the system says only then that some were lost, as on a full quota or a disk over a network.
+#[derive(Drop)]
+pub struct SystemTarget {
+    file: File,
+    // Pipes and terminals have no disk to wait for.
+    is_regular: bool,
+    failed_calls: u64,
+}
+
+impl SystemTarget {
+    ghost use Rattle.std.specs.Prelude.{◌≡◌, ◌<◌, ◌+◌};
+
+    // One failure more.
+    fn fail(&mut self) -> OutletFailed
+        requires { self.old.failed_calls < u64.MAX }
+        ensures { self.new.failed_calls ≡ self.old.failed_calls + 1 }
+    {
+        self.failed_calls += 1;
+        OutletFailed
+    }
+}
+
+impl Outlet for SystemTarget {
+    ghost use Rattle.std.specs.Prelude.{false, []};
+
+    ghost tells = { λ _. false };
+
+    ghost taken = { λ _. [] };
+
+    ghost failure_count = { λ t. t.failed_calls };
+
+    fn write(&mut self, bytes: &[u8]) -> Result<usize, OutletFailed> {
+        match self.file.write(bytes) {
+            Ok(0) if !bytes.is_empty() => Err(self.fail()),
+            Ok(n) => Ok(n),
+            Err(_) => Err(self.fail()),
+        }
+    }
+
+    fn flush(&mut self) -> Result<(), OutletFailed> {
+        if self.is_regular && self.file.sync_data().is_err() {
+            return Err(self.fail());
+        }
+        Ok(())
+    }
+
+    fn failures(&self) -> u64 {
+        self.failed_calls
+    }
+}

@@ -1,0 +1,5 @@
+mod AnswerLemmas
+mod StoreLemmas
+mod TextLemmas
+mod WordLemmas
+mod ExampleLemmas

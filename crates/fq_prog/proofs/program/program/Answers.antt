@@ -1,0 +1,19 @@
+use Rattle.std.proofs.Common.{◌≡◌, ◌≢◌, subst, inr, ⊎_elim, map}
+use Rattle.clap.specs.Words.{HasKind, kind_of}
+use Rattle.clap.specs.Kinds.{Kinds}
+use Rattle.clap.specs.declared.error.kind.ErrorKind.TheVariants.{DisplayHelp, DisplayVersion, OutOfMemory}
+use Rattle.fq_prog.specs.Words.{words_fault}
+use Rattle.fq_prog.proofs.AnswerLemmas.{among_all, lacks_answer}
+use Rattle.fq_prog.proofs.program.program.Goals as goal
+
+pub returns-in-Err-clause-pairs : goal.returns-in-Err-clause-pairs
+returns-in-Err-clause-pairs g c = λ a asked.
+    let P : Kinds → Type 0 = λ kinds. HasKind kinds c.in-Err.error in
+    let memory : kind_of c.in-Err.error ≡ OutOfMemory = ⊎_elim (λ e. e) (λ none. absurd none) (subst P asked.parse c.in-Err.ensures.err) in
+    let five = c.refuse_words.ensures.no_memory memory in
+    lacks_answer a _ _ _ _ _ _ (c.refuse_words.ensures.memory five).1
+
+pub returns-in-Err-clause-usage : goal.returns-in-Err-clause-usage
+returns-in-Err-clause-usage g c = λ refused. ⊎_elim (λ memory. inr (c.refuse_words.ensures.no_memory memory))
+    (λ among. let other = among_all (λ kind. (kind ≢ DisplayHelp) × (kind ≢ DisplayVersion)) (kind_of c.in-Err.error) (words_fault (map (λ word. word.now) c.args.words.now)) among refused.no_help in
+    c.refuse_words.ensures.usage other.0 other.1) c.in-Err.ensures.err

@@ -1,0 +1,48 @@
+use Rattle.std.proofs.Common.{◌≡◌, IsTrue, Bool, Option, Some, None, is_some, option_map, refl, sym, subst, ◌∙◌}
+use Rattle.fq_pair.specs.Outputs.{texts_of, text_of}
+use Rattle.fq_pair.specs.Pairing.{pairs}
+use Rattle.fq_run.specs.Devices.{outlet_states}
+use Rattle.fq_prog.specs.Requests.{asking_of}
+use Rattle.fq_prog.proofs.TextLemmas.{texts_held}
+use Rattle.fq_prog.proofs.trimming.trim_files.Goals as goal
+
+along : (a b : Bool) → a ≡ b → IsTrue b → IsTrue a
+along a b e told = subst IsTrue (sym e) told
+
+is_some_map : {X Y : Type 0} (f : X → Y) (o : Option X) → is_some (option_map f o) ≡ is_some o
+is_some_map f None = refl
+is_some_map f (Some x) = refl
+
+pub store-requires-after_bounds : goal.store-requires-after_bounds
+store-requires-after_bounds g c κs within = λ told.
+    c.in_ok-outlets.ensures.held (along _ _ (sym c.in_ok-outlets.ensures.told) told)
+
+pub returns-clause-trims : goal.returns-clause-trims
+returns-clause-trims g c = λ told distinct whole.
+    let a = asking_of c.args.request.now in
+    let choices = c.in_ok-settings.settings in
+    let told_1 = along _ _ c.in_ok-forward.ensures.told told in
+    let told_2 = along _ _ c.in_ok-reverse.ensures.told told_1 in
+    let told_3 = along _ _ c.in_ok-outlets.ensures.told told_2 in
+    let forward = c.in_ok-forward.ensures.fed told in
+    let reverse = c.in_ok-reverse.ensures.fed told_1 in
+    let states = outlet_states g.T.Target.Outlet.tells g.T.Target.Outlet.taken g.T.Target.Outlet.failure_count in
+    let f = g.T.In.Feed.to_come c.in_ok-forward.forward in
+    let r = g.T.In.Feed.to_come c.in_ok-reverse.reverse in
+    let there : is_some c.in_ok-outlets.outlets.log ≡ is_some a.log = c.in_ok-outlets.ensures.log in
+    let mapped : is_some (states c.in_ok-outlets.outlets).log ≡ is_some c.in_ok-outlets.outlets.log = is_some_map _ _ in
+    let log_there = mapped ∙ there in
+    let trimmed = c.run_threads-ending.ensures.whole whole (record { forward = forward.told; reverse = reverse.told }) in
+    record {
+      choices = choices;
+      forward = f;
+      reverse = r;
+      settings = sym c.settings_of.ensures ∙ c.in_ok-settings.was;
+      forward_is = forward.bytes_are;
+      reverse_is = sym (c.in_ok-forward.ensures.unchanged told a.reverse) ∙ reverse.bytes_are;
+      texts = texts_held a (states c.in_ok-outlets.outlets) (states c.run_threads-ending.new.outlets)
+          (λ out. text_of out (texts_of choices.steps (pairs choices.check_names choices.encoding 0 f r).mates))
+          (g.T.Files.bytes_of c.store.new.files) log_there (c.in_ok-outlets.ensures.empty told_2) trimmed.took (c.store.ensures told_3 distinct);
+      counts_are = trimmed.counts;
+      outcome_is = trimmed.outcome;
+    }

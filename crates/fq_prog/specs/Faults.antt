@@ -1,0 +1,90 @@
+-- What the program says of the outcome of a run: the exit status, and the line on standard error.
+use Rattle.std.specs.Prelude.{ℕ, Some, List, [], ◌++◌, codes, decimal}
+use Rattle.fq_text.specs.Written.{line}
+use Rattle.fq_text.specs.declared.fault.TextFault.{TextFault}
+use Rattle.fq_text.specs.declared.fault.TextFault.TheVariants as text
+use Rattle.fq_pair.specs.declared.side.Side.{Side}
+use Rattle.fq_pair.specs.declared.fault.InputFault.{InputFault}
+use Rattle.fq_pair.specs.declared.fault.InputFault.TheVariants.{Text, MateMissing, NamesDiffer}
+use Rattle.fq_pair.specs.Summaries.{side_name, out_name}
+use Rattle.fq_run.specs.declared.outcome.Outcome.{Outcome}
+use Rattle.fq_run.specs.declared.outcome.Outcome.TheVariants.{Spawn, Lane, Gate, Memory, Write, Read, Endless, Input, Finished}
+use Rattle.fq_run.specs.Outcomes.{end_of}
+
+-- An outcome as it is told: a text that could not be read on is no fault of the text.
+abbrev pub settled : Outcome → Outcome
+settled (Input fault) = end_of (Some fault)
+settled Spawn = Spawn
+settled Lane = Lane
+settled Gate = Gate
+settled Memory = Memory
+settled (Write out) = Write out
+settled (Read side) = Read side
+settled (Endless side) = Endless side
+settled Finished = Finished
+
+-- Exit statuses: all done; a fault of the input; a device; memory; threads.
+abbrev pub status_when : Outcome → ℕ
+status_when Finished = 0
+status_when (Input fault) = 3
+status_when (Write out) = 4
+status_when (Read side) = 4
+status_when (Endless side) = 4
+status_when Memory = 5
+status_when Spawn = 6
+status_when Lane = 6
+status_when Gate = 6
+
+abbrev pub outcome_status : Outcome → ℕ
+outcome_status outcome = status_when (settled outcome)
+
+-- a fault of a text: its name, and the number of its record (none where the text could not be read on)
+abbrev pub kind_name : TextFault → List ℕ
+kind_name (text.NoTitle k) = codes "NoTitle"
+kind_name (text.BadSequence k) = codes "BadSequence"
+kind_name (text.NoPlus k) = codes "NoPlus"
+kind_name (text.PlusDiffers k) = codes "PlusDiffers"
+kind_name (text.BadQuality k) = codes "BadQuality"
+kind_name (text.QualityLong k) = codes "QualityLong"
+kind_name (text.QualityShort k) = codes "QualityShort"
+kind_name (text.TooLong k) = codes "TooLong"
+kind_name text.Read = codes "Read"
+kind_name text.Endless = codes "Endless"
+kind_name text.OutOfMemory = codes "OutOfMemory"
+
+abbrev pub record_of : TextFault → ℕ
+record_of (text.NoTitle k) = k
+record_of (text.BadSequence k) = k
+record_of (text.NoPlus k) = k
+record_of (text.PlusDiffers k) = k
+record_of (text.BadQuality k) = k
+record_of (text.QualityLong k) = k
+record_of (text.QualityShort k) = k
+record_of (text.TooLong k) = k
+record_of text.Read = 0
+record_of text.Endless = 0
+record_of text.OutOfMemory = 0
+
+-- a fault of one side's record
+abbrev pub at_record : Side → ℕ → List ℕ → List ℕ
+at_record side k kind = codes "input: " ++ side_name side ++ codes " record " ++ decimal k ++ codes ": " ++ kind
+
+abbrev pub input_words : InputFault → List ℕ
+input_words (Text side fault) = at_record side (record_of fault) (kind_name fault)
+input_words (MateMissing side k) = at_record side k (codes "MateMissing")
+input_words (NamesDiffer k) = codes "input: record " ++ decimal k ++ codes ": NamesDiffer"
+
+-- The line of an outcome with its line end, and nothing where all is done.
+abbrev pub line_when : Outcome → List ℕ
+line_when Spawn = line (codes "cannot start a thread")
+line_when Lane = line (codes "lane not confirmed")
+line_when Gate = line (codes "gate closed")
+line_when Memory = line (codes "out of memory")
+line_when (Write out) = line (codes "write failed: " ++ out_name out)
+line_when (Read side) = line (codes "read failed: " ++ side_name side)
+line_when (Endless side) = line (codes "endless input: " ++ side_name side)
+line_when (Input fault) = line (input_words fault)
+line_when Finished = []
+
+abbrev pub outcome_line : Outcome → List ℕ
+outcome_line outcome = line_when (settled outcome)

@@ -1,0 +1,41 @@
+//! The texts of help that the commands and their options don't give.
+
+pub(crate) const ABOUT: &str =
+    "Trims paired-end FASTQ reads. Mates stay in step, and the outputs keep the order of the inputs.";
+
+pub(crate) const ABOUT_PAIRS: &str =
+    "Trims the pairs of two FASTQ files into four, and prints a summary";
+
+pub(crate) const ABOUT_EXAMPLE: &str = "Prints what becomes of two built-in pairs under LEADING:3";
+
+pub(crate) const START: &str = "Start with:
+  fq_prog EXAMPLE    shows the outputs, the trim log and the summary of a small run
+  fq_prog PE --help  says what each option and each step does
+
+Example:
+  fq_prog PE r1.fq r2.fq r1.paired.fq r1.unpaired.fq r2.paired.fq r2.unpaired.fq LEADING:3 TRAILING:3 SLIDINGWINDOW:4:15 MINLEN:36";
+
+pub(crate) const PAIRS: &str =
+    "Steps are taken in the order in which they are written, each on what the one before left. t is a Phred score, m and w are
+numbers of bases, from 0 to 999999999, w from 1:
+  LEADING:t          removes bases from the front, up to the first with a score of t or more
+  TRAILING:t         removes bases from the end, back to the last with a score of t or more
+  SLIDINGWINDOW:w:t  cuts where the average score of w bases in a row falls below t, behind the last base before with t or more
+  CROP:m             keeps the first m bases
+  HEADCROP:m         removes the first m bases
+  AVGQUAL:t          drops a read whose average score is below t
+  MINLEN:m           drops a read of fewer than m bases
+  TOPHRED33          writes qualities as score + 33, whatever the encoding of the inputs
+A read without bases after a step is dropped. A mate that survives alone goes to FU or RU.
+
+Example:
+  fq_prog PE --trimlog trim.log r1.fq r2.fq r1.paired.fq r1.unpaired.fq r2.paired.fq r2.unpaired.fq LEADING:3 TRAILING:3 SLIDINGWINDOW:4:15 MINLEN:36
+
+Exit status: 0 done; 1 wrong words; 2 a bad encoding, step, setting or name; 3 a fault in the input (the pairs before it are written);
+4 a file that could not be read, made or written; 5 out of memory; 6 threads that failed.";
+
+pub(crate) const EXAMPLE: &str =
+    "It reads no file. The four outputs, the trim log and the summary are printed, each below a label.
+
+Example:
+  fq_prog EXAMPLE";

@@ -1,0 +1,138 @@
+//! What is to be trimmed, from where and to where.
+
+ghost use Rattle.std.specs.Prelude.{◌≡◌, [], unwrap_or};
+ghost use Rattle.fq_prog.specs.Requests.{asking_of, encoding_of, settings_of, same_name, output_name, input_name, is_input};
+
+use crate::refusal::Refusal;
+use fq_pair::{Out, Side};
+use fq_run::Settings;
+use fq_text::Encoding;
+use fq_trim::Steps;
+
+/// What is to be trimmed, as the words give it: no number is in its range yet, and no word is judged.
+#[derive(Drop)]
+pub(crate) struct Request<'a> {
+    /// The name of the encoding.
+    pub(crate) encoding: &'a str,
+    /// How many threads trim.
+    pub(crate) threads: u64,
+    /// Pairs that are trimmed and written at a time.
+    pub(crate) block: u64,
+    /// Items that a lane between threads holds.
+    pub(crate) depth: u64,
+    /// Bytes that are read at a time.
+    pub(crate) chunk: u64,
+    /// Whether the names of mates have to match.
+    pub(crate) check_names: bool,
+    /// The names of the two inputs.
+    pub(crate) forward: &'a str,
+    pub(crate) reverse: &'a str,
+    /// The names of the four outputs.
+    pub(crate) forward_paired: &'a str,
+    pub(crate) forward_unpaired: &'a str,
+    pub(crate) reverse_paired: &'a str,
+    pub(crate) reverse_unpaired: &'a str,
+    /// The name of the log, if one is wanted.
+    pub(crate) log: Option<&'a str>,
+    /// The words of the steps.
+    pub(crate) steps: Vec<&'a str>,
+}
+
+// The reads of an input, and the turns at a gate: 2 to the power of 40.
+const MOST: u64 = 1 << 40;
+
+/// The settings of the run, or the first of the encoding, the steps and the numbers that is bad.
+pub(crate) fn settings_of(request: &Request<'_>) -> Result<Settings, Refusal>
+    ensures { result ≡ settings_of (asking_of request.now) }
+{
+    let encoding = match encoding_of(request.encoding) {
+        Some(encoding) => encoding,
+        None => return Err(Refusal::Encoding),
+    };
+    let steps = match Steps::parse(&request.steps) {
+        Ok(steps) => steps,
+        Err(fault) => return Err(Refusal::Step(fault)),
+    };
+    match Settings::new(
+        encoding,
+        steps,
+        request.check_names,
+        request.threads,
+        request.block,
+        request.depth,
+        request.chunk,
+        MOST,
+        MOST,
+    ) {
+        Ok(settings) => Ok(settings),
+        Err(bad) => Err(Refusal::Setting(bad)),
+    }
+}
+
+// The encoding of a name.
+fn encoding_of(name: &str) -> Option<Encoding>
+    ensures { result ≡ encoding_of name.now }
+{
+    match name {
+        "sanger" => Some(Encoding::Sanger),
+        "illumina13" => Some(Encoding::Illumina13),
+        _ => None,
+    }
+}
+
+/// The first output whose name is that of an input, in the order of [`Out`].
+pub(crate) fn same_name(request: &Request<'_>) -> Option<Out>
+    ensures { result ≡ same_name (asking_of request.now) }
+{
+    if is_input(request, request.forward_paired) {
+        return Some(Out::ForwardPaired);
+    }
+    if is_input(request, request.forward_unpaired) {
+        return Some(Out::ForwardUnpaired);
+    }
+    if is_input(request, request.reverse_paired) {
+        return Some(Out::ReversePaired);
+    }
+    if is_input(request, request.reverse_unpaired) {
+        return Some(Out::ReverseUnpaired);
+    }
+    match request.log {
+        Some(log) if is_input(request, log) => Some(Out::Log),
+        _ => None,
+    }
+}
+
+// Whether a name is that of an input.
+fn is_input(request: &Request<'_>, name: &str) -> bool
+    ensures { result ≡ is_input (asking_of request.now) name.now }
+{
+    name == request.forward || name == request.reverse
+}
+
+impl Request<'_> {
+    /// The name of an output, or nothing for a log that isn't wanted.
+    pub(crate) fn output_name(&self, out: Out) -> &str
+        ensures { result.now ≡ unwrap_or (output_name (asking_of self.now) out) [] }
+    {
+        match out {
+            Out::ForwardPaired => self.forward_paired,
+            Out::ForwardUnpaired => self.forward_unpaired,
+            Out::ReversePaired => self.reverse_paired,
+            Out::ReverseUnpaired => self.reverse_unpaired,
+            Out::Log => match self.log {
+                Some(name) => name,
+                None => "",
+            },
+        }
+    }
+
+    /// The name of an input.
+    pub(crate) fn input_name(&self, side: Side) -> &str
+        ensures { result.now ≡ input_name (asking_of self.now) side }
+    {
+        match side {
+            Side::Forward => self.forward,
+            Side::Reverse => self.reverse,
+        }
+    }
+}

@@ -1,0 +1,227 @@
+use super::*;
+use fq_files::FileFault;
+use fq_text::ScriptFeed;
+
+// What goes wrong with a file.
+#[derive(Clone, Copy)]
+enum Trouble {
+    // A call for it is refused.
+    Refused(FileFault),
+    // This read or write of it fails.
+    Call(u64),
+    // It leads to an input.
+    Input,
+}
+
+// Files in memory, one of which makes trouble.
+#[derive(Drop)]
+struct TroubledFiles {
+    held: MemoryFiles,
+    name: &'static str,
+    trouble: Trouble,
+    alloc: Global,
+}
+
+impl TroubledFiles {
+    fn new(
+        alloc: Global,
+        held: MemoryFiles,
+        name: &'static str,
+        trouble: Trouble,
+    ) -> TroubledFiles {
+        TroubledFiles {
+            held,
+            name,
+            trouble,
+            alloc,
+        }
+    }
+
+    // The call of this file that fails, or 0; or why the file is refused.
+    fn failing_call(&self, name: &str) -> Result<u64, FileFault> {
+        if name != self.name {
+            return Ok(0);
+        }
+        match self.trouble {
+            Trouble::Refused(fault) => Err(fault),
+            Trouble::Call(call) => Ok(call),
+            Trouble::Input => Ok(0),
+        }
+    }
+}
+
+impl Files for TroubledFiles {
+    ghost use Rattle.std.specs.Prelude.{false, None};
+
+    type In = ScriptFeed;
+
+    type Target = ScriptOutlet;
+
+    ghost tells_bytes = { λ _. false };
+
+    ghost bytes_of = { λ _ _. None };
+
+    fn source(&mut self, name: &str) -> Result<ScriptFeed, FileFault> {
+        let call = self.failing_call(name)?;
+        match self.held.get(name) {
+            Some(bytes) => Ok(ScriptFeed::new(self.alloc, bytes, 1000, call)?),
+            None => Err(FileFault::Refused),
+        }
+    }
+
+    fn leads_to_input(&self, name: &str) -> bool {
+        name == self.name && matches!(self.trouble, Trouble::Input)
+    }
+
+    fn target(&mut self, name: &str) -> Result<ScriptOutlet, FileFault> {
+        let call = self.failing_call(name)?;
+        self.held.put(name, &[])?;
+        Ok(ScriptOutlet::new(self.alloc, 1000, call, false))
+    }
+
+    fn done(&mut self, name: &str, target: ScriptOutlet) {
+        // Where memory is refused the file stays empty, and the test fails.
+        let _ = self.held.put(name, target.bytes());
+    }
+}
+
+fn two_pairs_with(
+    alloc: Global,
+    name: &'static str,
+    trouble: Trouble,
+) -> Result<TroubledFiles, Fail> {
+    Ok(TroubledFiles::new(alloc, files_of(alloc, FORWARD, REVERSE)?, name, trouble))
+}
+
+#[test]
+fn each_output_is_done_with_after_a_failed_write(rt: HostRuntime) -> Result<(), Fail> {
+    let held = files_of(rt.alloc(), SEVEN_FORWARD, SEVEN_REVERSE)?;
+    let mut files = TroubledFiles::new(rt.alloc(), held, "fp", Trouble::Call(3));
+    let options = ["--trimlog", "log", "--threads", "2", "--block", "1"];
+    let words = pairs_words(rt.alloc(), &options, SEVEN_STEPS)?;
+    let called = call(&rt, rt.alloc(), &words, &mut files);
+    assert_eq!(rt; called.status, 4);
+    assert_eq!(rt;
+        called.err.bytes(),
+        b"write failed: forward paired\n".as_slice()
+    );
+    assert_eq!(rt; called.out.bytes(), b"".as_slice());
+    let texts: [(&str, &[u8]); 5] = [
+        ("fp", b"@n1/1\nACGT\n+\nIIII\n@n2/1\nGT\n+\nII\n"),
+        ("fu", b"@n3/1\nACGT\n+\nIIII\n"),
+        ("rp", b"@n1/2\nTT\n+\nII\n@n2/2\nTT\n+\nII\n"),
+        ("ru", b""),
+        (
+            "log",
+            b"n1 4 0 4 0\nn1 2 0 2 2\nn2 2 2 4 0\nn2 2 0 2 2\nn3 4 0 4 0\nn3 0 0 0 0\n",
+        ),
+    ];
+    for (name, text) in texts {
+        assert!(rt; holds(&files.held, name, text));
+    }
+    Ok(())
+}
+
+#[test]
+fn each_output_is_done_with_after_a_failed_read(rt: HostRuntime) -> Result<(), Fail> {
+    let rows: [(&'static str, &[u8]); 2] = [
+        ("f", b"read failed: forward\n"),
+        ("r", b"read failed: reverse\n"),
+    ];
+    for (name, line) in rows {
+        let mut files = two_pairs_with(rt.alloc(), name, Trouble::Call(2))?;
+        let words = pairs_words(
+            rt.alloc(),
+            &["--trimlog", "log", "--chunk", "18"],
+            &["LEADING:3"],
+        )?;
+        let called = call(&rt, rt.alloc(), &words, &mut files);
+        assert_eq!(rt; called.status, 4);
+        assert_eq!(rt; called.err.bytes(), line);
+        assert_eq!(rt; called.out.bytes(), b"".as_slice());
+        assert!(rt; holds(&files.held, "fp", b"@p1/1\nGT\n+\nII\n"));
+        assert!(rt; holds(&files.held, "rp", b"@p1/2\nTTTT\n+\nIIII\n"));
+        assert!(rt; holds(&files.held, "log", b"p1 2 2 4 0\np1 4 0 4 0\n"));
+    }
+    Ok(())
+}
+
+#[test]
+fn files_that_are_refused(rt: HostRuntime) -> Result<(), Fail> {
+    let rows: [(&'static str, FileFault, u8, &[u8]); 6] = [
+        ("f", FileFault::Refused, 4, b"cannot read f\n"),
+        ("r", FileFault::Refused, 4, b"cannot read r\n"),
+        ("f", FileFault::OutOfMemory, 5, b"out of memory\n"),
+        ("fp", FileFault::Refused, 4, b"cannot write fp\n"),
+        ("log", FileFault::Refused, 4, b"cannot write log\n"),
+        ("ru", FileFault::OutOfMemory, 5, b"out of memory\n"),
+    ];
+    for (name, fault, status, line) in rows {
+        let mut files = two_pairs_with(rt.alloc(), name, Trouble::Refused(fault))?;
+        let words = pairs_words(rt.alloc(), &["--trimlog", "log"], &["LEADING:3"])?;
+        let called = call(&rt, rt.alloc(), &words, &mut files);
+        assert_eq!(rt; called.status, status);
+        assert_eq!(rt; called.err.bytes(), line);
+        assert_eq!(rt; called.out.bytes(), b"".as_slice());
+        // The outputs before it were made, and those behind it not.
+        let mut before = name != "f" && name != "r";
+        for output in OUTPUTS {
+            before = before && output != name;
+            let made = files.held.get(output).is_some();
+            assert_eq!(rt; made, before);
+            assert_eq!(rt; holds(&files.held, output, b""), before);
+        }
+    }
+    Ok(())
+}
+
+#[test]
+fn an_output_that_is_an_input_under_another_name(rt: HostRuntime) -> Result<(), Fail> {
+    let rows: [(&'static str, &[u8]); 5] = [
+        ("fp", b"cannot write fp\n"),
+        ("fu", b"cannot write fu\n"),
+        ("rp", b"cannot write rp\n"),
+        ("ru", b"cannot write ru\n"),
+        ("log", b"cannot write log\n"),
+    ];
+    for (name, line) in rows {
+        let mut files = two_pairs_with(rt.alloc(), name, Trouble::Input)?;
+        let words = pairs_words(rt.alloc(), &["--trimlog", "log"], &["LEADING:3"])?;
+        let called = call(&rt, rt.alloc(), &words, &mut files);
+        assert_eq!(rt; called.status, 4);
+        assert_eq!(rt; called.err.bytes(), line);
+        for output in OUTPUTS {
+            assert!(rt; files.held.get(output).is_none());
+        }
+    }
+    Ok(())
+}
+
+#[test]
+fn a_standard_output_that_fails(rt: HostRuntime) -> Result<(), Fail> {
+    let words = pairs_words(rt.alloc(), &[], &["LEADING:3"])?;
+    let rows: [(&[u8], u8, &[u8]); 2] = [
+        (FORWARD, 4, b"cannot print\n"),
+        (
+            &FORWARD[..16],
+            3,
+            b"input: forward record 1: QualityShort\n",
+        ),
+    ];
+    for (forward, status, line) in rows {
+        let mut files = files_of(rt.alloc(), forward, REVERSE)?;
+        let out = ScriptOutlet::new(rt.alloc(), 1000, 1, false);
+        let called = call_onto(&rt, rt.alloc(), &words, &mut files, out);
+        assert_eq!(rt; called.status, status);
+        assert_eq!(rt; called.err.bytes(), line);
+        assert_eq!(rt; called.out.bytes(), b"".as_slice());
+    }
+    for words in [&["fq", "EXAMPLE"], &["fq", "--help"]] {
+        let mut files = MemoryFiles::new(rt.alloc());
+        let out = ScriptOutlet::new(rt.alloc(), 1000, 1, false);
+        let called = call_onto(&rt, rt.alloc(), words, &mut files, out);
+        assert_eq!(rt; called.status, 4);
+        assert_eq!(rt; called.err.bytes(), b"cannot print\n".as_slice());
+    }
+    Ok(())
+}

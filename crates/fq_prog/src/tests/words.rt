@@ -1,0 +1,108 @@
+use super::*;
+
+#[test]
+fn what_is_refused_before_a_file_is_opened(rt: HostRuntime) -> Result<(), Fail> {
+    let rows: [(&[&'static str], &[&'static str], &[u8]); 8] = [
+        (
+            &["--threads", "0"],
+            &["LEADING:3"],
+            b"bad setting: workers\n",
+        ),
+        (
+            &["--encoding", "phred", "--threads", "0"],
+            &["LEADING:3"],
+            b"bad encoding: phred\n",
+        ),
+        (
+            &["--threads", "0"],
+            &["LEADING:3", "CROP"],
+            b"bad step 2: WrongCount\n",
+        ),
+        (&["--block", "0"], &["LEADING:3"], b"bad setting: block\n"),
+        (&["--depth", "65"], &["LEADING:3"], b"bad setting: depth\n"),
+        (&["--chunk", "0"], &["LEADING:3"], b"bad setting: chunk\n"),
+        (&["--trimlog", "r"], &["LEADING:3"], b"same name: r\n"),
+        (&[], &[], b"bad step 0: NoSteps\n"),
+    ];
+    for (options, steps, line) in rows {
+        let mut files = files_of(rt.alloc(), FORWARD, REVERSE)?;
+        let words = pairs_words(rt.alloc(), options, steps)?;
+        let called = call(&rt, rt.alloc(), &words, &mut files);
+        assert_eq!(rt; called.err.bytes(), line);
+        assert_eq!(rt; called.status, 2);
+        assert_eq!(rt; called.out.bytes(), b"".as_slice());
+        assert!(rt; files.get("fu").is_none());
+        assert!(rt; holds(&files, "f", FORWARD));
+    }
+    Ok(())
+}
+
+#[test]
+fn an_output_with_the_name_of_an_input(rt: HostRuntime) -> Result<(), Fail> {
+    let mut files = files_of(rt.alloc(), FORWARD, REVERSE)?;
+    let words = ["fq", "PE", "f", "r", "f", "fu", "rp", "ru", "LEADING:3"];
+    let called = call(&rt, rt.alloc(), &words, &mut files);
+    assert_eq!(rt; called.status, 2);
+    assert_eq!(rt; called.err.bytes(), b"same name: f\n".as_slice());
+    assert!(rt; holds(&files, "f", FORWARD));
+    Ok(())
+}
+
+#[test]
+fn one_step_too_many(rt: HostRuntime) -> Result<(), Fail> {
+    let mut files = files_of(rt.alloc(), FORWARD, REVERSE)?;
+    let steps = ["CROP:1"; 65];
+    let words = pairs_words(rt.alloc(), &[], &steps)?;
+    let called = call(&rt, rt.alloc(), &words, &mut files);
+    assert_eq!(rt; called.status, 2);
+    assert_eq!(rt; called.err.bytes(), b"bad step 65: TooMany\n".as_slice());
+    Ok(())
+}
+
+#[test]
+fn words_that_are_no_command(rt: HostRuntime) -> Result<(), Fail> {
+    let rows: [&[&str]; 5] = [
+        &["fq"],
+        &["fq", "PE", "f"],
+        &["fq", "example"],
+        &["fq", "EXAMPLE", "f"],
+        &[
+            "fq",
+            "PE",
+            "--threads",
+            "x",
+            "f",
+            "r",
+            "fp",
+            "fu",
+            "rp",
+            "ru",
+        ],
+    ];
+    for words in rows {
+        let mut files = MemoryFiles::new(rt.alloc());
+        let called = call(&rt, rt.alloc(), words, &mut files);
+        assert_eq!(rt; called.status, 1);
+        assert_eq!(rt; called.out.bytes(), b"".as_slice());
+        assert!(rt; !called.err.bytes().is_empty());
+    }
+    Ok(())
+}
+
+#[test]
+fn help_is_printed(rt: HostRuntime) -> Result<(), Fail> {
+    let rows: [&[&str]; 4] = [
+        &["fq", "--help"],
+        &["fq", "PE", "--help"],
+        &["fq", "help", "PE"],
+        &["fq", "EXAMPLE", "--help"],
+    ];
+    for words in rows {
+        let mut files = MemoryFiles::new(rt.alloc());
+        let called = call(&rt, rt.alloc(), words, &mut files);
+        assert_eq!(rt; called.status, 0);
+        assert_eq!(rt; called.err.bytes(), b"".as_slice());
+        assert!(rt; !called.out.bytes().is_empty());
+    }
+    Ok(())
+}

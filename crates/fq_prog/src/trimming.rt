@@ -1,0 +1,166 @@
+//! Trimming the pairs of two files into others.
+
+ghost use Rattle.std.specs.Prelude.{◌≡◌, ◌≢◌, Some, None, Err, [], IsTrue, IfOk, IfErr, OnOk, is_some};
+ghost use Rattle.fq_run.specs.Devices.{outlet_states, AreHealthy};
+ghost use Rattle.fq_run.specs.Endings.{ends_whole};
+ghost use Rattle.fq_prog.specs.declared.refusal.Refusal.{Refusal as Refused};
+ghost use Rattle.fq_prog.specs.Refusals.{status_of};
+ghost use Rattle.fq_prog.specs.Requests.{asking_of, input_name, wrong_with};
+ghost use Rattle.fq_prog.specs.Trimming.{HasDistinctOutputs, AreHeld, HoldTaken, AreEmpty, IsFed, TrimsFiles};
+ghost use Rattle.fq_files.specs.Holding.{IsUnchanged, KeepsNames};
+
+use crate::refusal::{Refusal, file_refused};
+use crate::request::{Request, same_name, settings_of};
+use fq_files::Files;
+use fq_pair::{Counts, Out, Side};
+use fq_run::{Outcome, Outlets, run_threads};
+use fq_work::OpenGate;
+use std::alloc::Global;
+use std::sync::{Arc, Wait};
+use std::thread::Threads;
+
+/// How the trimming of files ended.
+#[derive(Drop)]
+pub(crate) struct Ended {
+    /// How the run ended.
+    pub(crate) outcome: Outcome,
+    /// The counts of the pairs whose block was written whole.
+    pub(crate) counts: Counts,
+}
+
+/// Trims the pairs of the two inputs into the outputs. What is wrong with the request is found before a file is opened, the inputs
+/// are opened before an output is made, an output that is an input under another name is refused before one is made, and each
+/// output is done with, however the run ended.
+pub(crate) fn trim_files<R: Threads + Wait + Copy + Send + 'static, T: Files>(
+    alloc: Global,
+    rt: &R,
+    request: &Request<'_>,
+    files: &mut T,
+) -> Result<Ended, Refusal>
+    ensures trims { IfOk result (λ ended. IsTrue (T.tells_bytes files.old) → HasDistinctOutputs (asking_of request.now) → IsTrue (ends_whole ended.outcome)
+        → TrimsFiles (asking_of request.now) (T.bytes_of files.old) (T.bytes_of files.new) ended.outcome ended.counts) }
+
+    // What is wrong with the request comes first, and then no file is opened.
+    ensures wrong { (why : Refused) → wrong_with (asking_of request.now) ≡ Some why → (result ≡ Err why) × (files.new ≡ files.old) }
+    ensures right { wrong_with (asking_of request.now) ≡ None → IfErr result (λ why. status_of why ≢ 2) }
+{
+    let settings = settings_of(request)?;
+    if let Some(out) = same_name(request) {
+        return Err(Refusal::SameName(out));
+    }
+    let Ok(gate) = Arc::new(alloc, OpenGate) else {
+        return Err(Refusal::Memory);
+    };
+    let forward = input(request, files, Side::Forward)?;
+    let reverse = input(request, files, Side::Reverse)?;
+    if let Some(out) = input_among_outputs(request, files) {
+        return Err(Refusal::Target(out));
+    }
+    let mut outlets = outputs(request, files)?;
+    let ending = run_threads(alloc, rt, &settings, gate, forward, reverse, &mut outlets);
+    store(request, files, outlets);
+    Ok(Ended {
+        outcome: ending.outcome,
+        counts: ending.counts,
+    })
+}
+
+// The first output that is an input under another name.
+fn input_among_outputs<T: Files>(request: &Request<'_>, files: &T) -> Option<Out>
+    ensures { IsTrue (T.tells_bytes files.now) → result ≡ None }
+{
+    if files.leads_to_input(request.forward_paired) {
+        return Some(Out::ForwardPaired);
+    }
+    if files.leads_to_input(request.forward_unpaired) {
+        return Some(Out::ForwardUnpaired);
+    }
+    if files.leads_to_input(request.reverse_paired) {
+        return Some(Out::ReversePaired);
+    }
+    if files.leads_to_input(request.reverse_unpaired) {
+        return Some(Out::ReverseUnpaired);
+    }
+    match request.log {
+        Some(log) if files.leads_to_input(log) => Some(Out::Log),
+        _ => None,
+    }
+}
+
+// The input of a side.
+fn input<T: Files>(request: &Request<'_>, files: &mut T, side: Side) -> Result<T::In, Refusal>
+    ensures fresh { IfOk result (λ feed. T.In.failure_count feed ≡ 0) }
+    ensures fed { IfOk result (λ feed. IsTrue (T.tells_bytes files.old) → IsFed (T.In.tells feed) (T.In.to_come feed) (T.bytes_of files.old (input_name (asking_of request.now) side))) }
+    ensures unchanged { IsTrue (T.tells_bytes files.old) → IsUnchanged (T.bytes_of files.old) (T.bytes_of files.new) }
+    ensures told { T.tells_bytes files.new ≡ T.tells_bytes files.old }
+    ensures late { IfErr result (λ why. status_of why ≢ 2) }
+{
+    match files.source(request.input_name(side)) {
+        Ok(feed) => Ok(feed),
+        Err(fault) => Err(file_refused(fault, Refusal::Source(side))),
+    }
+}
+
+// One output, made empty.
+fn output<T: Files>(name: &str, files: &mut T, out: Out) -> Result<T::Target, Refusal>
+    ensures fresh { IfOk result (λ target. T.Target.failure_count target ≡ 0) }
+    ensures telling { IfOk result (λ target. IsTrue (T.tells_bytes files.old) → IsTrue (T.Target.tells target)) }
+    ensures nothing { IfOk result (λ target. IsTrue (T.tells_bytes files.old) → T.Target.taken target ≡ []) }
+    ensures emptied { OnOk result (IsTrue (T.tells_bytes files.old) → T.bytes_of files.new name.now ≡ Some []) }
+    ensures held { IsTrue (T.tells_bytes files.old) → KeepsNames (T.bytes_of files.old) (T.bytes_of files.new) }
+    ensures told { T.tells_bytes files.new ≡ T.tells_bytes files.old }
+    ensures late { IfErr result (λ why. status_of why ≢ 2) }
+{
+    match files.target(name) {
+        Ok(target) => Ok(target),
+        Err(fault) => Err(file_refused(fault, Refusal::Target(out))),
+    }
+}
+
+// The outputs, each made empty, in the order of `Out`.
+fn outputs<T: Files>(request: &Request<'_>, files: &mut T) -> Result<Outlets<T::Target>, Refusal>
+    ensures healthy { IfOk result (λ outlets. AreHealthy (outlet_states T.Target.tells T.Target.taken T.Target.failure_count outlets)) }
+    ensures empty { IfOk result (λ outlets. IsTrue (T.tells_bytes files.old) → AreEmpty (outlet_states T.Target.tells T.Target.taken T.Target.failure_count outlets)) }
+    ensures log { IfOk result (λ outlets. is_some outlets.log ≡ is_some (asking_of request.now).log) }
+    ensures held { OnOk result (IsTrue (T.tells_bytes files.old) → AreHeld (asking_of request.now) (T.bytes_of files.new)) }
+    ensures told { T.tells_bytes files.new ≡ T.tells_bytes files.old }
+    ensures late { IfErr result (λ why. status_of why ≢ 2) }
+{
+    let forward_paired = output(request.forward_paired, files, Out::ForwardPaired)?;
+    let forward_unpaired = output(request.forward_unpaired, files, Out::ForwardUnpaired)?;
+    let reverse_paired = output(request.reverse_paired, files, Out::ReversePaired)?;
+    let reverse_unpaired = output(request.reverse_unpaired, files, Out::ReverseUnpaired)?;
+    let log = match request.log {
+        Some(name) => Some(output(name, files, Out::Log)?),
+        None => None,
+    };
+    Ok(Outlets {
+        forward_paired,
+        forward_unpaired,
+        reverse_paired,
+        reverse_unpaired,
+        log,
+    })
+}
+
+// Each output is done with.
+fn store<T: Files>(request: &Request<'_>, files: &mut T, outlets: Outlets<T::Target>)
+    requires { IsTrue (T.tells_bytes files.old) → AreHeld (asking_of request.now) (T.bytes_of files.old) }
+    ensures { IsTrue (T.tells_bytes files.old) → HasDistinctOutputs (asking_of request.now)
+        → HoldTaken (asking_of request.now) (outlet_states T.Target.tells T.Target.taken T.Target.failure_count outlets) (T.bytes_of files.new) }
+{
+    let Outlets {
+        forward_paired,
+        forward_unpaired,
+        reverse_paired,
+        reverse_unpaired,
+        log,
+    } = outlets;
+    files.done(request.forward_paired, forward_paired);
+    files.done(request.forward_unpaired, forward_unpaired);
+    files.done(request.reverse_paired, reverse_paired);
+    files.done(request.reverse_unpaired, reverse_unpaired);
+    if let (Some(name), Some(log)) = (request.log, log) {
+        files.done(name, log);
+    }
+}

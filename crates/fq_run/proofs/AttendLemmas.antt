@@ -1,0 +1,103 @@
+-- What a run promises whose threads were all started.
+use Rattle.std.proofs.Common.{◌≡◌, ◌<◌, ◌≤◌, ℕ, false, IsTrue, Option, Some, None, Result, Ok, Err, IfOk, IsOkAnd, List, length, refl, sym, ap, ◌∙◌, subst, arith}
+use Rattle.std.specs.List.{AllZip}
+use Rattle.std.specs.Option.{option_map, IfSome}
+use Rattle.fq_lane.specs.Line.{Line, with_mark}
+use Rattle.fq_lane.specs.declared.tx.NotEnded.{NotEnded}
+use Rattle.fq_block.specs.Blocks.{Numbered}
+use Rattle.fq_pair.specs.declared.out.Out.{Out}
+use Rattle.fq_pair.specs.declared.counts.Counts.{Counts}
+use Rattle.fq_work.specs.declared.ends.Worked.{Worked}
+use Rattle.fq_run.specs.declared.collector.Collector.{Collector}
+use Rattle.fq_run.specs.declared.dealt.Dealt.{Dealt}
+use Rattle.fq_run.specs.declared.ending.Ending.{Ending}
+use Rattle.fq_run.specs.declared.outcome.Outcome.TheVariants as outcome
+use Rattle.fq_run.specs.declared.phase.Phase.TheVariants.{Writing}
+use Rattle.fq_run.specs.Choices.{Choices}
+use Rattle.fq_run.specs.Collecting.{Collects, failed_in}
+use Rattle.fq_run.specs.Crews.{Confirmed, Matched}
+use Rattle.fq_run.specs.Dealt.{HasDealt}
+use Rattle.fq_run.specs.Devices.{FeedState, OutletStates}
+use Rattle.fq_run.specs.Each.{Each3}
+use Rattle.fq_run.specs.Endings.{Run, AreTold, ends_whole, IsTrimmed, EveryEnding}
+use Rattle.fq_run.specs.Outcomes.{rank}
+use Rattle.fq_run.specs.Threads.{IsFresh, Concludes, run_from, IsThreaded}
+use Rattle.fq_run.specs.Walks.{SourceState, feed_in}
+use Rattle.fq_run.specs.Writing.{Runs, FlushesAfter}
+use Rattle.fq_run.proofs.RunLemmas.{run_rank, run_every, run_whole}
+use Rattle.fq_run.proofs.ThreadLemmas.{runs_threaded}
+
+-- a confirmed start lane had the item that was put
+started_some : (r : Result (Line (Unit {0})) NotEnded) (s start : Line (Unit {0})) → 0 < length s.items → IfOk r (λ e. e ≡ with_mark s) → IsOkAnd r (λ e. start ≡ e) → 0 < length start.items
+started_some (Ok e) s start some ended same = subst (λ (l : Line (Unit {0})). 0 < length l.items) (sym (same ∙ ended)) some
+started_some (Err e) s start some ended same = absurd same
+
+module _ {F G : Type 0} (fs : F → FeedState) (gs : G → FeedState) (c : Choices) (s : SourceState) (fresh : IsFresh c s) (before mid after : OutletStates)
+    (started : Result (Line (Unit {0})) NotEnded) (starter start : Line (Unit {0})) (dealt : Dealt F G) (worked : List Worked) (k : Collector) (failed : Option Out) (ending : Ending F G) (to : List (Line Numbered)) (w : ℕ)
+    (ends : Concludes started dealt worked k failed ending) (h : HasDealt c s start dealt.start to dealt.closings.items dealt.stop (fs dealt.forward) (gs dealt.reverse))
+    (some : 0 < length starter.items) (closed : IfOk started (λ e. e ≡ with_mark starter)) (matched : Each3 Confirmed dealt.closings.items worked k.replies.items → AllZip (Matched c.steps) dealt.closings.items k.replies.items)
+    (lanes : length to ≡ w) (pos : 0 < w) (collects : Collects w before mid k) (over : k.phase ≡ Writing → ⊥) (flushed : FlushesAfter (failed_in k.phase) mid after failed) where
+  -- the run
+  abbrev the_run : Run
+  the_run = run_from fs gs s before after ending
+
+  -- the same, of which the counts and the feeds are named otherwise
+  abbrev run_as : Counts → Option FeedState → Option FeedState → Run
+  run_as counts x y = record { forward = feed_in s.forward; reverse = feed_in s.reverse; outlets = before; forward_left = x; reverse_left = y; outlets_left = after; outcome = ending.outcome; counts = counts }
+
+  run_is : run_as k.counts (Some (fs dealt.forward)) (Some (gs dealt.reverse)) ≡ the_run
+  run_is =
+      ap (λ n. run_as n (Some (fs dealt.forward)) (Some (gs dealt.reverse))) (sym ends.counts)
+      ∙ ap (λ x. run_as ending.counts x (Some (gs dealt.reverse))) (sym (ap (option_map fs) ends.forward))
+      ∙ ap (λ y. run_as ending.counts (option_map fs ending.forward) y) (sym (ap (option_map gs) ends.reverse))
+
+  module _ (none : ending.unended ≡ None) where
+    read_on : dealt.stop ≡ None → ⊥
+    read_on = h.started (started_some started starter dealt.start some closed (ends.start none))
+
+    runs : Runs c (feed_in s.forward) (feed_in s.reverse) (fs dealt.forward) (gs dealt.reverse) before mid k.counts k.halt dealt.stop (failed_in k.phase)
+    runs = runs_threaded c _ _ _ _ s to dealt.closings.items dealt.stop w before mid k fresh.fresh h.deals (matched (ends.workers none)) read_on lanes pos collects over
+
+    rank_is : 3 ≤ rank ending.outcome
+    rank_is = run_rank c _ _ _ _ before mid k.counts k.halt dealt.stop _ runs after failed ending.outcome flushed (ends.outcome_is none) fresh.forward fresh.reverse
+
+    every_is : EveryEnding c the_run
+    every_is =
+        let P : Run → Type 0 = λ r. EveryEnding c r in
+        subst P run_is (run_every c _ _ _ _ before mid k.counts k.halt dealt.stop _ runs after failed ending.outcome flushed (ends.outcome_is none) fresh.forward fresh.reverse)
+
+    whole_is : IsTrue (ends_whole ending.outcome) → AreTold the_run → IsTrimmed c the_run
+    whole_is ends_so told =
+        let P : Run → Type 0 = λ r. IsTrimmed c r in
+        subst P run_is (run_whole c _ _ _ _ before mid k.counts k.halt dealt.stop _ runs after failed ending.outcome flushed (ends.outcome_is none) fresh.forward fresh.reverse
+        ends_so (record { forward = told.forward; reverse = told.reverse }))
+
+  forward_there : option_map fs ending.forward ≡ None → ⊥
+  forward_there gone = let e = sym (ap (option_map fs) ends.forward) ∙ gone in cc
+
+  reverse_there : option_map gs ending.reverse ≡ None → ⊥
+  reverse_there gone = let e = sym (ap (option_map gs) ends.reverse) ∙ gone in cc
+
+  by_end : (u : Option NotEnded) → ending.unended ≡ u → IsThreaded c the_run u
+  by_end None none = record {
+    lane = λ at. absurd (let r = rank_is none in let e = ap rank at in omega arith);
+    no_other = λ there. absurd cc;
+    forward = λ gone. absurd (forward_there gone);
+    reverse = λ gone. absurd (reverse_there gone);
+    whole = whole_is none;
+    every = λ sound. every_is none;
+  }
+  by_end (Some unended) there =
+      let P : Option NotEnded → Type 0 = λ u. IfSome u (λ x. ending.outcome ≡ outcome.Lane) in
+      let lane : ending.outcome ≡ outcome.Lane = subst P there ends.lane in
+      record {
+        lane = λ at. refl;
+        no_other = λ u. lane;
+        forward = λ gone. absurd (forward_there gone);
+        reverse = λ gone. absurd (reverse_there gone);
+        whole = λ ends_so told. absurd (let e : IsTrue false = subst IsTrue (ap ends_whole lane) ends_so in cc);
+        every = λ sound. absurd (sound lane);
+      }
+
+  pub threaded : IsThreaded c the_run ending.unended
+  threaded = by_end ending.unended refl

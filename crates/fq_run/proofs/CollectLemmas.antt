@@ -1,0 +1,250 @@
+-- How a collector changes when it takes a reply.
+use Rattle.std.proofs.Common.{◌≡◌, ℕ, suc, ◌<◌, ◌%◌, Some, None, List, [], ◌∷◌, ◌++◌, length, map, refl, sym, ap, ◌∙◌, arith, subst, append_assoc}
+use Rattle.std.proofs.Math.Nat.{zero-mod}
+use Rattle.std.proofs.lemmas.Nat.{mod_below}
+use Rattle.std.proofs.lemmas.List.{append-nil, length-map, map-append}
+use Rattle.fq_lane.specs.Line.{Line}
+use Rattle.fq_lane.specs.declared.rx.Taken.{Taken}
+use Rattle.fq_lane.specs.declared.rx.Taken.TheVariants.{Item, Closed}
+use Rattle.fq_pair.specs.declared.out.Out.{Out}
+use Rattle.fq_pair.specs.declared.counts.Counts.{Counts}
+use Rattle.fq_pair.specs.Outputs.{text_of, no_counts}
+use Rattle.fq_pair.specs.Summaries.{capped}
+use Rattle.fq_work.specs.declared.done.Done.{Done}
+use Rattle.fq_work.specs.declared.reply.Cause.{Cause}
+use Rattle.fq_work.specs.declared.reply.Cause.TheVariants as cause
+use Rattle.fq_work.specs.declared.reply.Reply.{Reply}
+use Rattle.fq_work.specs.declared.reply.Reply.TheVariants.{Done as done, Stop}
+use Rattle.fq_run.specs.Devices.{OutletStates, AreHealthy, OutletsTook, part_at}
+use Rattle.fq_run.specs.Sending.{BreaksAt}
+use Rattle.fq_run.specs.Dealing.{every, gather}
+use Rattle.fq_run.specs.Lanes.{lists_of, IsDealt, IsBegun, TakesAt}
+use Rattle.fq_run.specs.Collecting.{written_text, counted_from, counted, before_stop, TookAll, IsHeard, HasStopped, HasBroken, Writes, failed_in, Collects}
+use Rattle.fq_run.specs.Stops.{HearsAll, Drains, with_stop}
+use Rattle.fq_run.specs.declared.collector.Collector.{Collector}
+use Rattle.fq_run.specs.declared.halt.Halt.{Halt}
+use Rattle.fq_run.specs.declared.phase.Phase.{Phase}
+use Rattle.fq_run.specs.declared.phase.Phase.TheVariants.{Writing, Ended, Stopped, WriteFailed}
+use Rattle.fq_run.proofs.DealLemmas.{turn_more}
+use Rattle.fq_run.proofs.LaneLemmas.{dealt_item, ended_closed, ended_takes, begun_takes, takes_length, takes_names}
+use Rattle.fq_run.proofs.OutletLemmas.{all_took_none, all_took_then, all_took_same, still_healthy}
+use Rattle.fq_run.proofs.StopLemmas.{heard_at, stops_taken}
+use Rattle.fq_run.proofs.TurnLemmas.{begun_gather, ended_gather}
+
+-- One reply more.
+
+pub written_more : (out : Out) (ds : List Done) (d : Done) → written_text out (ds ++ d ∷ []) ≡ written_text out ds ++ text_of out d.texts
+written_more out [] d = append-nil (text_of out d.texts)
+written_more out (e ∷ ds) d = ap (λ xs. text_of out e.texts ++ xs) (written_more out ds d) ∙ sym (append_assoc (text_of out e.texts) (written_text out ds) (text_of out d.texts))
+
+counted_from_more : (counts : Counts) (ds : List Done) (d : Done) → counted_from counts (ds ++ d ∷ []) ≡ capped (counted_from counts ds) d.texts.counts
+counted_from_more counts [] d = refl
+counted_from_more counts (e ∷ ds) d = counted_from_more (capped counts e.texts.counts) ds d
+
+pub counted_more : (ds : List Done) (d : Done) → counted (ds ++ d ∷ []) ≡ capped (counted ds) d.texts.counts
+counted_more ds d = counted_from_more no_counts ds d
+
+-- The replies before the first Stop.
+
+before_none : (ds : List Done) → before_stop (map done ds) ≡ ds
+before_none [] = refl
+before_none (d ∷ ds) = ap (λ es. d ∷ es) (before_none ds)
+
+before_one : (ds : List Done) (why : Cause) (rest : List Reply) → before_stop ((map done ds ++ Stop why ∷ []) ++ rest) ≡ ds
+before_one [] why rest = refl
+before_one (d ∷ ds) why rest = ap (λ es. d ∷ es) (before_one ds why rest)
+
+-- while no write failed, what was written is what came, gathered in turn, before the first Stop
+pub written_gathers : (w : ℕ) (p : Phase) (before now : OutletStates) (ds : List Done) (k : Collector) → 0 < w → (p ≡ Writing → ⊥) → failed_in p ≡ None → Writes p w before now ds k →
+    TookAll before now (before_stop (gather (lists_of k.replies.items)))
+written_gathers w Writing before now ds k pos over none h = absurd (over refl)
+written_gathers w Ended before now ds k pos over none h =
+    let e : before_stop (gather (lists_of k.replies.items)) ≡ ds = ap before_stop (ended_gather w (map done ds) k.replies.items pos h.0) ∙ before_none ds in
+    subst (λ es. TookAll before now es) (sym e) h.1
+written_gathers w Stopped before now ds k pos over none h =
+    let p = begun_gather w (map done ds ++ Stop h.why ∷ []) k.replies.items pos h.begun in
+    let e : before_stop (gather (lists_of k.replies.items)) ≡ ds = ap before_stop (sym p.1) ∙ before_one ds h.why p.0 in
+    subst (λ es. TookAll before now es) (sym e) h.took
+written_gathers w (WriteFailed failed) before now ds k pos over none h = absurd cc
+
+-- Stops.
+
+is_heard : (why : Cause) (k : Collector) (halt : Halt) → k.halt ≡ with_stop why halt → IsHeard why k
+is_heard cause.Gate k halt e = ap (λ (h : Halt). h.gate) e
+is_heard cause.Memory k halt e = ap (λ (h : Halt). h.memory) e
+
+still_heard : (why : Cause) (r : Taken Reply) (k l : Collector) → l.halt ≡ heard_at r k.halt → IsHeard why k → IsHeard why l
+still_heard cause.Gate (Item (Stop cause.Gate)) k l e h = ap (λ (h : Halt). h.gate) e
+still_heard cause.Gate (Item (Stop cause.Memory)) k l e h = ap (λ (h : Halt). h.gate) e ∙ h
+still_heard cause.Memory (Item (Stop cause.Gate)) k l e h = ap (λ (h : Halt). h.memory) e ∙ h
+still_heard cause.Memory (Item (Stop cause.Memory)) k l e h = ap (λ (h : Halt). h.memory) e
+still_heard cause.Gate _ k l e h = ap (λ (h : Halt). h.gate) e ∙ h
+still_heard cause.Memory _ k l e h = ap (λ (h : Halt). h.memory) e ∙ h
+
+pub hears_take : (r : Taken Reply) (k l : Collector) (j : ℕ) → j < length k.replies.items → TakesAt r k.replies.items l.replies.items j → l.halt ≡ heard_at r k.halt → HearsAll k → HearsAll l
+hears_take r k l j lt t e h = e ∙ ap (heard_at r) h ∙ sym (stops_taken r k.replies.items l.replies.items j lt t)
+
+-- While it writes.
+
+-- what is dealt out is begun
+begun_now : {T : Type 0} (w : ℕ) (xs : List T) (ls : List (Line T)) → IsDealt w xs ls → IsBegun w xs ls
+begun_now w xs ls h = record {
+  lanes = h.lanes;
+  begins = λ j d lt. ([], append-nil (every j w xs) ∙ sym (h.items j d lt));
+}
+
+pub collects_none : (w : ℕ) (o : OutletStates) (k : Collector) → 0 < w → IsDealt w [] k.replies.items → length k.texts_back.items ≡ w → k.turn ≡ 0 → k.counts ≡ no_counts → k.phase ≡ Writing → Collects w o o k
+collects_none w o k pos fresh backs turn counts at_k = record {
+  lanes = fresh.lanes;
+  backs = backs;
+  turn = omega (arith, turn);
+  written = [];
+  counts = counts;
+  writes = subst (λ p. Writes p w o o [] k) (sym at_k) (turn ∙ sym (zero-mod w), fresh, all_took_none o);
+}
+
+-- whose turn it is, what came and what was written
+at_turn : (w : ℕ) (before now : OutletStates) (k : Collector) (h : Collects w before now k) → k.phase ≡ Writing →
+    (k.turn ≡ length (map done h.written) % w) × IsDealt w (map done h.written) k.replies.items × TookAll before now h.written
+at_turn w before now k h at_k =
+    let p : Writes Writing w before now h.written k = subst (λ p. Writes p w before now h.written k) at_k h.writes in
+    (p.0 ∙ ap (λ n. n % w) (sym (length-map h.written done)), p.1, p.2)
+
+module _ (w : ℕ) (before old now : OutletStates) (k l : Collector) where
+  pub collects_written : (d : Done) → Collects w before old k → k.phase ≡ Writing → l.phase ≡ Writing → TakesAt (Item (done d)) k.replies.items l.replies.items k.turn →
+      OutletsTook old now (λ out. text_of out d.texts) None → l.counts ≡ capped k.counts d.texts.counts → length l.texts_back.items ≡ length k.texts_back.items → l.turn ≡ suc k.turn % w → Collects w before now l
+  collects_written d h at_k at_l t took counts backs turn =
+      let ds = h.written in
+      let k_writes = at_turn w before old k h at_k in
+      let pos : 0 < w = omega (arith, h.turn) in
+      let more : map done (ds ++ d ∷ []) ≡ map done ds ++ done d ∷ [] = map-append done ds (d ∷ []) in
+      let longer : length (map done ds ++ done d ∷ []) ≡ length (ds ++ d ∷ []) = ap length (sym more) ∙ length-map (ds ++ d ∷ []) done in
+      record {
+        lanes = takes_length (Item (done d)) _ _ _ t ∙ h.lanes;
+        backs = backs ∙ h.backs;
+        turn = subst (λ n. n < w) (sym turn) (mod_below (suc k.turn) w pos);
+        written = ds ++ d ∷ [];
+        counts = counts ∙ ap (λ c. capped c d.texts.counts) h.counts ∙ sym (counted_more ds d);
+        writes = subst (λ p. Writes p w before now (ds ++ d ∷ []) l) (sym at_l) (
+          turn_more (map done ds) (done d) k.turn l.turn w k_writes.0 turn ∙ ap (λ n. n % w) longer,
+          subst (λ xs. IsDealt w xs l.replies.items) (sym more) (dealt_item w (map done ds) (done d) k.replies.items l.replies.items k.turn k_writes.1 t h.turn k_writes.0),
+          all_took_same before now _ _ None (λ out. sym (written_more out ds d))
+              (all_took_then before old now (λ out. written_text out ds) (λ out. text_of out d.texts) None k_writes.2 took),
+        );
+      }
+
+  pub collects_broken : (d : Done) (failed : Out) → Collects w before old k → k.phase ≡ Writing → l.phase ≡ WriteFailed failed → TakesAt (Item (done d)) k.replies.items l.replies.items k.turn →
+      BreaksAt old now d.texts failed → l.counts ≡ k.counts → l.texts_back ≡ k.texts_back → l.turn ≡ k.turn → Collects w before now l
+  collects_broken d failed h at_k at_l t breaks counts backs turn =
+      let ds = h.written in
+      let k_writes = at_turn w before old k h at_k in
+      let more : map done (ds ++ d ∷ []) ≡ map done ds ++ done d ∷ [] = map-append done ds (d ∷ []) in
+      let dealt = dealt_item w (map done ds) (done d) k.replies.items l.replies.items k.turn k_writes.1 t h.turn k_writes.0 in
+      let broken : HasBroken failed w before now ds l = record {
+        next = d;
+        sent = breaks.sent;
+        short = breaks.short;
+        begun = subst (λ xs. IsBegun w xs l.replies.items) (sym more) (begun_now w _ _ dealt);
+        took = all_took_then before old now (λ out. written_text out ds) (λ out. part_at failed breaks.sent out (text_of out d.texts)) (Some failed) k_writes.2 breaks.took;
+      } in
+      record {
+        lanes = takes_length (Item (done d)) _ _ _ t ∙ h.lanes;
+        backs = ap (λ b. length b.items) backs ∙ h.backs;
+        turn = subst (λ n. n < w) (sym turn) h.turn;
+        written = ds;
+        counts = counts ∙ h.counts;
+        writes = subst (λ p. Writes p w before now ds l) (sym at_l) broken;
+      }
+
+module _ (w : ℕ) (before now : OutletStates) (k l : Collector) where
+  -- the lane whose turn it is is closed
+  pub collects_ended : Collects w before now k → k.phase ≡ Writing → l.phase ≡ Ended → TakesAt Closed k.replies.items l.replies.items k.turn →
+      l.counts ≡ k.counts → l.texts_back ≡ k.texts_back → l.turn ≡ k.turn → Collects w before now l
+  collects_ended h at_k at_l t counts backs turn =
+      let ds = h.written in
+      let k_writes = at_turn w before now k h at_k in
+      record {
+        lanes = takes_length Closed _ _ _ t ∙ h.lanes;
+        backs = ap (λ b. length b.items) backs ∙ h.backs;
+        turn = subst (λ n. n < w) (sym turn) h.turn;
+        written = ds;
+        counts = counts ∙ h.counts;
+        writes = subst (λ p. Writes p w before now ds l) (sym at_l)
+            (ended_closed w (map done ds) k.replies.items l.replies.items k.turn k_writes.1 t h.turn k_writes.0, k_writes.2);
+      }
+
+  -- the reply in turn is a stop
+  pub collects_stopped : (why : Cause) → Collects w before now k → k.phase ≡ Writing → l.phase ≡ Stopped → TakesAt (Item (Stop why)) k.replies.items l.replies.items k.turn →
+      l.halt ≡ with_stop why k.halt → l.counts ≡ k.counts → l.texts_back ≡ k.texts_back → l.turn ≡ k.turn → Collects w before now l
+  collects_stopped why h at_k at_l t halt counts backs turn =
+      let ds = h.written in
+      let k_writes = at_turn w before now k h at_k in
+      let stopped : HasStopped w before now ds l = record {
+        why = why;
+        begun = begun_now w _ _ (dealt_item w (map done ds) (Stop why) k.replies.items l.replies.items k.turn k_writes.1 t h.turn k_writes.0);
+        heard = is_heard why l k.halt halt;
+        took = k_writes.2;
+      } in
+      record {
+        lanes = takes_length (Item (Stop why)) _ _ _ t ∙ h.lanes;
+        backs = ap (λ b. length b.items) backs ∙ h.backs;
+        turn = subst (λ n. n < w) (sym turn) h.turn;
+        written = ds;
+        counts = counts ∙ h.counts;
+        writes = subst (λ p. Writes p w before now ds l) (sym at_l) stopped;
+      }
+
+-- outlets that took whole texts have not failed
+pub still_writes : (w : ℕ) (before now : OutletStates) (k : Collector) → AreHealthy before → Collects w before now k → k.phase ≡ Writing → AreHealthy now
+still_writes w before now k sound h at_k = still_healthy before now _ sound (at_turn w before now k h at_k).2
+
+-- Once nothing more is written.
+
+passes : (w : ℕ) (p : Phase) (r : Taken Reply) (before now : OutletStates) (ds : List Done) (k l : Collector) (j : ℕ) → (p ≡ Writing → ⊥) → j < w → Writes p w before now ds k →
+    TakesAt r k.replies.items l.replies.items j → l.halt ≡ heard_at r k.halt → Writes p w before now ds l
+passes w Writing r before now ds k l j over lt h t halt = absurd (over refl)
+passes w Ended r before now ds k l j over lt h t halt = (ended_takes w r (map done ds) k.replies.items l.replies.items j h.0 t lt, h.1)
+passes w Stopped r before now ds k l j over lt h t halt = record {
+  why = h.why;
+  begun = begun_takes w r _ k.replies.items l.replies.items j h.begun t lt;
+  heard = still_heard h.why r k l halt h.heard;
+  took = h.took;
+}
+passes w (WriteFailed failed) r before now ds k l j over lt h t halt = record {
+  next = h.next;
+  sent = h.sent;
+  short = h.short;
+  begun = begun_takes w r _ k.replies.items l.replies.items j h.begun t lt;
+  took = h.took;
+}
+
+collects_takes : (w : ℕ) (r : Taken Reply) (before now : OutletStates) (k l : Collector) (j : ℕ) → Collects w before now k → (k.phase ≡ Writing → ⊥) → l.phase ≡ k.phase → j < length k.replies.items →
+    TakesAt r k.replies.items l.replies.items j → l.halt ≡ heard_at r k.halt → l.counts ≡ k.counts → l.texts_back ≡ k.texts_back → l.turn ≡ k.turn → Collects w before now l
+collects_takes w r before now k l j h over at_l lt t halt counts backs turn = record {
+  lanes = takes_length r _ _ _ t ∙ h.lanes;
+  backs = ap (λ b. length b.items) backs ∙ h.backs;
+  turn = subst (λ n. n < w) (sym turn) h.turn;
+  written = h.written;
+  counts = counts ∙ h.counts;
+  writes = subst (λ p. Writes p w before now h.written l) (sym at_l) (passes w k.phase r before now h.written k l j over (omega (arith, h.lanes)) h.writes t halt);
+}
+
+pub drains_take : (r : Taken Reply) (k l : Collector) (j : ℕ) → (k.phase ≡ Writing → ⊥) → l.phase ≡ k.phase → j < length k.replies.items → TakesAt r k.replies.items l.replies.items j →
+    l.halt ≡ heard_at r k.halt → l.counts ≡ k.counts → l.texts_back ≡ k.texts_back → l.turn ≡ k.turn → Drains k l
+drains_take r k l j over at_l lt t halt counts backs turn = record {
+  phase = at_l;
+  names = takes_names r _ _ _ t;
+  collects = λ w before now h. collects_takes w r before now k l j h over at_l lt t halt counts backs turn;
+  hears = hears_take r k l j lt t halt;
+}
+
+pub drains_none : (k : Collector) → Drains k k
+drains_none k = record { phase = refl; names = refl; collects = λ w before now h. h; hears = λ h. h }
+
+pub drains_then : (k l m : Collector) → Drains k l → Drains l m → Drains k m
+drains_then k l m p q = record {
+  phase = q.phase ∙ p.phase;
+  names = q.names ∙ p.names;
+  collects = λ w before now h. q.collects w before now (p.collects w before now h);
+  hears = λ h. q.hears (p.hears h);
+}

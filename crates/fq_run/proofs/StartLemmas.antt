@@ -1,0 +1,104 @@
+-- A run whose threads were not all started.
+use Rattle.std.proofs.Common.{◌≡◌, Option, Some, None, false, IsTrue, Result, List, [], ◌++◌, refl, sym, ap, ◌∙◌, subst, arith}
+use Rattle.fq_lane.specs.Line.{Line}
+use Rattle.fq_lane.specs.declared.tx.NotEnded.{NotEnded}
+use Rattle.fq_block.specs.Blocks.{Numbered}
+use Rattle.fq_pair.specs.declared.out.Out.{Out}
+use Rattle.fq_pair.specs.declared.side.Side.TheVariants.{Forward, Reverse}
+use Rattle.fq_pair.specs.Outputs.{text_of, texts_of, no_counts}
+use Rattle.fq_run.specs.declared.outcome.Outcome.{Outcome}
+use Rattle.fq_run.specs.declared.outcome.Outcome.TheVariants as outcome
+use Rattle.fq_run.specs.declared.reading.Stop.{Stop}
+use Rattle.fq_run.specs.Choices.{Choices}
+use Rattle.fq_run.specs.Dealt.{Deals}
+use Rattle.fq_run.specs.Devices.{FeedState, OutletStates, OutletsTook}
+use Rattle.fq_run.specs.Endings.{Run, all_pairs, ends_whole, IsHandedBack, EveryEnding}
+use Rattle.fq_run.specs.Fates.{Unbroken}
+use Rattle.fq_run.specs.Outcomes.{rank}
+use Rattle.fq_run.specs.Threads.{IsFresh, IsThreaded}
+use Rattle.fq_run.specs.Walks.{SourceState, Reads, fresh_source, feed_in}
+use Rattle.fq_run.proofs.OutletLemmas.{all_took_none, all_took_same}
+use Rattle.fq_run.proofs.ReadingLemmas.{failed_by, fed_back, reads_forward, reads_reverse}
+use Rattle.fq_run.proofs.TextLemmas.{no_text}
+use Rattle.fq_run.proofs.VerdictLemmas.{failed_once}
+use Rattle.fq_run.proofs.PassLemmas.{runs_refused}
+use Rattle.fq_run.proofs.RunLemmas.{run_every}
+use Rattle.fq_run.specs.declared.reading.Stop.TheVariants as stop
+use Rattle.fq_run.specs.Writing.{FlushesAfter, no_halt}
+use Rattle.fq_pair.specs.declared.counts.Counts.{Counts}
+
+-- what the dealer hands back of its feeds
+pub handed_back : (c : Choices) (s old : SourceState) → IsFresh c s → old ≡ s → (c' : Choices) (to : List (Line Numbered)) (closings : List (Result (Line Numbered) NotEnded)) (why : Option Stop) (f r : FeedState) →
+    Deals c' old to closings why f r → IsHandedBack (feed_in s.forward) (Some f) × IsHandedBack (feed_in s.reverse) (Some r)
+handed_back c s old fresh same c' to closings why f r d =
+    let x = feed_in s.forward in let y = feed_in s.reverse in
+    let P : SourceState → Type 0 = λ t. Reads t d.new d.mates why in
+    let reads : Reads (fresh_source c x y) d.new d.mates why = subst P (same ∙ fresh.fresh) d.reads in
+    let Q : FeedState → Type 0 = λ t. IsHandedBack x (Some t) in
+    let R : FeedState → Type 0 = λ t. IsHandedBack y (Some t) in (
+      subst Q (sym d.forward) (failed_by Forward why, failed_once Forward why, fed_back c x d.new.forward _ (reads_forward c x y d.new d.mates why reads)),
+      subst R (sym d.reverse) (failed_by Reverse why, failed_once Reverse why, fed_back c y d.new.reverse _ (reads_reverse c x y d.new d.mates why reads)),
+    )
+
+-- the outcome of a run in which a thread was refused is none of the others
+apart : (run : Run) → run.outcome ≡ outcome.Spawn → (o : Outcome) → (rank o ≡ 1 → ⊥) → run.outcome ≡ o → ⊥
+apart run e o other is = other (sym (ap rank is) ∙ ap rank e)
+
+partial : (run : Run) → run.outcome ≡ outcome.Spawn → IsTrue (ends_whole run.outcome) → ⊥
+partial run is whole = let e : IsTrue false = subst IsTrue (ap ends_whole is) whole in absurd cc
+
+module _ (c : Choices) (run : Run) (e : run.outcome ≡ outcome.Spawn) (none : run.counts ≡ no_counts) (same : run.outlets_left ≡ run.outlets) (f : IsHandedBack run.forward run.forward_left) (r : IsHandedBack run.reverse run.reverse_left) where
+  nothing : (out : Out) → text_of out (texts_of c.steps []) ++ [] ≡ []
+  nothing out = let q = no_text c.steps out in rw q refl
+
+  unwritten : OutletsTook run.outlets run.outlets_left (λ out. text_of out (texts_of c.steps []) ++ []) None
+  unwritten =
+      let P : OutletStates → Type 0 = λ o. OutletsTook run.outlets o (λ out. text_of out (texts_of c.steps []) ++ []) None in
+      subst P (sym same) (all_took_same run.outlets run.outlets (λ out. []) _ None (λ out. sym (nothing out)) (all_took_none run.outlets))
+
+  every : EveryEnding c run
+  every = record {
+    whole = [];
+    fate = Unbroken;
+    counts = none;
+    took = unwritten;
+    cut_short = tt;
+    first = λ told. ((all_pairs c run).mates, refl);
+    forward = f;
+    reverse = r;
+    outcome = record {
+      spawn = λ at. refl;
+      write = λ out at. absurd (apart run e (outcome.Write out) (λ q. cc) at);
+      read = λ side at. absurd (apart run e (outcome.Read side) (λ q. cc) at);
+      endless = λ side at told. absurd (apart run e (outcome.Endless side) (λ q. cc) at);
+      outlet_failed = λ out at. let n = ap rank e in omega arith;
+      feed_failed = λ side some. let n = ap rank e in omega arith;
+      cut_at_read = λ told side at. absurd (apart run e (outcome.Read side) (λ q. cc) at);
+      cut_at_endless = λ told side at. absurd (apart run e (outcome.Endless side) (λ q. cc) at);
+      flushed = λ told out is at. absurd (apart run e (outcome.Write out) (λ q. cc) at);
+    };
+  }
+
+  pub unstarted : IsThreaded c run None
+  unstarted = record {
+    lane = λ at. absurd (apart run e outcome.Lane (λ q. cc) at);
+    no_other = λ some. absurd cc;
+    forward = λ gone. e;
+    reverse = λ gone. e;
+    whole = λ ends told. absurd (partial run e ends);
+    every = λ sound. every;
+  }
+
+-- where memory was refused before the threads the outlets were flushed, and no more
+pub refused : (c : Choices) (f r f' r' : FeedState) (before after : OutletStates) (counted : Counts) (failed : Option Out) → f' ≡ f → r' ≡ r → counted ≡ no_counts → FlushesAfter None before after failed → f.failures ≡ 0 → r.failures ≡ 0 →
+    IsThreaded c (record { forward = f; reverse = r; outlets = before; forward_left = Some f'; reverse_left = Some r'; outlets_left = after; outcome = outcome.Memory; counts = counted }) None
+refused c f r f' r' before after counted failed same also none flushed sound sound' =
+    let p = runs_refused c f r f' r' before counted same also none in
+    record {
+      lane = λ at. absurd cc;
+      no_other = λ some. absurd cc;
+      forward = λ gone. absurd cc;
+      reverse = λ gone. absurd cc;
+      whole = λ ends told. absurd cc;
+      every = λ lane. run_every c f r f' r' before before counted no_halt (Some stop.Memory) None p after failed outcome.Memory flushed refl sound sound';
+    }

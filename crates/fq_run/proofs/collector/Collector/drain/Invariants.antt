@@ -1,0 +1,6 @@
+-- Whatever was taken from the lanes so far, nothing was written.
+use Rattle.fq_run.specs.Stops.{Drains}
+use Rattle.fq_run.proofs.collector.Collector.drain.Given as goal
+
+abbrev pub invariant-loop : goal.invariant-loop
+invariant-loop g l = Drains l.initial.self l.self

@@ -1,0 +1,42 @@
+-- Which stops came, and how a collector notes them.
+use Rattle.std.specs.Prelude.{◌≡◌, ℕ, Bool, true, false, List}
+use Rattle.std.specs.List.{list_any}
+use Rattle.fq_lane.specs.Line.{Line}
+use Rattle.fq_work.specs.declared.reply.Cause.{Cause}
+use Rattle.fq_work.specs.declared.reply.Cause.TheVariants.{Gate, Memory}
+use Rattle.fq_work.specs.declared.reply.Reply.{Reply}
+use Rattle.fq_work.specs.declared.reply.Reply.TheVariants.{Stop}
+use Rattle.fq_run.specs.Collecting.{Collects}
+use Rattle.fq_run.specs.Devices.{OutletStates}
+use Rattle.fq_run.specs.Lanes.{names_of}
+use Rattle.fq_run.specs.declared.collector.Collector.{Collector}
+use Rattle.fq_run.specs.declared.halt.Halt.{Halt}
+
+-- a Stop for this cause
+abbrev pub is_stop : Cause → Reply → Bool
+is_stop Gate (Stop Gate) = true
+is_stop Memory (Stop Memory) = true
+is_stop why reply = false
+
+-- one came through one of these lanes
+abbrev pub has_come : Cause → List (Line Reply) → Bool
+has_come why ls = list_any (λ (l : Line Reply). list_any (is_stop why) l.items) ls
+
+abbrev pub stops_of : List (Line Reply) → Halt
+stops_of ls = record { gate = has_come Gate ls; memory = has_come Memory ls }
+
+-- one stop more
+abbrev pub with_stop : Cause → Halt → Halt
+with_stop Gate halt = record { gate = true; memory = halt.memory }
+with_stop Memory halt = record { gate = halt.gate; memory = true }
+
+-- all stops that came are noted, and no others
+abbrev pub HearsAll : Collector → Type 0
+HearsAll k = k.halt ≡ stops_of k.replies.items
+
+-- More is taken from the lanes, and nothing is written: whatever was written so far is what is written.
+pub record Drains (old new : Collector) : Type 0 where
+  pub phase : new.phase ≡ old.phase
+  pub names : names_of new.replies.items ≡ names_of old.replies.items
+  pub collects : (w : ℕ) (before now : OutletStates) → Collects w before now old → Collects w before now new
+  pub hears : HearsAll old → HearsAll new

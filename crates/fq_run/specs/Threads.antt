@@ -1,0 +1,101 @@
+-- A run on several threads: what is ready before its threads, how it is concluded, and what it promises.
+use Rattle.std.specs.Prelude.{◌≡◌, ◌≤◌, ◌<◌, ℕ, IsTrue, Option, Some, None, IfSome, IsSome, Result, IsOkAnd, List, [], length, vec_len, vec_capacity}
+use Rattle.std.specs.List.{AllZip}
+use Rattle.std.specs.Option.{option_map}
+use Rattle.fq_lane.specs.declared.tx.NotEnded.{NotEnded}
+use Rattle.fq_lane.specs.Line.{Line}
+use Rattle.fq_pair.specs.declared.out.Out.{Out}
+use Rattle.fq_work.specs.declared.ends.WorkEnds.{WorkEnds}
+use Rattle.fq_work.specs.declared.ends.Worked.{Worked}
+use Rattle.fq_work.specs.declared.reply.Reply.{Reply}
+use Rattle.fq_run.specs.Choices.{Choices}
+use Rattle.fq_run.specs.Crews.{fresh, Laid, IsLaid, AreFor, Seated, Confirmed}
+use Rattle.fq_run.specs.Devices.{FeedState, OutletStates}
+use Rattle.fq_run.specs.Each.{Each3}
+use Rattle.fq_run.specs.Endings.{Run, AreTold, ends_whole, IsTrimmed, EveryEnding}
+use Rattle.fq_run.specs.Outcomes.{outcome_of}
+use Rattle.fq_run.specs.Walks.{SourceState, fresh_source, feed_in}
+use Rattle.fq_run.specs.Writing.{occurred}
+use Rattle.fq_run.specs.declared.collector.Collector.{Collector}
+use Rattle.fq_run.specs.declared.dealer.Dealer.{Dealer}
+use Rattle.fq_run.specs.declared.dealt.Dealt.{Dealt}
+use Rattle.fq_run.specs.declared.ending.Ending.{Ending}
+use Rattle.fq_run.specs.declared.outcome.Outcome.TheVariants as outcome
+use Rattle.fq_run.specs.declared.ready.Lanes.{Lanes}
+use Rattle.fq_run.specs.declared.ready.Ready.{Ready}
+use Rattle.fq_run.specs.declared.staff.Crew.{Crew}
+
+-- the lanes of so many workers and the start lane are as they are made, and there is room for what is handed back
+pub record AreLaidOut (workers : ℕ) (lanes : Lanes) : Type 0 where
+  pub some : 0 < workers
+  pub all : AreFor workers lanes.seats
+  pub laid : IsLaid lanes.seats
+  pub start : lanes.start ≡ fresh lanes.starter.name
+  pub starter : lanes.starter ≡ fresh lanes.starter.name
+  pub closings : (lanes.closings.items ≡ []) × (workers ≤ vec_capacity lanes.closings)
+  pub hands : (lanes.hands.items ≡ []) × (workers ≤ vec_capacity lanes.hands)
+  pub worked : (lanes.worked.items ≡ []) × (workers ≤ vec_capacity lanes.worked)
+
+-- the lanes of so many workers are as they are made, the start lane too, and there is room for what is handed back
+pub record IsReady {F G : Type 0} (workers : ℕ) (dealer : Dealer F G) (ready : Ready) : Type 0 where
+  pub some : 0 < workers
+  pub to : vec_len dealer.to ≡ workers
+  pub blocks_back : vec_len dealer.blocks_back ≡ workers
+  pub ends : vec_len ready.ends ≡ workers
+  pub replies : vec_len ready.replies ≡ workers
+  pub texts_back : vec_len ready.texts_back ≡ workers
+  pub laid : Each3 Laid dealer.to.items ready.ends.items ready.replies.items
+  pub start : dealer.start ≡ fresh ready.starter.name
+  pub starter : ready.starter ≡ fresh ready.starter.name
+  pub closings : (dealer.closings.items ≡ []) × (workers ≤ vec_capacity dealer.closings)
+  pub hands : (ready.hands.items ≡ []) × (workers ≤ vec_capacity ready.hands)
+  pub worked : (ready.worked.items ≡ []) × (workers ≤ vec_capacity ready.worked)
+
+-- a source that has not been asked, over feeds that have not failed
+pub record IsFresh (c : Choices) (s : SourceState) : Type 0 where
+  pub fresh : s ≡ fresh_source c (feed_in s.forward) (feed_in s.reverse)
+  pub forward : s.forward.failures ≡ 0
+  pub reverse : s.reverse.failures ≡ 0
+
+-- threads that hold the ends of these lanes, which are as they are made
+pub record IsManned {F G : Type 0} (crew : Crew F G) (replies : List (Line Reply)) : Type 0 where
+  pub ends : List WorkEnds
+  pub some : 0 < length replies
+  pub laid : Each3 Laid crew.dealer.promise.to.value.items ends replies
+  pub seated : AllZip (Seated crew.dealer.promise.settings.steps) ends crew.hands.items
+  pub start : crew.dealer.promise.start.value ≡ fresh crew.starter.name
+  pub starter : crew.starter ≡ fresh crew.starter.name
+  pub worked : (crew.worked.items ≡ []) × (vec_len crew.hands ≤ vec_capacity crew.worked)
+
+-- Behind the joins the ends of all lanes are confirmed, or one is not; then the first that occurred is answered.
+pub record Concludes {F G : Type 0} (started : Result (Line (Unit {0})) NotEnded) (dealt : Dealt F G) (worked : List Worked) (k : Collector) (failed : Option Out) (ending : Ending F G) : Type 0 where
+  pub counts : ending.counts ≡ k.counts
+  pub forward : ending.forward ≡ Some dealt.forward
+  pub reverse : ending.reverse ≡ Some dealt.reverse
+  pub lane : IfSome ending.unended (λ unended. ending.outcome ≡ outcome.Lane)
+  pub outcome_is : ending.unended ≡ None → ending.outcome ≡ outcome_of (occurred k.halt dealt.stop failed)
+  pub start : ending.unended ≡ None → IsOkAnd started (λ e. dealt.start ≡ e)
+  pub workers : ending.unended ≡ None → Each3 Confirmed dealt.closings.items worked k.replies.items
+
+-- a run over a source
+abbrev pub run_from : {F G : Type 0} → (F → FeedState) → (G → FeedState) → SourceState → OutletStates → OutletStates → Ending F G → Run
+run_from forward_state reverse_state s before after ending = record {
+  forward = feed_in s.forward;
+  reverse = feed_in s.reverse;
+  outlets = before;
+  forward_left = option_map forward_state ending.forward;
+  reverse_left = option_map reverse_state ending.reverse;
+  outlets_left = after;
+  outcome = ending.outcome;
+  counts = ending.counts;
+}
+
+-- What a run on several threads promises: a lane that could not be confirmed is answered, and nothing else as Lane; a feed is lost where a
+-- thread was refused; where the run ends whole it has trimmed all pairs; and what holds at every other ending.
+pub record IsThreaded (c : Choices) (run : Run) (unended : Option NotEnded) : Type 0 where
+  pub lane : run.outcome ≡ outcome.Lane → IsSome unended
+  pub no_other : IsSome unended → run.outcome ≡ outcome.Lane
+  pub forward : run.forward_left ≡ None → run.outcome ≡ outcome.Spawn
+  pub reverse : run.reverse_left ≡ None → run.outcome ≡ outcome.Spawn
+  pub whole : IsTrue (ends_whole run.outcome) → AreTold run → IsTrimmed c run
+  pub every : (run.outcome ≡ outcome.Lane → ⊥) → EveryEnding c run

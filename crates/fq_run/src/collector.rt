@@ -1,0 +1,150 @@
+//! The end of a threaded run that writes.
+
+ghost use Rattle.std.specs.Prelude.{◌≡◌, ◌<◌, [], None, vec_len};
+ghost use Rattle.fq_run.specs.Collecting.{Collects, TookAll, before_stop, failed_in};
+ghost use Rattle.fq_run.specs.Dealing.{gather};
+ghost use Rattle.fq_run.specs.Devices.{OutletStates, outlet_states, AreHealthy};
+ghost use Rattle.fq_run.specs.Lanes.{names_of, lists_of, AllClosed, IsDealt};
+ghost use Rattle.fq_run.specs.Stops.{HearsAll};
+
+use crate::halt::Halt;
+use crate::lanes::{next_turn, take_wait_at};
+use crate::outlets::Outlets;
+use crate::phase::Phase;
+use fq_lane::{Rx, Tx};
+use fq_pair::{Counts, Texts};
+use fq_text::Outlet;
+use fq_work::Reply;
+use std::sync::Wait;
+
+/// Takes replies in turn, and writes their texts.
+#[derive(Drop)]
+pub(crate) struct Collector {
+    /// The lanes of the replies, worker for worker.
+    pub(crate) replies: Vec<Rx<Reply>>,
+    /// The lanes in which texts that were written go back to the workers.
+    pub(crate) texts_back: Vec<Tx<Texts>>,
+    /// The worker whose reply is next.
+    pub(crate) turn: usize,
+    /// The counts of what was written whole.
+    pub(crate) counts: Counts,
+    /// How far it is.
+    pub(crate) phase: Phase,
+    /// The stops that came.
+    pub(crate) halt: Halt,
+}
+
+/// Takes replies in turn and writes their texts, until the lane whose turn it is is closed, a reply is a stop, or a write fails. Then
+/// takes what still comes from all lanes, round and round, until each is closed, and lets it go.
+///
+/// Texts that were written go back to their worker where there is room for them.
+pub(crate) fn collect<R: Wait, O: Outlet>(
+    rt: &R,
+    replies: Vec<Rx<Reply>>,
+    texts_back: Vec<Tx<Texts>>,
+    outlets: &mut Outlets<O>,
+) -> Collector
+    requires some { 0 < vec_len replies }
+    requires fresh { IsDealt (vec_len replies) [] replies.items }
+    requires backs { vec_len texts_back ≡ vec_len replies }
+    requires outlets { AreHealthy (outlet_states O.tells O.taken O.failure_count outlets.old) }
+    ensures collects { Collects (vec_len replies) (outlet_states O.tells O.taken O.failure_count outlets.old) (outlet_states O.tells O.taken O.failure_count outlets.new) result }
+    ensures names { names_of result.replies.items ≡ names_of replies.items }
+    ensures over { (result.phase ≡ Phase.Writing → ⊥) × AllClosed result.replies.items }
+    // Where no write failed, the outlets have the texts of what came, gathered in turn, before its first stop.
+    ensures written { failed_in result.phase ≡ None → TookAll (outlet_states O.tells O.taken O.failure_count outlets.old) (outlet_states O.tells O.taken O.failure_count outlets.new)
+        (before_stop (gather (lists_of result.replies.items))) }
+    // Each stop that came was noted, and no other.
+    ensures hears { HearsAll result }
+{
+    let mut collector = Collector::new(replies, texts_back);
+    collector.write_all(rt, outlets);
+    collector.drain(rt);
+    collector
+}
+
+impl Collector {
+    // A collector that has taken nothing.
+    fn new(replies: Vec<Rx<Reply>>, texts_back: Vec<Tx<Texts>>) -> Collector
+        requires some { 0 < vec_len replies }
+        requires fresh { IsDealt (vec_len replies) [] replies.items }
+        requires backs { vec_len texts_back ≡ vec_len replies }
+        ensures collects { (outlets : OutletStates) → Collects (vec_len replies) outlets outlets result }
+        ensures hears { HearsAll result }
+        ensures replies { result.replies ≡ replies }
+    {
+        Collector {
+            replies,
+            texts_back,
+            turn: 0,
+            counts: Counts {
+                pairs: 0,
+                both: 0,
+                forward_only: 0,
+                reverse_only: 0,
+                dropped: 0,
+            },
+            phase: Phase::Writing,
+            halt: Halt {
+                gate: false,
+                memory: false,
+            },
+        }
+    }
+
+    // Writes replies in turn, until nothing more is to be written.
+    fn write_all<R: Wait, O: Outlet>(&mut self, rt: &R, outlets: &mut Outlets<O>)
+        requires collects { Collects (vec_len self.old.replies) (outlet_states O.tells O.taken O.failure_count outlets.old) (outlet_states O.tells O.taken O.failure_count outlets.old) self.old }
+        requires outlets { AreHealthy (outlet_states O.tells O.taken O.failure_count outlets.old) }
+        ensures collects { Collects (vec_len self.old.replies) (outlet_states O.tells O.taken O.failure_count outlets.old) (outlet_states O.tells O.taken O.failure_count outlets.new) self.new }
+        ensures names { names_of self.new.replies.items ≡ names_of self.old.replies.items }
+        ensures over { self.new.phase ≡ Phase.Writing → ⊥ }
+        ensures hears { HearsAll self.old → HearsAll self.new }
+    {
+        for _ in rt.forever() {
+            let Phase::Writing = self.phase else {
+                return;
+            };
+            self.write_next(rt, outlets);
+        }
+        unreachable!()
+    }
+
+    // Takes the next reply in turn, and writes its texts.
+    fn write_next<R: Wait, O: Outlet>(&mut self, rt: &R, outlets: &mut Outlets<O>)
+        requires writing { self.old.phase ≡ Phase.Writing }
+        requires turn { self.old.turn < vec_len self.old.replies }
+        requires backs { vec_len self.old.texts_back ≡ vec_len self.old.replies }
+        requires outlets { AreHealthy (outlet_states O.tells O.taken O.failure_count outlets.old) }
+        ensures collects { (before : OutletStates) → Collects (vec_len self.old.replies) before (outlet_states O.tells O.taken O.failure_count outlets.old) self.old
+            → Collects (vec_len self.old.replies) before (outlet_states O.tells O.taken O.failure_count outlets.new) self.new }
+        ensures names { names_of self.new.replies.items ≡ names_of self.old.replies.items }
+        ensures hears { HearsAll self.old → HearsAll self.new }
+    {
+        let lanes = self.replies.len();
+        match take_wait_at(rt, &mut self.replies, self.turn) {
+            None => self.phase = Phase::Ended,
+            Some(Reply::Stop(cause)) => {
+                self.halt = self.halt.with(cause);
+                self.phase = Phase::Stopped;
+            }
+            Some(Reply::Done(done)) => {
+                if let Err(out) = outlets.write(&done.texts) {
+                    self.phase = Phase::WriteFailed(out);
+                    return;
+                }
+                self.counts = self.counts.plus(done.texts.counts());
+                give_back(&mut self.texts_back, self.turn, done.texts);
+                self.turn = next_turn(self.turn, lanes);
+            }
+        }
+    }
+}
+
+// Sends texts back to a worker where there is room for them, and lets them go otherwise.
+fn give_back(texts_back: &mut Vec<Tx<Texts>>, at: usize, texts: Texts)
+    requires { at < vec_len texts_back.old }
+    ensures { vec_len texts_back.new ≡ vec_len texts_back.old }
+{
+    let _ = texts_back[at].offer(texts);
+}

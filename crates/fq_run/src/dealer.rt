@@ -1,0 +1,201 @@
+//! The thread of a run that reads.
+
+ghost use Rattle.std.specs.Prelude.{◌≡◌, ◌≤◌, ◌<◌, ◌*◌, ◌^◌, true, Some, None, [], length, vec_len, vec_capacity};
+ghost use Rattle.std.specs.List.{AllZip};
+ghost use Rattle.fq_run.specs.DealingOut.{DealsOut};
+ghost use Rattle.fq_run.specs.Dealt.{HasDealt, Closed};
+ghost use Rattle.fq_run.specs.Devices.{feed_state};
+ghost use Rattle.fq_run.specs.Filling.{SendsFilled};
+ghost use Rattle.fq_run.specs.Lanes.{names_of, IsDealt};
+ghost use Rattle.fq_run.specs.Walks.{source_state, GoesOn};
+
+use crate::dealt::Dealt;
+use crate::filling::fill;
+use crate::lanes::{next_turn, put_at};
+use crate::reading::Stop;
+use crate::settings::Settings;
+use fq_block::Block;
+use fq_lane::{End, NotEnded, Rx, Taken, Tx};
+use fq_pair::PairSource;
+use fq_text::{Encoding, Feed};
+use std::alloc::Global;
+use std::sync::Wait;
+
+/// What a dealer works with.
+#[derive(Drop)]
+pub(crate) struct Dealer<F: Feed, G: Feed> {
+    /// The receiver of the start lane.
+    pub(crate) start: Rx<()>,
+    /// The pairs.
+    pub(crate) source: PairSource<F, G>,
+    /// The lanes of blocks, worker for worker.
+    pub(crate) to: Vec<Tx<Block>>,
+    /// The lanes in which blocks that were answered come back, worker for worker.
+    pub(crate) blocks_back: Vec<Rx<Block>>,
+    /// Room for the ends of the lanes of blocks.
+    pub(crate) closings: Vec<Result<End<Block>, NotEnded>>,
+}
+
+/// Waits for the start, reads all pairs, deals them out in blocks, in turn, and closes all lanes. Without a start it reads
+/// nothing, and closes the lanes.
+pub(crate) fn deal<R: Wait, F: Feed, G: Feed>(
+    alloc: Global,
+    rt: &R,
+    settings: &Settings,
+    dealer: Dealer<F, G>,
+) -> Dealt<F, G>
+    requires start { dealer.start.items ≡ [] }
+    requires lanes { (0 < vec_len dealer.to) × IsDealt (vec_len dealer.to) [] dealer.to.items }
+    requires backs { vec_len dealer.blocks_back ≡ vec_len dealer.to }
+    requires room { (dealer.closings.items ≡ []) × (vec_len dealer.to ≤ vec_capacity dealer.closings) }
+    requires goes { GoesOn (source_state F.tells F.to_come F.failure_count G.tells G.to_come G.failure_count dealer.source) }
+    requires fresh { dealer.source.forward.given ≡ 0 }
+    requires encoding { dealer.source.forward.encoding ≡ settings.now.encoding }
+    requires few { dealer.source.forward.max_reads * dealer.source.forward.chunk ≤ 2 ^ 60 }
+    ensures { HasDealt settings.now (source_state F.tells F.to_come F.failure_count G.tells G.to_come G.failure_count dealer.source)
+        dealer.start result.start dealer.to.items result.closings.items result.stop
+        (feed_state F.tells F.to_come F.failure_count result.forward) (feed_state G.tells G.to_come G.failure_count result.reverse) }
+{
+    let Dealer {
+        mut start,
+        mut source,
+        mut to,
+        mut blocks_back,
+        closings,
+    } = dealer;
+    let stop = deal_from(
+        alloc,
+        rt,
+        settings,
+        &mut start,
+        &mut source,
+        &mut to,
+        &mut blocks_back,
+    );
+    let (forward, reverse) = source.into_feeds();
+    Dealt {
+        start,
+        closings: close_all(to, closings),
+        stop,
+        forward,
+        reverse,
+    }
+}
+
+// Deals once the start has come, and takes the start lane to its mark. Where the mark is all that comes, nothing is read.
+fn deal_from<R: Wait, F: Feed, G: Feed>(
+    alloc: Global,
+    rt: &R,
+    settings: &Settings,
+    start: &mut Rx<()>,
+    source: &mut PairSource<F, G>,
+    to: &mut Vec<Tx<Block>>,
+    blocks_back: &mut Vec<Rx<Block>>,
+) -> Option<Stop>
+    requires start { start.old.items ≡ [] }
+    requires lanes { (0 < vec_len to.old) × IsDealt (vec_len to.old) [] to.old.items }
+    requires backs { vec_len blocks_back.old ≡ vec_len to.old }
+    requires goes { GoesOn (source_state F.tells F.to_come F.failure_count G.tells G.to_come G.failure_count source.old) }
+    requires fresh { source.old.forward.given ≡ 0 }
+    requires encoding { source.old.forward.encoding ≡ settings.now.encoding }
+    requires few { source.old.forward.max_reads * source.old.forward.chunk ≤ 2 ^ 60 }
+    ensures name { start.new.name ≡ start.old.name }
+    ensures closed { start.new.marked ≡ true }
+    ensures started { 0 < length start.new.items → result ≡ None → ⊥ }
+    ensures idle { start.new.items ≡ [] → (result ≡ None) × (source.new ≡ source.old) × (to.new ≡ to.old) }
+    ensures deals { DealsOut settings.now (source_state F.tells F.to_come F.failure_count G.tells G.to_come G.failure_count source.old)
+        (source_state F.tells F.to_come F.failure_count G.tells G.to_come G.failure_count source.new) to.old.items to.new.items result }
+{
+    start.take_wait(rt)?;
+    let stop = deal_blocks(alloc, rt, settings, source, to, blocks_back);
+    pass_start(rt, start);
+    Some(stop)
+}
+
+// Reads block for block and deals them out in turn, until the reading stops. Answers why it did.
+fn deal_blocks<R: Wait, F: Feed, G: Feed>(
+    alloc: Global,
+    rt: &R,
+    settings: &Settings,
+    source: &mut PairSource<F, G>,
+    to: &mut Vec<Tx<Block>>,
+    blocks_back: &mut Vec<Rx<Block>>,
+) -> Stop
+    requires lanes { (0 < vec_len to.old) × IsDealt (vec_len to.old) [] to.old.items }
+    requires backs { vec_len blocks_back.old ≡ vec_len to.old }
+    requires goes { GoesOn (source_state F.tells F.to_come F.failure_count G.tells G.to_come G.failure_count source.old) }
+    requires fresh { source.old.forward.given ≡ 0 }
+    requires encoding { source.old.forward.encoding ≡ settings.now.encoding }
+    requires few { source.old.forward.max_reads * source.old.forward.chunk ≤ 2 ^ 60 }
+    ensures { DealsOut settings.now (source_state F.tells F.to_come F.failure_count G.tells G.to_come G.failure_count source.old)
+        (source_state F.tells F.to_come F.failure_count G.tells G.to_come G.failure_count source.new) to.old.items to.new.items (Some result) }
+{
+    let lanes = to.len();
+    let mut turn = 0;
+    let mut number = 0;
+    'dealing: loop {
+        let back = &mut blocks_back[turn];
+        let mut block = ready_block(alloc, back, number, settings.encoding());
+        let stop = fill(source, settings.block_pairs(), &mut block);
+        put_filled(rt, to, turn, block);
+        if let Some(stop) = stop {
+            return stop;
+        }
+        turn = next_turn(turn, lanes);
+        number += 1;
+    }
+}
+
+// A block of this number without pairs: one that came back, or a new one. A block in another encoding is let go.
+fn ready_block(alloc: Global, blocks_back: &mut Rx<Block>, number: u64, encoding: Encoding) -> Block
+    ensures { result ≡ record { number = number; encoding = encoding; pairs = [] } }
+{
+    match blocks_back.take() {
+        Taken::Item(mut block) if block.encoding() == encoding => {
+            block.reset(number);
+            block
+        }
+        _ => Block::new(alloc, number, encoding),
+    }
+}
+
+// Sends a block to one lane, and waits for room. A block without pairs is let go.
+fn put_filled<R: Wait>(rt: &R, to: &mut Vec<Tx<Block>>, at: usize, block: Block)
+    requires { at < vec_len to.old }
+    ensures sends { SendsFilled block to.old.items to.new.items at }
+    ensures len { vec_len to.new ≡ vec_len to.old }
+    ensures names { names_of to.new.items ≡ names_of to.old.items }
+{
+    if !block.is_empty() {
+        put_at(rt, to, at, block);
+    }
+}
+
+// Takes the start lane to its mark.
+fn pass_start<R: Wait>(rt: &R, start: &mut Rx<()>)
+    ensures name { start.new.name ≡ start.old.name }
+    ensures closed { start.new.marked ≡ true }
+    ensures items { length start.old.items ≤ length start.new.items }
+{
+    for _ in rt.forever() {
+        if start.take_wait(rt).is_none() {
+            return;
+        }
+    }
+    unreachable!()
+}
+
+// Closes all lanes.
+fn close_all(
+    to: Vec<Tx<Block>>,
+    closings: Vec<Result<End<Block>, NotEnded>>,
+) -> Vec<Result<End<Block>, NotEnded>>
+    requires { (closings.items ≡ []) × (vec_len to ≤ vec_capacity closings) }
+    ensures { AllZip Closed to.items result.items }
+{
+    let mut closings = closings;
+    for tx in to {
+        closings.push_reserved(tx.close());
+    }
+    closings
+}

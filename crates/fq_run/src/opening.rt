@@ -1,0 +1,37 @@
+//! The source of the pairs of a run.
+
+ghost use Rattle.std.specs.Prelude.{◌≡◌, ◌≤◌, ◌*◌, ◌^◌, IfOk, IfErr};
+ghost use Rattle.fq_run.specs.Devices.{feed_state};
+ghost use Rattle.fq_run.specs.Walks.{source_state, fresh_source};
+
+use crate::settings::Settings;
+use fq_pair::PairSource;
+use fq_text::{Feed, NoSource, Source};
+use std::alloc::Global;
+
+/// The source of the pairs of two feeds, or the feeds where memory was refused.
+pub(crate) fn open<F: Feed, G: Feed>(
+    alloc: Global,
+    settings: &Settings,
+    forward: F,
+    reverse: G,
+) -> Result<PairSource<F, G>, (F, G)>
+    requires forward { F.failure_count forward ≡ 0 }
+    requires reverse { G.failure_count reverse ≡ 0 }
+    ensures ok { IfOk result (λ source. source_state F.tells F.to_come F.failure_count G.tells G.to_come G.failure_count source
+        ≡ fresh_source settings.now (feed_state F.tells F.to_come F.failure_count forward) (feed_state G.tells G.to_come G.failure_count reverse)) }
+    ensures few { IfOk result (λ source. source.forward.max_reads * source.forward.chunk ≤ 2 ^ 60) }
+    ensures err { IfErr result (λ feeds. (feeds.0 ≡ forward) × (feeds.1 ≡ reverse)) }
+{
+    let encoding = settings.encoding();
+    let chunk = settings.chunk();
+    let max_reads = settings.max_reads();
+    let forward = match Source::new(alloc, forward, encoding, chunk, max_reads) {
+        Ok(source) => source,
+        Err(NoSource { feed }) => return Err((feed, reverse)),
+    };
+    match Source::new(alloc, reverse, encoding, chunk, max_reads) {
+        Ok(reverse) => Ok(PairSource::new(forward, reverse, settings.check_names())),
+        Err(NoSource { feed }) => Err((forward.into_feed(), feed)),
+    }
+}

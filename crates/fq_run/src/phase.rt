@@ -1,0 +1,31 @@
+//! How far a collector is.
+
+use fq_pair::Out;
+
+/// How far a collector is.
+#[derive(Clone, Copy, Debug, PartialEq, Eq)]
+pub(crate) enum Phase {
+    /// Replies are written in turn.
+    Writing,
+    /// The lane whose turn it was is closed.
+    Ended,
+    /// The next reply in turn was a stop.
+    Stopped,
+    /// A write to this outlet failed.
+    WriteFailed(Out),
+}
+
+impl Phase {
+    ghost use Rattle.std.specs.Prelude.{◌≡◌};
+    ghost use Rattle.fq_run.specs.Collecting.{failed_in};
+
+    /// The outlet to which a write failed.
+    pub(crate) fn failed(self) -> Option<Out>
+        ensures { result ≡ failed_in self }
+    {
+        match self {
+            Phase::WriteFailed(out) => Some(out),
+            Phase::Writing | Phase::Ended | Phase::Stopped => None,
+        }
+    }
+}

@@ -1,0 +1,36 @@
+use Rattle.std.proofs.Common.{[], ◌∷◌, ◌++◌, refl, ◌∙◌}
+use Rattle.fq_work.specs.declared.reply.Reply.TheVariants.{Done as done, Stop}
+use Rattle.fq_work.specs.Replies.{done_of}
+use Rattle.fq_work.proofs.WorkLemmas.{with_none, with_more, answers_done, answers_stop}
+use Rattle.fq_work.proofs.worker.answer_blocks.Goals as goal
+
+pub loop-init : goal.loop-init
+loop-init g c = ([], [], with_none c.args.ends.now.rx, with_none c.args.ends.now.tx, tt)
+
+pub loop-preserved : goal.loop-preserved
+loop-preserved g c =
+    let was = c.loop.invariant in
+    let rx = c.args.ends.now.rx in
+    let tx = c.args.ends.now.tx in
+    let block = c.in-Some-take_wait.block in
+    let reply = done (done_of c.args.steps.now block) in (
+      was.0 ++ block ∷ [],
+      was.1 ++ reply ∷ [],
+      with_more rx c.loop.ends.rx c.answer.new.ends.rx was.0 block rx.marked was.2 (c.in_default-answer.ensures.blocks ∙ c.in-Some-take_wait.ensures.1),
+      with_more tx c.loop.ends.tx c.answer.new.ends.tx was.1 reply tx.marked was.3 c.in_default-answer.ensures.sent,
+      answers_done c.args.steps.now was.0 was.1 block (done_of c.args.steps.now block) refl was.4,
+    )
+
+pub returns-in-Some-answer : goal.returns-in-Some-answer
+returns-in-Some-answer g c =
+    let was = c.loop.invariant in
+    let rx = c.args.ends.now.rx in
+    let tx = c.args.ends.now.tx in
+    let block = c.in-Some-take_wait.block in
+    let cause = c.in-Some-answer.cause in record {
+      took = was.0 ++ block ∷ [];
+      replies = was.1 ++ Stop cause ∷ [];
+      received = with_more rx c.loop.ends.rx c.answer.new.ends.rx was.0 block rx.marked was.2 (c.in-Some-answer.ensures.blocks ∙ c.in-Some-take_wait.ensures.1);
+      sent = with_more tx c.loop.ends.tx c.answer.new.ends.tx was.1 (Stop cause) tx.marked was.3 c.in-Some-answer.ensures.sent;
+      answers = answers_stop c.args.steps.now was.0 was.1 block cause was.4;
+    }

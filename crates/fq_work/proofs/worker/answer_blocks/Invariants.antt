@@ -1,0 +1,11 @@
+use Rattle.std.proofs.Common.{◌≡◌, List, None}
+use Rattle.fq_block.specs.Blocks.{Numbered}
+use Rattle.fq_work.specs.declared.reply.Reply.{Reply}
+use Rattle.fq_work.specs.Replies.{Answers}
+use Rattle.fq_work.specs.Work.{with_items}
+use Rattle.fq_work.proofs.worker.answer_blocks.Given as goal
+
+abbrev pub invariant-loop : goal.invariant-loop
+invariant-loop g l =
+    (took : List Numbered) × (replies : List Reply) × (l.ends.rx ≡ with_items l.initial.ends.rx took l.initial.ends.rx.marked) × (l.ends.tx ≡ with_items l.initial.ends.tx replies l.initial.ends.tx.marked)
+    × Answers l.steps took replies None

@@ -1,0 +1,169 @@
+//! The worker.
+
+ghost use Rattle.std.specs.Prelude.{◌≡◌, true, IfOk};
+ghost use Rattle.fq_lane.specs.Line.{with_item};
+ghost use Rattle.fq_work.specs.Replies.{done_of, reply_to};
+ghost use Rattle.fq_work.specs.Work.{IsWork, HasAnswered, HasDrained};
+
+use crate::done::Done;
+use crate::ends::{WorkEnds, Worked};
+use crate::gate::Gate;
+use crate::reply::{Cause, Reply};
+use crate::trimming::work_block;
+use fq_block::Block;
+use fq_lane::{Rx, Taken, Tx};
+use fq_pair::Texts;
+use fq_trim::Steps;
+use std::alloc::Global;
+use std::sync::{Arc, Wait};
+
+/// Answers each block that comes, in order, until the lane is closed, and then closes the lane of its replies.
+///
+/// Before each block it asks the gate until that lets the block pass, at most `gate_turns` times. Where it doesn't, or where
+/// memory is refused for a block's texts, the reply is a [`Reply::Stop`], and no later block is answered. The blocks are
+/// taken all the same, up to the closing mark, so that nobody who sends them waits for good.
+///
+/// Used blocks go back through `blocks_back`, and used texts come from `texts_back`, where there are any. Neither lane is
+/// waited for.
+///
+/// It waits for a block, and for room for a reply. So it does not return where nobody closes the lane of the blocks, or
+/// where nobody takes the replies.
+pub fn work<R: Wait, G: Gate>(
+    alloc: Global,
+    rt: &R,
+    ends: WorkEnds,
+    steps: Steps,
+    gate: Arc<G>,
+    gate_turns: u64,
+) -> Worked
+    ensures { IsWork steps ends.rx ends.tx result }
+{
+    let mut ends = ends;
+    let cause = answer_blocks(alloc, rt, &mut ends, &steps, &*gate, gate_turns);
+    if cause.is_some() {
+        drain(rt, &mut ends);
+    }
+    let WorkEnds {
+        rx,
+        tx,
+        blocks_back,
+        texts_back,
+    } = ends;
+    drop(blocks_back);
+    drop(texts_back);
+    Worked {
+        rx,
+        closing: tx.close(),
+        cause,
+    }
+}
+
+// Answers blocks until the lane is closed, or one can't be done.
+fn answer_blocks<R: Wait, G: Gate>(
+    alloc: Global,
+    rt: &R,
+    ends: &mut WorkEnds,
+    steps: &Steps,
+    gate: &G,
+    gate_turns: u64,
+) -> Option<Cause>
+    ensures { HasAnswered steps.now result ends.old.rx ends.new.rx ends.old.tx ends.new.tx }
+{
+    for _ in rt.forever() {
+        let Some(block) = ends.rx.take_wait(rt) else {
+            return None;
+        };
+        if let Some(cause) = answer(alloc, rt, ends, block, steps, gate, gate_turns) {
+            return Some(cause);
+        }
+    }
+    unreachable!()
+}
+
+// Sends the reply to a block, and the block back. Answers why, where it couldn't be done.
+fn answer<R: Wait, G: Gate>(
+    alloc: Global,
+    rt: &R,
+    ends: &mut WorkEnds,
+    block: Block,
+    steps: &Steps,
+    gate: &G,
+    gate_turns: u64,
+) -> Option<Cause>
+    ensures sent { ends.new.tx ≡ with_item ends.old.tx (reply_to steps.now block result) }
+    ensures blocks { ends.new.rx ≡ ends.old.rx }
+{
+    let worked = work_on(alloc, &block, steps, gate, gate_turns, &mut ends.texts_back);
+    give_back(&mut ends.blocks_back, block);
+    match worked {
+        Ok(done) => {
+            ends.tx.put(rt, Reply::Done(done));
+            None
+        }
+        Err(cause) => {
+            ends.tx.put(rt, Reply::Stop(cause));
+            Some(cause)
+        }
+    }
+}
+
+// Takes what is left in the lane, up to its mark.
+fn drain<R: Wait>(rt: &R, ends: &mut WorkEnds)
+    ensures drained { HasDrained ends.old.rx ends.new.rx }
+    ensures replies { ends.new.tx ≡ ends.old.tx }
+{
+    for _ in rt.forever() {
+        match ends.rx.take_wait(rt) {
+            Some(block) => give_back(&mut ends.blocks_back, block),
+            None => return,
+        }
+    }
+    unreachable!()
+}
+
+// What becomes of a block.
+fn work_on<G: Gate>(
+    alloc: Global,
+    block: &Block,
+    steps: &Steps,
+    gate: &G,
+    gate_turns: u64,
+    texts_back: &mut Rx<Texts>,
+) -> Result<Done, Cause>
+    ensures { IfOk result (λ done. done ≡ done_of steps.now block.now) }
+{
+    if !passes(gate, block.number(), gate_turns) {
+        return Err(Cause::Gate);
+    }
+    let mut done = Done {
+        number: block.number(),
+        texts: used_texts(alloc, texts_back),
+    };
+    match work_block(block, steps, &mut done) {
+        Ok(()) => Ok(done),
+        Err(_) => Err(Cause::Memory),
+    }
+}
+
+// Asks the gate until it lets the block pass, at most so many times.
+fn passes<G: Gate>(gate: &G, number: u64, gate_turns: u64) -> bool {
+    for _ in 0..gate_turns {
+        if gate.passes(number) {
+            return true;
+        }
+    }
+    false
+}
+
+// Texts that came back, as they were written, or new ones.
+fn used_texts(alloc: Global, texts_back: &mut Rx<Texts>) -> Texts {
+    match texts_back.take() {
+        Taken::Item(texts) => texts,
+        Taken::Empty | Taken::Closed => Texts::new(alloc),
+    }
+}
+
+// Sends a block back where there is room for it, and lets it go otherwise.
+fn give_back(blocks_back: &mut Tx<Block>, block: Block) {
+    let _ = blocks_back.offer(block);
+}

@@ -1,0 +1,161 @@
+#!/usr/bin/env bash
+# Runs the built program on small real files, and compares outputs, status and standard error.
+set -u
+cd "$(dirname "$0")/.."
+program=$PWD/crates/fq_prog/out/fq_prog
+make -s build || exit 1
+work=$(mktemp -d)
+trap 'rm -rf "$work"' EXIT
+cd "$work" || exit 1
+failed=0
+
+fail() {
+  echo "files: $1"
+  failed=1
+}
+
+# same NAME WHAT: the file NAME holds what WHAT prints
+same() {
+  printf "$2" | cmp -s - "$1" || fail "$row: $1 is not as expected"
+}
+
+# run STATUS LINE WORDS..
+run() {
+  local status=$1 line=$2 got
+  shift 2
+  "$program" "$@" > out 2> err
+  got=$?
+  [ "$got" -eq "$status" ] || fail "$row: status $got, not $status"
+  same err "$line"
+}
+
+two_pairs() {
+  rm -rf ./*
+  printf '@p1/1\nACGT\n+\n#!II\n@p2/1\nGGCC\n+\nIIII\n' > f
+  printf '@p1/2\nTTTT\n+\nIIII\n@p2/2\nAAAA\n+\n!!!"\n' > r
+}
+
+summary='Input Read Pairs: 2\nBoth Surviving: 1\nForward Only Surviving: 1\nReverse Only Surviving: 0\nDropped: 0\n'
+none='Input Read Pairs: 0\nBoth Surviving: 0\nForward Only Surviving: 0\nReverse Only Surviving: 0\nDropped: 0\n'
+
+expect_two_pairs() {
+  same fp '@p1/1\nGT\n+\nII\n'
+  same fu '@p2/1\nGGCC\n+\nIIII\n'
+  same rp '@p1/2\nTTTT\n+\nIIII\n'
+  same ru ''
+  same out "$summary"
+}
+
+row='two pairs'
+two_pairs
+printf 'old text' > fp
+run 0 '' PE --threads 2 --block 1 --trimlog log f r fp fu rp ru LEADING:3
+expect_two_pairs
+same log 'p1 2 2 4 0\np1 4 0 4 0\np2 4 0 4 0\np2 0 0 0 0\n'
+
+row='no workers'
+two_pairs
+run 2 'bad setting: workers\n' PE --threads 0 f r fp fu rp ru LEADING:3
+[ -e fp ] && fail "$row: an output was made"
+
+row='one name twice'
+run 2 'same name: f\n' PE f r f fu rp ru LEADING:3
+
+row='an output that is an input under another name'
+for name in ./f link hard; do
+  two_pairs
+  ln -s f link
+  ln f hard
+  run 4 "cannot write $name\n" PE f r "$name" fu rp ru LEADING:3
+  same f '@p1/1\nACGT\n+\n#!II\n@p2/1\nGGCC\n+\nIIII\n'
+done
+
+row='an output that is an input under another name, behind others'
+two_pairs
+ln -s r link
+printf 'old text' > fp
+run 4 'cannot write link\n' PE --trimlog link f r fp fu rp ru LEADING:3
+same fp 'old text'
+same r '@p1/2\nTTTT\n+\nIIII\n@p2/2\nAAAA\n+\n!!!"\n'
+[ -e fu ] && fail "$row: an output was made"
+
+row='a missing input'
+two_pairs
+rm f
+run 4 'cannot read f\n' PE f r fp fu rp ru LEADING:3
+[ -e fp ] && fail "$row: an output was made"
+
+row='a folder that is not there'
+two_pairs
+run 4 'cannot write no/fu\n' PE f r fp no/fu rp ru LEADING:3
+same fp ''
+
+if [ -w /dev/full ]; then
+  row='an output on a full device'
+  two_pairs
+  run 4 'write failed: forward paired\n' PE f r /dev/full fu rp ru LEADING:3
+  same out ''
+  row='a log on a full device'
+  two_pairs
+  run 4 'write failed: trim log\n' PE --trimlog /dev/full f r fp fu rp ru LEADING:3
+  same out ''
+fi
+
+row='a truncated input'
+two_pairs
+head -c 16 f > g && mv g f
+run 3 'input: forward record 1: QualityShort\n' PE --trimlog log f r fp fu rp ru LEADING:3
+for name in fp fu rp ru log; do same "$name" ''; done
+same out "$none"
+
+row='lines that end with CR LF'
+two_pairs
+sed -i 's/$/\r/' f r
+run 0 '' PE f r fp fu rp ru LEADING:3
+expect_two_pairs
+
+row='empty inputs'
+two_pairs
+: > f
+: > r
+run 0 '' PE --trimlog log f r fp fu rp ru LEADING:3
+for name in fp fu rp ru log; do same "$name" ''; done
+same out "$none"
+
+row='a shorter input'
+two_pairs
+head -n 4 r > g && mv g r
+run 3 'input: reverse record 2: MateMissing\n' PE f r fp fu rp ru LEADING:3
+same fp '@p1/1\nGT\n+\nII\n'
+
+row='names with blanks and other letters'
+two_pairs
+mv f 'Vorwärts 1.fq'
+run 0 '' PE 'Vorwärts 1.fq' r 'gepaart ä.fq' fu rp ru LEADING:3
+mv 'gepaart ä.fq' fp
+expect_two_pairs
+
+row='inputs that are pipes'
+two_pairs
+run 0 '' PE <(cat f) <(cat r) fp fu rp ru LEADING:3
+expect_two_pairs
+
+row='no command'
+"$program" > out 2> err
+[ $? -eq 1 ] || fail "$row: the status is not 1"
+[ -s err ] || fail "$row: nothing on standard error"
+
+row='help'
+"$program" PE --help > out 2> err
+[ $? -eq 0 ] || fail "$row: the status is not 0"
+grep -q 'SLIDINGWINDOW:w:t' out || fail "$row: the steps are not explained"
+
+if [ -w /dev/full ]; then
+  row='standard output on a full device'
+  two_pairs
+  "$program" PE f r fp fu rp ru LEADING:3 > /dev/full 2> err
+  [ $? -eq 4 ] || fail "$row: the status is not 4"
+  same err 'cannot print\n'
+fi
+
+exit "$failed"
