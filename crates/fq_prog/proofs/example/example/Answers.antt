@@ -15,11 +15,11 @@ returns-in-Finished-Some-clause-text g c =
     let forward_is = ap (λ f. f.bytes) c.in_ok-forward.ensures in
     let reverse_is = ap (λ f. f.bytes) c.in_ok-reverse.ensures in
     let output = output_is c.settings.result _ _ c.settings.ensures forward_is reverse_is in
-    let fp = took_all _ _ _ _ (ap (λ o. o.bytes) c.outlet.ensures) refl (trimmed.took ForwardPaired) (output ForwardPaired) in
-    let fu = took_all _ _ _ _ (ap (λ o. o.bytes) c.outlet-2.ensures) refl (trimmed.took ForwardUnpaired) (output ForwardUnpaired) in
-    let rp = took_all _ _ _ _ (ap (λ o. o.bytes) c.outlet-3.ensures) refl (trimmed.took ReversePaired) (output ReversePaired) in
-    let ru = took_all _ _ _ _ (ap (λ o. o.bytes) c.outlet-4.ensures) refl (trimmed.took ReverseUnpaired) (output ReverseUnpaired) in
+    let fp = took_all _ _ _ _ c.outlet.ensures.0 refl (trimmed.took ForwardPaired) (output ForwardPaired) in
+    let fu = took_all _ _ _ _ c.outlet-2.ensures.0 refl (trimmed.took ForwardUnpaired) (output ForwardUnpaired) in
+    let rp = took_all _ _ _ _ c.outlet-3.ensures.0 refl (trimmed.took ReversePaired) (output ReversePaired) in
+    let ru = took_all _ _ _ _ c.outlet-4.ensures.0 refl (trimmed.took ReverseUnpaired) (output ReverseUnpaired) in
     let logged = there_took _ _ _ _ (trimmed.took Log) (ap (option_map _) c.in-Finished-Some.is-1) in
-    let log = c.bytes.ensures ∙ took_all _ _ _ _ (ap (λ o. o.bytes) c.outlet-5.ensures) refl logged (output Log) in
+    let log = c.bytes.ensures ∙ took_all _ _ _ _ c.outlet-5.ensures.0 refl logged (output Log) in
     let summary = c.as_bytes.ensures.value ∙ (c.in_ok-summary-in-Finished-Some.ensures ∙ (ap summary_of trimmed.counts ∙ summary_is c.settings.result _ _ c.settings.ensures forward_is reverse_is)) in
     c.in_ok-labelled-in-Finished-Some.ensures ∙ (λ i. sections (fp i) (fu i) (rp i) (ru i) (log i) (summary i))
