@@ -1,7 +1,14 @@
 pub mod Rows
 pub mod PairLaws
+pub mod MixedLaws
 pub mod OutputLaws
 pub mod NameLemmas
 pub mod TextLemmas
 pub mod AddLemmas
 pub mod SourceLaws
+pub mod FrontLemmas
+pub mod WholeLemmas
+pub mod SideLemmas
+pub mod ReaderLaws
+pub mod WalkLaws
+pub mod MixedLemmas

@@ -1,13 +1,15 @@
-//! Why two texts give no further pair.
+//! Why the inputs give no further pair.
 
 use crate::side::Side;
 use fq_text::TextFault;
 use thiserror::Error;
 
-/// Why two texts give no further pair. Records and pairs are numbered from 1.
+/// Why two texts, or one in which mates take turns, give no further pair. Pairs are numbered from 1, and records from 1 in the
+/// text that they stand in.
 #[derive(Clone, Copy, Debug, PartialEq, Eq, Error)]
 pub enum InputFault {
-    /// The text of one side is at fault, or couldn't be read.
+    /// The text of one side is at fault, or couldn't be read. Where mates take turns in one text, the side is that of the
+    /// record that was being read.
     #[error("{0} input: {1}")]
     Text(Side, TextFault),
     /// The text of this side has ended, and the other has a read for the pair of this number.

@@ -1,25 +1,31 @@
 //! Pairs of mates: read from two FASTQ texts, trimmed, and put into the four texts of records, the trim log and the
 //! counts that a run writes.
 //!
-//! [`PairSource`] gives the pairs of two inputs, [`Texts`] takes them, one after the other.
+//! [`PairSource`] gives the pairs of two inputs and [`MixedSource`] those of one in which mates take turns; [`Texts`] takes
+//! them, one after the other.
 #![tactic(auto)]
 
+mod answer;
 mod counts;
 mod fault;
 mod line;
+mod mixed_source;
 mod name;
 mod out;
 mod pair;
 mod pair_source;
+mod reader;
 mod side;
 mod texts;
 
 pub use counts::{Counts, summary};
 pub use fault::InputFault;
+pub use mixed_source::MixedSource;
 pub use name::{name_of, names_match};
 pub use out::Out;
 pub use pair::{Pair, PairView};
 pub use pair_source::PairSource;
+pub use reader::PairReader;
 pub use side::Side;
 pub use texts::Texts;
 

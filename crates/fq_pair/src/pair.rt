@@ -1,7 +1,9 @@
 //! Two mates.
 
-ghost use Rattle.std.specs.Prelude.{◌≡◌};
+ghost use Rattle.std.specs.Prelude.{◌≡◌, IfOk, IfErr, is_ok};
 
+use crate::fault::InputFault;
+use crate::name::names_match;
 use fq_text::{Encoding, FastqRecord, ReadView};
 use std::marker::Model;
 
@@ -24,7 +26,8 @@ impl Model for Pair {
 }
 
 impl Pair {
-    ghost use Rattle.fq_pair.specs.Mates.{Mates};
+    ghost use Rattle.fq_pair.specs.Mates.{Mates, mates_in};
+    ghost use Rattle.fq_pair.specs.Pairing.{belong};
 
     /// The pair of two mates, which have one encoding.
     pub fn new(forward: FastqRecord, reverse: FastqRecord) -> Pair
@@ -32,6 +35,24 @@ impl Pair {
         ensures { result ≡ record { forward = forward; reverse = reverse } }
     {
         Pair { forward, reverse }
+    }
+
+    /// The pair of two mates whose names match or aren't checked; the fault of pair `number` otherwise.
+    pub(crate) fn matched(
+        forward: FastqRecord,
+        reverse: FastqRecord,
+        check_names: bool,
+        number: u64,
+    ) -> Result<Pair, InputFault>
+        requires { forward.encoding ≡ reverse.encoding }
+        ensures ok { IfOk result (λ pair. pair ≡ mates_in forward reverse) }
+        ensures err { IfErr result (λ why. why ≡ InputFault.NamesDiffer number) }
+        ensures names { is_ok result ≡ belong check_names (mates_in forward reverse) }
+    {
+        if check_names && !names_match(forward.title(), reverse.title()) {
+            return Err(InputFault::NamesDiffer(number));
+        }
+        Ok(Pair::new(forward, reverse))
     }
 
     /// The encoding of both mates.

@@ -5,8 +5,8 @@ ghost use Rattle.fq_text.specs.Sources.{KeepsCount};
 ghost use Rattle.fq_pair.specs.PairSources.{asked, stopped, GivesPair, EndsPairs, StopsPairs, failed_on, IsBounded, IsReady};
 ghost use Rattle.fq_pair.specs.declared.side.Side.TheVariants.{Forward, Reverse};
 
+use crate::answer::keep;
 use crate::fault::InputFault;
-use crate::name::names_match;
 use crate::pair::Pair;
 use crate::side::Side;
 use fq_text::{Feed, Source};
@@ -14,8 +14,8 @@ use std::marker::Model;
 
 /// The pairs of two texts, one after the other: record k of the forward text with record k of the reverse text.
 ///
-/// The names of two mates have to match as [`names_match`] tells, unless the check is off. Mates that are out of step
-/// are not searched for.
+/// The names of two mates have to match as [`names_match`](crate::names_match) tells, unless the check is off. Mates that are
+/// out of step are not searched for.
 #[derive(Drop)]
 pub struct PairSource<F: Feed, G: Feed> {
     forward: Source<F>,
@@ -93,39 +93,14 @@ impl<F: Feed, G: Feed> PairSource<F, G> {
         match self.last {
             Some(Ok(())) => Ok(None),
             Some(Err(fault)) => Err(fault),
-            None => self.read_next(),
-        }
-    }
-
-    fn read_next(&mut self) -> Result<Option<Pair>, InputFault>
-        requires { self.old.last ≡ None }
-        ensures found { IfOk result (λ o. IfSome o (GivesPair F.tells F.to_come G.tells G.to_come self.old self.new)) }
-        ensures end { result ≡ Ok None → EndsPairs F.tells F.to_come G.tells G.to_come self.old self.new }
-        ensures fault { IfErr result (StopsPairs F.tells F.to_come G.tells G.to_come self.old self.new) }
-        ensures forward_failures { F.failure_count self.new.forward.feed ≡ F.failure_count self.old.forward.feed + failed_on Forward result }
-        ensures reverse_failures { G.failure_count self.new.reverse.feed ≡ G.failure_count self.old.reverse.feed + failed_on Reverse result }
-        ensures count { KeepsCounts F.tells F.to_come G.tells G.to_come self.old self.new }
-        ensures forward_bound { IsBounded self.new.forward }
-        ensures reverse_bound { IsBounded self.new.reverse }
-        ensures pairs_bound { (self.new.given ≤ self.new.forward.given) × (self.new.given ≤ self.new.reverse.given) }
-    {
-        match read_mates(
-            &mut self.forward,
-            &mut self.reverse,
-            self.check_names,
-            self.given,
-        ) {
-            Ok(Some(pair)) => {
-                self.given += 1;
-                Ok(Some(pair))
-            }
-            Ok(None) => {
-                self.last = Some(Ok(()));
-                Ok(None)
-            }
-            Err(fault) => {
-                self.last = Some(Err(fault));
-                Err(fault)
+            None => {
+                let answer = read_mates(
+                    &mut self.forward,
+                    &mut self.reverse,
+                    self.check_names,
+                    self.given,
+                );
+                keep(answer, &mut self.given, &mut self.last)
             }
         }
     }
@@ -177,12 +152,7 @@ fn read_mates<F: Feed, G: Feed>(
         Ok(Some(first)) => match reverse.next() {
             Err(fault) => Err(InputFault::Text(Side::Reverse, fault)),
             Ok(None) => Err(InputFault::MateMissing(Side::Reverse, number)),
-            Ok(Some(second)) => {
-                if check_names && !names_match(first.title(), second.title()) {
-                    return Err(InputFault::NamesDiffer(number));
-                }
-                Ok(Some(Pair::new(first, second)))
-            }
+            Ok(Some(second)) => Ok(Some(Pair::matched(first, second, check_names, number)?)),
         },
         Ok(None) => match reverse.next() {
             Err(fault) => Err(InputFault::Text(Side::Reverse, fault)),

@@ -4,7 +4,7 @@ ghost use Rattle.std.specs.Prelude.{Some};
 
 use std::fmt;
 
-/// The side of a mate: the input that it is read from.
+/// The side of a mate: the input that it is read from, or its turn where both are read from one.
 #[derive(Clone, Copy, Debug, PartialEq, Eq)]
 pub enum Side {
     /// The first read of a pair.

@@ -1,0 +1,103 @@
+-- The pairs of one text begin with the pair that stands in front of it, and what the calls of its source answer, as the pairs that
+-- were left before them.
+use Rattle.std.proofs.Common.{◌≡◌, ℕ, suc, ◌+◌, ◌*◌, Bool, false, IsTrue, Some, None, List, [], ◌∷◌, length, take_while, ap, sym, ◌∙◌, add-zero, add-one, arith, ⊎_elim}
+use Rattle.std.proofs.lemmas.Bool.{cond-true, cond-false, cases_Bool}
+use Rattle.std.proofs.lemmas.List.Sums.{take_while-cons}
+use Rattle.fq_text.specs.declared.encoding.Encoding.{Encoding}
+use Rattle.fq_text.specs.Grammar.{Read, Front, End, Faulty, Found, front}
+use Rattle.fq_text.specs.Lines.{lines}
+use Rattle.fq_text.specs.Records.{Records, with_first, from_front}
+use Rattle.fq_text.specs.Sources.{rest_in}
+use Rattle.fq_pair.specs.declared.fault.InputFault.{InputFault}
+use Rattle.fq_pair.specs.declared.fault.InputFault.TheVariants.{NamesDiffer}
+use Rattle.fq_pair.specs.Mates.{Mates, mates_in}
+use Rattle.fq_pair.specs.Pairing.{Pairs, belong, behind, PairFront, Ended, Stopped, Met, met, records_of, with_pair, from_pair_front}
+use Rattle.fq_pair.specs.Interleaved.{mates_in_turn, mixed_fault_at, mixed_pairs_of, meeting_behind, meeting_in_turn, mixed_front}
+use Rattle.fq_pair.specs.PairSources.{is_from_outside}
+use Rattle.fq_pair.specs.MixedSources.{MixedSourced, pairs_left, KeepsCounts, GivesPair, EndsPairs, StopsPairs}
+use Rattle.fq_pair.proofs.PairLaws.{records_of-front}
+
+-- the pairs of a text, where these mates belong together
+abbrev up_to : List Mates → ℕ → Records → Pairs
+up_to mates k text = record { mates = mates; fault = mixed_fault_at (suc (k + length mates)) (behind (2 * length mates) text) }
+
+-- no pair, and this fault at number n
+abbrev none_at : ℕ → Records → Pairs
+none_at n text = record { mates = []; fault = mixed_fault_at (suc n) (behind 0 text) }
+
+none_up_to : (k : ℕ) (text : Records) → up_to [] k text ≡ none_at k text
+none_up_to k text = ap (λ (n : ℕ). none_at n text) (add-zero k)
+
+one_up_to : (m : Mates) (ms : List Mates) (k : ℕ) (f r : Read) (text : Records) → up_to (m ∷ ms) k (with_first f (with_first r text)) ≡ with_pair m (up_to ms (suc k) text)
+one_up_to m ms k f r text =
+    let number : k + suc (length ms) ≡ suc k + length ms = omega arith in
+    let records : 2 * suc (length ms) ≡ suc (suc (2 * length ms)) = omega arith in
+    let P : ℕ → ℕ → Pairs = λ n b. record { mates = m ∷ ms; fault = mixed_fault_at (suc n) (behind b (with_first f (with_first r text))) } in
+    ap (λ (n : ℕ). P n (2 * suc (length ms))) number ∙ ap (P (suc k + length ms)) records
+
+module _ (check : Bool) (k : ℕ) (T : List (List ℕ) → Records) where
+  abbrev others : List (List ℕ) → List (List ℕ) → Pairs
+  others fs rs = mixed_pairs_of check (suc k) (T fs)
+
+  two_found : (f r : Read) (ls : List (List ℕ)) → mixed_pairs_of check k (with_first f (with_first r (T ls))) ≡ from_pair_front others (met check (suc k) (mates_in f r) ls ls)
+  two_found f r ls =
+      let m = mates_in f r in
+      let ms = mates_in_turn (T ls).reads in
+      let P : List Mates → Pairs = λ mates. up_to mates k (with_first f (with_first r (T ls))) in
+      let Q : PairFront → Pairs = from_pair_front others in
+      ap P (take_while-cons (belong check) m ms) ∙ ⊎_elim
+      (λ together. ap P (cond-true (belong check m) (m ∷ take_while (belong check) ms) [] together)
+      ∙ one_up_to m (take_while (belong check) ms) k f r (T ls)
+      ∙ ap Q (sym (cond-true (belong check m) (Met m ls ls) (Stopped (NamesDiffer (suc k))) together)))
+      (λ apart. ap P (cond-false (belong check m) (m ∷ take_while (belong check) ms) [] apart)
+      ∙ none_up_to k (with_first f (with_first r (T ls)))
+      ∙ ap Q (sym (cond-false (belong check m) (Met m ls ls) (Stopped (NamesDiffer (suc k))) apart)))
+      (cases_Bool (belong check m))
+
+  -- behind a forward mate
+  one_found : (f : Read) (A : Front) → mixed_pairs_of check k (with_first f (from_front T A)) ≡ from_pair_front others (meeting_behind check (suc k) f A)
+  one_found f End = none_up_to k (with_first f (from_front T End))
+  one_found f (Faulty x) = none_up_to k (with_first f (from_front T (Faulty x)))
+  one_found f (Found r ls) = two_found f r ls
+
+module _ (check : Bool) (e : Encoding) (k : ℕ) where
+  by_front : (A : Front) → mixed_pairs_of check k (from_front (records_of e) A) ≡ from_pair_front (λ fs rs. mixed_pairs_of check (suc k) (records_of e fs)) (meeting_in_turn check e (suc k) A)
+  by_front End = none_up_to k (from_front (records_of e) End)
+  by_front (Faulty x) = none_up_to k (from_front (records_of e) (Faulty x))
+  by_front (Found f ls) = ap (λ (x : Records). mixed_pairs_of check k (with_first f x)) (records_of-front e ls) ∙ one_found check k (records_of e) f (front e ls)
+
+  -- the pairs of a text are what stands in front of it, and the pairs of what is behind it
+  pub mixed_pairs_of-front : (ls : List (List ℕ)) → mixed_pairs_of check k (records_of e ls) ≡ from_pair_front (λ fs rs. mixed_pairs_of check (suc k) (records_of e fs)) (mixed_front check e k ls)
+  mixed_pairs_of-front ls = ap (mixed_pairs_of check k) (records_of-front e ls) ∙ by_front (front e ls)
+
+  -- a pair in front is the first one
+  pub mixed_pairs_of-met : (m : Mates) (ls fs rs : List (List ℕ)) → mixed_front check e k ls ≡ Met m fs rs → mixed_pairs_of check k (records_of e ls) ≡ with_pair m (mixed_pairs_of check (suc k) (records_of e fs))
+  mixed_pairs_of-met m ls fs rs is = mixed_pairs_of-front ls ∙ ap (from_pair_front (λ fs rs. mixed_pairs_of check (suc k) (records_of e fs))) is
+
+  -- a fault in front is how they end, without a pair
+  pub mixed_pairs_of-stopped : (ls : List (List ℕ)) (fault : InputFault) → mixed_front check e k ls ≡ Stopped fault → mixed_pairs_of check k (records_of e ls) ≡ record { mates = []; fault = Some fault }
+  mixed_pairs_of-stopped ls fault is = mixed_pairs_of-front ls ∙ ap (from_pair_front (λ fs rs. mixed_pairs_of check (suc k) (records_of e fs))) is
+
+  -- where nothing stands in front there is no pair and no fault
+  pub mixed_pairs_of-ended : (ls : List (List ℕ)) → mixed_front check e k ls ≡ Ended → mixed_pairs_of check k (records_of e ls) ≡ record { mates = []; fault = None }
+  mixed_pairs_of-ended ls is = mixed_pairs_of-front ls ∙ ap (from_pair_front (λ fs rs. mixed_pairs_of check (suc k) (records_of e fs))) is
+
+module _ {F : Type 0} (tells : F → Bool) (to_come : F → List ℕ) (old new : MixedSourced F) where
+  -- a pair that was given was the first of those left, and the others are left
+  pub mixed_left-given : (m : Mates) → KeepsCounts tells to_come old new → GivesPair tells to_come old new m → IsTrue (tells old.source.feed) →
+      pairs_left to_come old ≡ with_pair m (pairs_left to_come new)
+  mixed_left-given m keeps gives told =
+      let ls = lines (rest_in to_come new.source) in
+      mixed_pairs_of-met old.check_names old.source.encoding old.given m (lines (rest_in to_come old.source)) ls ls (gives.pair_is told)
+      ∙ ap (λ (e : Encoding). with_pair m (mixed_pairs_of old.check_names (suc old.given) (records_of e ls))) (sym keeps.source.encoding)
+      ∙ ap (λ (check : Bool). with_pair m (mixed_pairs_of check (suc old.given) (records_of new.source.encoding ls))) (sym keeps.check_names)
+      ∙ ap (λ (n : ℕ). with_pair m (mixed_pairs_of new.check_names n (records_of new.source.encoding ls))) (sym (gives.given ∙ add-one old.given))
+
+  -- where the end was answered no pair was left, and no fault
+  pub mixed_left-ended : EndsPairs tells to_come old new → IsTrue (tells old.source.feed) → pairs_left to_come old ≡ record { mates = []; fault = None }
+  mixed_left-ended ends told = mixed_pairs_of-ended old.check_names old.source.encoding old.given (lines (rest_in to_come old.source)) (ends.end_is told)
+
+  -- where a fault of the text was answered no pair was left, and they end by it
+  pub mixed_left-stopped : (why : InputFault) → StopsPairs tells to_come old new why → IsTrue (tells old.source.feed) → is_from_outside why ≡ false →
+      pairs_left to_come old ≡ record { mates = []; fault = Some why }
+  mixed_left-stopped why stops told inside = mixed_pairs_of-stopped old.check_names old.source.encoding old.given (lines (rest_in to_come old.source)) why (stops.fault_is told inside)

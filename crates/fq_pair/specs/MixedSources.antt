@@ -1,0 +1,89 @@
+-- What a source of pairs out of one text is, and what its calls answer.
+use Rattle.std.specs.Prelude.{◌≡◌, ℕ, ◌+◌, ◌*◌, ◌<◌, ◌≤◌, Bool, true, false, IsTrue, Option, Some, None, Result, List, [], length}
+use Rattle.std.specs.declared.result.Result.TheVariants as res
+use Rattle.fq_text.specs.Lines.{lines, whole_part}
+use Rattle.fq_text.specs.Grammar.{IsLawful}
+use Rattle.fq_text.specs.Sources.{Sourced, rest_in, held, IsTail, KeepsCount, EndsText}
+use Rattle.fq_pair.specs.declared.side.Side.TheVariants.{Forward, Reverse}
+use Rattle.fq_pair.specs.declared.fault.InputFault.{InputFault}
+use Rattle.fq_pair.specs.Mates.{Mates}
+use Rattle.fq_pair.specs.Pairing.{Pairs, PairFront, Ended, Stopped, Met, belong}
+use Rattle.fq_pair.specs.Interleaved.{mixed_pairs, mixed_front}
+use Rattle.fq_pair.specs.PairSources.{is_from_outside, is_cut_short, if_endless, failed_on}
+
+-- A source of pairs: the source of both mates, whether names are checked, how many pairs were given,
+-- and once that is a fault or the end, its last answer.
+pub record MixedSourced (F : Type 0) : Type 0 where
+  pub source : Sourced F
+  pub check_names : Bool
+  pub given : ℕ
+  pub last : Option (Result (Unit {0}) InputFault)
+
+-- what stands next
+abbrev pub front_of : {F : Type 0} → (F → List ℕ) → MixedSourced F → PairFront
+front_of to_come s = mixed_front s.check_names s.source.encoding s.given (lines (rest_in to_come s.source))
+
+-- the pairs that are left, and how they end
+abbrev pub pairs_left : {F : Type 0} → (F → List ℕ) → MixedSourced F → Pairs
+pairs_left to_come s = mixed_pairs s.check_names s.source.encoding s.given (rest_in to_come s.source)
+
+-- What every call keeps: the number of bytes taken grows by those that the feed gave.
+pub record KeepsCounts {F : Type 0} (tells : F → Bool) (to_come : F → List ℕ) (old new : MixedSourced F) : Type 0 where
+  pub source : KeepsCount tells to_come old.source new.source
+  pub check_names : new.check_names ≡ old.check_names
+
+-- two records were given, one after the other
+pub record GivesTwo {F : Type 0} (tells : F → Bool) (to_come : F → List ℕ) (old new : Sourced F) (m : Mates) : Type 0 where
+  pub forward : IsLawful m.forward
+  pub reverse : IsLawful m.reverse
+  pub forward_encoding : m.forward.encoding ≡ old.encoding
+  pub reverse_encoding : m.reverse.encoding ≡ old.encoding
+  pub tail : IsTrue (tells old.feed) → IsTail (rest_in to_come old) (rest_in to_come new)
+  pub given : new.given ≡ old.given + 2
+  pub last : new.last ≡ None
+  pub in_hand : length new.in_hand < new.chunk
+
+-- a pair was answered
+pub record GivesPair {F : Type 0} (tells : F → Bool) (to_come : F → List ℕ) (old new : MixedSourced F) (m : Mates) : Type 0 where
+  pub pair_is : IsTrue (tells old.source.feed) →
+      (let ls = lines (rest_in to_come new.source) in front_of to_come old ≡ Met m ls ls)
+  pub records : GivesTwo tells to_come old.source new.source m
+  pub names : belong old.check_names m ≡ true
+  pub given : new.given ≡ old.given + 1
+  pub last : new.last ≡ None
+
+-- the end was answered
+pub record EndsPairs {F : Type 0} (tells : F → Bool) (to_come : F → List ℕ) (old new : MixedSourced F) : Type 0 where
+  pub end_is : IsTrue (tells old.source.feed) → front_of to_come old ≡ Ended
+  pub source : EndsText tells to_come old.source new.source
+  pub given : new.given ≡ old.given
+  pub last : new.last ≡ Some (res.Ok tt)
+
+-- the whole lines of the bytes in hand before a call and those that the feed gave in it make no pair
+abbrev pub LacksPair : {F : Type 0} → (F → Bool) → (F → List ℕ) → MixedSourced F → MixedSourced F → Type 0
+LacksPair tells to_come old new = IsTrue (tells old.source.feed) →
+    (mixed_pairs old.check_names old.source.encoding old.given (whole_part (held to_come old.source new.source))).mates ≡ []
+
+-- a fault was answered
+pub record StopsPairs {F : Type 0} (tells : F → Bool) (to_come : F → List ℕ) (old new : MixedSourced F) (why : InputFault) : Type 0 where
+  pub fault_is : IsTrue (tells old.source.feed) → is_from_outside why ≡ false → front_of to_come old ≡ Stopped why
+  pub lacks : is_cut_short why ≡ true → LacksPair tells to_come old new
+  pub endless : (let most : Type 0 = new.source.max_reads ≤ new.source.taken in if_endless most most why)
+  pub given : new.given ≡ old.given
+  pub last : new.last ≡ Some (res.Err why)
+
+-- how often the feed failed in a call
+abbrev pub failed_in : {T : Type 0} → Result T InputFault → ℕ
+failed_in r = failed_on Forward r + failed_on Reverse r
+
+-- a source that has given the records of so many pairs, and no last answer
+pub record IsReady {F : Type 0} (source : Sourced F) (given : ℕ) : Type 0 where
+  pub last : source.last ≡ None
+  pub records : source.given ≡ 2 * given
+
+-- a source of pairs that may be asked on, and one that may not
+abbrev pub asked : {F : Type 0} → Sourced F → Bool → ℕ → MixedSourced F
+asked source check given = record { source = source; check_names = check; given = given; last = None }
+
+abbrev pub stopped : {F : Type 0} → Sourced F → Bool → ℕ → Result (Unit {0}) InputFault → MixedSourced F
+stopped source check given last = record { source = source; check_names = check; given = given; last = Some last }

@@ -1,0 +1,26 @@
+//! What a source of pairs keeps of its answers.
+
+ghost use Rattle.std.specs.Prelude.{◌≡◌, ◌+◌, ◌≤◌, ◌^◌, Some, None, Ok, Err, IfOk, IfErr, IfSome};
+
+use crate::fault::InputFault;
+use crate::pair::Pair;
+
+/// Keeps an answer and hands it on: a pair is counted, and the end or a fault is the last answer from then on.
+pub(crate) fn keep(
+    answer: Result<Option<Pair>, InputFault>,
+    given: &mut u64,
+    last: &mut Option<Result<(), InputFault>>,
+) -> Result<Option<Pair>, InputFault>
+    requires { IfOk answer (λ o. IfSome o (λ pair. given.old + 1 ≤ 2 ^ 60)) }
+    ensures same { result ≡ answer }
+    ensures pair { IfOk answer (λ o. IfSome o (λ pair. (given.new ≡ given.old + 1) × (last.new ≡ last.old))) }
+    ensures end { answer ≡ Ok None → (given.new ≡ given.old) × (last.new ≡ Some (Ok tt)) }
+    ensures fault { IfErr answer (λ why. (given.new ≡ given.old) × (last.new ≡ Some (Err why))) }
+{
+    match &answer {
+        Ok(Some(_)) => *given += 1,
+        Ok(None) => *last = Some(Ok(())),
+        Err(fault) => *last = Some(Err(*fault)),
+    }
+    answer
+}

@@ -1,0 +1,136 @@
+//! Pairs out of one feed, in which mates take turns.
+
+ghost use Rattle.std.specs.Prelude.{◌≡◌, ℕ, ◌+◌, ◌*◌, ◌≤◌, ◌^◌, Some, None, Ok, IfOk, IfErr, IfSome, MatchOption};
+ghost use Rattle.fq_text.specs.Sources.{KeepsCount};
+ghost use Rattle.fq_pair.specs.PairSources.{IsBounded};
+ghost use Rattle.fq_pair.specs.MixedSources.{asked, stopped, GivesPair, EndsPairs, StopsPairs, failed_in, IsReady};
+
+use crate::answer::keep;
+use crate::fault::InputFault;
+use crate::pair::Pair;
+use crate::side::Side;
+use fq_text::{Feed, Source};
+use std::marker::Model;
+
+/// The pairs of one interleaved text, one after the other: pair n is record 2n - 1, the forward mate, with record 2n, the
+/// reverse mate. Records and pairs are numbered from 1.
+///
+/// The names of two mates have to match as [`names_match`](crate::names_match) tells, unless the check is off. A record that is
+/// missing in the midst of the text puts all later mates out of step. They are not searched for.
+#[derive(Drop)]
+pub struct MixedSource<F: Feed> {
+    source: Source<F>,
+    check_names: bool,
+    given: u64,
+    // The end or the fault that was answered.
+    last: Option<Result<(), InputFault>>,
+}
+
+impl<F: Feed> Model for MixedSource<F> {
+    ghost use Rattle.std.specs.Prelude.{◌≡◌, ◌*◌, ◌≤◌, ◌^◌, None};
+    ghost use Rattle.fq_pair.specs.PairSources.{IsBounded};
+    ghost use Rattle.fq_pair.specs.MixedSources.{MixedSourced, IsReady};
+
+    ghost Value = { MixedSourced F };
+
+    ghost view = { λ s. record {
+      source = s.source;
+      check_names = s.check_names;
+      given = s.given;
+      last = s.last;
+    } };
+
+    ghost invariant = { λ s. IsBounded s.source
+        × (2 * s.given ≤ s.source.given)
+        × (s.given ≤ 2 ^ 60)
+        × (s.last ≡ None → IsReady s.source s.given) };
+}
+
+impl<F: Feed> MixedSource<F> {
+    ghost use Rattle.fq_pair.specs.PairSources.{IsUnasked, answer_of};
+    ghost use Rattle.fq_pair.specs.MixedSources.{MixedSourced, KeepsCounts};
+
+    /// The pairs of this source, which has not been asked yet.
+    pub fn new(source: Source<F>, check_names: bool) -> MixedSource<F>
+        requires { IsUnasked source }
+        ensures { result ≡ record { source = source; check_names = check_names; given = 0; last = None } }
+    {
+        MixedSource {
+            source,
+            check_names,
+            given: 0,
+            last: None,
+        }
+    }
+
+    /// The next pair, or `None` at the end of the text. A fault, or the end, is the answer from then on.
+    ///
+    /// A fault of the text is answered with the side of the record that was being read and with that record's number in the
+    /// text. A failed or endless read, and want of memory, carry that side too. A forward record with no record behind it has no
+    /// reverse mate; this fault, and names that differ, carry the number of the pair. A forward record that makes no pair is
+    /// lost, and so is a reverse one of another name.
+    pub fn next(&mut self) -> Result<Option<Pair>, InputFault>
+        // A last answer stays, and nothing more is read.
+        ensures again { MatchOption self.old.last (Unit {0}) (λ last. (result ≡ answer_of last) × (self.new ≡ self.old)) }
+
+        // Otherwise the answer is what stands in front of the rest.
+        ensures found { self.old.last ≡ None → IfOk result (λ o. IfSome o (GivesPair F.tells F.to_come self.old self.new)) }
+        ensures end { self.old.last ≡ None → result ≡ Ok None → EndsPairs F.tells F.to_come self.old self.new }
+        ensures fault { self.old.last ≡ None → IfErr result (StopsPairs F.tells F.to_come self.old self.new) }
+
+        // The feed fails where the answer says so, and what it gives is counted.
+        ensures failures { self.old.last ≡ None → F.failure_count self.new.source.feed ≡ F.failure_count self.old.source.feed + failed_in result }
+        ensures count { KeepsCounts F.tells F.to_come self.old self.new }
+        ensures bound { IsBounded self.new.source }
+        ensures pairs_bound { 2 * self.new.given ≤ self.new.source.given }
+    {
+        match self.last {
+            Some(Ok(())) => Ok(None),
+            Some(Err(fault)) => Err(fault),
+            None => {
+                let answer = read_mates(&mut self.source, self.check_names, self.given);
+                keep(answer, &mut self.given, &mut self.last)
+            }
+        }
+    }
+
+    /// The feed, as it stands. Bytes that were read and are still in hand go.
+    pub fn into_feed(self) -> F
+        ensures { result ≡ self.source.feed }
+    {
+        self.source.into_feed()
+    }
+}
+
+// Reads the mates of the next pair, the forward one first.
+fn read_mates<F: Feed>(
+    source: &mut Source<F>,
+    check_names: bool,
+    given: u64,
+) -> Result<Option<Pair>, InputFault>
+    requires ready { IsReady source.old given }
+    requires bound { IsBounded source.old }
+    requires fits { given ≤ 2 ^ 60 }
+    ensures found { IfOk result (λ o. IfSome o
+        (GivesPair F.tells F.to_come (asked source.old check_names given) (asked source.new check_names (given + 1)))) }
+    ensures end { result ≡ Ok None →
+        EndsPairs F.tells F.to_come (asked source.old check_names given) (stopped source.new check_names given (Ok tt)) }
+    ensures fault { IfErr result (λ why.
+        StopsPairs F.tells F.to_come (asked source.old check_names given) (stopped source.new check_names given (Err why)) why) }
+    ensures failures { F.failure_count source.new.feed ≡ F.failure_count source.old.feed + failed_in result }
+    ensures count { KeepsCount F.tells F.to_come source.old source.new }
+    ensures bounded { IsBounded source.new }
+    ensures pairs_bound { 2 * given ≤ source.new.given }
+    ensures few { IfOk result (λ o. IfSome o (λ pair. (given + 1 ≤ 2 ^ 60) × (2 * (given + 1) ≤ source.new.given))) }
+{
+    let number = given + 1;
+    match source.next() {
+        Err(fault) => Err(InputFault::Text(Side::Forward, fault)),
+        Ok(None) => Ok(None),
+        Ok(Some(first)) => match source.next() {
+            Err(fault) => Err(InputFault::Text(Side::Reverse, fault)),
+            Ok(None) => Err(InputFault::MateMissing(Side::Reverse, number)),
+            Ok(Some(second)) => Ok(Some(Pair::matched(first, second, check_names, number)?)),
+        },
+    }
+}
