@@ -9,6 +9,5 @@ pub mod SourceLaws
 pub mod FrontLemmas
 pub mod WholeLemmas
 pub mod SideLemmas
-pub mod ReaderLaws
-pub mod WalkLaws
+pub mod AskLemmas
 pub mod MixedLemmas

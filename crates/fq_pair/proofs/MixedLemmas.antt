@@ -16,7 +16,7 @@ use Rattle.fq_pair.specs.Interleaved.{mixed_pairs, meeting_behind, meeting_in_tu
 use Rattle.fq_pair.specs.PairSources.{is_outside, is_cut, if_endless}
 use Rattle.fq_pair.specs.MixedSources.{GivesPair, StopsPairs, asked, stopped}
 use Rattle.fq_pair.proofs.FrontLemmas.{front_more}
-use Rattle.fq_pair.specs.Readers.{SideState, side_state, Draws, Uses}
+use Rattle.fq_pair.specs.Walks.{SideState, side_state, Draws, Uses}
 use Rattle.fq_pair.proofs.SideLemmas.{draws_then, uses_then, more_lines, lines_before, lines_left}
 use Rattle.fq_pair.proofs.MixedLaws.{mixed_pairs_of-stopped, mixed_pairs_of-ended}
 

@@ -3,7 +3,7 @@ use Rattle.std.proofs.Common.{◌≡◌, ℕ, ◌-◌, ◌⊎◌, inl, inr, ⊎_
 use Rattle.std.proofs.lemmas.List.{append_cancel_left, append_cancel_right, length-append, length-take-le, nil_from_length, take_at}
 use Rattle.fq_text.specs.Lines.{lines, is_whole, whole_part}
 use Rattle.fq_text.proofs.LineLemmas.{lines-append, whole-append}
-use Rattle.fq_pair.specs.Readers.{SideState, rest, fed, came, Draws, Uses}
+use Rattle.fq_pair.specs.Walks.{SideState, rest, fed, came, Draws, Uses}
 use Rattle.fq_pair.proofs.WholeLemmas.{behind_whole, whole_split, is_whole-whole_part, whole_part-whole}
 
 -- what a feed gave in two calls

@@ -3,6 +3,7 @@ pub mod Pairing
 pub mod PairSources
 pub mod Interleaved
 pub mod MixedSources
-pub mod Readers
+pub mod Forms
+pub mod Walks
 pub mod Outputs
 pub mod Summaries

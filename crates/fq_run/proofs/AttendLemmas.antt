@@ -10,7 +10,7 @@ use Rattle.fq_pair.specs.declared.counts.Counts.{Counts}
 use Rattle.fq_work.specs.declared.ends.Worked.{Worked}
 use Rattle.fq_run.specs.declared.collector.Collector.{Collector}
 use Rattle.fq_run.specs.declared.dealt.Dealt.{Dealt}
-use Rattle.fq_run.specs.declared.ending.Ending.{Ending}
+use Rattle.fq_run.specs.declared.ended.Ended.{Ended}
 use Rattle.fq_run.specs.declared.outcome.Outcome.TheVariants as outcome
 use Rattle.fq_run.specs.declared.phase.Phase.TheVariants.{Writing}
 use Rattle.fq_run.specs.Choices.{Choices}
@@ -22,7 +22,8 @@ use Rattle.fq_run.specs.Each.{Each3}
 use Rattle.fq_run.specs.Endings.{Run, AreTold, ends_whole, IsTrimmed, EveryEnding}
 use Rattle.fq_run.specs.Outcomes.{rank}
 use Rattle.fq_run.specs.Threads.{IsFresh, Concludes, run_from, IsThreaded}
-use Rattle.fq_run.specs.Walks.{SourceState, feed_in}
+use Rattle.fq_pair.specs.Walks.{SourceState}
+use Rattle.fq_run.specs.Walks.{feed_in}
 use Rattle.fq_run.specs.Writing.{Runs, FlushesAfter}
 use Rattle.fq_run.proofs.RunLemmas.{run_rank, run_every, run_whole}
 use Rattle.fq_run.proofs.ThreadLemmas.{runs_threaded}
@@ -32,51 +33,58 @@ started_some : (r : Result (Line (Unit {0})) NotEnded) (s start : Line (Unit {0}
 started_some (Ok e) s start some ended same = subst (λ (l : Line (Unit {0})). 0 < length l.items) (sym (same ∙ ended)) some
 started_some (Err e) s start some ended same = absurd same
 
-module _ {F G : Type 0} (fs : F → FeedState) (gs : G → FeedState) (c : Choices) (s : SourceState) (fresh : IsFresh c s) (before mid after : OutletStates)
-    (started : Result (Line (Unit {0})) NotEnded) (starter start : Line (Unit {0})) (dealt : Dealt F G) (worked : List Worked) (k : Collector) (failed : Option Out) (ending : Ending F G) (to : List (Line Numbered)) (w : ℕ)
-    (ends : Concludes started dealt worked k failed ending) (h : HasDealt c s start dealt.start to dealt.closings.items dealt.stop (fs dealt.forward) (gs dealt.reverse))
+module _ {S : Type 0} (state : S → SourceState) (c : Choices) (s : SourceState) (fresh : IsFresh c s) (before mid after : OutletStates)
+    (started : Result (Line (Unit {0})) NotEnded) (starter start : Line (Unit {0})) (dealt : Dealt S) (worked : List Worked) (k : Collector) (failed : Option Out) (ending : Ended S) (to : List (Line Numbered)) (w : ℕ)
+    (ends : Concludes started dealt worked k failed ending) (h : HasDealt c s (state dealt.source) start dealt.start to dealt.closings.items dealt.stop)
     (some : 0 < length starter.items) (closed : IfOk started (λ e. e ≡ with_mark starter)) (matched : Each3 Confirmed dealt.closings.items worked k.replies.items → AllZip (Matched c.steps) dealt.closings.items k.replies.items)
     (lanes : length to ≡ w) (pos : 0 < w) (collects : Collects w before mid k) (over : k.phase ≡ Writing → ⊥) (flushed : FlushesAfter (failed_in k.phase) mid after failed) where
   -- the run
   abbrev the_run : Run
-  the_run = run_from fs gs s before after ending
+  the_run = run_from state s before after ending
+
+  -- the sides of the source that is left
+  abbrev forward_of : S → FeedState
+  forward_of x = feed_in (state x).forward
+
+  abbrev reverse_of : S → FeedState
+  reverse_of x = feed_in (state x).reverse
 
   -- the same, of which the counts and the feeds are named otherwise
   abbrev run_as : Counts → Option FeedState → Option FeedState → Run
-  run_as counts x y = record { forward = feed_in s.forward; reverse = feed_in s.reverse; outlets = before; forward_left = x; reverse_left = y; outlets_left = after; outcome = ending.outcome; counts = counts }
+  run_as counts x y = record { form = s.form; forward = feed_in s.forward; reverse = feed_in s.reverse; outlets = before; forward_left = x; reverse_left = y; outlets_left = after; outcome = ending.outcome; counts = counts }
 
-  run_is : run_as k.counts (Some (fs dealt.forward)) (Some (gs dealt.reverse)) ≡ the_run
+  run_is : run_as k.counts (Some (forward_of dealt.source)) (Some (reverse_of dealt.source)) ≡ the_run
   run_is =
-      ap (λ n. run_as n (Some (fs dealt.forward)) (Some (gs dealt.reverse))) (sym ends.counts)
-      ∙ ap (λ x. run_as ending.counts x (Some (gs dealt.reverse))) (sym (ap (option_map fs) ends.forward))
-      ∙ ap (λ y. run_as ending.counts (option_map fs ending.forward) y) (sym (ap (option_map gs) ends.reverse))
+      ap (λ n. run_as n (Some (forward_of dealt.source)) (Some (reverse_of dealt.source))) (sym ends.counts)
+      ∙ ap (λ x. run_as ending.counts x (Some (reverse_of dealt.source))) (sym (ap (option_map forward_of) ends.source))
+      ∙ ap (λ y. run_as ending.counts (option_map forward_of ending.source) y) (sym (ap (option_map reverse_of) ends.source))
 
   module _ (none : ending.unended ≡ None) where
     read_on : dealt.stop ≡ None → ⊥
     read_on = h.started (started_some started starter dealt.start some closed (ends.start none))
 
-    runs : Runs c (feed_in s.forward) (feed_in s.reverse) (fs dealt.forward) (gs dealt.reverse) before mid k.counts k.halt dealt.stop (failed_in k.phase)
-    runs = runs_threaded c _ _ _ _ s to dealt.closings.items dealt.stop w before mid k fresh.fresh h.deals (matched (ends.workers none)) read_on lanes pos collects over
+    runs : Runs s.form c (feed_in s.forward) (feed_in s.reverse) (forward_of dealt.source) (reverse_of dealt.source) before mid k.counts k.halt dealt.stop (failed_in k.phase)
+    runs = runs_threaded s.form c _ _ s _ to dealt.closings.items dealt.stop w before mid k fresh.fresh h.deals (matched (ends.workers none)) read_on lanes pos collects over
 
     rank_is : 3 ≤ rank ending.outcome
-    rank_is = run_rank c _ _ _ _ before mid k.counts k.halt dealt.stop _ runs after failed ending.outcome flushed (ends.outcome_is none) fresh.forward fresh.reverse
+    rank_is = run_rank s.form c _ _ _ _ before mid k.counts k.halt dealt.stop _ runs after failed ending.outcome flushed (ends.outcome_is none) fresh.forward fresh.reverse
 
     every_is : EveryEnding c the_run
     every_is =
         let P : Run → Type 0 = λ r. EveryEnding c r in
-        subst P run_is (run_every c _ _ _ _ before mid k.counts k.halt dealt.stop _ runs after failed ending.outcome flushed (ends.outcome_is none) fresh.forward fresh.reverse)
+        subst P run_is (run_every s.form c _ _ _ _ before mid k.counts k.halt dealt.stop _ runs after failed ending.outcome flushed (ends.outcome_is none) fresh.forward fresh.reverse)
 
     whole_is : IsTrue (ends_whole ending.outcome) → AreTold the_run → IsTrimmed c the_run
     whole_is ends_so told =
         let P : Run → Type 0 = λ r. IsTrimmed c r in
-        subst P run_is (run_whole c _ _ _ _ before mid k.counts k.halt dealt.stop _ runs after failed ending.outcome flushed (ends.outcome_is none) fresh.forward fresh.reverse
+        subst P run_is (run_whole s.form c _ _ _ _ before mid k.counts k.halt dealt.stop _ runs after failed ending.outcome flushed (ends.outcome_is none) fresh.forward fresh.reverse
         ends_so (record { forward = told.forward; reverse = told.reverse }))
 
-  forward_there : option_map fs ending.forward ≡ None → ⊥
-  forward_there gone = let e = sym (ap (option_map fs) ends.forward) ∙ gone in cc
+  forward_there : option_map forward_of ending.source ≡ None → ⊥
+  forward_there gone = let e = sym (ap (option_map forward_of) ends.source) ∙ gone in cc
 
-  reverse_there : option_map gs ending.reverse ≡ None → ⊥
-  reverse_there gone = let e = sym (ap (option_map gs) ends.reverse) ∙ gone in cc
+  reverse_there : option_map reverse_of ending.source ≡ None → ⊥
+  reverse_there gone = let e = sym (ap (option_map reverse_of) ends.source) ∙ gone in cc
 
   by_end : (u : Option NotEnded) → ending.unended ≡ u → IsThreaded c the_run u
   by_end None none = record {

@@ -11,7 +11,8 @@ use Rattle.fq_run.specs.Choices.{Choices}
 use Rattle.fq_run.specs.Devices.{OutletStates, OutletsTook, part_at}
 use Rattle.fq_run.specs.Sending.{BreaksAt}
 use Rattle.fq_run.specs.Fates.{Unbroken, WriteFailed}
-use Rattle.fq_run.specs.Walks.{SourceState, Walks, Reads, GoesOn}
+use Rattle.fq_pair.specs.Walks.{SourceState, Walks, GoesOn}
+use Rattle.fq_run.specs.Walks.{Reads}
 use Rattle.fq_run.specs.Gathering.{Gathers}
 use Rattle.fq_run.specs.Writing.{no_halt, Passes}
 use Rattle.fq_run.proofs.OutletLemmas.{all_took_none, all_took_then, all_took_same}

@@ -14,7 +14,8 @@ use Rattle.fq_run.specs.DealingOut.{DealsOut}
 use Rattle.fq_run.specs.Dealt.{AreNumbered, AreBlocks}
 use Rattle.fq_run.specs.Filling.{Fills, SendsFilled}
 use Rattle.fq_run.specs.Lanes.{names_of, IsDealt}
-use Rattle.fq_run.specs.Walks.{SourceState, Walks, Reads, GoesOn}
+use Rattle.fq_pair.specs.Walks.{SourceState, Walks, GoesOn}
+use Rattle.fq_run.specs.Walks.{Reads}
 use Rattle.fq_run.proofs.DealLemmas.{turn_more}
 use Rattle.fq_run.proofs.LaneLemmas.{dealt_offer}
 use Rattle.fq_run.proofs.WalkLemmas.{walks_none, walks_then, reads_then}

@@ -10,7 +10,8 @@ use Rattle.fq_pair.specs.declared.counts.Counts.{Counts}
 use Rattle.fq_pair.specs.declared.fault.InputFault.{InputFault}
 use Rattle.fq_pair.specs.declared.fault.InputFault.TheVariants.{Text}
 use Rattle.fq_pair.specs.Mates.{Mates}
-use Rattle.fq_pair.specs.Pairing.{Pairs, pairs}
+use Rattle.fq_pair.specs.Forms.{Form, pairs_in}
+use Rattle.fq_pair.specs.Pairing.{Pairs}
 use Rattle.fq_pair.specs.PairSources.{is_cut_short}
 use Rattle.fq_pair.specs.Outputs.{texts_of, text_of, counts_of}
 use Rattle.fq_run.specs.declared.outcome.Outcome.{Outcome}
@@ -21,7 +22,8 @@ use Rattle.fq_run.specs.declared.reading.Stop.TheVariants as stop
 use Rattle.fq_run.specs.Choices.{Choices}
 use Rattle.fq_run.specs.Devices.{FeedState, gave, OutletStates, OutletsTook}
 use Rattle.fq_run.specs.Fates.{Fate, Unbroken, FlushFailed, WriteFailed, failed_outlet, block_begun, part_begun, IsCutShort}
-use Rattle.fq_run.specs.Walks.{SourceState, Reads, fed, fresh_side, fresh_source, feed_in}
+use Rattle.fq_pair.specs.Walks.{SourceState, fed}
+use Rattle.fq_run.specs.Walks.{Reads, fresh_side, fresh_source, feed_in}
 use Rattle.fq_run.specs.Writing.{no_halt, Passes, FlushesAfter, is_flush}
 use Rattle.fq_run.specs.Endings.{Run, AreTold, all_pairs, trimmed_outcome, IsTrimmed, ends_whole, feed_of, feed_left, gave_to, failures_in, IsCutOff, pairs_given, IsAllThatCame, AreFirst, IsJustified, EveryEnding}
 use Rattle.fq_run.proofs.OutletLemmas.{all_took_then, all_took_same}
@@ -113,46 +115,46 @@ unbroken (WriteFailed out sent block) is = absurd cc
 first_of : (ms ns all : List Mates) → AreFirst (ms ++ ns) all → AreFirst ms all
 first_of ms ns all p = (ns ++ p.0, p.1 ∙ append_assoc ms ns p.0)
 
-module _ (c : Choices) (f r : FeedState) (new : SourceState) (before after : OutletStates) (counted : Counts) (halt : Halt) (why : Option Stop) (failed : Option Out) (o : Outcome)
-    (p : Closes c (fresh_source c f r) new before after counted halt why failed) (v : Verdict halt why failed o) (sound : f.failures ≡ 0) (sound' : r.failures ≡ 0) where
+module _ (form : Form) (c : Choices) (f r : FeedState) (new : SourceState) (before after : OutletStates) (counted : Counts) (halt : Halt) (why : Option Stop) (failed : Option Out) (o : Outcome)
+    (p : Closes c (fresh_source form c f r) new before after counted halt why failed) (v : Verdict halt why failed o) (sound : f.failures ≡ 0) (sound' : r.failures ≡ 0) where
   -- the run
   abbrev pub run : Run
-  run = record { forward = f; reverse = r; outlets = before; forward_left = Some (feed_in new.forward); reverse_left = Some (feed_in new.reverse); outlets_left = after; outcome = o; counts = counted }
+  run = record { form = form; forward = f; reverse = r; outlets = before; forward_left = Some (feed_in new.forward); reverse_left = Some (feed_in new.reverse); outlets_left = after; outcome = o; counts = counted }
 
   -- all pairs that were read
   abbrev all_read : List Mates
   all_read = (p.whole ++ block_begun p.fate) ++ p.missed
 
-  failures_are : (side : Side) → failures_in (feed_left side run) ≡ failed_by side why
-  failures_are Forward = let d = reads_forward c f r new all_read why p.reads in let e = d.failures in omega arith
-  failures_are Reverse = let d = reads_reverse c f r new all_read why p.reads in let e = d.failures in omega arith
+  failures_are : (side : Side) → failures_in (feed_left side run) ≡ failed_by form side why
+  failures_are Forward = let d = reads_forward form c f r new all_read why p.reads in let e = d.failures in omega arith
+  failures_are Reverse = let d = reads_reverse form c f r new all_read why p.reads in let e = d.failures in omega arith
 
   forward_gave : IsTrue f.tells → gave f (feed_in new.forward) ≡ fed (fresh_side c f) new.forward
-  forward_gave told = gave_is c f new.forward _ (reads_forward c f r new all_read why p.reads) told
+  forward_gave told = gave_is c f new.forward _ (reads_forward form c f r new all_read why p.reads) told
 
   reverse_gave : IsTrue r.tells → gave r (feed_in new.reverse) ≡ fed (fresh_side c r) new.reverse
-  reverse_gave told = gave_is c r new.reverse _ (reads_reverse c f r new all_read why p.reads) told
+  reverse_gave told = gave_is c r new.reverse _ (reads_reverse form c f r new all_read why p.reads) told
 
-  reads_at : (s : Stop) → why ≡ Some s → Reads (fresh_source c f r) new all_read (Some s)
-  reads_at s is = let P : Option Stop → Type 0 = λ w. Reads (fresh_source c f r) new all_read w in subst P is p.reads
+  reads_at : (s : Stop) → why ≡ Some s → Reads (fresh_source form c f r) new all_read (Some s)
+  reads_at s is = let P : Option Stop → Type 0 = λ w. Reads (fresh_source form c f r) new all_read w in subst P is p.reads
 
   -- so many bytes were given where one read more would have been one too many
   endless_bytes : (side : Side) → why ≡ Some (stop.Fault (Text side text.Endless)) → IsTrue (feed_of side run).tells → c.max_reads ≤ length (gave_to (feed_of side run) (feed_left side run))
   endless_bytes Forward is told =
       let q = reads_at (stop.Fault (Text Forward text.Endless)) is in let e = q.2 in let most = e.endless in
-      let d = reads_forward c f r new all_read why p.reads in let same = d.max_reads in
+      let d = reads_forward form c f r new all_read why p.reads in let same = d.max_reads in
       let len = gave_length c f new.forward _ d told in omega arith
   endless_bytes Reverse is told =
       let q = reads_at (stop.Fault (Text Reverse text.Endless)) is in let e = q.2 in let most = e.endless in
-      let d = reads_reverse c f r new all_read why p.reads in let same = d.max_reads in
+      let d = reads_reverse form c f r new all_read why p.reads in let same = d.max_reads in
       let len = gave_length c r new.reverse _ d told in omega arith
 
   -- at least the pairs of the whole lines that came
   cut_pairs : AreTold run → (fault : InputFault) → why ≡ Some (stop.Fault fault) → is_cut_short fault ≡ true → length (pairs_given c run) ≤ length all_read
   cut_pairs told fault is short =
-      let most = reads_cut c f r new all_read fault (reads_at (stop.Fault fault) is) short told.forward told.reverse in
-      let F = ap (λ xs. length (pairs c.check_names c.encoding 0 (whole_part xs) (whole_part (gave r (feed_in new.reverse)))).mates) (forward_gave told.forward) in
-      let R = ap (λ xs. length (pairs c.check_names c.encoding 0 (whole_part (fed (fresh_side c f) new.forward)) (whole_part xs)).mates) (reverse_gave told.reverse) in
+      let most = reads_cut c f r form new all_read fault (reads_at (stop.Fault fault) is) short told.forward told.reverse in
+      let F = ap (λ xs. length (pairs_in form c.check_names c.encoding 0 (whole_part xs) (whole_part (gave r (feed_in new.reverse)))).mates) (forward_gave told.forward) in
+      let R = ap (λ xs. length (pairs_in form c.check_names c.encoding 0 (whole_part (fed (fresh_side c f) new.forward)) (whole_part xs)).mates) (reverse_gave told.reverse) in
       omega arith
 
   whole_is : halt ≡ no_halt → (fate : Fate) → p.fate ≡ fate → block_begun fate ≡ [] → all_read ≡ p.whole
@@ -169,14 +171,14 @@ module _ (c : Choices) (f r : FeedState) (new : SourceState) (before after : Out
   -- what was written where a flush failed
   came_by : (fault : InputFault) → Kind fault → why ≡ Some (stop.Fault fault) → AreTold run → all_read ≡ p.whole → (out : Out) → o ≡ outcome.Write out → IsAllThatCame c run p.whole
   came_by fault (OfText inside) is told whole out at =
-      inl (sym whole ∙ sym (ap (λ (q : Pairs). q.mates) (reads_fault c f r new all_read fault (reads_at (stop.Fault fault) is) inside told.forward told.reverse)))
+      inl (sym whole ∙ sym (ap (λ (q : Pairs). q.mates) (reads_fault form c f r new all_read fault (reads_at (stop.Fault fault) is) inside told.forward told.reverse)))
   came_by fault (OfRead side same) is told whole out at =
       let here = is ∙ ap (λ w. Some (stop.Fault w)) same in
       inr (failing side here, cut_whole told (Text side text.Read) here refl whole)
     where
       failing : (side : Side) → why ≡ Some (stop.Fault (Text side text.Read)) → IsCutOff c run.forward run.forward_left ⊎ IsCutOff c run.reverse run.reverse_left
-      failing Forward at_fault = let e = failures_are Forward ∙ ap (failed_by Forward) at_fault ∙ read_once Forward in inl (inl (omega arith))
-      failing Reverse at_fault = let e = failures_are Reverse ∙ ap (failed_by Reverse) at_fault ∙ read_once Reverse in inr (inl (omega arith))
+      failing Forward at_fault = let e = failures_are Forward ∙ ap (failed_by form Forward) at_fault ∙ read_once form Forward in inl (inl (omega arith))
+      failing Reverse at_fault = let e = failures_are Reverse ∙ ap (failed_by form Reverse) at_fault ∙ read_once form Reverse in inr (inl (omega arith))
   came_by fault (OfEndless side same) is told whole out at =
       let here = is ∙ ap (λ w. Some (stop.Fault w)) same in
       inr (endless side here, cut_whole told (Text side text.Endless) here refl whole)
@@ -190,7 +192,7 @@ module _ (c : Choices) (f r : FeedState) (new : SourceState) (before after : Out
   came : (w : Option Stop) → why ≡ w → AreTold run → is_flush p.fate ≡ true → all_read ≡ p.whole → (out : Out) → o ≡ outcome.Write out → IsAllThatCame c run p.whole
   came None is told flush whole out at = absurd (p.stopped flush is)
   came (Some stop.End) is told flush whole out at =
-      inl (sym whole ∙ sym (ap (λ (q : Pairs). q.mates) (reads_end c f r new all_read (reads_at stop.End is) told.forward told.reverse)))
+      inl (sym whole ∙ sym (ap (λ (q : Pairs). q.mates) (reads_end form c f r new all_read (reads_at stop.End is) told.forward told.reverse)))
   came (Some stop.Memory) is told flush whole out at = absurd (let e = sym (ap lacks_memory is) ∙ (at_write halt why failed o v out at).2 in cc)
   came (Some (stop.Fault fault)) is told flush whole out at = came_by fault (kind fault) is told whole out at
 
@@ -198,10 +200,10 @@ module _ (c : Choices) (f r : FeedState) (new : SourceState) (before after : Out
   justified = record {
     spawn = λ at. absurd (not_spawn halt why failed o v at);
     write = λ out at. let q = at_write halt why failed o v out at in sym p.failed ∙ q.0;
-    read = λ side at. let q = at_read halt why failed o v side at in failures_are side ∙ ap (failed_by side) q.0 ∙ read_once side;
+    read = λ side at. let q = at_read halt why failed o v side at in failures_are side ∙ ap (failed_by form side) q.0 ∙ read_once form side;
     endless = λ side at told. let q = at_endless halt why failed o v side at in endless_bytes side q.0 told;
     outlet_failed = λ out at. outlet_first halt why failed o v out (p.failed ∙ at);
-    feed_failed = λ side some. let e = failures_are side in feed_first halt why failed o v side (omega arith);
+    feed_failed = λ side some. let e = failures_are side in feed_first halt why failed o form v side (omega arith);
     cut_at_read = λ told side at. let q = at_read halt why failed o v side at in cut_whole told (Text side text.Read) q.0 refl (whole_is q.2 Unbroken (sound_fate q.1) refl);
     cut_at_endless = λ told side at. let q = at_endless halt why failed o v side at in cut_whole told (Text side text.Endless) q.0 refl (whole_is q.2 Unbroken (sound_fate q.1) refl);
     flushed = λ told out is at. let q = at_write halt why failed o v out at in came why refl told (ap is_flush is) (whole_is q.1 (FlushFailed out) is refl) out at;
@@ -215,9 +217,9 @@ module _ (c : Choices) (f r : FeedState) (new : SourceState) (before after : Out
     counts = p.counts;
     took = p.took;
     cut_short = p.cut_short;
-    first = λ told. first_of (p.whole ++ block_begun p.fate) p.missed _ (reads_first c f r new all_read why p.reads told.forward told.reverse);
-    forward = let d = reads_forward c f r new all_read why p.reads in (failed_by Forward why, failed_once Forward why, fed_back c f new.forward _ d);
-    reverse = let d = reads_reverse c f r new all_read why p.reads in (failed_by Reverse why, failed_once Reverse why, fed_back c r new.reverse _ d);
+    first = λ told. first_of (p.whole ++ block_begun p.fate) p.missed _ (reads_first form c f r new all_read why p.reads told.forward told.reverse);
+    forward = let d = reads_forward form c f r new all_read why p.reads in (failed_by form Forward why, failed_once form Forward why, fed_back c f new.forward _ d);
+    reverse = let d = reads_reverse form c f r new all_read why p.reads in (failed_by form Reverse why, failed_once form Reverse why, fed_back c r new.reverse _ d);
     outcome = justified;
   }
 
@@ -243,9 +245,9 @@ module _ (c : Choices) (f r : FeedState) (new : SourceState) (before after : Out
   trimmed_by (CannotRead x none going there is) ends told = absurd (let e = sym (ap ends_whole is) ∙ ends in cc)
   trimmed_by (HasNoEnd x none going there is) ends told = absurd (let e = sym (ap ends_whole is) ∙ ends in cc)
   trimmed_by (HasFault fault none going there inside is) ends told =
-      trimmed_all told none going (Some fault) (reads_fault c f r new all_read fault (reads_at (stop.Fault fault) there) inside told.forward told.reverse) is
+      trimmed_all told none going (Some fault) (reads_fault form c f r new all_read fault (reads_at (stop.Fault fault) there) inside told.forward told.reverse) is
   trimmed_by (IsOver none going there is) ends told =
-      trimmed_all told none going None (reads_end c f r new all_read (reads_at stop.End there) told.forward told.reverse) is
+      trimmed_all told none going None (reads_end form c f r new all_read (reads_at stop.End there) told.forward told.reverse) is
 
   pub trimmed : IsTrue (ends_whole o) → AreTold run → IsTrimmed c run
   trimmed ends told = trimmed_by v ends told

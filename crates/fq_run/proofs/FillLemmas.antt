@@ -7,7 +7,7 @@ use Rattle.fq_pair.specs.Mates.{Mates}
 use Rattle.fq_run.specs.declared.reading.Stop.{Stop}
 use Rattle.fq_run.specs.declared.reading.Stop.TheVariants as stop
 use Rattle.fq_run.specs.Filling.{Fills}
-use Rattle.fq_run.specs.Walks.{SourceState, Walks, MeetsEnd, MeetsFault, GoesOn}
+use Rattle.fq_pair.specs.Walks.{SourceState, Walks, MeetsEnd, MeetsFault, GoesOn}
 use Rattle.fq_run.proofs.WalkLemmas.{walks_none, walks_then}
 
 -- so many pairs have been read, and stand in the block

@@ -1,96 +1,13 @@
--- What stands in front of a list of lines stands there too where more lines follow.
-use Rattle.std.proofs.Common.{◌≡◌, ℕ, suc, ◌-◌, ◌<◌, Bool, true, eqb, Some, None, List, [], ◌∷◌, ◌++◌, length, refl, ap, sym, ◌∙◌, arith, ⊎_elim}
-use Rattle.std.specs.List.{concat}
+-- A pair that stands in front of lists of lines stands there too where more lines follow.
+use Rattle.std.proofs.Common.{◌≡◌, ℕ, suc, Bool, true, List, ◌++◌, refl, ap, sym, ◌∙◌, ⊎_elim}
 use Rattle.std.proofs.lemmas.Bool.{cond-true, cond-false, cases_Bool}
 use Rattle.fq_text.specs.declared.encoding.Encoding.{Encoding}
-use Rattle.fq_text.specs.Grammar.{Read, Front, End, Faulty, Found, front, begins_with, before_plus, from_plus, quality_lines, behind_quality, title_fault, plus_fault, quality_faults, sequence_faults, unless_faulty, completed, from_quality_lines, from_plus_line, from_title_line}
-use Rattle.fq_text.proofs.LawfulLemmas.{passed, complete}
+use Rattle.fq_text.specs.Grammar.{Read, Front, End, Faulty, Found, front}
 use Rattle.fq_pair.specs.Mates.{Mates, mates_in}
 use Rattle.fq_pair.specs.Pairing.{belong, Stopped, Met, met, meeting, pair_front}
+use Rattle.fq_pair.specs.Interleaved.{meeting_behind, meeting_in_turn, mixed_front}
 use Rattle.fq_pair.specs.declared.fault.InputFault.TheVariants.{NamesDiffer}
-
-module _ (more : List (List ℕ)) where
-  no_quality : (n : ℕ) (ls : List (List ℕ)) → eqb n 0 ≡ true → (quality_lines n ls ≡ []) × (behind_quality n ls ≡ Some ls)
-  no_quality n [] none = (refl, cond-true (eqb n 0) (Some []) None none)
-  no_quality n (l ∷ ls) none = (cond-true (eqb n 0) [] (l ∷ quality_lines (n - length l) ls) none, cond-true (eqb n 0) (Some (l ∷ ls)) (behind_quality (n - length l) ls) none)
-
-  quality_more : (n : ℕ) (ls rest : List (List ℕ)) → behind_quality n ls ≡ Some rest → (quality_lines n (ls ++ more) ≡ quality_lines n ls) × (behind_quality n (ls ++ more) ≡ Some (rest ++ more))
-  quality_more n [] rest is = ⊎_elim
-      (λ none.
-      let same : Some [] ≡ Some rest = sym (cond-true (eqb n 0) (Some []) None none) ∙ is in
-      let e : [] ≡ rest = cc in
-      let all = no_quality n more none in
-      (all.0, all.1 ∙ ap (λ ls. Some (ls ++ more)) e))
-      (λ some. absurd (let h = sym (cond-false (eqb n 0) (Some []) None some) ∙ is in cc))
-      (cases_Bool (eqb n 0))
-  quality_more n (l ∷ ls) rest is = ⊎_elim
-      (λ none.
-      let same : Some (l ∷ ls) ≡ Some rest = sym (cond-true (eqb n 0) (Some (l ∷ ls)) (behind_quality (n - length l) ls) none) ∙ is in
-      let e : l ∷ ls ≡ rest = cc in
-      let all = no_quality n (l ∷ (ls ++ more)) none in
-      let first = no_quality n (l ∷ ls) none in
-      (all.0 ∙ sym first.0, all.1 ∙ ap (λ ls. Some (ls ++ more)) e))
-      (λ some.
-      let rest_of = quality_more (n - length l) ls rest (sym (cond-false (eqb n 0) (Some (l ∷ ls)) (behind_quality (n - length l) ls) some) ∙ is) in (
-        cond-false (eqb n 0) [] (l ∷ quality_lines (n - length l) (ls ++ more)) some ∙ ap (λ ms. l ∷ ms) rest_of.0 ∙ sym (cond-false (eqb n 0) [] (l ∷ quality_lines (n - length l) ls) some),
-        cond-false (eqb n 0) (Some (l ∷ (ls ++ more))) (behind_quality (n - length l) (ls ++ more)) some ∙ rest_of.1,
-      ))
-      (cases_Bool (eqb n 0))
-
-  from_plus_more : (ls : List (List ℕ)) → 0 < length (from_plus ls) → (before_plus (ls ++ more) ≡ before_plus ls) × (from_plus (ls ++ more) ≡ from_plus ls ++ more)
-  from_plus_more [] some = absurd (omega arith)
-  from_plus_more (l ∷ ls) some = ⊎_elim
-      (λ plus. (
-        cond-true (begins_with 43 l) [] (l ∷ before_plus (ls ++ more)) plus ∙ sym (cond-true (begins_with 43 l) [] (l ∷ before_plus ls) plus),
-        cond-true (begins_with 43 l) (l ∷ (ls ++ more)) (from_plus (ls ++ more)) plus ∙ ap (λ ms. ms ++ more) (sym (cond-true (begins_with 43 l) (l ∷ ls) (from_plus ls) plus)),
-      ))
-      (λ plain.
-      let same = cond-false (begins_with 43 l) (l ∷ ls) (from_plus ls) plain in
-      let len = ap length same in
-      let rest = from_plus_more ls (omega arith) in (
-        cond-false (begins_with 43 l) [] (l ∷ before_plus (ls ++ more)) plain ∙ ap (λ ms. l ∷ ms) rest.0 ∙ sym (cond-false (begins_with 43 l) [] (l ∷ before_plus ls) plain),
-        cond-false (begins_with 43 l) (l ∷ (ls ++ more)) (from_plus (ls ++ more)) plain ∙ rest.1 ∙ ap (λ ms. ms ++ more) (sym same),
-      ))
-      (cases_Bool (begins_with 43 l))
-
-  module _ (e : Encoding) (r : Read) (rest : List (List ℕ)) where
-    quality_lines_more : (title bases : List ℕ) (ls : List (List ℕ)) → from_quality_lines e title bases ls ≡ Found r rest → from_quality_lines e title bases (ls ++ more) ≡ Found r (rest ++ more)
-    quality_lines_more title bases ls is =
-        let n = length bases in
-        let read : List (List ℕ) → Read = λ qs. record { encoding = e; title = title; seq = bases; qual = concat qs } in
-        let first = passed (quality_faults e n 0 (quality_lines n ls)) (completed (read (quality_lines n ls)) (behind_quality n ls)) r rest is in
-        let second = complete (read (quality_lines n ls)) r (behind_quality n ls) rest first.1 in
-        let longer = quality_more n ls rest second.0 in
-        ap (λ qs. unless_faulty (quality_faults e n 0 qs) (completed (read qs) (behind_quality n (ls ++ more)))) longer.0
-        ∙ ap (λ o. unless_faulty (quality_faults e n 0 (quality_lines n ls)) (completed (read (quality_lines n ls)) o)) longer.1
-        ∙ ap (λ o. unless_faulty o (Found (read (quality_lines n ls)) (rest ++ more))) first.0
-        ∙ ap (λ s. Found s (rest ++ more)) second.1
-
-    plus_line_more : (title bases : List ℕ) (ps : List (List ℕ)) → from_plus_line e title bases ps ≡ Found r rest → from_plus_line e title bases (ps ++ more) ≡ Found r (rest ++ more)
-    plus_line_more title bases [] is = absurd cc
-    plus_line_more title bases (plus ∷ ls) is =
-        let first = passed (plus_fault title plus) (from_quality_lines e title bases ls) r rest is in
-        ap (λ o. unless_faulty o (from_quality_lines e title bases (ls ++ more))) first.0 ∙ quality_lines_more title bases ls first.1
-
-    plus_there : (title bases : List ℕ) (ps : List (List ℕ)) → from_plus_line e title bases ps ≡ Found r rest → 0 < length ps
-    plus_there title bases [] is = absurd cc
-    plus_there title bases (plus ∷ ls) is = omega arith
-
-    title_line_more : (b : ℕ) (bs : List ℕ) (ls : List (List ℕ)) → from_title_line e (b ∷ bs) ls ≡ Found r rest → from_title_line e (b ∷ bs) (ls ++ more) ≡ Found r (rest ++ more)
-    title_line_more b bs ls is =
-        let first = passed (title_fault (b ∷ bs)) _ r rest is in
-        let second = passed (sequence_faults 0 (before_plus ls)) _ r rest first.1 in
-        let longer = from_plus_more ls (plus_there bs (concat (before_plus ls)) (from_plus ls) second.1) in
-        ap (λ o. unless_faulty o (unless_faulty (sequence_faults 0 (before_plus (ls ++ more))) (from_plus_line e bs (concat (before_plus (ls ++ more))) (from_plus (ls ++ more))))) first.0
-        ∙ ap (λ qs. unless_faulty (sequence_faults 0 qs) (from_plus_line e bs (concat qs) (from_plus (ls ++ more)))) longer.0
-        ∙ ap (λ o. unless_faulty o (from_plus_line e bs (concat (before_plus ls)) (from_plus (ls ++ more)))) second.0
-        ∙ ap (from_plus_line e bs (concat (before_plus ls))) longer.1
-        ∙ plus_line_more bs (concat (before_plus ls)) (from_plus ls) second.1
-
-    pub front_more : (ls : List (List ℕ)) → front e ls ≡ Found r rest → front e (ls ++ more) ≡ Found r (rest ++ more)
-    front_more [] is = absurd cc
-    front_more ([] ∷ ls) is = front_more ls is
-    front_more ((b ∷ bs) ∷ ls) is = title_line_more b bs ls is
+use Rattle.fq_pair.proofs.FrontLemmas.{front_more}
 
 -- two records that make a pair
 record Meets (check : Bool) (m : Mates) (fs rs : List (List ℕ)) (forward reverse : Front) : Type 0 where
@@ -130,3 +47,45 @@ met_more check e n m forward reverse fs rs more more' is =
     ∙ ap (meeting check (suc n) (Found p.f (fs ++ more))) (front_more more' e p.r rs reverse p.second)
     ∙ cond-true (belong check (mates_in p.f p.r)) (Met (mates_in p.f p.r) (fs ++ more) (rs ++ more')) (Stopped (NamesDiffer (suc n))) p.together
     ∙ ap (λ x. Met x (fs ++ more) (rs ++ more')) p.pair
+
+-- two records that make a pair, one behind the other
+record MeetsInTurn (check : Bool) (e : Encoding) (m : Mates) (fs rs : List (List ℕ)) (x : Front) : Type 0 where
+  f : Read
+  r : Read
+  ls : List (List ℕ)
+  first : x ≡ Found f ls
+  second : front e ls ≡ Found r fs
+  same : rs ≡ fs
+  together : belong check (mates_in f r) ≡ true
+  pair : mates_in f r ≡ m
+
+found_in_turn : (check : Bool) (e : Encoding) (n : ℕ) (m : Mates) (f r : Read) (ls qs fs rs : List (List ℕ)) → front e ls ≡ Found r qs → met check n (mates_in f r) qs qs ≡ Met m fs rs →
+    MeetsInTurn check e m fs rs (Found f ls)
+found_in_turn check e n m f r ls qs fs rs second is = ⊎_elim
+    (λ together.
+    let same : Met (mates_in f r) qs qs ≡ Met m fs rs = sym (cond-true (belong check (mates_in f r)) (Met (mates_in f r) qs qs) (Stopped (NamesDiffer n)) together) ∙ is in
+    let g : qs ≡ fs = cc in let q : qs ≡ rs = cc in let p : mates_in f r ≡ m = cc in
+    record { f = f; r = r; ls = ls; first = refl; second = second ∙ ap (Found r) g; same = sym q ∙ g; together = together; pair = p })
+    (λ apart. absurd (let h = sym (cond-false (belong check (mates_in f r)) (Met (mates_in f r) qs qs) (Stopped (NamesDiffer n)) apart) ∙ is in cc))
+    (cases_Bool (belong check (mates_in f r)))
+
+meets_in_turn : (check : Bool) (e : Encoding) (n : ℕ) (m : Mates) (fs rs : List (List ℕ)) (x : Front) → meeting_in_turn check e n x ≡ Met m fs rs → MeetsInTurn check e m fs rs x
+meets_in_turn check e n m fs rs End is = absurd cc
+meets_in_turn check e n m fs rs (Faulty x) is = absurd cc
+meets_in_turn check e n m fs rs (Found f ls) is = behind (front e ls) refl is
+  where
+    behind : (y : Front) → front e ls ≡ y → meeting_behind check n f y ≡ Met m fs rs → MeetsInTurn check e m fs rs (Found f ls)
+    behind End at there = absurd cc
+    behind (Faulty x) at there = absurd cc
+    behind (Found r qs) at there = found_in_turn check e n m f r ls qs fs rs at there
+
+-- the same of one list of lines, in which mates take turns
+pub mixed_met_more : (check : Bool) (e : Encoding) (n : ℕ) (m : Mates) (ls fs rs more : List (List ℕ)) → mixed_front check e n ls ≡ Met m fs rs →
+    mixed_front check e n (ls ++ more) ≡ Met m (fs ++ more) (rs ++ more)
+mixed_met_more check e n m ls fs rs more is =
+    let p = meets_in_turn check e (suc n) m fs rs (front e ls) is in
+    ap (meeting_in_turn check e (suc n)) (front_more more e p.f p.ls ls p.first)
+    ∙ ap (meeting_behind check (suc n) p.f) (front_more more e p.r fs p.ls p.second)
+    ∙ cond-true (belong check (mates_in p.f p.r)) (Met (mates_in p.f p.r) (fs ++ more) (fs ++ more)) (Stopped (NamesDiffer (suc n))) p.together
+    ∙ ap (λ x. Met x (fs ++ more) (fs ++ more)) p.pair
+    ∙ ap (λ xs. Met m (fs ++ more) (xs ++ more)) (sym p.same)

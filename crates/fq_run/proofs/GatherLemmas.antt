@@ -10,7 +10,7 @@ use Rattle.fq_pair.specs.Mates.{Mates, mates_in}
 use Rattle.fq_pair.specs.Outputs.{Outputs, texts_of, no_texts, joined}
 use Rattle.fq_run.specs.declared.reading.Stop.{Stop}
 use Rattle.fq_run.specs.declared.reading.Stop.TheVariants as stop
-use Rattle.fq_run.specs.Walks.{SourceState, Walks, MeetsEnd, MeetsFault, GoesOn}
+use Rattle.fq_pair.specs.Walks.{SourceState, Walks, MeetsEnd, MeetsFault, GoesOn}
 use Rattle.fq_run.specs.Gathering.{Gathers}
 use Rattle.fq_run.proofs.WalkLemmas.{walks_none, walks_then}
 use Rattle.fq_pair.proofs.OutputLaws.{texts_of-append}

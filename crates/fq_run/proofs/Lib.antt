@@ -1,10 +1,10 @@
 pub mod OutletLemmas
-pub mod AskLemmas
 pub mod WalkLemmas
 pub mod TextLemmas
 pub mod GatherLemmas
 pub mod BlockLemmas
 pub mod PassLemmas
+pub mod FormLemmas
 pub mod FrontLemmas
 pub mod CutLemmas
 pub mod ReadingLemmas

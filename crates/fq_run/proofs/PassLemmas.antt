@@ -4,31 +4,34 @@ use Rattle.fq_pair.specs.declared.out.Out.{Out}
 use Rattle.fq_pair.specs.declared.counts.Counts.{Counts}
 use Rattle.fq_pair.specs.Outputs.{text_of, texts_of, no_counts}
 use Rattle.fq_run.specs.declared.halt.Halt.{Halt}
+use Rattle.fq_run.specs.declared.written.Written.{Written}
 use Rattle.fq_run.specs.declared.reading.Stop.{Stop}
 use Rattle.fq_run.specs.declared.reading.Stop.TheVariants as stop
 use Rattle.fq_run.specs.Choices.{Choices}
 use Rattle.fq_run.specs.Devices.{FeedState, OutletStates}
 use Rattle.fq_run.specs.Fates.{Unbroken}
-use Rattle.fq_run.specs.Walks.{SourceState, GoesOn, fresh_source, feed_in}
+use Rattle.fq_pair.specs.Forms.{Form}
+use Rattle.fq_pair.specs.Walks.{SourceState, GoesOn}
+use Rattle.fq_run.specs.Walks.{fresh_source, feed_in}
 use Rattle.fq_run.specs.Writing.{no_halt, Passes, Runs}
 use Rattle.fq_run.proofs.OutletLemmas.{all_took_none, all_took_same}
 use Rattle.fq_run.proofs.TextLemmas.{no_text}
 use Rattle.fq_run.proofs.WalkLemmas.{walks_none}
 
 -- a source that has not been asked goes on
-pub goes_fresh : (c : Choices) (f r : FeedState) (s : SourceState) → s ≡ fresh_source c f r → GoesOn s
-goes_fresh c f r s is = let P : SourceState → Type 0 = λ t. GoesOn t in subst P (sym is) (record { last = refl; within = omega arith })
+pub goes_fresh : (form : Form) (c : Choices) (f r : FeedState) (s : SourceState) → s ≡ fresh_source form c f r → GoesOn s
+goes_fresh form c f r s is = let P : SourceState → Type 0 = λ t. GoesOn t in subst P (sym is) (record { last = refl; within = omega arith })
 
 -- memory was refused before anything was read
-pub runs_refused : (c : Choices) (f r f' r' : FeedState) (o : OutletStates) (counted : Counts) → f' ≡ f → r' ≡ r → counted ≡ no_counts → Runs c f r f' r' o o counted no_halt (Some stop.Memory) None
-runs_refused c f r f' r' o counted same also none = record {
-  new = fresh_source c f r;
+pub runs_refused : (form : Form) (c : Choices) (f r f' r' : FeedState) (o : OutletStates) (counted : Counts) → f' ≡ f → r' ≡ r → counted ≡ no_counts → Runs form c f r f' r' o o counted no_halt (Some stop.Memory) None
+runs_refused form c f r f' r' o counted same also none = record {
+  new = fresh_source form c f r;
   passes = record {
     whole = [];
     fate = Unbroken;
     missed = [];
     counts = none;
-    reads = ([], walks_none (fresh_source c f r) refl);
+    reads = ([], walks_none (fresh_source form c f r) refl);
     took = all_took_same o o (λ out. []) _ None (λ out. sym (nothing out)) (all_took_none o);
     failed = refl;
     cut_short = tt;
@@ -43,9 +46,15 @@ runs_refused c f r f' r' o counted same also none = record {
     nothing : (out : Out) → text_of out (texts_of c.steps []) ++ [] ≡ []
     nothing out = let e = no_text c.steps out in rw e refl
 
+pub runs_nothing : (form : Form) (c : Choices) (f r f' r' : FeedState) (o : OutletStates) (w : Written) → w ≡ record { counts = no_counts; stop = Some stop.Memory; failed = None } → f' ≡ f → r' ≡ r →
+    Runs form c f r f' r' o o w.counts no_halt w.stop w.failed
+runs_nothing form c f r f' r' o w is same also =
+    let P : Written → Type 0 = λ x. Runs form c f r f' r' o o x.counts no_halt x.stop x.failed in
+    subst P (sym is) (runs_refused form c f r f' r' o no_counts same also refl)
+
 -- what was passed from a fresh source on
-pub runs_passed : (c : Choices) (f r f' r' : FeedState) (old new : SourceState) (before after : OutletStates) (counted : Counts) (halt : Halt) (why : Option Stop) (failed : Option Out) →
-    old ≡ fresh_source c f r → f' ≡ feed_in new.forward → r' ≡ feed_in new.reverse → Passes c old new before after counted halt why failed → Runs c f r f' r' before after counted halt why failed
-runs_passed c f r f' r' old new before after counted halt why failed is first second p =
+pub runs_passed : (form : Form) (c : Choices) (f r f' r' : FeedState) (old new : SourceState) (before after : OutletStates) (counted : Counts) (halt : Halt) (why : Option Stop) (failed : Option Out) →
+    old ≡ fresh_source form c f r → f' ≡ feed_in new.forward → r' ≡ feed_in new.reverse → Passes c old new before after counted halt why failed → Runs form c f r f' r' before after counted halt why failed
+runs_passed form c f r f' r' old new before after counted halt why failed is first second p =
     let P : SourceState → Type 0 = λ s. Passes c s new before after counted halt why failed in
     record { new = new; passes = subst P is p; forward = first; reverse = second }

@@ -10,6 +10,7 @@ use Rattle.fq_run.specs.Choices.{Choices}
 use Rattle.fq_run.specs.Outcomes.{rank, outcome_of}
 use Rattle.fq_run.specs.Devices.{FeedState, OutletStates, AreHealthy, OutletsTook}
 use Rattle.fq_run.specs.Fates.{part_begun}
+use Rattle.fq_pair.specs.Forms.{Form}
 use Rattle.fq_run.specs.Walks.{fresh_source, feed_in}
 use Rattle.fq_run.specs.Writing.{no_halt, Runs, FlushesAfter, occurred}
 use Rattle.fq_run.specs.Endings.{Run, AreTold, ends_whole, IsTrimmed, EveryEnding}
@@ -17,8 +18,8 @@ use Rattle.fq_run.proofs.OutletLemmas.{still_healthy}
 use Rattle.fq_run.proofs.VerdictLemmas.{Verdict, verdict, least, is_serial}
 use Rattle.fq_run.proofs.EndLemmas.{Closes, closes, every, trimmed}
 
-module _ (c : Choices) (f r f' r' : FeedState) (before mid : OutletStates) (counted : Counts) (halt : Halt) (why : Option Stop) (broken : Option Out)
-    (p : Runs c f r f' r' before mid counted halt why broken) where
+module _ (form : Form) (c : Choices) (f r f' r' : FeedState) (before mid : OutletStates) (counted : Counts) (halt : Halt) (why : Option Stop) (broken : Option Out)
+    (p : Runs form c f r f' r' before mid counted halt why broken) where
   -- outlets of which none failed have no failures yet
   pub runs_healthy : AreHealthy before → broken ≡ None → AreHealthy mid
   runs_healthy h none =
@@ -29,10 +30,10 @@ module _ (c : Choices) (f r f' r' : FeedState) (before mid : OutletStates) (coun
   module _ (after : OutletStates) (failed : Option Out) (o : Outcome) (q : FlushesAfter broken mid after failed) (is : o ≡ outcome_of (occurred halt why failed)) (sound : f.failures ≡ 0) (sound' : r.failures ≡ 0) where
     -- the run
     abbrev pub run_with : FeedState → FeedState → Run
-    run_with x y = record { forward = f; reverse = r; outlets = before; forward_left = Some x; reverse_left = Some y; outlets_left = after; outcome = o; counts = counted }
+    run_with x y = record { form = form; forward = f; reverse = r; outlets = before; forward_left = Some x; reverse_left = Some y; outlets_left = after; outcome = o; counts = counted }
 
-    closed : Closes c (fresh_source c f r) p.new before after counted halt why failed
-    closed = closes c (fresh_source c f r) p.new before mid after counted halt why broken failed p.passes q
+    closed : Closes c (fresh_source form c f r) p.new before after counted halt why failed
+    closed = closes c (fresh_source form c f r) p.new before mid after counted halt why broken failed p.passes q
 
     judged : Verdict halt why failed o
     judged = let P : Outcome → Type 0 = λ x. Verdict halt why failed x in let d = closed in subst P (sym is) (verdict halt why failed d.over)
@@ -47,10 +48,10 @@ module _ (c : Choices) (f r f' r' : FeedState) (before mid : OutletStates) (coun
     run_every =
         let new = p.new in
         let P : FeedState → Type 0 = λ x. EveryEnding c (run_with x r') in let Q : FeedState → Type 0 = λ y. EveryEnding c (run_with (feed_in new.forward) y) in
-        subst P (sym p.forward) (subst Q (sym p.reverse) (every c f r p.new before after counted halt why failed o closed judged sound sound'))
+        subst P (sym p.forward) (subst Q (sym p.reverse) (every form c f r p.new before after counted halt why failed o closed judged sound sound'))
 
     pub run_whole : IsTrue (ends_whole o) → AreTold (run_with f' r') → IsTrimmed c (run_with f' r')
     run_whole ends told =
         let new = p.new in
         let P : FeedState → Type 0 = λ x. IsTrimmed c (run_with x r') in let Q : FeedState → Type 0 = λ y. IsTrimmed c (run_with (feed_in new.forward) y) in
-        subst P (sym p.forward) (subst Q (sym p.reverse) (trimmed c f r p.new before after counted halt why failed o closed judged sound sound' ends (record { forward = told.forward; reverse = told.reverse })))
+        subst P (sym p.forward) (subst Q (sym p.reverse) (trimmed form c f r p.new before after counted halt why failed o closed judged sound sound' ends (record { forward = told.forward; reverse = told.reverse })))

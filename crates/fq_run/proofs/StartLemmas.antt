@@ -15,8 +15,12 @@ use Rattle.fq_run.specs.Devices.{FeedState, OutletStates, OutletsTook}
 use Rattle.fq_run.specs.Endings.{Run, all_pairs, ends_whole, IsHandedBack, EveryEnding}
 use Rattle.fq_run.specs.Fates.{Unbroken}
 use Rattle.fq_run.specs.Outcomes.{rank}
-use Rattle.fq_run.specs.Threads.{IsFresh, IsThreaded}
-use Rattle.fq_run.specs.Walks.{SourceState, Reads, fresh_source, feed_in}
+use Rattle.std.specs.Option.{option_map}
+use Rattle.fq_run.specs.Threads.{IsFresh, IsThreaded, run_from}
+use Rattle.fq_run.specs.declared.ended.Ended.{Ended}
+use Rattle.fq_pair.specs.Forms.{Form}
+use Rattle.fq_pair.specs.Walks.{SourceState}
+use Rattle.fq_run.specs.Walks.{Reads, fresh_source, feed_in}
 use Rattle.fq_run.proofs.OutletLemmas.{all_took_none, all_took_same}
 use Rattle.fq_run.proofs.ReadingLemmas.{failed_by, fed_back, reads_forward, reads_reverse}
 use Rattle.fq_run.proofs.TextLemmas.{no_text}
@@ -28,16 +32,14 @@ use Rattle.fq_run.specs.Writing.{FlushesAfter, no_halt}
 use Rattle.fq_pair.specs.declared.counts.Counts.{Counts}
 
 -- what the dealer hands back of its feeds
-pub handed_back : (c : Choices) (s old : SourceState) → IsFresh c s → old ≡ s → (c' : Choices) (to : List (Line Numbered)) (closings : List (Result (Line Numbered) NotEnded)) (why : Option Stop) (f r : FeedState) →
-    Deals c' old to closings why f r → IsHandedBack (feed_in s.forward) (Some f) × IsHandedBack (feed_in s.reverse) (Some r)
-handed_back c s old fresh same c' to closings why f r d =
+pub handed_back : (c : Choices) (s old new : SourceState) → IsFresh c s → old ≡ s → (c' : Choices) (to : List (Line Numbered)) (closings : List (Result (Line Numbered) NotEnded)) (why : Option Stop) →
+    Deals c' old new to closings why → IsHandedBack (feed_in s.forward) (Some (feed_in new.forward)) × IsHandedBack (feed_in s.reverse) (Some (feed_in new.reverse))
+handed_back c s old new fresh same c' to closings why d =
     let x = feed_in s.forward in let y = feed_in s.reverse in
-    let P : SourceState → Type 0 = λ t. Reads t d.new d.mates why in
-    let reads : Reads (fresh_source c x y) d.new d.mates why = subst P (same ∙ fresh.fresh) d.reads in
-    let Q : FeedState → Type 0 = λ t. IsHandedBack x (Some t) in
-    let R : FeedState → Type 0 = λ t. IsHandedBack y (Some t) in (
-      subst Q (sym d.forward) (failed_by Forward why, failed_once Forward why, fed_back c x d.new.forward _ (reads_forward c x y d.new d.mates why reads)),
-      subst R (sym d.reverse) (failed_by Reverse why, failed_once Reverse why, fed_back c y d.new.reverse _ (reads_reverse c x y d.new d.mates why reads)),
+    let P : SourceState → Type 0 = λ t. Reads t new d.mates why in
+    let reads : Reads (fresh_source s.form c x y) new d.mates why = subst P (same ∙ fresh.fresh) d.reads in (
+      (failed_by s.form Forward why, failed_once s.form Forward why, fed_back c x new.forward _ (reads_forward s.form c x y new d.mates why reads)),
+      (failed_by s.form Reverse why, failed_once s.form Reverse why, fed_back c y new.reverse _ (reads_reverse s.form c x y new d.mates why reads)),
     )
 
 -- the outcome of a run in which a thread was refused is none of the others
@@ -90,15 +92,41 @@ module _ (c : Choices) (run : Run) (e : run.outcome ≡ outcome.Spawn) (none : r
   }
 
 -- where memory was refused before the threads the outlets were flushed, and no more
-pub refused : (c : Choices) (f r f' r' : FeedState) (before after : OutletStates) (counted : Counts) (failed : Option Out) → f' ≡ f → r' ≡ r → counted ≡ no_counts → FlushesAfter None before after failed → f.failures ≡ 0 → r.failures ≡ 0 →
-    IsThreaded c (record { forward = f; reverse = r; outlets = before; forward_left = Some f'; reverse_left = Some r'; outlets_left = after; outcome = outcome.Memory; counts = counted }) None
-refused c f r f' r' before after counted failed same also none flushed sound sound' =
-    let p = runs_refused c f r f' r' before counted same also none in
+pub refused : (form : Form) (c : Choices) (f r f' r' : FeedState) (before after : OutletStates) (counted : Counts) (failed : Option Out) → f' ≡ f → r' ≡ r → counted ≡ no_counts → FlushesAfter None before after failed → f.failures ≡ 0 → r.failures ≡ 0 →
+    IsThreaded c (record { form = form; forward = f; reverse = r; outlets = before; forward_left = Some f'; reverse_left = Some r'; outlets_left = after; outcome = outcome.Memory; counts = counted }) None
+refused form c f r f' r' before after counted failed same also none flushed sound sound' =
+    let p = runs_refused form c f r f' r' before counted same also none in
     record {
       lane = λ at. absurd cc;
       no_other = λ some. absurd cc;
       forward = λ gone. absurd cc;
       reverse = λ gone. absurd cc;
       whole = λ ends told. absurd cc;
-      every = λ lane. run_every c f r f' r' before before counted no_halt (Some stop.Memory) None p after failed outcome.Memory flushed refl sound sound';
+      every = λ lane. run_every form c f r f' r' before before counted no_halt (Some stop.Memory) None p after failed outcome.Memory flushed refl sound sound';
     }
+
+-- the feeds of a source that is left, if one is
+left_as : {S A : Type 0} (feed : S → A) (fs : A → FeedState) (side : S → FeedState) → ((x : S) → fs (feed x) ≡ side x) → (o : Option S) (a : Option A) → a ≡ option_map feed o → option_map side o ≡ option_map fs a
+left_as feed fs side same None a is = sym (ap (option_map fs) is)
+left_as feed fs side same (Some x) a is = ap Some (sym (same x)) ∙ sym (ap (option_map fs) is)
+
+-- what holds of a run over a source holds of it over the feeds of that source
+pub closed : {S F G : Type 0} (state : S → SourceState) (fs : F → FeedState) (gs : G → FeedState) (forward_of : S → F) (reverse_of : S → G) →
+    ((x : S) → fs (forward_of x) ≡ feed_in (state x).forward) → ((x : S) → gs (reverse_of x) ≡ feed_in (state x).reverse) →
+    (form : Form) (c : Choices) (s : SourceState) (f : F) (r : G) → s ≡ fresh_source form c (fs f) (gs r) → (before after : OutletStates) (e : Ended S) →
+    (o : Outcome) (counted : Counts) (f' : Option F) (r' : Option G) (u : Option NotEnded) → o ≡ e.outcome → counted ≡ e.counts → u ≡ e.unended → f' ≡ option_map forward_of e.source → r' ≡ option_map reverse_of e.source →
+    IsThreaded c (run_from state s before after e) e.unended →
+    IsThreaded c (record { form = form; forward = fs f; reverse = gs r; outlets = before; forward_left = option_map fs f'; reverse_left = option_map gs r'; outlets_left = after; outcome = o; counts = counted }) u
+closed state fs gs forward_of reverse_of first second form c s f r is before after e o counted f' r' u outcome_is counts_are ended left right t =
+    let R : SourceState → Outcome → Counts → Option FeedState → Option FeedState → Run =
+    λ z x n p q. record { form = z.form; forward = feed_in z.forward; reverse = feed_in z.reverse; outlets = before; forward_left = p; reverse_left = q; outlets_left = after; outcome = x; counts = n } in
+    let p = option_map (λ x. feed_in (state x).forward) e.source in
+    let q = option_map (λ x. feed_in (state x).reverse) e.source in
+    let fresh = fresh_source form c (fs f) (gs r) in
+    let same : R s e.outcome e.counts p q ≡ R fresh o counted (option_map fs f') (option_map gs r') =
+    ap (λ z. R z e.outcome e.counts p q) is
+    ∙ ap (λ x. R fresh x e.counts p q) (sym outcome_is)
+    ∙ ap (λ n. R fresh o n p q) (sym counts_are)
+    ∙ ap (λ x. R fresh o counted x q) (left_as forward_of fs (λ x. feed_in (state x).forward) first e.source f' left)
+    ∙ ap (λ x. R fresh o counted (option_map fs f') x) (left_as reverse_of gs (λ x. feed_in (state x).reverse) second e.source r' right) in
+    subst (λ (v : Run). IsThreaded c v u) same (subst (λ (v : Option NotEnded). IsThreaded c (run_from state s before after e) v) (sym ended) t)

@@ -30,7 +30,9 @@ use Rattle.fq_run.specs.Dealt.{Deals}
 use Rattle.fq_run.specs.Devices.{FeedState, OutletStates, OutletsTook, part_at}
 use Rattle.fq_run.specs.Fates as fate
 use Rattle.fq_run.specs.Lanes.{IsDealt}
-use Rattle.fq_run.specs.Walks.{SourceState, Reads, fresh_source}
+use Rattle.fq_pair.specs.Forms.{Form}
+use Rattle.fq_pair.specs.Walks.{SourceState}
+use Rattle.fq_run.specs.Walks.{Reads, fresh_source, feed_in}
 use Rattle.fq_run.specs.Writing.{no_halt, Passes, Runs}
 use Rattle.fq_run.proofs.MatchLemmas.{answered, begun_before, begun_first, ended_all}
 use Rattle.fq_run.proofs.OutletLemmas.{all_took_same}
@@ -165,30 +167,30 @@ halted : (why : Cause) (k : Collector) → IsHeard why k → k.halt ≡ no_halt 
 halted cause.Gate k heard sound = let e = sym heard ∙ ap (λ (h : Halt). h.gate) sound in cc
 halted cause.Memory k heard sound = let e = sym heard ∙ ap (λ (h : Halt). h.memory) sound in cc
 
-module _ (c : Choices) (f r f' r' : FeedState) (old : SourceState) (to : List (Line Numbered)) (closings : List (Result (Line Numbered) NotEnded)) (why : Option reading.Stop) (w : ℕ) (before mid : OutletStates) (k : Collector)
-    (is : old ≡ fresh_source c f r) (d : Deals c old to closings why f' r') (matched : AllZip (Matched c.steps) closings k.replies.items) (stopped : why ≡ None → ⊥) (lanes : length to ≡ w) (some : 0 < w) where
+module _ (form : Form) (c : Choices) (f r : FeedState) (old new : SourceState) (to : List (Line Numbered)) (closings : List (Result (Line Numbered) NotEnded)) (why : Option reading.Stop) (w : ℕ) (before mid : OutletStates) (k : Collector)
+    (is : old ≡ fresh_source form c f r) (d : Deals c old new to closings why) (matched : AllZip (Matched c.steps) closings k.replies.items) (stopped : why ≡ None → ⊥) (lanes : length to ≡ w) (some : 0 < w) where
   dealt_to : IsDealt w d.blocks d.sent
   dealt_to = subst (λ n. IsDealt n d.blocks d.sent) lanes d.dealt
 
   -- the answers of the first blocks, by how far the collector came
-  passes_by : (phase : Phase) (ds : List Done) → k.counts ≡ counted ds → Writes phase w before mid ds k → (phase ≡ Writing → ⊥) → Passes c old d.new before mid k.counts k.halt why (failed_in phase)
+  passes_by : (phase : Phase) (ds : List Done) → k.counts ≡ counted ds → Writes phase w before mid ds k → (phase ≡ Writing → ⊥) → Passes c old new before mid k.counts k.halt why (failed_in phase)
   passes_by Writing ds totals writes over = absurd (over refl)
   passes_by Ended ds totals writes over =
       let cut = d.cut in
       let all = ended_all c.steps w d.blocks d.sent closings k.replies.items dealt_to d.ends matched some ds writes.0 in
-      passes_first c old d.new d.mates why d.blocks before mid d.reads d.few cut.cut stopped ds k.counts k.halt d.blocks [] (sym (append-nil d.blocks)) all totals writes.1 (λ sound. refl)
+      passes_first c old new d.mates why d.blocks before mid d.reads d.few cut.cut stopped ds k.counts k.halt d.blocks [] (sym (append-nil d.blocks)) all totals writes.1 (λ sound. refl)
   passes_by Stopped ds totals writes over =
       let cut = d.cut in
       let begun = begun_first c.steps w d.blocks d.sent closings k.replies.items dealt_to d.ends matched some ds (begun_before w (map done ds) (Stop writes.why ∷ []) k.replies.items writes.begun) in
       let s = splits c.steps ds [] d.blocks (subst (λ xs. IsPrefix xs (answered c.steps d.blocks)) (sym (append-nil ds)) begun) in
-      passes_first c old d.new d.mates why d.blocks before mid d.reads d.few cut.cut stopped ds k.counts k.halt s.first s.rest s.all s.answers totals writes.took (λ sound. absurd (halted writes.why k writes.heard sound))
+      passes_first c old new d.mates why d.blocks before mid d.reads d.few cut.cut stopped ds k.counts k.halt s.first s.rest s.all s.answers totals writes.took (λ sound. absurd (halted writes.why k writes.heard sound))
   passes_by (WriteFailed failed) ds totals writes over =
       let cut = d.cut in
       let begun = begun_first c.steps w d.blocks d.sent closings k.replies.items dealt_to d.ends matched some (ds ++ writes.next ∷ []) writes.begun in
       let s = splits c.steps ds (writes.next ∷ []) d.blocks begun in
-      passes_behind c old d.new d.mates why d.blocks before mid d.reads d.few cut.cut stopped failed ds k.counts k.halt writes.next writes.sent s.first s.rest s.all s.answers s.others totals writes.short writes.took
+      passes_behind c old new d.mates why d.blocks before mid d.reads d.few cut.cut stopped failed ds k.counts k.halt writes.next writes.sent s.first s.rest s.all s.answers s.others totals writes.short writes.took
 
   -- what the run read and wrote
-  pub runs_threaded : Collects w before mid k → (k.phase ≡ Writing → ⊥) → Runs c f r f' r' before mid k.counts k.halt why (failed_in k.phase)
+  pub runs_threaded : Collects w before mid k → (k.phase ≡ Writing → ⊥) → Runs form c f r (feed_in new.forward) (feed_in new.reverse) before mid k.counts k.halt why (failed_in k.phase)
   runs_threaded collects over =
-      runs_passed c f r f' r' old d.new before mid k.counts k.halt why (failed_in k.phase) is d.forward d.reverse (passes_by k.phase collects.written collects.counts collects.writes over)
+      runs_passed form c f r _ _ old new before mid k.counts k.halt why (failed_in k.phase) is refl refl (passes_by k.phase collects.written collects.counts collects.writes over)

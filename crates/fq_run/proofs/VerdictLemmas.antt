@@ -7,13 +7,14 @@ use Rattle.fq_pair.specs.declared.side.Side.TheVariants.{Forward, Reverse}
 use Rattle.fq_pair.specs.declared.fault.InputFault.{InputFault}
 use Rattle.fq_pair.specs.declared.fault.InputFault.TheVariants.{Text}
 use Rattle.fq_pair.specs.PairSources.{is_from_outside, failed_on}
+use Rattle.fq_pair.specs.Forms.{Form, TwoTexts, OneText, failed_at}
 use Rattle.fq_run.specs.declared.outcome.Outcome.{Outcome}
 use Rattle.fq_run.specs.declared.outcome.Outcome.TheVariants.{Spawn, Gate, Memory, Write, Read, Endless, Input, Finished}
 use Rattle.fq_run.specs.declared.halt.Halt.{Halt}
 use Rattle.fq_run.specs.declared.reading.Stop.{Stop}
 use Rattle.fq_run.specs.declared.reading.Stop.TheVariants as stop
 use Rattle.fq_run.specs.Outcomes.{rank, end_of, is_memory, outcome_of}
-use Rattle.fq_run.specs.Walks.{faulty}
+use Rattle.fq_pair.specs.Walks.{faulty}
 use Rattle.fq_run.specs.Writing.{no_halt, wants_memory, fault_in, occurred}
 use Rattle.fq_run.proofs.ReadingLemmas.{failed_by}
 
@@ -79,31 +80,41 @@ verdict halt why failed over = halt_verdict halt.gate halt.memory why failed ove
 
 -- How often a feed failed.
 
-endless_none : (side other : Side) → failed_on side (faulty (Text other text.Endless)) ≡ 0
-endless_none Forward Forward = refl
-endless_none Forward Reverse = refl
-endless_none Reverse Forward = refl
-endless_none Reverse Reverse = refl
+endless_none : (form : Form) (side other : Side) → failed_at form side (faulty (Text other text.Endless)) ≡ 0
+endless_none TwoTexts Forward Forward = refl
+endless_none TwoTexts Forward Reverse = refl
+endless_none TwoTexts Reverse Forward = refl
+endless_none TwoTexts Reverse Reverse = refl
+endless_none OneText side Forward = refl
+endless_none OneText side Reverse = refl
 
-inside_none : (side : Side) (fault : InputFault) → is_from_outside fault ≡ false → failed_on side (faulty fault) ≡ 0
-inside_none Forward (Text Forward text.Read) is = absurd cc
-inside_none Reverse (Text Reverse text.Read) is = absurd cc
-inside_none _ _ is = refl
+inside_one : (side : Side) (fault : InputFault) → is_from_outside fault ≡ false → failed_on side (faulty fault) ≡ 0
+inside_one Forward (Text Forward text.Read) is = absurd cc
+inside_one Reverse (Text Reverse text.Read) is = absurd cc
+inside_one _ _ is = refl
 
-pub read_once : (side : Side) → failed_by side (Some (stop.Fault (Text side text.Read))) ≡ 1
-read_once Forward = refl
-read_once Reverse = refl
+inside_none : (form : Form) (side : Side) (fault : InputFault) → is_from_outside fault ≡ false → failed_at form side (faulty fault) ≡ 0
+inside_none TwoTexts side fault is = inside_one side fault is
+inside_none OneText side fault is = let f = inside_one Forward fault is in let r = inside_one Reverse fault is in omega arith
 
-failed_few : (side : Side) (fault : InputFault) → failed_on side (faulty fault) ≤ 1
-failed_few Forward (Text Forward text.Read) = omega arith
-failed_few Reverse (Text Reverse text.Read) = omega arith
-failed_few _ _ = omega arith
+pub read_once : (form : Form) (side : Side) → failed_by form side (Some (stop.Fault (Text side text.Read))) ≡ 1
+read_once TwoTexts Forward = refl
+read_once TwoTexts Reverse = refl
+read_once OneText Forward = refl
+read_once OneText Reverse = refl
 
-pub failed_once : (side : Side) (why : Option Stop) → failed_by side why ≤ 1
-failed_once side None = omega arith
-failed_once side (Some stop.End) = omega arith
-failed_once side (Some stop.Memory) = omega arith
-failed_once side (Some (stop.Fault fault)) = failed_few side fault
+failed_few : (form : Form) (side : Side) (fault : InputFault) → failed_at form side (faulty fault) ≤ 1
+failed_few TwoTexts Forward (Text Forward text.Read) = omega arith
+failed_few TwoTexts Reverse (Text Reverse text.Read) = omega arith
+failed_few OneText side (Text Forward text.Read) = omega arith
+failed_few OneText side (Text Reverse text.Read) = omega arith
+failed_few _ _ _ = omega arith
+
+pub failed_once : (form : Form) (side : Side) (why : Option Stop) → failed_by form side why ≤ 1
+failed_once form side None = omega arith
+failed_once form side (Some stop.End) = omega arith
+failed_once form side (Some stop.Memory) = omega arith
+failed_once form side (Some (stop.Fault fault)) = failed_few form side fault
 
 -- What an outcome tells.
 
@@ -169,11 +180,11 @@ module _ (halt : Halt) (why : Option Stop) (failed : Option Out) (o : Outcome) w
   outlet_first (HasFault fault none going there inside is) out at = absurd (let e = sym none ∙ at in cc)
   outlet_first (IsOver none going there is) out at = absurd (let e = sym none ∙ at in cc)
 
-  pub feed_first : Verdict halt why failed o → (side : Side) → 0 < failed_by side why → rank o ≤ 6
-  feed_first (IsRefused there is) side some = let e = ap rank is in omega arith
-  feed_first (WantsMemory is) side some = let e = ap rank is in omega arith
-  feed_first (FailedAt x there going enough is) side some = let e = ap rank is in omega arith
-  feed_first (CannotRead x none going there is) side some = let e = ap rank is in omega arith
-  feed_first (HasNoEnd x none going there is) side some = absurd (let e = ap (failed_by side) there ∙ endless_none side x in omega arith)
-  feed_first (HasFault fault none going there inside is) side some = absurd (let e = ap (failed_by side) there ∙ inside_none side fault inside in omega arith)
-  feed_first (IsOver none going there is) side some = absurd (let e = ap (failed_by side) there in omega arith)
+  pub feed_first : (form : Form) → Verdict halt why failed o → (side : Side) → 0 < failed_by form side why → rank o ≤ 6
+  feed_first form (IsRefused there is) side some = let e = ap rank is in omega arith
+  feed_first form (WantsMemory is) side some = let e = ap rank is in omega arith
+  feed_first form (FailedAt x there going enough is) side some = let e = ap rank is in omega arith
+  feed_first form (CannotRead x none going there is) side some = let e = ap rank is in omega arith
+  feed_first form (HasNoEnd x none going there is) side some = absurd (let e = ap (failed_by form side) there ∙ endless_none form side x in omega arith)
+  feed_first form (HasFault fault none going there inside is) side some = absurd (let e = ap (failed_by form side) there ∙ inside_none form side fault inside in omega arith)
+  feed_first form (IsOver none going there is) side some = absurd (let e = ap (failed_by form side) there in omega arith)

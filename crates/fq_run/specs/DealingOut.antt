@@ -6,7 +6,8 @@ use Rattle.fq_pair.specs.Mates.{Mates}
 use Rattle.fq_run.specs.Choices.{Choices}
 use Rattle.fq_run.specs.Dealt.{AreBlocks}
 use Rattle.fq_run.specs.Lanes.{names_of, IsDealt}
-use Rattle.fq_run.specs.Walks.{SourceState, Reads}
+use Rattle.fq_pair.specs.Walks.{SourceState}
+use Rattle.fq_run.specs.Walks.{Reads}
 use Rattle.fq_run.specs.declared.reading.Stop.{Stop}
 use Rattle.fq_run.specs.declared.reading.Stop.TheVariants as stop
 

@@ -8,9 +8,9 @@ use Rattle.fq_lane.specs.declared.tx.NotEnded.{NotEnded}
 use Rattle.fq_block.specs.Blocks.{Numbered}
 use Rattle.fq_run.specs.Choices.{Choices}
 use Rattle.fq_run.specs.Dealing.{IsCut}
-use Rattle.fq_run.specs.Devices.{FeedState}
 use Rattle.fq_run.specs.Lanes.{names_of, IsDealt}
-use Rattle.fq_run.specs.Walks.{SourceState, Reads, feed_in}
+use Rattle.fq_pair.specs.Walks.{SourceState}
+use Rattle.fq_run.specs.Walks.{Reads}
 use Rattle.fq_run.specs.declared.reading.Stop.{Stop}
 use Rattle.fq_run.specs.declared.reading.Stop.TheVariants as stop
 
@@ -30,16 +30,13 @@ Closed to closing = IfOk closing (λ e. e ≡ with_mark to)
 
 -- Pairs were read from a source, up to where the reading stopped, and their blocks were dealt out to lanes, which are closed.
 -- Where that was a want of memory, the source gave one pair more, which is lost. Without a start nothing was read.
-pub record Deals (c : Choices) (old : SourceState) (to : List (Line Numbered)) (closings : List (Result (Line Numbered) NotEnded)) (why : Option Stop) (f r : FeedState) : Type 0 where
+pub record Deals (c : Choices) (old new : SourceState) (to : List (Line Numbered)) (closings : List (Result (Line Numbered) NotEnded)) (why : Option Stop) : Type 0 where
   pub mates : List Mates
   pub blocks : List Numbered
   pub sent : List (Line Numbered)
-  pub new : SourceState
   pub reads : Reads old new mates why
   pub lost : why ≡ Some stop.Memory → new.given ≡ old.given + length mates + 1
   pub few : length mates ≤ 2 ^ 60
-  pub forward : f ≡ feed_in new.forward
-  pub reverse : r ≡ feed_in new.reverse
   pub cut : AreBlocks c mates blocks
   pub dealt : IsDealt (length to) blocks sent
   pub names : names_of sent ≡ names_of to
@@ -47,9 +44,9 @@ pub record Deals (c : Choices) (old : SourceState) (to : List (Line Numbered)) (
 
 -- The same, and the start lane is taken to its mark. Where there was a start, the reading has come to a stop; where there was none,
 -- nothing was read, and nothing sent.
-pub record HasDealt (c : Choices) (old : SourceState) (start start_left : Line (Unit {0})) (to : List (Line Numbered)) (closings : List (Result (Line Numbered) NotEnded)) (why : Option Stop) (f r : FeedState) : Type 0 where
+pub record HasDealt (c : Choices) (old new : SourceState) (start start_left : Line (Unit {0})) (to : List (Line Numbered)) (closings : List (Result (Line Numbered) NotEnded)) (why : Option Stop) : Type 0 where
   pub name : start_left.name ≡ start.name
   pub closed : start_left.marked ≡ true
   pub started : 0 < length start_left.items → why ≡ None → ⊥
-  pub deals : Deals c old to closings why f r
-  pub idle : start_left.items ≡ [] → (why ≡ None) × (deals.new ≡ old) × (deals.sent ≡ to)
+  pub deals : Deals c old new to closings why
+  pub idle : start_left.items ≡ [] → (why ≡ None) × (new ≡ old) × (deals.sent ≡ to)

@@ -8,19 +8,23 @@ use Rattle.fq_pair.specs.declared.side.Side.TheVariants.{Forward, Reverse}
 use Rattle.fq_pair.specs.declared.counts.Counts.{Counts}
 use Rattle.fq_pair.specs.declared.fault.InputFault.{InputFault}
 use Rattle.fq_pair.specs.Mates.{Mates}
-use Rattle.fq_pair.specs.Pairing.{Pairs, pairs}
+use Rattle.fq_pair.specs.Pairing.{Pairs}
+use Rattle.fq_pair.specs.Forms.{Form, TwoTexts, OneText, pairs_in}
 use Rattle.fq_pair.specs.Outputs.{texts_of, text_of, counts_of}
 use Rattle.fq_run.specs.declared.outcome.Outcome.{Outcome}
 use Rattle.fq_run.specs.declared.outcome.Outcome.TheVariants as outcome
 use Rattle.fq_run.specs.declared.ending.Ending.{Ending}
+use Rattle.fq_run.specs.declared.ending.MixedEnding.{MixedEnding}
 use Rattle.fq_run.specs.declared.outlets.Outlets.{Outlets}
 use Rattle.fq_run.specs.Choices.{Choices}
 use Rattle.fq_run.specs.Outcomes.{rank}
 use Rattle.fq_run.specs.Devices.{FeedState, gave, Fed, OutletStates, OutletsTook}
 use Rattle.fq_run.specs.Fates.{Fate, FlushFailed, failed_outlet, block_begun, part_begun, IsCutShort}
 
--- A run: its feeds and outlets before and after it, its outcome and its counts.
+-- A run: the form of its input, its feeds and outlets before and after it, its outcome and its counts. Where there is one text its feed
+-- stands for both sides.
 pub record Run : Type 0 where
+  pub form : Form
   pub forward : FeedState
   pub reverse : FeedState
   pub outlets : OutletStates
@@ -32,6 +36,7 @@ pub record Run : Type 0 where
 
 abbrev pub run_of : {F G O : Type 0} → (F → FeedState) → (G → FeedState) → (Outlets O → OutletStates) → F → G → Outlets O → Outlets O → Ending F G → Run
 run_of forward_state reverse_state states forward reverse outlets outlets_left ending = record {
+  form = TwoTexts;
   forward = forward_state forward;
   reverse = reverse_state reverse;
   outlets = states outlets;
@@ -42,14 +47,27 @@ run_of forward_state reverse_state states forward reverse outlets outlets_left e
   counts = ending.counts;
 }
 
--- both feeds tell their bytes
+abbrev pub mixed_run_of : {F O : Type 0} → (F → FeedState) → (Outlets O → OutletStates) → F → Outlets O → Outlets O → MixedEnding F → Run
+mixed_run_of feed_state states feed outlets outlets_left ending = record {
+  form = OneText;
+  forward = feed_state feed;
+  reverse = feed_state feed;
+  outlets = states outlets;
+  forward_left = option_map feed_state ending.feed;
+  reverse_left = option_map feed_state ending.feed;
+  outlets_left = states outlets_left;
+  outcome = ending.outcome;
+  counts = ending.counts;
+}
+
+-- the feeds tell their bytes
 pub record AreTold (run : Run) : Type 0 where
   pub forward : IsTrue run.forward.tells
   pub reverse : IsTrue run.reverse.tells
 
 -- the pairs of the bytes that were to come
 abbrev pub all_pairs : Choices → Run → Pairs
-all_pairs c run = pairs c.check_names c.encoding 0 run.forward.to_come run.reverse.to_come
+all_pairs c run = pairs_in run.form c.check_names c.encoding 0 run.forward.to_come run.reverse.to_come
 
 -- Plain trimming.
 
@@ -102,7 +120,7 @@ IsCutOff c old new = (0 < failures_in new) ⊎ (c.max_reads ≤ length (gave_to 
 -- the pairs of the whole lines that the feeds gave
 abbrev pub pairs_given : Choices → Run → List Mates
 pairs_given c run =
-    (pairs c.check_names c.encoding 0 (whole_part (gave_to run.forward run.forward_left)) (whole_part (gave_to run.reverse run.reverse_left))).mates
+    (pairs_in run.form c.check_names c.encoding 0 (whole_part (gave_to run.forward run.forward_left)) (whole_part (gave_to run.reverse run.reverse_left))).mates
 
 -- these are all pairs, or a feed was cut off and they are at least those of the whole lines that came
 abbrev pub IsAllThatCame : Choices → Run → List Mates → Type 0

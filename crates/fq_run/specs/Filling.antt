@@ -2,7 +2,8 @@
 use Rattle.std.specs.Prelude.{◌≡◌, ℕ, ◌+◌, ◌<◌, ◌≤◌, Option, Some, None, List, [], length, slice_index_or, slice_set}
 use Rattle.fq_lane.specs.Line.{Line, with_item}
 use Rattle.fq_block.specs.Blocks.{Numbered}
-use Rattle.fq_run.specs.Walks.{SourceState, Reads, GoesOn}
+use Rattle.fq_pair.specs.Walks.{SourceState, GoesOn}
+use Rattle.fq_run.specs.Walks.{Reads}
 use Rattle.fq_run.specs.declared.reading.Stop.{Stop}
 use Rattle.fq_run.specs.declared.reading.Stop.TheVariants as stop
 

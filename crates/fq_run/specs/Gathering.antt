@@ -3,7 +3,8 @@ use Rattle.std.specs.Prelude.{◌≡◌, ℕ, ◌≤◌, Option, None, List, len
 use Rattle.fq_trim.specs.declared.step.Step.{Step}
 use Rattle.fq_pair.specs.Mates.{Mates}
 use Rattle.fq_pair.specs.Outputs.{Outputs, texts_of}
-use Rattle.fq_run.specs.Walks.{SourceState, Reads, GoesOn}
+use Rattle.fq_pair.specs.Walks.{SourceState, GoesOn}
+use Rattle.fq_run.specs.Walks.{Reads}
 use Rattle.fq_run.specs.declared.reading.Stop.{Stop}
 
 -- up to so many pairs were read, and are trimmed

@@ -10,16 +10,17 @@ use Rattle.fq_work.specs.declared.ends.Worked.{Worked}
 use Rattle.fq_work.specs.declared.reply.Reply.{Reply}
 use Rattle.fq_run.specs.Choices.{Choices}
 use Rattle.fq_run.specs.Crews.{fresh, Laid, IsLaid, AreFor, Seated, Confirmed}
-use Rattle.fq_run.specs.Devices.{FeedState, OutletStates}
+use Rattle.fq_run.specs.Devices.{OutletStates}
 use Rattle.fq_run.specs.Each.{Each3}
 use Rattle.fq_run.specs.Endings.{Run, AreTold, ends_whole, IsTrimmed, EveryEnding}
 use Rattle.fq_run.specs.Outcomes.{outcome_of}
-use Rattle.fq_run.specs.Walks.{SourceState, fresh_source, feed_in}
+use Rattle.fq_pair.specs.Walks.{SourceState}
+use Rattle.fq_run.specs.Walks.{fresh_source, feed_in}
 use Rattle.fq_run.specs.Writing.{occurred}
 use Rattle.fq_run.specs.declared.collector.Collector.{Collector}
 use Rattle.fq_run.specs.declared.dealer.Dealer.{Dealer}
 use Rattle.fq_run.specs.declared.dealt.Dealt.{Dealt}
-use Rattle.fq_run.specs.declared.ending.Ending.{Ending}
+use Rattle.fq_run.specs.declared.ended.Ended.{Ended}
 use Rattle.fq_run.specs.declared.outcome.Outcome.TheVariants as outcome
 use Rattle.fq_run.specs.declared.ready.Lanes.{Lanes}
 use Rattle.fq_run.specs.declared.ready.Ready.{Ready}
@@ -37,7 +38,7 @@ pub record AreLaidOut (workers : ℕ) (lanes : Lanes) : Type 0 where
   pub worked : (lanes.worked.items ≡ []) × (workers ≤ vec_capacity lanes.worked)
 
 -- the lanes of so many workers are as they are made, the start lane too, and there is room for what is handed back
-pub record IsReady {F G : Type 0} (workers : ℕ) (dealer : Dealer F G) (ready : Ready) : Type 0 where
+pub record IsReady {S : Type 0} (workers : ℕ) (dealer : Dealer S) (ready : Ready) : Type 0 where
   pub some : 0 < workers
   pub to : vec_len dealer.to ≡ workers
   pub blocks_back : vec_len dealer.blocks_back ≡ workers
@@ -53,12 +54,12 @@ pub record IsReady {F G : Type 0} (workers : ℕ) (dealer : Dealer F G) (ready :
 
 -- a source that has not been asked, over feeds that have not failed
 pub record IsFresh (c : Choices) (s : SourceState) : Type 0 where
-  pub fresh : s ≡ fresh_source c (feed_in s.forward) (feed_in s.reverse)
+  pub fresh : s ≡ fresh_source s.form c (feed_in s.forward) (feed_in s.reverse)
   pub forward : s.forward.failures ≡ 0
   pub reverse : s.reverse.failures ≡ 0
 
 -- threads that hold the ends of these lanes, which are as they are made
-pub record IsManned {F G : Type 0} (crew : Crew F G) (replies : List (Line Reply)) : Type 0 where
+pub record IsManned {S : Type 0} (crew : Crew S) (replies : List (Line Reply)) : Type 0 where
   pub ends : List WorkEnds
   pub some : 0 < length replies
   pub laid : Each3 Laid crew.dealer.promise.to.value.items ends replies
@@ -68,23 +69,23 @@ pub record IsManned {F G : Type 0} (crew : Crew F G) (replies : List (Line Reply
   pub worked : (crew.worked.items ≡ []) × (vec_len crew.hands ≤ vec_capacity crew.worked)
 
 -- Behind the joins the ends of all lanes are confirmed, or one is not; then the first that occurred is answered.
-pub record Concludes {F G : Type 0} (started : Result (Line (Unit {0})) NotEnded) (dealt : Dealt F G) (worked : List Worked) (k : Collector) (failed : Option Out) (ending : Ending F G) : Type 0 where
+pub record Concludes {S : Type 0} (started : Result (Line (Unit {0})) NotEnded) (dealt : Dealt S) (worked : List Worked) (k : Collector) (failed : Option Out) (ending : Ended S) : Type 0 where
   pub counts : ending.counts ≡ k.counts
-  pub forward : ending.forward ≡ Some dealt.forward
-  pub reverse : ending.reverse ≡ Some dealt.reverse
+  pub source : ending.source ≡ Some dealt.source
   pub lane : IfSome ending.unended (λ unended. ending.outcome ≡ outcome.Lane)
   pub outcome_is : ending.unended ≡ None → ending.outcome ≡ outcome_of (occurred k.halt dealt.stop failed)
   pub start : ending.unended ≡ None → IsOkAnd started (λ e. dealt.start ≡ e)
   pub workers : ending.unended ≡ None → Each3 Confirmed dealt.closings.items worked k.replies.items
 
 -- a run over a source
-abbrev pub run_from : {F G : Type 0} → (F → FeedState) → (G → FeedState) → SourceState → OutletStates → OutletStates → Ending F G → Run
-run_from forward_state reverse_state s before after ending = record {
+abbrev pub run_from : {S : Type 0} → (S → SourceState) → SourceState → OutletStates → OutletStates → Ended S → Run
+run_from state s before after ending = record {
+  form = s.form;
   forward = feed_in s.forward;
   reverse = feed_in s.reverse;
   outlets = before;
-  forward_left = option_map forward_state ending.forward;
-  reverse_left = option_map reverse_state ending.reverse;
+  forward_left = option_map (λ x. feed_in (state x).forward) ending.source;
+  reverse_left = option_map (λ x. feed_in (state x).reverse) ending.source;
   outlets_left = after;
   outcome = ending.outcome;
   counts = ending.counts;

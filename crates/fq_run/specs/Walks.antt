@@ -1,137 +1,12 @@
--- Reading pairs, one after the other.
-use Rattle.std.specs.Prelude.{◌≡◌, ℕ, suc, ◌+◌, ◌-◌, ◌*◌, ◌≤◌, ◌⊎◌, Bool, true, false, IsTrue, Option, Some, None, Result, List, [], ◌∷◌, ◌++◌, length, take}
-use Rattle.std.specs.declared.result.Result.TheVariants as res
-use Rattle.fq_text.specs.declared.encoding.Encoding.{Encoding}
-use Rattle.fq_text.specs.Lines.{lines, is_whole, whole_part}
-use Rattle.fq_text.specs.Sources.{Sourced}
-use Rattle.fq_pair.specs.declared.side.Side.TheVariants.{Forward, Reverse}
-use Rattle.fq_pair.specs.declared.fault.InputFault.{InputFault}
+-- The pairs that a run reads.
+use Rattle.std.specs.Prelude.{◌*◌, Option, Some, None, List, [], ◌++◌}
+use Rattle.fq_pair.specs.Forms.{Form}
 use Rattle.fq_pair.specs.Mates.{Mates}
-use Rattle.fq_pair.specs.Pairing.{PairFront, Ended, Stopped, Met, pair_front, pairs}
-use Rattle.fq_pair.specs.PairSources.{PairSourced, is_from_outside, is_cut_short, if_endless, failed_on}
+use Rattle.fq_pair.specs.Walks.{SideState, SourceState, Walks, MeetsEnd, MeetsFault}
 use Rattle.fq_run.specs.Choices.{Choices}
 use Rattle.fq_run.specs.Devices.{FeedState}
 use Rattle.fq_run.specs.declared.reading.Stop.{Stop}
 use Rattle.fq_run.specs.declared.reading.Stop.TheVariants as stop
-
--- one side of a source of pairs: its feed, and the bytes in hand, taken, and records given so far
-pub record SideState : Type 0 where
-  pub tells : Bool
-  pub in_hand : List ℕ
-  pub to_come : List ℕ
-  pub failures : ℕ
-  pub taken : ℕ
-  pub given : ℕ
-  pub max_reads : ℕ
-
-abbrev pub side_state : {F : Type 0} → (F → Bool) → (F → List ℕ) → (F → ℕ) → Sourced F → SideState
-side_state tells to_come failure_count s = record {
-  tells = tells s.feed;
-  in_hand = s.in_hand;
-  to_come = to_come s.feed;
-  failures = failure_count s.feed;
-  taken = s.taken;
-  given = s.given;
-  max_reads = s.max_reads;
-}
-
--- a source of pairs: its two sides, what it was set to, how many pairs it gave, and whether it goes on
-pub record SourceState : Type 0 where
-  pub forward : SideState
-  pub reverse : SideState
-  pub encoding : Encoding
-  pub check_names : Bool
-  pub most_bytes : ℕ
-  pub given : ℕ
-  pub last : Option (Result (Unit {0}) InputFault)
-
-abbrev pub source_state : {F G : Type 0} → (F → Bool) → (F → List ℕ) → (F → ℕ) → (G → Bool) → (G → List ℕ) → (G → ℕ) → PairSourced F G → SourceState
-source_state tells to_come failure_count tells' to_come' failure_count' s = record {
-  forward = side_state tells to_come failure_count s.forward;
-  reverse = side_state tells' to_come' failure_count' s.reverse;
-  encoding = s.forward.encoding;
-  check_names = s.check_names;
-  most_bytes = s.forward.max_reads * s.forward.chunk;
-  given = s.given;
-  last = s.last;
-}
-
--- the bytes that a side still has to read records from
-abbrev pub rest : SideState → List ℕ
-rest s = s.in_hand ++ s.to_come
-
--- the bytes that a feed gave in between
-abbrev pub fed : SideState → SideState → List ℕ
-fed old new = take (new.taken - old.taken) old.to_come
-
--- a side's feed gave bytes, which were counted, and failed so often
-pub record Draws (old new : SideState) (failed : ℕ) : Type 0 where
-  pub told : new.tells ≡ old.tells
-  pub max_reads : new.max_reads ≡ old.max_reads
-  pub grows : old.taken ≤ new.taken
-  pub bytes : IsTrue old.tells → old.to_come ≡ fed old new ++ new.to_come
-  pub size : IsTrue old.tells → new.taken - old.taken ≤ length old.to_come
-  pub failures : new.failures ≡ old.failures + failed
-
--- bytes were used up: whole lines, or all
-pub record Uses (old new : SideState) : Type 0 where
-  pub used : List ℕ
-  pub split : rest old ≡ used ++ rest new
-  pub at_line : (is_whole used ≡ true) ⊎ (rest new ≡ [])
-
--- what no call changes
-pub record KeepsSettings (old new : SourceState) : Type 0 where
-  pub encoding : new.encoding ≡ old.encoding
-  pub check_names : new.check_names ≡ old.check_names
-  pub most_bytes : new.most_bytes ≡ old.most_bytes
-
--- these pairs stand in front of two texts, one after the other, and these lines behind them
-abbrev pub Leads : Bool → Encoding → ℕ → List Mates → List (List ℕ) → List (List ℕ) → List (List ℕ) → List (List ℕ) → Type 0
-Leads check encoding given [] forward reverse forward' reverse' = (forward ≡ forward') × (reverse ≡ reverse')
-Leads check encoding given (m ∷ ms) forward reverse forward' reverse' =
-    (fs : List (List ℕ)) × (rs : List (List ℕ)) × (pair_front check encoding given forward reverse ≡ Met m fs rs) × Leads check encoding (suc given) ms fs rs forward' reverse'
-
--- what stands next
-abbrev pub next_front : SourceState → PairFront
-next_front s = pair_front s.check_names s.encoding s.given (lines (rest s.forward)) (lines (rest s.reverse))
-
--- these pairs were read, and the source goes on
-pub record Walks (old new : SourceState) (ms : List Mates) : Type 0 where
-  pub same : KeepsSettings old new
-  pub given : new.given ≡ old.given + length ms
-  pub records : new.forward.given ≡ old.forward.given + length ms
-  pub last : new.last ≡ None
-  pub forward : Draws old.forward new.forward 0
-  pub reverse : Draws old.reverse new.reverse 0
-  pub forward_used : IsTrue old.forward.tells → Uses old.forward new.forward
-  pub reverse_used : IsTrue old.reverse.tells → Uses old.reverse new.reverse
-  pub leads : IsTrue old.forward.tells → IsTrue old.reverse.tells →
-      Leads old.check_names old.encoding old.given ms (lines (rest old.forward)) (lines (rest old.reverse)) (lines (rest new.forward)) (lines (rest new.reverse))
-
--- the end of both texts was found
-pub record MeetsEnd (old new : SourceState) : Type 0 where
-  pub forward : Draws old.forward new.forward 0
-  pub reverse : Draws old.reverse new.reverse 0
-  pub end_is : IsTrue old.forward.tells → IsTrue old.reverse.tells → next_front old ≡ Ended
-
-abbrev pub faulty : InputFault → Result (Option Mates) InputFault
-faulty why = res.Err why
-
--- a fault was met
-pub record MeetsFault (old new : SourceState) (why : InputFault) : Type 0 where
-  pub forward : Draws old.forward new.forward (failed_on Forward (faulty why))
-  pub reverse : Draws old.reverse new.reverse (failed_on Reverse (faulty why))
-  pub fault_is : IsTrue old.forward.tells → IsTrue old.reverse.tells → is_from_outside why ≡ false → next_front old ≡ Stopped why
-  pub lacks : is_cut_short why ≡ true → IsTrue old.forward.tells → IsTrue old.reverse.tells →
-      (pairs old.check_names old.encoding old.given
-      (whole_part (old.forward.in_hand ++ fed old.forward new.forward)) (whole_part (old.reverse.in_hand ++ fed old.reverse new.reverse))).mates ≡ []
-  pub endless : if_endless (new.forward.max_reads ≤ new.forward.taken) (new.reverse.max_reads ≤ new.reverse.taken) why
-
--- what a call of a source that goes on answers
-abbrev pub Asks : SourceState → SourceState → Result (Option Mates) InputFault → Type 0
-Asks old new (res.Ok (Some m)) = Walks old new (m ∷ [])
-Asks old new (res.Ok None) = MeetsEnd old new
-Asks old new (res.Err why) = MeetsFault old new why
 
 -- pairs were read, and the reading goes on or has stopped
 abbrev pub Reads : SourceState → SourceState → List Mates → Option Stop → Type 0
@@ -140,17 +15,13 @@ Reads old new ms (Some stop.End) = (mid : SourceState) × Walks old mid ms × Me
 Reads old new ms (Some (stop.Fault why)) = (mid : SourceState) × Walks old mid ms × MeetsFault mid new why
 Reads old new ms (Some stop.Memory) = (lost : List Mates) × Walks old new (ms ++ lost)
 
--- a source that goes on, and has not given more records than bytes may come
-pub record GoesOn (s : SourceState) : Type 0 where
-  pub last : s.last ≡ None
-  pub within : s.forward.given ≤ s.most_bytes
-
 -- a source that has not been asked, over feeds in these states
 abbrev pub fresh_side : Choices → FeedState → SideState
 fresh_side c feed = record { tells = feed.tells; in_hand = []; to_come = feed.to_come; failures = feed.failures; taken = 0; given = 0; max_reads = c.max_reads }
 
-abbrev pub fresh_source : Choices → FeedState → FeedState → SourceState
-fresh_source c forward reverse = record {
+abbrev pub fresh_source : Form → Choices → FeedState → FeedState → SourceState
+fresh_source form c forward reverse = record {
+  form = form;
   forward = fresh_side c forward;
   reverse = fresh_side c reverse;
   encoding = c.encoding;

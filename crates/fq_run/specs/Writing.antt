@@ -12,7 +12,9 @@ use Rattle.fq_run.specs.declared.reading.Stop.TheVariants as stop
 use Rattle.fq_run.specs.Choices.{Choices}
 use Rattle.fq_run.specs.Devices.{FeedState, OutletStates, OutletsTook}
 use Rattle.fq_run.specs.Fates.{Fate, FlushFailed, failed_outlet, block_begun, part_begun, IsCutShort}
-use Rattle.fq_run.specs.Walks.{SourceState, Reads, fresh_source, feed_in}
+use Rattle.fq_pair.specs.Forms.{Form}
+use Rattle.fq_pair.specs.Walks.{SourceState}
+use Rattle.fq_run.specs.Walks.{Reads, fresh_source, feed_in}
 
 -- an outlet failed at its flush
 abbrev pub is_flush : Fate → Bool
@@ -38,9 +40,9 @@ pub record Passes (c : Choices) (old new : SourceState) (before after : OutletSt
   pub missed_none : halt ≡ no_halt → broken ≡ None → missed ≡ []
 
 -- the same from the feeds on
-pub record Runs (c : Choices) (f r f' r' : FeedState) (before after : OutletStates) (counted : Counts) (halt : Halt) (why : Option Stop) (broken : Option Out) : Type 0 where
+pub record Runs (form : Form) (c : Choices) (f r f' r' : FeedState) (before after : OutletStates) (counted : Counts) (halt : Halt) (why : Option Stop) (broken : Option Out) : Type 0 where
   pub new : SourceState
-  pub passes : Passes c (fresh_source c f r) new before after counted halt why broken
+  pub passes : Passes c (fresh_source form c f r) new before after counted halt why broken
   pub forward : f' ≡ feed_in new.forward
   pub reverse : r' ≡ feed_in new.reverse
 

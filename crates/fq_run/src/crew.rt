@@ -1,17 +1,17 @@
 //! The threads of a run: the dealer's and the workers'.
 
-ghost use Rattle.std.specs.Prelude.{◌≡◌, ◌≤◌, ◌<◌, ◌*◌, ◌^◌, [], IfSome, IsTrue, vec_len, vec_capacity};
+ghost use Rattle.std.specs.Prelude.{◌≡◌, ◌≤◌, ◌<◌, ◌^◌, [], IfSome, IsTrue, vec_len, vec_capacity};
 ghost use Rattle.std.specs.List.{AllZip};
 ghost use Rattle.fq_run.specs.Crews.{Seated, Joined};
 ghost use Rattle.fq_run.specs.Lanes.{IsDealt};
-ghost use Rattle.fq_run.specs.Walks.{source_state, GoesOn};
+ghost use Rattle.fq_pair.specs.Walks.{GoesOn};
 
 use crate::dealer::{Dealer, deal};
 use crate::dealing::Dealing;
 use crate::dealt::Dealt;
 use crate::job::Job;
 use crate::settings::Settings;
-use fq_text::Feed;
+use fq_pair::PairReader;
 use fq_work::{Gate, WorkEnds, Worked, work};
 use std::alloc::Global;
 use std::snapshot::Snapshot;
@@ -19,25 +19,24 @@ use std::sync::{Arc, Wait};
 use std::thread;
 use std::thread::{PromisedHandle, Threads};
 
-/// Starts the dealer. `None` where its thread was refused, and the feeds are then lost.
+/// Starts the dealer. `None` where its thread was refused, and the source is then lost.
 pub(crate) fn start_dealer<
     R: Threads + Wait + Copy + Send + 'static,
-    F: Feed + Drop + Send + 'static,
-    G: Feed + Drop + Send + 'static,
+    S: PairReader + Drop + Send + 'static,
 >(
     alloc: Global,
     rt: &R,
     settings: &Settings,
-    dealer: Dealer<F, G>,
-) -> Option<PromisedHandle<Dealt<F, G>, Dealing<F, G>>>
+    dealer: Dealer<S>,
+) -> Option<PromisedHandle<Dealt<S>, Dealing<S>>>
     requires start { dealer.start.items ≡ [] }
     requires lanes { (0 < vec_len dealer.to) × IsDealt (vec_len dealer.to) [] dealer.to.items }
     requires backs { vec_len dealer.blocks_back ≡ vec_len dealer.to }
     requires room { (dealer.closings.items ≡ []) × (vec_len dealer.to ≤ vec_capacity dealer.closings) }
-    requires goes { GoesOn (source_state F.tells F.to_come F.failure_count G.tells G.to_come G.failure_count dealer.source) }
-    requires fresh { dealer.source.forward.given ≡ 0 }
-    requires encoding { dealer.source.forward.encoding ≡ settings.now.encoding }
-    requires few { dealer.source.forward.max_reads * dealer.source.forward.chunk ≤ 2 ^ 60 }
+    requires goes { GoesOn (S.state dealer.source) }
+    requires fresh { (S.state dealer.source).forward.given ≡ 0 }
+    requires encoding { (S.state dealer.source).encoding ≡ settings.now.encoding }
+    requires few { (S.state dealer.source).most_bytes ≤ 2 ^ 60 }
     ensures settings { IfSome result (λ h. h.promise.settings ≡ settings.now) }
     ensures start { IfSome result (λ h. h.promise.start.value ≡ dealer.start) }
     ensures to { IfSome result (λ h. h.promise.to.value ≡ dealer.to) }

@@ -1,13 +1,12 @@
 //! The thread of a run that reads.
 
-ghost use Rattle.std.specs.Prelude.{◌≡◌, ◌≤◌, ◌<◌, ◌*◌, ◌^◌, true, Some, None, [], length, vec_len, vec_capacity};
+ghost use Rattle.std.specs.Prelude.{◌≡◌, ◌≤◌, ◌<◌, ◌^◌, true, Some, None, [], length, vec_len, vec_capacity};
 ghost use Rattle.std.specs.List.{AllZip};
 ghost use Rattle.fq_run.specs.DealingOut.{DealsOut};
 ghost use Rattle.fq_run.specs.Dealt.{HasDealt, Closed};
-ghost use Rattle.fq_run.specs.Devices.{feed_state};
 ghost use Rattle.fq_run.specs.Filling.{SendsFilled};
 ghost use Rattle.fq_run.specs.Lanes.{names_of, IsDealt};
-ghost use Rattle.fq_run.specs.Walks.{source_state, GoesOn};
+ghost use Rattle.fq_pair.specs.Walks.{GoesOn};
 
 use crate::dealt::Dealt;
 use crate::filling::fill;
@@ -16,18 +15,18 @@ use crate::reading::Stop;
 use crate::settings::Settings;
 use fq_block::Block;
 use fq_lane::{End, NotEnded, Rx, Taken, Tx};
-use fq_pair::PairSource;
-use fq_text::{Encoding, Feed};
+use fq_pair::PairReader;
+use fq_text::Encoding;
 use std::alloc::Global;
 use std::sync::Wait;
 
 /// What a dealer works with.
 #[derive(Drop)]
-pub(crate) struct Dealer<F: Feed, G: Feed> {
+pub(crate) struct Dealer<S> {
     /// The receiver of the start lane.
     pub(crate) start: Rx<()>,
     /// The pairs.
-    pub(crate) source: PairSource<F, G>,
+    pub(crate) source: S,
     /// The lanes of blocks, worker for worker.
     pub(crate) to: Vec<Tx<Block>>,
     /// The lanes in which blocks that were answered come back, worker for worker.
@@ -38,23 +37,22 @@ pub(crate) struct Dealer<F: Feed, G: Feed> {
 
 /// Waits for the start, reads all pairs, deals them out in blocks, in turn, and closes all lanes. Without a start it reads
 /// nothing, and closes the lanes.
-pub(crate) fn deal<R: Wait, F: Feed, G: Feed>(
+pub(crate) fn deal<R: Wait, S: PairReader>(
     alloc: Global,
     rt: &R,
     settings: &Settings,
-    dealer: Dealer<F, G>,
-) -> Dealt<F, G>
+    dealer: Dealer<S>,
+) -> Dealt<S>
     requires start { dealer.start.items ≡ [] }
     requires lanes { (0 < vec_len dealer.to) × IsDealt (vec_len dealer.to) [] dealer.to.items }
     requires backs { vec_len dealer.blocks_back ≡ vec_len dealer.to }
     requires room { (dealer.closings.items ≡ []) × (vec_len dealer.to ≤ vec_capacity dealer.closings) }
-    requires goes { GoesOn (source_state F.tells F.to_come F.failure_count G.tells G.to_come G.failure_count dealer.source) }
-    requires fresh { dealer.source.forward.given ≡ 0 }
-    requires encoding { dealer.source.forward.encoding ≡ settings.now.encoding }
-    requires few { dealer.source.forward.max_reads * dealer.source.forward.chunk ≤ 2 ^ 60 }
-    ensures { HasDealt settings.now (source_state F.tells F.to_come F.failure_count G.tells G.to_come G.failure_count dealer.source)
-        dealer.start result.start dealer.to.items result.closings.items result.stop
-        (feed_state F.tells F.to_come F.failure_count result.forward) (feed_state G.tells G.to_come G.failure_count result.reverse) }
+    requires goes { GoesOn (S.state dealer.source) }
+    requires fresh { (S.state dealer.source).forward.given ≡ 0 }
+    requires encoding { (S.state dealer.source).encoding ≡ settings.now.encoding }
+    requires few { (S.state dealer.source).most_bytes ≤ 2 ^ 60 }
+    ensures { HasDealt settings.now (S.state dealer.source) (S.state result.source)
+        dealer.start result.start dealer.to.items result.closings.items result.stop }
 {
     let Dealer {
         mut start,
@@ -72,39 +70,37 @@ pub(crate) fn deal<R: Wait, F: Feed, G: Feed>(
         &mut to,
         &mut blocks_back,
     );
-    let (forward, reverse) = source.into_feeds();
     Dealt {
         start,
         closings: close_all(to, closings),
         stop,
-        forward,
-        reverse,
+        source,
     }
 }
 
 // Deals once the start has come, and takes the start lane to its mark. Where the mark is all that comes, nothing is read.
-fn deal_from<R: Wait, F: Feed, G: Feed>(
+fn deal_from<R: Wait, S: PairReader>(
     alloc: Global,
     rt: &R,
     settings: &Settings,
     start: &mut Rx<()>,
-    source: &mut PairSource<F, G>,
+    source: &mut S,
     to: &mut Vec<Tx<Block>>,
     blocks_back: &mut Vec<Rx<Block>>,
 ) -> Option<Stop>
     requires start { start.old.items ≡ [] }
     requires lanes { (0 < vec_len to.old) × IsDealt (vec_len to.old) [] to.old.items }
     requires backs { vec_len blocks_back.old ≡ vec_len to.old }
-    requires goes { GoesOn (source_state F.tells F.to_come F.failure_count G.tells G.to_come G.failure_count source.old) }
-    requires fresh { source.old.forward.given ≡ 0 }
-    requires encoding { source.old.forward.encoding ≡ settings.now.encoding }
-    requires few { source.old.forward.max_reads * source.old.forward.chunk ≤ 2 ^ 60 }
+    requires goes { GoesOn (S.state source.old) }
+    requires fresh { (S.state source.old).forward.given ≡ 0 }
+    requires encoding { (S.state source.old).encoding ≡ settings.now.encoding }
+    requires few { (S.state source.old).most_bytes ≤ 2 ^ 60 }
     ensures name { start.new.name ≡ start.old.name }
     ensures closed { start.new.marked ≡ true }
     ensures started { 0 < length start.new.items → result ≡ None → ⊥ }
     ensures idle { start.new.items ≡ [] → (result ≡ None) × (source.new ≡ source.old) × (to.new ≡ to.old) }
-    ensures deals { DealsOut settings.now (source_state F.tells F.to_come F.failure_count G.tells G.to_come G.failure_count source.old)
-        (source_state F.tells F.to_come F.failure_count G.tells G.to_come G.failure_count source.new) to.old.items to.new.items result }
+    ensures deals { DealsOut settings.now (S.state source.old)
+        (S.state source.new) to.old.items to.new.items result }
 {
     start.take_wait(rt)?;
     let stop = deal_blocks(alloc, rt, settings, source, to, blocks_back);
@@ -113,22 +109,22 @@ fn deal_from<R: Wait, F: Feed, G: Feed>(
 }
 
 // Reads block for block and deals them out in turn, until the reading stops. Answers why it did.
-fn deal_blocks<R: Wait, F: Feed, G: Feed>(
+fn deal_blocks<R: Wait, S: PairReader>(
     alloc: Global,
     rt: &R,
     settings: &Settings,
-    source: &mut PairSource<F, G>,
+    source: &mut S,
     to: &mut Vec<Tx<Block>>,
     blocks_back: &mut Vec<Rx<Block>>,
 ) -> Stop
     requires lanes { (0 < vec_len to.old) × IsDealt (vec_len to.old) [] to.old.items }
     requires backs { vec_len blocks_back.old ≡ vec_len to.old }
-    requires goes { GoesOn (source_state F.tells F.to_come F.failure_count G.tells G.to_come G.failure_count source.old) }
-    requires fresh { source.old.forward.given ≡ 0 }
-    requires encoding { source.old.forward.encoding ≡ settings.now.encoding }
-    requires few { source.old.forward.max_reads * source.old.forward.chunk ≤ 2 ^ 60 }
-    ensures { DealsOut settings.now (source_state F.tells F.to_come F.failure_count G.tells G.to_come G.failure_count source.old)
-        (source_state F.tells F.to_come F.failure_count G.tells G.to_come G.failure_count source.new) to.old.items to.new.items (Some result) }
+    requires goes { GoesOn (S.state source.old) }
+    requires fresh { (S.state source.old).forward.given ≡ 0 }
+    requires encoding { (S.state source.old).encoding ≡ settings.now.encoding }
+    requires few { (S.state source.old).most_bytes ≤ 2 ^ 60 }
+    ensures { DealsOut settings.now (S.state source.old)
+        (S.state source.new) to.old.items to.new.items (Some result) }
 {
     let lanes = to.len();
     let mut turn = 0;

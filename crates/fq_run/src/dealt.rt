@@ -4,15 +4,15 @@ use crate::reading::Stop;
 use fq_block::Block;
 use fq_lane::{End, NotEnded, Rx};
 
-/// What is left of a dealer: what is needed to confirm its lanes, how the reading ended, and the feeds as they stand.
+/// What is left of a dealer: what is needed to confirm its lanes, how the reading ended, and the source as it stands.
 #[derive(Drop)]
-pub(crate) struct Dealt<F, G> {
+pub(crate) struct Dealt<S> {
     /// The receiver of the start lane, which has come to the mark.
     pub(crate) start: Rx<()>,
     /// The ends of the lanes of blocks, worker for worker.
     pub(crate) closings: Vec<Result<End<Block>, NotEnded>>,
     /// Why no further pair was read. `None` where there was no start.
     pub(crate) stop: Option<Stop>,
-    pub(crate) forward: F,
-    pub(crate) reverse: G,
+    /// The pairs that are left.
+    pub(crate) source: S,
 }

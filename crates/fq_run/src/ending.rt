@@ -18,3 +18,16 @@ pub struct Ending<F, G> {
     /// Why a lane couldn't be confirmed: there exactly where the outcome is [`Outcome::Lane`].
     pub unended: Option<NotEnded>,
 }
+
+/// The same of a run over one text in which mates take turns.
+#[derive(Drop)]
+pub struct MixedEnding<F> {
+    /// How the run ended.
+    pub outcome: Outcome,
+    /// The counts of the pairs whose block was written whole.
+    pub counts: Counts,
+    /// The feed, as it stands.
+    pub feed: Option<F>,
+    /// Why a lane couldn't be confirmed: there exactly where the outcome is [`Outcome::Lane`].
+    pub unended: Option<NotEnded>,
+}

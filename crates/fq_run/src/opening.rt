@@ -1,11 +1,13 @@
-//! The source of the pairs of a run.
+//! The sources of the pairs of a run.
 
 ghost use Rattle.std.specs.Prelude.{◌≡◌, ◌≤◌, ◌*◌, ◌^◌, IfOk, IfErr};
+ghost use Rattle.fq_pair.specs.Forms.{TwoTexts, OneText};
 ghost use Rattle.fq_run.specs.Devices.{feed_state};
-ghost use Rattle.fq_run.specs.Walks.{source_state, fresh_source};
+ghost use Rattle.fq_pair.specs.Walks.{source_state, mixed_state};
+ghost use Rattle.fq_run.specs.Walks.{fresh_source};
 
 use crate::settings::Settings;
-use fq_pair::PairSource;
+use fq_pair::{MixedSource, PairSource};
 use fq_text::{Feed, NoSource, Source};
 use std::alloc::Global;
 
@@ -19,7 +21,7 @@ pub(crate) fn open<F: Feed, G: Feed>(
     requires forward { F.failure_count forward ≡ 0 }
     requires reverse { G.failure_count reverse ≡ 0 }
     ensures ok { IfOk result (λ source. source_state F.tells F.to_come F.failure_count G.tells G.to_come G.failure_count source
-        ≡ fresh_source settings.now (feed_state F.tells F.to_come F.failure_count forward) (feed_state G.tells G.to_come G.failure_count reverse)) }
+        ≡ fresh_source TwoTexts settings.now (feed_state F.tells F.to_come F.failure_count forward) (feed_state G.tells G.to_come G.failure_count reverse)) }
     ensures few { IfOk result (λ source. source.forward.max_reads * source.forward.chunk ≤ 2 ^ 60) }
     ensures err { IfErr result (λ feeds. (feeds.0 ≡ forward) × (feeds.1 ≡ reverse)) }
 {
@@ -33,5 +35,29 @@ pub(crate) fn open<F: Feed, G: Feed>(
     match Source::new(alloc, reverse, encoding, chunk, max_reads) {
         Ok(reverse) => Ok(PairSource::new(forward, reverse, settings.check_names())),
         Err(NoSource { feed }) => Err((forward.into_feed(), feed)),
+    }
+}
+
+/// The source of the pairs of one feed in which mates take turns, or the feed where memory was refused.
+pub(crate) fn open_mixed<F: Feed>(
+    alloc: Global,
+    settings: &Settings,
+    feed: F,
+) -> Result<MixedSource<F>, F>
+    requires { F.failure_count feed ≡ 0 }
+    ensures ok { IfOk result (λ source. mixed_state F.tells F.to_come F.failure_count source
+        ≡ fresh_source OneText settings.now (feed_state F.tells F.to_come F.failure_count feed) (feed_state F.tells F.to_come F.failure_count feed)) }
+    ensures few { IfOk result (λ source. source.source.max_reads * source.source.chunk ≤ 2 ^ 60) }
+    ensures err { IfErr result (λ back. back ≡ feed) }
+{
+    match Source::new(
+        alloc,
+        feed,
+        settings.encoding(),
+        settings.chunk(),
+        settings.max_reads(),
+    ) {
+        Ok(source) => Ok(MixedSource::new(source, settings.check_names())),
+        Err(NoSource { feed }) => Err(feed),
     }
 }

@@ -1,8 +1,9 @@
 //! A run on one thread.
 
-ghost use Rattle.std.specs.Prelude.{◌≡◌, ◌≤◌, ◌*◌, ◌^◌, None, IsTrue, IsSome, IfOk, IfErr};
+ghost use Rattle.std.specs.Prelude.{◌≡◌, ◌≤◌, ◌^◌, None, IsTrue, IsSome};
 ghost use Rattle.fq_run.specs.Devices.{feed_state, outlet_states, AreHealthy};
-ghost use Rattle.fq_run.specs.Walks.{source_state, fresh_source, GoesOn};
+ghost use Rattle.fq_pair.specs.Forms.{TwoTexts};
+ghost use Rattle.fq_pair.specs.Walks.{GoesOn};
 ghost use Rattle.fq_run.specs.Writing.{Passes, Runs, no_halt};
 ghost use Rattle.fq_run.specs.Outcomes.{rank};
 ghost use Rattle.fq_run.specs.Endings.{run_of, AreTold, ends_whole, IsTrimmed, EveryEnding};
@@ -13,10 +14,9 @@ use crate::halt::Halt;
 use crate::opening::open;
 use crate::outcome::Occurred;
 use crate::outlets::Outlets;
-use crate::reading::Stop;
 use crate::settings::Settings;
 use crate::written::{Pass, Written};
-use fq_pair::{PairSource, Texts};
+use fq_pair::{PairReader, Texts};
 use fq_text::{Feed, Outlet};
 use std::alloc::Global;
 
@@ -56,8 +56,7 @@ pub fn run_serial<F: Feed, G: Feed, O: Outlet>(
 {
     let Pass {
         written,
-        forward,
-        reverse,
+        feeds: (forward, reverse),
     } = pass(alloc, settings, forward, reverse, outlets);
     let Written {
         counts,
@@ -74,57 +73,47 @@ pub fn run_serial<F: Feed, G: Feed, O: Outlet>(
     }
 }
 
-// Reads and writes all pairs.
+// Reads and writes all pairs of two texts.
 fn pass<F: Feed, G: Feed, O: Outlet>(
     alloc: Global,
     settings: &Settings,
     forward: F,
     reverse: G,
     outlets: &mut Outlets<O>,
-) -> Pass<F, G>
+) -> Pass<(F, G)>
     requires forward { F.failure_count forward ≡ 0 }
     requires reverse { G.failure_count reverse ≡ 0 }
     requires outlets { AreHealthy (outlet_states O.tells O.taken O.failure_count outlets.old) }
-    ensures { Runs settings.now (feed_state F.tells F.to_come F.failure_count forward) (feed_state G.tells G.to_come G.failure_count reverse)
-        (feed_state F.tells F.to_come F.failure_count result.forward) (feed_state G.tells G.to_come G.failure_count result.reverse)
+    ensures { Runs TwoTexts settings.now (feed_state F.tells F.to_come F.failure_count forward) (feed_state G.tells G.to_come G.failure_count reverse)
+        (feed_state F.tells F.to_come F.failure_count result.feeds.0) (feed_state G.tells G.to_come G.failure_count result.feeds.1)
         (outlet_states O.tells O.taken O.failure_count outlets.old) (outlet_states O.tells O.taken O.failure_count outlets.new)
         result.written.counts no_halt result.written.stop result.written.failed }
 {
     match open(alloc, settings, forward, reverse) {
-        Ok(mut source) => {
-            let written = write_blocks(alloc, settings, &mut source, outlets);
-            let (forward, reverse) = source.into_feeds();
-            Pass {
-                written,
-                forward,
-                reverse,
-            }
-        }
-        Err((forward, reverse)) => Pass {
-            written: Written {
-                counts: Texts::new(alloc).counts(),
-                stop: Some(Stop::Memory),
-                failed: None,
-            },
-            forward,
-            reverse,
+        Ok(mut source) => Pass {
+            written: write_blocks(alloc, settings, &mut source, outlets),
+            feeds: source.into_feeds(),
+        },
+        Err(feeds) => Pass {
+            written: Written::nothing(alloc),
+            feeds,
         },
     }
 }
 
-// Reads and writes block for block, until the reading stops or a write fails.
-fn write_blocks<F: Feed, G: Feed, O: Outlet>(
+/// Reads and writes block for block, until the reading stops or a write fails.
+pub(crate) fn write_blocks<S: PairReader, O: Outlet>(
     alloc: Global,
     settings: &Settings,
-    source: &mut PairSource<F, G>,
+    source: &mut S,
     outlets: &mut Outlets<O>,
 ) -> Written
-    requires goes { GoesOn (source_state F.tells F.to_come F.failure_count G.tells G.to_come G.failure_count source.old) }
-    requires fresh { source.old.forward.given ≡ 0 }
-    requires few { source.old.forward.max_reads * source.old.forward.chunk ≤ 2 ^ 60 }
+    requires goes { GoesOn (S.state source.old) }
+    requires fresh { (S.state source.old).forward.given ≡ 0 }
+    requires few { (S.state source.old).most_bytes ≤ 2 ^ 60 }
     requires outlets { AreHealthy (outlet_states O.tells O.taken O.failure_count outlets.old) }
-    ensures { Passes settings.now (source_state F.tells F.to_come F.failure_count G.tells G.to_come G.failure_count source.old)
-        (source_state F.tells F.to_come F.failure_count G.tells G.to_come G.failure_count source.new)
+    ensures { Passes settings.now (S.state source.old)
+        (S.state source.new)
         (outlet_states O.tells O.taken O.failure_count outlets.old) (outlet_states O.tells O.taken O.failure_count outlets.new)
         result.counts no_halt result.stop result.failed }
 {

@@ -4,17 +4,17 @@ use crate::dealing::Dealing;
 use crate::dealt::Dealt;
 use crate::job::Job;
 use fq_lane::Tx;
-use fq_text::Feed;
+use fq_pair::PairReader;
 use fq_work::Worked;
 use std::thread::PromisedHandle;
 
 /// The threads of a run, which wait for the start.
 #[derive(Drop)]
-pub(crate) struct Crew<F: Feed, G: Feed> {
+pub(crate) struct Crew<S: PairReader> {
     /// The sender of the start lane.
     pub(crate) starter: Tx<()>,
     /// The dealer.
-    pub(crate) dealer: PromisedHandle<Dealt<F, G>, Dealing<F, G>>,
+    pub(crate) dealer: PromisedHandle<Dealt<S>, Dealing<S>>,
     /// The workers.
     pub(crate) hands: Vec<PromisedHandle<Worked, Job>>,
     /// Room for what the workers hand back.

@@ -1,30 +1,21 @@
 //! A run on several threads.
 
-ghost use Rattle.std.specs.Prelude.{◌≡◌, ◌≤◌, ◌*◌, ◌^◌, true, None, IsTrue, IsSome, IfOk, vec_len};
-ghost use Rattle.fq_pair.specs.Outputs.{no_counts};
-ghost use Rattle.fq_run.specs.Crews.{CanConfirm};
+ghost use Rattle.std.specs.Prelude.{◌≡◌, None, IsTrue, IsSome};
+ghost use Rattle.std.specs.Option.{option_map};
 ghost use Rattle.fq_run.specs.Devices.{feed_state, outlet_states, AreHealthy};
-ghost use Rattle.fq_run.specs.Each.{Each3};
 ghost use Rattle.fq_run.specs.Endings.{run_of, AreTold, ends_whole, IsTrimmed, EveryEnding};
-ghost use Rattle.fq_run.specs.Threads.{IsReady, IsFresh, IsManned, run_from, IsThreaded, Concludes};
-ghost use Rattle.fq_run.specs.Walks.{source_state};
+ghost use Rattle.fq_run.specs.Threads.{IsThreaded};
 
-use crate::collector::{Collector, collect};
-use crate::confirming::confirm;
-use crate::crew::{join_workers, start_dealer, start_workers};
-use crate::dealer::Dealer;
-use crate::dealt::Dealt;
+use crate::ended::{Ended, nothing_counted};
 use crate::ending::Ending;
-use crate::outcome::{Occurred, Outcome};
+use crate::outcome::Outcome;
 use crate::outlets::Outlets;
 use crate::preparing::prepare;
-use crate::ready::Ready;
 use crate::settings::Settings;
-use crate::staff::Crew;
-use fq_lane::{End, NotEnded, Rx, Tx};
-use fq_pair::{Counts, Out, Texts};
+use crate::starting::start;
+use fq_pair::PairSource;
 use fq_text::{Feed, Outlet};
-use fq_work::{Gate, Reply, Worked};
+use fq_work::Gate;
 use std::alloc::Global;
 use std::sync::{Arc, Wait};
 use std::thread::Threads;
@@ -104,154 +95,47 @@ fn begin<
     ensures { IsThreaded settings.now (run_of (feed_state F.tells F.to_come F.failure_count) (feed_state G.tells G.to_come G.failure_count) (outlet_states O.tells O.taken O.failure_count) forward reverse outlets.old outlets.new result) result.unended }
 {
     match prepare(alloc, settings, forward, reverse) {
-        Ok((dealer, ready)) => start(alloc, rt, settings, gate, dealer, ready, outlets),
+        Ok((dealer, ready)) => ending_of(start(alloc, rt, settings, gate, dealer, ready, outlets)),
         Err((forward, reverse)) => {
             // A failed flush comes behind want of memory in the order of `Outcome`.
             let _ = outlets.flush_after(None);
-            unstarted(Outcome::Memory, Some(forward), Some(reverse))
+            Ending {
+                outcome: Outcome::Memory,
+                counts: nothing_counted(),
+                forward: Some(forward),
+                reverse: Some(reverse),
+                unended: None,
+            }
         }
     }
 }
 
-// A run whose threads were not all started.
-fn unstarted<F, G>(outcome: Outcome, forward: Option<F>, reverse: Option<G>) -> Ending<F, G>
-    ensures { result ≡ record { outcome = outcome; counts = no_counts; forward = forward; reverse = reverse; unended = None } }
+// The ending, with both feeds.
+fn ending_of<F: Feed, G: Feed>(ended: Ended<PairSource<F, G>>) -> Ending<F, G>
+    ensures outcome { result.outcome ≡ ended.outcome }
+    ensures counts { result.counts ≡ ended.counts }
+    ensures unended { result.unended ≡ ended.unended }
+    ensures forward { result.forward ≡ option_map (λ s. s.forward.feed) ended.source }
+    ensures reverse { result.reverse ≡ option_map (λ s. s.reverse.feed) ended.source }
 {
-    Ending {
+    let Ended {
         outcome,
-        counts: Counts {
-            pairs: 0,
-            both: 0,
-            forward_only: 0,
-            reverse_only: 0,
-            dropped: 0,
-        },
-        forward,
-        reverse,
-        unended: None,
-    }
-}
-
-// Starts the threads, and takes part as the collector.
-fn start<
-    R: Threads + Wait + Copy + Send + 'static,
-    F: Feed + Drop + Send + 'static,
-    G: Feed + Drop + Send + 'static,
-    O: Outlet,
-    H: Gate + 'static,
->(
-    alloc: Global,
-    rt: &R,
-    settings: &Settings,
-    gate: &Arc<H>,
-    dealer: Dealer<F, G>,
-    ready: Ready,
-    outlets: &mut Outlets<O>,
-) -> Ending<F, G>
-    requires ready { IsReady settings.now.workers dealer ready }
-    requires fresh { IsFresh settings.now (source_state F.tells F.to_come F.failure_count G.tells G.to_come G.failure_count dealer.source) }
-    requires few { dealer.source.forward.max_reads * dealer.source.forward.chunk ≤ 2 ^ 60 }
-    requires outlets { AreHealthy (outlet_states O.tells O.taken O.failure_count outlets.old) }
-    ensures { IsThreaded settings.now (run_from (feed_state F.tells F.to_come F.failure_count) (feed_state G.tells G.to_come G.failure_count)
-        (source_state F.tells F.to_come F.failure_count G.tells G.to_come G.failure_count dealer.source)
-        (outlet_states O.tells O.taken O.failure_count outlets.old) (outlet_states O.tells O.taken O.failure_count outlets.new) result) result.unended }
-{
-    let Some(dealer) = start_dealer(alloc, rt, settings, dealer) else {
-        return unstarted(Outcome::Spawn, None, None);
-    };
-    let Ready {
-        starter,
-        ends,
-        mut hands,
-        worked,
-        replies,
-        texts_back,
-    } = ready;
-    if !start_workers(alloc, rt, settings, gate, ends, &mut hands) {
-        // Without an item in the start lane the dealer reads nothing, and closes the lanes of the workers that are there.
-        let _ = starter.close();
-        let Dealt {
-            forward,
-            reverse,
-            ..
-        } = dealer.join(rt);
-        let _ = join_workers(rt, hands, worked);
-        return unstarted(Outcome::Spawn, Some(forward), Some(reverse));
-    }
-    let crew = Crew {
-        starter,
-        dealer,
-        hands,
-        worked,
-    };
-    attend(rt, crew, replies, texts_back, outlets)
-}
-
-// Gives the start, collects, and waits for all threads.
-fn attend<R: Threads + Wait, F: Feed, G: Feed, O: Outlet>(
-    rt: &R,
-    crew: Crew<F, G>,
-    replies: Vec<Rx<Reply>>,
-    texts_back: Vec<Tx<Texts>>,
-    outlets: &mut Outlets<O>,
-) -> Ending<F, G>
-    requires manned { IsManned crew replies.items }
-    requires backs { vec_len texts_back ≡ vec_len replies }
-    requires fresh { IsFresh crew.dealer.promise.settings (source_state F.tells F.to_come F.failure_count G.tells G.to_come G.failure_count crew.dealer.promise.source.value) }
-    requires outlets { AreHealthy (outlet_states O.tells O.taken O.failure_count outlets.old) }
-    ensures { IsThreaded crew.dealer.promise.settings (run_from (feed_state F.tells F.to_come F.failure_count) (feed_state G.tells G.to_come G.failure_count)
-        (source_state F.tells F.to_come F.failure_count G.tells G.to_come G.failure_count crew.dealer.promise.source.value)
-        (outlet_states O.tells O.taken O.failure_count outlets.old) (outlet_states O.tells O.taken O.failure_count outlets.new) result) result.unended }
-{
-    let Crew {
-        mut starter,
-        dealer,
-        hands,
-        worked,
-    } = crew;
-    starter.put(rt, ());
-    let started = starter.close();
-    let collector = collect(rt, replies, texts_back, outlets);
-    let failed = outlets.flush_after(collector.phase.failed());
-    let dealt = dealer.join(rt);
-    let worked = join_workers(rt, hands, worked);
-    conclude(started, dealt, worked, collector, failed)
-}
-
-// Confirms all lanes, and answers the first that occurred.
-fn conclude<F, G>(
-    started: Result<End<()>, NotEnded>,
-    dealt: Dealt<F, G>,
-    worked: Vec<Worked>,
-    collector: Collector,
-    failed: Option<Out>,
-) -> Ending<F, G>
-    requires start { IfOk started (λ e. e.name ≡ dealt.start.name) × (dealt.start.marked ≡ true) }
-    requires workers { Each3 CanConfirm dealt.closings.items worked.items collector.replies.items }
-    ensures { Concludes started dealt worked.items collector failed result }
-{
-    let Dealt {
-        start,
-        closings,
-        stop,
-        forward,
-        reverse,
-    } = dealt;
-    let Collector {
-        replies,
         counts,
-        halt,
-        ..
-    } = collector;
-    let (outcome, unended) = match confirm(started, start, closings, worked, replies) {
-        Ok(()) => (Occurred::new(halt, stop, failed).outcome(), None),
-        Err(unended) => (Outcome::Lane, Some(unended)),
+        source,
+        unended,
+    } = ended;
+    let (forward, reverse) = match source {
+        Some(source) => {
+            let (forward, reverse) = source.into_feeds();
+            (Some(forward), Some(reverse))
+        }
+        None => (None, None),
     };
     Ending {
         outcome,
         counts,
-        forward: Some(forward),
-        reverse: Some(reverse),
+        forward,
+        reverse,
         unended,
     }
 }

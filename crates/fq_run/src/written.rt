@@ -1,7 +1,8 @@
 //! What was read and written.
 
 use crate::reading::Stop;
-use fq_pair::{Counts, Out};
+use fq_pair::{Counts, Out, Texts};
+use std::alloc::Global;
 
 /// What became of the pairs of a run.
 pub(crate) struct Written {
@@ -14,8 +15,23 @@ pub(crate) struct Written {
 }
 
 /// The same, and the feeds as they stand.
-pub(crate) struct Pass<F, G> {
+pub(crate) struct Pass<T> {
     pub(crate) written: Written,
-    pub(crate) forward: F,
-    pub(crate) reverse: G,
+    pub(crate) feeds: T,
+}
+
+impl Written {
+    ghost use Rattle.std.specs.Prelude.{◌≡◌, Some, None};
+    ghost use Rattle.fq_pair.specs.Outputs.{no_counts};
+
+    /// Nothing, since memory was refused before the first pair.
+    pub(crate) fn nothing(alloc: Global) -> Written
+        ensures { result ≡ record { counts = no_counts; stop = Some Stop.Memory; failed = None } }
+    {
+        Written {
+            counts: Texts::new(alloc).counts(),
+            stop: Some(Stop::Memory),
+            failed: None,
+        }
+    }
 }

@@ -1,15 +1,14 @@
 -- Without a start nothing is read.
 use Rattle.std.proofs.Common.{Option, sym, subst}
 use Rattle.fq_run.specs.DealingOut.{DealsOut}
-use Rattle.fq_run.specs.Walks.{source_state}
 use Rattle.fq_run.specs.declared.reading.Stop.{Stop}
 use Rattle.fq_run.proofs.DealerLemmas.{deals_nothing}
 use Rattle.fq_run.proofs.dealer.deal_from.Goals as goal
 
 pub returns-in_err-take_wait-clause-deals : goal.returns-in_err-take_wait-clause-deals
 returns-in_err-take_wait-clause-deals g c =
-    let f = g.F.Feed in let r = g.G.Feed in
-    let source = source_state f.tells f.to_come f.failure_count r.tells r.to_come r.failure_count c.args.source.now in
+    let s = g.S.PairReader in
+    let source = s.state c.args.source.now in
     let lanes = c.args.to.now.items in
     let P : Option Stop → Type 0 = λ why. DealsOut c.args.settings.now source source lanes lanes why in
     subst P (sym c.from_residual.ensures) (deals_nothing c.args.settings.now source lanes c.requires.goes _ c.requires.lanes.1)

@@ -8,7 +8,7 @@ pub loop-init : goal.loop-init
 loop-init g c = filled_none _ _ c.requires.goes c.requires.clear
 
 pub next_pair-requires : goal.next_pair-requires
-next_pair-requires g c = let i = c.loop.invariant in i.goes
+next_pair-requires g c = let i = c.loop.invariant in record { goes = i.goes }
 
 pub returns-in-Ok-None : goal.returns-in-Ok-None
 returns-in-Ok-None g c =

@@ -7,7 +7,7 @@ pub loop-init : goal.loop-init
 loop-init g c = gathered_none c.args.steps.now _ _ c.requires.goes c.requires.clear
 
 pub next_pair-requires : goal.next_pair-requires
-next_pair-requires g c = let i = c.loop.invariant in i.goes
+next_pair-requires g c = let i = c.loop.invariant in record { goes = i.goes }
 
 pub add-requires : goal.add-requires
 add-requires g c = let few = gathered_few c.args.steps.now _ _ _ _ c.loop.invariant in omega arith

@@ -1,17 +1,22 @@
--- Where memory was refused before the threads nothing was written.
-use Rattle.std.proofs.Common.{refl, sym, ap, subst}
-use Rattle.fq_run.specs.Devices.{feed_state, outlet_states}
-use Rattle.fq_run.specs.Endings.{run_of}
-use Rattle.fq_run.specs.Threads.{IsThreaded}
-use Rattle.fq_run.specs.declared.ending.Ending.{Ending}
-use Rattle.fq_run.proofs.StartLemmas.{refused}
+-- What the threads leave is what the run leaves; where memory was refused before them nothing was written.
+use Rattle.std.proofs.Common.{refl, ap}
+use Rattle.fq_pair.specs.Forms.{TwoTexts}
+use Rattle.fq_pair.specs.Walks.{source_state}
+use Rattle.fq_run.specs.Devices.{feed_state}
+use Rattle.fq_run.proofs.StartLemmas.{closed, refused}
 use Rattle.fq_run.proofs.threads.begin.Goals as goal
+
+pub returns-in-Ok : goal.returns-in-Ok
+returns-in-Ok g c =
+    let f = g.F.Feed in let r = g.G.Feed in
+    let fs = feed_state f.tells f.to_come f.failure_count in let gs = feed_state r.tells r.to_come r.failure_count in
+    let e = c.ending_of.ensures in
+    closed (source_state f.tells f.to_come f.failure_count r.tells r.to_come r.failure_count) fs gs (λ s. s.forward.feed) (λ s. s.reverse.feed) (λ s. refl) (λ s. refl)
+    TwoTexts c.args.settings.now _ c.args.forward c.args.reverse c.in-Ok.ensures.source _ _ c.start.result _ _ _ _ _ e.outcome e.counts e.unended e.forward e.reverse c.start.ensures
 
 pub returns-in-Err : goal.returns-in-Err
 returns-in-Err g c =
-    let f = g.F.Feed in let r = g.G.Feed in let o = g.O.Outlet in
+    let f = g.F.Feed in let r = g.G.Feed in
     let fs = feed_state f.tells f.to_come f.failure_count in let gs = feed_state r.tells r.to_come r.failure_count in
-    let os = outlet_states o.tells o.taken o.failure_count in
-    let P : Ending g.row.F.Denot g.row.G.Denot → Type 0 = λ e. IsThreaded c.args.settings.now (run_of fs gs os c.args.forward c.args.reverse c.args.outlets.now c.flush_after.new.self e) e.unended in
     let back = c.in-Err.ensures.err in
-    subst P (sym c.unstarted.ensures) (refused _ _ _ _ _ _ _ _ _ (ap fs back.0) (ap gs back.1) refl c.flush_after.ensures c.requires.forward c.requires.reverse)
+    refused _ c.args.settings.now _ _ _ _ _ _ _ _ (ap fs back.0) (ap gs back.1) c.nothing_counted.ensures c.flush_after.ensures c.requires.forward c.requires.reverse

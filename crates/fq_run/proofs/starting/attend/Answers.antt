@@ -8,7 +8,7 @@ use Rattle.fq_run.specs.Writing.{FlushesAfter}
 use Rattle.fq_run.proofs.OutletLemmas.{still_healthy}
 use Rattle.fq_run.proofs.StaffLemmas.{Answered, all_answered, replies_dealt, laid_length, can_confirm, matched}
 use Rattle.fq_run.proofs.AttendLemmas.{threaded}
-use Rattle.fq_run.proofs.threads.attend.Goals as goal
+use Rattle.fq_run.proofs.starting.attend.Goals as goal
 
 pub collect-collector-requires-clause-fresh : goal.collect-collector-requires-clause-fresh
 collect-collector-requires-clause-fresh g c =
@@ -45,7 +45,7 @@ returns g c =
     let put : 0 < length c.put.new.self.items = omega (arith, ap (λ l. length l.items) c.put.ensures, length-append crew.starter.items (tt ∷ [])) in
     let flushed : Option Out → Type 0 = λ f. FlushesAfter f (outlet_states o.tells o.taken o.failure_count c.collect-collector.new.outlets)
     (outlet_states o.tells o.taken o.failure_count c.flush_after-failed.new.self) c.flush_after-failed.result in
-    threaded _ _ crew.dealer.promise.settings _ c.requires.fresh _ _ _ c.close-started.result c.put.new.self _ c.join-dealt.result ws k _ c.conclude.result to (vec_len c.args.replies)
+    threaded g.S.PairReader.state crew.dealer.promise.settings _ c.requires.fresh _ _ _ c.close-started.result c.put.new.self _ c.join-dealt.result ws k _ c.conclude.result to (vec_len c.args.replies)
     c.conclude.ensures c.join-dealt.ensures put c.close-started.ensures (matched steps _ _ _ ws k.replies.items a) len (omega (arith, c.args.replies.ok.0, m.some))
     c.collect-collector.ensures.collects c.collect-collector.ensures.over.0
     (subst flushed c.failed.ensures c.flush_after-failed.ensures)

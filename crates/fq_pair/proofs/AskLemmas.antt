@@ -1,21 +1,21 @@
--- What a call of a source of pairs answers, of its state as this crate sees it.
-use Rattle.std.proofs.Common.{◌≡◌, ℕ, ◌+◌, ◌*◌, Bool, IsTrue, Option, Some, None, Result, Ok, Err, IfOk, IfErr, List, refl, ap, ◌∙◌}
+-- What a call of a source of pairs answers, of its state.
+use Rattle.std.proofs.Common.{◌≡◌, ℕ, ◌+◌, ◌*◌, ◌≤◌, arith, Bool, IsTrue, Option, Some, None, Result, Ok, Err, IfOk, IfErr, List, refl, ap, ◌∙◌}
 use Rattle.std.specs.Option.{IfSome}
 use Rattle.fq_text.specs.Grammar.{Read}
 use Rattle.fq_text.specs.Lines.{lines}
-use Rattle.fq_text.specs.Sources.{Sourced, rest_in, KeepsCount, GivesRecord}
+use Rattle.fq_text.specs.Sources.{Sourced, rest_in, IsTail, KeepsCount, GivesRecord}
 use Rattle.fq_pair.specs.declared.side.Side.TheVariants.{Forward, Reverse}
 use Rattle.fq_pair.specs.declared.fault.InputFault.{InputFault}
 use Rattle.fq_pair.specs.Mates.{Mates}
 use Rattle.fq_pair.specs.PairSources.{PairSourced, KeepsCounts, GivesPair, EndsPairs, StopsPairs, failed_on}
-use Rattle.fq_run.specs.Walks.{side_state, source_state, Draws, Uses, KeepsSettings, Asks}
+use Rattle.fq_pair.specs.Walks.{side_state, source_state, Draws, Uses, KeepsSettings, Asks}
 
 module _ {F : Type 0} (tells : F → Bool) (to_come : F → List ℕ) (fails : F → ℕ) where
   drawn : (old new : Sourced F) (n : ℕ) → KeepsCount tells to_come old new → fails new.feed ≡ fails old.feed + n → Draws (side_state tells to_come fails old) (side_state tells to_come fails new) n
   drawn old new n k failed = record { told = k.told; max_reads = k.max_reads; grows = k.grows; bytes = k.fed; size = k.length; failures = failed }
 
-  used : (old new : Sourced F) (r : Read) → GivesRecord tells to_come old new r → IsTrue (tells old.feed) → Uses (side_state tells to_come fails old) (side_state tells to_come fails new)
-  used old new r p told = let t = p.tail told in record { used = t.before; split = t.split; at_line = t.at_line }
+  used : (old new : Sourced F) → IsTail (rest_in to_come old) (rest_in to_come new) → Uses (side_state tells to_come fails old) (side_state tells to_come fails new)
+  used old new t = record { used = t.before; split = t.split; at_line = t.at_line }
 
 module _ {F G : Type 0} (tells : F → Bool) (to_come : F → List ℕ) (fails : F → ℕ) (tells' : G → Bool) (to_come' : G → List ℕ) (fails' : G → ℕ) where
   same_settings : (old new : PairSourced F G) → KeepsCounts tells to_come tells' to_come' old new →
@@ -23,6 +23,7 @@ module _ {F G : Type 0} (tells : F → Bool) (to_come : F → List ℕ) (fails :
   same_settings old new k =
       let f = k.forward in
       record {
+        form = refl;
         encoding = f.encoding;
         check_names = k.check_names;
         most_bytes = ap (λ n. n * new.forward.chunk) f.max_reads ∙ ap (λ n. old.forward.max_reads * n) f.chunk;
@@ -38,16 +39,16 @@ module _ {F G : Type 0} (tells : F → Bool) (to_come : F → List ℕ) (fails :
       KeepsCounts tells to_come tells' to_come' old new →
       Asks (source_state tells to_come fails tells' to_come' fails' old) (source_state tells to_come fails tells' to_come' fails' new) r
   asks old new (Ok (Some m)) found end fault ff fr k =
-      let f = found.forward in
+      let f = found.forward in let r = found.reverse in
       record {
         same = same_settings old new k;
         given = found.given;
-        records = f.given;
+        records = omega (arith, f.given);
         last = found.last;
         forward = drawn tells to_come fails old.forward new.forward 0 k.forward ff;
         reverse = drawn tells' to_come' fails' old.reverse new.reverse 0 k.reverse fr;
-        forward_used = used tells to_come fails old.forward new.forward m.forward found.forward;
-        reverse_used = used tells' to_come' fails' old.reverse new.reverse m.reverse found.reverse;
+        forward_used = λ told. used tells to_come fails old.forward new.forward (f.tail told);
+        reverse_used = λ told. used tells' to_come' fails' old.reverse new.reverse (r.tail told);
         leads = λ tf tr. (lines (rest_in to_come new.forward), lines (rest_in to_come' new.reverse), found.pair_is tf tr, (refl, refl));
       }
   asks old new (Ok None) found end fault ff fr k =

@@ -1,0 +1,141 @@
+//! A run on several threads, over whatever source of pairs.
+
+ghost use Rattle.std.specs.Prelude.{◌≡◌, ◌≤◌, ◌^◌, true, IfOk, vec_len};
+ghost use Rattle.fq_run.specs.Crews.{CanConfirm};
+ghost use Rattle.fq_run.specs.Devices.{outlet_states, AreHealthy};
+ghost use Rattle.fq_run.specs.Each.{Each3};
+ghost use Rattle.fq_run.specs.Threads.{IsReady, IsFresh, IsManned, run_from, IsThreaded, Concludes};
+
+use crate::collector::{Collector, collect};
+use crate::confirming::confirm;
+use crate::crew::{join_workers, start_dealer, start_workers};
+use crate::dealer::Dealer;
+use crate::dealt::Dealt;
+use crate::ended::{Ended, unstarted};
+use crate::outcome::{Occurred, Outcome};
+use crate::outlets::Outlets;
+use crate::ready::Ready;
+use crate::settings::Settings;
+use crate::staff::Crew;
+use fq_lane::{End, NotEnded, Rx, Tx};
+use fq_pair::{Out, PairReader, Texts};
+use fq_text::Outlet;
+use fq_work::{Gate, Reply, Worked};
+use std::alloc::Global;
+use std::sync::{Arc, Wait};
+use std::thread::Threads;
+
+/// Starts the threads, and takes part as the collector.
+pub(crate) fn start<
+    R: Threads + Wait + Copy + Send + 'static,
+    S: PairReader + Drop + Send + 'static,
+    O: Outlet,
+    H: Gate + 'static,
+>(
+    alloc: Global,
+    rt: &R,
+    settings: &Settings,
+    gate: &Arc<H>,
+    dealer: Dealer<S>,
+    ready: Ready,
+    outlets: &mut Outlets<O>,
+) -> Ended<S>
+    requires ready { IsReady settings.now.workers dealer ready }
+    requires fresh { IsFresh settings.now (S.state dealer.source) }
+    requires few { (S.state dealer.source).most_bytes ≤ 2 ^ 60 }
+    requires outlets { AreHealthy (outlet_states O.tells O.taken O.failure_count outlets.old) }
+    ensures { IsThreaded settings.now (run_from S.state (S.state dealer.source)
+        (outlet_states O.tells O.taken O.failure_count outlets.old) (outlet_states O.tells O.taken O.failure_count outlets.new) result) result.unended }
+{
+    let Some(dealer) = start_dealer(alloc, rt, settings, dealer) else {
+        return unstarted(None);
+    };
+    let Ready {
+        starter,
+        ends,
+        mut hands,
+        worked,
+        replies,
+        texts_back,
+    } = ready;
+    if !start_workers(alloc, rt, settings, gate, ends, &mut hands) {
+        // Without an item in the start lane the dealer reads nothing, and closes the lanes of the workers that are there.
+        let _ = starter.close();
+        let Dealt { source, .. } = dealer.join(rt);
+        let _ = join_workers(rt, hands, worked);
+        return unstarted(Some(source));
+    }
+    let crew = Crew {
+        starter,
+        dealer,
+        hands,
+        worked,
+    };
+    attend(rt, crew, replies, texts_back, outlets)
+}
+
+// Gives the start, collects, and waits for all threads.
+fn attend<R: Threads + Wait, S: PairReader, O: Outlet>(
+    rt: &R,
+    crew: Crew<S>,
+    replies: Vec<Rx<Reply>>,
+    texts_back: Vec<Tx<Texts>>,
+    outlets: &mut Outlets<O>,
+) -> Ended<S>
+    requires manned { IsManned crew replies.items }
+    requires backs { vec_len texts_back ≡ vec_len replies }
+    requires fresh { IsFresh crew.dealer.promise.settings (S.state crew.dealer.promise.source.value) }
+    requires outlets { AreHealthy (outlet_states O.tells O.taken O.failure_count outlets.old) }
+    ensures { IsThreaded crew.dealer.promise.settings (run_from S.state (S.state crew.dealer.promise.source.value)
+        (outlet_states O.tells O.taken O.failure_count outlets.old) (outlet_states O.tells O.taken O.failure_count outlets.new) result) result.unended }
+{
+    let Crew {
+        mut starter,
+        dealer,
+        hands,
+        worked,
+    } = crew;
+    starter.put(rt, ());
+    let started = starter.close();
+    let collector = collect(rt, replies, texts_back, outlets);
+    let failed = outlets.flush_after(collector.phase.failed());
+    let dealt = dealer.join(rt);
+    let worked = join_workers(rt, hands, worked);
+    conclude(started, dealt, worked, collector, failed)
+}
+
+// Confirms all lanes, and answers the first that occurred.
+fn conclude<S>(
+    started: Result<End<()>, NotEnded>,
+    dealt: Dealt<S>,
+    worked: Vec<Worked>,
+    collector: Collector,
+    failed: Option<Out>,
+) -> Ended<S>
+    requires start { IfOk started (λ e. e.name ≡ dealt.start.name) × (dealt.start.marked ≡ true) }
+    requires workers { Each3 CanConfirm dealt.closings.items worked.items collector.replies.items }
+    ensures { Concludes started dealt worked.items collector failed result }
+{
+    let Dealt {
+        start,
+        closings,
+        stop,
+        source,
+    } = dealt;
+    let Collector {
+        replies,
+        counts,
+        halt,
+        ..
+    } = collector;
+    let (outcome, unended) = match confirm(started, start, closings, worked, replies) {
+        Ok(()) => (Occurred::new(halt, stop, failed).outcome(), None),
+        Err(unended) => (Outcome::Lane, Some(unended)),
+    };
+    Ended {
+        outcome,
+        counts,
+        source: Some(source),
+        unended,
+    }
+}
