@@ -79,6 +79,19 @@ same fp 'old text'
 same r '@p1/2\nTTTT\n+\nIIII\n@p2/2\nAAAA\n+\n!!!"\n'
 [ -e fu ] && fail "$row: an output was made"
 
+row='two outputs into one file'
+for name in fp ./fp link; do
+  two_pairs
+  ln -s fp link
+  run 4 "cannot write $name\n" PE f r fp "$name" rp ru LEADING:3
+done
+
+row='two outputs that are thrown away'
+two_pairs
+run 0 '' PE f r fp /dev/null rp /dev/null LEADING:3
+same fp '@p1/1\nGT\n+\nII\n'
+same out "$summary"
+
 row='a missing input'
 two_pairs
 rm f

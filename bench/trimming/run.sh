@@ -1,11 +1,12 @@
 #!/usr/bin/env bash
 # Times the built program beside the trimmers that are installed, on drawn pairs. bench/README.md says what is measured.
 #
-#     bench/trimming/run.sh [--pairs N] [--rounds N] [--program PATH] [--ours] [--memory]
+#     bench/trimming/run.sh [--pairs N] [--rounds N] [--program PATH] [--serial PATH] [--ours] [--memory]
 #
 #     --pairs N        pairs of 2 x 150 bases (250000)
 #     --rounds N       runs of each row, taken in turn, of which the median is printed (3)
 #     --program PATH   the program that is measured (crates/fq_prog/out/fq_prog)
+#     --serial PATH    the run on one thread, as bench/trimming/serial.sh builds it (no row without it)
 #     --ours           no other trimmer
 #     --memory         in place of the times the program's peak memory at 50,000, 250,000 and 1,000,000 pairs
 #
@@ -15,6 +16,7 @@ export LC_ALL=C
 
 here=$(cd "$(dirname "$0")" && pwd)
 program=$here/../../crates/fq_prog/out/fq_prog
+serial=
 count=250000
 rounds=3
 peers=yes
@@ -30,6 +32,7 @@ while [ $# -gt 0 ]; do
         --pairs) count=${2:?}; shift 2 ;;
         --rounds) rounds=${2:?}; shift 2 ;;
         --program) program=${2:?}; shift 2 ;;
+        --serial) serial=$(realpath "${2:?}"); shift 2 ;;
         --ours) peers=no; shift ;;
         --memory) memory=yes; shift ;;
         *) stop "unknown word $1" ;;
@@ -94,6 +97,11 @@ run_ours_log() {
 
 run_ours_alone() {
     timed taskset -c 0 "$program" PE --threads "$1" --trimlog log "$forward" "$reverse" fp fu rp ru "${steps[@]}"
+    pairs_read=$(number_in "$room/said" 'Input Read Pairs')
+}
+
+run_ours_serial() {
+    timed "$serial" "$forward" "$reverse" fp fu rp ru log "${steps[@]}"
     pairs_read=$(number_in "$room/said" 'Input Read Pairs')
 }
 
@@ -163,6 +171,7 @@ list_rows() {
     row 'fq_prog, log' 2 run_ours_log
     row 'fq_prog, log' 4 run_ours_log
     row 'fq_prog, log, one processor' 1 run_ours_alone
+    [ -z "$serial" ] || row 'run_serial, log' 1 run_ours_serial
     row 'fq_prog' 1 run_ours
     row 'fq_prog' 4 run_ours
     row 'cat' 1 run_cat

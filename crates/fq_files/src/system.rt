@@ -26,11 +26,14 @@ impl Identity {
 
 /// The files of the system, which tell no bytes.
 ///
-/// A file that was opened as an input is refused as an output, under whatever name, and is left as it is.
+/// A file that was opened as an input is refused as an output, under whatever name, and is left as it is. A regular file that is an
+/// output already is refused as another one.
 #[derive(Drop)]
 pub struct SystemFiles<'a, R: rt::Files<File = File>> {
     runtime: &'a R,
     inputs: Vec<Identity>,
+    // The regular ones alone: several outputs may go to one pipe or to `/dev/null`.
+    outputs: Vec<Identity>,
 }
 
 impl<'a, R: rt::Files<File = File>> SystemFiles<'a, R> {
@@ -39,13 +42,18 @@ impl<'a, R: rt::Files<File = File>> SystemFiles<'a, R> {
         SystemFiles {
             runtime,
             inputs: Vec::new(alloc),
+            outputs: Vec::new(alloc),
         }
     }
 
     // Whether this file was opened as an input.
-    fn is_input(&self, metadata: &Metadata) -> bool {
-        let identity = Identity::of(metadata);
+    fn is_input(&self, identity: Identity) -> bool {
         self.inputs.iter().any(|input| *input == identity)
+    }
+
+    // Whether this file is an output already.
+    fn is_output(&self, identity: Identity) -> bool {
+        self.outputs.iter().any(|output| *output == identity)
     }
 }
 
@@ -78,13 +86,13 @@ impl<'a, R: rt::Files<File = File>> Files for SystemFiles<'a, R> {
 
     fn leads_to_input(&self, name: &str) -> bool {
         match fs::metadata(self.runtime, name) {
-            Ok(metadata) => self.is_input(&metadata),
+            Ok(metadata) => self.is_input(Identity::of(&metadata)),
             Err(_) => false,
         }
     }
 
     fn target(&mut self, name: &str) -> Result<SystemTarget, FileFault> {
-        // It is opened as it stands, and emptied only once it is known to be no input.
+        // It is opened as it stands, and emptied only once it is known to be neither an input nor another output.
         let mut options = OpenOptions::new();
         let opened = options.write(true).create(true).open(self.runtime, name);
         let Ok(file) = opened else {
@@ -93,12 +101,16 @@ impl<'a, R: rt::Files<File = File>> Files for SystemFiles<'a, R> {
         let Ok(metadata) = file.metadata() else {
             return Err(FileFault::Refused);
         };
-        if self.is_input(&metadata) {
+        let identity = Identity::of(&metadata);
+        if self.is_input(identity) || self.is_output(identity) {
             return Err(FileFault::Refused);
         }
         let is_regular = metadata.is_file();
-        if is_regular && file.set_len(0).is_err() {
-            return Err(FileFault::Refused);
+        if is_regular {
+            self.outputs.push(identity).map_err(OutOfMemory::from)?;
+            if file.set_len(0).is_err() {
+                return Err(FileFault::Refused);
+            }
         }
         Ok(SystemTarget {
             file,

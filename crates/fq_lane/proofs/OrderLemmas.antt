@@ -1,4 +1,5 @@
-use Rattle.std.proofs.Common.{◌≡◌, Bool, true, false, List, [], ◌∷◌, ◌++◌, length, take, drop, refl, sym, ap, ◌∙◌, subst}
+use Rattle.std.proofs.Common.{◌≡◌, Bool, true, false, List, [], ◌∷◌, ◌++◌, length, take, drop, refl, sym, ap, ◌∙◌, append_assoc, subst}
+use Rattle.std.proofs.lemmas.List.{append-nil}
 use mathlib.Core.List.{IsPrefix}
 use Rattle.fq_lane.specs.Line.{Line, with_item, with_mark}
 use Rattle.fq_lane.specs.Slots.{slots_of}
@@ -28,17 +29,9 @@ module _ {T : Type 0} where
   ends_pushed true ss s is h = h
   ends_pushed false ss s is h = ends_more ss s h is
 
-  append-assoc : (xs ys zs : List (Slot T)) → (xs ++ ys) ++ zs ≡ xs ++ (ys ++ zs)
-  append-assoc [] ys zs = refl
-  append-assoc (x ∷ xs) ys zs = ap (λ us. x ∷ us) (append-assoc xs ys zs)
-
-  append-none : (xs : List (Slot T)) → xs ++ [] ≡ xs
-  append-none [] = refl
-  append-none (x ∷ xs) = ap (λ ys. x ∷ ys) (append-none xs)
-
   prefix_pushed : (b : Bool) (got sent : List (Slot T)) (s : Slot T) → IsPrefix got sent → IsPrefix got (pushed_unless b sent s)
   prefix_pushed true got sent s p = p
-  prefix_pushed false got sent s p = (p.0 ++ s ∷ [], sym (append-assoc got p.0 (s ∷ [])) ∙ ap (λ us. us ++ s ∷ []) p.1)
+  prefix_pushed false got sent s p = (p.0 ++ s ∷ [], sym (append_assoc got p.0 (s ∷ [])) ∙ ap (λ us. us ++ s ∷ []) p.1)
 
   drop_prefix : (got rest : List (Slot T)) → drop (length got) (got ++ rest) ≡ rest
   drop_prefix [] rest = refl
@@ -51,7 +44,7 @@ module _ {T : Type 0} where
   prefix_popped : (got sent : List (Slot T)) → IsPrefix got sent → IsPrefix (got ++ take 1 (drop (length got) sent)) sent
   prefix_popped got sent p =
       let here : drop (length got) sent ≡ p.0 = ap (drop (length got)) (sym p.1) ∙ drop_prefix got p.0 in
-      (drop 1 p.0, ap (λ us. (got ++ take 1 us) ++ drop 1 p.0) here ∙ append-assoc got (take 1 p.0) (drop 1 p.0) ∙ ap (λ us. got ++ us) (first_and_rest p.0) ∙ p.1)
+      (drop 1 p.0, ap (λ us. (got ++ take 1 us) ++ drop 1 p.0) here ∙ append_assoc got (take 1 p.0) (drop 1 p.0) ∙ ap (λ us. got ++ us) (first_and_rest p.0) ∙ p.1)
 
   kept_event : (l : Lane T) (e : Event T) → Kept l → Kept (after_event l e)
   kept_event l (push_item x) k = record { prefix = prefix_pushed (has_mark l.sent) l.got l.sent (Item x) k.prefix; ends = ends_pushed (has_mark l.sent) l.sent (Item x) refl k.ends }
@@ -81,7 +74,7 @@ module _ {T : Type 0} where
       let k : Kept l = kept_events new_lane es kept_new in
       let p = k.prefix in
       let none : p.0 ≡ [] = whole l.got p.0 (let P : List (Slot T) → Type 0 = EndsAtMark in subst P (sym p.1) k.ends) m in
-      sym (append-none l.got) ∙ ap (λ us. l.got ++ us) (sym none) ∙ p.1
+      sym (append-nil l.got) ∙ ap (λ us. l.got ++ us) (sym none) ∙ p.1
 
   -- items alone have no mark
   no_mark : (xs : List T) → has_mark (slots_of xs false) ≡ false

@@ -1,4 +1,5 @@
 use Rattle.std.proofs.Common.{◌≡◌, Bool, true, false, List, [], ◌∷◌, ◌++◌, refl, sym, ap, ◌∙◌}
+use Rattle.std.proofs.lemmas.List.{append-nil}
 use Rattle.rtrb.specs.Ends.{SameRing}
 use Rattle.rtrb.specs.declared.end.End.{End}
 use Rattle.fq_lane.specs.Line.{Line, Name}
@@ -34,13 +35,9 @@ module _ {T : Type 0} where
   item_line ss ts x line is =
       is ∙ ap (λ us. us ++ Item x ∷ []) line ∙ slots-item (items_of ss) x ∙ ap (λ ys. slots_of ys false) (sym (item_items ss ts x line is))
 
-  append-none : (xs : List T) → xs ++ [] ≡ xs
-  append-none [] = refl
-  append-none (x ∷ xs) = ap (λ ys. x ∷ ys) (append-none xs)
-
   -- the mark behind the items
   pub mark_items : (ss ts : List (Slot T)) → IsLine ss false → ts ≡ ss ++ Mark ∷ [] → items_of ts ≡ items_of ss
-  mark_items ss ts line is = ap items_of is ∙ items-append ss (Mark ∷ []) ∙ append-none (items_of ss)
+  mark_items ss ts line is = ap items_of is ∙ items-append ss (Mark ∷ []) ∙ append-nil (items_of ss)
 
   pub mark_line : (ss ts : List (Slot T)) → IsLine ss false → ts ≡ ss ++ Mark ∷ [] → IsLine ts true
   mark_line ss ts line is =

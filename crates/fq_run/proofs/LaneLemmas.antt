@@ -1,7 +1,7 @@
 -- How the lanes change when one of them does.
 use Rattle.std.proofs.Common.{◌≡◌, ℕ, zero, suc, ◌<◌, ◌%◌, true, List, [], ◌∷◌, ◌++◌, length, get_or, refl, sym, ap, ◌∙◌, arith, append_assoc, subst, inl, inr, get_or-set_other, Result, Ok, Err, OnOk, IfErr}
 use Rattle.std.proofs.Math.ListN.{set, length-set}
-use Rattle.std.proofs.lemmas.List.{get_or-set_same, get_or_default, set-get_or}
+use Rattle.std.proofs.lemmas.List.{append-nil, get_or-set_same, get_or_default, set-get_or}
 use Rattle.std.proofs.lemmas.Bool.{cases_eq}
 use mathlib.Core.List.{IsPrefix}
 use Rattle.fq_lane.specs.Line.{Line, with_item, with_mark}
@@ -13,10 +13,6 @@ use Rattle.fq_run.specs.Lanes.{names_of, IsDealt, IsEnded, IsBegun, TakesAt}
 use Rattle.fq_run.proofs.DealLemmas.{every_here, every_there}
 
 module _ {T : Type 0} where
-  append-none : (xs : List T) → xs ++ [] ≡ xs
-  append-none [] = refl
-  append-none (x ∷ xs) = ap (λ ys. x ∷ ys) (append-none xs)
-
   -- a receiver that may have taken more
   record Follows (a b : Line T) : Type 0 where
     pub name : b.name ≡ a.name
@@ -27,12 +23,12 @@ module _ {T : Type 0} where
   marked_again l m = ap (λ b. let k : Line T = record { name = l.name; items = l.items; marked = b } in k) (sym m)
 
   follows_same : (a b : Line T) → b ≡ a → Follows a b
-  follows_same a b e = subst (Follows a) (sym e) (record { name = refl; begins = ([], append-none a.items); stays = λ _. refl })
+  follows_same a b e = subst (Follows a) (sym e) (record { name = refl; begins = ([], append-nil a.items); stays = λ _. refl })
 
   follows_take : (r : Taken T) (a b : Line T) → Takes r a b → Follows a b
   follows_take (Item x) a b t = subst (Follows a) (sym t.1) (record { name = refl; begins = (x ∷ [], refl); stays = λ m. cc })
   follows_take Empty a b t = follows_same a b t.1
-  follows_take Closed a b t = subst (Follows a) (sym t) (record { name = refl; begins = ([], append-none a.items); stays = marked_again a })
+  follows_take Closed a b t = subst (Follows a) (sym t) (record { name = refl; begins = ([], append-nil a.items); stays = marked_again a })
 
   -- the lanes after one of them changed
   set_at : (ls : List (Line T)) (j i : ℕ) (l d : Line T) (P : Line T → Type 0) → j < length ls → (i ≡ j → P l) → ((i ≡ j → ⊥) → P (get_or ls i d)) → P (get_or (set ls j l) i d)
@@ -87,7 +83,7 @@ module _ {T : Type 0} where
       let items_j : t.line.items ≡ every j w xs = ap (λ l. l.items) t.takes ∙ h.items j t.line lt in
       record {
         lanes = takes_length Closed old new j t ∙ h.lanes;
-        begins = λ i d below. prefix_trans _ _ _ ([], append-none (every i w xs) ∙ sym (h.items i d below)) (takes_follow Closed old new j t within i d).begins;
+        begins = λ i d below. prefix_trans _ _ _ ([], append-nil (every i w xs) ∙ sym (h.items i d below)) (takes_follow Closed old new j t within i d).begins;
         ends = λ d. (let P : ℕ → Type 0 = λ k. (get_or new k d).items ≡ every k w xs in subst P turn (ap (λ l. l.items) (at_j d) ∙ items_j));
         closed = λ d. (let P : ℕ → Type 0 = λ k. (get_or new k d).marked ≡ true in subst P turn (ap (λ l. l.marked) (at_j d) ∙ ap (λ l. l.marked) t.takes));
       }
@@ -131,14 +127,6 @@ module _ {T : Type 0} where
   moved sent rest left all x e r = append_assoc sent (x ∷ []) left ∙ ap (λ us. sent ++ (x ∷ us)) (sym r) ∙ e
 
   -- what came first has been written
-  pub begun_dealt : (w : ℕ) (r : Taken T) (xs : List T) (old new : List (Line T)) (j : ℕ) → IsDealt w xs old → TakesAt r old new j → j < w → IsBegun w xs new
-  begun_dealt w r xs old new j h t lt =
-      let within : j < length old = omega (arith, h.lanes) in
-      record {
-        lanes = takes_length r old new j t ∙ h.lanes;
-        begins = λ i d below. prefix_trans _ _ _ ([], append-none (every i w xs) ∙ sym (h.items i d below)) (takes_follow r old new j t within i d).begins;
-      }
-
   pub begun_takes : (w : ℕ) (r : Taken T) (xs : List T) (old new : List (Line T)) (j : ℕ) → IsBegun w xs old → TakesAt r old new j → j < w → IsBegun w xs new
   begun_takes w r xs old new j h t lt =
       let within : j < length old = omega (arith, h.lanes) in
