@@ -1,4 +1,5 @@
 mod endings;
+mod mixed;
 mod rows;
 mod seeing;
 mod settings;
@@ -151,16 +152,28 @@ fn assert_left(
     outlets: &Outlets<ScriptOutlet>,
     wanted: &Wanted<'_>,
 ) -> Result<(), Fail> {
-    assert_eq!(rt; ending.outcome, wanted.outcome);
-    assert_eq!(rt; ending.counts, wanted.counts);
+    assert_written(rt, ending.outcome, ending.counts, outlets, wanted)?;
+    assert!(rt; ending.forward.is_some() && ending.reverse.is_some());
+    assert!(rt; ending.unended.is_none());
+    Ok(())
+}
+
+/// Compares the outcome, the counts and the texts.
+fn assert_written(
+    rt: &impl Abort,
+    outcome: Outcome,
+    counts: Counts,
+    outlets: &Outlets<ScriptOutlet>,
+    wanted: &Wanted<'_>,
+) -> Result<(), Fail> {
+    assert_eq!(rt; outcome, wanted.outcome);
+    assert_eq!(rt; counts, wanted.counts);
     assert_eq!(rt; outlets.forward_paired.bytes(), wanted.forward_paired);
     assert_eq!(rt; outlets.forward_unpaired.bytes(), wanted.forward_unpaired);
     assert_eq!(rt; outlets.reverse_paired.bytes(), wanted.reverse_paired);
     assert_eq!(rt; outlets.reverse_unpaired.bytes(), wanted.reverse_unpaired);
     let log = outlets.log.as_ref().ok_or("a log")?;
     assert_eq!(rt; log.bytes(), wanted.log);
-    assert!(rt; ending.forward.is_some() && ending.reverse.is_some());
-    assert!(rt; ending.unended.is_none());
     Ok(())
 }
 

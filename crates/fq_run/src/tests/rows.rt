@@ -148,6 +148,19 @@ fn a_plus_line_with_another_title(rt: HostRuntime) -> Result<(), Fail> {
     leaves(&rt, rt.alloc(), &run, &nothing(Outcome::Input(fault)))
 }
 
+/// What the first five of the seven pairs leave.
+pub fn five_pairs(outcome: Outcome) -> Wanted<'static> {
+    Wanted {
+        forward_paired: b"@n1/1\nACGT\n+\nIIII\n@n2/1\nGT\n+\nII\n@n4/1\nGT\n+\nII\n@n5/1\nACGT\n+\nIIII\n",
+        forward_unpaired: b"@n3/1\nACGT\n+\nIIII\n",
+        reverse_paired: b"@n1/2\nTT\n+\nII\n@n2/2\nTT\n+\nII\n@n4/2\nTT\n+\nII\n@n5/2\nTT\n+\nII\n",
+        reverse_unpaired: b"",
+        log: b"n1 4 0 4 0\nn1 2 0 2 2\nn2 2 2 4 0\nn2 2 0 2 2\nn3 4 0 4 0\nn3 0 0 0 0\nn4 2 2 4 0\nn4 2 0 2 2\nn5 4 0 4 0\nn5 2 0 2 2\n",
+        counts: counts(5, 4, 1, 0, 0),
+        outcome,
+    }
+}
+
 #[test]
 fn a_missing_mate(rt: HostRuntime) -> Result<(), Fail> {
     let forward = &SEVEN_FORWARD[..108];
@@ -156,16 +169,8 @@ fn a_missing_mate(rt: HostRuntime) -> Result<(), Fail> {
         block_pairs: 2,
         ..with_defaults(forward, reverse, SEVEN_STEPS)
     };
-    let wanted = Wanted {
-        forward_paired: b"@n1/1\nACGT\n+\nIIII\n@n2/1\nGT\n+\nII\n@n4/1\nGT\n+\nII\n@n5/1\nACGT\n+\nIIII\n",
-        forward_unpaired: b"@n3/1\nACGT\n+\nIIII\n",
-        reverse_paired: b"@n1/2\nTT\n+\nII\n@n2/2\nTT\n+\nII\n@n4/2\nTT\n+\nII\n@n5/2\nTT\n+\nII\n",
-        reverse_unpaired: b"",
-        log: b"n1 4 0 4 0\nn1 2 0 2 2\nn2 2 2 4 0\nn2 2 0 2 2\nn3 4 0 4 0\nn3 0 0 0 0\nn4 2 2 4 0\nn4 2 0 2 2\nn5 4 0 4 0\nn5 2 0 2 2\n",
-        counts: counts(5, 4, 1, 0, 0),
-        outcome: Outcome::Input(InputFault::MateMissing(Side::Reverse, 6)),
-    };
-    leaves(&rt, rt.alloc(), &run, &wanted)
+    let fault = InputFault::MateMissing(Side::Reverse, 6);
+    leaves(&rt, rt.alloc(), &run, &five_pairs(Outcome::Input(fault)))
 }
 
 #[test]

@@ -1,0 +1,126 @@
+//! Runs over one text in which mates take turns.
+
+use super::rows::{SEVEN_FORWARD, SEVEN_REVERSE, SEVEN_STEPS, first_pair, five_pairs, two_pairs};
+use super::{
+    Given, Wanted, assert_written, counts, feed, nothing, outlets, settings_of, with_defaults,
+};
+use crate::{Outcome, run_serial_mixed, run_threads_mixed};
+use fq_pair::{InputFault, Side};
+use fq_text::TextFault;
+use fq_work::OpenGate;
+use std::alloc::Global;
+use std::process::Abort;
+use std::sync::{Arc, Wait};
+use std::test::Fail;
+use std::thread::Threads;
+
+const TWO_IN_TURN: &[u8] =
+    b"@p1/1\nACGT\n+\n#!II\n@p1/2\nTTTT\n+\nIIII\n@p2/1\nGGCC\n+\nIIII\n@p2/2\nAAAA\n+\n!!!\"\n";
+
+/// The bytes of a record of the seven pairs.
+const RECORD: usize = 18;
+
+/// The records of two texts, in turn: so many of the first, and all but one as many, or as many, of the second.
+pub fn in_turn(
+    alloc: Global,
+    forward: &[u8],
+    reverse: &[u8],
+    records: usize,
+) -> Result<Vec<u8>, Fail> {
+    let mut text = Vec::new(alloc);
+    let firsts = forward.chunks(RECORD);
+    let mut seconds = reverse.chunks(RECORD);
+    for first in firsts {
+        for record in [Some(first), seconds.next()].into_iter().flatten() {
+            if text.len() < records * RECORD {
+                text.extend_from_slice(record)?;
+            }
+        }
+    }
+    Ok(text)
+}
+
+/// Runs with a log on one thread, and then on those of 1 to 5 workers, and compares what each run leaves. The text is that of
+/// the forward side.
+fn leaves_mixed<R: Abort + Threads + Wait + Copy + Send + 'static>(
+    rt: &R,
+    alloc: Global,
+    given: &Given<'_>,
+    wanted: &Wanted<'_>,
+) -> Result<(), Fail> {
+    let settings = settings_of(given, 4, 4)?;
+    let text = feed(rt, alloc, given.forward, given.cut, given.fails_at_read)?;
+    let mut alone = outlets(rt, alloc, given);
+    let ending = run_serial_mixed(alloc, &settings, text, &mut alone);
+    assert_written(rt, ending.outcome, ending.counts, &alone, wanted)?;
+    assert!(rt; ending.feed.is_some() && ending.unended.is_none());
+    for workers in 1..6 {
+        let settings = settings_of(given, workers, 4)?;
+        let gate = Arc::new(alloc, OpenGate)?;
+        let text = feed(rt, alloc, given.forward, given.cut, given.fails_at_read)?;
+        let mut outlets = outlets(rt, alloc, given);
+        let ending = run_threads_mixed(alloc, rt, &settings, gate, text, &mut outlets);
+        assert_written(rt, ending.outcome, ending.counts, &outlets, wanted)?;
+        assert!(rt; ending.feed.is_some() && ending.unended.is_none());
+    }
+    Ok(())
+}
+
+#[test]
+fn two_pairs_in_turn(rt: HostRuntime) -> Result<(), Fail> {
+    let run = with_defaults(TWO_IN_TURN, b"", &["LEADING:3"]);
+    leaves_mixed(&rt, rt.alloc(), &run, &two_pairs())
+}
+
+#[test]
+fn an_empty_text(rt: HostRuntime) -> Result<(), Fail> {
+    let run = with_defaults(b"", b"", &["LEADING:3"]);
+    leaves_mixed(&rt, rt.alloc(), &run, &nothing(Outcome::Finished))
+}
+
+#[test]
+fn a_fault_in_a_reverse_record_carries_its_number_in_the_text(rt: HostRuntime) -> Result<(), Fail> {
+    let text =
+        b"@p1/1\nACGT\n+\n#!II\n@p1/2\nTTTT\n+\nIIII\n@p2/1\nGGCC\n+\nIIII\n@p2/2\nAAAA\n+x\n!!!\"\n";
+    let run = with_defaults(text, b"", &["LEADING:3"]);
+    let fault = InputFault::Text(Side::Reverse, TextFault::PlusDiffers(4));
+    leaves_mixed(&rt, rt.alloc(), &run, &first_pair(Outcome::Input(fault)))
+}
+
+#[test]
+fn a_last_forward_record_without_its_mate(rt: HostRuntime) -> Result<(), Fail> {
+    let text = in_turn(rt.alloc(), SEVEN_FORWARD, SEVEN_REVERSE, 11)?;
+    assert_eq!(rt; text.len(), 198);
+    let fault = InputFault::MateMissing(Side::Reverse, 6);
+    for block_pairs in [1, 2, 7] {
+        for cut in [1, 5, 1000usize] {
+            let run = Given {
+                block_pairs,
+                cut,
+                ..with_defaults(&text, b"", SEVEN_STEPS)
+            };
+            leaves_mixed(&rt, rt.alloc(), &run, &five_pairs(Outcome::Input(fault)))?;
+        }
+    }
+    Ok(())
+}
+
+#[test]
+fn names_in_turn_that_differ(rt: HostRuntime) -> Result<(), Fail> {
+    let text = b"@a/1\nACGT\n+\nIIII\n@b/2\nTTTT\n+\nIIII\n";
+    let run = with_defaults(text, b"", &["LEADING:3"]);
+    let fault = Outcome::Input(InputFault::NamesDiffer(1));
+    leaves_mixed(&rt, rt.alloc(), &run, &nothing(fault))?;
+    let unchecked = Given {
+        check_names: false,
+        ..run
+    };
+    let wanted = Wanted {
+        forward_paired: b"@a/1\nACGT\n+\nIIII\n",
+        reverse_paired: b"@b/2\nTTTT\n+\nIIII\n",
+        log: b"a 4 0 4 0\nb 4 0 4 0\n",
+        counts: counts(1, 1, 0, 0, 0),
+        ..nothing(Outcome::Finished)
+    };
+    leaves_mixed(&rt, rt.alloc(), &unchecked, &wanted)
+}
