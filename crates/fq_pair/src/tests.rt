@@ -1,3 +1,5 @@
+mod broken;
+
 ghost use Rattle.std.specs.Prelude.{◌≡◌, IfOk};
 ghost use Rattle.fq_pair.specs.PairSources.{IsUnasked};
 

@@ -1,8 +1,11 @@
+mod broken;
 mod endings;
+mod fronts;
 mod mixed;
 mod rows;
 mod seeing;
 mod settings;
+mod sweeps;
 
 ghost use Rattle.std.specs.Prelude.{◌≡◌, ◌<◌, true, [], IfOk};
 ghost use Rattle.fq_run.specs.Devices.{outlet_states, AreHealthy};

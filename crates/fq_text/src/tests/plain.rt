@@ -222,7 +222,8 @@ const PARTS: [&[u8]; 14] = [
 fn drawn_texts_read_as_the_plain_reader_reads_them(rt: HostRuntime) -> Result<(), Fail> {
     let mut draws = Draws(20_100_101);
     let mut records = 0usize;
-    for number in 0..10_000u32 {
+    for number in 0..20_000u32 {
+        // One half is drawn byte by byte, the other put together of lines and parts of lines.
         let mut text = Vec::new(rt.alloc());
         let len = draws.below(201);
         for _ in 0..len {

@@ -1,0 +1,177 @@
+//! Runs in each of which another call of a device fails.
+
+use super::fronts::{Front, OUTS, front_of};
+use super::rows::{SEVEN_FORWARD, SEVEN_REVERSE, SEVEN_STEPS, seven_pairs};
+use super::{Given, Wanted, assert_left, feed, leaves, outlets, settings_of, with_defaults};
+use crate::{Ending, Outcome, Outlets, run_serial, run_threads};
+use fq_pair::{Out, Side};
+use fq_text::{Feed, ScriptFeed, ScriptOutlet};
+use fq_work::OpenGate;
+use std::alloc::Global;
+use std::process::Abort;
+use std::sync::{Arc, Wait};
+use std::test::Fail;
+use std::thread::Threads;
+
+const BLOCK_PAIRS: usize = 2;
+
+/// The most bytes of a read or a write.
+const CUT: usize = 5;
+
+/// The bytes of a record of the inputs.
+pub const RECORD: usize = 18;
+
+/// On which threads a run goes.
+#[derive(Clone, Copy, Debug)]
+pub enum Way {
+    Serial,
+    TwoWorkers,
+}
+
+pub const WAYS: [Way; 2] = [Way::Serial, Way::TwoWorkers];
+
+/// What a run left.
+#[derive(Drop)]
+pub struct Left {
+    pub ending: Ending<ScriptFeed, ScriptFeed>,
+    pub outlets: Outlets<ScriptOutlet>,
+}
+
+impl Left {
+    /// The front of the seven pairs that the outputs are.
+    pub fn front(&self) -> Result<Front, Fail> {
+        Ok(front_of(&self.outlets, self.ending.counts, BLOCK_PAIRS)?)
+    }
+}
+
+/// The seven pairs, in small blocks, reads and writes.
+pub fn seven_in_twos() -> Given<'static> {
+    Given {
+        block_pairs: BLOCK_PAIRS as u64,
+        cut: CUT,
+        ..with_defaults(SEVEN_FORWARD, SEVEN_REVERSE, SEVEN_STEPS)
+    }
+}
+
+/// A run in which the read of this side and number fails, if one is given.
+pub fn run<R: Abort + Threads + Wait + Copy + Send + 'static>(
+    rt: &R,
+    alloc: Global,
+    given: &Given<'_>,
+    way: Way,
+    failing_read: Option<(Side, u64)>,
+) -> Result<Left, Fail> {
+    let settings = settings_of(given, 2, 4)?;
+    let (fails_forward, fails_reverse) = match failing_read {
+        None => (0, 0),
+        Some((Side::Forward, number)) => (number, 0),
+        Some((Side::Reverse, number)) => (0, number),
+    };
+    let forward = feed(rt, alloc, given.forward, given.cut, fails_forward)?;
+    let reverse = feed(rt, alloc, given.reverse, given.cut, fails_reverse)?;
+    let mut outlets = outlets(rt, alloc, given);
+    let ending = match way {
+        Way::Serial => run_serial(alloc, &settings, forward, reverse, &mut outlets),
+        Way::TwoWorkers => {
+            let gate = Arc::new(alloc, OpenGate)?;
+            run_threads(alloc, rt, &settings, gate, forward, reverse, &mut outlets)
+        }
+    };
+    Ok(Left { ending, outlets })
+}
+
+// How many reads fail in turn before a run meets no failure.
+fn reads_that_fail<R: Abort + Threads + Wait + Copy + Send + 'static>(
+    rt: &R,
+    alloc: Global,
+    side: Side,
+    way: Way,
+) -> Result<u64, Fail> {
+    for number in 1..1000u64 {
+        let left = run(rt, alloc, &seven_in_twos(), way, Some((side, number)))?;
+        if left.ending.outcome == Outcome::Finished {
+            assert_left(rt, &left.ending, &left.outlets, &seven_pairs())?;
+            return Ok(number - 1);
+        }
+        assert_eq!(rt; left.ending.outcome, Outcome::Read(side), "read {number}");
+        let front = left.front()?;
+        let came = (number as usize - 1) * CUT;
+        assert!(rt;
+            front.failed.is_none() && front.pairs >= came / RECORD,
+            "read {number}"
+        );
+    }
+    Err("each run met a failure")?
+}
+
+#[test]
+fn each_read_fails_in_turn(rt: HostRuntime) -> Result<(), Fail> {
+    for side in [Side::Forward, Side::Reverse] {
+        for way in WAYS {
+            // 126 bytes by 26 reads, and one that finds the end.
+            assert_eq!(rt; reads_that_fail(&rt, rt.alloc(), side, way)?, 27);
+        }
+    }
+    Ok(())
+}
+
+// How many writes fail in turn before a run meets no failure.
+fn writes_that_fail<R: Abort + Threads + Wait + Copy + Send + 'static>(
+    rt: &R,
+    alloc: Global,
+    out: Out,
+    way: Way,
+) -> Result<u64, Fail> {
+    for number in 1..1000u64 {
+        let given = Given {
+            fails_at_write: Some((out, number)),
+            ..seven_in_twos()
+        };
+        let left = run(rt, alloc, &given, way, None)?;
+        if left.ending.outcome == Outcome::Finished {
+            assert_left(rt, &left.ending, &left.outlets, &seven_pairs())?;
+            return Ok(number - 1);
+        }
+        assert_eq!(rt; left.ending.outcome, Outcome::Write(out), "write {number}");
+        assert_eq!(rt; left.front()?.failed, Some(out), "write {number}");
+    }
+    Err("each run met a failure")?
+}
+
+#[test]
+fn each_write_fails_in_turn(rt: HostRuntime) -> Result<(), Fail> {
+    // The text of a block goes out by five bytes at a time: 32, 14, 18 and 18 bytes of forward paired, and so on.
+    let rows = [
+        (Out::ForwardPaired, 7 + 3 + 4 + 4),
+        (Out::ForwardUnpaired, 4 + 3),
+        (Out::ReversePaired, 6 + 3 + 3 + 3),
+        (Out::ReverseUnpaired, 0),
+        (Out::Log, 9 + 9 + 9 + 5),
+    ];
+    for (out, writes) in rows {
+        for way in WAYS {
+            assert_eq!(rt;
+                writes_that_fail(&rt, rt.alloc(), out, way)?,
+                writes,
+                "{out}"
+            );
+        }
+    }
+    Ok(())
+}
+
+#[test]
+fn each_flush_fails_in_turn(rt: HostRuntime) -> Result<(), Fail> {
+    for out in OUTS {
+        let given = Given {
+            fails_at_flush: Some(out),
+            ..seven_in_twos()
+        };
+        let wanted = Wanted {
+            outcome: Outcome::Write(out),
+            ..seven_pairs()
+        };
+        leaves(&rt, rt.alloc(), &given, &wanted)?;
+    }
+    Ok(())
+}

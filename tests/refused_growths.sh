@@ -1,0 +1,84 @@
+#!/usr/bin/env bash
+# Refuses each growth of memory in turn of a run on one thread, and then of a run with two workers, until a run meets no refusal.
+# A run may then end by want of memory, by a failed write (a growth of an outlet) or by a refused thread, but never as if nothing
+# had been refused, and its outputs have to be those of the first pairs: refused_growths/main.rt.in judges that.
+#
+# Wants cc, or else takes the kit's own compiler. ROUNDS, 3 if not set, is how often each growth is refused to the run with two
+# workers, whose growths come in another order each time.
+set -uo pipefail
+
+cd "$(dirname "$0")/.." || exit 2
+here=$PWD/tests/refused_growths
+rounds=${ROUNDS:-3}
+room=$(mktemp -d)
+trap 'rm -rf "$room"' EXIT
+
+if ! (cd crates/fq_run && rt lib) >"$room/log" 2>&1; then
+    tail -n 20 "$room/log"
+    echo "refused_growths: FAILED: fq_run is not proved"
+    exit 1
+fi
+
+# A scratch repository of the run's crates as they are built, and a program over them.
+grep -E '^fq_(text|trim|pair|lane|block|work|run)[ :]' crates.txt >"$room/crates.txt"
+for crate in $(grep -oE '^fq_[a-z]+' "$room/crates.txt"); do
+    mkdir -p "$room/crates/$crate/out"
+    cp -r "crates/$crate"/{src,specs,proofs} "$room/crates/$crate/"
+    cp -r "crates/$crate/out/rlib" "$room/crates/$crate/out/"
+done
+echo "judging: fq_text fq_trim fq_pair fq_work fq_run anyhow" >>"$room/crates.txt"
+mkdir -p "$room/crates/judging/src"
+cp HANDLES "$room/"
+cp "$here/main.rt.in" "$room/crates/judging/src/main.rt"
+cp crates/fq_run/src/tests/fronts.rt "$room/crates/judging/src/"
+if ! (cd "$room/crates/judging" && rt run) >"$room/log" 2>&1; then
+    tail -n 40 "$room/log"
+    echo "refused_growths: FAILED: the program is not proved, or doesn't run"
+    exit 1
+fi
+program=$room/crates/judging/out/judging
+
+compiler=${CC:-cc}
+command -v "$compiler" >"$room/log" || compiler=$(dirname "$(rt doc)")/toolchain/bin/clang
+if ! "$compiler" -O2 -fPIC -shared -nostdlib -o "$room/refuse.so" "$here/refuse.c"; then
+    echo "refused_growths: FAILED: refuse.c is not compiled"
+    exit 1
+fi
+
+# try NUMBER WAY: runs once. Sets said to what the run printed and refused to whether it met the refusal.
+try() {
+    said=$(timeout 60 env REFUSED_GROWTH="$1" LD_PRELOAD="$room/refuse.so" "$program" $2 2>&1 9>"$room/refused")
+    local status=$?
+    refused=$(cat "$room/refused")
+    if [ $status -ne 0 ] || { [ -n "$refused" ] && [ "$said" = Finished ]; } || { [ -z "$refused" ] && [ "$said" != Finished ]; }; then
+        echo "WRONG: growth $1, ${2:-serial}: status $status, '$said', ${refused:-nothing refused}"
+        failed=1
+    fi
+}
+
+# sweep WAY: refuses each growth in turn, and prints how the runs ended.
+sweep() {
+    local number
+    : >"$room/said"
+    for number in $(seq 10000); do
+        try "$number" "$1"
+        [ $failed -eq 0 ] && [ -n "$refused" ] || break
+        echo "${said%%(*}" >>"$room/said"
+    done
+    if [ $failed -eq 0 ] && { [ -n "$refused" ] || ! grep -q Memory "$room/said" || ! grep -q Write "$room/said"; }; then
+        echo "WRONG: ${1:-serial}: not every growth was refused"
+        failed=1
+    fi
+    echo "${1:-serial}: $(wc -l <"$room/said") growths refused: $(sort "$room/said" | uniq -c | tr -s ' \n' ' ')"
+}
+
+failed=0
+sweep ''
+for _ in $(seq "$rounds"); do
+    sweep threads
+done
+if [ $failed -ne 0 ]; then
+    echo "refused_growths: FAILED"
+    exit 1
+fi
+echo "refused_growths: ok"
