@@ -1,5 +1,6 @@
 #!/usr/bin/env bash
-# Refuses each growth of memory in turn of a run on one thread, and then of a run with two workers, until a run meets no refusal.
+# Refuses each growth of memory in turn of a run on one thread, and then of a run with two workers, until a run meets no refusal; and
+# the same of runs over one text in which mates take turns.
 # A run may then end by want of memory, by a failed write (a growth of an outlet) or by a refused thread, but never as if nothing
 # had been refused, and its outputs have to be those of the first pairs: refused_growths/main.rt.in judges that.
 #
@@ -50,7 +51,7 @@ try() {
     said=$(timeout 60 env REFUSED_GROWTH="$1" LD_PRELOAD="$room/refuse.so" "$program" $2 2>&1 9>"$room/refused")
     local status=$?
     refused=$(cat "$room/refused")
-    if [ $status -ne 0 ] || { [ -n "$refused" ] && [ "$said" = Finished ]; } || { [ -z "$refused" ] && [ "$said" != Finished ]; }; then
+    if [ $status -ne 0 ] || { [ -n "$refused" ] && [ "$said" = Whole ]; } || { [ -z "$refused" ] && [ "$said" != Whole ]; }; then
         echo "WRONG: growth $1, ${2:-serial}: status $status, '$said', ${refused:-nothing refused}"
         failed=1
     fi
@@ -74,8 +75,10 @@ sweep() {
 
 failed=0
 sweep ''
+sweep mixed
 for _ in $(seq "$rounds"); do
     sweep threads
+    sweep 'threads mixed'
 done
 if [ $failed -ne 0 ]; then
     echo "refused_growths: FAILED"

@@ -1,11 +1,13 @@
 //! Runs over one text in which mates take turns.
 
+use super::fronts::{Front, OUTS, front_of};
 use super::rows::{SEVEN_FORWARD, SEVEN_REVERSE, SEVEN_STEPS, first_pair, five_pairs, two_pairs};
+use super::sweeps::{BLOCK_PAIRS, CUT, RECORD, WAYS, Way};
 use super::{
     Given, Wanted, assert_written, counts, feed, nothing, outlets, settings_of, with_defaults,
 };
 use crate::{Outcome, run_serial_mixed, run_threads_mixed};
-use fq_pair::{InputFault, Side};
+use fq_pair::{InputFault, Out, Side};
 use fq_text::TextFault;
 use fq_work::OpenGate;
 use std::alloc::Global;
@@ -17,16 +19,8 @@ use std::thread::Threads;
 const TWO_IN_TURN: &[u8] =
     b"@p1/1\nACGT\n+\n#!II\n@p1/2\nTTTT\n+\nIIII\n@p2/1\nGGCC\n+\nIIII\n@p2/2\nAAAA\n+\n!!!\"\n";
 
-/// The bytes of a record of the seven pairs.
-const RECORD: usize = 18;
-
 /// The records of two texts, in turn: so many of the first, and all but one as many, or as many, of the second.
-pub fn in_turn(
-    alloc: Global,
-    forward: &[u8],
-    reverse: &[u8],
-    records: usize,
-) -> Result<Vec<u8>, Fail> {
+fn in_turn(alloc: Global, forward: &[u8], reverse: &[u8], records: usize) -> Result<Vec<u8>, Fail> {
     let mut text = Vec::new(alloc);
     let firsts = forward.chunks(RECORD);
     let mut seconds = reverse.chunks(RECORD);
@@ -91,7 +85,6 @@ fn a_fault_in_a_reverse_record_carries_its_number_in_the_text(rt: HostRuntime) -
 fn a_last_forward_record_without_its_mate(rt: HostRuntime) -> Result<(), Fail> {
     let text = in_turn(rt.alloc(), SEVEN_FORWARD, SEVEN_REVERSE, 11)?;
     assert_eq!(rt; text.len(), 198);
-    let fault = InputFault::MateMissing(Side::Reverse, 6);
     for block_pairs in [1, 2, 7] {
         for cut in [1, 5, 1000usize] {
             let run = Given {
@@ -99,7 +92,7 @@ fn a_last_forward_record_without_its_mate(rt: HostRuntime) -> Result<(), Fail> {
                 cut,
                 ..with_defaults(&text, b"", SEVEN_STEPS)
             };
-            leaves_mixed(&rt, rt.alloc(), &run, &five_pairs(Outcome::Input(fault)))?;
+            leaves_mixed(&rt, rt.alloc(), &run, &five_of_eleven())?;
         }
     }
     Ok(())
@@ -123,4 +116,114 @@ fn names_in_turn_that_differ(rt: HostRuntime) -> Result<(), Fail> {
         ..nothing(Outcome::Finished)
     };
     leaves_mixed(&rt, rt.alloc(), &unchecked, &wanted)
+}
+
+/// What a run over the eleven records leaves where no device fails.
+fn five_of_eleven() -> Wanted<'static> {
+    five_pairs(Outcome::Input(InputFault::MateMissing(Side::Reverse, 6)))
+}
+
+/// A run over one text, in small blocks, reads and writes: its outcome, and the front of the seven pairs that its outputs are.
+fn front_in_turn<R: Abort + Threads + Wait + Copy + Send + 'static>(
+    rt: &R,
+    alloc: Global,
+    given: &Given<'_>,
+    way: Way,
+) -> Result<(Outcome, Front), Fail> {
+    let settings = settings_of(given, 2, 4)?;
+    let text = feed(rt, alloc, given.forward, given.cut, given.fails_at_read)?;
+    let mut outlets = outlets(rt, alloc, given);
+    let ending = match way {
+        Way::Serial => run_serial_mixed(alloc, &settings, text, &mut outlets),
+        Way::TwoWorkers => {
+            let gate = Arc::new(alloc, OpenGate)?;
+            run_threads_mixed(alloc, rt, &settings, gate, text, &mut outlets)
+        }
+    };
+    let front = front_of(&outlets, ending.counts, BLOCK_PAIRS)?;
+    Ok((ending.outcome, front))
+}
+
+#[test]
+fn each_read_of_one_text_fails_in_turn(rt: HostRuntime) -> Result<(), Fail> {
+    let text = in_turn(rt.alloc(), SEVEN_FORWARD, SEVEN_REVERSE, 11)?;
+    for way in WAYS {
+        // 198 bytes by 40 reads, and one that finds the end.
+        for number in 1..42u64 {
+            let given = Given {
+                block_pairs: BLOCK_PAIRS as u64,
+                cut: CUT,
+                fails_at_read: number,
+                ..with_defaults(&text, b"", SEVEN_STEPS)
+            };
+            let (outcome, front) = front_in_turn(&rt, rt.alloc(), &given, way)?;
+            let came = (number as usize - 1) * CUT;
+            let side = match (came / RECORD) % 2 {
+                0 => Side::Forward,
+                _ => Side::Reverse,
+            };
+            assert_eq!(rt; outcome, Outcome::Read(side), "read {number}");
+            assert!(rt;
+                front.failed.is_none() && front.pairs >= came / (2 * RECORD),
+                "read {number}"
+            );
+        }
+    }
+    let beyond = Given {
+        cut: CUT,
+        fails_at_read: 42,
+        ..with_defaults(&text, b"", SEVEN_STEPS)
+    };
+    leaves_mixed(&rt, rt.alloc(), &beyond, &five_of_eleven())
+}
+
+#[test]
+fn each_write_of_one_text_fails_in_turn(rt: HostRuntime) -> Result<(), Fail> {
+    let text = in_turn(rt.alloc(), SEVEN_FORWARD, SEVEN_REVERSE, 11)?;
+    // The texts of three blocks go out by five bytes at a time.
+    let rows = [
+        (Out::ForwardPaired, 7 + 3 + 4),
+        (Out::ForwardUnpaired, 4),
+        (Out::ReversePaired, 6 + 3 + 3),
+        (Out::ReverseUnpaired, 0),
+        (Out::Log, 9 + 9 + 5),
+    ];
+    for (out, writes) in rows {
+        for way in WAYS {
+            for number in 1..=writes {
+                let given = Given {
+                    block_pairs: BLOCK_PAIRS as u64,
+                    cut: CUT,
+                    fails_at_write: Some((out, number)),
+                    ..with_defaults(&text, b"", SEVEN_STEPS)
+                };
+                let (outcome, front) = front_in_turn(&rt, rt.alloc(), &given, way)?;
+                assert_eq!(rt; outcome, Outcome::Write(out), "write {number}");
+                assert_eq!(rt; front.failed, Some(out), "write {number}");
+            }
+        }
+        let beyond = Given {
+            block_pairs: BLOCK_PAIRS as u64,
+            cut: CUT,
+            fails_at_write: Some((out, writes + 1)),
+            ..with_defaults(&text, b"", SEVEN_STEPS)
+        };
+        leaves_mixed(&rt, rt.alloc(), &beyond, &five_of_eleven())?;
+    }
+    Ok(())
+}
+
+#[test]
+fn each_flush_of_one_text_fails_in_turn(rt: HostRuntime) -> Result<(), Fail> {
+    let text = in_turn(rt.alloc(), SEVEN_FORWARD, SEVEN_REVERSE, 11)?;
+    for out in OUTS {
+        let given = Given {
+            block_pairs: BLOCK_PAIRS as u64,
+            cut: CUT,
+            fails_at_flush: Some(out),
+            ..with_defaults(&text, b"", SEVEN_STEPS)
+        };
+        leaves_mixed(&rt, rt.alloc(), &given, &five_pairs(Outcome::Write(out)))?;
+    }
+    Ok(())
 }

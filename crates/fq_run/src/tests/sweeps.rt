@@ -13,10 +13,11 @@ use std::sync::{Arc, Wait};
 use std::test::Fail;
 use std::thread::Threads;
 
-const BLOCK_PAIRS: usize = 2;
+/// The pairs of a block.
+pub const BLOCK_PAIRS: usize = 2;
 
 /// The most bytes of a read or a write.
-const CUT: usize = 5;
+pub const CUT: usize = 5;
 
 /// The bytes of a record of the inputs.
 pub const RECORD: usize = 18;
