@@ -369,11 +369,13 @@ fn logs(rt: HostRuntime) -> Result<(), Fail> {
 
 #[test]
 fn recoded(rt: HostRuntime) -> Result<(), Fail> {
-    let way = Way {
-        encoding: Encoding::Illumina13,
-        ..PLAIN
-    };
-    for (word, quality) in [("TOPHRED33", b'!'), ("MINLEN:1", b'@')] {
+    for (encoding, word, quality) in [
+        (Encoding::Illumina13, "TOPHRED33", b'!'),
+        (Encoding::Illumina13, "MINLEN:1", b'@'),
+        (Encoding::Solexa, "TOPHRED33", b'$'),
+        (Encoding::Solexa, "MINLEN:1", b'@'),
+    ] {
+        let way = Way { encoding, ..PLAIN };
         let source = pairs(&rt, rt.alloc(), b"@q\nA\n+\n@\n", b"@q\nA\n+\n~\n", way)?;
         let (texts, fault) = trimmed(&rt, rt.alloc(), source, &[word])?;
         assert_eq!(rt; fault, None);

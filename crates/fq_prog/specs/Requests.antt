@@ -3,7 +3,7 @@ use Rattle.std.specs.Prelude.{ℕ, ◌^◌, Bool, ◌||◌, Option, Some, None, 
 use Rattle.std.specs.Option.{option_map}
 use Rattle.std.specs.Str.{bytes_eq}
 use Rattle.fq_text.specs.declared.encoding.Encoding.{Encoding}
-use Rattle.fq_text.specs.declared.encoding.Encoding.TheVariants.{Sanger, Illumina13}
+use Rattle.fq_text.specs.declared.encoding.Encoding.TheVariants.{Sanger, Illumina13, Solexa}
 use Rattle.fq_trim.specs.declared.step.Step.{Step}
 use Rattle.fq_trim.specs.declared.fault.StepFault.{StepFault}
 use Rattle.fq_trim.specs.Words.{steps_of}
@@ -59,7 +59,8 @@ abbrev pub encoding_of : List ℕ → Option Encoding
 encoding_of name =
     if bytes_eq name (codes "sanger") then Some Sanger
     else (if bytes_eq name (codes "illumina13") then Some Illumina13
-    else None)
+    else (if bytes_eq name (codes "solexa") then Some Solexa
+    else None))
 
 -- the choices that are asked for, with these steps in this encoding
 abbrev pub choices_of : Asking → Encoding → List Step → Choices

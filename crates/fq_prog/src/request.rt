@@ -76,6 +76,7 @@ fn encoding_of(name: &str) -> Option<Encoding>
     match name {
         "sanger" => Some(Encoding::Sanger),
         "illumina13" => Some(Encoding::Illumina13),
+        "solexa" => Some(Encoding::Solexa),
         _ => None,
     }
 }

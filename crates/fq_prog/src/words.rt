@@ -101,7 +101,9 @@ fn encoding<'a>(alloc: Global) -> Arg<'a>
         .long("encoding")
         .value_name("NAME")
         .default_value("sanger")
-        .help("What a quality byte is: sanger (score + 33) or illumina13 (score + 64)")
+        .help(
+            "What a quality byte is: sanger (score + 33), illumina13 (score + 64) or solexa (Solexa score + 64, which counts as the nearest Phred score)",
+        )
 }
 
 // The file of the log.

@@ -1,11 +1,13 @@
 -- Bytes that have a score.
-use Rattle.std.proofs.Common.{◌≡◌, ℕ, ◌<◌, ◌≤◌, Bool, true, List, [], ◌∷◌, length, map, get_or, refl, sym, ◌∙◌, arith, ⊎_elim}
+use Rattle.std.proofs.Common.{◌≡◌, ℕ, zero, suc, ◌+◌, ◌-◌, ◌<◌, ◌≤◌, nat_le, nat_lt, Bool, true, ◌&&◌, eqb, List, [], ◌∷◌, length, map, get_or, refl, ap, sym, ◌∙◌, arith, ⊎_elim}
 use Rattle.std.specs.List.{list_all}
+use Rattle.std.proofs.lemmas.List.{get_or_past}
 use Rattle.std.proofs.lemmas.List.Folds.{list_all_at}
-use Rattle.std.proofs.lemmas.Bool.{cases_Bool, and_parts, and_from, leb-true, le-leb, false≢true}
+use Rattle.std.proofs.lemmas.Bool.{cond-true, cond-false, cases_Bool, cases_lt, and_parts, and_from, leb-true, le-leb, eqb-true, false≢true}
 use Rattle.fq_text.specs.declared.encoding.Encoding.{Encoding}
-use Rattle.fq_text.specs.declared.encoding.Encoding.TheVariants.{Sanger, Illumina13}
-use Rattle.fq_text.specs.Scores.{offset, is_scored, recoded}
+use Rattle.fq_text.specs.declared.encoding.Encoding.TheVariants.{Sanger, Illumina13, Solexa}
+use Rattle.fq_text.specs.declared.encoding.TheConstants.{PHRED_OF_SOLEXA}
+use Rattle.fq_text.specs.Scores.{lowest, is_scored, low_solexa, phred_of_solexa, value_of, recoded}
 
 -- what holds of each member holds of the one at a place
 pub at_place : (p : ℕ → Bool) (xs : List ℕ) (i : ℕ) → list_all p xs ≡ true → i < length xs → p (get_or xs i 0) ≡ true
@@ -14,21 +16,53 @@ at_place p xs i all within = ⊎_elim
     (λ fails. absurd (false≢true (sym (list_all_at p xs i 0 within fails) ∙ all)))
     (cases_Bool (p (get_or xs i 0)))
 
-pub above_offset : (e : Encoding) (b : ℕ) → is_scored e b ≡ true → offset e ≤ b
-above_offset e b is = leb-true (offset e) b (and_parts _ _ is).0
+-- no score is above 93, the highest of Sanger's encoding
+low_small : (k : ℕ) → get_or low_solexa k 0 ≤ 93
+low_small k = ⊎_elim
+    (λ within. leb-true (get_or low_solexa k 0) 93 (at_place (λ s. nat_le s 93) low_solexa k refl within))
+    (λ beyond. let none = get_or_past low_solexa k 0 beyond in omega arith)
+    (cases_lt k (length low_solexa))
 
--- offset 33 is the lowest
-pub low_offset : (e : Encoding) → 33 ≤ offset e
-low_offset Sanger = omega arith
-low_offset Illumina13 = omega arith
+pub value_small : (e : Encoding) (b : ℕ) → is_scored e b ≡ true → value_of e b ≤ 93
+value_small Sanger b is = let most : b ≤ 126 = leb-true b 126 (and_parts (nat_le (lowest Sanger) b) (nat_le b 126) is).1 in omega arith
+value_small Illumina13 b is = let most : b ≤ 126 = leb-true b 126 (and_parts (nat_le (lowest Illumina13) b) (nat_le b 126) is).1 in omega arith
+value_small Solexa b is =
+    let most : b ≤ 126 = leb-true b 126 (and_parts (nat_le (lowest Solexa) b) (nat_le b 126) is).1 in
+    let low = low_small (b - 59) in
+    ⊎_elim
+    (λ below. let e : phred_of_solexa b ≡ get_or low_solexa (b - 59) 0 = cond-true (nat_lt b 74) _ _ below in omega arith)
+    (λ from. let e : phred_of_solexa b ≡ b - 64 = cond-false (nat_lt b 74) _ _ from in omega arith)
+    (cases_Bool (nat_lt b 74))
+
+-- what holds of each number below n holds of k
+all_below : ℕ → (ℕ → Bool) → Bool
+all_below zero p = true
+all_below (suc n) p = p n && all_below n p
+
+below_at : (n : ℕ) (p : ℕ → Bool) (k : ℕ) → all_below n p ≡ true → k < n → p k ≡ true
+unfolding all_below
+below_at zero p k all lt = absurd (omega arith)
+below_at (suc n) p k all lt =
+    let parts = and_parts _ _ all in
+    ⊎_elim (λ less. below_at n p k parts.1 less) (λ from. let last : k ≡ n = omega arith in ap p last ∙ parts.0) (cases_lt k n)
+
+-- the code's table from byte 59 on is that of the definition
+table_below : all_below 68 (λ k. eqb (get_or PHRED_OF_SOLEXA k 0) (phred_of_solexa (k + 59))) ≡ true
+unfolding all_below
+table_below = refl
+
+pub table_at : (k b : ℕ) → is_scored Solexa b ≡ true → k ≡ b - 59 → get_or PHRED_OF_SOLEXA k 0 ≡ value_of Solexa b
+table_at k b is place =
+    let parts = and_parts _ _ is in
+    let least : 59 ≤ b = leb-true 59 b parts.0 in
+    let most : b ≤ 126 = leb-true b 126 parts.1 in
+    let byte : k + 59 ≡ b = omega arith in
+    eqb-true _ _ (below_at 68 _ k table_below (omega arith)) ∙ ap phred_of_solexa byte
 
 -- a score at offset 33 is one of Sanger's encoding
 pub recoded_scored : (e : Encoding) (b : ℕ) → is_scored e b ≡ true → is_scored Sanger (recoded e b) ≡ true
 recoded_scored e b is =
-    let parts = and_parts _ _ is in
-    let low = low_offset e in
-    let least = leb-true (offset e) b parts.0 in
-    let most = leb-true b 126 parts.1 in
+    let small = value_small e b is in
     and_from _ _ (le-leb 33 (recoded e b) (omega arith)) (le-leb (recoded e b) 126 (omega arith))
 
 pub all_recoded_scored : (e : Encoding) (bs : List ℕ) → list_all (is_scored e) bs ≡ true → list_all (is_scored Sanger) (map (recoded e) bs) ≡ true

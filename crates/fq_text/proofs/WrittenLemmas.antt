@@ -1,11 +1,11 @@
 -- What was written is read again.
 use Rattle.std.proofs.Common.{◌≡◌, ℕ, ◌+◌, ◌<◌, ◌≤◌, Bool, true, false, not, eqb, Option, Some, None, suc, List, [], ◌∷◌, ◌++◌, length, map, refl, ap, sym, ◌∙◌, arith, append_assoc, ⊎_elim}
 use Rattle.std.specs.List.{list_all}
-use Rattle.std.proofs.lemmas.Bool.{cond-true, cond-false, cases_Bool, and_parts, and_from, not-true, not_from_false, not_from_true, le-ltb, leb-true, ne_eqb}
+use Rattle.std.proofs.lemmas.Bool.{cond-true, cond-false, cases_Bool, and_parts, and_from, not-true, not_from_false, not_from_true, le-ltb, le-leb, leb-true, ne_eqb}
 use Rattle.fq_text.specs.declared.encoding.Encoding.{Encoding}
-use Rattle.fq_text.specs.declared.encoding.Encoding.TheVariants.{Sanger, Illumina13}
+use Rattle.fq_text.specs.declared.encoding.Encoding.TheVariants.{Sanger, Illumina13, Solexa}
 use Rattle.std.proofs.lemmas.List.{append-nil, length-map}
-use Rattle.fq_text.specs.Scores.{is_scored, recoded}
+use Rattle.fq_text.specs.Scores.{lowest, is_scored, recoded}
 use Rattle.fq_text.specs.Lines.{pieces, before_first_piece, without_cr, lines}
 use Rattle.fq_text.specs.Grammar.{limit, is_base, IsLawful, Read, Found, front, begins_with, title_fault, sequence_fault, plus_fault, quality_fault}
 use Rattle.fq_text.specs.Steps.{in_quality}
@@ -45,9 +45,18 @@ plain_title : (title : List ℕ) → without_cr title ≡ title → without_cr (
 plain_title [] plain = refl
 plain_title (b ∷ bs) plain = ap (λ xs. 64 ∷ xs) plain
 
+-- no encoding has a score below byte 33
+low_base : (e : Encoding) → 33 ≤ lowest e
+low_base Sanger = omega arith
+low_base Illumina13 = omega arith
+low_base Solexa = omega arith
+
 scored_base : (e : Encoding) (b : ℕ) → is_scored e b ≡ true → is_base b ≡ true
-scored_base Sanger b is = is
-scored_base Illumina13 b is = let parts = and_parts _ _ is in let high = leb-true 64 b parts.0 in and_from _ _ (Rattle.std.proofs.lemmas.Bool.le-leb 33 b (omega arith)) parts.1
+scored_base e b is =
+    let parts = and_parts _ _ is in
+    let low = low_base e in
+    let high = leb-true (lowest e) b parts.0 in
+    and_from _ _ (le-leb 33 b (omega arith)) parts.1
 
 scored_bases : (e : Encoding) (l : List ℕ) → list_all (is_scored e) l ≡ true → list_all is_base l ≡ true
 scored_bases e [] all = refl

@@ -2,6 +2,15 @@
 
 ghost use Rattle.std.specs.Prelude.{◌≡◌, ◌≤◌, ◌+◌, true, map};
 ghost use Rattle.std.specs.List.{list_all};
+ghost use Rattle.fq_text.specs.Scores.{is_scored, value_of};
+ghost use Rattle.fq_text.specs.declared.encoding.Encoding.TheVariants.{Solexa};
+
+// The Phred scores of the bytes 59 to 126 in Solexa's encoding, which stand for the Solexa scores -5 to 62.
+const PHRED_OF_SOLEXA: [u8; 68] = [
+    1, 1, 2, 2, 3, 3, 4, 4, 5, 5, 6, 7, 8, 9, 10, 10, 11, 12, 13, 14, 15, 16, 17, 18, 19, 20, 21,
+    22, 23, 24, 25, 26, 27, 28, 29, 30, 31, 32, 33, 34, 35, 36, 37, 38, 39, 40, 41, 42, 43, 44, 45,
+    46, 47, 48, 49, 50, 51, 52, 53, 54, 55, 56, 57, 58, 59, 60, 61, 62,
+];
 
 /// The encoding of quality bytes: one byte for each base, a printable character that stands for the base's Phred score
 /// (Cock, Fields, Goto, Heuer and Rice, Nucleic Acids Research 38(6), 2010).
@@ -11,30 +20,53 @@ pub enum Encoding {
     Sanger,
     /// Illumina 1.3+: Phred scores 0 to 62, as bytes 64 (`@`) to 126 (`~`).
     Illumina13,
+    /// Solexa, also Illumina before 1.3: Solexa scores -5 to 62, as bytes 59 (`;`) to 126 (`~`).
+    ///
+    /// A Solexa score, which is the byte less 64, is no Phred score: it is 10 times the decimal logarithm of the odds that the base
+    /// is right. Each counts as the nearest Phred score:
+    ///
+    /// | Solexa | -5 | -4 | -3 | -2 | -1 | 0 | 1 | 2 | 3 | 4 | 5 | 6 | 7 | 8 | 9 | 10 to 62 |
+    /// |---|---|---|---|---|---|---|---|---|---|---|---|---|---|---|---|---|
+    /// | Phred | 1 | 1 | 2 | 2 | 3 | 3 | 4 | 4 | 5 | 5 | 6 | 7 | 8 | 9 | 10 | the same number |
+    ///
+    /// So two bytes may have one score.
+    Solexa,
 }
 
 impl Encoding {
-    ghost use Rattle.fq_text.specs.Scores.{offset, is_scored, score, recoded};
+    ghost use Rattle.fq_text.specs.Scores.{lowest, score, recoded};
 
-    // The byte of score 0.
-    fn offset(self) -> u8
-        ensures { result ≡ offset self }
+    // The least byte that has a score.
+    fn lowest(self) -> u8
+        ensures { result ≡ lowest self }
     {
         match self {
             Encoding::Sanger => 33,
             Encoding::Illumina13 => 64,
+            Encoding::Solexa => 59,
         }
     }
 
-    /// The Phred score of a quality byte: how far it is above the byte of score 0. `None` where the byte has none in this encoding.
+    /// The Phred score of a quality byte. `None` where the byte has none in this encoding.
     pub fn score(self, byte: u8) -> Option<u8>
         ensures { result ≡ score self byte }
     {
-        let offset = self.offset();
-        if offset <= byte && byte <= 126 {
-            Some(byte - offset)
+        if self.lowest() <= byte && byte <= 126 {
+            Some(self.phred(byte))
         } else {
             None
+        }
+    }
+
+    // The Phred score of a quality byte that has one.
+    fn phred(self, byte: u8) -> u8
+        requires { is_scored self byte ≡ true }
+        ensures { result ≡ value_of self byte }
+    {
+        match self {
+            Encoding::Sanger => byte - 33,
+            Encoding::Illumina13 => byte - 64,
+            Encoding::Solexa => phred_of_solexa(byte),
         }
     }
 
@@ -43,10 +75,10 @@ impl Encoding {
     pub fn all_scored(self, bytes: &[u8]) -> bool
         ensures { result ≡ list_all (is_scored self) bytes.now }
     {
-        let offset = self.offset();
+        let lowest = self.lowest();
         let mut all = true;
         for byte in bytes {
-            all = all & ((offset <= *byte) & (*byte <= 126));
+            all = all & ((lowest <= *byte) & (*byte <= 126));
         }
         all
     }
@@ -56,12 +88,19 @@ impl Encoding {
         requires { list_all (is_scored self) bytes.old ≡ true }
         ensures { bytes.new ≡ map (recoded self) bytes.old }
     {
-        let offset = self.offset();
-        let shift = offset - 33;
         for byte in bytes.iter_mut() {
-            *byte -= shift;
+            *byte = from_score33(self.phred(*byte));
         }
     }
+}
+
+/// The Phred score of a quality byte in Solexa's encoding, 59 to 126: what the table at [`Encoding::Solexa`] has for the Solexa score
+/// byte - 64. It makes no test, so it serves where a read is known to have scores.
+pub fn phred_of_solexa(byte: u8) -> u8
+    requires { is_scored Solexa byte ≡ true }
+    ensures { result ≡ value_of Solexa byte }
+{
+    PHRED_OF_SOLEXA[usize::from(byte - 59)]
 }
 
 /// The quality byte of a Phred score, 0 to 93, in Sanger's encoding: the score plus 33.

@@ -19,7 +19,7 @@ mod view;
 mod writing;
 
 pub use adapters::{FromRead, FromWrite};
-pub use encoding::{Encoding, from_score33};
+pub use encoding::{Encoding, from_score33, phred_of_solexa};
 pub use fault::TextFault;
 pub use feed::{Feed, FeedFailed, ScriptFeed};
 pub use memory::OutOfMemory;

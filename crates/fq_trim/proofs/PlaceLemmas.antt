@@ -1,5 +1,5 @@
 -- Places and the tests that select them.
-use Rattle.std.proofs.Common.{◌≡◌, ℕ, zero, suc, ◌+◌, ◌-◌, ◌*◌, ◌<◌, ◌≤◌, Bool, true, false, List, [], ◌∷◌, ◌++◌, length, take, drop, get_or, map, sum, refl, ap, sym, subst, ◌∙◌, nat_le, arith, add-one, ⊎_elim, leb}
+use Rattle.std.proofs.Common.{◌≡◌, ℕ, zero, suc, ◌+◌, ◌-◌, ◌*◌, ◌<◌, ◌≤◌, Bool, true, false, List, [], ◌∷◌, ◌++◌, length, take, drop, get_or, map, sum, refl, ap, sym, subst, ◌∙◌, arith, add-one, ⊎_elim, leb}
 use Rattle.std.specs.List.{list_any, list_all}
 use Rattle.std.proofs.lemmas.List.{append-nil, length-drop, drop_more, take_more, length-take, length-take-le, length-map, get_or-map, get_or-drop, get_or-take, take-map, drop-map}
 use Rattle.std.proofs.lemmas.List.Folds.{list_any_at}
@@ -8,7 +8,8 @@ use Rattle.std.proofs.lemmas.Bool.{cond-true, cond-false, or_left, or_right, or_
 use Rattle.fq_trim.specs.declared.step.Step.{Step}
 use Rattle.fq_trim.specs.declared.step.Step.TheVariants.{Leading, Trailing, SlidingWindow}
 use Rattle.fq_text.specs.declared.encoding.Encoding.{Encoding}
-use Rattle.fq_text.specs.Scores.{offset, is_scored, value_of}
+use Rattle.fq_text.specs.Scores.{is_scored, value_of}
+use Rattle.fq_text.proofs.ScoreLemmas.{value_small}
 use Rattle.fq_trim.specs.Keeping.{scores, places, select, keeps, is_good_end, is_good_window, IsBetween, kept_of}
 
 pub length-places : (a n : ℕ) → length (places a n) ≡ n
@@ -245,9 +246,6 @@ all_dropped p [] (suc n) all = refl
 all_dropped p (x ∷ xs) (suc n) all = all_dropped p xs n (and_parts (p x) (list_all p xs) all).1
 
 -- Sums of scores.
-pub value_small : (e : Encoding) (byte : ℕ) → is_scored e byte ≡ true → value_of e byte ≤ 126
-value_small e byte scored = let parts = and_parts (nat_le (offset e) byte) (nat_le byte 126) scored in let top : byte ≤ 126 = leb-true byte 126 parts.1 in omega arith
-
 pub sum_small : (e : Encoding) (qual : List ℕ) → list_all (is_scored e) qual ≡ true → sum (scores e qual) ≤ 126 * length qual
 sum_small e [] all = omega arith
 sum_small e (b ∷ bs) all =

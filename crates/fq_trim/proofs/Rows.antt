@@ -1,6 +1,6 @@
 -- Worked reads and words: what the definitions give.
 use Rattle.std.proofs.Common.{◌≡◌, ℕ, List, [], ◌∷◌, codes, refl, true, false, Result, Ok, Err}
-use Rattle.fq_text.specs.declared.encoding.Encoding.TheVariants.{Sanger, Illumina13}
+use Rattle.fq_text.specs.declared.encoding.Encoding.TheVariants.{Sanger, Illumina13, Solexa}
 use Rattle.fq_trim.specs.declared.step.Step.{Step}
 use Rattle.fq_trim.specs.declared.step.Step.TheVariants.{Leading, Trailing, Crop, HeadCrop, SlidingWindow, AverageQuality, MinLen, ToPhred33}
 use Rattle.fq_trim.specs.declared.fault.StepFault.{StepFault}
@@ -63,6 +63,19 @@ crop_of_more_keeps_all = refl
 -- the scores 40, 0 and 1
 scores_of_illumina : kept (Trailing 1 ∷ Leading 40 ∷ []) (scores Illumina13 (codes "h@A@")) ≡ places 0 3
 scores_of_illumina = refl
+
+scores_of_solexa : scores Solexa (codes ";@JI") ≡ 1 ∷ 3 ∷ 10 ∷ 10 ∷ []
+scores_of_solexa = refl
+
+low_solexa_scores_in_front_go : kept (Leading 4 ∷ []) (scores Solexa (codes ";@JI")) ≡ places 2 2
+low_solexa_scores_in_front_go = refl
+
+-- the sum is 24
+average_of_solexa_scores_keeps_all : kept (AverageQuality 6 ∷ []) (scores Solexa (codes ";@JI")) ≡ places 0 4
+average_of_solexa_scores_keeps_all = refl
+
+average_of_solexa_scores_just_below_drops : kept (AverageQuality 7 ∷ []) (scores Solexa (codes ";@JI")) ≡ []
+average_of_solexa_scores_just_below_drops = refl
 
 recoding_is_told : recodes (Leading 3 ∷ ToPhred33 ∷ []) ≡ true
 recoding_is_told = refl

@@ -5,7 +5,7 @@ ghost use Rattle.std.specs.List.{list_all};
 ghost use Rattle.fq_text.specs.Scores.{is_scored, value_of};
 ghost use Rattle.fq_trim.specs.Keeping.{scores};
 
-use fq_text::Encoding;
+use fq_text::{Encoding, phred_of_solexa};
 
 // As many scores as surely sum to a u32: a read longer than this is summed in parts.
 const CHUNK: usize = 1 << 24;
@@ -44,5 +44,6 @@ pub(crate) fn score_of(encoding: Encoding, byte: u8) -> u32
     match encoding {
         Encoding::Sanger => u32::from(byte) - 33,
         Encoding::Illumina13 => u32::from(byte) - 64,
+        Encoding::Solexa => u32::from(phred_of_solexa(byte)),
     }
 }

@@ -61,6 +61,24 @@ fn scores_are_those_of_the_encoding(rt: HostRuntime) -> Result<(), Fail> {
 }
 
 #[test]
+fn solexa_scores_are_taken_as_phred_scores(rt: HostRuntime) -> Result<(), Fail> {
+    // The scores 1, 3, 10 and 10.
+    for (steps, want) in [
+        ("LEADING:4", Some((2, 4))),
+        ("TRAILING:10", Some((0, 4))),
+        ("TRAILING:11", None),
+        ("SLIDINGWINDOW:2:2", Some((0, 4))),
+        ("SLIDINGWINDOW:2:3", None),
+        ("AVGQUAL:6", Some((0, 4))),
+        ("AVGQUAL:7", None),
+    ] {
+        let kept = trimmed(&rt, rt.alloc(), steps, Encoding::Solexa, b";@JI")?;
+        assert_eq!(rt; kept, want, "{steps}");
+    }
+    Ok(())
+}
+
+#[test]
 fn a_window_of_the_longest_read(rt: HostRuntime) -> Result<(), Fail> {
     let qual = vec![in rt.alloc(); b'~'; 1_048_576]?;
     for (steps, want) in [

@@ -74,36 +74,60 @@ fn names_that_differ(rt: HostRuntime) -> Result<(), Fail> {
 }
 
 #[test]
-fn a_truncated_input(rt: HostRuntime) -> Result<(), Fail> {
-    let mut files = files_of(rt.alloc(), &FORWARD[..16], REVERSE)?;
-    let words = pairs_words(rt.alloc(), &["--trimlog", "log"], &["LEADING:3"])?;
-    let called = call(&rt, rt.alloc(), &words, &mut files);
-    assert_eq!(rt; called.status, 3);
-    assert_eq!(rt;
-        called.err.bytes(),
-        b"input: forward record 1: QualityShort\n".as_slice()
-    );
-    assert_eq!(rt;
-        called.out.bytes(),
-        b"Input Read Pairs: 0\nBoth Surviving: 0\nForward Only Surviving: 0\nReverse Only Surviving: 0\nDropped: 0\n".as_slice()
-    );
-    for name in OUTPUTS {
-        assert!(rt; holds(&files, name, b""));
+fn a_fault_in_the_first_record(rt: HostRuntime) -> Result<(), Fail> {
+    let rows: [(&[&'static str], &[u8], &[u8]); 2] = [
+        (
+            &["--trimlog", "log"],
+            &FORWARD[..16],
+            b"input: forward record 1: QualityShort\n",
+        ),
+        (
+            &[
+                "--threads",
+                "2",
+                "--block",
+                "1",
+                "--trimlog",
+                "log",
+                "--encoding",
+                "solexa",
+            ],
+            FORWARD,
+            b"input: forward record 1: BadQuality\n",
+        ),
+    ];
+    for (options, forward, line) in rows {
+        let mut files = files_of(rt.alloc(), forward, REVERSE)?;
+        let words = pairs_words(rt.alloc(), options, &["LEADING:3"])?;
+        let called = call(&rt, rt.alloc(), &words, &mut files);
+        assert_eq!(rt; called.status, 3);
+        assert_eq!(rt; called.err.bytes(), line);
+        assert_eq!(rt;
+            called.out.bytes(),
+            b"Input Read Pairs: 0\nBoth Surviving: 0\nForward Only Surviving: 0\nReverse Only Surviving: 0\nDropped: 0\n".as_slice()
+        );
+        for name in OUTPUTS {
+            assert!(rt; holds(&files, name, b""));
+        }
     }
     Ok(())
 }
 
 #[test]
-fn the_second_encoding(rt: HostRuntime) -> Result<(), Fail> {
-    let forward = b"@q/1\nAC\n+\n@h\n";
-    let reverse = b"@q/2\nAC\n+\nhh\n";
-    let mut files = files_of(rt.alloc(), forward, reverse)?;
-    let steps = ["LEADING:3", "TOPHRED33"];
-    let words = pairs_words(rt.alloc(), &["--encoding", "illumina13"], &steps)?;
-    let called = call(&rt, rt.alloc(), &words, &mut files);
-    assert_eq!(rt; called.status, 0);
-    assert!(rt; holds(&files, "fp", b"@q/1\nC\n+\nI\n"));
-    assert!(rt; holds(&files, "rp", b"@q/2\nAC\n+\nII\n"));
+fn the_other_encodings(rt: HostRuntime) -> Result<(), Fail> {
+    let rows: [(&'static str, &[u8], &[u8]); 2] = [
+        ("illumina13", b"@q/1\nAC\n+\n@h\n", b"@q/1\nC\n+\nI\n"),
+        ("solexa", b"@q/1\nAC\n+\n;J\n", b"@q/1\nC\n+\n+\n"),
+    ];
+    for (encoding, forward, forward_paired) in rows {
+        let mut files = files_of(rt.alloc(), forward, b"@q/2\nAC\n+\nhh\n")?;
+        let steps = ["LEADING:3", "TOPHRED33"];
+        let words = pairs_words(rt.alloc(), &["--encoding", encoding], &steps)?;
+        let called = call(&rt, rt.alloc(), &words, &mut files);
+        assert_eq!(rt; called.status, 0);
+        assert!(rt; holds(&files, "fp", forward_paired), "{encoding}");
+        assert!(rt; holds(&files, "rp", b"@q/2\nAC\n+\nII\n"), "{encoding}");
+    }
     Ok(())
 }
 

@@ -1,6 +1,6 @@
 use super::{Given, Wanted, counts, leaves, nothing, with_defaults};
 use crate::Outcome;
-use fq_pair::{InputFault, Side};
+use fq_pair::{Counts, InputFault, Side};
 use fq_text::{Encoding, TextFault};
 use std::test::Fail;
 
@@ -95,12 +95,17 @@ fn a_window_drops_a_shorter_read(rt: HostRuntime) -> Result<(), Fail> {
 }
 
 #[test]
-fn illumina_qualities_are_recoded(rt: HostRuntime) -> Result<(), Fail> {
-    for (quality, written) in [(b'@', b'!'), (b'~', b'_')] {
+fn other_qualities_are_recoded(rt: HostRuntime) -> Result<(), Fail> {
+    for (encoding, quality, written) in [
+        (Encoding::Illumina13, b'@', b'!'),
+        (Encoding::Illumina13, b'~', b'_'),
+        (Encoding::Solexa, b'<', b'"'),
+        (Encoding::Solexa, b'~', b'_'),
+    ] {
         let read = [b'@', b'q', b'\n', b'A', b'\n', b'+', b'\n', quality, b'\n'];
         let recoded = [b'@', b'q', b'\n', b'A', b'\n', b'+', b'\n', written, b'\n'];
         let run = Given {
-            encoding: Encoding::Illumina13,
+            encoding,
             ..with_defaults(&read, &read, &["TOPHRED33"])
         };
         let wanted = Wanted {
@@ -116,14 +121,67 @@ fn illumina_qualities_are_recoded(rt: HostRuntime) -> Result<(), Fail> {
 }
 
 #[test]
-fn an_illumina_quality_without_a_score(rt: HostRuntime) -> Result<(), Fail> {
-    let read = b"@q\nA\n+\n?\n";
-    let run = Given {
-        encoding: Encoding::Illumina13,
-        ..with_defaults(read, read, &["TOPHRED33"])
-    };
-    let fault = InputFault::Text(Side::Forward, TextFault::BadQuality(1));
-    leaves(&rt, rt.alloc(), &run, &nothing(Outcome::Input(fault)))
+fn a_quality_without_a_score(rt: HostRuntime) -> Result<(), Fail> {
+    let rows: [(Encoding, &[u8]); 2] = [
+        (Encoding::Illumina13, b"@q\nA\n+\n?\n"),
+        (Encoding::Solexa, b"@q\nA\n+\n:\n"),
+    ];
+    for (encoding, read) in rows {
+        let run = Given {
+            encoding,
+            ..with_defaults(read, read, &["TOPHRED33"])
+        };
+        let fault = InputFault::Text(Side::Forward, TextFault::BadQuality(1));
+        leaves(&rt, rt.alloc(), &run, &nothing(Outcome::Input(fault)))?;
+    }
+    Ok(())
+}
+
+#[test]
+fn solexa_qualities_count_as_phred_scores(rt: HostRuntime) -> Result<(), Fail> {
+    let read = b"@s\nACGT\n+\n;@JI\n";
+    let rows: [(&str, &[u8], &[u8], Counts); 4] = [
+        (
+            "TOPHRED33",
+            b"@s\nACGT\n+\n\"$++\n",
+            b"s 4 0 4 0\ns 4 0 4 0\n",
+            counts(1, 1, 0, 0, 0),
+        ),
+        (
+            "LEADING:4",
+            b"@s\nGT\n+\nJI\n",
+            b"s 2 2 4 0\ns 2 2 4 0\n",
+            counts(1, 1, 0, 0, 0),
+        ),
+        (
+            "AVGQUAL:6",
+            read,
+            b"s 4 0 4 0\ns 4 0 4 0\n",
+            counts(1, 1, 0, 0, 0),
+        ),
+        (
+            "AVGQUAL:7",
+            b"",
+            b"s 0 0 0 0\ns 0 0 0 0\n",
+            counts(1, 0, 0, 0, 1),
+        ),
+    ];
+    for (step, kept, log, counts) in rows {
+        let steps = [step];
+        let run = Given {
+            encoding: Encoding::Solexa,
+            ..with_defaults(read, read, &steps)
+        };
+        let wanted = Wanted {
+            forward_paired: kept,
+            reverse_paired: kept,
+            log,
+            counts,
+            ..nothing(Outcome::Finished)
+        };
+        leaves(&rt, rt.alloc(), &run, &wanted)?;
+    }
+    Ok(())
 }
 
 #[test]

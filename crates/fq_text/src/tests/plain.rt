@@ -144,6 +144,7 @@ fn quality_fault(
     let lowest = match encoding {
         Encoding::Sanger => 33,
         Encoding::Illumina13 => 64,
+        Encoding::Solexa => 59,
     };
     if line.len() > LIMIT {
         return Some(TextFault::TooLong(k));
@@ -233,10 +234,10 @@ fn drawn_texts_read_as_the_plain_reader_reads_them(rt: HostRuntime) -> Result<()
                 text.extend_from_slice(PARTS[draws.below(14) as usize % 14])?;
             }
         }
-        let encoding = if number % 3 == 0 {
-            Encoding::Illumina13
-        } else {
-            Encoding::Sanger
+        let encoding = match number % 3 {
+            0 => Encoding::Illumina13,
+            1 => Encoding::Solexa,
+            _ => Encoding::Sanger,
         };
         for chunk in [1, 2, 3, 7, 64] {
             records = records.saturating_add(same(&rt, rt.alloc(), &text, encoding, chunk)?);

@@ -142,6 +142,23 @@ const ILLUMINA: &[Row] = &[
     },
 ];
 
+const SOLEXA: &[Row] = &[
+    Row {
+        name: "a byte below the lowest score",
+        encoding: Encoding::Solexa,
+        text: "@q\nA\n+\n:\n",
+        records: &[],
+        last: Some(TextFault::BadQuality(1)),
+    },
+    Row {
+        name: "Solexa scores -5, 0, 10 and 9",
+        encoding: Encoding::Solexa,
+        text: "@s\nACGT\n+\n;@JI\n",
+        records: &[("s", "ACGT", ";@JI")],
+        last: None,
+    },
+];
+
 fn reads_as_the_row_says(rt: &impl Abort, alloc: Global, row: &Row) -> Result<(), Fail> {
     let name = row.name;
     for chunk in [1, 2, 3, 4, 5, 6, 7, 1000] {
@@ -179,6 +196,14 @@ fn sanger_texts(rt: HostRuntime) -> Result<(), Fail> {
 #[test]
 fn illumina_texts(rt: HostRuntime) -> Result<(), Fail> {
     for row in ILLUMINA {
+        reads_as_the_row_says(&rt, rt.alloc(), row)?;
+    }
+    Ok(())
+}
+
+#[test]
+fn solexa_texts(rt: HostRuntime) -> Result<(), Fail> {
+    for row in SOLEXA {
         reads_as_the_row_says(&rt, rt.alloc(), row)?;
     }
     Ok(())

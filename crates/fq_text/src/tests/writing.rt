@@ -19,6 +19,14 @@ fn quality_bytes_have_scores(rt: HostRuntime) {
         (Encoding::Illumina13, 64, Some(0)),
         (Encoding::Illumina13, 126, Some(62)),
         (Encoding::Illumina13, 127, None),
+        (Encoding::Solexa, 58, None),
+        (Encoding::Solexa, 59, Some(1)),
+        (Encoding::Solexa, 60, Some(1)),
+        (Encoding::Solexa, 64, Some(3)),
+        (Encoding::Solexa, 73, Some(10)),
+        (Encoding::Solexa, 74, Some(10)),
+        (Encoding::Solexa, 126, Some(62)),
+        (Encoding::Solexa, 127, None),
     ];
     for (encoding, byte, score) in rows {
         assert_eq!(rt; encoding.score(byte), score, "{encoding:?} {byte}");
@@ -32,6 +40,8 @@ fn one_byte_without_a_score_is_enough(rt: HostRuntime) {
     assert!(rt; Encoding::Illumina13.all_scored(b"@h~"));
     assert!(rt; !Encoding::Illumina13.all_scored(b"hh?"));
     assert!(rt; Encoding::Illumina13.all_scored(b""));
+    assert!(rt; Encoding::Solexa.all_scored(b";@JI~"));
+    assert!(rt; !Encoding::Solexa.all_scored(b":@JI"));
 }
 
 #[test]
@@ -78,6 +88,31 @@ fn records_are_written_behind_a_text(rt: HostRuntime) -> Result<(), Fail> {
     assert_eq!(rt;
         out.as_slice(),
         b"@q\nA\n+\n!\n@\nA\n+\n_\n@s 1\nAN\n+\n!~\n@e\n\n+\n\n".as_slice()
+    );
+    Ok(())
+}
+
+#[test]
+fn solexa_bytes_have_phred_scores(rt: HostRuntime) {
+    assert_eq!(rt; phred_of_solexa(b';'), 1);
+    assert_eq!(rt; phred_of_solexa(b'@'), 3);
+    assert_eq!(rt; phred_of_solexa(b'I'), 10);
+    assert_eq!(rt; phred_of_solexa(b'J'), 10);
+    assert_eq!(rt; phred_of_solexa(b'~'), 62);
+}
+
+#[test]
+fn solexa_scores_are_written_as_phred_scores(rt: HostRuntime) -> Result<(), Fail> {
+    let solexa = Some(Encoding::Solexa);
+    let mut out = Vec::new(rt.alloc());
+    writes(&rt, &mut out, b"s", b"ACGT", b";@JI", solexa)?;
+    assert_eq!(rt; out.as_slice(), b"@s\nACGT\n+\n\"$++\n".as_slice());
+    let mut out = Vec::new(rt.alloc());
+    writes(&rt, &mut out, b"s", b"A", b"~", solexa)?;
+    writes(&rt, &mut out, b"s", b"ACGT", b";@JI", None)?;
+    assert_eq!(rt;
+        out.as_slice(),
+        b"@s\nA\n+\n_\n@s\nACGT\n+\n;@JI\n".as_slice()
     );
     Ok(())
 }
