@@ -19,16 +19,14 @@ use std::thread::Threads;
 const TWO_IN_TURN: &[u8] =
     b"@p1/1\nACGT\n+\n#!II\n@p1/2\nTTTT\n+\nIIII\n@p2/1\nGGCC\n+\nIIII\n@p2/2\nAAAA\n+\n!!!\"\n";
 
-/// The records of two texts, in turn: so many of the first, and all but one as many, or as many, of the second.
-fn in_turn(alloc: Global, forward: &[u8], reverse: &[u8], records: usize) -> Result<Vec<u8>, Fail> {
+/// The first eleven records of the seven pairs, in turn: the sixth reverse one is missing.
+fn eleven_in_turn(alloc: Global) -> Result<Vec<u8>, Fail> {
     let mut text = Vec::new(alloc);
-    let firsts = forward.chunks(RECORD);
-    let mut seconds = reverse.chunks(RECORD);
-    for first in firsts {
-        for record in [Some(first), seconds.next()].into_iter().flatten() {
-            if text.len() < records * RECORD {
-                text.extend_from_slice(record)?;
-            }
+    let mut reverse = SEVEN_REVERSE[..5 * RECORD].chunks(RECORD);
+    for record in SEVEN_FORWARD[..6 * RECORD].chunks(RECORD) {
+        text.extend_from_slice(record)?;
+        if let Some(mate) = reverse.next() {
+            text.extend_from_slice(mate)?;
         }
     }
     Ok(text)
@@ -83,7 +81,7 @@ fn a_fault_in_a_reverse_record_carries_its_number_in_the_text(rt: HostRuntime) -
 
 #[test]
 fn a_last_forward_record_without_its_mate(rt: HostRuntime) -> Result<(), Fail> {
-    let text = in_turn(rt.alloc(), SEVEN_FORWARD, SEVEN_REVERSE, 11)?;
+    let text = eleven_in_turn(rt.alloc())?;
     assert_eq!(rt; text.len(), 198);
     for block_pairs in [1, 2, 7] {
         for cut in [1, 5, 1000usize] {
@@ -146,7 +144,7 @@ fn front_in_turn<R: Abort + Threads + Wait + Copy + Send + 'static>(
 
 #[test]
 fn each_read_of_one_text_fails_in_turn(rt: HostRuntime) -> Result<(), Fail> {
-    let text = in_turn(rt.alloc(), SEVEN_FORWARD, SEVEN_REVERSE, 11)?;
+    let text = eleven_in_turn(rt.alloc())?;
     for way in WAYS {
         // 198 bytes by 40 reads, and one that finds the end.
         for number in 1..42u64 {
@@ -179,7 +177,7 @@ fn each_read_of_one_text_fails_in_turn(rt: HostRuntime) -> Result<(), Fail> {
 
 #[test]
 fn each_write_of_one_text_fails_in_turn(rt: HostRuntime) -> Result<(), Fail> {
-    let text = in_turn(rt.alloc(), SEVEN_FORWARD, SEVEN_REVERSE, 11)?;
+    let text = eleven_in_turn(rt.alloc())?;
     // The texts of three blocks go out by five bytes at a time.
     let rows = [
         (Out::ForwardPaired, 7 + 3 + 4),
@@ -215,7 +213,7 @@ fn each_write_of_one_text_fails_in_turn(rt: HostRuntime) -> Result<(), Fail> {
 
 #[test]
 fn each_flush_of_one_text_fails_in_turn(rt: HostRuntime) -> Result<(), Fail> {
-    let text = in_turn(rt.alloc(), SEVEN_FORWARD, SEVEN_REVERSE, 11)?;
+    let text = eleven_in_turn(rt.alloc())?;
     for out in OUTS {
         let given = Given {
             block_pairs: BLOCK_PAIRS as u64,
