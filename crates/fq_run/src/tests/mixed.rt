@@ -1,7 +1,7 @@
 //! Runs over one text in which mates take turns.
 
 use super::fronts::{Front, OUTS, front_of};
-use super::rows::{SEVEN_FORWARD, SEVEN_REVERSE, SEVEN_STEPS, first_pair, five_pairs, two_pairs};
+use super::rows::{SEVEN_STEPS, first_pair, five_pairs, two_pairs};
 use super::sweeps::{BLOCK_PAIRS, CUT, RECORD, WAYS, Way};
 use super::{
     Given, Wanted, assert_written, counts, feed, nothing, outlets, settings_of, with_defaults,
@@ -16,21 +16,12 @@ use std::sync::{Arc, Wait};
 use std::test::Fail;
 use std::thread::Threads;
 
+/// The first eleven records of the seven pairs: the sixth reverse one is missing.
+const ELEVEN_IN_TURN: &[u8] =
+    b"@n1/1\nACGT\n+\nIIII\n@n1/2\nTTTT\n+\nII##\n@n2/1\nACGT\n+\n##II\n@n2/2\nTTTT\n+\nII##\n@n3/1\nACGT\n+\nIIII\n@n3/2\nTTTT\n+\n!!!!\n@n4/1\nACGT\n+\n##II\n@n4/2\nTTTT\n+\nII##\n@n5/1\nACGT\n+\nIIII\n@n5/2\nTTTT\n+\nII##\n@n6/1\nACGT\n+\n##II\n";
+
 const TWO_IN_TURN: &[u8] =
     b"@p1/1\nACGT\n+\n#!II\n@p1/2\nTTTT\n+\nIIII\n@p2/1\nGGCC\n+\nIIII\n@p2/2\nAAAA\n+\n!!!\"\n";
-
-/// The first eleven records of the seven pairs, in turn: the sixth reverse one is missing.
-fn eleven_in_turn(alloc: Global) -> Result<Vec<u8>, Fail> {
-    let mut text = Vec::new(alloc);
-    let mut reverse = SEVEN_REVERSE[..5 * RECORD].chunks(RECORD);
-    for record in SEVEN_FORWARD[..6 * RECORD].chunks(RECORD) {
-        text.extend_from_slice(record)?;
-        if let Some(mate) = reverse.next() {
-            text.extend_from_slice(mate)?;
-        }
-    }
-    Ok(text)
-}
 
 /// Runs with a log on one thread, and then on those of 1 to 5 workers, and compares what each run leaves. The text is that of
 /// the forward side.
@@ -81,14 +72,12 @@ fn a_fault_in_a_reverse_record_carries_its_number_in_the_text(rt: HostRuntime) -
 
 #[test]
 fn a_last_forward_record_without_its_mate(rt: HostRuntime) -> Result<(), Fail> {
-    let text = eleven_in_turn(rt.alloc())?;
-    assert_eq!(rt; text.len(), 198);
     for block_pairs in [1, 2, 7] {
         for cut in [1, 5, 1000usize] {
             let run = Given {
                 block_pairs,
                 cut,
-                ..with_defaults(&text, b"", SEVEN_STEPS)
+                ..with_defaults(ELEVEN_IN_TURN, b"", SEVEN_STEPS)
             };
             leaves_mixed(&rt, rt.alloc(), &run, &five_of_eleven())?;
         }
@@ -144,7 +133,6 @@ fn front_in_turn<R: Abort + Threads + Wait + Copy + Send + 'static>(
 
 #[test]
 fn each_read_of_one_text_fails_in_turn(rt: HostRuntime) -> Result<(), Fail> {
-    let text = eleven_in_turn(rt.alloc())?;
     for way in WAYS {
         // 198 bytes by 40 reads, and one that finds the end.
         for number in 1..42u64 {
@@ -152,7 +140,7 @@ fn each_read_of_one_text_fails_in_turn(rt: HostRuntime) -> Result<(), Fail> {
                 block_pairs: BLOCK_PAIRS as u64,
                 cut: CUT,
                 fails_at_read: number,
-                ..with_defaults(&text, b"", SEVEN_STEPS)
+                ..with_defaults(ELEVEN_IN_TURN, b"", SEVEN_STEPS)
             };
             let (outcome, front) = front_in_turn(&rt, rt.alloc(), &given, way)?;
             let came = (number as usize - 1) * CUT;
@@ -170,14 +158,13 @@ fn each_read_of_one_text_fails_in_turn(rt: HostRuntime) -> Result<(), Fail> {
     let beyond = Given {
         cut: CUT,
         fails_at_read: 42,
-        ..with_defaults(&text, b"", SEVEN_STEPS)
+        ..with_defaults(ELEVEN_IN_TURN, b"", SEVEN_STEPS)
     };
     leaves_mixed(&rt, rt.alloc(), &beyond, &five_of_eleven())
 }
 
 #[test]
 fn each_write_of_one_text_fails_in_turn(rt: HostRuntime) -> Result<(), Fail> {
-    let text = eleven_in_turn(rt.alloc())?;
     // The texts of three blocks go out by five bytes at a time.
     let rows = [
         (Out::ForwardPaired, 7 + 3 + 4),
@@ -193,7 +180,7 @@ fn each_write_of_one_text_fails_in_turn(rt: HostRuntime) -> Result<(), Fail> {
                     block_pairs: BLOCK_PAIRS as u64,
                     cut: CUT,
                     fails_at_write: Some((out, number)),
-                    ..with_defaults(&text, b"", SEVEN_STEPS)
+                    ..with_defaults(ELEVEN_IN_TURN, b"", SEVEN_STEPS)
                 };
                 let (outcome, front) = front_in_turn(&rt, rt.alloc(), &given, way)?;
                 assert_eq!(rt; outcome, Outcome::Write(out), "write {number}");
@@ -204,7 +191,7 @@ fn each_write_of_one_text_fails_in_turn(rt: HostRuntime) -> Result<(), Fail> {
             block_pairs: BLOCK_PAIRS as u64,
             cut: CUT,
             fails_at_write: Some((out, writes + 1)),
-            ..with_defaults(&text, b"", SEVEN_STEPS)
+            ..with_defaults(ELEVEN_IN_TURN, b"", SEVEN_STEPS)
         };
         leaves_mixed(&rt, rt.alloc(), &beyond, &five_of_eleven())?;
     }
@@ -213,13 +200,12 @@ fn each_write_of_one_text_fails_in_turn(rt: HostRuntime) -> Result<(), Fail> {
 
 #[test]
 fn each_flush_of_one_text_fails_in_turn(rt: HostRuntime) -> Result<(), Fail> {
-    let text = eleven_in_turn(rt.alloc())?;
     for out in OUTS {
         let given = Given {
             block_pairs: BLOCK_PAIRS as u64,
             cut: CUT,
             fails_at_flush: Some(out),
-            ..with_defaults(&text, b"", SEVEN_STEPS)
+            ..with_defaults(ELEVEN_IN_TURN, b"", SEVEN_STEPS)
         };
         leaves_mixed(&rt, rt.alloc(), &given, &five_pairs(Outcome::Write(out)))?;
     }
