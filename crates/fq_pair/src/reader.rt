@@ -1,7 +1,8 @@
 //! Sources of pairs, whatever they read.
 
-ghost use Rattle.std.specs.Prelude.{◌≡◌, ◌≤◌, IfOk, IfSome};
-ghost use Rattle.fq_pair.specs.Walks.{SourceState, Asks, GoesOn};
+ghost use Rattle.std.specs.Prelude.{◌≡◌, ◌≤◌, None, IfOk, IfSome, MatchOption};
+ghost use Rattle.fq_pair.specs.PairSources.{answer_of};
+ghost use Rattle.fq_pair.specs.Walks.{SourceState, Asks};
 
 use crate::fault::InputFault;
 use crate::mixed_source::MixedSource;
@@ -14,13 +15,17 @@ pub trait PairReader {
     /// What contracts see of the source: its form, the bytes in hand and to come of each side, and what was counted so far.
     ghost state: { Self → SourceState };
 
-    /// The next pair of a source that has answered neither the end nor a fault, or `None` at the end.
+    /// The next pair, or `None` at the end. A fault, or the end, is the answer from then on.
     fn next_pair(&mut self) -> Result<Option<Pair>, InputFault>
-        requires goes { GoesOn (state self.old) }
-        ensures asks { Asks (state self.old) (state self.new) result }
+        // A last answer stays, and nothing more is read.
+        ensures again { MatchOption (state self.old).last (Unit {0}) (λ last. (result ≡ answer_of last) × (state self.new ≡ state self.old)) }
+
+        // Otherwise the answer is what stands in front of the sides.
+        ensures asks { (state self.old).last ≡ None → Asks (state self.old) (state self.new) result }
+
         // No more records are given than bytes may come, and both mates are in the source's encoding.
         ensures within { (state self.new).forward.given ≤ (state self.new).most_bytes }
-        ensures encoding { IfOk result (λ o. IfSome o (λ m. m.forward.encoding ≡ (state self.old).encoding)) };
+        ensures encoding { (state self.old).last ≡ None → IfOk result (λ o. IfSome o (λ m. m.forward.encoding ≡ (state self.old).encoding)) };
 }
 
 impl<F: Feed, G: Feed> PairReader for PairSource<F, G> {

@@ -7,28 +7,25 @@ use Rattle.fq_run.proofs.filling.fill.Goals as goal
 pub loop-init : goal.loop-init
 loop-init g c = filled_none _ _ c.requires.goes c.requires.clear
 
-pub next_pair-requires : goal.next_pair-requires
-next_pair-requires g c = let i = c.loop.invariant in record { goes = i.goes }
-
 pub returns-in-Ok-None : goal.returns-in-Ok-None
-returns-in-Ok-None g c =
+returns-in-Ok-None g c = let i = c.loop.invariant in let goes = i.goes in
     let asked = rw c.in-Ok-None.field-0-is at c.in-Ok-None.ensures in
-    fills_end _ _ _ _ _ _ c.loop.invariant _ (omega arith) asked.asks
+    fills_end _ _ _ _ _ _ c.loop.invariant _ (omega arith) (asked.asks goes.last)
 
 pub returns-in-Err : goal.returns-in-Err
-returns-in-Err g c = let met = c.in-Err.ensures in fills_fault _ _ _ _ _ _ c.loop.invariant _ _ (omega arith) met.asks
+returns-in-Err g c = let i = c.loop.invariant in let goes = i.goes in let met = c.in-Err.ensures in fills_fault _ _ _ _ _ _ c.loop.invariant _ _ (omega arith) (met.asks goes.last)
 
 pub returns : goal.returns
 returns g c = fills_full _ _ _ _ _ _ c.loop.invariant (omega arith)
 
 pub returns-then-is_err : goal.returns-then-is_err
-returns-then-is_err g c =
+returns-then-is_err g c = let i = c.loop.invariant in let goes = i.goes in
     let asked = rw c.in-Ok-Some.field-0-is at c.in-Ok-Some.ensures in
-    fills_refused _ _ _ _ _ _ c.loop.invariant _ _ _ (omega arith) asked.asks
+    fills_refused _ _ _ _ _ _ c.loop.invariant _ _ _ (omega arith) (asked.asks goes.last)
     (err_says c.push.result c.is_err.result _ c.is_err.ensures.value c.if-is_err.true c.push.ensures.err)
 
 pub loop-preserved : goal.loop-preserved
-loop-preserved g c =
+loop-preserved g c = let i = c.loop.invariant in let goes = i.goes in
     let asked = rw c.in-Ok-Some.field-0-is at c.in-Ok-Some.ensures in
-    filled_more _ _ _ _ _ _ _ _ c.loop.invariant asked.asks asked.within
+    filled_more _ _ _ _ _ _ _ _ c.loop.invariant (asked.asks goes.last) asked.within
     (ok_says c.push.result c.is_err.result _ c.is_err.ensures.value c.if-is_err.false c.push.ensures.ok)

@@ -6,30 +6,27 @@ use Rattle.fq_run.proofs.gathering.gather.Goals as goal
 pub loop-init : goal.loop-init
 loop-init g c = gathered_none c.args.steps.now _ _ c.requires.goes c.requires.clear
 
-pub next_pair-requires : goal.next_pair-requires
-next_pair-requires g c = let i = c.loop.invariant in record { goes = i.goes }
-
 pub add-requires : goal.add-requires
 add-requires g c = let few = gathered_few c.args.steps.now _ _ _ _ c.loop.invariant in omega arith
 
 pub returns-then-is_err : goal.returns-then-is_err
-returns-then-is_err g c =
+returns-then-is_err g c = let i = c.loop.invariant in let goes = i.goes in
     let asked = rw c.in-Ok-Some.field-0-is at c.in-Ok-Some.ensures in
-    gathers_refused c.args.steps.now _ _ _ _ _ _ _ _ (omega arith) c.loop.invariant asked.asks
+    gathers_refused c.args.steps.now _ _ _ _ _ _ _ _ (omega arith) c.loop.invariant (asked.asks goes.last)
     (err_says c.add.result c.is_err.result _ c.is_err.ensures.value c.if-is_err.true c.add.ensures.err)
 
 pub returns-in-Ok-None : goal.returns-in-Ok-None
-returns-in-Ok-None g c =
+returns-in-Ok-None g c = let i = c.loop.invariant in let goes = i.goes in
     let asked = rw c.in-Ok-None.field-0-is at c.in-Ok-None.ensures in
-    gathers_end c.args.steps.now _ _ _ _ _ _ (omega arith) c.loop.invariant asked.asks
+    gathers_end c.args.steps.now _ _ _ _ _ _ (omega arith) c.loop.invariant (asked.asks goes.last)
 
 pub returns-in-Err : goal.returns-in-Err
-returns-in-Err g c = let met = c.in-Err.ensures in gathers_fault c.args.steps.now _ _ _ _ _ _ _ (omega arith) c.loop.invariant met.asks
+returns-in-Err g c = let i = c.loop.invariant in let goes = i.goes in let met = c.in-Err.ensures in gathers_fault c.args.steps.now _ _ _ _ _ _ _ (omega arith) c.loop.invariant (met.asks goes.last)
 
 pub loop-preserved : goal.loop-preserved
-loop-preserved g c =
+loop-preserved g c = let i = c.loop.invariant in let goes = i.goes in
     let asked = rw c.in-Ok-Some.field-0-is at c.in-Ok-Some.ensures in
-    gathered_more c.args.steps.now _ _ _ _ _ _ _ c.loop.invariant asked.asks asked.within _ _ c.view.ensures.forward c.view.ensures.reverse
+    gathered_more c.args.steps.now _ _ _ _ _ _ _ c.loop.invariant (asked.asks goes.last) asked.within _ _ c.view.ensures.forward c.view.ensures.reverse
     (ok_says c.add.result c.is_err.result _ c.is_err.ensures.value c.if-is_err.false c.add.ensures.ok)
 
 pub returns : goal.returns
