@@ -33,6 +33,7 @@ two_pairs() {
   rm -rf ./*
   printf '@p1/1\nACGT\n+\n#!II\n@p2/1\nGGCC\n+\nIIII\n' > f
   printf '@p1/2\nTTTT\n+\nIIII\n@p2/2\nAAAA\n+\n!!!"\n' > r
+  printf '@p1/1\nACGT\n+\n#!II\n@p1/2\nTTTT\n+\nIIII\n@p2/1\nGGCC\n+\nIIII\n@p2/2\nAAAA\n+\n!!!"\n' > i
 }
 
 summary='Input Read Pairs: 2\nBoth Surviving: 1\nForward Only Surviving: 1\nReverse Only Surviving: 0\nDropped: 0\n'
@@ -152,6 +153,30 @@ row='inputs that are pipes'
 two_pairs
 run 0 '' PE <(cat f) <(cat r) fp fu rp ru LEADING:3
 expect_two_pairs
+
+row='one file in which mates take turns'
+two_pairs
+run 0 '' IL --threads 2 --block 1 --trimlog log i fp fu rp ru LEADING:3
+expect_two_pairs
+same log 'p1 2 2 4 0\np1 4 0 4 0\np2 4 0 4 0\np2 0 0 0 0\n'
+
+row='one file that is a pipe'
+two_pairs
+run 0 '' IL <(cat i) fp fu rp ru LEADING:3
+expect_two_pairs
+
+row='one file whose last record has no mate'
+two_pairs
+head -n 12 i > g && mv g i
+run 3 'input: reverse record 2: MateMissing\n' IL i fp fu rp ru LEADING:3
+same fp '@p1/1\nGT\n+\nII\n'
+
+row='an output that is the one input under another name'
+two_pairs
+cp i old
+ln -s i link
+run 4 'cannot write link\n' IL i link fu rp ru LEADING:3
+cmp -s i old || fail "$row: the input is not as it was"
 
 row='no command'
 "$program" > out 2> err

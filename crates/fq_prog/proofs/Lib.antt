@@ -3,3 +3,4 @@ mod StoreLemmas
 mod TextLemmas
 mod WordLemmas
 mod ExampleLemmas
+mod Rows

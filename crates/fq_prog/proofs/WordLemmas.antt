@@ -20,7 +20,7 @@ use Rattle.clap.proofs.OnLiterals.{clap_on_literals}
 use Rattle.clap.specs.Built.{AddsArg, AddsSubcommand}
 use Rattle.clap.specs.declared.builder.arg.Arg.{Arg}
 use Rattle.clap.specs.declared.builder.command.Command.{Command}
-use Rattle.fq_prog.specs.Words.{IsArg, IsCommand, asked_in, asked_of, asking_in, most, number_of, pairs_app, pairs_asked, program_app, words_fault}
+use Rattle.fq_prog.specs.Words.{IsArg, IsCommand, asked_in, asked_of, interleaved_app, most, number_of, pairs_app, pairs_asked, program_app, with_rules, words_fault}
 
 -- a command with one more argument
 pub one_more : (old new : Command) (arg : Arg) (app : App) (rule : Rule) → AddsArg old arg new → IsArg rule arg → IsCommand app old → IsCommand (with_rule app rule) new
@@ -28,6 +28,10 @@ one_more old new arg app rule adds is command = record {
   app_is = adds.shape is.local ∙ ap₂ with_rule command.app_is is.rule_is;
   local = adds.globals ∙ (ap (λ b. b || arg.global) command.local ∙ is.local);
 }
+
+-- a command with more arguments
+pub with_more : (old new : Command) (app : App) (rules : List Rule) → app_of old ≡ app → IsCommand (with_rules (app_of old) rules) new → IsCommand (with_rules app rules) new
+with_more old new app rules is more = record { app_is = more.app_is ∙ ap (λ a. with_rules a rules) is; local = more.local }
 
 -- the value of an argument, and the text in its place
 pub text_read : (found : Option (Bor Text)) (other : Bor Text) (first : Option Text) → option_map (λ s. s.now) found ≡ first → other.now ≡ [] → (unwrap_or found other).now ≡ unwrap_or first []
@@ -44,11 +48,11 @@ not_equal : (a b : List ℕ) → a ≢ b → bytes_eq a b ≡ false
 not_equal a b h = false_from_ne_true (bytes_eq a b) (λ e. h ((bytes_eq-Decides a b).0 e))
 
 is_readable : is_simple program_app ≡ true
-unfolding clap_on_literals program_app pairs_app
+unfolding clap_on_literals program_app pairs_app interleaved_app
 is_readable = refl
 
 is_free : is_simple_and_free program_app ≡ true
-unfolding clap_on_literals program_app pairs_app
+unfolding clap_on_literals program_app pairs_app interleaved_app
 is_free = refl
 
 -- the matches are those of the program's commands
@@ -74,17 +78,17 @@ name_met m = go (out-ArgMatches m).subcommand
     go (Some b) = refl
 
 -- a subcommand that was met, by its name and its rows
-pub met_is : (found : Option (Text × List Row)) (name : Text) (rows : List Row) → option_map (λ p. p.0) found ≡ Some name → option_map (λ p. p.1) found ≡ Some rows → asked_in found ≡ asked_of name rows
+pub met_is : (found : Option (Text × List Row)) (name : Text) (rows : List Row) → Some name ≡ option_map (λ p. p.0) found → Some rows ≡ option_map (λ p. p.1) found → asked_in found ≡ asked_of name rows
 met_is (Some found) name rows named has =
     let name_is : found.0 ≡ name = cc in
     let rows_are : found.1 ≡ rows = cc in
     ap₂ asked_of name_is rows_are
 met_is None name rows named has = absurd cc
 
--- no subcommand of this name was met
-pub not_met : (found : Option (Text × List Row)) → (option_map (λ p. p.0) found ≡ Some (codes "PE") → ⊥) → asked_in found ≡ None
-not_met None other = refl
-not_met (Some found) other = ap (λ (b : Bool). if b then Some (asking_in found.1) else None) (not_equal found.0 (codes "PE") (λ e. other (ap Some e)))
+-- no subcommand was met
+pub not_met : (found : Option (Text × List Row)) → None ≡ option_map (λ p. p.0) found → asked_in found ≡ None
+not_met None none = refl
+not_met (Some found) none = absurd cc
 
 -- a value that is there
 pub some_is : {X : Type 0} (o : Option X) (x : X) → IsSomeAnd o (λ y. y ≡ x) → o ≡ Some x

@@ -11,11 +11,30 @@ use Rattle.fq_pair.specs.declared.out.Out.{Out}
 use Rattle.fq_pair.specs.declared.out.Out.TheVariants.{ForwardPaired, ForwardUnpaired, ReversePaired, ReverseUnpaired, Log}
 use Rattle.fq_pair.specs.declared.side.Side.{Side}
 use Rattle.fq_pair.specs.declared.side.Side.TheVariants.{Forward, Reverse}
+use Rattle.fq_pair.specs.Forms.{Form, TwoTexts, OneText}
 use Rattle.fq_run.specs.Choices.{Choices, checked}
 use Rattle.fq_run.specs.declared.settings.BadSetting.{BadSetting}
 use Rattle.fq_prog.specs.declared.request.Request.{Request}
+use Rattle.fq_prog.specs.declared.request.Inputs.{Inputs}
+use Rattle.fq_prog.specs.declared.request.Inputs.TheVariants.{Apart, Interleaved}
 use Rattle.fq_prog.specs.declared.refusal.Refusal.{Refusal}
 use Rattle.fq_prog.specs.declared.refusal.Refusal.TheVariants as why
+
+-- The names of the inputs, and their form. Where mates take turns in one file, it is the file of both sides.
+pub record InputNames : Type 0 where
+  pub form : Form
+  pub forward : List ℕ
+  pub reverse : List ℕ
+
+abbrev pub two_files : List ℕ → List ℕ → InputNames
+two_files forward reverse = record { form = TwoTexts; forward = forward; reverse = reverse }
+
+abbrev pub one_file : List ℕ → InputNames
+one_file both = record { form = OneText; forward = both; reverse = both }
+
+abbrev pub names_of : Inputs → InputNames
+names_of (Apart forward reverse) = two_files forward.now reverse.now
+names_of (Interleaved both) = one_file both.now
 
 -- What is to be trimmed, as the words give it.
 pub record Asking : Type 0 where
@@ -25,8 +44,7 @@ pub record Asking : Type 0 where
   pub depth : ℕ
   pub chunk : ℕ
   pub check_names : Bool
-  pub forward : List ℕ
-  pub reverse : List ℕ
+  pub inputs : InputNames
   pub forward_paired : List ℕ
   pub forward_unpaired : List ℕ
   pub reverse_paired : List ℕ
@@ -42,8 +60,7 @@ asking_of r = record {
   depth = r.depth;
   chunk = r.chunk;
   check_names = r.check_names;
-  forward = r.forward.now;
-  reverse = r.reverse.now;
+  inputs = names_of r.inputs;
   forward_paired = r.forward_paired.now;
   forward_unpaired = r.forward_unpaired.now;
   reverse_paired = r.reverse_paired.now;
@@ -96,9 +113,9 @@ settings_of a = with_encoding a (encoding_of a.encoding)
 
 -- Names.
 
-abbrev pub input_name : Asking → Side → List ℕ
-input_name a Forward = a.forward
-input_name a Reverse = a.reverse
+abbrev pub input_name : InputNames → Side → List ℕ
+input_name inputs Forward = inputs.forward
+input_name inputs Reverse = inputs.reverse
 
 -- the name of an output, if it is wanted
 abbrev pub output_name : Asking → Out → Option (List ℕ)
@@ -109,20 +126,20 @@ output_name a ReverseUnpaired = Some a.reverse_unpaired
 output_name a Log = a.log
 
 -- a name is that of an input
-abbrev pub is_input : Asking → List ℕ → Bool
-is_input a name = bytes_eq name a.forward || bytes_eq name a.reverse
+abbrev pub is_input : InputNames → List ℕ → Bool
+is_input inputs name = bytes_eq name inputs.forward || bytes_eq name inputs.reverse
 
 abbrev pub same_log : Asking → Option (List ℕ) → Option Out
-same_log a (Some log) = if is_input a log then Some Log else None
+same_log a (Some log) = if is_input a.inputs log then Some Log else None
 same_log a None = None
 
 -- the first output whose name is that of an input
 abbrev pub same_name : Asking → Option Out
 same_name a =
-    if is_input a a.forward_paired then Some ForwardPaired
-    else (if is_input a a.forward_unpaired then Some ForwardUnpaired
-    else (if is_input a a.reverse_paired then Some ReversePaired
-    else (if is_input a a.reverse_unpaired then Some ReverseUnpaired
+    if is_input a.inputs a.forward_paired then Some ForwardPaired
+    else (if is_input a.inputs a.forward_unpaired then Some ForwardUnpaired
+    else (if is_input a.inputs a.reverse_paired then Some ReversePaired
+    else (if is_input a.inputs a.reverse_unpaired then Some ReverseUnpaired
     else same_log a a.log)))
 
 -- What is wrong before a file is opened.

@@ -1,15 +1,18 @@
--- Trimming the pairs of two files into others.
-use Rattle.std.specs.Prelude.{◌≡◌, ℕ, Bool, IsTrue, IsSome, Option, Some, Ok, List, []}
+-- Trimming the pairs of files into others.
+use Rattle.std.specs.Prelude.{◌≡◌, ℕ, Bool, IsTrue, IsSome, Option, Some, None, Ok, List, []}
 use Rattle.fq_files.specs.Holding.{Holding}
 use Rattle.fq_pair.specs.declared.out.Out.{Out}
 use Rattle.fq_pair.specs.declared.counts.Counts.{Counts}
-use Rattle.fq_pair.specs.Pairing.{pairs}
+use Rattle.fq_pair.specs.Pairing.{Pairs}
+use Rattle.fq_pair.specs.Forms.{Form, TwoTexts, OneText, pairs_in}
 use Rattle.fq_pair.specs.Outputs.{texts_of, text_of, counts_of}
 use Rattle.fq_run.specs.Choices.{Choices}
 use Rattle.fq_run.specs.declared.outcome.Outcome.{Outcome}
-use Rattle.fq_run.specs.Devices.{OutletState, OutletStates, outlet_at}
+use Rattle.fq_run.specs.Devices.{FeedState, OutletState, OutletStates, OutletsTook, outlet_at}
 use Rattle.fq_run.specs.Endings.{trimmed_outcome}
-use Rattle.fq_prog.specs.Requests.{Asking, settings_of, output_name}
+use Rattle.fq_prog.specs.Requests.{Asking, InputNames, settings_of, output_name}
+use Rattle.fq_prog.specs.declared.trimming.Feeds.{Feeds}
+use Rattle.fq_prog.specs.declared.trimming.Feeds.TheVariants.{Apart, Interleaved}
 
 -- no two outputs have one name
 abbrev pub HasDistinctOutputs : Asking → Type 0
@@ -38,6 +41,37 @@ pub record IsFed (tells : Bool) (to_come : List ℕ) (bytes : Option (List ℕ))
   pub told : IsTrue tells
   pub bytes_are : bytes ≡ Some to_come
 
+-- Inputs that are opened, in their form. Where mates take turns in one, it stands for both sides.
+pub record Opened : Type 0 where
+  pub form : Form
+  pub forward : FeedState
+  pub reverse : FeedState
+
+abbrev pub opened_of : {F : Type 0} → (F → FeedState) → Feeds F → Opened
+opened_of state (Apart forward reverse) = record { form = TwoTexts; forward = state forward; reverse = state reverse }
+opened_of state (Interleaved both) = record { form = OneText; forward = state both; reverse = state both }
+
+-- no input has failed
+pub record AreFresh (inputs : Opened) : Type 0 where
+  pub forward : inputs.forward.failures ≡ 0
+  pub reverse : inputs.reverse.failures ≡ 0
+
+-- each input tells its bytes, which are those of its file
+pub record AreFed (inputs : Opened) (names : InputNames) (files : Holding) : Type 0 where
+  pub form : inputs.form ≡ names.form
+  pub forward : IsFed inputs.forward.tells inputs.forward.to_come (files names.forward)
+  pub reverse : IsFed inputs.reverse.tells inputs.reverse.to_come (files names.reverse)
+
+-- the pairs of the bytes of the inputs
+abbrev pub pairs_of : Choices → Form → List ℕ → List ℕ → Pairs
+pairs_of c form forward reverse = pairs_in form c.check_names c.encoding 0 forward reverse
+
+-- the pairs were trimmed one after the other into these outlets
+pub record TrimsPairs (c : Choices) (all : Pairs) (old new : OutletStates) (outcome : Outcome) (counts : Counts) : Type 0 where
+  pub took : OutletsTook old new (λ out. text_of out (texts_of c.steps all.mates)) None
+  pub counts_are : counts ≡ counts_of c.steps all.mates
+  pub outcome_is : outcome ≡ trimmed_outcome all.fault
+
 -- The pairs of the inputs were trimmed one after the other: the files of the outputs hold the texts that are defined for
 -- the bytes of the inputs and for the settings, and the counts and the outcome are the defined ones.
 pub record TrimsFiles (a : Asking) (old new : Holding) (outcome : Outcome) (counts : Counts) : Type 0 where
@@ -45,9 +79,9 @@ pub record TrimsFiles (a : Asking) (old new : Holding) (outcome : Outcome) (coun
   pub forward : List ℕ
   pub reverse : List ℕ
   pub settings : settings_of a ≡ Ok choices
-  pub forward_is : old a.forward ≡ Some forward
-  pub reverse_is : old a.reverse ≡ Some reverse
+  pub forward_is : old a.inputs.forward ≡ Some forward
+  pub reverse_is : old a.inputs.reverse ≡ Some reverse
   pub texts : (out : Out) (name : List ℕ) → output_name a out ≡ Some name →
-      new name ≡ Some (text_of out (texts_of choices.steps (pairs choices.check_names choices.encoding 0 forward reverse).mates))
-  pub counts_are : counts ≡ counts_of choices.steps (pairs choices.check_names choices.encoding 0 forward reverse).mates
-  pub outcome_is : outcome ≡ trimmed_outcome (pairs choices.check_names choices.encoding 0 forward reverse).fault
+      new name ≡ Some (text_of out (texts_of choices.steps (pairs_of choices a.inputs.form forward reverse).mates))
+  pub counts_are : counts ≡ counts_of choices.steps (pairs_of choices a.inputs.form forward reverse).mates
+  pub outcome_is : outcome ≡ trimmed_outcome (pairs_of choices a.inputs.form forward reverse).fault

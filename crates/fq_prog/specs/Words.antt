@@ -1,5 +1,6 @@
 -- What the words of a command line ask for: the program's commands, as `clap` reads them, and what it finds in the words.
 use Rattle.std.specs.Prelude.{◌≡◌, ℕ, Bool, true, false, not, Option, Some, None, List, [], ◌∷◌, codes, unwrap_or, if◌then◌else◌}
+use Rattle.std.specs.Option.{option_map}
 use Rattle.std.specs.Str.{bytes_eq}
 use Rattle.std.specs.Str.Parse.{digits_value, without_leading_plus}
 use Rattle.clap.specs.Lexer.{usize_max}
@@ -12,7 +13,7 @@ use Rattle.clap.specs.declared.builder.value_parser.ValueParser.TheVariants as p
 use Rattle.clap.specs.declared.builder.arg.Arg.{Arg}
 use Rattle.clap.specs.declared.builder.command.Command.{Command}
 use Rattle.clap.specs.declared.builder.command.Command.TheViews.{out-Command as fields_of}
-use Rattle.fq_prog.specs.Requests.{Asking, asking_of}
+use Rattle.fq_prog.specs.Requests.{Asking, InputNames, two_files, one_file, asking_of}
 use Rattle.fq_prog.specs.declared.words.Asked.{Asked}
 use Rattle.fq_prog.specs.declared.words.Asked.TheVariants.{Example, Pairs}
 
@@ -55,24 +56,33 @@ option_rules = number_rule (codes "threads") (codes "4")
     ∷ option_rule (codes "trimlog")
     ∷ flag_rule (codes "no-name-check") ∷ []
 
-abbrev pub file_rules : List Rule
-file_rules = file_rule (codes "F") ∷ file_rule (codes "R")
-    ∷ file_rule (codes "FP") ∷ file_rule (codes "FU") ∷ file_rule (codes "RP") ∷ file_rule (codes "RU") ∷ []
+-- the files that are made, and the steps
+abbrev pub output_rules : List Rule
+output_rules = file_rule (codes "FP") ∷ file_rule (codes "FU") ∷ file_rule (codes "RP") ∷ file_rule (codes "RU")
+    ∷ steps_rule (codes "STEPS") ∷ []
 
 -- a command with more arguments, in this order
 abbrev pub with_rules : App → List Rule → App
 with_rules app [] = app
 with_rules app (rule ∷ rules) = with_rules (with_rule app rule) rules
 
+-- a command that trims the pairs of these inputs
+abbrev pub trimming_app : Text → List Rule → App
+trimming_app name inputs = with_rules (with_rules (with_rules (new_app name) option_rules) inputs) output_rules
+
 -- `PE [options] F R FP FU RP RU [STEPS]..`
 unfoldable pub pairs_app : App
-pairs_app = with_rule (with_rules (with_rules (new_app (codes "PE")) option_rules) file_rules) (steps_rule (codes "STEPS"))
+pairs_app = trimming_app (codes "PE") (file_rule (codes "F") ∷ file_rule (codes "R") ∷ [])
 
--- `PE` and `EXAMPLE`, of which one has to be given
+-- `IL [options] I FP FU RP RU [STEPS]..`
+unfoldable pub interleaved_app : App
+interleaved_app = trimming_app (codes "IL") (file_rule (codes "I") ∷ [])
+
+-- `PE`, `IL` and `EXAMPLE`, of which one has to be given
 unfoldable pub program_app : App
 program_app = record {
   top = record (new_shape (codes "fq_prog")) { is_leaf = false; subcommand_required = true };
-  subs = pairs_app.top ∷ new_shape (codes "EXAMPLE") ∷ [];
+  subs = pairs_app.top ∷ interleaved_app.top ∷ new_shape (codes "EXAMPLE") ∷ [];
 }
 
 -- the argument is this one, in one command alone
@@ -102,17 +112,23 @@ number_in rows id = number_of (unwrap_or (one_of id rows) [])
 abbrev pub flag_in : List Row → Text → Bool
 flag_in rows id = bytes_eq (unwrap_or (one_of id rows) []) (codes "true")
 
--- what the words of `PE` ask to be trimmed
-unfoldable pub asking_in : List Row → Asking
-asking_in rows = record {
+-- the inputs of a command of this name, if it is one that trims
+abbrev pub inputs_in : Text → List Row → Option InputNames
+inputs_in name rows =
+    if bytes_eq name (codes "PE") then Some (two_files (text_in rows (codes "F")) (text_in rows (codes "R")))
+    else (if bytes_eq name (codes "IL") then Some (one_file (text_in rows (codes "I")))
+    else None)
+
+-- what the words ask to be trimmed, with these inputs
+unfoldable pub asking_in : InputNames → List Row → Asking
+asking_in inputs rows = record {
   encoding = text_in rows (codes "encoding");
   threads = number_in rows (codes "threads");
   block = number_in rows (codes "block");
   depth = number_in rows (codes "depth");
   chunk = number_in rows (codes "chunk");
   check_names = not (flag_in rows (codes "no-name-check"));
-  forward = text_in rows (codes "F");
-  reverse = text_in rows (codes "R");
+  inputs = inputs;
   forward_paired = text_in rows (codes "FP");
   forward_unpaired = text_in rows (codes "FU");
   reverse_paired = text_in rows (codes "RP");
@@ -123,13 +139,13 @@ asking_in rows = record {
 
 -- what is asked of a command of this name
 abbrev pub asked_of : Text → List Row → Option Asking
-asked_of name rows = if bytes_eq name (codes "PE") then Some (asking_in rows) else None
+asked_of name rows = option_map (λ inputs. asking_in inputs rows) (inputs_in name rows)
 
 abbrev pub asked_in : Option (Text × List Row) → Option Asking
 asked_in (Some found) = asked_of found.0 found.1
 asked_in None = None
 
--- what the words ask to be trimmed, where they name `PE`
+-- what the words ask to be trimmed, where they name `PE` or `IL`
 unfoldable pub pairs_asked : List Text → Option Asking
 pairs_asked words = asked_in (subcommand_of program_app words)
 

@@ -6,17 +6,25 @@ pub(crate) const ABOUT: &str =
 pub(crate) const ABOUT_PAIRS: &str =
     "Trims the pairs of two FASTQ files into four, and prints a summary";
 
+pub(crate) const ABOUT_INTERLEAVED: &str =
+    "Trims the pairs of one interleaved FASTQ file into four, and prints a summary";
+
 pub(crate) const ABOUT_EXAMPLE: &str = "Prints what becomes of two built-in pairs under LEADING:3";
 
 pub(crate) const START: &str = "Start with:
   fq_prog EXAMPLE    shows the outputs, the trim log and the summary of a small run
   fq_prog PE --help  says what each option and each step does
+  fq_prog IL --help  says the same for one file in which mates take turns
 
 Example:
   fq_prog PE r1.fq r2.fq r1.paired.fq r1.unpaired.fq r2.paired.fq r2.unpaired.fq LEADING:3 TRAILING:3 SLIDINGWINDOW:4:15 MINLEN:36";
 
-pub(crate) const PAIRS: &str =
-    "Steps are taken in the order in which they are written, each on what the one before left. t is a Phred score, m and w are
+// The help of a command that trims: what it says of its inputs, of the steps, an example, and the exit status.
+macro_rules! trimming_help {
+    ($inputs:literal, $example:literal) => {
+        concat!(
+            $inputs,
+            "Steps are taken in the order in which they are written, each on what the one before left. t is a Phred score, m and w are
 numbers of bases, from 0 to 999999999, w from 1:
   LEADING:t          removes bases from the front, up to the first with a score of t or more
   TRAILING:t         removes bases from the end, back to the last with a score of t or more
@@ -29,10 +37,29 @@ numbers of bases, from 0 to 999999999, w from 1:
 A read without bases after a step is dropped. A mate that survives alone goes to FU or RU.
 
 Example:
-  fq_prog PE --trimlog trim.log r1.fq r2.fq r1.paired.fq r1.unpaired.fq r2.paired.fq r2.unpaired.fq LEADING:3 TRAILING:3 SLIDINGWINDOW:4:15 MINLEN:36
+",
+            $example,
+            "
 
 Exit status: 0 done; 1 wrong words; 2 a bad encoding, step, setting or name; 3 a fault in the input (the pairs before it are written);
-4 a file that could not be read, made or written; 5 out of memory; 6 threads that failed.";
+4 a file that could not be read, made or written; 5 out of memory; 6 threads that failed."
+        )
+    };
+}
+
+pub(crate) const PAIRS: &str = trimming_help!(
+    "Record k of F and record k of R are mates.
+
+",
+    "  fq_prog PE --trimlog trim.log r1.fq r2.fq r1.paired.fq r1.unpaired.fq r2.paired.fq r2.unpaired.fq LEADING:3 TRAILING:3 SLIDINGWINDOW:4:15 MINLEN:36"
+);
+
+pub(crate) const INTERLEAVED: &str = trimming_help!(
+    "In I mates take turns: the first record is a forward read, the second its reverse mate, the third a forward read, and so on.
+
+",
+    "  fq_prog IL --trimlog trim.log both.fq r1.paired.fq r1.unpaired.fq r2.paired.fq r2.unpaired.fq LEADING:3 TRAILING:3 SLIDINGWINDOW:4:15 MINLEN:36"
+);
 
 pub(crate) const EXAMPLE: &str =
     "It reads no file. The four outputs, the trim log and the summary are printed, each below a label.

@@ -1,4 +1,5 @@
-//! Trims pairs of reads: the command `PE` for files, and `EXAMPLE`, which shows what becomes of two built-in pairs.
+//! Trims pairs of reads: the command `PE` for two files, `IL` for one in which mates take turns, and `EXAMPLE`, which shows what
+//! becomes of two built-in pairs.
 #![tactic(auto)]
 
 mod example;

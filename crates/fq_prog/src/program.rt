@@ -30,6 +30,9 @@ use std::thread::Threads;
 /// to FP and RP, and a mate that survives alone goes to FU or RU. Where the run ends whole, at the end of the inputs or at a fault of theirs,
 /// the summary goes to `out`. Each refusal and each fault sends one line to `err`; whether that fails changes nothing.
 ///
+/// `IL [options] I FP FU RP RU STEPS..` does the same with the pairs of one file I, in which mates take turns: a forward record, then
+/// its reverse mate.
+///
 /// `EXAMPLE` prints what becomes of two built-in pairs under the step `LEADING:3`: the four outputs, the trim log and the
 /// summary, each below a label.
 ///
@@ -46,7 +49,7 @@ pub fn program<'a, R: Threads + Wait + Copy + Send + 'static, T: Files, O: Outle
     requires out { O.failure_count out.old ≡ 0 }
     requires err { E.failure_count err.old ≡ 0 }
 
-    // Words that parse as `PE` are answered as they ask: the pairs are trimmed, or it is told why not. What is wrong with the words
+    // Words that parse as `PE` or `IL` are answered as they ask: the pairs are trimmed, or it is told why not. What is wrong with the words
     // is found before a file is touched.
     ensures pairs { (a : Asking) → AskedFor (map (λ word. word.now) words.entry.now) (Some a)
         → PairsAnswered a (T.tells_bytes files.old) (T.bytes_of files.old) (T.bytes_of files.new) (device_of O.tells O.taken O.failure_count out.old out.new) (device_of E.tells E.taken E.failure_count err.old err.new) result }

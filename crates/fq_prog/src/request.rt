@@ -9,6 +9,15 @@ use fq_run::Settings;
 use fq_text::Encoding;
 use fq_trim::Steps;
 
+/// Where the pairs come from, by the names of files.
+#[derive(Clone, Copy)]
+pub(crate) enum Inputs<'a> {
+    /// Forward and reverse reads, each in a file.
+    Apart { forward: &'a str, reverse: &'a str },
+    /// One file in which mates take turns, forward first.
+    Interleaved(&'a str),
+}
+
 /// What is to be trimmed, as the words give it: no number is in its range yet, and no word is judged.
 #[derive(Drop)]
 pub(crate) struct Request<'a> {
@@ -24,9 +33,8 @@ pub(crate) struct Request<'a> {
     pub(crate) chunk: u64,
     /// Whether the names of mates have to match.
     pub(crate) check_names: bool,
-    /// The names of the two inputs.
-    pub(crate) forward: &'a str,
-    pub(crate) reverse: &'a str,
+    /// Where the pairs come from.
+    pub(crate) inputs: Inputs<'a>,
     /// The names of the four outputs.
     pub(crate) forward_paired: &'a str,
     pub(crate) forward_unpaired: &'a str,
@@ -105,9 +113,12 @@ pub(crate) fn same_name(request: &Request<'_>) -> Option<Out>
 
 // Whether a name is that of an input.
 fn is_input(request: &Request<'_>, name: &str) -> bool
-    ensures { result ≡ is_input (asking_of request.now) name.now }
+    ensures { result ≡ is_input (asking_of request.now).inputs name.now }
 {
-    name == request.forward || name == request.reverse
+    match request.inputs {
+        Inputs::Apart { forward, reverse } => name == forward || name == reverse,
+        Inputs::Interleaved(both) => name == both,
+    }
 }
 
 impl Request<'_> {
@@ -127,13 +138,14 @@ impl Request<'_> {
         }
     }
 
-    /// The name of an input.
+    /// The name of the file in which the reads of a side are.
     pub(crate) fn input_name(&self, side: Side) -> &str
-        ensures { result.now ≡ input_name (asking_of self.now) side }
+        ensures { result.now ≡ input_name (asking_of self.now).inputs side }
     {
-        match side {
-            Side::Forward => self.forward,
-            Side::Reverse => self.reverse,
+        match (self.inputs, side) {
+            (Inputs::Apart { forward, .. }, Side::Forward) => forward,
+            (Inputs::Apart { reverse, .. }, Side::Reverse) => reverse,
+            (Inputs::Interleaved(both), _) => both,
         }
     }
 }

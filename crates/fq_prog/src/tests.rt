@@ -1,4 +1,5 @@
 mod devices;
+mod interleaved;
 mod lines;
 mod rows;
 mod words;
@@ -16,6 +17,22 @@ use std::thread::Threads;
 const FORWARD: &[u8] = b"@p1/1\nACGT\n+\n#!II\n@p2/1\nGGCC\n+\nIIII\n";
 
 const REVERSE: &[u8] = b"@p1/2\nTTTT\n+\nIIII\n@p2/2\nAAAA\n+\n!!!\"\n";
+
+// The two pairs, mates in turn.
+const IN_TURN: &[u8] =
+    b"@p1/1\nACGT\n+\n#!II\n@p1/2\nTTTT\n+\nIIII\n@p2/1\nGGCC\n+\nIIII\n@p2/2\nAAAA\n+\n!!!\"\n";
+
+// What becomes of the two pairs under LEADING:3.
+const TWO_TRIMMED: [(&str, &[u8]); 5] = [
+    ("fp", b"@p1/1\nGT\n+\nII\n"),
+    ("fu", b"@p2/1\nGGCC\n+\nIIII\n"),
+    ("rp", b"@p1/2\nTTTT\n+\nIIII\n"),
+    ("ru", b""),
+    ("log", b"p1 2 2 4 0\np1 4 0 4 0\np2 4 0 4 0\np2 0 0 0 0\n"),
+];
+
+const TWO_COUNTED: &[u8] =
+    b"Input Read Pairs: 2\nBoth Surviving: 1\nForward Only Surviving: 1\nReverse Only Surviving: 0\nDropped: 0\n";
 
 // Seven pairs: each record has 18 bytes.
 const SEVEN_FORWARD: &[u8] =
@@ -74,9 +91,21 @@ fn pairs_words(
     options: &[&'static str],
     steps: &[&'static str],
 ) -> Result<Vec<&'static str>, OutOfMemory> {
-    let mut words = Vec::from_slice(alloc, &["fq", "PE"])?;
+    command_words(alloc, "PE", options, &["f", "r"], steps)
+}
+
+// The words of a command, with these options, inputs and steps.
+fn command_words(
+    alloc: Global,
+    command: &'static str,
+    options: &[&'static str],
+    inputs: &[&'static str],
+    steps: &[&'static str],
+) -> Result<Vec<&'static str>, OutOfMemory> {
+    let mut words = Vec::from_slice(alloc, &["fq", command])?;
     words.extend_from_slice(options)?;
-    words.extend_from_slice(&["f", "r", "fp", "fu", "rp", "ru"])?;
+    words.extend_from_slice(inputs)?;
+    words.extend_from_slice(&["fp", "fu", "rp", "ru"])?;
     words.extend_from_slice(steps)?;
     Ok(words)
 }

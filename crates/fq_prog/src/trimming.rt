@@ -1,19 +1,20 @@
-//! Trimming the pairs of two files into others.
+//! Trimming the pairs of files into others.
 
 ghost use Rattle.std.specs.Prelude.{◌≡◌, ◌≢◌, Some, None, Err, [], IsTrue, IfOk, IfErr, OnOk, is_some};
-ghost use Rattle.fq_run.specs.Devices.{outlet_states, AreHealthy};
+ghost use Rattle.fq_run.specs.Devices.{feed_state, outlet_states, AreHealthy};
 ghost use Rattle.fq_run.specs.Endings.{ends_whole};
 ghost use Rattle.fq_prog.specs.declared.refusal.Refusal.{Refusal as Refused};
 ghost use Rattle.fq_prog.specs.Refusals.{status_of};
 ghost use Rattle.fq_prog.specs.Requests.{asking_of, input_name, wrong_with};
-ghost use Rattle.fq_prog.specs.Trimming.{HasDistinctOutputs, AreHeld, HoldTaken, AreEmpty, IsFed, TrimsFiles};
+ghost use Rattle.fq_prog.specs.Trimming.{HasDistinctOutputs, AreHeld, HoldTaken, AreEmpty, IsFed, opened_of, AreFresh, AreFed, pairs_of, TrimsPairs, TrimsFiles};
 ghost use Rattle.fq_files.specs.Holding.{IsUnchanged, KeepsNames};
 
 use crate::refusal::{Refusal, file_refused};
-use crate::request::{Request, same_name, settings_of};
+use crate::request::{Inputs, Request, same_name, settings_of};
 use fq_files::Files;
 use fq_pair::{Counts, Out, Side};
-use fq_run::{Outcome, Outlets, run_threads};
+use fq_run::{Outcome, Outlets, Settings, run_threads, run_threads_mixed};
+use fq_text::{Feed, Outlet};
 use fq_work::OpenGate;
 use std::alloc::Global;
 use std::sync::{Arc, Wait};
@@ -28,7 +29,16 @@ pub(crate) struct Ended {
     pub(crate) counts: Counts,
 }
 
-/// Trims the pairs of the two inputs into the outputs. What is wrong with the request is found before a file is opened, the inputs
+// The inputs, opened.
+#[derive(Drop)]
+enum Feeds<F> {
+    // Forward and reverse reads, each in a feed.
+    Apart { forward: F, reverse: F },
+    // One feed in which mates take turns, forward first.
+    Interleaved(F),
+}
+
+/// Trims the pairs of the inputs into the outputs. What is wrong with the request is found before a file is opened, the inputs
 /// are opened before an output is made, an output that is an input under another name is refused before one is made, and each
 /// output is done with, however the run ended.
 pub(crate) fn trim_files<R: Threads + Wait + Copy + Send + 'static, T: Files>(
@@ -51,18 +61,48 @@ pub(crate) fn trim_files<R: Threads + Wait + Copy + Send + 'static, T: Files>(
     let Ok(gate) = Arc::new(alloc, OpenGate) else {
         return Err(Refusal::Memory);
     };
-    let forward = input(request, files, Side::Forward)?;
-    let reverse = input(request, files, Side::Reverse)?;
+    let feeds = inputs(request, files)?;
     if let Some(out) = input_among_outputs(request, files) {
         return Err(Refusal::Target(out));
     }
     let mut outlets = outputs(request, files)?;
-    let ending = run_threads(alloc, rt, &settings, gate, forward, reverse, &mut outlets);
+    let ended = run(alloc, rt, &settings, gate, feeds, &mut outlets);
     store(request, files, outlets);
-    Ok(Ended {
-        outcome: ending.outcome,
-        counts: ending.counts,
-    })
+    Ok(ended)
+}
+
+// Trims the pairs of the inputs.
+fn run<R: Threads + Wait + Copy + Send + 'static, F: Feed + Drop + Send + 'static, O: Outlet>(
+    alloc: Global,
+    rt: &R,
+    settings: &Settings,
+    gate: Arc<OpenGate>,
+    feeds: Feeds<F>,
+    outlets: &mut Outlets<O>,
+) -> Ended
+    requires fresh { AreFresh (opened_of (feed_state F.tells F.to_come F.failure_count) feeds) }
+    requires healthy { AreHealthy (outlet_states O.tells O.taken O.failure_count outlets.old) }
+    ensures { let inputs = opened_of (feed_state F.tells F.to_come F.failure_count) feeds in
+        IsTrue (ends_whole result.outcome) → IsTrue inputs.forward.tells → IsTrue inputs.reverse.tells
+        → TrimsPairs settings.now (pairs_of settings.now inputs.form inputs.forward.to_come inputs.reverse.to_come)
+        (outlet_states O.tells O.taken O.failure_count outlets.old) (outlet_states O.tells O.taken O.failure_count outlets.new) result.outcome result.counts }
+{
+    match feeds {
+        Feeds::Apart { forward, reverse } => {
+            let ending = run_threads(alloc, rt, settings, gate, forward, reverse, outlets);
+            Ended {
+                outcome: ending.outcome,
+                counts: ending.counts,
+            }
+        }
+        Feeds::Interleaved(both) => {
+            let ending = run_threads_mixed(alloc, rt, settings, gate, both, outlets);
+            Ended {
+                outcome: ending.outcome,
+                counts: ending.counts,
+            }
+        }
+    }
 }
 
 // The first output that is an input under another name.
@@ -87,10 +127,28 @@ fn input_among_outputs<T: Files>(request: &Request<'_>, files: &T) -> Option<Out
     }
 }
 
+// The inputs, opened in the order of the command line.
+fn inputs<T: Files>(request: &Request<'_>, files: &mut T) -> Result<Feeds<T::In>, Refusal>
+    ensures fresh { IfOk result (λ feeds. AreFresh (opened_of (feed_state T.In.tells T.In.to_come T.In.failure_count) feeds)) }
+    ensures fed { IfOk result (λ feeds. IsTrue (T.tells_bytes files.old)
+        → AreFed (opened_of (feed_state T.In.tells T.In.to_come T.In.failure_count) feeds) (asking_of request.now).inputs (T.bytes_of files.old)) }
+    ensures told { T.tells_bytes files.new ≡ T.tells_bytes files.old }
+    ensures late { IfErr result (λ why. status_of why ≢ 2) }
+{
+    match request.inputs {
+        Inputs::Apart { .. } => {
+            let forward = input(request, files, Side::Forward)?;
+            let reverse = input(request, files, Side::Reverse)?;
+            Ok(Feeds::Apart { forward, reverse })
+        }
+        Inputs::Interleaved(_) => Ok(Feeds::Interleaved(input(request, files, Side::Forward)?)),
+    }
+}
+
 // The input of a side.
 fn input<T: Files>(request: &Request<'_>, files: &mut T, side: Side) -> Result<T::In, Refusal>
     ensures fresh { IfOk result (λ feed. T.In.failure_count feed ≡ 0) }
-    ensures fed { IfOk result (λ feed. IsTrue (T.tells_bytes files.old) → IsFed (T.In.tells feed) (T.In.to_come feed) (T.bytes_of files.old (input_name (asking_of request.now) side))) }
+    ensures fed { IfOk result (λ feed. IsTrue (T.tells_bytes files.old) → IsFed (T.In.tells feed) (T.In.to_come feed) (T.bytes_of files.old (input_name (asking_of request.now).inputs side))) }
     ensures unchanged { IsTrue (T.tells_bytes files.old) → IsUnchanged (T.bytes_of files.old) (T.bytes_of files.new) }
     ensures told { T.tells_bytes files.new ≡ T.tells_bytes files.old }
     ensures late { IfErr result (λ why. status_of why ≢ 2) }

@@ -1,13 +1,13 @@
 //! What the words of a command line ask for.
 
-ghost use Rattle.std.specs.Prelude.{◌≡◌, [], IfOk, IfErr, map, false, codes, unwrap_or};
+ghost use Rattle.std.specs.Prelude.{◌≡◌, [], IfOk, IfErr, map, false, codes, option_map, unwrap_or};
 ghost use Rattle.clap.specs.Words.{all_of, app_of, found_of, rows_of, HasKind};
 ghost use Rattle.clap.specs.declared.builder.command.Command.TheViews.{out-Command as fields_of};
-ghost use Rattle.fq_prog.specs.Requests.{asking_of};
-ghost use Rattle.fq_prog.specs.Words.{default_rule, file_rule, flag_rule, number_rule, option_rule, option_rules, file_rules, with_rules, pairs_app, program_app, text_in, number_in, flag_in, asking_in, words_fault, asked_pairs, IsArg, IsCommand, AskedFor};
+ghost use Rattle.fq_prog.specs.Requests.{asking_of, names_of};
+ghost use Rattle.fq_prog.specs.Words.{default_rule, file_rule, flag_rule, number_rule, option_rule, option_rules, output_rules, steps_rule, with_rules, pairs_app, interleaved_app, program_app, text_in, number_in, flag_in, inputs_in, asking_in, words_fault, asked_pairs, IsArg, IsCommand, AskedFor};
 
 use crate::help;
-use crate::request::Request;
+use crate::request::{Inputs, Request};
 use clap::{Arg, ArgAction, ArgMatches, Command, Error};
 use std::alloc::{AllocError, Global};
 
@@ -16,7 +16,7 @@ use std::alloc::{AllocError, Global};
 pub(crate) enum Asked<'a> {
     /// What becomes of the built-in pairs.
     Example,
-    /// To trim the pairs of two files.
+    /// To trim pairs.
     Pairs(Request<'a>),
 }
 
@@ -27,9 +27,26 @@ pub(crate) fn read_words<'a>(alloc: Global, words: &'a [&'a str]) -> Result<Aske
     ensures err { IfErr result (HasKind (words_fault (map (λ word. word.now) words.entry.now))) }
 {
     let matches = command(alloc)?.try_get_matches_from(words)?;
-    match matches.subcommand_matches("PE") {
-        Some(found) => Ok(Asked::Pairs(request(alloc, found)?)),
+    let Some((name, found)) = matches.subcommand() else {
+        return Ok(Asked::Example);
+    };
+    match inputs_of(name, found) {
+        Some(inputs) => Ok(Asked::Pairs(request(alloc, found, inputs)?)),
         None => Ok(Asked::Example),
+    }
+}
+
+// The inputs of a command that trims.
+fn inputs_of<'a>(name: &str, found: &ArgMatches<'a>) -> Option<Inputs<'a>>
+    ensures { option_map names_of result ≡ inputs_in name.now (rows_of (found_of found.now)) }
+{
+    match name {
+        "PE" => Some(Inputs::Apart {
+            forward: text_of(found, "F"),
+            reverse: text_of(found, "R"),
+        }),
+        "IL" => Some(Inputs::Interleaved(text_of(found, "I"))),
+        _ => None,
     }
 }
 
@@ -42,6 +59,7 @@ fn command<'a>(alloc: Global) -> Result<Command<'a>, AllocError>
         .after_help(help::START)
         .subcommand_required(true)
         .subcommand(pairs_command(alloc)?)?
+        .subcommand(interleaved_command(alloc)?)?
         .subcommand(
             Command::new(alloc, "EXAMPLE")
                 .about(help::ABOUT_EXAMPLE)
@@ -49,18 +67,32 @@ fn command<'a>(alloc: Global) -> Result<Command<'a>, AllocError>
         )
 }
 
-// The command that trims.
+// The command that trims the pairs of two files.
 fn pairs_command<'a>(alloc: Global) -> Result<Command<'a>, AllocError>
     ensures { IfOk result (IsCommand pairs_app) }
 {
     let command = Command::new(alloc, "PE")
         .about(help::ABOUT_PAIRS)
         .after_help(help::PAIRS);
-    with_files(alloc, with_options(alloc, command)?)?.arg(
-        Arg::new(alloc, "STEPS")
-            .num_args(0..)
-            .help("1 to 64 steps, as LEADING:3 (see below)"),
-    )
+    let command = with_options(alloc, command)?
+        .arg(file(alloc, "F", "Forward reads (FASTQ)"))?
+        .arg(file(alloc, "R", "Reverse reads (FASTQ), in the same order"))?;
+    with_outputs(alloc, command)
+}
+
+// The command that trims the pairs of one file.
+fn interleaved_command<'a>(alloc: Global) -> Result<Command<'a>, AllocError>
+    ensures { IfOk result (IsCommand interleaved_app) }
+{
+    let command = Command::new(alloc, "IL")
+        .about(help::ABOUT_INTERLEAVED)
+        .after_help(help::INTERLEAVED);
+    let command = with_options(alloc, command)?.arg(file(
+        alloc,
+        "I",
+        "Reads of both sides in turn (FASTQ), a forward read before its reverse mate",
+    ))?;
+    with_outputs(alloc, command)
 }
 
 // A command with the options of the run.
@@ -140,18 +172,26 @@ fn number<'a>(alloc: Global, id: &'a str, default: &'a str, help: &'a str) -> Ar
         .help(help)
 }
 
-// A command with the names of the files.
-fn with_files<'a>(alloc: Global, command: Command<'a>) -> Result<Command<'a>, AllocError>
+// A command with the files that it makes, and the steps.
+fn with_outputs<'a>(alloc: Global, command: Command<'a>) -> Result<Command<'a>, AllocError>
     requires { (fields_of command).has_globals ≡ false }
-    ensures { IfOk result (IsCommand (with_rules (app_of command.entry) file_rules)) }
+    ensures { IfOk result (IsCommand (with_rules (app_of command.entry) output_rules)) }
 {
     command
-        .arg(file(alloc, "F", "Forward reads (FASTQ)"))?
-        .arg(file(alloc, "R", "Reverse reads (FASTQ), in the same order"))?
         .arg(file(alloc, "FP", "Made: forward reads whose mate survives too"))?
         .arg(file(alloc, "FU", "Made: forward reads whose mate is dropped"))?
         .arg(file(alloc, "RP", "Made: reverse reads whose mate survives too"))?
-        .arg(file(alloc, "RU", "Made: reverse reads whose mate is dropped"))
+        .arg(file(alloc, "RU", "Made: reverse reads whose mate is dropped"))?
+        .arg(steps(alloc))
+}
+
+// The words of the steps.
+fn steps<'a>(alloc: Global) -> Arg<'a>
+    ensures { IsArg (steps_rule (codes "STEPS")) result }
+{
+    Arg::new(alloc, "STEPS")
+        .num_args(0..)
+        .help("1 to 64 steps, as LEADING:3 (see below)")
 }
 
 // A file, which has to be named.
@@ -161,9 +201,13 @@ fn file<'a>(alloc: Global, id: &'a str, help: &'a str) -> Arg<'a>
     Arg::new(alloc, id).required(true).help(help)
 }
 
-// What was found in the words of `PE`.
-fn request<'a>(alloc: Global, found: &ArgMatches<'a>) -> Result<Request<'a>, AllocError>
-    ensures { IfOk result (λ request. asking_of request ≡ asking_in (rows_of (found_of found.now))) }
+// What was found in the words, beside the inputs.
+fn request<'a>(
+    alloc: Global,
+    found: &ArgMatches<'a>,
+    inputs: Inputs<'a>,
+) -> Result<Request<'a>, AllocError>
+    ensures { IfOk result (λ request. asking_of request ≡ asking_in (names_of inputs.entry) (rows_of (found_of found.now))) }
 {
     Ok(Request {
         encoding: text_of(found, "encoding"),
@@ -172,8 +216,7 @@ fn request<'a>(alloc: Global, found: &ArgMatches<'a>) -> Result<Request<'a>, All
         depth: number_of(found, "depth"),
         chunk: number_of(found, "chunk"),
         check_names: !flag_of(found, "no-name-check"),
-        forward: text_of(found, "F"),
-        reverse: text_of(found, "R"),
+        inputs,
         forward_paired: text_of(found, "FP"),
         forward_unpaired: text_of(found, "FU"),
         reverse_paired: text_of(found, "RP"),

@@ -147,6 +147,25 @@ fn each_output_is_done_with_after_a_failed_read(rt: HostRuntime) -> Result<(), F
 }
 
 #[test]
+fn a_failed_read_of_one_file_has_the_side_of_its_record(rt: HostRuntime) -> Result<(), Fail> {
+    let rows: [(u64, &[u8], &[u8]); 2] = [
+        (2, b"read failed: reverse\n", b""),
+        (3, b"read failed: forward\n", b"@p1/1\nGT\n+\nII\n"),
+    ];
+    for (read, line, trimmed) in rows {
+        let mut held = MemoryFiles::new(rt.alloc());
+        held.put("i", IN_TURN)?;
+        let mut files = TroubledFiles::new(rt.alloc(), held, "i", Trouble::Call(read));
+        let words = command_words(rt.alloc(), "IL", &["--chunk", "18"], &["i"], &["LEADING:3"])?;
+        let called = call(&rt, rt.alloc(), &words, &mut files);
+        assert_eq!(rt; called.status, 4);
+        assert_eq!(rt; called.err.bytes(), line);
+        assert!(rt; holds(&files.held, "fp", trimmed));
+    }
+    Ok(())
+}
+
+#[test]
 fn files_that_are_refused(rt: HostRuntime) -> Result<(), Fail> {
     let rows: [(&'static str, FileFault, u8, &[u8]); 6] = [
         ("f", FileFault::Refused, 4, b"cannot read f\n"),

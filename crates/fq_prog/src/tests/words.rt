@@ -61,9 +61,12 @@ fn one_step_too_many(rt: HostRuntime) -> Result<(), Fail> {
 
 #[test]
 fn words_that_are_no_command(rt: HostRuntime) -> Result<(), Fail> {
-    let rows: [&[&str]; 5] = [
+    let rows: [&[&str]; 8] = [
         &["fq"],
         &["fq", "PE", "f"],
+        &["fq", "IL"],
+        &["fq", "IL", "i", "fp", "fu", "rp"],
+        &["fq", "il", "i", "fp", "fu", "rp", "ru", "LEADING:3"],
         &["fq", "example"],
         &["fq", "EXAMPLE", "f"],
         &[
@@ -91,9 +94,11 @@ fn words_that_are_no_command(rt: HostRuntime) -> Result<(), Fail> {
 
 #[test]
 fn help_is_printed(rt: HostRuntime) -> Result<(), Fail> {
-    let rows: [&[&str]; 4] = [
+    let rows: [&[&str]; 6] = [
         &["fq", "--help"],
         &["fq", "PE", "--help"],
+        &["fq", "IL", "--help"],
+        &["fq", "help", "IL"],
         &["fq", "help", "PE"],
         &["fq", "EXAMPLE", "--help"],
     ];

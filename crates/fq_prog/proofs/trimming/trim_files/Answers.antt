@@ -1,8 +1,9 @@
 use Rattle.std.proofs.Common.{◌≡◌, IsTrue, Bool, Option, Some, None, is_some, option_map, refl, sym, subst, ◌∙◌}
 use Rattle.fq_pair.specs.Outputs.{texts_of, text_of}
-use Rattle.fq_pair.specs.Pairing.{pairs}
-use Rattle.fq_run.specs.Devices.{outlet_states}
+use Rattle.fq_pair.specs.Forms.{Form}
+use Rattle.fq_run.specs.Devices.{feed_state, outlet_states}
 use Rattle.fq_prog.specs.Requests.{asking_of}
+use Rattle.fq_prog.specs.Trimming.{TrimsPairs, opened_of, pairs_of}
 use Rattle.fq_prog.proofs.TextLemmas.{texts_held}
 use Rattle.fq_prog.proofs.trimming.trim_files.Goals as goal
 
@@ -21,28 +22,28 @@ pub returns-clause-trims : goal.returns-clause-trims
 returns-clause-trims g c = λ told distinct whole.
     let a = asking_of c.args.request.now in
     let choices = c.in_ok-settings.settings in
-    let told_1 = along _ _ c.in_ok-forward.ensures.told told in
-    let told_2 = along _ _ c.in_ok-reverse.ensures.told told_1 in
-    let told_3 = along _ _ c.in_ok-outlets.ensures.told told_2 in
-    let forward = c.in_ok-forward.ensures.fed told in
-    let reverse = c.in_ok-reverse.ensures.fed told_1 in
+    let told_1 = along _ _ c.in_ok-feeds.ensures.told told in
+    let told_2 = along _ _ c.in_ok-outlets.ensures.told told_1 in
+    let fed = c.in_ok-feeds.ensures.fed told in
     let states = outlet_states g.T.Target.Outlet.tells g.T.Target.Outlet.taken g.T.Target.Outlet.failure_count in
-    let f = g.T.In.Feed.to_come c.in_ok-forward.forward in
-    let r = g.T.In.Feed.to_come c.in_ok-reverse.reverse in
+    let inputs = opened_of (feed_state g.T.In.Feed.tells g.T.In.Feed.to_come g.T.In.Feed.failure_count) c.in_ok-feeds.feeds in
     let there : is_some c.in_ok-outlets.outlets.log ≡ is_some a.log = c.in_ok-outlets.ensures.log in
     let mapped : is_some (states c.in_ok-outlets.outlets).log ≡ is_some c.in_ok-outlets.outlets.log = is_some_map _ _ in
     let log_there = mapped ∙ there in
-    let trimmed = c.run_threads-ending.ensures.whole whole (record { forward = forward.told; reverse = reverse.told }) in
+    let all = pairs_of choices a.inputs.form inputs.forward.to_come inputs.reverse.to_come in
+    let P : Form → Type 0 = λ form. TrimsPairs choices (pairs_of choices form inputs.forward.to_come inputs.reverse.to_come)
+    (states c.in_ok-outlets.outlets) (states c.run-ended.new.outlets) c.run-ended.result.outcome c.run-ended.result.counts in
+    let trimmed = subst P fed.form (c.run-ended.ensures whole fed.forward.told fed.reverse.told) in
     record {
       choices = choices;
-      forward = f;
-      reverse = r;
+      forward = inputs.forward.to_come;
+      reverse = inputs.reverse.to_come;
       settings = sym c.settings_of.ensures ∙ c.in_ok-settings.was;
-      forward_is = forward.bytes_are;
-      reverse_is = sym (c.in_ok-forward.ensures.unchanged told a.reverse) ∙ reverse.bytes_are;
-      texts = texts_held a (states c.in_ok-outlets.outlets) (states c.run_threads-ending.new.outlets)
-          (λ out. text_of out (texts_of choices.steps (pairs choices.check_names choices.encoding 0 f r).mates))
-          (g.T.Files.bytes_of c.store.new.files) log_there (c.in_ok-outlets.ensures.empty told_2) trimmed.took (c.store.ensures told_3 distinct);
-      counts_are = trimmed.counts;
-      outcome_is = trimmed.outcome;
+      forward_is = fed.forward.bytes_are;
+      reverse_is = fed.reverse.bytes_are;
+      texts = texts_held a (states c.in_ok-outlets.outlets) (states c.run-ended.new.outlets)
+          (λ out. text_of out (texts_of choices.steps all.mates))
+          (g.T.Files.bytes_of c.store.new.files) log_there (c.in_ok-outlets.ensures.empty told_1) trimmed.took (c.store.ensures told_2 distinct);
+      counts_are = trimmed.counts_are;
+      outcome_is = trimmed.outcome_is;
     }

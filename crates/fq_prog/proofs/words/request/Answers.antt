@@ -1,6 +1,7 @@
 use Rattle.std.proofs.Common.{◌∙◌, ap, not, codes}
 use Rattle.clap.specs.Words.{found_of}
 use Rattle.clap.proofs.WalkLemmas.{first_value-rows}
+use Rattle.fq_prog.specs.Requests.{names_of}
 use Rattle.fq_prog.specs.Words.{asking_in}
 use Rattle.fq_prog.proofs.words.request.Goals as goal
 
@@ -16,12 +17,11 @@ returns c =
       depth = c.number_of-3.ensures i;
       chunk = c.number_of-4.ensures i;
       check_names = checked i;
-      forward = c.text_of-2.ensures i;
-      reverse = c.text_of-3.ensures i;
-      forward_paired = c.text_of-4.ensures i;
-      forward_unpaired = c.text_of-5.ensures i;
-      reverse_paired = c.text_of-6.ensures i;
-      reverse_unpaired = c.text_of-7.ensures i;
+      inputs = names_of c.args.inputs;
+      forward_paired = c.text_of-2.ensures i;
+      forward_unpaired = c.text_of-3.ensures i;
+      reverse_paired = c.text_of-4.ensures i;
+      reverse_unpaired = c.text_of-5.ensures i;
       log = log i;
       steps = c.in_ok-steps_of.ensures i;
     }

@@ -3,7 +3,7 @@ use Rattle.std.proofs.lemmas.Result.{IfOk-weaker}
 use Rattle.clap.specs.Words.{app_of}
 use Rattle.fq_prog.specs.Words.{IsCommand}
 use Rattle.fq_prog.proofs.WordLemmas.{one_more}
-use Rattle.fq_prog.proofs.words.with_files.Goals as goal
+use Rattle.fq_prog.proofs.words.with_outputs.Goals as goal
 
 pub returns : goal.returns
 returns c =
@@ -12,5 +12,4 @@ returns c =
     let with_2 = one_more _ _ _ _ _ c.in_ok-arg-2.ensures c.file-2.ensures with_1 in
     let with_3 = one_more _ _ _ _ _ c.in_ok-arg-3.ensures c.file-3.ensures with_2 in
     let with_4 = one_more _ _ _ _ _ c.in_ok-arg-4.ensures c.file-4.ensures with_3 in
-    let with_5 = one_more _ _ _ _ _ c.in_ok-arg-5.ensures c.file-5.ensures with_4 in
-    IfOk-weaker c.arg-6.result _ _ (λ command adds. one_more _ _ _ _ _ adds c.file-6.ensures with_5) c.arg-6.ensures
+    IfOk-weaker c.arg-5.result _ _ (λ command adds. one_more _ _ _ _ _ adds c.steps.ensures with_4) c.arg-5.ensures
