@@ -1,9 +1,8 @@
 -- What a call of a source of pairs answers, of its state.
-use Rattle.std.proofs.Common.{◌≡◌, ℕ, ◌+◌, ◌*◌, ◌≤◌, arith, Bool, IsTrue, Option, Some, None, Result, Ok, Err, IfOk, IfErr, List, refl, ap, ◌∙◌}
+use Rattle.std.proofs.Common.{◌≡◌, ℕ, ◌+◌, ◌*◌, arith, Bool, Option, Some, None, Result, Ok, Err, IfOk, IfErr, List, refl, ap, ◌∙◌}
 use Rattle.std.specs.Option.{IfSome}
-use Rattle.fq_text.specs.Grammar.{Read}
 use Rattle.fq_text.specs.Lines.{lines}
-use Rattle.fq_text.specs.Sources.{Sourced, rest_in, IsTail, KeepsCount, GivesRecord}
+use Rattle.fq_text.specs.Sources.{Sourced, rest_in, IsTail, KeepsCount}
 use Rattle.fq_pair.specs.declared.side.Side.TheVariants.{Forward, Reverse}
 use Rattle.fq_pair.specs.declared.fault.InputFault.{InputFault}
 use Rattle.fq_pair.specs.Mates.{Mates}

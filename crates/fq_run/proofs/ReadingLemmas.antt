@@ -1,9 +1,8 @@
 -- What a reading tells of the pairs of the inputs.
-use Rattle.std.proofs.Common.{◌≡◌, ℕ, suc, ◌+◌, ◌-◌, ◌≤◌, ◌⊎◌, inl, inr, ⊎_elim, Bool, true, false, IsTrue, Option, Some, None, List, [], ◌∷◌, ◌++◌, length, take, refl, ap, sym, subst, ◌∙◌, arith, append_assoc}
-use Rattle.std.proofs.lemmas.List.{append-nil, append_cancel_left, append_cancel_right, length-append, length-take-le, nil_from_length}
+use Rattle.std.proofs.Common.{◌≡◌, ℕ, suc, ◌+◌, ◌-◌, ◌≤◌, ⊎_elim, Bool, true, false, IsTrue, Option, Some, None, List, [], ◌∷◌, ◌++◌, length, take, ap, sym, subst, ◌∙◌, arith, append_assoc}
+use Rattle.std.proofs.lemmas.List.{append-nil, length-append, length-take-le}
 use Rattle.fq_text.specs.declared.encoding.Encoding.{Encoding}
-use Rattle.fq_text.specs.Lines.{lines, is_whole, whole_part}
-use Rattle.fq_text.proofs.LineLemmas.{lines-append}
+use Rattle.fq_text.specs.Lines.{lines, whole_part}
 use Rattle.fq_pair.specs.declared.side.Side.TheVariants.{Forward, Reverse}
 use Rattle.fq_pair.specs.declared.side.Side.{Side}
 use Rattle.fq_pair.specs.declared.fault.InputFault.{InputFault}
@@ -17,7 +16,7 @@ use Rattle.fq_run.specs.declared.reading.Stop.{Stop}
 use Rattle.fq_run.specs.declared.reading.Stop.TheVariants as stop
 use Rattle.fq_run.specs.Choices.{Choices}
 use Rattle.fq_run.specs.Devices.{FeedState, gave, Fed}
-use Rattle.fq_pair.specs.Walks.{SideState, SourceState, rest, fed, Draws, Uses, Leads, next_front, Walks, faulty}
+use Rattle.fq_pair.specs.Walks.{SideState, SourceState, rest, fed, Draws, Leads, next_front, Walks, faulty}
 use Rattle.fq_run.specs.Walks.{Reads, fresh_side, fresh_source, feed_in}
 use Rattle.fq_run.specs.Endings.{AreFirst}
 use Rattle.fq_run.proofs.FormLemmas.{pairs_at, pairs_in-lines, pairs_at-met, pairs_at-stopped, pairs_at-ended}

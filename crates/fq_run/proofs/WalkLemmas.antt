@@ -1,9 +1,8 @@
 -- Reading pairs, one list of them behind another.
-use Rattle.std.proofs.Common.{◌≡◌, ℕ, suc, ◌+◌, ◌-◌, ◌≤◌, inl, inr, ⊎_elim, Bool, true, IsTrue, Option, Some, None, List, [], ◌∷◌, ◌++◌, length, take, refl, sym, ap, subst, ◌∙◌, arith, append_assoc}
-use Rattle.std.proofs.lemmas.List.{length-append, take_at, length-take-le, nil_from_length}
+use Rattle.std.proofs.Common.{◌≡◌, ℕ, suc, ◌+◌, ◌-◌, inl, Bool, Option, Some, None, List, [], ◌∷◌, ◌++◌, length, take, refl, sym, ap, subst, ◌∙◌, arith, append_assoc}
+use Rattle.std.proofs.lemmas.List.{length-append}
 use Rattle.fq_text.specs.declared.encoding.Encoding.{Encoding}
-use Rattle.fq_text.specs.Lines.{lines, is_whole}
-use Rattle.fq_text.proofs.LineLemmas.{whole-append}
+use Rattle.fq_text.specs.Lines.{lines}
 use Rattle.fq_pair.specs.Forms.{Form}
 use Rattle.fq_pair.specs.Mates.{Mates}
 use Rattle.fq_run.specs.declared.reading.Stop.{Stop}
