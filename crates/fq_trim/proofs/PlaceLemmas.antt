@@ -1,8 +1,8 @@
 -- Places and the tests that select them.
-use Rattle.std.proofs.Common.{◌≡◌, ℕ, zero, suc, ◌+◌, ◌-◌, ◌*◌, ◌<◌, ◌≤◌, Bool, true, false, List, [], ◌∷◌, ◌++◌, length, take, drop, get_or, map, sum, refl, ap, sym, subst, ◌∙◌, arith, add-one, ⊎_elim, leb}
+use Rattle.std.proofs.Common.{◌≡◌, ℕ, zero, suc, ◌+◌, ◌-◌, ◌*◌, ◌<◌, ◌≤◌, ◌⊎◌, inl, inr, Bool, true, false, List, [], ◌∷◌, ◌++◌, length, take, drop, get_or, map, sum, max, refl, ap, sym, subst, ◌∙◌, arith, add-one, take-add, ⊎_elim, leb}
 use Rattle.std.specs.List.{list_any, list_all}
-use Rattle.std.proofs.lemmas.List.{append-nil, length-drop, drop_more, take_more, length-take, length-take-le, length-map, get_or-map, get_or-drop, get_or-take, take-map, drop-map}
-use Rattle.std.proofs.lemmas.List.Folds.{list_any_at}
+use Rattle.std.proofs.lemmas.List.{append-nil, length-drop, drop_more, take_more, length-take, length-take-le, length-map, get_or-map, get_or-drop, get_or-take, take-map, take-take, drop-map, drop-take}
+use Rattle.std.proofs.lemmas.List.Folds.{list_any_at, list_all-append}
 use Rattle.std.proofs.lemmas.List.Sums.{sum_by-cons, sum_by_push}
 use Rattle.std.proofs.lemmas.Bool.{cond-true, cond-false, or_left, or_right, or_from, and_from, and_left, and_right, and_parts, le-leb, lt-leb, leb-true, cases_Bool, cases_lt}
 use Rattle.fq_trim.specs.declared.step.Step.{Step}
@@ -245,6 +245,28 @@ all_dropped p xs zero all = all
 all_dropped p [] (suc n) all = refl
 all_dropped p (x ∷ xs) (suc n) all = all_dropped p xs n (and_parts (p x) (list_all p xs) all).1
 
+-- Scores of which each is high enough.
+pub high_more : (t n m : ℕ) (q : List ℕ) → list_all (leb t) (take n q) ≡ true → list_all (leb t) (take m (drop n q)) ≡ true → list_all (leb t) (take (n + m) q) ≡ true
+high_more t n m q first next = ap (list_all (leb t)) (take-add n m q) ∙ list_all-append (leb t) (take n q) (take m (drop n q)) ∙ and_from _ _ first next
+
+high_sum : (t : ℕ) (q : List ℕ) → list_all (leb t) q ≡ true → length q * t ≤ sum q
+high_sum t [] all = omega arith
+high_sum t (x ∷ xs) all =
+    let parts = and_parts (leb t x) (list_all (leb t) xs) all in
+    let first = leb-true t x parts.0 in
+    let rest = high_sum t xs parts.1 in
+    let is = sum_by-cons (λ x. x) x xs in
+    omega arith
+
+-- a window of high scores is good
+high_window : (w t front s : ℕ) (q : List ℕ) → front ≤ length q → list_all (leb t) (take front q) ≡ true → s + w ≤ front → w * t ≤ sum (take w (drop s q))
+high_window w t front s q within high le =
+    let window = take w (drop s q) in
+    let fits = ap (list_all (leb t)) (sym (take-take (s + w) front q le)) ∙ all_taken (leb t) (take front q) (s + w) high in
+    let all : list_all (leb t) window ≡ true = ap (list_all (leb t)) (sym (drop-take s w q)) ∙ all_dropped (leb t) (take (s + w) q) s fits in
+    let len : length window ≡ w = length-take-le w (drop s q) (omega (arith, length-drop s q)) in
+    subst (λ n. n * t ≤ sum window) len (high_sum t window all)
+
 -- Sums of scores.
 pub sum_small : (e : Encoding) (qual : List ℕ) → list_all (is_scored e) qual ≡ true → sum (scores e qual) ≤ 126 * length qual
 sum_small e [] all = omega arith
@@ -294,3 +316,34 @@ module _ (e : Encoding) (qual : List ℕ) where
       (λ lt. subst (λ n. sum (take w (drop (good + 1 - w) q)) < n) least_is (bad (omega arith)))
       (λ has. subst (λ n. t ≤ n) (same (last - 1) (omega arith)) (high has))
       (λ k from lt. subst (λ n. n < t) (same k lt) (low k from (omega arith))))
+
+-- The sum of windows begins with the one that ends at `from`: each of the first `front` scores is at least t.
+module _ (e : Encoding) (qual : List ℕ) (w t least front from total : ℕ) (least_is : least ≡ w * t) (fits : w ≤ length qual) (within : front ≤ length qual)
+    (high : list_all (leb t) (take front (scores e qual)) ≡ true) (from_is : from ≡ max front w) (total_is : total ≡ sum (scores e (take (from - (from - w)) (drop (from - w) qual)))) where
+  pub from_sum : total ≡ sum (take w (drop (from - w) (scores e qual)))
+  from_sum =
+      let size : from - (from - w) ≡ w = omega arith in
+      total_is ∙ ap sum (scores_of_part e qual (from - w) (from - (from - w))) ∙ ap (λ n. sum (take n (drop (from - w) (scores e qual)))) size
+
+  -- a window up to there is good, or it is the first of all
+  window_up_to : (s : ℕ) → s + w ≤ from → (least ≤ sum (take w (drop s (scores e qual)))) ⊎ (from ≡ w)
+  window_up_to s le = ⊎_elim
+      (λ skips. let len = length-scores e qual in let good = high_window w t front s (scores e qual) (omega arith) high (omega arith) in inl (omega arith))
+      (λ none. inr (omega arith))
+      (cases_lt w front)
+
+  pub from_good : least ≤ total → (s : ℕ) → s + w ≤ from → least ≤ sum (take w (drop s (scores e qual)))
+  from_good good s le = ⊎_elim
+      (λ is. is)
+      (λ first. let here = from_sum in let start : from - w ≡ s = omega arith in let is = ap (λ n. sum (take w (drop n (scores e qual)))) start in omega arith)
+      (window_up_to s le)
+
+  pub from_bad : total < least → IsBetween (keeps (SlidingWindow w t) (scores e qual)) (length qual) 0 0
+  from_bad bad =
+      let q = scores e qual in
+      let here = from_sum in
+      let first : sum (take w q) < w * t = ⊎_elim
+      (λ good. absurd (omega arith))
+      (λ first. let start : from - w ≡ 0 = omega arith in let is = ap (λ n. sum (take w (drop n q))) start in omega arith)
+      (window_up_to (from - w) (omega arith)) in
+      subst (λ n. IsBetween (keeps (SlidingWindow w t) q) n 0 0) (length-scores e qual) (window_bad w t q first)

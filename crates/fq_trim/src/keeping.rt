@@ -1,6 +1,6 @@
 //! Which bases a step keeps.
 
-ghost use Rattle.std.specs.Prelude.{true, ◌≡◌, ℕ, ◌+◌, ◌-◌, ◌<◌, ◌≤◌, ◌^◌, length, sum, take, drop, slice_index};
+ghost use Rattle.std.specs.Prelude.{true, ◌≡◌, ℕ, ◌+◌, ◌-◌, ◌<◌, ◌≤◌, ◌^◌, nat_le, length, sum, take, drop, slice_index};
 ghost use Rattle.std.specs.List.{list_all};
 ghost use Rattle.fq_text.specs.Scores.{is_scored};
 ghost use Rattle.fq_trim.specs.Keeping.{scores, keeps, IsBetween, is_in_range};
@@ -9,6 +9,9 @@ ghost use Rattle.fq_trim.specs.declared.step.Step.TheVariants.{Leading, Trailing
 use crate::scoring::{score_of, total_of};
 use crate::step::Step;
 use fq_text::Encoding;
+
+// How many bases are looked at together for a low score.
+const HIGH_CHUNK: usize = 16;
 
 /// The bases that one step keeps of those that it is given: from `start` up to `stop`, maybe none.
 #[derive(Clone, Copy)]
@@ -100,6 +103,8 @@ fn head_crop(bases: u32, qual: &[u8]) -> Span
 }
 
 // Up to the last base of a score before the first bad window ends.
+//
+// Where a read begins with high scores the windows over them are good, so the first sum that is taken is that of the last of these.
 fn sliding_window(encoding: Encoding, width: u32, score: u32, qual: &[u8]) -> Span
     requires window { 0 < width }
     requires scored { list_all (is_scored encoding) qual.now ≡ true }
@@ -109,12 +114,14 @@ fn sliding_window(encoding: Encoding, width: u32, score: u32, qual: &[u8]) -> Sp
     if qual.len() < width as usize {
         return stop_at(0);
     }
-    let least = u64::from(width) * u64::from(score);
-    let first = total_of(encoding, &qual[..width as usize]) as u64;
+    let width = width as usize;
+    let least = width as u64 * u64::from(score);
+    let from = high_stop(encoding, score, qual).max(width);
+    let first = total_of(encoding, &qual[from - width..from]) as u64;
     if first < least {
         return stop_at(0);
     }
-    let good = good_stop(encoding, width as usize, first, least, qual);
+    let good = good_stop(encoding, width, from, first, least, qual);
     stop_at(behind_last(encoding, score, &qual[..good]))
 }
 
@@ -160,15 +167,52 @@ fn behind_last(encoding: Encoding, score: u32, qual: &[u8]) -> usize
     0
 }
 
-// The place of the last base of the first bad window, or the length where each window is good.
+// A place before which each base has a score of at least `score`: no window that ends at or before it is bad.
+//
+// Whole chunks are looked at, so there may be more such bases behind it.
+fn high_stop(encoding: Encoding, score: u32, qual: &[u8]) -> usize
+    requires { list_all (is_scored encoding) qual.now ≡ true }
+    ensures within { result ≤ length qual.now }
+    ensures high { list_all (nat_le score) (take result (scores encoding qual.now)) ≡ true }
+{
+    let mut stop = 0;
+    while HIGH_CHUNK <= qual.len() - stop
+        && are_high(encoding, score, &qual[stop..stop + HIGH_CHUNK])
+    {
+        stop += HIGH_CHUNK;
+    }
+    stop
+}
+
+// Whether each base has a score of at least `score`.
+fn are_high(encoding: Encoding, score: u32, qual: &[u8]) -> bool
+    requires { list_all (is_scored encoding) qual.now ≡ true }
+    ensures { result ≡ list_all (nat_le score) (scores encoding qual.now) }
+{
+    let mut all = true;
+    for byte in qual {
+        all = all & (score <= score_of(encoding, *byte));
+    }
+    all
+}
+
+// The place of the last base of the first bad window, or the length where each window is good. Those that end at or before `from` are.
 //
 // The sum of a window is that of the one before, with one score added and one taken away.
-fn good_stop(encoding: Encoding, width: usize, first: u64, least: u64, qual: &[u8]) -> usize
+fn good_stop(
+    encoding: Encoding,
+    width: usize,
+    from: usize,
+    first: u64,
+    least: u64,
+    qual: &[u8],
+) -> usize
     requires window { 0 < width }
-    requires fits { width ≤ length qual.now }
+    requires reaches { width ≤ from }
+    requires fits { from ≤ length qual.now }
     requires narrow { width < 2 ^ 32 }
-    requires sum { first ≡ sum (take width (scores encoding qual.now)) }
-    requires good { least ≤ first }
+    requires sum { first ≡ sum (take width (drop (from - width) (scores encoding qual.now))) }
+    requires good { (s : ℕ) → s + width ≤ from → least ≤ sum (take width (drop s (scores encoding qual.now))) }
     requires scored { list_all (is_scored encoding) qual.now ≡ true }
     ensures within { result ≤ length qual.now }
     ensures some { width ≤ result }
@@ -178,7 +222,7 @@ fn good_stop(encoding: Encoding, width: usize, first: u64, least: u64, qual: &[u
         → sum (take width (drop (result + 1 - width) (scores encoding qual.now))) < least }
 {
     let mut sum = first;
-    for end in width..qual.len() {
+    for end in from..qual.len() {
         let entering = score_of(encoding, qual[end]);
         let leaving = score_of(encoding, qual[end - width]);
         sum = sum + u64::from(entering) - u64::from(leaving);
