@@ -8,6 +8,8 @@ use Rattle.fq_lane.specs.Ends.{receiver_line}
 use Rattle.fq_lane.specs.declared.slot.Slot.{Slot}
 use Rattle.fq_lane.specs.declared.rx.Taken.{Taken}
 use Rattle.fq_lane.specs.declared.rx.Taken.TheVariants.{Item, Empty, Closed}
+use Rattle.fq_lane.specs.declared.ring.Popped.{Popped}
+use Rattle.fq_lane.specs.declared.ring.Popped.TheVariants as popped
 
 -- an item was got, and only where the mark was not; nothing was got, and the mark was not; the mark was got, now or before
 abbrev pub Takes : {T : Type 0} → Taken T → Line T → Line T → Type 0
@@ -21,7 +23,7 @@ taken_of (Some x) = Item x
 taken_of None = Closed
 
 -- what a pop of the ring answers, where the mark was not got before: an item more, nothing, or the mark
-abbrev pub Pops : {T A P : Type 0} → Taken T → Consumer (Slot T) A P → Consumer (Slot T) A P → Type 0
-Pops (Item x) b c = IsLine (received c) false × (receiver_line c false ≡ with_item (receiver_line b false) x)
-Pops Empty b c = IsLine (received c) false × (receiver_line c false ≡ receiver_line b false)
-Pops Closed b c = IsLine (received c) true × (receiver_line c true ≡ with_mark (receiver_line b false))
+abbrev pub Pops : {T A P : Type 0} → Popped T → Consumer (Slot T) A P → Consumer (Slot T) A P → Type 0
+Pops (popped.Item x freed) b c = IsLine (received c) false × (receiver_line c false ≡ with_item (receiver_line b false) x)
+Pops popped.Nothing b c = IsLine (received c) false × (receiver_line c false ≡ receiver_line b false)
+Pops popped.Mark b c = IsLine (received c) true × (receiver_line c true ≡ with_mark (receiver_line b false))

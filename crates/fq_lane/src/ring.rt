@@ -6,9 +6,42 @@ ghost use Rattle.fq_lane.specs.Slots.{IsLine};
 ghost use Rattle.fq_lane.specs.Ends.{sender_line, receiver_line, end_line, consumer_name, finished_name, IsOpen};
 ghost use Rattle.fq_lane.specs.Take.{Pops};
 
-use crate::rx::Taken;
+use crate::parkers::Parkers;
 use crate::slot::Slot;
 use rtrb::{Consumer, Finished, Producer};
+
+// A push that the receiver has to be told of. It has no `Drop`, so it can't be let go: `tell` takes it.
+pub(crate) struct Pushed {
+    made_here: (),
+}
+
+impl Pushed {
+    // Wakes the receiver.
+    pub(crate) fn tell(self, parkers: &Parkers) {
+        let Pushed { made_here: () } = self;
+        parkers.wake_receiver();
+    }
+}
+
+// A pop that the sender has to be told of. It can't be let go either.
+pub(crate) struct Freed {
+    made_here: (),
+}
+
+impl Freed {
+    // Wakes the sender.
+    pub(crate) fn tell(self, parkers: &Parkers) {
+        let Freed { made_here: () } = self;
+        parkers.wake_sender();
+    }
+}
+
+// What a pop finds.
+pub(crate) enum Popped<T> {
+    Item(T, Freed),
+    Mark,
+    Nothing,
+}
 
 // Whether a slot is free beside the one that is kept for the mark.
 pub(crate) fn has_room<T>(producer: &mut Producer<Slot<T>>) -> bool
@@ -21,22 +54,24 @@ pub(crate) fn has_room<T>(producer: &mut Producer<Slot<T>>) -> bool
 }
 
 // Pushes an item, beside the slot that is kept for the mark.
-pub(crate) fn push_item<T>(producer: &mut Producer<Slot<T>>, item: T)
+pub(crate) fn push_item<T>(producer: &mut Producer<Slot<T>>, item: T) -> Pushed
     requires open { IsOpen producer.old }
     requires room { 1 < known_free producer.old }
     ensures open { IsOpen producer.new }
     ensures sent { sender_line producer.new false ≡ with_item (sender_line producer.old false) item }
 {
     producer.push_reserved(Slot::Item(item));
+    Pushed { made_here: () }
 }
 
 // Pushes the mark, into the slot that is kept for it.
-pub(crate) fn push_mark<T>(producer: &mut Producer<Slot<T>>)
+pub(crate) fn push_mark<T>(producer: &mut Producer<Slot<T>>) -> Pushed
     requires { IsOpen producer.old }
     ensures marked { IsLine (sent producer.new) true }
     ensures sent { sender_line producer.new true ≡ with_mark (sender_line producer.old false) }
 {
     producer.push_reserved(Slot::Mark);
+    Pushed { made_here: () }
 }
 
 // What is left of a producer behind the mark. `None` where the consumer was dropped before.
@@ -48,14 +83,14 @@ pub(crate) fn finish<T: Drop>(producer: Producer<Slot<T>>) -> Option<Finished<Sl
 }
 
 // Pops an item or the mark, whichever is next.
-pub(crate) fn pop<T>(consumer: &mut Consumer<Slot<T>>) -> Taken<T>
+pub(crate) fn pop<T>(consumer: &mut Consumer<Slot<T>>) -> Popped<T>
     requires { IsLine (received consumer.old) false }
     ensures { Pops result consumer.old consumer.new }
 {
     match consumer.pop() {
-        Ok(Slot::Item(item)) => Taken::Item(item),
-        Ok(Slot::Mark) => Taken::Closed,
-        Err(_) => Taken::Empty,
+        Ok(Slot::Item(item)) => Popped::Item(item, Freed { made_here: () }),
+        Ok(Slot::Mark) => Popped::Mark,
+        Err(_) => Popped::Nothing,
     }
 }
 

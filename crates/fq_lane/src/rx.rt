@@ -5,7 +5,7 @@ ghost use Rattle.fq_lane.specs.Ends.{consumer_name};
 ghost use Rattle.fq_lane.specs.Take.{Takes, taken_of};
 
 use crate::parkers::Parkers;
-use crate::ring;
+use crate::ring::{self, Popped};
 use crate::slot::Slot;
 use crate::tx::End;
 use crossbeam_utils::Backoff;
@@ -73,15 +73,15 @@ impl<T: Drop> Rx<T> {
             return Taken::Closed;
         }
         match ring::pop(&mut self.consumer) {
-            Taken::Item(item) => {
-                self.parkers.wake_sender();
+            Popped::Item(item, freed) => {
+                freed.tell(&self.parkers);
                 Taken::Item(item)
             }
-            Taken::Closed => {
+            Popped::Mark => {
                 self.closed = true;
                 Taken::Closed
             }
-            Taken::Empty => Taken::Empty,
+            Popped::Nothing => Taken::Empty,
         }
     }
 

@@ -92,8 +92,7 @@ impl<T: Drop> Tx<T> {
         ensures full { IfErr result (λ refused. (refused.item ≡ item) × (self.new ≡ self.old)) }
     {
         if ring::has_room(&mut self.producer) {
-            ring::push_item(&mut self.producer, item);
-            self.parkers.wake_receiver();
+            ring::push_item(&mut self.producer, item).tell(&self.parkers);
             Ok(())
         } else {
             Err(Full { item })
@@ -135,9 +134,9 @@ impl<T: Drop> Tx<T> {
             mut producer,
             parkers,
         } = self;
-        ring::push_mark(&mut producer);
+        let pushed = ring::push_mark(&mut producer);
         let finished = ring::finish(producer);
-        parkers.wake_receiver();
+        pushed.tell(&parkers);
         match finished {
             Some(finished) => Ok(End { finished }),
             None => Err(NotEnded { made_by_close: () }),
