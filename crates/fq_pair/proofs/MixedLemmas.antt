@@ -183,6 +183,7 @@ module _ {F : Type 0} (tells : F → Bool) (to_come : F → List ℕ) (a b c : S
             ∙ stops_behind check n f (front b.encoding (lines (rest_in to_come b))) (b.given + 1) why number inside (stops.fault_is (p.told ∙ told));
         lacks = λ cut told. no_pair tells to_come a b c p q told (first.tail told) check given f (first.record_is told) (cut_lacks _ why cut stops.lacks);
         endless = endless_behind _ why stops.endless;
+        reading = stops.given ∙ first.given;
         given = refl;
         last = refl;
       }

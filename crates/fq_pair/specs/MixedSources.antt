@@ -6,6 +6,7 @@ use Rattle.fq_text.specs.Grammar.{IsLawful}
 use Rattle.fq_text.specs.Sources.{Sourced, rest_in, held, IsTail, KeepsCount, EndsText}
 use Rattle.fq_pair.specs.declared.side.Side.TheVariants.{Forward, Reverse}
 use Rattle.fq_pair.specs.declared.fault.InputFault.{InputFault}
+use Rattle.fq_pair.specs.declared.fault.InputFault.TheVariants.{Text}
 use Rattle.fq_pair.specs.Mates.{Mates}
 use Rattle.fq_pair.specs.Pairing.{Pairs, PairFront, Ended, Stopped, Met, belong}
 use Rattle.fq_pair.specs.Interleaved.{mixed_pairs, mixed_front}
@@ -64,11 +65,18 @@ abbrev pub LacksPair : {F : Type 0} → (F → Bool) → (F → List ℕ) → Mi
 LacksPair tells to_come old new = IsTrue (tells old.source.feed) →
     (mixed_pairs old.check_names old.source.encoding old.given (whole_part (held to_come old.source new.source))).mates ≡ []
 
+-- the side of a text's fault, of whatever kind, is that of the record that was being read
+abbrev pub WasReading : {F : Type 0} → Sourced F → Sourced F → InputFault → Type 0
+WasReading old new (Text Forward fault) = new.given ≡ old.given
+WasReading old new (Text Reverse fault) = new.given ≡ old.given + 1
+WasReading old new _ = Unit {0}
+
 -- a fault was answered
 pub record StopsPairs {F : Type 0} (tells : F → Bool) (to_come : F → List ℕ) (old new : MixedSourced F) (why : InputFault) : Type 0 where
   pub fault_is : IsTrue (tells old.source.feed) → is_from_outside why ≡ false → front_of to_come old ≡ Stopped why
   pub lacks : is_cut_short why ≡ true → LacksPair tells to_come old new
   pub endless : (let most : Type 0 = new.source.max_reads ≤ new.source.taken in if_endless most most why)
+  pub reading : WasReading old.source new.source why
   pub given : new.given ≡ old.given
   pub last : new.last ≡ Some (res.Err why)
 

@@ -1,5 +1,5 @@
 -- What a source of pairs is, and what its calls answer.
-use Rattle.std.specs.Prelude.{◌≡◌, ℕ, ◌+◌, ◌*◌, ◌≤◌, Bool, true, false, IsTrue, Option, Some, None, Result, List, []}
+use Rattle.std.specs.Prelude.{◌≡◌, ℕ, ◌+◌, ◌*◌, ◌≤◌, ◌⊎◌, Bool, true, false, IsTrue, Option, Some, None, Result, List, []}
 use Rattle.std.specs.declared.result.Result.TheVariants as res
 use Rattle.fq_text.specs.declared.fault.TextFault.{TextFault}
 use Rattle.fq_text.specs.declared.fault.TextFault.TheVariants as text
@@ -100,12 +100,20 @@ if_endless P Q (Text Forward text.Endless) = P
 if_endless P Q (Text Reverse text.Endless) = Q
 if_endless P Q _ = Unit {0}
 
+-- The forward record is read first: where its text can't be read on the reverse one is as it was, and where the reverse text
+-- can't be read on the forward one gave a record, or has ended.
+abbrev pub WasReading : {F G : Type 0} → PairSourced F G → PairSourced F G → InputFault → Type 0
+WasReading old new (Text Forward fault) = new.reverse ≡ old.reverse
+WasReading old new (Text Reverse fault) = (new.forward.given ≡ old.forward.given + 1) ⊎ (new.forward.last ≡ Some (res.Ok tt))
+WasReading old new _ = Unit {0}
+
 -- a fault was answered
 pub record StopsPairs {F G : Type 0} (tells : F → Bool) (to_come : F → List ℕ) (tells' : G → Bool) (to_come' : G → List ℕ) (old new : PairSourced F G) (why : InputFault) : Type 0 where
   pub fault_is : IsTrue (tells old.forward.feed) → IsTrue (tells' old.reverse.feed) → is_from_outside why ≡ false →
       front_of to_come to_come' old ≡ Stopped why
   pub lacks : is_cut_short why ≡ true → LacksPair tells to_come tells' to_come' old new
   pub endless : if_endless (new.forward.max_reads ≤ new.forward.taken) (new.reverse.max_reads ≤ new.reverse.taken) why
+  pub reading : WasReading old new why
   pub given : new.given ≡ old.given
   pub last : new.last ≡ Some (res.Err why)
 
