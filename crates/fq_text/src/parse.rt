@@ -93,6 +93,7 @@ fn read_quality<F: Feed>(lines: &mut LineReader<F>, parts: &mut Parts) -> Result
 fn read_in_hand<F: Feed>(
     alloc: Global,
     encoding: Encoding,
+    bases: usize,
     lines: &mut LineReader<F>,
 ) -> Result<Option<FastqRecord>, Stop>
     requires { IsSound F.tells F.to_come lines.old }
@@ -103,7 +104,7 @@ fn read_in_hand<F: Feed>(
     ensures feed { lines.new.feed ≡ lines.old.feed }
 {
     let hand = lines.hand();
-    let shape = match first_record(encoding, hand) {
+    let shape = match first_record(encoding, hand, bases) {
         Some(shape) => shape,
         None => return Ok(None),
     };
@@ -140,6 +141,7 @@ pub(crate) fn read_record<F: Feed>(
     alloc: Global,
     encoding: Encoding,
     room: usize,
+    bases: usize,
     lines: &mut LineReader<F>,
 ) -> Result<Option<FastqRecord>, Stop>
     requires failures { F.failure_count lines.old.feed < u64.MAX }
@@ -148,7 +150,7 @@ pub(crate) fn read_record<F: Feed>(
     ensures sound { IsSound F.tells F.to_come lines.new }
     ensures failures { F.failure_count lines.new.feed ≡ F.failure_count lines.old.feed + fails result }
 {
-    match read_in_hand(alloc, encoding, lines) {
+    match read_in_hand(alloc, encoding, bases, lines) {
         Ok(Some(record)) => Ok(Some(record)),
         Ok(None) => read_by_lines(alloc, encoding, room, lines),
         Err(stop) => Err(stop),

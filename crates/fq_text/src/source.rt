@@ -32,6 +32,7 @@ pub struct Source<F: Feed> {
     given: u64,
     // The bytes of the last record, a guess at those of the next.
     room: usize,
+    bases: usize,
     // The end or the fault that was answered.
     last: Option<Result<(), TextFault>>,
 }
@@ -87,6 +88,7 @@ impl<F: Feed> Source<F> {
                 lines: LineReader::new(feed, buffer, chunk, max_reads),
                 given: 0,
                 room: 0,
+                bases: 0,
                 last: None,
             }),
             Err(_) => Err(NoSource { feed }),
@@ -142,10 +144,11 @@ impl<F: Feed> Source<F> {
         ensures limit { self.new.taken ≤ self.new.max_reads * self.new.chunk }
         ensures fits { self.new.taken ≤ 2 ^ 60 }
     {
-        match read_record(self.alloc, self.encoding, self.room, &mut self.lines) {
+        match read_record(self.alloc, self.encoding, self.room, self.bases, &mut self.lines) {
             Ok(Some(record)) => {
                 self.given += 1;
                 self.room = record.len();
+                self.bases = record.seq().len();
                 Ok(Some(record))
             }
             Ok(None) => {

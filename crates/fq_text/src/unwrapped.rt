@@ -1,6 +1,7 @@
 //! A record of four unwrapped lines that is whole in hand: most files hold no other, and it is copied at one stroke.
 
-ghost use Rattle.std.specs.Prelude.{◌≡◌, ◌+◌, ◌<◌, ◌≤◌, drop, length, IfSome, IfOk};
+ghost use Rattle.std.specs.Prelude.{true, not, ◌==◌, ◌≡◌, ◌+◌, ◌<◌, ◌≤◌, take, drop, length, slice_index, IfSome, IfOk};
+ghost use Rattle.std.specs.List.{list_all};
 ghost use Rattle.fq_text.specs.Grammar.{IsLawful};
 ghost use Rattle.fq_text.specs.Lines.{without_cr};
 ghost use Rattle.fq_text.specs.Unwrapped.{IsFourLines, StandsFirst};
@@ -9,7 +10,7 @@ use crate::buffer::trimmed;
 use crate::encoding::Encoding;
 use crate::judge::begins_with;
 use crate::lines::LIMIT;
-use crate::view::is_lawful;
+use crate::view::is_lawful_line;
 use memchr::memchr;
 
 /// How long the title and the sequence of a record are.
@@ -19,9 +20,21 @@ pub(crate) struct Shape {
     pub(crate) bases: usize,
 }
 
-// The shape of four lines at the front of these bytes, by their marks and line ends alone.
-fn four_lines(hand: &[u8]) -> Option<Shape>
-    ensures { IfSome result (λ s. IsFourLines hand.now s.title s.bases) }
+// A place of an LF: the guess if it is one, else the first.
+fn line_end(text: &[u8], guess: usize) -> Option<usize>
+    ensures { IfSome result (λ at. (at < length text.now) × (slice_index text.now at ≡ 10)) }
+{
+    if guess < text.len() && text[guess] == b'\n' {
+        Some(guess)
+    } else {
+        memchr(b'\n', text)
+    }
+}
+
+// The shape of four lines at the front of these bytes, by their marks and line ends alone. So many bases are a guess.
+fn four_lines(hand: &[u8], guess: usize) -> Option<Shape>
+    ensures lines { IfSome result (λ s. IsFourLines hand.now s.title s.bases) }
+    ensures title { IfSome result (λ s. list_all (λ b. not (b == 10)) (take s.title (drop 1 hand.now)) ≡ true) }
 {
     if !begins_with(hand, b'@') {
         return None;
@@ -30,7 +43,7 @@ fn four_lines(hand: &[u8]) -> Option<Shape>
         Some(at) => at,
         None => return None,
     };
-    let bases = match memchr(b'\n', &hand[title + 2..]) {
+    let bases = match line_end(&hand[title + 2..], guess) {
         Some(at) => at,
         None => return None,
     };
@@ -46,18 +59,18 @@ fn four_lines(hand: &[u8]) -> Option<Shape>
 }
 
 /// The shape of a record that stands first in these bytes, in four lines that end in LF alone, the third a bare `+`.
-/// Where it is `None` there may be a record of another form.
-pub(crate) fn first_record(encoding: Encoding, hand: &[u8]) -> Option<Shape>
+/// Where it is `None` there may be a record of another form. It is found soonest where the guess of its bases is right.
+pub(crate) fn first_record(encoding: Encoding, hand: &[u8], guess: usize) -> Option<Shape>
     ensures { IfSome result (λ s. StandsFirst encoding hand.now s.title s.bases) }
 {
-    let shape = match four_lines(hand) {
+    let shape = match four_lines(hand, guess) {
         Some(shape) => shape,
         None => return None,
     };
     let title = &hand[1..shape.title + 1];
     let seq = &hand[shape.title + 2..shape.title + 2 + shape.bases];
     let qual = &hand[shape.title + shape.bases + 5..shape.title + shape.bases + 5 + shape.bases];
-    if shape.bases > 0 && trimmed(title) == title.len() && is_lawful(encoding, title, seq, qual) {
+    if shape.bases > 0 && trimmed(title) == title.len() && is_lawful_line(encoding, title, seq, qual) {
         Some(shape)
     } else {
         None

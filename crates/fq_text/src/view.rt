@@ -1,6 +1,6 @@
 //! A read whose parts lie elsewhere.
 
-ghost use Rattle.std.specs.Prelude.{◌≡◌, ◌↔◌, ◌==◌, not, IsTrue};
+ghost use Rattle.std.specs.Prelude.{true, ◌≡◌, ◌↔◌, ◌==◌, not, IsTrue};
 ghost use Rattle.std.specs.List.{list_all};
 ghost use Rattle.fq_text.specs.Grammar.{Read, IsLawful};
 
@@ -26,7 +26,15 @@ fn is_one_line(title: &[u8]) -> bool
 pub fn is_lawful(encoding: Encoding, title: &[u8], seq: &[u8], qual: &[u8]) -> bool
     ensures { IsTrue result ↔ IsLawful (record { encoding = encoding; title = title.now; seq = seq.now; qual = qual.now }) }
 {
-    if !is_one_line(title) || title.len() >= LIMIT {
+    is_one_line(title) && is_lawful_line(encoding, title, seq, qual)
+}
+
+/// The same of a title that is known to be one line.
+pub(crate) fn is_lawful_line(encoding: Encoding, title: &[u8], seq: &[u8], qual: &[u8]) -> bool
+    requires { list_all (λ b. not (b == 10)) title.now ≡ true }
+    ensures { IsTrue result ↔ IsLawful (record { encoding = encoding; title = title.now; seq = seq.now; qual = qual.now }) }
+{
+    if title.len() >= LIMIT {
         return false;
     }
     if seq.len() > LIMIT || !all_bases(seq) || begins_with(seq, b'@') || begins_with(seq, b'+') {
