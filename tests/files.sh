@@ -49,7 +49,7 @@ expect_two_pairs() {
 
 row='two pairs'
 two_pairs
-printf 'old text' > fp
+for name in fp fu rp ru log; do printf '%1000s\n' 'old text' > "$name"; done
 run 0 '' PE --threads 2 --block 1 --trimlog log f r fp fu rp ru LEADING:3
 expect_two_pairs
 same log 'p1 2 2 4 0\np1 4 0 4 0\np2 4 0 4 0\np2 0 0 0 0\n'
@@ -98,6 +98,23 @@ two_pairs
 rm f
 run 4 'cannot read f\n' PE f r fp fu rp ru LEADING:3
 [ -e fp ] && fail "$row: an output was made"
+
+row='a folder as an input'
+two_pairs
+mkdir d
+run 4 'cannot read d\n' PE d r fp fu rp ru LEADING:3
+[ -e fp ] && fail "$row: an output was made"
+
+row='the summary into the file of the log'
+two_pairs
+"$program" PE --trimlog log f r fp fu rp ru LEADING:3 > log 2> err
+[ $? -eq 4 ] || fail "$row: the status is not 4"
+same err 'cannot write log\n'
+
+row='a word that is not UTF-8'
+"$program" PE $'\xff' r fp fu rp ru LEADING:3 > out 2> err
+[ $? -eq 1 ] || fail "$row: the status is not 1"
+same err "error: a word is not UTF-8\n\nFor more information, try '--help'.\n"
 
 row='a folder that is not there'
 two_pairs

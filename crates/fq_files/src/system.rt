@@ -46,6 +46,16 @@ impl<'a, R: rt::Files<File = File>> SystemFiles<'a, R> {
         }
     }
 
+    /// The file that this name leads to, if it is a regular one, is refused as an output from now on: something else writes to it.
+    pub fn keep(&mut self, name: &str) -> Result<(), OutOfMemory> {
+        if let Ok(metadata) = fs::metadata(self.runtime, name) {
+            if metadata.is_file() {
+                self.outputs.push(Identity::of(&metadata))?;
+            }
+        }
+        Ok(())
+    }
+
     // Whether this file was opened as an input.
     fn is_input(&self, identity: Identity) -> bool {
         self.inputs.iter().any(|input| *input == identity)

@@ -1,5 +1,6 @@
 mod AnswerLemmas
 mod StoreLemmas
+mod RestLemmas
 mod TextLemmas
 mod WordLemmas
 mod ExampleLemmas

@@ -32,7 +32,7 @@ TookText d text = IsTrue d.tells → d.failures ≡ 0 → d.after ≡ d.before +
 -- and where it has, it took a part of it that is not the whole
 pub record TookPart (d : Device) (text : List ℕ) : Type 0 where
   pub whole : TookText d text
-  pub part : IsTrue d.tells → d.failures ≡ 1 → (count : ℕ) × (count < length text) × (d.after ≡ d.before ++ take count text)
+  pub part : IsTrue d.tells → d.failures ≢ 0 → (count : ℕ) × (count < length text) × (d.after ≡ d.before ++ take count text)
 
 -- The pairs of the inputs were trimmed into the files of the outputs, up to the end or to a fault of the inputs. The summary of
 -- their counts went to standard output, and the line of the outcome, which has this status, to standard error.

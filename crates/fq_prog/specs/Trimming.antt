@@ -1,5 +1,5 @@
 -- Trimming the pairs of files into others.
-use Rattle.std.specs.Prelude.{◌≡◌, ℕ, Bool, IsTrue, IsSome, Option, Some, None, Ok, List, []}
+use Rattle.std.specs.Prelude.{◌≡◌, ◌≢◌, ℕ, Bool, IsTrue, IsSome, Option, Some, None, Ok, List, []}
 use Rattle.fq_files.specs.Holding.{Holding}
 use Rattle.fq_pair.specs.declared.out.Out.{Out}
 use Rattle.fq_pair.specs.declared.counts.Counts.{Counts}
@@ -17,6 +17,10 @@ use Rattle.fq_prog.specs.declared.trimming.Feeds.TheVariants.{Apart, Interleaved
 -- no two outputs have one name
 abbrev pub HasDistinctOutputs : Asking → Type 0
 HasDistinctOutputs a = (one other : Out) (name : List ℕ) → output_name a one ≡ Some name → output_name a other ≡ Some name → one ≡ other
+
+-- every name that is no output's has what it had
+abbrev pub KeepsRest : Asking → Holding → Holding → Type 0
+KeepsRest a old new = (name : List ℕ) → ((out : Out) → output_name a out ≢ Some name) → new name ≡ old name
 
 -- each output has a name that is held
 abbrev pub AreHeld : Asking → Holding → Type 0

@@ -81,7 +81,7 @@ interleaved_app = trimming_app (codes "IL") (file_rule (codes "I") ∷ [])
 -- `PE`, `IL` and `EXAMPLE`, of which one has to be given
 unfoldable pub program_app : App
 program_app = record {
-  top = record (new_shape (codes "fq_prog")) { is_leaf = false; subcommand_required = true };
+  top = record (new_shape (codes "fq_prog")) { is_leaf = false; subcommand_required = true; has_version = true };
   subs = pairs_app.top ∷ interleaved_app.top ∷ new_shape (codes "EXAMPLE") ∷ [];
 }
 

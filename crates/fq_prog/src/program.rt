@@ -2,6 +2,7 @@
 
 ghost use Rattle.std.specs.Prelude.{◌≡◌, ◌≢◌, ◌⊎◌, ◌++◌, Some, None, [], IsSome, IsTrue, map};
 ghost use Rattle.fq_prog.specs.Requests.{Asking, asking_of, wrong_with};
+ghost use Rattle.fq_prog.specs.Trimming.{KeepsRest};
 ghost use Rattle.fq_prog.specs.Words.{AskedFor, words_fault};
 ghost use Rattle.fq_prog.specs.Answers.{device_of, TookText, LacksMemory, Refuses, PairsAnswered, AreRefused, print_line};
 ghost use Rattle.fq_prog.specs.Example.{example_text};
@@ -55,6 +56,9 @@ pub fn program<'a, R: Threads + Wait + Copy + Send + 'static, T: Files, O: Outle
         → PairsAnswered a (T.tells_bytes files.old) (T.bytes_of files.old) (T.bytes_of files.new) (device_of O.tells O.taken O.failure_count out.old out.new) (device_of E.tells E.taken E.failure_count err.old err.new) result }
     ensures wrong { (a : Asking) → AskedFor (map (λ word. word.now) words.entry.now) (Some a) → IsSome (wrong_with a) → files.new ≡ files.old }
 
+    // No file is touched but those of the outputs.
+    ensures rest { (a : Asking) → AskedFor (map (λ word. word.now) words.entry.now) (Some a) → IsTrue (T.tells_bytes files.old) → KeepsRest a (T.bytes_of files.old) (T.bytes_of files.new) }
+
     // Other words touch no file. `EXAMPLE` is printed, but where `out`, memory or a thread fails; words that don't parse are refused, but calls for help.
     ensures example { AskedFor (map (λ word. word.now) words.entry.now) None → (files.new ≡ files.old) × ((result ≡ 0) ⊎ ((result ≡ 4) ⊎ ((result ≡ 5) ⊎ (result ≡ 6)))) }
     ensures shown { AskedFor (map (λ word. word.now) words.entry.now) None → result ≡ 0 → IsTrue (O.tells out.old) → O.taken out.new ≡ O.taken out.old ++ example_text }
@@ -89,6 +93,7 @@ fn trim_pairs<R: Threads + Wait + Copy + Send + 'static, T: Files, O: Outlet, E:
     requires err { E.failure_count err.old ≡ 0 }
     ensures pairs { PairsAnswered (asking_of request.now) (T.tells_bytes files.old) (T.bytes_of files.old) (T.bytes_of files.new) (device_of O.tells O.taken O.failure_count out.old out.new) (device_of E.tells E.taken E.failure_count err.old err.new) result }
     ensures wrong { IsSome (wrong_with (asking_of request.now)) → files.new ≡ files.old }
+    ensures rest { IsTrue (T.tells_bytes files.old) → KeepsRest (asking_of request.now) (T.bytes_of files.old) (T.bytes_of files.new) }
     ensures finished { result ≡ 0 → (O.failure_count out.new ≡ 0) × (err.new ≡ err.old) }
     ensures quiet { result ≢ 0 → result ≢ 3 → O.failure_count out.new ≡ 0 → out.new ≡ out.old }
     ensures failed { O.failure_count out.new ≢ 0 → (result ≡ 3) ⊎ ((result ≡ 4) × TookText (device_of E.tells E.taken E.failure_count err.old err.new) print_line) }

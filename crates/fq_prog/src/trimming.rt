@@ -6,8 +6,8 @@ ghost use Rattle.fq_run.specs.Endings.{ends_whole};
 ghost use Rattle.fq_prog.specs.declared.refusal.Refusal.{Refusal as Refused};
 ghost use Rattle.fq_prog.specs.Refusals.{status_of};
 ghost use Rattle.fq_prog.specs.Requests.{asking_of, input_name, wrong_with};
-ghost use Rattle.fq_prog.specs.Trimming.{HasDistinctOutputs, AreHeld, HoldTaken, AreEmpty, IsFed, opened_of, AreFresh, AreFed, pairs_of, TrimsPairs, TrimsFiles};
-ghost use Rattle.fq_files.specs.Holding.{IsUnchanged, KeepsNames};
+ghost use Rattle.fq_prog.specs.Trimming.{HasDistinctOutputs, KeepsRest, AreHeld, HoldTaken, AreEmpty, IsFed, opened_of, AreFresh, AreFed, pairs_of, TrimsPairs, TrimsFiles};
+ghost use Rattle.fq_files.specs.Holding.{IsUnchanged, KeepsNames, KeepsOthers};
 
 use crate::refusal::{Refusal, file_refused};
 use crate::request::{Inputs, Request, same_name, settings_of};
@@ -49,6 +49,8 @@ pub(crate) fn trim_files<R: Threads + Wait + Copy + Send + 'static, T: Files>(
 ) -> Result<Ended, Refusal>
     ensures trims { IfOk result (λ ended. IsTrue (T.tells_bytes files.old) → HasDistinctOutputs (asking_of request.now) → IsTrue (ends_whole ended.outcome)
         → TrimsFiles (asking_of request.now) (T.bytes_of files.old) (T.bytes_of files.new) ended.outcome ended.counts) }
+
+    ensures rest { IsTrue (T.tells_bytes files.old) → KeepsRest (asking_of request.now) (T.bytes_of files.old) (T.bytes_of files.new) }
 
     // What is wrong with the request comes first, and then no file is opened.
     ensures wrong { (why : Refused) → wrong_with (asking_of request.now) ≡ Some why → (result ≡ Err why) × (files.new ≡ files.old) }
@@ -132,6 +134,7 @@ fn inputs<T: Files>(request: &Request<'_>, files: &mut T) -> Result<Feeds<T::In>
     ensures fresh { IfOk result (λ feeds. AreFresh (opened_of (feed_state T.In.tells T.In.to_come T.In.failure_count) feeds)) }
     ensures fed { IfOk result (λ feeds. IsTrue (T.tells_bytes files.old)
         → AreFed (opened_of (feed_state T.In.tells T.In.to_come T.In.failure_count) feeds) (asking_of request.now).inputs (T.bytes_of files.old)) }
+    ensures unchanged { IsTrue (T.tells_bytes files.old) → IsUnchanged (T.bytes_of files.old) (T.bytes_of files.new) }
     ensures told { T.tells_bytes files.new ≡ T.tells_bytes files.old }
     ensures late { IfErr result (λ why. status_of why ≢ 2) }
 {
@@ -166,6 +169,7 @@ fn output<T: Files>(name: &str, files: &mut T, out: Out) -> Result<T::Target, Re
     ensures nothing { IfOk result (λ target. IsTrue (T.tells_bytes files.old) → T.Target.taken target ≡ []) }
     ensures emptied { OnOk result (IsTrue (T.tells_bytes files.old) → T.bytes_of files.new name.now ≡ Some []) }
     ensures held { IsTrue (T.tells_bytes files.old) → KeepsNames (T.bytes_of files.old) (T.bytes_of files.new) }
+    ensures others { IsTrue (T.tells_bytes files.old) → KeepsOthers (T.bytes_of files.old) (T.bytes_of files.new) name.now }
     ensures told { T.tells_bytes files.new ≡ T.tells_bytes files.old }
     ensures late { IfErr result (λ why. status_of why ≢ 2) }
 {
@@ -181,6 +185,7 @@ fn outputs<T: Files>(request: &Request<'_>, files: &mut T) -> Result<Outlets<T::
     ensures empty { IfOk result (λ outlets. IsTrue (T.tells_bytes files.old) → AreEmpty (outlet_states T.Target.tells T.Target.taken T.Target.failure_count outlets)) }
     ensures log { IfOk result (λ outlets. is_some outlets.log ≡ is_some (asking_of request.now).log) }
     ensures held { OnOk result (IsTrue (T.tells_bytes files.old) → AreHeld (asking_of request.now) (T.bytes_of files.new)) }
+    ensures rest { IsTrue (T.tells_bytes files.old) → KeepsRest (asking_of request.now) (T.bytes_of files.old) (T.bytes_of files.new) }
     ensures told { T.tells_bytes files.new ≡ T.tells_bytes files.old }
     ensures late { IfErr result (λ why. status_of why ≢ 2) }
 {
@@ -204,7 +209,8 @@ fn outputs<T: Files>(request: &Request<'_>, files: &mut T) -> Result<Outlets<T::
 // Each output is done with.
 fn store<T: Files>(request: &Request<'_>, files: &mut T, outlets: Outlets<T::Target>)
     requires { IsTrue (T.tells_bytes files.old) → AreHeld (asking_of request.now) (T.bytes_of files.old) }
-    ensures { IsTrue (T.tells_bytes files.old) → HasDistinctOutputs (asking_of request.now)
+    ensures rest { IsTrue (T.tells_bytes files.old) → KeepsRest (asking_of request.now) (T.bytes_of files.old) (T.bytes_of files.new) }
+    ensures stored { IsTrue (T.tells_bytes files.old) → HasDistinctOutputs (asking_of request.now)
         → HoldTaken (asking_of request.now) (outlet_states T.Target.tells T.Target.taken T.Target.failure_count outlets) (T.bytes_of files.new) }
 {
     let Outlets {

@@ -58,6 +58,7 @@ fn command<'a>(alloc: Global) -> Result<Command<'a>, AllocError>
         .about(help::ABOUT)
         .after_help(help::START)
         .subcommand_required(true)
+        .version("1.0.0")
         .subcommand(pairs_command(alloc)?)?
         .subcommand(interleaved_command(alloc)?)?
         .subcommand(

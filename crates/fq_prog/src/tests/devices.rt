@@ -167,11 +167,14 @@ fn a_failed_read_of_one_file_has_the_side_of_its_record(rt: HostRuntime) -> Resu
 
 #[test]
 fn files_that_are_refused(rt: HostRuntime) -> Result<(), Fail> {
-    let rows: [(&'static str, FileFault, u8, &[u8]); 6] = [
+    let rows: [(&'static str, FileFault, u8, &[u8]); 9] = [
         ("f", FileFault::Refused, 4, b"cannot read f\n"),
         ("r", FileFault::Refused, 4, b"cannot read r\n"),
         ("f", FileFault::OutOfMemory, 5, b"out of memory\n"),
         ("fp", FileFault::Refused, 4, b"cannot write fp\n"),
+        ("fu", FileFault::Refused, 4, b"cannot write fu\n"),
+        ("rp", FileFault::Refused, 4, b"cannot write rp\n"),
+        ("ru", FileFault::Refused, 4, b"cannot write ru\n"),
         ("log", FileFault::Refused, 4, b"cannot write log\n"),
         ("ru", FileFault::OutOfMemory, 5, b"out of memory\n"),
     ];

@@ -2,6 +2,7 @@ use Rattle.std.proofs.Common.{◌≡◌, IsTrue, Bool, Some, None, refl, sym, su
 use Rattle.fq_pair.specs.declared.out.Out.TheVariants.{ForwardPaired, ForwardUnpaired, ReversePaired, ReverseUnpaired, Log}
 use Rattle.fq_run.specs.Devices.{outlet_state, outlet_states, outlet_at}
 use Rattle.fq_prog.specs.Requests.{asking_of, output_name}
+use Rattle.fq_prog.proofs.RestLemmas.{rest_of, then_rest}
 use Rattle.fq_prog.proofs.StoreLemmas.{none_first, next_first, all_hold, four_hold}
 use Rattle.fq_prog.proofs.trimming.store.Goals as goal
 use Rattle.fq_prog.proofs.trimming.store.Goals.{in_default-via-in-Some+in_default, in_default-via-in_default}
@@ -39,8 +40,8 @@ done-requires-in-Some-Some-after_bounds g c κs within = λ told.
     let told_0 = along _ _ (sym c.done.ensures.told) told_1 in
     c.done-4.ensures.held told_3 _ (c.done-3.ensures.held told_2 _ (c.done-2.ensures.held told_1 _ (c.done.ensures.held told_0 _ (c.requires told_0 Log _ (rw c.in-Some-Some.is-0 refl)))))
 
-pub returns-in-Some-Some : goal.returns-in-Some-Some
-returns-in-Some-Some g c = λ told distinct.
+pub returns-in-Some-Some-clause-stored : goal.returns-in-Some-Some-clause-stored
+returns-in-Some-Some-clause-stored g c = λ told distinct.
     let a = asking_of c.args.request.now in
     let o = c.args.outlets in
     let state = outlet_state g.T.Target.Outlet.tells g.T.Target.Outlet.taken g.T.Target.Outlet.failure_count in
@@ -62,8 +63,8 @@ returns-in-Some-Some g c = λ told distinct.
     four (c.done-in-Some-Some.ensures.stored told_4) (c.done-in-Some-Some.ensures.others told_4) in
     all_hold a states (files c.done-in-Some-Some.new.self) five
 
-pub returns-in_default : goal.returns-in_default
-returns-in_default g c = λ told distinct.
+pub returns-in_default-clause-stored : goal.returns-in_default-clause-stored
+returns-in_default-clause-stored g c = λ told distinct.
     let a = asking_of c.args.request.now in
     let o = c.args.outlets in
     let state = outlet_state g.T.Target.Outlet.tells g.T.Target.Outlet.taken g.T.Target.Outlet.failure_count in
@@ -89,3 +90,27 @@ returns-in_default g c = λ told distinct.
           let none : output_name a Log ≡ None = rw w.in_default.is-0 refl in
           let bad : None ≡ Some name = sym none ∙ named in cc
     ])
+
+pub returns-in-Some-Some-clause-rest : goal.returns-in-Some-Some-clause-rest
+returns-in-Some-Some-clause-rest g c = λ told.
+    let a = asking_of c.args.request.now in
+    let told_1 = along _ _ c.done.ensures.told told in
+    let told_2 = along _ _ c.done-2.ensures.told told_1 in
+    let told_3 = along _ _ c.done-3.ensures.told told_2 in
+    let told_4 = along _ _ c.done-4.ensures.told told_3 in
+    let four = then_rest a _ _ _ (then_rest a _ _ _ (then_rest a _ _ _ (rest_of a ForwardPaired _ _ _ refl (c.done.ensures.others told)) (rest_of a ForwardUnpaired _ _ _ refl (c.done-2.ensures.others told_1)))
+    (rest_of a ReversePaired _ _ _ refl (c.done-3.ensures.others told_2)))
+    (rest_of a ReverseUnpaired _ _ _ refl (c.done-4.ensures.others told_3)) in
+    then_rest a _ _ _ four (rest_of a Log _ _ _ (rw c.in-Some-Some.is-0 refl) (c.done-in-Some-Some.ensures.others told_4))
+
+pub returns-in_default-clause-rest : goal.returns-in_default-clause-rest
+returns-in_default-clause-rest g c = λ told.
+    let a = asking_of c.args.request.now in
+    let told_1 = along _ _ c.done.ensures.told told in
+    let told_2 = along _ _ c.done-2.ensures.told told_1 in
+    let told_3 = along _ _ c.done-3.ensures.told told_2 in
+    let told_4 = along _ _ c.done-4.ensures.told told_3 in
+    let four = then_rest a _ _ _ (then_rest a _ _ _ (then_rest a _ _ _ (rest_of a ForwardPaired _ _ _ refl (c.done.ensures.others told)) (rest_of a ForwardUnpaired _ _ _ refl (c.done-2.ensures.others told_1)))
+    (rest_of a ReversePaired _ _ _ refl (c.done-3.ensures.others told_2)))
+    (rest_of a ReverseUnpaired _ _ _ refl (c.done-4.ensures.others told_3)) in
+    four

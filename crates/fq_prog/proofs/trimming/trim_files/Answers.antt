@@ -43,7 +43,7 @@ returns-clause-trims g c = λ told distinct whole.
       reverse_is = fed.reverse.bytes_are;
       texts = texts_held a (states c.in_ok-outlets.outlets) (states c.run-ended.new.outlets)
           (λ out. text_of out (texts_of choices.steps all.mates))
-          (g.T.Files.bytes_of c.store.new.files) log_there (c.in_ok-outlets.ensures.empty told_1) trimmed.took (c.store.ensures told_2 distinct);
+          (g.T.Files.bytes_of c.store.new.files) log_there (c.in_ok-outlets.ensures.empty told_1) trimmed.took (c.store.ensures.stored told_2 distinct);
       counts_are = trimmed.counts_are;
       outcome_is = trimmed.outcome_is;
     }
