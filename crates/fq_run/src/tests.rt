@@ -5,6 +5,7 @@ mod mixed;
 mod rows;
 mod seeing;
 mod settings;
+mod stops;
 mod sweeps;
 
 ghost use Rattle.std.specs.Prelude.{◌≡◌, ◌<◌, true, [], IfOk};
