@@ -78,13 +78,6 @@ module _ (r : Read) (lawful : IsLawful r) where
   seq_small : length r.seq < 2 ^ 32
   seq_small = omega (arith, lawful.seq_fits)
 
-  pub length-packed_read : length (packed_read r) ≡ room_of r
-  length-packed_read =
-      let a = length-packed_length (length r.title) in
-      let b = length-packed_length (length r.seq) in
-      let s = lawful.same_len in
-      simp length-append (omega arith)
-
   module _ (rest : List ℕ) where
     bytes_are : packed_read r ++ rest ≡ packed_length (length r.title) ++ (packed_length (length r.seq) ++ (r.title ++ (r.seq ++ (r.qual ++ rest))))
     bytes_are = simp append_assoc

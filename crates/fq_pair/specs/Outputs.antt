@@ -152,15 +152,6 @@ text_of Log texts = texts.log
 abbrev pub Begins : List ℕ → List ℕ → Type 0
 Begins new old = take (length old) new ≡ old
 
--- behind each text something may have been added, and the counts stay
-pub record IsExtended (old new : Outputs) : Type 0 where
-  pub forward_paired : Begins new.forward_paired old.forward_paired
-  pub forward_unpaired : Begins new.forward_unpaired old.forward_unpaired
-  pub reverse_paired : Begins new.reverse_paired old.reverse_paired
-  pub reverse_unpaired : Begins new.reverse_unpaired old.reverse_unpaired
-  pub log : Begins new.log old.log
-  pub counts : new.counts ≡ old.counts
-
 -- What a read is left with.
 
 -- the places that are kept of a read

@@ -93,16 +93,6 @@ begun_now w xs ls h = record {
   begins = λ j d lt. ([], append-nil (every j w xs) ∙ sym (h.items j d lt));
 }
 
-pub collects_none : (w : ℕ) (o : OutletStates) (k : Collector) → 0 < w → IsDealt w [] k.replies.items → length k.texts_back.items ≡ w → k.turn ≡ 0 → k.counts ≡ no_counts → k.phase ≡ Writing → Collects w o o k
-collects_none w o k pos fresh backs turn counts at_k = record {
-  lanes = fresh.lanes;
-  backs = backs;
-  turn = omega (arith, turn);
-  written = [];
-  counts = counts;
-  writes = subst (λ p. Writes p w o o [] k) (sym at_k) (turn ∙ sym (zero-mod w), fresh, all_took_none o);
-}
-
 -- whose turn it is, what came and what was written
 at_turn : (w : ℕ) (before now : OutletStates) (k : Collector) (h : Collects w before now k) → k.phase ≡ Writing →
     (k.turn ≡ length (map done h.written) % w) × IsDealt w (map done h.written) k.replies.items × TookAll before now h.written
@@ -236,15 +226,4 @@ drains_take r k l j over at_l lt t halt counts backs turn = record {
   names = takes_names r _ _ _ t;
   collects = λ w before now h. collects_takes w r before now k l j h over at_l lt t halt counts backs turn;
   hears = hears_take r k l j lt t halt;
-}
-
-pub drains_none : (k : Collector) → Drains k k
-drains_none k = record { phase = refl; names = refl; collects = λ w before now h. h; hears = λ h. h }
-
-pub drains_then : (k l m : Collector) → Drains k l → Drains l m → Drains k m
-drains_then k l m p q = record {
-  phase = q.phase ∙ p.phase;
-  names = q.names ∙ p.names;
-  collects = λ w before now h. q.collects w before now (p.collects w before now h);
-  hears = λ h. q.hears (p.hears h);
 }

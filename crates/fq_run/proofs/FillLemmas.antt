@@ -31,10 +31,6 @@ filled_none s block goes clear = record {
   goes = goes;
 }
 
--- the block is still of the source's encoding
-pub filled_encoding : (old now : SourceState) (empty block : Numbered) (n : ℕ) → Filled old now empty block n → empty.encoding ≡ old.encoding → now.encoding ≡ block.encoding
-filled_encoding old now empty block n f same = let w = f.walks in let s = w.same in s.encoding ∙ sym same ∙ sym f.encoding
-
 pub filled_more : (old now next : SourceState) (empty block then : Numbered) (n : ℕ) (m : Mates) → Filled old now empty block n → Walks now next (m ∷ []) →
     next.forward.given ≤ next.most_bytes → then ≡ pushed block m → Filled old next empty then (n + 1)
 filled_more old now next empty block then n m f w within is =

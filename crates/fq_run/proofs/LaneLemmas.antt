@@ -68,11 +68,6 @@ module _ {T : Type 0} where
             (λ n. h.items i d below ∙ sym (every_there xs x i w below (λ m. n (sym m ∙ sym turn))))));
       }
 
-  pub dealt_empty : (w : ℕ) (xs : List T) (old new : List (Line T)) (j : ℕ) → IsDealt w xs old → TakesAt Empty old new j → IsDealt w xs new
-  dealt_empty w xs old new j h t =
-      let same : new ≡ old = t.becomes ∙ ap (set old j) t.takes.1 ∙ set-get_or old j t.line in
-      subst (IsDealt w xs) (sym same) h
-
   prefix_trans : (xs ys zs : List T) → IsPrefix xs ys → IsPrefix ys zs → IsPrefix xs zs
   prefix_trans xs ys zs p q = (p.0 ++ q.0, sym (append_assoc xs p.0 q.0) ∙ ap (λ us. us ++ q.0) p.1 ∙ q.1)
 

@@ -18,10 +18,6 @@ use Rattle.fq_run.proofs.OutletLemmas.{all_took_none, all_took_same}
 use Rattle.fq_run.proofs.TextLemmas.{no_text}
 use Rattle.fq_run.proofs.WalkLemmas.{walks_none}
 
--- a source that has not been asked goes on
-pub goes_fresh : (form : Form) (c : Choices) (f r : FeedState) (s : SourceState) → s ≡ fresh_source form c f r → GoesOn s
-goes_fresh form c f r s is = let P : SourceState → Type 0 = λ t. GoesOn t in subst P (sym is) (record { last = refl; within = omega arith })
-
 -- memory was refused before anything was read
 pub runs_refused : (form : Form) (c : Choices) (f r f' r' : FeedState) (o : OutletStates) (counted : Counts) → f' ≡ f → r' ≡ r → counted ≡ no_counts → Runs form c f r f' r' o o counted no_halt (Some stop.Memory) None
 runs_refused form c f r f' r' o counted same also none = record {

@@ -57,19 +57,6 @@ module _ {F : Type 0} (tells : F → Bool) (to_come : F → List ℕ) (e : Encod
       let n : b.taken - a.taken ≡ length p.gave = omega arith in
       ap (λ m. take m (to_come a.feed)) n ∙ ap (take (length p.gave)) (p.fed told) ∙ take_at p.gave (to_come b.feed) (length p.gave) refl
 
-  pub keeps_count : (a b : Lined F) (used : List ℕ) (k m : ℕ) (l n : Option (Result (Unit {0}) TextFault)) → Reads tells to_come a b used → KeepsCount tells to_come (source_of a k l) (source_of b m n)
-  keeps_count a b used k m l n p =
-      let taken = p.taken in
-      record {
-        encoding = refl;
-        chunk = p.chunk;
-        max_reads = p.max_reads;
-        told = p.told;
-        grows = omega arith;
-        fed = λ told. p.fed told ∙ ap (λ xs. xs ++ to_come b.feed) (sym (gave_is a b used p told));
-        length = λ told. let all = ap length (p.fed told) in omega (arith, length-append p.gave (to_come b.feed));
-      }
-
   pub counted : (a b : Lined F) (used : List ℕ) (k : ℕ) → Reads tells to_come a b used → k + length a.in_hand ≤ a.taken → k + length used + length b.in_hand ≤ b.taken
   counted a b used k p le =
       let taken = p.taken in let hand = ap length p.hand in omega (arith, length-append a.in_hand p.gave, length-append used b.in_hand)
@@ -94,15 +81,6 @@ module _ {F : Type 0} (tells : F → Bool) (to_come : F → List ℕ) (e : Encod
 
   pub record_used : (a b : Lined F) (r : Read) (p : Goes tells to_come a b (front e) (Found r)) → 0 < length p.used
   record_used a b r p = some_used e r p.used (p.state [])
-
-  pub ends_text : (a b : Lined F) (k : ℕ) (l : Option (Result (Unit {0}) TextFault)) → Ends tells to_come a b (front e) → IsSound tells to_come b → EndsText tells to_come (source_of a k l) (source_of b k (Some (Ok tt)))
-  ends_text a b k l p sound = record {
-    end_is = λ told.
-        let none : rest_of to_come b ≡ [] = ap (λ xs. xs ++ to_come b.feed) p.empty ∙ sound.nothing p.ended (p.reads.told ∙ told) in
-        ap (front e) (lines_left tells to_come a b p.used p.reads (inr (p.ended, p.empty)) sound told ∙ ap (λ xs. lines p.used ++ lines xs) none ∙ append-nil (lines p.used)) ∙ p.state;
-    given = refl;
-    last = refl;
-  }
 
   lacks_record : (a b : Lined F) (k m : ℕ) (l n : Option (Result (Unit {0}) TextFault)) → Waits tells to_come a b (front e) → LacksRecord tells to_come (source_of a k l) (source_of b m n)
   lacks_record a b k m l n p = λ told read ls is. p.state read ls
