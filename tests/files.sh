@@ -114,7 +114,21 @@ same err 'cannot write log\n'
 row='a word that is not UTF-8'
 "$program" PE $'\xff' r fp fu rp ru LEADING:3 > out 2> err
 [ $? -eq 1 ] || fail "$row: the status is not 1"
-same err "error: a word is not UTF-8\n\nFor more information, try '--help'.\n"
+same err "error: word 2 is not UTF-8\n\nFor more information, try '--help'.\n"
+[ -e fp ] && fail "$row: an output was made"
+
+row='one file as both inputs'
+two_pairs
+ln f again
+run 4 'cannot read f\n' PE f f fp fu rp ru LEADING:3
+run 4 'cannot read again\n' PE f again fp fu rp ru LEADING:3
+[ -e fp ] && fail "$row: an output was made"
+run 0 '' PE /dev/null /dev/null fp fu rp ru LEADING:3
+
+row='the version'
+two_pairs
+run 0 '' --version
+same out 'fq_prog 1.0.0\n'
 
 row='a folder that is not there'
 two_pairs

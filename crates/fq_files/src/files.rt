@@ -1,6 +1,6 @@
 //! Files by name.
 
-ghost use Rattle.std.specs.Prelude.{◌≡◌, Bool, false, Some, None, Err, [], IsTrue, IsSome, IfOk, OnOk};
+ghost use Rattle.std.specs.Prelude.{◌≡◌, ◌⊎◌, Bool, false, Some, None, Err, [], IsTrue, IsSome, IfOk, OnOk, OnErr};
 ghost use Rattle.fq_files.specs.Holding.{Holding, IsUnchanged, KeepsOthers, KeepsNames};
 
 use fq_text::{Feed, OutOfMemory, Outlet};
@@ -66,12 +66,14 @@ pub trait Files {
         false
     }
 
-    /// An outlet to the file, which is made, or emptied where it is there. The outlet has taken nothing, and has not failed.
+    /// An outlet to the file, which is made, or emptied where it is there. The outlet has taken nothing, and has not failed. Where the file is
+    /// refused it holds what it held, or nothing.
     fn target(&mut self, name: &str) -> Result<Self::Target, FileFault>
         ensures fresh { IfOk result (λ target. Self.Target.failure_count target ≡ 0) }
         ensures telling { IfOk result (λ target. IsTrue (tells_bytes self.old) → IsTrue (Self.Target.tells target)) }
         ensures nothing { IfOk result (λ target. IsTrue (tells_bytes self.old) → Self.Target.taken target ≡ []) }
         ensures emptied { OnOk result (IsTrue (tells_bytes self.old) → bytes_of self.new name.now ≡ Some []) }
+        ensures refused { OnErr result (IsTrue (tells_bytes self.old) → (bytes_of self.new name.now ≡ bytes_of self.old name.now) ⊎ (bytes_of self.new name.now ≡ Some [])) }
         ensures held { IsTrue (tells_bytes self.old) → KeepsNames (bytes_of self.old) (bytes_of self.new) }
         ensures others { IsTrue (tells_bytes self.old) → KeepsOthers (bytes_of self.old) (bytes_of self.new) name.now }
         ensures told { tells_bytes self.new ≡ tells_bytes self.old };

@@ -27,7 +27,7 @@ impl Identity {
 /// The files of the system, which tell no bytes.
 ///
 /// A file that was opened as an input is refused as an output, under whatever name, and is left as it is. A regular file that is an
-/// output already is refused as another one.
+/// input already is refused as another input, and one that is an output already as another output.
 #[derive(Drop)]
 pub struct SystemFiles<'a, R: rt::Files<File = File>> {
     runtime: &'a R,
@@ -85,12 +85,12 @@ impl<'a, R: rt::Files<File = File>> Files for SystemFiles<'a, R> {
         let Ok(metadata) = file.metadata() else {
             return Err(FileFault::Refused);
         };
-        if metadata.is_dir() {
+        let identity = Identity::of(&metadata);
+        let is_twice = metadata.is_file() && self.is_input(identity);
+        if metadata.is_dir() || is_twice {
             return Err(FileFault::Refused);
         }
-        self.inputs
-            .push(Identity::of(&metadata))
-            .map_err(OutOfMemory::from)?;
+        self.inputs.push(identity).map_err(OutOfMemory::from)?;
         Ok(FromRead::new(file))
     }
 

@@ -1,16 +1,21 @@
 -- What an exit status tells, of an outcome and of a refusal.
-use Rattle.std.proofs.Common.{◌≡◌, ◌≢◌, ◌⊎◌, ◌∙◌, ℕ, suc, Bool, IsTrue, IsSome, Option, Some, None, [], ◌∷◌, inl, inr, ⊎_elim, refl, sym, subst, arith}
+use Rattle.std.proofs.Common.{◌≡◌, ◌≢◌, ◌⊎◌, ◌∙◌, ℕ, suc, Bool, IsTrue, IsSome, Option, Some, None, [], ◌∷◌, List, inl, inr, ⊎_elim, refl, sym, ap, subst, arith}
 use Rattle.std.specs.List.{All}
-use Rattle.fq_files.specs.Holding.{Holding}
+use Rattle.fq_files.specs.Holding.{Holding, IsUnchanged}
+use Rattle.fq_pair.specs.declared.counts.Counts.{Counts}
+use Rattle.fq_pair.specs.declared.side.Side.{Side}
 use Rattle.clap.specs.Kinds.{IsAmong, Kinds}
 use Rattle.clap.specs.declared.error.kind.ErrorKind.{ErrorKind}
 use Rattle.fq_run.specs.declared.outcome.Outcome.{Outcome}
 use Rattle.fq_run.specs.declared.outcome.Outcome.TheVariants.{Spawn, Lane, Gate, Memory, Write, Read, Endless, Input, Finished}
 use Rattle.fq_run.specs.Endings.{ends_whole}
-use Rattle.fq_prog.specs.Faults.{outcome_status}
-use Rattle.fq_prog.specs.Requests.{Asking, wrong_with}
+use Rattle.fq_prog.specs.Faults.{outcome_status, outcome_line}
+use Rattle.fq_prog.specs.Requests.{Asking, wrong_with, input_name}
+use Rattle.fq_prog.specs.Trimming.{HasDistinctOutputs, TrimsFiles}
+use Rattle.fq_prog.specs.Leaving.{RefusalLeaves, HoldFirstPairs, AreLeft}
+use Rattle.fq_prog.proofs.LeavingLemmas.{refusal_untrimmed, whole_first}
 use Rattle.fq_prog.specs.Refusals.{status_of, line_of}
-use Rattle.fq_prog.specs.Answers.{Device, LacksMemory, PairsAnswered, Refuses, TookLine, memory_line}
+use Rattle.fq_prog.specs.Answers.{Device, EndsWhole, IsRefusal, IsEnding, IsUnprinted, IsUntold, LacksMemory, PairsAnswered, Refuses, Reports, TookLine, memory_line, print_line}
 use Rattle.fq_prog.specs.declared.refusal.Refusal.{Refusal}
 use Rattle.fq_prog.specs.declared.refusal.Refusal.TheVariants as why
 
@@ -52,27 +57,29 @@ refusal_fails (why.Setting bad) = ((λ e. absurd (omega (arith, e))), (λ e. abs
 refusal_fails (why.SameName out) = ((λ e. absurd (omega (arith, e))), (λ e. absurd (omega (arith, e))), (λ e. absurd (omega (arith, e))))
 refusal_fails (why.Source side) = ((λ e. absurd (omega (arith, e))), (λ e. absurd (omega (arith, e))), (λ e. absurd (omega (arith, e))))
 refusal_fails (why.Target out) = ((λ e. absurd (omega (arith, e))), (λ e. absurd (omega (arith, e))), (λ e. absurd (omega (arith, e))))
-refusal_fails why.Print = ((λ e. absurd (omega (arith, e))), (λ e. absurd (omega (arith, e))), (λ e. absurd (omega (arith, e))))
 refusal_fails why.Memory = ((λ e. absurd (omega (arith, e))), (λ e. absurd (omega (arith, e))), (λ e. absurd (omega (arith, e))))
 
 -- want of memory has its line
-pub lacks_line : (a : Asking) (err : Device) (status : ℕ) → LacksMemory err status → TookLine a err status
-lacks_line a err status lacks = record {
+lacks_line : (a : Asking) (told : Bool) (old new : Holding) (err : Device) (status : ℕ) → LacksMemory err status → (IsTrue told → HasDistinctOutputs a → AreLeft a old new) → TookLine a told old new err status
+lacks_line a told old new err status lacks left = record {
   text = memory_line;
-  fits = inl (record { why = why.Memory; status_is = sym lacks.status_is; text_is = refl });
+  fits = inr (inr (record { status_is = lacks.status_is; text_is = refl; left = left }));
   took = lacks.told;
 }
 
 -- what was asked is answered by want of memory
-pub lacks_answer : (a : Asking) (told : Bool) (old new : Holding) (out err : Device) (status : ℕ) → LacksMemory err status → PairsAnswered a told old new out err status
-lacks_answer a told old new out err status lacks =
+pub lacks_answer : (a : Asking) (told : Bool) (old new : Holding) (out err : Device) (status : ℕ) → LacksMemory err status → (IsTrue told → HasDistinctOutputs a → AreLeft a old new)
+    → (IsTrue told → (side : Side) → old (input_name a.inputs side) ≡ None → IsUnchanged old new) → PairsAnswered a told old new out err status
+lacks_answer a told old new out err status lacks left unopened =
     let five = lacks.status_is in
     record {
       whole = λ ends. absurd (⊎_elim (λ zero. omega (arith, zero, five)) (λ three. omega (arith, three, five)) ends);
       wrong = λ refusal is. inr lacks;
       right = λ two. absurd (omega (arith, two, five));
-      line = λ other. lacks_line a err status lacks;
+      line = λ other. lacks_line a told old new err status lacks left;
       known = λ one. absurd (omega (arith, one, five));
+      left = λ other. left;
+      unopened = unopened;
     }
 
 there_is : {X : Type 0} (o : Option X) → (o ≡ None → ⊥) → IsSome o
@@ -81,18 +88,62 @@ there_is (Some x) none = refl
 
 -- or by a refusal
 pub refused_answer : (a : Asking) (told : Bool) (old new : Holding) (out err : Device) (status : ℕ) (refusal : Refusal) → Refuses a refusal err status
-    → ((other : Refusal) → wrong_with a ≡ Some other → refusal ≡ other) → (wrong_with a ≡ None → status_of refusal ≢ 2) → PairsAnswered a told old new out err status
-refused_answer a told old new out err status refusal (inl refuses) first late =
+    → ((other : Refusal) → wrong_with a ≡ Some other → refusal ≡ other) → (wrong_with a ≡ None → status_of refusal ≢ 2)
+    → (IsTrue told → HasDistinctOutputs a → RefusalLeaves a refusal old new)
+    → (IsTrue told → (side : Side) → old (input_name a.inputs side) ≡ None → IsUnchanged old new) → PairsAnswered a told old new out err status
+refused_answer a told old new out err status refusal (inl refuses) first late left unopened =
     let own = refusal_fails refusal in
     let is = refuses.0 in
     record {
       whole = λ ends. absurd (⊎_elim (λ zero. own.0 (sym is ∙ zero)) (λ three. own.2 (sym is ∙ three)) ends);
       wrong = λ other named. let P : Refusal → Type 0 = λ r. Refuses a r err status in subst P (first other named) (inl refuses);
       right = λ two. there_is (wrong_with a) (λ none. late none (sym is ∙ two));
-      line = λ other. record { text = line_of a refusal; fits = inl (record { why = refusal; status_is = sym is; text_is = refl }); took = refuses.1 };
+      line = λ other. record { text = line_of a refusal; fits = inl (inl (record { why = refusal; status_is = sym is; text_is = refl; left = left })); took = refuses.1 };
       known = λ one. own.1 (sym is ∙ one);
+      left = λ other tells distinct. inl (refusal_untrimmed a refusal old new (left tells distinct));
+      unopened = unopened;
     }
-refused_answer a told old new out err status refusal (inr lacks) first late = lacks_answer a told old new out err status lacks
+refused_answer a told old new out err status refusal (inr lacks) first late left unopened =
+    lacks_answer a told old new out err status lacks (λ tells distinct. inl (refusal_untrimmed a refusal old new (left tells distinct))) unopened
+
+-- the line of a run that was made
+pub told_line : (a : Asking) (told : Bool) (old new : Holding) (err : Device) (status : ℕ) (outcome : Outcome) (counts : Counts) → Reports outcome err status
+    → (IsTrue told → HasDistinctOutputs a → IsTrue (ends_whole outcome) → TrimsFiles a old new outcome counts)
+    → (IsTrue told → HasDistinctOutputs a → outcome ≢ Lane → HoldFirstPairs a old new outcome) → TookLine a told old new err status
+told_line a told old new err status outcome counts (inl ending) trims ended = record {
+  text = outcome_line outcome;
+  fits = inl (inr (record { outcome = outcome; status_is = sym ending.0; text_is = refl; left = ended }));
+  took = ending.1;
+}
+told_line a told old new err status outcome counts (inr (inl unprinted)) trims ended = record {
+  text = print_line;
+  fits = inr (inl (record { status_is = unprinted.1; text_is = refl; left = λ tells distinct. (outcome, counts, unprinted.0, trims tells distinct (done_is_whole outcome unprinted.0)) }));
+  took = unprinted.2;
+}
+told_line a told old new err status outcome counts (inr (inr untold)) trims ended =
+    lacks_line a told old new err status untold.1 (λ tells distinct. inr (outcome, ended tells distinct untold.0))
+
+-- what the line of a run says of the files
+fits_left : (a : Asking) (told : Bool) (old new : Holding) (status : ℕ) (text : List ℕ) → (IsRefusal a told old new status text ⊎ IsEnding a told old new status text)
+    ⊎ (IsUnprinted a told old new status text ⊎ IsUntold a told old new status text) → status ≢ 6 → IsTrue told → HasDistinctOutputs a → AreLeft a old new
+fits_left a told old new status text (inl (inl refusal)) other tells distinct = inl (refusal_untrimmed a refusal.why old new (refusal.left tells distinct))
+fits_left a told old new status text (inl (inr ending)) other tells distinct =
+    inr (ending.outcome, ending.left tells distinct (λ lane. other (sym ending.status_is ∙ ap outcome_status lane)))
+fits_left a told old new status text (inr (inl unprinted)) other tells distinct =
+    let all = unprinted.left tells distinct in inr (all.0, whole_first a old new all.0 all.1 all.3)
+fits_left a told old new status text (inr (inr untold)) other tells distinct = untold.left tells distinct
+
+zero_or : (n : ℕ) → (n ≡ 0) ⊎ (n ≢ 0)
+zero_or n = grind arith
+
+-- at every status but that of an unconfirmed lane
+pub left_so : (a : Asking) (told : Bool) (old new : Holding) (out err : Device) (status : ℕ)
+    → ((status ≡ 0) ⊎ (status ≡ 3) → IsTrue told → HasDistinctOutputs a → EndsWhole a old new out err status) → (status ≢ 0 → TookLine a told old new err status)
+    → status ≢ 6 → IsTrue told → HasDistinctOutputs a → AreLeft a old new
+left_so a told old new out err status whole line other tells distinct = ⊎_elim
+    (λ zero. let ends = whole (inl zero) tells distinct in inr (ends.outcome, whole_first a old new ends.outcome ends.counts ends.trims))
+    (λ some. let took = line some in fits_left a told old new status took.text took.fits other tells distinct)
+    (zero_or status)
 
 -- what is there
 pub some_in : {X : Type 0} (o : Option X) → IsSome o → (x : X) × (o ≡ Some x)

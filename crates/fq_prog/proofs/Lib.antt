@@ -1,6 +1,8 @@
 mod AnswerLemmas
 mod StoreLemmas
 mod RestLemmas
+mod MakingLemmas
+mod LeavingLemmas
 mod TextLemmas
 mod WordLemmas
 mod ExampleLemmas

@@ -2,7 +2,7 @@
 use Rattle.std.proofs.Common.{◌≡◌, ℕ, true, false, Some, List, [], ◌∷◌, refl, codes}
 use Rattle.clap.proofs.OnLiterals.{clap_on_literals}
 use Rattle.fq_prog.specs.Requests.{one_file, two_files}
-use Rattle.clap.specs.declared.error.kind.ErrorKind.TheVariants.{MissingRequiredArgument, MissingSubcommand}
+use Rattle.clap.specs.declared.error.kind.ErrorKind.TheVariants.{DisplayVersion, MissingRequiredArgument, MissingSubcommand}
 use Rattle.fq_prog.specs.Words.{asking_in, interleaved_app, pairs_app, pairs_asked, program_app, words_fault}
 
 -- `fq IL --trimlog log --no-name-check i fp fu rp ru LEADING:3`
@@ -75,3 +75,8 @@ few_words = refl
 no_words : words_fault (codes "fq" ∷ []) ≡ MissingSubcommand ∷ []
 unfolding clap_on_literals program_app pairs_app interleaved_app words_fault
 no_words = refl
+
+-- the version
+version_words : words_fault (codes "fq" ∷ codes "--version" ∷ []) ≡ DisplayVersion ∷ []
+unfolding clap_on_literals program_app pairs_app interleaved_app words_fault
+version_words = refl

@@ -30,11 +30,11 @@ out_at-place ReverseUnpaired = refl
 out_at-place Log = refl
 
 -- outputs at one place are one
-same_place : (one other : Out) → place one ≡ place other → one ≡ other
+pub same_place : (one other : Out) → place one ≡ place other → one ≡ other
 same_place one other e = sym (out_at-place one) ∙ (ap out_at e ∙ out_at-place other)
 
 -- below the next number is below this one, or this one
-below_next : (m n : ℕ) → m < suc n → (m < n) ⊎ (m ≡ n)
+pub below_next : (m n : ℕ) → m < suc n → (m < n) ⊎ (m ≡ n)
 below_next m n h = grind arith
 
 pub none_first : (a : Asking) (states : OutletStates) (files : Holding) → HoldFirst 0 a states files

@@ -1,18 +1,22 @@
 -- How a call of the program ends.
-use Rattle.std.specs.Prelude.{◌≡◌, ◌≢◌, ◌⊎◌, ℕ, ◌<◌, Bool, IsTrue, IsSome, Some, List, [], ◌++◌, codes, length, take}
+use Rattle.std.specs.Prelude.{◌≡◌, ◌≢◌, ◌⊎◌, ℕ, ◌<◌, Bool, IsTrue, IsSome, Some, None, List, [], ◌++◌, codes, length, take}
 use Rattle.std.specs.List.{All}
 use Rattle.fq_text.specs.Written.{line}
-use Rattle.fq_files.specs.Holding.{Holding}
+use Rattle.fq_files.specs.Holding.{Holding, IsUnchanged}
 use Rattle.fq_pair.specs.declared.counts.Counts.{Counts}
+use Rattle.fq_pair.specs.declared.side.Side.{Side}
 use Rattle.fq_pair.specs.Summaries.{summary_of}
 use Rattle.fq_run.specs.declared.outcome.Outcome.{Outcome}
+use Rattle.fq_run.specs.declared.outcome.Outcome.TheVariants.{Lane}
 use Rattle.clap.specs.Kinds.{Kinds}
+use Rattle.clap.specs.declared.error.kind.ErrorKind.{ErrorKind}
 use Rattle.clap.specs.declared.error.kind.ErrorKind.TheVariants.{DisplayHelp, DisplayVersion}
 use Rattle.fq_prog.specs.declared.refusal.Refusal.{Refusal}
-use Rattle.fq_prog.specs.Requests.{Asking, wrong_with}
+use Rattle.fq_prog.specs.Requests.{Asking, wrong_with, input_name}
 use Rattle.fq_prog.specs.Refusals.{status_of, line_of}
 use Rattle.fq_prog.specs.Faults.{outcome_status, outcome_line}
 use Rattle.fq_prog.specs.Trimming.{HasDistinctOutputs, TrimsFiles}
+use Rattle.fq_prog.specs.Leaving.{RefusalLeaves, HoldFirstPairs, AreLeft}
 
 -- A device in a call: whether it tells its bytes, those that it had taken before the call and has taken after it, and how
 -- often it has failed.
@@ -44,26 +48,6 @@ pub record EndsWhole (a : Asking) (old new : Holding) (out err : Device) (status
   pub printed : TookPart out (summary_of counts)
   pub told : TookText err (outcome_line outcome)
 
--- What is told on standard error.
-
--- a refusal of what was asked has this status and this line
-pub record IsRefusal (a : Asking) (status : ℕ) (text : List ℕ) : Type 0 where
-  pub why : Refusal
-  pub status_is : status_of why ≡ status
-  pub text_is : line_of a why ≡ text
-
--- an outcome of the run has this status and this line
-pub record IsEnding (status : ℕ) (text : List ℕ) : Type 0 where
-  pub outcome : Outcome
-  pub status_is : outcome_status outcome ≡ status
-  pub text_is : outcome_line outcome ≡ text
-
--- standard error took the line of a refusal or of an outcome with this status, and nothing else
-pub record TookLine (a : Asking) (err : Device) (status : ℕ) : Type 0 where
-  pub text : List ℕ
-  pub fits : IsRefusal a status text ⊎ IsEnding status text
-  pub took : TookText err text
-
 abbrev pub memory_line : List ℕ
 memory_line = line (codes "out of memory")
 
@@ -75,6 +59,48 @@ pub record LacksMemory (err : Device) (status : ℕ) : Type 0 where
   pub status_is : status ≡ 5
   pub told : TookText err memory_line
 
+-- What is told on standard error, and what the files of the outputs hold then.
+
+-- a refusal of what was asked has this status and this line
+pub record IsRefusal (a : Asking) (tells : Bool) (old new : Holding) (status : ℕ) (text : List ℕ) : Type 0 where
+  pub why : Refusal
+  pub status_is : status_of why ≡ status
+  pub text_is : line_of a why ≡ text
+  pub left : IsTrue tells → HasDistinctOutputs a → RefusalLeaves a why old new
+
+-- an outcome of the run has this status and this line
+pub record IsEnding (a : Asking) (tells : Bool) (old new : Holding) (status : ℕ) (text : List ℕ) : Type 0 where
+  pub outcome : Outcome
+  pub status_is : outcome_status outcome ≡ status
+  pub text_is : outcome_line outcome ≡ text
+  pub left : IsTrue tells → HasDistinctOutputs a → outcome ≢ Lane → HoldFirstPairs a old new outcome
+
+-- all pairs were trimmed, and the summary could not be printed
+pub record IsUnprinted (a : Asking) (tells : Bool) (old new : Holding) (status : ℕ) (text : List ℕ) : Type 0 where
+  pub status_is : status ≡ 4
+  pub text_is : text ≡ print_line
+  pub left : IsTrue tells → HasDistinctOutputs a → (outcome : Outcome) × (counts : Counts) × (outcome_status outcome ≡ 0) × TrimsFiles a old new outcome counts
+
+-- memory was refused for what was to be told
+pub record IsUntold (a : Asking) (tells : Bool) (old new : Holding) (status : ℕ) (text : List ℕ) : Type 0 where
+  pub status_is : status ≡ 5
+  pub text_is : text ≡ memory_line
+  pub left : IsTrue tells → HasDistinctOutputs a → AreLeft a old new
+
+-- standard error took the line of one of these, which has this status, and nothing else
+pub record TookLine (a : Asking) (tells : Bool) (old new : Holding) (err : Device) (status : ℕ) : Type 0 where
+  pub text : List ℕ
+  pub fits : (IsRefusal a tells old new status text ⊎ IsEnding a tells old new status text)
+      ⊎ (IsUnprinted a tells old new status text ⊎ IsUntold a tells old new status text)
+  pub took : TookText err text
+
+-- an outcome was told, or that the summary of pairs that were all trimmed was not printed, or memory was refused for either
+abbrev pub Reports : Outcome → Device → ℕ → Type 0
+Reports outcome err status =
+    ((status ≡ outcome_status outcome) × TookText err (outcome_line outcome))
+    ⊎ (((outcome_status outcome ≡ 0) × (status ≡ 4) × TookText err print_line)
+    ⊎ ((outcome ≢ Lane) × LacksMemory err status))
+
 -- a refusal was told, or memory was refused for its line
 abbrev pub Refuses : Asking → Refusal → Device → ℕ → Type 0
 Refuses a why err status = ((status ≡ status_of why) × TookText err (line_of a why)) ⊎ LacksMemory err status
@@ -84,10 +110,21 @@ pub record PairsAnswered (a : Asking) (told : Bool) (old new : Holding) (out err
   pub whole : (status ≡ 0) ⊎ (status ≡ 3) → IsTrue told → HasDistinctOutputs a → EndsWhole a old new out err status
   pub wrong : (why : Refusal) → wrong_with a ≡ Some why → Refuses a why err status
   pub right : status ≡ 2 → IsSome (wrong_with a)
-  pub line : status ≢ 0 → TookLine a err status
+  pub line : status ≢ 0 → TookLine a told old new err status
   pub known : status ≢ 1
+  pub left : status ≢ 6 → IsTrue told → HasDistinctOutputs a → AreLeft a old new
+  pub unopened : IsTrue told → (side : Side) → old (input_name a.inputs side) ≡ None → IsUnchanged old new
 
--- words that are refused, and are no call for help
+-- a call for help or for the version
+abbrev pub IsCall : ErrorKind → Type 0
+IsCall kind = (kind ≡ DisplayHelp) ⊎ (kind ≡ DisplayVersion)
+
+-- words that are such a call, and nothing else
+pub record AreCalls (kinds : Kinds) : Type 0 where
+  pub some : kinds ≢ []
+  pub all : All IsCall kinds
+
+-- words that are refused, and are no such call
 pub record AreRefused (kinds : Kinds) : Type 0 where
   pub some : kinds ≢ []
   pub no_help : All (λ kind. (kind ≢ DisplayHelp) × (kind ≢ DisplayVersion)) kinds

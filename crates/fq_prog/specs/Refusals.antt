@@ -6,7 +6,7 @@ use Rattle.fq_trim.specs.declared.fault.StepFaultKind.TheVariants as step
 use Rattle.fq_run.specs.declared.settings.BadSetting.{BadSetting}
 use Rattle.fq_run.specs.declared.settings.BadSetting.TheVariants as setting
 use Rattle.fq_prog.specs.declared.refusal.Refusal.{Refusal}
-use Rattle.fq_prog.specs.declared.refusal.Refusal.TheVariants.{Encoding, Step, Setting, SameName, Source, Target, Print, Memory}
+use Rattle.fq_prog.specs.declared.refusal.Refusal.TheVariants.{Encoding, Step, Setting, SameName, Source, Target, Memory}
 use Rattle.fq_prog.specs.Requests.{Asking, input_name, output_name}
 
 -- the exit status
@@ -17,7 +17,6 @@ status_of (Setting bad) = 2
 status_of (SameName out) = 2
 status_of (Source side) = 4
 status_of (Target out) = 4
-status_of Print = 4
 status_of Memory = 5
 
 abbrev pub step_fault_name : StepFaultKind → List ℕ
@@ -44,7 +43,6 @@ words_of a (Setting bad) = codes "bad setting: " ++ setting_name bad
 words_of a (SameName out) = codes "same name: " ++ unwrap_or (output_name a out) []
 words_of a (Source side) = codes "cannot read " ++ input_name a.inputs side
 words_of a (Target out) = codes "cannot write " ++ unwrap_or (output_name a out) []
-words_of a Print = codes "cannot print"
 words_of a Memory = codes "out of memory"
 
 abbrev pub line_of : Asking → Refusal → List ℕ

@@ -2,6 +2,8 @@
 //! becomes of two built-in pairs.
 #![tactic(auto)]
 
+ghost use Rattle.std.specs.Prelude.{◌≡◌};
+
 mod example;
 mod fault_line;
 mod help;
@@ -15,31 +17,32 @@ mod unshown;
 mod words;
 
 use fq_files::SystemFiles;
-use fq_text::{FromWrite, send};
+use fq_text::{FromWrite, Outlet, send};
 use program::program;
 use report::out_of_memory;
 use std::alloc::{AllocError, Global};
+use std::env::Env;
 use std::process::ExitCode;
-use std::{env, io};
+use std::{env, io, str};
 
 #[cfg(test)]
 mod tests;
 
-const NOT_UTF8: &[u8] = b"error: a word is not UTF-8\n\nFor more information, try '--help'.\n";
+// The system passes on no longer word.
+const LONGEST_WORD: usize = 1 << 17;
+
+// What stands below each such line, as `clap` has it.
+const MORE: &str = "\nFor more information, try '--help'.\n";
 
 fn main(rt: HostRuntime) -> ExitCode {
     let errors = rt.stderr();
     let mut err = FromWrite::new(io::writer(&errors));
     let args = match texts_of(&rt) {
         Ok(args) => args,
-        Err(error) => {
-            if error.kind() == io::ErrorKind::InvalidData {
-                // There is nowhere to say that this failed.
-                let _ = send(&mut err, NOT_UTF8);
-                return ExitCode::from(1);
-            }
-            return ExitCode::from(out_of_memory(&mut err));
+        Err(error) if error.kind() == io::ErrorKind::InvalidData => {
+            return ExitCode::from(refuse_bytes(&rt, &mut err));
         }
+        Err(_) => return ExitCode::from(out_of_memory(&mut err)),
     };
     let Ok(words) = words_of(rt.alloc(), &args) else {
         return ExitCode::from(out_of_memory(&mut err));
@@ -65,4 +68,30 @@ fn words_of<'a>(alloc: Global, texts: &'a [String]) -> Result<Vec<&'a str>, Allo
         words.push(text.as_str())?;
     }
     Ok(words)
+}
+
+// A word of the command line is not UTF-8: says which, counted behind the program's name, and answers the exit status.
+fn refuse_bytes<E: Outlet>(rt: &HostRuntime, err: &mut E) -> u8
+    requires { E.failure_count err.old ≡ 0 }
+{
+    let Ok(text) = bytes_line(rt) else {
+        return out_of_memory(err);
+    };
+    // There is nowhere to say that this failed.
+    let _ = send(err, text.as_bytes());
+    1
+}
+
+fn bytes_line(rt: &HostRuntime) -> Result<String, AllocError> {
+    let mut word = vec![in rt.alloc(); 0; LONGEST_WORD]?;
+    for place in 0..usize::MAX {
+        match rt.arg(place, &mut word) {
+            Ok(n) if str::from_utf8(&word[..n]).is_err() => {
+                return format!(in rt.alloc(); "error: word {place} is not UTF-8\n{MORE}");
+            }
+            Ok(_) => {}
+            Err(_) => break,
+        }
+    }
+    format!(in rt.alloc(); "error: a word is not UTF-8\n{MORE}")
 }

@@ -4,7 +4,7 @@ ghost use Rattle.std.specs.Prelude.{◌≡◌, ◌≢◌, ◌⊎◌, ◌++◌, S
 ghost use Rattle.fq_prog.specs.Requests.{Asking, asking_of, wrong_with};
 ghost use Rattle.fq_prog.specs.Trimming.{KeepsRest};
 ghost use Rattle.fq_prog.specs.Words.{AskedFor, words_fault};
-ghost use Rattle.fq_prog.specs.Answers.{device_of, TookText, LacksMemory, Refuses, PairsAnswered, AreRefused, print_line};
+ghost use Rattle.fq_prog.specs.Answers.{device_of, TookText, LacksMemory, Refuses, PairsAnswered, AreRefused, IsCall, AreCalls, print_line};
 ghost use Rattle.fq_prog.specs.Example.{example_text};
 ghost use Rattle.clap.specs.Words.{kind_of};
 ghost use Rattle.clap.specs.declared.error.kind.ErrorKind.TheVariants.{DisplayHelp, DisplayVersion, OutOfMemory};
@@ -59,11 +59,13 @@ pub fn program<'a, R: Threads + Wait + Copy + Send + 'static, T: Files, O: Outle
     // No file is touched but those of the outputs.
     ensures rest { (a : Asking) → AskedFor (map (λ word. word.now) words.entry.now) (Some a) → IsTrue (T.tells_bytes files.old) → KeepsRest a (T.bytes_of files.old) (T.bytes_of files.new) }
 
-    // Other words touch no file. `EXAMPLE` is printed, but where `out`, memory or a thread fails; words that don't parse are refused, but calls for help.
+    // Other words touch no file. `EXAMPLE` is printed, but where `out`, memory or a thread fails; words that don't parse are refused, but
+    // calls for help or for the version are not.
     ensures example { AskedFor (map (λ word. word.now) words.entry.now) None → (files.new ≡ files.old) × ((result ≡ 0) ⊎ ((result ≡ 4) ⊎ ((result ≡ 5) ⊎ (result ≡ 6)))) }
     ensures shown { AskedFor (map (λ word. word.now) words.entry.now) None → result ≡ 0 → IsTrue (O.tells out.old) → O.taken out.new ≡ O.taken out.old ++ example_text }
     ensures refused { words_fault (map (λ word. word.now) words.entry.now) ≢ [] → files.new ≡ files.old }
     ensures usage { AreRefused (words_fault (map (λ word. word.now) words.entry.now)) → (result ≡ 1) ⊎ (result ≡ 5) }
+    ensures called { AreCalls (words_fault (map (λ word. word.now) words.entry.now)) → result ≢ 1 }
     ensures usage_only { result ≡ 1 → (words_fault (map (λ word. word.now) words.entry.now) ≢ []) × (out.new ≡ out.old) }
 
     // Where all is done nothing is told, and `out` has taken all. Where it fails the status says so, or tells of the input; nothing is
@@ -153,6 +155,7 @@ fn refuse_words<O: Outlet, E: Outlet>(alloc: Global, error: &Error, out: &mut O,
     ensures status { (result ≡ 0) ⊎ ((result ≡ 1) ⊎ ((result ≡ 4) ⊎ (result ≡ 5))) }
     ensures no_memory { kind_of error.now ≡ OutOfMemory → result ≡ 5 }
     ensures usage { kind_of error.now ≢ DisplayHelp → kind_of error.now ≢ DisplayVersion → (result ≡ 1) ⊎ (result ≡ 5) }
+    ensures called { IsCall (kind_of error.now) → result ≢ 1 }
     ensures usage_only { result ≡ 1 → (out.new ≡ out.old) × (kind_of error.now ≢ OutOfMemory) }
     ensures finished { result ≡ 0 → (O.failure_count out.new ≡ 0) × (err.new ≡ err.old) }
     ensures failed { result ≡ 4 → (O.failure_count out.new ≡ 1) × TookText (device_of E.tells E.taken E.failure_count err.old err.new) print_line }

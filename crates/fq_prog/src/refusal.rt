@@ -1,6 +1,6 @@
 //! Why the program did not do what it was asked for.
 
-ghost use Rattle.std.specs.Prelude.{◌≡◌, ◌≢◌};
+ghost use Rattle.std.specs.Prelude.{◌≡◌, ◌≢◌, ◌⊎◌};
 ghost use Rattle.fq_prog.specs.Refusals.{status_of};
 
 use fq_files::FileFault;
@@ -24,8 +24,6 @@ pub(crate) enum Refusal {
     Source(Side),
     /// This output can't be written.
     Target(Out),
-    /// What was to be printed could not be.
-    Print,
     /// Memory was refused.
     Memory,
 }
@@ -45,6 +43,7 @@ impl From<OutOfMemory> for Refusal {
 pub(crate) fn file_refused(fault: FileFault, refused: Refusal) -> Refusal
     ensures refused { fault ≡ FileFault.Refused → result ≡ refused }
     ensures memory { fault ≡ FileFault.OutOfMemory → result ≡ Refusal.Memory }
+    ensures either { (result ≡ refused) ⊎ (result ≡ Refusal.Memory) }
     ensures late { status_of refused ≢ 2 → status_of result ≢ 2 }
 {
     match fault {

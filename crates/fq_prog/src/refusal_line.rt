@@ -19,7 +19,7 @@ pub(crate) fn refusal_status(refusal: Refusal) -> u8
 {
     match refusal {
         Refusal::Encoding | Refusal::Step(_) | Refusal::Setting(_) | Refusal::SameName(_) => 2,
-        Refusal::Source(_) | Refusal::Target(_) | Refusal::Print => 4,
+        Refusal::Source(_) | Refusal::Target(_) => 4,
         Refusal::Memory => 5,
     }
 }
@@ -54,7 +54,6 @@ pub(crate) fn refusal_line(
             let name = request.output_name(out);
             format!(in alloc; "cannot write {name}\n")
         }
-        Refusal::Print => String::from_str(alloc, "cannot print\n"),
         Refusal::Memory => String::from_str(alloc, "out of memory\n"),
     }
 }

@@ -2,13 +2,13 @@
 
 ghost use Rattle.std.specs.Prelude.{◌≡◌, ◌≢◌, ◌⊎◌, true, false, IfOk, OnErr};
 ghost use Rattle.fq_pair.specs.Summaries.{summary_of};
-ghost use Rattle.fq_prog.specs.Requests.{Asking};
-ghost use Rattle.fq_prog.specs.Answers.{device_of, TookText, TookPart, TookLine, LacksMemory, memory_line, print_line};
+ghost use Rattle.fq_prog.specs.Answers.{device_of, TookText, TookPart, Reports, LacksMemory, memory_line, print_line};
 ghost use Rattle.fq_prog.specs.Faults.{outcome_status, outcome_line};
 
 use crate::fault_line::{fault_line, status_of};
 use crate::trimming::Ended;
 use fq_pair::{Counts, summary};
+use fq_run::Outcome;
 use fq_text::{OutOfMemory, Outlet, send};
 use std::alloc::Global;
 
@@ -31,7 +31,7 @@ pub(crate) fn report<O: Outlet, E: Outlet>(
 
     // The line of the outcome.
     ensures told { (result ≡ 0) ⊎ (result ≡ 3) → TookText (device_of E.tells E.taken E.failure_count err.old err.new) (outcome_line ended.now.outcome) }
-    ensures line { (a : Asking) → result ≢ 0 → TookLine a (device_of E.tells E.taken E.failure_count err.old err.new) result }
+    ensures line { result ≢ 0 → Reports ended.now.outcome (device_of E.tells E.taken E.failure_count err.old err.new) result }
     ensures memory { result ≡ 5 → (out.new ≡ out.old) × LacksMemory (device_of E.tells E.taken E.failure_count err.old err.new) result }
 
     // Where `out` failed the status says so, and otherwise nothing but the summary is printed.
@@ -39,6 +39,11 @@ pub(crate) fn report<O: Outlet, E: Outlet>(
     ensures failed { O.failure_count out.new ≢ 0 → (result ≡ 3) ⊎ ((result ≡ 4) × TookText (device_of E.tells E.taken E.failure_count err.old err.new) print_line) }
     ensures known { (result ≢ 1) × (result ≢ 2) }
 {
+    if matches!(ended.outcome, Outcome::Lane) {
+        // It is told without memory: what is told of want of memory holds of every other outcome.
+        let _ = send(err, b"lane not confirmed\n");
+        return 6;
+    }
     let mut line = String::new(alloc);
     if fault_line(alloc, &mut line, &ended.outcome).is_err() {
         return out_of_memory(err);

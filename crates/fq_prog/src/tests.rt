@@ -45,6 +45,9 @@ const RECORD: usize = 18;
 
 const SEVEN_STEPS: &[&'static str] = &["LEADING:3", "TRAILING:3", "MINLEN:2"];
 
+// The options with which the two pairs are trimmed.
+const TWO_OPTIONS: &[&'static str] = &["--threads", "2", "--block", "1", "--trimlog", "log"];
+
 const OUTPUTS: [&str; 5] = ["fp", "fu", "rp", "ru", "log"];
 
 // What a call of the program left.

@@ -1,13 +1,14 @@
 //! Trimming the pairs of files into others.
 
-ghost use Rattle.std.specs.Prelude.{◌≡◌, ◌≢◌, Some, None, Err, [], IsTrue, IfOk, IfErr, OnOk, is_some};
+ghost use Rattle.std.specs.Prelude.{◌≡◌, ◌≢◌, ◌⊎◌, Some, None, Err, [], IsTrue, IsSome, IfOk, IfErr, OnOk, OnErr, is_some};
 ghost use Rattle.fq_run.specs.Devices.{feed_state, outlet_states, AreHealthy};
 ghost use Rattle.fq_run.specs.Endings.{ends_whole};
 ghost use Rattle.fq_prog.specs.declared.refusal.Refusal.{Refusal as Refused};
 ghost use Rattle.fq_prog.specs.Refusals.{status_of};
-ghost use Rattle.fq_prog.specs.Requests.{asking_of, input_name, wrong_with};
+ghost use Rattle.fq_prog.specs.Requests.{asking_of, input_name, output_name, wrong_with};
 ghost use Rattle.fq_prog.specs.Trimming.{HasDistinctOutputs, KeepsRest, AreHeld, HoldTaken, AreEmpty, IsFed, opened_of, AreFresh, AreFed, pairs_of, TrimsPairs, TrimsFiles};
-ghost use Rattle.fq_files.specs.Holding.{IsUnchanged, KeepsNames, KeepsOthers};
+ghost use Rattle.fq_prog.specs.Leaving.{TrimsFirst, HoldFirstPairs, IsMade, IsUnmade, RefusalLeaves, is_early};
+ghost use Rattle.fq_files.specs.Holding.{IsUnchanged};
 
 use crate::refusal::{Refusal, file_refused};
 use crate::request::{Inputs, Request, same_name, settings_of};
@@ -55,6 +56,15 @@ pub(crate) fn trim_files<R: Threads + Wait + Copy + Send + 'static, T: Files>(
     // What is wrong with the request comes first, and then no file is opened.
     ensures wrong { (why : Refused) → wrong_with (asking_of request.now) ≡ Some why → (result ≡ Err why) × (files.new ≡ files.old) }
     ensures right { wrong_with (asking_of request.now) ≡ None → IfErr result (λ why. status_of why ≢ 2) }
+
+    // What the files of the outputs hold at every ending but that of an unconfirmed lane, and where the run was refused.
+    ensures ended { IfOk result (λ ended. IsTrue (T.tells_bytes files.old) → HasDistinctOutputs (asking_of request.now) → ended.outcome ≢ Outcome.Lane
+        → HoldFirstPairs (asking_of request.now) (T.bytes_of files.old) (T.bytes_of files.new) ended.outcome) }
+    ensures refused { IfErr result (λ why. IsTrue (T.tells_bytes files.old) → HasDistinctOutputs (asking_of request.now)
+        → RefusalLeaves (asking_of request.now) why (T.bytes_of files.old) (T.bytes_of files.new)) }
+    // No output is made where an input is not there.
+    ensures unopened { IsTrue (T.tells_bytes files.old) → (side : Side) → T.bytes_of files.old (input_name (asking_of request.now).inputs side) ≡ None
+        → IsUnchanged (T.bytes_of files.old) (T.bytes_of files.new) }
 {
     let settings = settings_of(request)?;
     if let Some(out) = same_name(request) {
@@ -84,10 +94,14 @@ fn run<R: Threads + Wait + Copy + Send + 'static, F: Feed + Drop + Send + 'stati
 ) -> Ended
     requires fresh { AreFresh (opened_of (feed_state F.tells F.to_come F.failure_count) feeds) }
     requires healthy { AreHealthy (outlet_states O.tells O.taken O.failure_count outlets.old) }
-    ensures { let inputs = opened_of (feed_state F.tells F.to_come F.failure_count) feeds in
+    ensures whole { let inputs = opened_of (feed_state F.tells F.to_come F.failure_count) feeds in
         IsTrue (ends_whole result.outcome) → IsTrue inputs.forward.tells → IsTrue inputs.reverse.tells
         → TrimsPairs settings.now (pairs_of settings.now inputs.form inputs.forward.to_come inputs.reverse.to_come)
         (outlet_states O.tells O.taken O.failure_count outlets.old) (outlet_states O.tells O.taken O.failure_count outlets.new) result.outcome result.counts }
+    ensures first { let inputs = opened_of (feed_state F.tells F.to_come F.failure_count) feeds in
+        result.outcome ≢ Outcome.Lane → IsTrue inputs.forward.tells → IsTrue inputs.reverse.tells
+        → TrimsFirst settings.now (pairs_of settings.now inputs.form inputs.forward.to_come inputs.reverse.to_come)
+        (outlet_states O.tells O.taken O.failure_count outlets.old) (outlet_states O.tells O.taken O.failure_count outlets.new) result.outcome }
 {
     match feeds {
         Feeds::Apart { forward, reverse } => {
@@ -136,6 +150,7 @@ fn inputs<T: Files>(request: &Request<'_>, files: &mut T) -> Result<Feeds<T::In>
         → AreFed (opened_of (feed_state T.In.tells T.In.to_come T.In.failure_count) feeds) (asking_of request.now).inputs (T.bytes_of files.old)) }
     ensures unchanged { IsTrue (T.tells_bytes files.old) → IsUnchanged (T.bytes_of files.old) (T.bytes_of files.new) }
     ensures told { T.tells_bytes files.new ≡ T.tells_bytes files.old }
+    ensures early { IfErr result (λ why. IsTrue (is_early why)) }
     ensures late { IfErr result (λ why. status_of why ≢ 2) }
 {
     match request.inputs {
@@ -154,6 +169,7 @@ fn input<T: Files>(request: &Request<'_>, files: &mut T, side: Side) -> Result<T
     ensures fed { IfOk result (λ feed. IsTrue (T.tells_bytes files.old) → IsFed (T.In.tells feed) (T.In.to_come feed) (T.bytes_of files.old (input_name (asking_of request.now).inputs side))) }
     ensures unchanged { IsTrue (T.tells_bytes files.old) → IsUnchanged (T.bytes_of files.old) (T.bytes_of files.new) }
     ensures told { T.tells_bytes files.new ≡ T.tells_bytes files.old }
+    ensures early { IfErr result (λ why. IsTrue (is_early why)) }
     ensures late { IfErr result (λ why. status_of why ≢ 2) }
 {
     match files.source(request.input_name(side)) {
@@ -162,18 +178,18 @@ fn input<T: Files>(request: &Request<'_>, files: &mut T, side: Side) -> Result<T
     }
 }
 
-// One output, made empty.
-fn output<T: Files>(name: &str, files: &mut T, out: Out) -> Result<T::Target, Refusal>
+// One output that is wanted, made empty.
+fn output<T: Files>(request: &Request<'_>, files: &mut T, out: Out) -> Result<T::Target, Refusal>
+    requires { IsSome (output_name (asking_of request.now) out) }
     ensures fresh { IfOk result (λ target. T.Target.failure_count target ≡ 0) }
     ensures telling { IfOk result (λ target. IsTrue (T.tells_bytes files.old) → IsTrue (T.Target.tells target)) }
     ensures nothing { IfOk result (λ target. IsTrue (T.tells_bytes files.old) → T.Target.taken target ≡ []) }
-    ensures emptied { OnOk result (IsTrue (T.tells_bytes files.old) → T.bytes_of files.new name.now ≡ Some []) }
-    ensures held { IsTrue (T.tells_bytes files.old) → KeepsNames (T.bytes_of files.old) (T.bytes_of files.new) }
-    ensures others { IsTrue (T.tells_bytes files.old) → KeepsOthers (T.bytes_of files.old) (T.bytes_of files.new) name.now }
+    ensures made { OnOk result (IsTrue (T.tells_bytes files.old) → IsMade (asking_of request.now) out (T.bytes_of files.old) (T.bytes_of files.new)) }
+    ensures unmade { OnErr result (IsTrue (T.tells_bytes files.old) → IsUnmade (asking_of request.now) out (T.bytes_of files.old) (T.bytes_of files.new)) }
+    ensures why { IfErr result (λ why. (why ≡ Refused.Target out) ⊎ (why ≡ Refused.Memory)) }
     ensures told { T.tells_bytes files.new ≡ T.tells_bytes files.old }
-    ensures late { IfErr result (λ why. status_of why ≢ 2) }
 {
-    match files.target(name) {
+    match files.target(request.output_name(out)) {
         Ok(target) => Ok(target),
         Err(fault) => Err(file_refused(fault, Refusal::Target(out))),
     }
@@ -186,15 +202,17 @@ fn outputs<T: Files>(request: &Request<'_>, files: &mut T) -> Result<Outlets<T::
     ensures log { IfOk result (λ outlets. is_some outlets.log ≡ is_some (asking_of request.now).log) }
     ensures held { OnOk result (IsTrue (T.tells_bytes files.old) → AreHeld (asking_of request.now) (T.bytes_of files.new)) }
     ensures rest { IsTrue (T.tells_bytes files.old) → KeepsRest (asking_of request.now) (T.bytes_of files.old) (T.bytes_of files.new) }
+    ensures refused { IfErr result (λ why. IsTrue (T.tells_bytes files.old) → HasDistinctOutputs (asking_of request.now)
+        → RefusalLeaves (asking_of request.now) why (T.bytes_of files.old) (T.bytes_of files.new)) }
     ensures told { T.tells_bytes files.new ≡ T.tells_bytes files.old }
     ensures late { IfErr result (λ why. status_of why ≢ 2) }
 {
-    let forward_paired = output(request.forward_paired, files, Out::ForwardPaired)?;
-    let forward_unpaired = output(request.forward_unpaired, files, Out::ForwardUnpaired)?;
-    let reverse_paired = output(request.reverse_paired, files, Out::ReversePaired)?;
-    let reverse_unpaired = output(request.reverse_unpaired, files, Out::ReverseUnpaired)?;
+    let forward_paired = output(request, files, Out::ForwardPaired)?;
+    let forward_unpaired = output(request, files, Out::ForwardUnpaired)?;
+    let reverse_paired = output(request, files, Out::ReversePaired)?;
+    let reverse_unpaired = output(request, files, Out::ReverseUnpaired)?;
     let log = match request.log {
-        Some(name) => Some(output(name, files, Out::Log)?),
+        Some(_) => Some(output(request, files, Out::Log)?),
         None => None,
     };
     Ok(Outlets {

@@ -180,7 +180,7 @@ fn files_that_are_refused(rt: HostRuntime) -> Result<(), Fail> {
     ];
     for (name, fault, status, line) in rows {
         let mut files = two_pairs_with(rt.alloc(), name, Trouble::Refused(fault))?;
-        let words = pairs_words(rt.alloc(), &["--trimlog", "log"], &["LEADING:3"])?;
+        let words = pairs_words(rt.alloc(), TWO_OPTIONS, &["LEADING:3"])?;
         let called = call(&rt, rt.alloc(), &words, &mut files);
         assert_eq!(rt; called.status, status);
         assert_eq!(rt; called.err.bytes(), line);
@@ -221,7 +221,7 @@ fn an_output_that_is_an_input_under_another_name(rt: HostRuntime) -> Result<(), 
 
 #[test]
 fn a_standard_output_that_fails(rt: HostRuntime) -> Result<(), Fail> {
-    let words = pairs_words(rt.alloc(), &[], &["LEADING:3"])?;
+    let words = pairs_words(rt.alloc(), TWO_OPTIONS, &["LEADING:3"])?;
     let rows: [(&[u8], u8, &[u8]); 2] = [
         (FORWARD, 4, b"cannot print\n"),
         (

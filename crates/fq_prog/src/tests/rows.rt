@@ -3,8 +3,7 @@ use super::*;
 #[test]
 fn two_pairs_of_files(rt: HostRuntime) -> Result<(), Fail> {
     let mut files = files_of(rt.alloc(), FORWARD, REVERSE)?;
-    let options = ["--threads", "2", "--block", "1", "--trimlog", "log"];
-    let words = pairs_words(rt.alloc(), &options, &["LEADING:3"])?;
+    let words = pairs_words(rt.alloc(), TWO_OPTIONS, &["LEADING:3"])?;
     let called = call(&rt, rt.alloc(), &words, &mut files);
     assert_eq!(rt; called.status, 0);
     assert_eq!(rt; called.err.bytes(), b"".as_slice());
@@ -63,7 +62,7 @@ fn names_that_differ(rt: HostRuntime) -> Result<(), Fail> {
 fn a_fault_in_the_first_record(rt: HostRuntime) -> Result<(), Fail> {
     let rows: [(&[&'static str], &[u8], &[u8]); 2] = [
         (
-            &["--trimlog", "log"],
+            TWO_OPTIONS,
             &FORWARD[..16],
             b"input: forward record 1: QualityShort\n",
         ),

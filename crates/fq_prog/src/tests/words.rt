@@ -40,7 +40,10 @@ fn what_is_refused_before_a_file_is_opened(rt: HostRuntime) -> Result<(), Fail> 
 #[test]
 fn an_output_with_the_name_of_an_input(rt: HostRuntime) -> Result<(), Fail> {
     let mut files = files_of(rt.alloc(), FORWARD, REVERSE)?;
-    let words = ["fq", "PE", "f", "r", "f", "fu", "rp", "ru", "LEADING:3"];
+    let words = [
+        "fq", "PE", "--threads", "2", "--block", "1", "--trimlog", "log", "f", "r", "f", "fu", "rp", "ru",
+        "LEADING:3",
+    ];
     let called = call(&rt, rt.alloc(), &words, &mut files);
     assert_eq!(rt; called.status, 2);
     assert_eq!(rt; called.err.bytes(), b"same name: f\n".as_slice());
@@ -52,7 +55,7 @@ fn an_output_with_the_name_of_an_input(rt: HostRuntime) -> Result<(), Fail> {
 fn one_step_too_many(rt: HostRuntime) -> Result<(), Fail> {
     let mut files = files_of(rt.alloc(), FORWARD, REVERSE)?;
     let steps = ["CROP:1"; 65];
-    let words = pairs_words(rt.alloc(), &[], &steps)?;
+    let words = pairs_words(rt.alloc(), TWO_OPTIONS, &steps)?;
     let called = call(&rt, rt.alloc(), &words, &mut files);
     assert_eq!(rt; called.status, 2);
     assert_eq!(rt; called.err.bytes(), b"bad step 65: TooMany\n".as_slice());
@@ -108,6 +111,34 @@ fn help_is_printed(rt: HostRuntime) -> Result<(), Fail> {
         assert_eq!(rt; called.status, 0);
         assert_eq!(rt; called.err.bytes(), b"".as_slice());
         assert!(rt; !called.out.bytes().is_empty());
+    }
+    Ok(())
+}
+
+#[test]
+fn the_version_is_printed(rt: HostRuntime) -> Result<(), Fail> {
+    for word in ["--version", "-V"] {
+        let mut files = MemoryFiles::new(rt.alloc());
+        let called = call(&rt, rt.alloc(), &["fq", word], &mut files);
+        assert_eq!(rt; called.status, 0);
+        assert_eq!(rt; called.out.bytes(), b"fq_prog 1.0.0\n".as_slice());
+        assert_eq!(rt; called.err.bytes(), b"".as_slice());
+    }
+    Ok(())
+}
+
+#[test]
+fn an_input_that_is_not_there(rt: HostRuntime) -> Result<(), Fail> {
+    for (held, line) in [("r", b"cannot read f\n"), ("f", b"cannot read r\n")] {
+        let mut files = MemoryFiles::new(rt.alloc());
+        files.put(held, FORWARD)?;
+        let words = pairs_words(rt.alloc(), TWO_OPTIONS, &["LEADING:3"])?;
+        let called = call(&rt, rt.alloc(), &words, &mut files);
+        assert_eq!(rt; called.status, 4);
+        assert_eq!(rt; called.err.bytes(), line.as_slice());
+        for name in OUTPUTS {
+            assert!(rt; files.get(name).is_none());
+        }
     }
     Ok(())
 }

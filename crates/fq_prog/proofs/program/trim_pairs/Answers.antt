@@ -1,24 +1,36 @@
+use Rattle.std.proofs.Common.{◌≡◌, ◌≢◌, ◌⊎◌, IsTrue}
+use Rattle.fq_prog.specs.Answers.{TookLine, EndsWhole}
+use Rattle.fq_prog.specs.Trimming.{HasDistinctOutputs}
 use Rattle.fq_prog.specs.Requests.{asking_of, wrong_with}
-use Rattle.fq_prog.proofs.AnswerLemmas.{ends_so, refused_answer, some_in}
+use Rattle.fq_prog.proofs.AnswerLemmas.{ends_so, left_so, refused_answer, some_in, told_line}
 use Rattle.fq_prog.proofs.program.trim_pairs.Goals as goal
 
 pub returns-in-Ok-clause-pairs : goal.returns-in-Ok-clause-pairs
-returns-in-Ok-clause-pairs g c = record {
-  whole = λ ends told distinct.
-      let status = c.report.ensures.whole ends in
-      record {
-        outcome = c.in-Ok.ended.outcome;
-        counts = c.in-Ok.ended.counts;
-        trims = c.in-Ok.ensures.trims told distinct (ends_so c.in-Ok.ended.outcome c.report.result status ends);
-        status_is = status;
-        printed = c.report.ensures.printed ends;
-        told = c.report.ensures.told ends;
-      };
-  wrong = λ why is. let failed = (c.in-Ok.ensures.wrong why is).0 in absurd (cc failed);
-  right = λ two. absurd (c.report.ensures.known.1 two);
-  line = λ other. c.report.ensures.line (asking_of c.args.request.now) other;
-  known = c.report.ensures.known.0;
-}
+returns-in-Ok-clause-pairs g c =
+    let a = asking_of c.args.request.now in
+    let ended = c.in-Ok.ended in
+    let line : c.report.result ≢ 0 → TookLine a _ _ _ _ c.report.result =
+        λ some. told_line a _ _ _ _ _ ended.outcome ended.counts (c.report.ensures.line some) c.in-Ok.ensures.trims c.in-Ok.ensures.ended in
+    let whole : (c.report.result ≡ 0) ⊎ (c.report.result ≡ 3) → IsTrue (g.T.Files.tells_bytes c.args.files.now) → HasDistinctOutputs a → EndsWhole a _ _ _ _ c.report.result =
+        λ ends told distinct.
+        let status = c.report.ensures.whole ends in
+        record {
+          outcome = ended.outcome;
+          counts = ended.counts;
+          trims = c.in-Ok.ensures.trims told distinct (ends_so ended.outcome c.report.result status ends);
+          status_is = status;
+          printed = c.report.ensures.printed ends;
+          told = c.report.ensures.told ends;
+        } in
+    record {
+      whole = whole;
+      wrong = λ why is. let failed = (c.in-Ok.ensures.wrong why is).0 in absurd (cc failed);
+      right = λ two. absurd (c.report.ensures.known.1 two);
+      line = line;
+      known = c.report.ensures.known.0;
+      left = left_so a _ _ _ _ _ _ whole line;
+      unopened = c.in-Ok.ensures.unopened;
+    }
 
 pub returns-in-Ok-clause-wrong : goal.returns-in-Ok-clause-wrong
 returns-in-Ok-clause-wrong g c = λ wrong.
@@ -28,6 +40,7 @@ returns-in-Ok-clause-wrong g c = λ wrong.
 pub returns-in-Err-clause-pairs : goal.returns-in-Err-clause-pairs
 returns-in-Err-clause-pairs g c = refused_answer _ _ _ _ _ _ _ c.in-Err.refusal c.refuse.ensures
     (λ why is. let same = (c.in-Err.ensures.wrong why is).0 in cc same) (λ none. c.in-Err.ensures.right none)
+    c.in-Err.ensures.refused c.in-Err.ensures.unopened
 
 pub returns-in-Err-clause-wrong : goal.returns-in-Err-clause-wrong
 returns-in-Err-clause-wrong g c = λ wrong.

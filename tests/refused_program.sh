@@ -1,0 +1,57 @@
+#!/usr/bin/env bash
+# Refuses each growth of memory of the built program in turn, until a run meets no refusal: of PE, of IL, of EXAMPLE and of --help. A run that met
+# one has to say that memory was wanted (status 5), or that a thread was refused for it (status 6), and print nothing. Two growths can
+# be done without: the identity of standard output and error is asked for before the words are read, and what is asked is not kept.
+set -uo pipefail
+
+cd "$(dirname "$0")/.." || exit 2
+program=$PWD/crates/fq_prog/out/fq_prog
+make -s build || exit 1
+here=$PWD/tests/refused_growths
+room=$(mktemp -d)
+trap 'rm -rf "$room"' EXIT
+
+compiler=${CC:-cc}
+command -v "$compiler" >"$room/log" || compiler=$(dirname "$(rt doc)")/toolchain/bin/clang
+if ! "$compiler" -O2 -fPIC -shared -nostdlib -o "$room/refuse.so" "$here/refuse.c"; then
+    echo "refused_program: FAILED: refuse.c is not compiled"
+    exit 1
+fi
+cd "$room" || exit 2
+printf '@p1/1\nACGT\n+\n#!II\n@p2/1\nGGCC\n+\nIIII\n' >f
+printf '@p1/2\nTTTT\n+\nIIII\n@p2/2\nAAAA\n+\n!!!"\n' >r
+printf '@p1/1\nACGT\n+\n#!II\n@p1/2\nTTTT\n+\nIIII\n' >i
+
+# sweep WORDS..: refuses each growth of this call in turn.
+sweep() {
+    local number said status unseen=0
+    for number in $(seq 10000); do
+        said=$(REFUSED_GROWTH=$number LD_PRELOAD=$room/refuse.so timeout 60 "$program" "$@" 9>refused 2>err)
+        status=$?
+        [ -s refused ] || break
+        case "$status $(cat err)" in
+        '5 out of memory' | '6 cannot start a thread') [ -z "$said" ] || wrong "$number" "$1" "printed '$said'" ;;
+        '0 ') unseen=$((unseen + 1)) ;;
+        *) wrong "$number" "$1" "status $status, '$(cat err)'" ;;
+        esac
+    done
+    [ "$number" -gt 1 ] && [ "$number" -lt 10000 ] || wrong "$number" "$1" "not every growth was refused"
+    [ "$unseen" -le 2 ] || wrong "$number" "$1" "$unseen refusals were not seen"
+    echo "$1: $((number - 1)) growths refused, $unseen unseen"
+}
+
+wrong() {
+    echo "WRONG: growth $1 of $2: $3"
+    failed=1
+}
+
+failed=0
+sweep PE --threads 2 --block 1 --trimlog log f r fp fu rp ru LEADING:3
+sweep IL --threads 2 --block 1 --trimlog log i fp fu rp ru LEADING:3
+sweep EXAMPLE
+sweep --help
+if [ $failed -ne 0 ]; then
+    echo "refused_program: FAILED"
+    exit 1
+fi
+echo "refused_program: ok"
