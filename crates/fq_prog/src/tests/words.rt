@@ -41,7 +41,20 @@ fn what_is_refused_before_a_file_is_opened(rt: HostRuntime) -> Result<(), Fail> 
 fn an_output_with_the_name_of_an_input(rt: HostRuntime) -> Result<(), Fail> {
     let mut files = files_of(rt.alloc(), FORWARD, REVERSE)?;
     let words = [
-        "fq", "PE", "--threads", "2", "--block", "1", "--trimlog", "log", "f", "r", "f", "fu", "rp", "ru",
+        "fq",
+        "PE",
+        "--threads",
+        "2",
+        "--block",
+        "1",
+        "--trimlog",
+        "log",
+        "f",
+        "r",
+        "f",
+        "fu",
+        "rp",
+        "ru",
         "LEADING:3",
     ];
     let called = call(&rt, rt.alloc(), &words, &mut files);

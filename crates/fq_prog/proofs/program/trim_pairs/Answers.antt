@@ -10,18 +10,18 @@ returns-in-Ok-clause-pairs g c =
     let a = asking_of c.args.request.now in
     let ended = c.in-Ok.ended in
     let line : c.report.result ≢ 0 → TookLine a _ _ _ _ c.report.result =
-        λ some. told_line a _ _ _ _ _ ended.outcome ended.counts (c.report.ensures.line some) c.in-Ok.ensures.trims c.in-Ok.ensures.ended in
+    λ some. told_line a _ _ _ _ _ ended.outcome ended.counts (c.report.ensures.line some) c.in-Ok.ensures.trims c.in-Ok.ensures.ended in
     let whole : (c.report.result ≡ 0) ⊎ (c.report.result ≡ 3) → IsTrue (g.T.Files.tells_bytes c.args.files.now) → HasDistinctOutputs a → EndsWhole a _ _ _ _ c.report.result =
-        λ ends told distinct.
-        let status = c.report.ensures.whole ends in
-        record {
-          outcome = ended.outcome;
-          counts = ended.counts;
-          trims = c.in-Ok.ensures.trims told distinct (ends_so ended.outcome c.report.result status ends);
-          status_is = status;
-          printed = c.report.ensures.printed ends;
-          told = c.report.ensures.told ends;
-        } in
+    λ ends told distinct.
+    let status = c.report.ensures.whole ends in
+    record {
+      outcome = ended.outcome;
+      counts = ended.counts;
+      trims = c.in-Ok.ensures.trims told distinct (ends_so ended.outcome c.report.result status ends);
+      status_is = status;
+      printed = c.report.ensures.printed ends;
+      told = c.report.ensures.told ends;
+    } in
     record {
       whole = whole;
       wrong = λ why is. let failed = (c.in-Ok.ensures.wrong why is).0 in absurd (cc failed);
