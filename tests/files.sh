@@ -112,6 +112,7 @@ two_pairs
 same err 'cannot write log\n'
 
 row='a word that is not UTF-8'
+two_pairs
 "$program" PE $'\xff' r fp fu rp ru LEADING:3 > out 2> err
 [ $? -eq 1 ] || fail "$row: the status is not 1"
 same err "error: word 2 is not UTF-8\n\nFor more information, try '--help'.\n"

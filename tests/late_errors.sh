@@ -23,7 +23,7 @@ printf '@p1/2\nTTTT\n+\nIIII\n' >r
 # expect NUMBER STATUS LINE: what a run answers where this wait fails.
 expect() {
     local said status
-    said=$(FAILED_SYNC=$1 LD_PRELOAD=$room/fail_sync.so timeout 60 "$program" PE --trimlog log f r fp fu rp ru LEADING:3 2>err)
+    said=$(timeout 60 env FAILED_SYNC="$1" LD_PRELOAD="$room/fail_sync.so" "$program" PE --trimlog log f r fp fu rp ru LEADING:3 2>err)
     status=$?
     if [ $status -ne "$2" ] || [ "$(cat err)" != "$3" ] || { [ "$2" -ne 0 ] && [ -n "$said" ]; }; then
         echo "WRONG: wait $1: status $status, '$(cat err)', printed '$said'"

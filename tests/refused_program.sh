@@ -1,7 +1,7 @@
 #!/usr/bin/env bash
 # Refuses each growth of memory of the built program in turn, until a run meets no refusal: of PE, of IL, of EXAMPLE and of --help. A run that met
-# one has to say that memory was wanted (status 5), or that a thread was refused for it (status 6), and print nothing. Two growths can
-# be done without: the identity of standard output and error is asked for before the words are read, and what is asked is not kept.
+# one has to say that memory was wanted (status 5), or that a thread was refused for it (status 6), and print nothing. A growth that can be
+# done without may be refused unseen: one in each call, at the most.
 set -uo pipefail
 
 cd "$(dirname "$0")/.." || exit 2
@@ -26,7 +26,7 @@ printf '@p1/1\nACGT\n+\n#!II\n@p1/2\nTTTT\n+\nIIII\n' >i
 sweep() {
     local number said status unseen=0
     for number in $(seq 10000); do
-        said=$(REFUSED_GROWTH=$number LD_PRELOAD=$room/refuse.so timeout 60 "$program" "$@" 9>refused 2>err)
+        said=$(timeout 60 env REFUSED_GROWTH="$number" LD_PRELOAD="$room/refuse.so" "$program" "$@" 9>refused 2>err)
         status=$?
         [ -s refused ] || break
         case "$status $(cat err)" in
@@ -36,7 +36,7 @@ sweep() {
         esac
     done
     [ "$number" -gt 1 ] && [ "$number" -lt 10000 ] || wrong "$number" "$1" "not every growth was refused"
-    [ "$unseen" -le 2 ] || wrong "$number" "$1" "$unseen refusals were not seen"
+    [ "$unseen" -le 1 ] || wrong "$number" "$1" "$unseen refusals were not seen"
     echo "$1: $((number - 1)) growths refused, $unseen unseen"
 }
 
