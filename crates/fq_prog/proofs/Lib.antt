@@ -6,4 +6,4 @@ mod LeavingLemmas
 mod TextLemmas
 mod WordLemmas
 mod ExampleLemmas
-mod Rows
+mod WorkedExamples
