@@ -2,9 +2,9 @@
 # Runs contrib/trim_gz on good and on bad compressed files, and compares outputs, status and lines with the program over plain files.
 # FQ_PROG names another build of the program.
 set -u
+program=${FQ_PROG:+$(realpath -- "$FQ_PROG")}
 cd "$(dirname "$0")/.." || exit 1
 script=$PWD/contrib/trim_gz
-program=${FQ_PROG-}
 if [ -z "$program" ]; then
   program=$PWD/crates/fq_prog/out/fq_prog
   make -s build || exit 1
@@ -17,6 +17,7 @@ export TMPDIR=$work/tmp
 tools=$PATH # where the script finds its tools
 failed=0
 steps=(LEADING:3 TRAILING:3 SLIDINGWINDOW:4:15 MINLEN:36)
+last=(-- "${steps[@]}")
 
 fail() {
   echo "trim_gz: $row: $1"
@@ -39,7 +40,9 @@ draw() {
   }'
 }
 
+both=(-1 data/f.gz -2 data/r.gz)
 outputs=(--paired1 out/p1.fq.gz --unpaired1 out/u1.fq.gz --paired2 out/p2.fq.gz --unpaired2 out/u2.fq.gz)
+rest=("${outputs[@]}" "${last[@]}")
 
 # Outputs of an earlier run, which a run that fails leaves as they are.
 earlier() {
@@ -64,12 +67,17 @@ untouched() {
   no_rest
 }
 
+# trimmed WORDS..: the script, with this program
+trimmed() {
+  PATH=$tools "$script" --program "$program" "$@"
+}
+
 # refused STATUS LINE WORDS..: nothing is made, and one line says why
 refused() {
   local status=$1 line=$2 got
   shift 2
   earlier
-  (cd "$work" && PATH=$tools "$script" --program "$program" "$@") > "$work/printed" 2> "$work/told"
+  (cd "$work" && trimmed "$@") > "$work/printed" 2> "$work/told"
   got=$?
   [ "$got" -eq "$status" ] || fail "status $got, not $status"
   [ "$(cat "$work/told")" = "$line" ] || fail "it says '$(cat "$work/told")', not '$line'"
@@ -82,7 +90,7 @@ made() {
   local got
   rm -rf "$work/out"
   mkdir "$work/out"
-  (cd "$work" && PATH=$tools "$script" --program "$program" "$@") > "$work/printed" 2> "$work/told"
+  (cd "$work" && trimmed "$@") > "$work/printed" 2> "$work/told"
   got=$?
   [ "$got" -eq 0 ] || fail "status $got: $(cat "$work/told")"
   [ ! -s "$work/told" ] || fail "it says $(cat "$work/told")"
@@ -124,13 +132,13 @@ done
 
 good_runs() {
   row="two files, $1"
-  made -1 data/f.gz -2 data/r.gz "${outputs[@]}" --threads 2 -- "${steps[@]}"
+  made "${both[@]}" "${outputs[@]}" --threads 2 "${last[@]}"
   as_plain p1.fq u1.fq p2.fq u2.fq
   row="two lanes a side, log and summary, $1"
-  made -1 data/a1.gz -1 data/b1.gz -2 data/a2.gz -2 data/b2.gz "${outputs[@]}" --trimlog out/log.gz --summary out/summary --block=7 -- "${steps[@]}"
+  made -1 data/a1.gz -1 data/b1.gz -2 data/a2.gz -2 data/b2.gz "${outputs[@]}" --trimlog out/log.gz --summary out/summary --block=7 "${last[@]}"
   as_plain p1.fq u1.fq p2.fq u2.fq log summary
   row="one interleaved file, $1"
-  made -i data/i.gz "${outputs[@]}" --trimlog out/log --compress-threads 1 --level 1 -- "${steps[@]}"
+  made -i data/i.gz "${outputs[@]}" --trimlog out/log --compress-threads 1 --level 1 "${last[@]}"
   as_plain p1.fq u1.fq p2.fq u2.fq log
 }
 
@@ -147,7 +155,7 @@ row='plain and compressed inputs, plain outputs, an older summary'
 cp b1.gz b1.compressed
 echo earlier > "$work/summary"
 made -1 data/a1 -1 data/b1.compressed -2 data/a2.gz -2 data/b2 --paired1 out/p1.fq --unpaired1 out/u1.fq --paired2=out/p2.fq --unpaired2 out/u2.fq \
-  --summary summary -- "${steps[@]}"
+  --summary summary "${last[@]}"
 as_plain p1.fq u1.fq p2.fq u2.fq
 cmp -s "$work/summary" "$work/plain/summary" || fail 'the summary was not written'
 
@@ -156,7 +164,7 @@ mkdir -p "$work/data/lane 1"
 cp f.gz 'lane 1/Vorwärts 1.fq.gz'
 cp r.gz 'lane 1/-2.fq.gz'
 made -1 'data/lane 1/Vorwärts 1.fq.gz' -2 'data/lane 1/-2.fq.gz' --paired1 'out/ein paar *.gz' --unpaired1 out/u1.fq.gz --paired2 out/p2.fq.gz \
-  --unpaired2 out/u2.fq.gz -- "${steps[@]}"
+  --unpaired2 out/u2.fq.gz "${last[@]}"
 mv "$work/out/ein paar *.gz" "$work/out/p1.fq.gz" || fail 'no output with a blank in its name'
 as_plain p1.fq u1.fq p2.fq u2.fq
 
@@ -164,7 +172,7 @@ row='a link that leads to the output'
 rm -rf "$work/out"
 mkdir "$work/out"
 ln -sf ../out/p1.fq.gz "$work/data/link.gz"
-"$script" --program "$program" -1 f.gz -2 r.gz --paired1 link.gz --unpaired1 /dev/null --paired2 ../out/p2.fq.gz --unpaired2 /dev/null -- "${steps[@]}" \
+"$script" --program "$program" -1 f.gz -2 r.gz --paired1 link.gz --unpaired1 /dev/null --paired2 ../out/p2.fq.gz --unpaired2 /dev/null "${last[@]}" \
   > "$work/printed" 2>&1 || fail "$(cat "$work/printed")"
 [ -L link.gz ] || fail 'the link was written over'
 as_plain p1.fq p2.fq
@@ -176,40 +184,40 @@ gzip < /dev/null > none2.gz
 { cat a2.gz none1.gz; head -n 4000 b2 | gzip; tail -n +4001 b2 | gzip; } > members.gz
 { head -c 3000 b1 | gzip; tail -c +3001 b1 | gzip; } > b1.members.gz
 : > empty
-made -1 data/a1.short.gz -1 data/none1.gz -1 data/b1.members.gz -2 data/members.gz -2 data/none2.gz -2 data/empty "${outputs[@]}" -- "${steps[@]}"
+made -1 data/a1.short.gz -1 data/none1.gz -1 data/b1.members.gz -2 data/members.gz -2 data/none2.gz -2 data/empty "${rest[@]}"
 as_plain p1.fq u1.fq p2.fq u2.fq
 
 row='a fault within a lane that ends without a line feed'
 head -c -20 a1 | gzip > a1.cut.gz
-refused 3 'trim_gz: input: forward record 1500: BadQuality (data/a1.cut.gz data/b1.gz)' -1 data/a1.cut.gz -1 data/b1.gz -2 data/a2.gz -2 data/b2.gz "${outputs[@]}" -- "${steps[@]}"
+refused 3 'trim_gz: input: forward record 1500: BadQuality (data/a1.cut.gz data/b1.gz)' -1 data/a1.cut.gz -1 data/b1.gz -2 data/a2.gz -2 data/b2.gz "${rest[@]}"
 
 row='a missing file'
-refused 4 'trim_gz: cannot read data/none.gz' -1 data/f.gz -2 data/none.gz "${outputs[@]}" -- "${steps[@]}"
-refused 4 'trim_gz: cannot read data/none.gz' -1 data/none.gz -2 data/none.gz "${outputs[@]}" -- "${steps[@]}"
+refused 4 'trim_gz: cannot read data/none.gz' -1 data/f.gz -2 data/none.gz "${rest[@]}"
+refused 4 'trim_gz: cannot read data/none.gz' -1 data/none.gz -2 data/none.gz "${rest[@]}"
 
 row='a folder as an input'
-refused 4 'trim_gz: cannot read data' -1 data -2 data/r.gz "${outputs[@]}" -- "${steps[@]}"
+refused 4 'trim_gz: cannot read data' -1 data -2 data/r.gz "${rest[@]}"
 
 row='compressed files without a byte'
 : > nothing1.gz
 : > nothing2.gz
-refused 4 'trim_gz: cannot read data/nothing1.gz: unexpected end of file' -1 data/nothing1.gz -2 data/nothing2.gz "${outputs[@]}" -- "${steps[@]}"
+refused 4 'trim_gz: cannot read data/nothing1.gz: unexpected end of file' -1 data/nothing1.gz -2 data/nothing2.gz "${rest[@]}"
 
 row='plain text under a compressed name'
 cp f text.gz
 refused 3 'trim_gz: cannot read data/text.gz: not in gzip format; input: forward record 1: MateMissing (data/text.gz)' \
-  -1 data/text.gz -2 data/r.gz "${outputs[@]}" -- "${steps[@]}"
+  -1 data/text.gz -2 data/r.gz "${rest[@]}"
 
 row='truncated in a record'
 { head -n 1843 f; sed -n 1844p f | head -c 40; } > f.part
 { gzip < f.part; gzip < b1 | head -c 12; } > f.cut.gz
 refused 3 'trim_gz: cannot read data/f.cut.gz: unexpected end of file; input: forward record 461: QualityShort (data/f.cut.gz)' \
-  -1 data/f.cut.gz -2 data/r.gz "${outputs[@]}" -- "${steps[@]}"
+  -1 data/f.cut.gz -2 data/r.gz "${rest[@]}"
 
 row='truncated anywhere'
 head -c "$(($(stat -c %s r.gz) / 2))" r.gz > r.half.gz
 earlier
-(cd "$work" && PATH=$tools "$script" --program "$program" -1 data/f.gz -2 data/r.half.gz "${outputs[@]}" -- "${steps[@]}") > "$work/printed" 2> "$work/told"
+(cd "$work" && trimmed -1 data/f.gz -2 data/r.half.gz "${rest[@]}") > "$work/printed" 2> "$work/told"
 [ $? -eq 3 ] || fail 'the status is not 3'
 grep -qE '^trim_gz: cannot read data/r.half.gz: unexpected end of file; input: reverse record [0-9]+: [A-Za-z]+ \(data/r.half.gz\)$' "$work/told" ||
   fail "it says $(cat "$work/told")"
@@ -219,26 +227,26 @@ row='truncated between two records, on both sides alike'
 for side in f r; do
   { head -n 4000 "$side" | gzip; tail -n +4001 "$side" | gzip | head -c 12; } > "$side.between.gz"
 done
-refused 4 'trim_gz: cannot read data/f.between.gz: unexpected end of file' -1 data/f.between.gz -2 data/r.between.gz "${outputs[@]}" -- "${steps[@]}"
+refused 4 'trim_gz: cannot read data/f.between.gz: unexpected end of file' -1 data/f.between.gz -2 data/r.between.gz "${rest[@]}"
 
 row='the last bytes of both files are missing, behind all records'
 for side in f r; do head -c -4 "$side.gz" > "$side.trailer.gz"; done
-refused 4 'trim_gz: cannot read data/f.trailer.gz: unexpected end of file' -1 data/f.trailer.gz -2 data/r.trailer.gz "${outputs[@]}" -- "${steps[@]}"
+refused 4 'trim_gz: cannot read data/f.trailer.gz: unexpected end of file' -1 data/f.trailer.gz -2 data/r.trailer.gz "${rest[@]}"
 
 row='truncated between two records, in one of two lanes'
 { cat a1.gz; head -c 12 b1.gz; } > a1.more.gz
 refused 4 'trim_gz: cannot read data/a1.more.gz: unexpected end of file' -1 data/b1.gz -1 data/a1.more.gz -2 data/b2.gz -2 data/a2.gz "${outputs[@]}" \
-  -- "${steps[@]}"
+  "${last[@]}"
 
 row='truncated between two pairs of an interleaved file'
 { head -n 8000 i | gzip; tail -n +8001 i | gzip | head -c 12; } > i.between.gz
-refused 4 'trim_gz: cannot read data/i.between.gz: unexpected end of file' -i data/i.between.gz "${outputs[@]}" -- "${steps[@]}"
+refused 4 'trim_gz: cannot read data/i.between.gz: unexpected end of file' -i data/i.between.gz "${rest[@]}"
 
 row='damaged in the middle'
 cp f.gz f.damaged.gz
 printf 'damaged damaged damaged' | dd of=f.damaged.gz bs=1 seek=$(($(stat -c %s f.gz) / 2)) conv=notrunc 2> /dev/null
 earlier
-(cd "$work" && PATH=$tools "$script" --program "$program" -1 data/f.damaged.gz -2 data/r.gz "${outputs[@]}" -- "${steps[@]}") > "$work/printed" 2> "$work/told"
+(cd "$work" && trimmed -1 data/f.damaged.gz -2 data/r.gz "${rest[@]}") > "$work/printed" 2> "$work/told"
 [ $? -eq 3 ] || fail 'the status is not 3'
 if [ "$(wc -l < "$work/told")" -ne 1 ] || ! grep -q '^trim_gz: .*data/f\.damaged\.gz' "$work/told"; then
   fail "it says $(cat "$work/told")"
@@ -248,76 +256,76 @@ untouched
 row='a check sum that is wrong, behind all records'
 cp r.gz r.sum.gz
 printf 'sums' | dd of=r.sum.gz bs=1 seek=$(($(stat -c %s r.gz) - 8)) conv=notrunc 2> /dev/null
-refused 4 'trim_gz: cannot read data/r.sum.gz: invalid compressed data--crc error' -1 data/f.gz -2 data/r.sum.gz "${outputs[@]}" -- "${steps[@]}"
+refused 4 'trim_gz: cannot read data/r.sum.gz: invalid compressed data--crc error' -1 data/f.gz -2 data/r.sum.gz "${rest[@]}"
 
 row='members that are no gzip, on both sides alike'
 for side in f r; do
   { head -n 4000 "$side" | gzip; printf 'x'; tail -n +4001 "$side" | gzip; } > "$side.member.gz"
 done
 refused 4 'trim_gz: cannot read data/f.member.gz: decompression OK, trailing garbage ignored' -1 data/f.member.gz -2 data/r.member.gz "${outputs[@]}" \
-  -- "${steps[@]}"
+  "${last[@]}"
 
 row='mates that are missing'
-refused 3 'trim_gz: input: reverse record 1501: MateMissing (data/a2.gz)' -1 data/f.gz -2 data/a2.gz "${outputs[@]}" -- "${steps[@]}"
+refused 3 'trim_gz: input: reverse record 1501: MateMissing (data/a2.gz)' -1 data/f.gz -2 data/a2.gz "${rest[@]}"
 
 row='files that are no mates'
-refused 3 'trim_gz: input: record 1: NamesDiffer (data/f.gz, data/b2.gz)' -1 data/f.gz -2 data/b2.gz "${outputs[@]}" -- "${steps[@]}"
+refused 3 'trim_gz: input: record 1: NamesDiffer (data/f.gz, data/b2.gz)' -1 data/f.gz -2 data/b2.gz "${rest[@]}"
 
 row='the same, where a closed pipe is no signal'
 (
   trap '' PIPE
-  refused 3 'trim_gz: input: record 1: NamesDiffer (data/f.gz, data/b2.gz)' -1 data/f.gz -2 data/b2.gz "${outputs[@]}" -- "${steps[@]}"
+  refused 3 'trim_gz: input: record 1: NamesDiffer (data/f.gz, data/b2.gz)' -1 data/f.gz -2 data/b2.gz "${rest[@]}"
   exit "$failed"
 ) || failed=1
 
 row='a wrong encoding of the scores'
-refused 3 'trim_gz: input: forward record 1: BadQuality (data/f.gz)' -1 data/f.gz -2 data/r.gz "${outputs[@]}" --encoding illumina13 -- "${steps[@]}"
+refused 3 'trim_gz: input: forward record 1: BadQuality (data/f.gz)' "${both[@]}" "${outputs[@]}" --encoding illumina13 "${last[@]}"
 
 row='words that the program refuses'
-refused 2 'trim_gz: bad step 2: Unknown' -1 data/f.gz -2 data/r.gz "${outputs[@]}" -- LEADING:3 crop:5
-refused 2 'trim_gz: bad step 0: NoSteps' -1 data/f.gz -2 data/r.gz "${outputs[@]}" --
-refused 2 'trim_gz: bad encoding: phred' -1 data/f.gz -2 data/r.gz "${outputs[@]}" --encoding phred -- "${steps[@]}"
-refused 2 'trim_gz: bad setting: workers' -1 data/f.gz -2 data/r.gz "${outputs[@]}" --threads 0 -- "${steps[@]}"
+refused 2 'trim_gz: bad step 2: Unknown' "${both[@]}" "${outputs[@]}" -- LEADING:3 crop:5
+refused 2 'trim_gz: bad step 0: NoSteps' "${both[@]}" "${outputs[@]}" --
+refused 2 'trim_gz: bad encoding: phred' "${both[@]}" "${outputs[@]}" --encoding phred "${last[@]}"
+refused 2 'trim_gz: bad setting: workers' "${both[@]}" "${outputs[@]}" --threads 0 "${last[@]}"
 earlier
-(cd "$work" && PATH=$tools "$script" --program "$program" -1 data/f.gz -2 data/r.gz "${outputs[@]}" --unknown x -- "${steps[@]}") > "$work/printed" 2> "$work/told"
+(cd "$work" && trimmed "${both[@]}" "${outputs[@]}" --unknown x "${last[@]}") > "$work/printed" 2> "$work/told"
 [ $? -eq 1 ] || fail 'an unknown option: the status is not 1'
 grep -q -- --unknown "$work/told" || fail "an unknown option: it says $(cat "$work/told")"
 untouched
 
 row='words that the script refuses'
-refused 1 'trim_gz: 2 forward files (-1), but 1 reverse files (-2)' -1 data/a1.gz -1 data/b1.gz -2 data/r.gz "${outputs[@]}" -- "${steps[@]}"
-refused 1 'trim_gz: no input: -1 and -2, or -i (trim_gz --help)' "${outputs[@]}" -- "${steps[@]}"
-refused 1 'trim_gz: either -i, or -1 and -2' -i data/i.gz -1 data/f.gz -2 data/r.gz "${outputs[@]}" -- "${steps[@]}"
-refused 1 'trim_gz: no --unpaired2 (trim_gz --help)' -1 data/f.gz -2 data/r.gz "${outputs[@]:0:6}" -- "${steps[@]}"
+refused 1 'trim_gz: 2 forward files (-1), but 1 reverse files (-2)' -1 data/a1.gz -1 data/b1.gz -2 data/r.gz "${rest[@]}"
+refused 1 'trim_gz: no input: -1 and -2, or -i (trim_gz --help)' "${rest[@]}"
+refused 1 'trim_gz: either -i, or -1 and -2' -i data/i.gz "${both[@]}" "${rest[@]}"
+refused 1 'trim_gz: no --unpaired2 (trim_gz --help)' "${both[@]}" "${outputs[@]:0:6}" "${last[@]}"
 refused 1 'trim_gz: --unpaired2 has no value, as -- is an option; a file of that name is ./--' \
-  -1 data/f.gz -2 data/r.gz "${outputs[@]:0:6}" --unpaired2 -- "${steps[@]}"
-refused 1 'trim_gz: LEADING:3 is no option; steps stand behind -- (trim_gz --help)' -1 data/f.gz -2 data/r.gz "${outputs[@]}" LEADING:3
-refused 1 'trim_gz: no steps; they stand behind -- (trim_gz --help)' -1 data/f.gz -2 data/r.gz "${outputs[@]}"
-refused 1 'trim_gz: no program nowhere/fq_prog (--program PATH)' --program nowhere/fq_prog -1 data/f.gz -2 data/r.gz "${outputs[@]}" -- "${steps[@]}"
+  "${both[@]}" "${outputs[@]:0:6}" --unpaired2 "${last[@]}"
+refused 1 'trim_gz: LEADING:3 is no option; steps stand behind -- (trim_gz --help)' "${both[@]}" "${outputs[@]}" LEADING:3
+refused 1 'trim_gz: no steps; they stand behind -- (trim_gz --help)' "${both[@]}" "${outputs[@]}"
+refused 1 'trim_gz: no program nowhere/fq_prog (--program PATH)' --program nowhere/fq_prog "${both[@]}" "${rest[@]}"
 
 row='names that are given twice'
-refused 2 'trim_gz: data/f.gz is given twice' -1 data/f.gz -2 data/f.gz "${outputs[@]}" -- "${steps[@]}"
-refused 2 'trim_gz: data/../data/r.gz is an input and an output' -1 data/f.gz -2 data/r.gz "${outputs[@]}" --trimlog data/../data/r.gz -- "${steps[@]}"
-refused 2 'trim_gz: ./out/u1.fq.gz is given for two outputs' -1 data/f.gz -2 data/r.gz "${outputs[@]}" --trimlog ./out/u1.fq.gz -- "${steps[@]}"
+refused 2 'trim_gz: data/f.gz is given twice' -1 data/f.gz -2 data/f.gz "${rest[@]}"
+refused 2 'trim_gz: data/../data/r.gz is an input and an output' "${both[@]}" "${outputs[@]}" --trimlog data/../data/r.gz "${last[@]}"
+refused 2 'trim_gz: ./out/u1.fq.gz is given for two outputs' "${both[@]}" "${outputs[@]}" --trimlog ./out/u1.fq.gz "${last[@]}"
 gzip -dc f.gz | cmp -s - f || fail 'an input was touched'
 gzip -dc r.gz | cmp -s - r || fail 'an input was touched'
 
 row='an output in a folder that is not there'
-refused 4 'trim_gz: cannot write no/log' -1 data/f.gz -2 data/r.gz "${outputs[@]}" --trimlog no/log -- "${steps[@]}"
+refused 4 'trim_gz: cannot write no/log' "${both[@]}" "${outputs[@]}" --trimlog no/log "${last[@]}"
 
 row='a folder as an output'
-refused 4 'trim_gz: cannot write data' -1 data/f.gz -2 data/r.gz "${outputs[@]}" --trimlog data -- "${steps[@]}"
+refused 4 'trim_gz: cannot write data' "${both[@]}" "${outputs[@]}" --trimlog data "${last[@]}"
 
 if [ -w /dev/full ]; then
   row='a full device behind the program'
-  refused 4 'trim_gz: write failed: forward paired (/dev/full)' -1 data/f.gz -2 data/r.gz --paired1 /dev/full "${outputs[@]:2}" -- "${steps[@]}"
+  refused 4 'trim_gz: write failed: forward paired (/dev/full)' "${both[@]}" --paired1 /dev/full "${outputs[@]:2}" "${last[@]}"
   row='a full device as the log'
-  refused 4 'trim_gz: write failed: trim log (/dev/full)' -1 data/f.gz -2 data/r.gz "${outputs[@]}" --trimlog /dev/full -- "${steps[@]}"
+  refused 4 'trim_gz: write failed: trim log (/dev/full)' "${both[@]}" "${outputs[@]}" --trimlog /dev/full "${last[@]}"
   row='a full device behind a compressor'
   ln -s /dev/full full.gz
   full() {
-    refused 4 "$1" -1 data/f.gz -2 data/r.gz --paired1 out/x.gz --unpaired1 out/y.gz --paired2 out/z.gz --unpaired2 data/full.gz -- "${steps[@]}"
-    refused 4 "$1" -1 data/f.gz -2 data/r.gz --paired1 data/full.gz --unpaired1 out/y.gz --paired2 out/z.gz --unpaired2 out/x -- "${steps[@]}"
+    refused 4 "$1" "${both[@]}" --paired1 out/x.gz --unpaired1 out/y.gz --paired2 out/z.gz --unpaired2 data/full.gz "${last[@]}"
+    refused 4 "$1" "${both[@]}" --paired1 data/full.gz --unpaired1 out/y.gz --paired2 out/z.gz --unpaired2 out/x "${last[@]}"
   }
   if command -v pigz > /dev/null; then
     full 'trim_gz: cannot write data/full.gz: write error on <stdout> (No space left on device)'
@@ -327,7 +335,7 @@ if [ -w /dev/full ]; then
   tools=$PATH
   row='standard output on a full device'
   earlier
-  (cd "$work" && PATH=$tools "$script" --program "$program" -1 data/f.gz -2 data/r.gz "${outputs[@]}" -- "${steps[@]}") > /dev/full 2> "$work/told"
+  (cd "$work" && trimmed "${both[@]}" "${rest[@]}") > /dev/full 2> "$work/told"
   [ $? -eq 4 ] || fail 'the status is not 4'
   [ "$(cat "$work/told")" = 'trim_gz: cannot print' ] || fail "it says $(cat "$work/told")"
   untouched
@@ -339,7 +347,7 @@ row='a full disk'
 mkdir "$work/small"
 if mount -t tmpfs -o size=16k tmpfs "$work/small" 2> /dev/null; then
   earlier
-  (cd "$work" && PATH=$tools "$script" --program "$program" -1 data/f.gz -2 data/r.gz --paired1 small/p1.fq.gz "${outputs[@]:2}" -- "${steps[@]}") \
+  (cd "$work" && trimmed "${both[@]}" --paired1 small/p1.fq.gz "${outputs[@]:2}" "${last[@]}") \
     > "$work/printed" 2> "$work/told"
   [ $? -eq 4 ] || fail 'the status is not 4'
   grep -q '^trim_gz: cannot write small/p1.fq.gz: .*No space left on device' "$work/told" || fail "it says $(cat "$work/told")"
@@ -354,7 +362,7 @@ row='an output larger than ulimit -f allows'
 earlier
 (
   cd "$work" && ulimit -f 100 &&
-    "$script" --program "$program" -1 data/f.gz -2 data/r.gz --paired1 out/p1.fq "${outputs[@]:2}" -- "${steps[@]}"
+    "$script" --program "$program" "${both[@]}" --paired1 out/p1.fq "${outputs[@]:2}" "${last[@]}"
 ) > "$work/printed" 2> "$work/told"
 [ $? -eq 153 ] || fail 'the status is not 153'
 [ "$(cat "$work/told")" = "trim_gz: $program was ended by SIGXFSZ" ] || fail "it says $(cat "$work/told")"
@@ -369,7 +377,7 @@ exec "$program" "\$@"
 END
 chmod +x "$work/meddling"
 earlier
-(cd "$work" && PATH=$tools "$script" --program ./meddling -1 data/f.gz -2 data/r.gz "${outputs[@]}" --trimlog out/log.gz -- "${steps[@]}") \
+(cd "$work" && PATH=$tools "$script" --program ./meddling "${both[@]}" "${outputs[@]}" --trimlog out/log.gz "${last[@]}") \
   > "$work/printed" 2> "$work/told"
 [ $? -eq 4 ] || fail 'the status is not 4'
 [ "$(cat "$work/told")" = 'trim_gz: cannot write out/log.gz' ] || fail "it says $(cat "$work/told")"
@@ -390,7 +398,7 @@ stopped() {
   earlier
   endless f
   set -m
-  (cd "$work" && exec "$script" --program "$program" -1 data/endless -2 data/r.gz --paired1 out/p1.fq "${outputs[@]:2}" -- "${steps[@]}") \
+  (cd "$work" && exec "$script" --program "$program" -1 data/endless -2 data/r.gz --paired1 out/p1.fq "${outputs[@]:2}" "${last[@]}") \
     > "$work/printed" 2> "$work/told" &
   pid=$!
   set +m
@@ -418,7 +426,7 @@ stopped TERM 143 ''
 row='a decompressor that is killed'
 earlier
 endless f.part
-(cd "$work" && exec "$script" --program "$program" -1 data/endless -2 data/r.gz "${outputs[@]}" -- "${steps[@]}") > "$work/printed" 2> "$work/told" &
+(cd "$work" && exec "$script" --program "$program" -1 data/endless -2 data/r.gz "${rest[@]}") > "$work/printed" 2> "$work/told" &
 pid=$!
 for _ in {1..200}; do
   victim=$(pgrep -f -- '^gzip -dcf -- data/endless$')
