@@ -426,10 +426,10 @@ stopped TERM 143 ''
 row='a decompressor that is killed'
 earlier
 endless f.part
-(cd "$work" && exec "$script" --program "$program" -1 data/endless -2 data/r.gz "${rest[@]}") > "$work/printed" 2> "$work/told" &
+(cd "$work" && exec "$script" --program "$program" -1 "$work/data/endless" -2 data/r.gz "${rest[@]}") > "$work/printed" 2> "$work/told" &
 pid=$!
 for _ in {1..200}; do
-  victim=$(pgrep -f -- '^gzip -dcf -- data/endless$')
+  victim=$(pgrep -f -x -- "gzip -dcf -- $work/data/endless")
   [ -n "$victim" ] && break
   sleep 0.05
 done
@@ -437,7 +437,7 @@ kill -KILL "$victim"
 wait "$pid"
 [ $? -eq 3 ] || fail 'the status is not 3'
 kill "$fed"
-grep -q '^trim_gz: cannot read data/endless: ended by SIGKILL; input: forward record [0-9]*: ' "$work/told" || fail "it says $(cat "$work/told")"
+grep -q "^trim_gz: cannot read $work/data/endless: ended by SIGKILL; input: forward record [0-9]*: " "$work/told" || fail "it says $(cat "$work/told")"
 untouched
 
 row='help and version'
