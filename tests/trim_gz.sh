@@ -10,7 +10,7 @@ if [ -z "$program" ]; then
   make -s build || exit 1
 fi
 work=$(mktemp -d)
-trap 'rm -rf "$work"' EXIT
+trap 'umount "$work/small" 2> /dev/null; rm -rf "$work"' EXIT
 mkdir "$work/data" "$work/tmp" "$work/out" "$work/plain" "$work/bin"
 cd "$work/data" || exit 1
 export TMPDIR=$work/tmp
@@ -313,6 +313,21 @@ gzip -dc r.gz | cmp -s - r || fail 'an input was touched'
 row='an output in a folder that is not there'
 refused 4 'trim_gz: cannot write no/log' "${both[@]}" "${outputs[@]}" --trimlog no/log "${last[@]}"
 
+row='no place for the pipes'
+earlier
+(cd "$work" && TMPDIR=$work/nowhere trimmed "${both[@]}" "${rest[@]}") > "$work/printed" 2> "$work/told"
+[ $? -eq 4 ] || fail 'the status is not 4'
+[ "$(cat "$work/told")" = 'trim_gz: cannot make a temporary folder' ] || fail "it says $(cat "$work/told")"
+untouched
+
+row='the summary into the file of the log'
+earlier
+: > "$work/log"
+(cd "$work" && trimmed "${both[@]}" "${outputs[@]}" --trimlog log "${last[@]}") > "$work/log" 2> "$work/told"
+[ $? -eq 4 ] || fail 'the status is not 4'
+[ "$(cat "$work/told")" = 'trim_gz: cannot write log: it is stdout too' ] || fail "it says $(cat "$work/told")"
+untouched
+
 row='a folder as an output'
 refused 4 'trim_gz: cannot write data' "${both[@]}" "${outputs[@]}" --trimlog data "${last[@]}"
 
@@ -424,21 +439,25 @@ row='ended by SIGTERM'
 stopped TERM 143 ''
 
 row='a decompressor that is killed'
-earlier
-endless f.part
-(cd "$work" && exec "$script" --program "$program" -1 "$work/data/endless" -2 data/r.gz "${rest[@]}") > "$work/printed" 2> "$work/told" &
-pid=$!
-for _ in {1..200}; do
-  victim=$(pgrep -f -x -- "gzip -dcf -- $work/data/endless")
-  [ -n "$victim" ] && break
-  sleep 0.05
-done
-kill -KILL "$victim"
-wait "$pid"
-[ $? -eq 3 ] || fail 'the status is not 3'
-kill "$fed"
-grep -q "^trim_gz: cannot read $work/data/endless: ended by SIGKILL; input: forward record [0-9]*: " "$work/told" || fail "it says $(cat "$work/told")"
-untouched
+if command -v pgrep > /dev/null; then
+  earlier
+  endless f.part
+  (cd "$work" && exec "$script" --program "$program" -1 "$work/data/endless" -2 data/r.gz "${rest[@]}") > "$work/printed" 2> "$work/told" &
+  pid=$!
+  for _ in {1..200}; do
+    victim=$(pgrep -f -x -- "gzip -dcf -- $work/data/endless")
+    [ -n "$victim" ] && break
+    sleep 0.05
+  done
+  kill -KILL "$victim"
+  wait "$pid"
+  [ $? -eq 3 ] || fail 'the status is not 3'
+  kill "$fed"
+  grep -q "^trim_gz: cannot read $work/data/endless: ended by SIGKILL; input: forward record [0-9]*: " "$work/told" || fail "it says $(cat "$work/told")"
+  untouched
+else
+  echo 'trim_gz: skipped: a decompressor that is killed, as there is no pgrep (apt-get install procps)'
+fi
 
 row='help and version'
 "$script" --help | grep -q -- '--paired1 OUT' || fail 'the outputs are not explained'
