@@ -331,6 +331,15 @@ untouched
 row='a folder as an output'
 refused 4 'trim_gz: cannot write data' "${both[@]}" "${outputs[@]}" --trimlog data "${last[@]}"
 
+row='a write-protected output'
+echo protected > protected.gz
+chmod a-w protected.gz
+if [ -w protected.gz ]; then
+  echo 'trim_gz: skipped: a write-protected output, as root may write it'
+else
+  refused 4 'trim_gz: cannot write data/protected.gz' "${both[@]}" "${outputs[@]}" --trimlog data/protected.gz "${last[@]}"
+fi
+
 if [ -w /dev/full ]; then
   row='a full device behind the program'
   refused 4 'trim_gz: write failed: forward paired (/dev/full)' "${both[@]}" --paired1 /dev/full "${outputs[@]:2}" "${last[@]}"
