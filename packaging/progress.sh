@@ -11,43 +11,52 @@ fi
 
 log=$(mktemp)
 trap 'rm -f "$log"' EXIT
-crate=
-proved=0
-begun=$SECONDS
+crate=      # the crate whose lines come
+proved=0    # its lines so far
+begun=$SECONDS    # when the crate before was done
 
 # Overwrites one line where somebody looks on, and is silent in a log.
 tell() {
   if [ -t 1 ]; then printf '\r\033[K%s' "$1"; fi
 }
 
-tell_crate() {
+# Ends the lines of a crate, of which this is to be said.
+end_crate() {
   if [ -n "$crate" ]; then
     tell ''
-    echo "$crate: $1 (${proved} proved, $((SECONDS - begun)) s)"
+    echo "$crate: $1 ($((SECONDS - begun)) s)"
+    begun=$SECONDS
   fi
   crate=
-  proved=0
-  begun=$SECONDS
 }
 
-# Takes each line of the command: what is proved is counted, what is not is shown, all else stays in the log.
+begin_crate() {
+  crate=$1
+  proved=0
+}
+
+# Takes each line of the command: what is proved is counted, all else stays in the log.
 show() {
   local line name
   while IFS= read -r line; do
     printf '%s\n' "$line" >> "$log"
     case $line in
+      '== '*)
+        end_crate 'nothing to prove'
+        if [ "$line" != '== summary' ]; then begin_crate "${line#== }"; fi
+        ;;
       'fn '*': proved' | 'struct '*': proved' | 'enum '*': proved' | 'impl '*': proved' | 'trait '*': proved')
         name=${line#* }
         name=${name%%::*}
-        if [ "$name" != "$crate" ]; then
-          if [ "$proved" -gt 0 ]; then tell_crate 'done'; fi
-          crate=$name
-        fi
+        if [ "$name" != "$crate" ]; then begin_crate "$name"; fi
         proved=$((proved + 1))
-        tell "$crate: $proved"
+        tell "$crate: $proved .."
         ;;
-      logic=proved*) tell_crate 'done' ;;
-      logic=*) tell_crate 'NOT PROVED' ;;
+      logic=proved*)
+        name=${line#*functions=}
+        end_crate "${name%% *} functions proved"
+        ;;
+      logic=*) end_crate 'NOT PROVED' ;;
     esac
   done
 }

@@ -15,12 +15,14 @@ if [ $# -eq 0 ]; then
   set -- "${crates[@]}"
 fi
 
+# A test may take long where the machine has other work: each has so many seconds.
+seconds=600
 log=$(mktemp)
 trap 'rm -f "$log"' EXIT
 failed=0
 for crate; do
   begun=$SECONDS
-  if (cd "crates/$crate" && rt try --test) > "$log" 2>&1; then
+  if (cd "crates/$crate" && rt try --test --seconds "$seconds") > "$log" 2>&1; then
     echo "$crate: passed ($((SECONDS - begun)) s, nothing proved)"
   else
     cat "$log"
