@@ -49,15 +49,16 @@ static: build
 dist: static
 	@bash packaging/pack.sh $(VERSION) dist
 
-# Installs the program, its manual page and its completion below PREFIX (default: /usr/local).
+# Installs the program, its manual page, its completion and trim_gz below PREFIX (default: /usr/local).
 install: build
 	install -D -m 755 $(PROGRAM) $(BIN)/fq_prog
+	$(if $(wildcard contrib/trim_gz),install -D -m 755 contrib/trim_gz $(BIN)/trim_gz)
 	install -D -m 644 man/fq_prog.1 $(MAN)/fq_prog.1
 	install -D -m 644 completions/fq_prog.bash $(COMPLETIONS)/fq_prog
 
 # Takes away what `make install` with the same PREFIX put there.
 uninstall:
-	rm -f $(BIN)/fq_prog $(MAN)/fq_prog.1 $(COMPLETIONS)/fq_prog
+	rm -f $(BIN)/fq_prog $(BIN)/trim_gz $(MAN)/fq_prog.1 $(COMPLETIONS)/fq_prog
 
 # Takes away what `make static` and `make dist` left. What was proved stays, in the crates' out/.
 clean:

@@ -38,23 +38,35 @@ files_of() {
   if git rev-parse --is-inside-work-tree > /dev/null 2>&1; then
     git ls-files -- "$@"
   else
-    find "$@" -type f
+    find "$@" -type f 2> /dev/null
   fi | sort
 }
 
-# The documents and scripts, and below licences/ what the C library's licence asks to be passed on.
+# put_tree TO FOLDERS..: copies what is in these folders of the tree, where they are
+put_tree() {
+  local to=$1 file mode
+  shift
+  while IFS= read -r file; do
+    mode=644
+    if [ -x "$file" ]; then mode=755; fi
+    put "$mode" "$file" "$to/$file"
+  done < <(files_of "$@")
+}
+
+# The documents, and below licences/ what the C library's licence asks to be passed on.
 put_documents() {
   local to=$1 file
   for file in README.md CHANGELOG.md NOTICES.md LICENSE-MIT LICENSE-APACHE; do put 644 "$file" "$to/$file"; done
-  for file in $(files_of docs contrib workflow config profiles); do
-    if [ -x "$file" ]; then put 755 "$file" "$to/$file"; else put 644 "$file" "$to/$file"; fi
-  done
+  put_tree "$to" docs
   put 644 "$licences/LGPL-2.1" "$to/licences/LGPL-2.1"
   put 644 "$licences/GPL-3" "$to/licences/GPL-3"
   put 644 /usr/share/doc/libc6/copyright "$to/licences/libc6"
   put 644 "$(readlink -f /usr/share/doc/libgcc-s1/copyright)" "$to/licences/libgcc"
   libraries > "$to/licences/versions"
 }
+
+# The scripts around the program, which find each other by where they are.
+put_scripts() { put_tree "$1" contrib workflow config profiles; }
 
 # The Debian packages whose files were linked into the program.
 libraries() {
@@ -74,6 +86,7 @@ pack_tarball() {
   put 644 man/fq_prog.1 "$to/share/man/man1/fq_prog.1"
   put 644 completions/fq_prog.bash "$to/share/bash-completion/completions/fq_prog"
   put_documents "$to"
+  put_scripts "$to"
   put_objects "$to/relink"
   (cd "$to" && find . -type f -printf '%P\n' | sort | xargs -d '\n' sha256sum) > "$work/sums"
   put 644 "$work/sums" "$to/SHA256SUMS"
@@ -99,6 +112,8 @@ pack_package() {
   put 644 completions/fq_prog.bash "$root/usr/share/bash-completion/completions/fq_prog"
   put_documents "$documents"
   put 644 packaging/copyright "$documents/copyright"
+  put_scripts "$root/usr/share/tibzharuk"
+  if [ -e contrib/trim_gz ]; then ln -s ../share/tibzharuk/contrib/trim_gz "$root/usr/bin/trim_gz"; fi
   put_objects "$root/usr/share/tibzharuk/relink"
   mkdir "$root/DEBIAN"
   control "$root" > "$root/DEBIAN/control"

@@ -35,29 +35,48 @@ begin_crate() {
   proved=0
 }
 
-# Takes each line of the command: what is proved is counted, all else stays in the log.
+# Takes a line of the command: what is proved is counted.
+take() {
+  local line=$1 name
+  case $line in
+    '== '*)
+      end_crate 'nothing to prove'
+      if [ "$line" != '== summary' ]; then begin_crate "${line#== }"; fi
+      ;;
+    'fn '*': proved' | 'struct '*': proved' | 'enum '*': proved' | 'impl '*': proved' | 'trait '*': proved')
+      name=${line#* }
+      name=${name%%::*}
+      if [ "$name" != "$crate" ]; then begin_crate "$name"; fi
+      proved=$((proved + 1))
+      tell "$crate: $proved .."
+      ;;
+    logic=proved*)
+      name=${line#*functions=}
+      end_crate "${name%% *} functions proved"
+      ;;
+    logic=*) end_crate 'NOT PROVED' ;;
+  esac
+}
+
+# Takes all lines and keeps them in the log. What a crate needs of others tells nothing until it is proved whole, so a minute
+# without a line is told.
 show() {
-  local line name
-  while IFS= read -r line; do
-    printf '%s\n' "$line" >> "$log"
-    case $line in
-      '== '*)
-        end_crate 'nothing to prove'
-        if [ "$line" != '== summary' ]; then begin_crate "${line#== }"; fi
-        ;;
-      'fn '*': proved' | 'struct '*': proved' | 'enum '*': proved' | 'impl '*': proved' | 'trait '*': proved')
-        name=${line#* }
-        name=${name%%::*}
-        if [ "$name" != "$crate" ]; then begin_crate "$name"; fi
-        proved=$((proved + 1))
-        tell "$crate: $proved .."
-        ;;
-      logic=proved*)
-        name=${line#*functions=}
-        end_crate "${name%% *} functions proved"
-        ;;
-      logic=*) end_crate 'NOT PROVED' ;;
-    esac
+  local line part='' status
+  while true; do
+    status=0
+    IFS= read -r -t 60 line || status=$?
+    part=$part$line
+    if [ "$status" -gt 128 ]; then
+      tell ''
+      echo "still proving (${crate:+$crate, }$((SECONDS - begun)) s)"
+    else
+      if [ -n "$part" ] || [ "$status" -eq 0 ]; then
+        printf '%s\n' "$part" >> "$log"
+        take "$part"
+      fi
+      part=
+      if [ "$status" -ne 0 ]; then return; fi
+    fi
   done
 }
 

@@ -105,9 +105,10 @@ check_package() {
   run_example 'the program of the package' env -i "$root/usr/bin/fq_prog"
   [ -s "$root/usr/share/man/man1/fq_prog.1.gz" ] || fail 'the package has no manual page'
   [ -s "$root/usr/share/doc/tibzharuk/copyright" ] || fail 'the package has no copyright'
+  if [ -e contrib/trim_gz ]; then [ -x "$root/usr/bin/trim_gz" ] || fail 'the package has no trim_gz'; fi
   (cd "$root" && md5sum --quiet -c var/lib/dpkg/info/tibzharuk.md5sums) || fail 'the sums of the package are not those of its files'
   dpkg --root="$root" --log=/dev/null --purge tibzharuk > "$work/log" 2>&1 || fail "dpkg does not remove the package: $(cat "$work/log")"
-  if find "$root" -path "$root/var/lib/dpkg" -prune -o -type f -print | grep .; then fail 'the removed package leaves files'; fi
+  if find "$root" -path "$root/var/lib/dpkg" -prune -o ! -type d -print | grep .; then fail 'the removed package leaves files'; fi
 }
 
 # Packing again, elsewhere and with other habits of the shell, makes the same bytes; and whoever has the tarball can link again.
@@ -174,13 +175,26 @@ check_completion() {
   offers MINLEN: fq_prog IL --trimlog log --no-name-check i fp fu rp ru M
 }
 
+# The scripts that are packed with the program answer where they are.
+check_scripts() {
+  local script
+  for script in "$release"/contrib/*; do
+    if [ -f "$script" ] && [ -x "$script" ]; then
+      PATH=$release/bin:$PATH "$script" --help > "$work/out" 2>&1 || fail "$script --help fails: $(cat "$work/out")"
+    fi
+  done
+}
+
 # What is installed runs, and is taken away to the last file; another's file stays.
 check_install() {
   local stage=$work/stage
   install -D -m 644 README.md "$stage/usr/bin/other"
   make -s install DESTDIR="$stage" PREFIX=/usr > /dev/null || fail 'make install fails'
   run_example 'the installed program' "$stage/usr/bin/fq_prog"
-  [ "$(find "$stage" -type f | wc -l)" -eq 4 ] || fail "make install makes other files: $(find "$stage" -type f)"
+  {
+    printf '%s\n' bin/fq_prog bin/other share/man/man1/fq_prog.1 share/bash-completion/completions/fq_prog
+    if [ -e contrib/trim_gz ]; then echo bin/trim_gz; fi
+  } | sort | diff - <(find "$stage/usr" ! -type d -printf '%P\n' | sort) || fail 'make install makes other files'
   make -s uninstall DESTDIR="$stage" PREFIX=/usr > /dev/null || fail 'make uninstall fails'
   [ "$(find "$stage" ! -type d)" = "$stage/usr/bin/other" ] || fail "make uninstall leaves $(find "$stage" ! -type d)"
 }
@@ -194,6 +208,7 @@ check_again
 check_processors
 check_names
 check_completion
+check_scripts
 check_install
 [ "$failed" -eq 0 ] && echo 'dist: as it says'
 exit "$failed"
