@@ -24,10 +24,15 @@ tell() {
 end_crate() {
   if [ -n "$crate" ]; then
     tell ''
-    echo "$crate: $1 ($((SECONDS - begun)) s)"
-    begun=$SECONDS
+    echo "$crate: $1"
   fi
   crate=
+}
+
+# The same, with the time since the crate before was done.
+end_timed() {
+  end_crate "$1 ($((SECONDS - begun)) s)"
+  begun=$SECONDS
 }
 
 begin_crate() {
@@ -52,9 +57,9 @@ take() {
       ;;
     logic=proved*)
       name=${line#*functions=}
-      end_crate "${name%% *} functions proved"
+      end_timed "${name%% *} functions proved"
       ;;
-    logic=*) end_crate 'NOT PROVED' ;;
+    logic=*) end_timed 'NOT PROVED' ;;
   esac
 }
 
