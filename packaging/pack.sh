@@ -87,6 +87,7 @@ pack_tarball() {
   put 644 completions/fq_prog.bash "$to/share/bash-completion/completions/fq_prog"
   put_documents "$to"
   put_scripts "$to"
+  if [ -e contrib/trim_gz ]; then ln -s ../contrib/trim_gz "$to/bin/trim_gz"; fi
   put_objects "$to/relink"
   (cd "$to" && find . -type f -printf '%P\n' | sort | xargs -d '\n' sha256sum) > "$work/sums"
   put 644 "$work/sums" "$to/SHA256SUMS"

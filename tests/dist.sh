@@ -178,6 +178,7 @@ check_completion() {
 # The scripts that are packed with the program answer where they are.
 check_scripts() {
   local script
+  if [ -e contrib/trim_gz ]; then [ -x "$release/bin/trim_gz" ] || fail 'the tarball has no trim_gz'; fi
   for script in "$release"/contrib/*; do
     if [ -f "$script" ] && [ -x "$script" ]; then
       PATH=$release/bin:$PATH "$script" --help > "$work/out" 2>&1 || fail "$script --help fails: $(cat "$work/out")"
