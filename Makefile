@@ -2,7 +2,7 @@
 # `make static` and `make dist` also need a C compiler as linker and the C library's static form (Debian: gcc, libc6-dev).
 PREFIX ?= /usr/local
 PROGRAM = crates/fq_prog/out/fq_prog
-VERSION := $(shell sed -n 's/.*\.version("\([0-9.]*\)").*/\1/p' crates/fq_prog/src/words.rt)
+VERSION := $(shell sed -n 's/.*\.version("\([0-9.]*\)").*/\1/p' crates/*/src/*.rt)
 BIN = $(DESTDIR)$(PREFIX)/bin
 MAN = $(DESTDIR)$(PREFIX)/share/man/man1
 COMPLETIONS = $(DESTDIR)$(PREFIX)/share/bash-completion/completions
