@@ -1,30 +1,77 @@
-# Tibzharuk: build, show, test and install. It needs the Rattle kit, whose command `rt` is on the path.
+# Tibzharuk: build, try, check, test, install and pack. It needs the Rattle kit, whose command `rt` is on the path.
+# `make static` and `make dist` also need a C compiler as linker and the C library's static form (Debian: gcc, libc6-dev).
 PREFIX ?= /usr/local
 PROGRAM = crates/fq_prog/out/fq_prog
+VERSION := $(shell sed -n 's/.*\.version("\([0-9.]*\)").*/\1/p' crates/*/src/*.rt)
+BIN = $(DESTDIR)$(PREFIX)/bin
+MAN = $(DESTDIR)$(PREFIX)/share/man/man1
+COMPLETIONS = $(DESTDIR)$(PREFIX)/share/bash-completion/completions
+SHOW = bash packaging/progress.sh
+.DEFAULT_GOAL := build
 
-.PHONY: build example test install bench bench-reading bench-lane
+.PHONY: help build example try check test static dist install uninstall clean bench bench-reading bench-lane
 
-# Proves the program and all below it, and leaves it at $(PROGRAM).
+# Lists the targets, each with the comment above it.
+help:
+	@awk '/^# /{ said = said " " substr($$0, 3); next } /^[a-z-]+:/{ sub(":.*", ""); printf "make %-14s%s\n", $$0, said } { said = "" }' Makefile
+
+# Proves the program and all below it, says which crate is done, and leaves the program at crates/fq_prog/out/fq_prog.
 build:
-	@log=$$(mktemp); (cd crates/fq_prog && rt run -- EXAMPLE) > $$log 2>&1 || { cat $$log; rm -f $$log; exit 1; }; rm -f $$log
+	@cd crates/fq_prog && bash ../../packaging/progress.sh rt run -- EXAMPLE
 
 # Prints what becomes of two built-in pairs.
 example: build
 	@$(PROGRAM) EXAMPLE
 
+# Runs the tests without proofs: of one crate with CRATE=fq_trim, else of every crate.
+try:
+	@bash packaging/try.sh $(CRATE)
+
+# Proves what changed since the last check, and the crates above it: of one crate with CRATE=fq_trim, else of every crate.
+check:
+ifdef CRATE
+	@cd crates/$(CRATE) && bash ../../packaging/progress.sh rt check
+else
+	@$(SHOW) rt all check
+endif
+
 # The whole gate: every proof from nothing, the edits that must fail, the tests, the program's stored run, and the scripts.
 test:
 	@bash tests/all.sh
 
-install: build
-	install -D -m 755 $(PROGRAM) $(DESTDIR)$(PREFIX)/bin/fq_prog
+# Links the program into dist/fq_prog, which needs no library.
+static: build
+	@bash packaging/objects.sh dist/objects
+	@bash packaging/link_static.sh dist/objects dist/fq_prog
+	@ls -l dist/fq_prog
 
-# Measurements; they give no verdict. BENCH has words for the script, as BENCH='--pairs 50000'.
+# Packs the static program with its documents in dist/: a tarball, a Debian package, and the sums of both.
+dist: static
+	@bash packaging/pack.sh $(VERSION) dist
+
+# Installs the program, its manual page, its completion and trim_gz below PREFIX (default: /usr/local).
+install: build
+	install -D -m 755 $(PROGRAM) $(BIN)/fq_prog
+	$(if $(wildcard contrib/trim_gz),install -D -m 755 contrib/trim_gz $(BIN)/trim_gz)
+	install -D -m 644 man/fq_prog.1 $(MAN)/fq_prog.1
+	install -D -m 644 completions/fq_prog.bash $(COMPLETIONS)/fq_prog
+
+# Takes away what `make install` with the same PREFIX put there.
+uninstall:
+	rm -f $(BIN)/fq_prog $(BIN)/trim_gz $(MAN)/fq_prog.1 $(COMPLETIONS)/fq_prog
+
+# Takes away what `make static` and `make dist` left. What was proved stays, in the crates' out/.
+clean:
+	rm -rf dist
+
+# Measures the program beside other trimmers. BENCH has words for the script, as BENCH='--pairs 50000'. No verdict.
 bench: build
 	@bash bench/trimming/run.sh $(BENCH)
 
+# Measures reading alone. No verdict.
 bench-reading:
 	@bash bench/reading/run.sh
 
+# Measures a lane between two threads. No verdict.
 bench-lane:
 	@bash bench/lane/run.sh

@@ -1,0 +1,15 @@
+#!/usr/bin/env bash
+# Collects what a static link takes: the proved object of the program, and the two archives of the Rattle kit.
+set -euo pipefail
+cd "$(dirname "$0")/.."
+
+if [ $# -ne 1 ] || [ "$1" = --help ]; then
+  echo "usage: packaging/objects.sh FOLDER
+Copies fq_prog.o, libos_c.a and liblibc_c.a to FOLDER. The program has to be built before."
+  [ "${1-}" = --help ]
+  exit
+fi
+
+kit=$(dirname "$(rt doc)")
+mkdir -p "$1"
+install -m 644 crates/fq_prog/out/fq_prog.o "$kit/c/libos_c.a" "$kit/c/liblibc_c.a" "$1"

@@ -1,0 +1,128 @@
+#!/usr/bin/env bash
+# Packs dist/fq_prog (see `make static`) with its documents: a tarball and a Debian package. Two calls on one tree make the
+# same bytes: files are sorted, owned by root and dated as the version is in CHANGELOG.md (or as SOURCE_DATE_EPOCH says).
+set -euo pipefail
+umask 022
+export LC_ALL=C TZ=UTC
+
+if [ $# -ne 2 ]; then
+  echo "usage: packaging/pack.sh VERSION FOLDER
+Makes tibzharuk-VERSION-linux-x86_64.tar.gz, tibzharuk_VERSION_amd64.deb and SHA256SUMS in FOLDER, which has to hold
+fq_prog and objects/ already."
+  [ "${1-}" = --help ]
+  exit
+fi
+
+version=$1
+folder=$(realpath "$2")
+cd "$(dirname "$0")/.."
+release=tibzharuk-$version-linux-x86_64
+package=tibzharuk_${version}_amd64
+licences=/usr/share/common-licenses
+work=$(mktemp -d)
+trap 'rm -rf "$work"' EXIT
+
+day=$(sed -n "s/^## $version (\([0-9-]*\))\$/\1/p" CHANGELOG.md)
+if [ -z "$day" ]; then
+  echo "pack: CHANGELOG.md has no heading '## $version (YYYY-MM-DD)'" >&2
+  exit 1
+fi
+: "${SOURCE_DATE_EPOCH:=$(date -d "$day" +%s)}"
+export SOURCE_DATE_EPOCH
+
+# put MODE FROM TO: copies a file, and makes its folder
+put() { install -D -m "$1" "$2" "$3"; }
+
+# The files of the tree below these folders: those that git knows, or all where the tree is no clone.
+files_of() {
+  if git rev-parse --is-inside-work-tree > /dev/null 2>&1; then
+    git ls-files -- "$@"
+  else
+    find "$@" -type f 2> /dev/null
+  fi | sort
+}
+
+# put_tree TO FOLDERS..: copies what is in these folders of the tree, where they are
+put_tree() {
+  local to=$1 file mode
+  shift
+  while IFS= read -r file; do
+    mode=644
+    if [ -x "$file" ]; then mode=755; fi
+    put "$mode" "$file" "$to/$file"
+  done < <(files_of "$@")
+}
+
+# The documents, and below licences/ what the C library's licence asks to be passed on.
+put_documents() {
+  local to=$1 file
+  for file in README.md CHANGELOG.md NOTICES.md LICENSE-MIT LICENSE-APACHE; do put 644 "$file" "$to/$file"; done
+  put_tree "$to" docs
+  put 644 "$licences/LGPL-2.1" "$to/licences/LGPL-2.1"
+  put 644 "$licences/GPL-3" "$to/licences/GPL-3"
+  put 644 /usr/share/doc/libc6/copyright "$to/licences/libc6"
+  put 644 "$(readlink -f /usr/share/doc/libgcc-s1/copyright)" "$to/licences/libgcc"
+  libraries > "$to/licences/versions"
+}
+
+# The scripts around the program, which find each other by where they are.
+put_scripts() { put_tree "$1" contrib workflow config profiles; }
+
+# The Debian packages whose files were linked into the program.
+libraries() {
+  # shellcheck disable=SC2016  # the fields are dpkg-query's
+  dpkg-query -W -f '${Package} ${Version}, from the source package ${source:Package} ${source:Version}\n' libc6-dev "libgcc-$(cc -dumpversion)-dev"
+}
+
+put_objects() {
+  local file
+  for file in fq_prog.o libos_c.a liblibc_c.a; do put 644 "$folder/objects/$file" "$1/$file"; done
+  put 755 packaging/link_static.sh "$1/link_static.sh"
+}
+
+pack_tarball() {
+  local to=$work/$release
+  put 755 "$folder/fq_prog" "$to/bin/fq_prog"
+  put 644 man/fq_prog.1 "$to/share/man/man1/fq_prog.1"
+  put 644 completions/fq_prog.bash "$to/share/bash-completion/completions/fq_prog"
+  put_documents "$to"
+  put_scripts "$to"
+  if [ -e contrib/trim_gz ]; then ln -s ../contrib/trim_gz "$to/bin/trim_gz"; fi
+  put_objects "$to/relink"
+  (cd "$to" && find . -type f -printf '%P\n' | sort | xargs -d '\n' sha256sum) > "$work/sums"
+  put 644 "$work/sums" "$to/SHA256SUMS"
+  tar --sort=name --format=ustar --mtime="@$SOURCE_DATE_EPOCH" --owner=0 --group=0 --numeric-owner \
+    -C "$work" -cf - "$release" | gzip -9n > "$folder/$release.tar.gz"
+}
+
+# Debian's control file. Built-Using names the sources of what was linked in.
+control() {
+  # shellcheck disable=SC2016  # the fields are dpkg-query's
+  local using
+  using=$(dpkg-query -W -f '${source:Package} (= ${source:Version}), ' libc6-dev "libgcc-$(cc -dumpversion)-dev")
+  sed -e "s/@VERSION@/$version/" -e "s/@SIZE@/$(du -k -s --apparent-size "$1/usr" | cut -f 1)/" \
+    -e "s/@USING@/${using%, }/" packaging/control.in
+}
+
+pack_package() {
+  local root=$work/root documents
+  documents=$root/usr/share/doc/tibzharuk
+  put 755 "$folder/fq_prog" "$root/usr/bin/fq_prog"
+  put 644 man/fq_prog.1 "$root/usr/share/man/man1/fq_prog.1"
+  gzip -9n "$root/usr/share/man/man1/fq_prog.1"
+  put 644 completions/fq_prog.bash "$root/usr/share/bash-completion/completions/fq_prog"
+  put_documents "$documents"
+  put 644 packaging/copyright "$documents/copyright"
+  put_scripts "$root/usr/share/tibzharuk"
+  if [ -e contrib/trim_gz ]; then ln -s ../share/tibzharuk/contrib/trim_gz "$root/usr/bin/trim_gz"; fi
+  put_objects "$root/usr/share/tibzharuk/relink"
+  mkdir "$root/DEBIAN"
+  control "$root" > "$root/DEBIAN/control"
+  (cd "$root" && find usr -type f -printf '%p\n' | sort | xargs -d '\n' md5sum > DEBIAN/md5sums)
+  find "$root" -exec touch -h -d "@$SOURCE_DATE_EPOCH" {} +
+  dpkg-deb --root-owner-group -Zxz --build "$root" "$folder/$package.deb" > /dev/null
+}
+
+pack_tarball
+pack_package
+(cd "$folder" && sha256sum "$release.tar.gz" "$package.deb" > SHA256SUMS && cat SHA256SUMS)

@@ -1,0 +1,215 @@
+#!/usr/bin/env bash
+# The files of a release: the tarball and the Debian package of `make dist` run as they are, by themselves, and are what they
+# say; and what `make install` puts somewhere `make uninstall` takes away. A part that lacks a Debian package prints 'skipped'
+# and which. Where nothing can be packed at all the status is 77.
+set -uo pipefail
+cd "$(dirname "$0")/.." || exit 1
+top=$PWD
+dynamic=$top/crates/fq_prog/out/fq_prog
+for command in cc dpkg-deb objdump; do
+  if ! command -v "$command" > /dev/null; then
+    echo "dist: skipped: needs $command (Debian: gcc, libc6-dev, dpkg, binutils)"
+    exit 77
+  fi
+done
+make -s dist > /dev/null || exit 1
+work=$(mktemp -d)
+trap 'rm -rf "$work"' EXIT
+chmod 755 "$work"
+failed=0
+version=$("$dynamic" --version)
+version=${version#fq_prog }
+tarball=$top/dist/tibzharuk-$version-linux-x86_64.tar.gz
+package=$top/dist/tibzharuk_${version}_amd64.deb
+release=$work/empty/tibzharuk-$version-linux-x86_64
+program=$release/bin/fq_prog
+
+fail() {
+  echo "dist: $1"
+  failed=1
+}
+
+# run_example NAME WORDS..: the words run the program, which prints its stored example
+run_example() {
+  local name=$1
+  shift
+  "$@" EXAMPLE 2> "$work/err" | diff - crates/fq_prog/stdout > "$work/difference" ||
+    fail "$name prints another EXAMPLE: $(cat "$work/difference" "$work/err")"
+}
+
+# The tarball, in an empty folder, with no word of the environment.
+check_tarball() {
+  local file
+  (cd dist && sha256sum --quiet -c SHA256SUMS) || fail 'the sums of dist/ are not those of its files'
+  mkdir "$work/empty"
+  tar -C "$work/empty" -xzf "$tarball" || fail 'the tarball is not unpacked'
+  [ "$(ls "$work/empty")" = "${release##*/}" ] || fail "the tarball has another folder: $(ls "$work/empty")"
+  for file in README.md CHANGELOG.md NOTICES.md LICENSE-MIT LICENSE-APACHE share/man/man1/fq_prog.1 share/bash-completion/completions/fq_prog; do
+    [ -s "$release/$file" ] || fail "the tarball lacks $file"
+  done
+  (cd "$release" && sha256sum --quiet -c SHA256SUMS) || fail 'the sums in the tarball are not those of its files'
+  run_example 'the program of the tarball' env -i "$program"
+  if tar --numeric-owner -tvzf "$tarball" | grep -v ' 0/0 '; then fail 'the tarball names an owner'; fi
+}
+
+# The version is the same everywhere.
+check_version() {
+  [ "$("$program" --version)" = "fq_prog $version" ] || fail 'the tarball has another version'
+  [ "$(sed -n 's/^## \([0-9.]*\) .*/\1/p' CHANGELOG.md | head -n 1)" = "$version" ] || fail "CHANGELOG.md begins with another version than $version"
+  [ "$(dpkg-deb -f "$package" Version)" = "$version" ] || fail "the package has another version than $version"
+  grep -qF "\"Tibzharuk $version\"" man/fq_prog.1 || fail "the manual page has another version than $version"
+}
+
+# The program names neither a library nor a loader, and runs where there is no other file.
+check_alone() {
+  if objdump -p "$program" | grep -E 'NEEDED|INTERP'; then fail 'the program of the tarball needs a library'; fi
+  ldd "$program" 2>&1 | grep -qE 'statically linked|not a dynamic executable' || fail 'ldd finds libraries'
+  if [ "$(id -u)" -eq 0 ]; then
+    mkdir "$work/bare"
+    cp "$program" "$work/bare/fq_prog"
+    run_example 'the program with no other file around it' chroot "$work/bare" /fq_prog
+  else
+    echo 'dist: the run with no other file around it: skipped: needs root'
+  fi
+}
+
+# It writes the bytes that the dynamic program writes, on many threads too.
+check_same_bytes() {
+  local form runs
+  awk 'BEGIN { srand(7); for (k = 1; k <= 4000; k++) { s = ""; q = ""; n = 30 + int(rand() * 90);
+    for (i = 0; i < n; i++) { s = s substr("ACGT", 1 + int(rand() * 4), 1); q = q sprintf("%c", 33 + int(rand() * 41)) }
+    printf "@p%d/%d\n%s\n+\n%s\n", int((k + 1) / 2), 2 - k % 2, s, q } }' > "$work/both.fq"
+  for form in static dynamic; do
+    runs=$program
+    if [ "$form" = dynamic ]; then runs=$dynamic; fi
+    mkdir "$work/$form"
+    (cd "$work/$form" && "$runs" IL --threads 8 --block 16 --trimlog log ../both.fq fp fu rp ru LEADING:10 SLIDINGWINDOW:4:18 MINLEN:12 > summary) ||
+      fail "the $form program fails"
+  done
+  grep -q '^Input Read Pairs: 2000$' "$work/static/summary" || fail 'the static program trims other pairs'
+  diff -r "$work/static" "$work/dynamic" || fail 'the static program writes other bytes'
+}
+
+# The Debian package, in a root of its own.
+check_package() {
+  local root=$work/root
+  mkdir -p "$root/var/lib/dpkg/info" "$root/var/lib/dpkg/updates"
+  if [ "$(id -u)" -ne 0 ] || ! command -v dpkg > /dev/null; then
+    echo 'dist: installing with dpkg: skipped: needs root and dpkg; the package is only unpacked'
+    dpkg-deb -x "$package" "$root" || fail 'the package is not unpacked'
+    run_example 'the program of the package' env -i "$root/usr/bin/fq_prog"
+    return
+  fi
+  touch "$root/var/lib/dpkg/status" "$root/var/lib/dpkg/available"
+  dpkg --root="$root" --log=/dev/null --install "$package" > "$work/log" 2>&1 || fail "dpkg does not install the package: $(cat "$work/log")"
+  run_example 'the program of the package' env -i "$root/usr/bin/fq_prog"
+  [ -s "$root/usr/share/man/man1/fq_prog.1.gz" ] || fail 'the package has no manual page'
+  [ -s "$root/usr/share/doc/tibzharuk/copyright" ] || fail 'the package has no copyright'
+  if [ -e contrib/trim_gz ]; then [ -x "$root/usr/bin/trim_gz" ] || fail 'the package has no trim_gz'; fi
+  (cd "$root" && md5sum --quiet -c var/lib/dpkg/info/tibzharuk.md5sums) || fail 'the sums of the package are not those of its files'
+  dpkg --root="$root" --log=/dev/null --purge tibzharuk > "$work/log" 2>&1 || fail "dpkg does not remove the package: $(cat "$work/log")"
+  if find "$root" -path "$root/var/lib/dpkg" -prune -o ! -type d -print | grep .; then fail 'the removed package leaves files'; fi
+}
+
+# Packing again, elsewhere and with other habits of the shell, makes the same bytes; and whoever has the tarball can link again.
+check_again() {
+  mkdir "$work/again"
+  cp -r dist/fq_prog dist/objects "$work/again"
+  (umask 077 && TZ=Asia/Tokyo LC_ALL=C.UTF-8 bash packaging/pack.sh "$version" "$work/again") | diff - dist/SHA256SUMS || fail 'packing again makes other files'
+  bash "$release/relink/link_static.sh" "$release/relink" "$work/relinked" || fail 'the program is not linked again'
+  cmp "$work/relinked" "$program" || fail 'linking again makes another program'
+}
+
+# A processor without SSE4.2 is refused in one line, before anything is done; the least that has it is enough.
+check_processors() {
+  local form status
+  if ! command -v qemu-x86_64 > /dev/null; then
+    echo 'dist: a processor without SSE4.2: skipped: needs qemu-user'
+    return
+  fi
+  for form in "$program" "$dynamic"; do
+    qemu-x86_64 -cpu core2duo "$form" EXAMPLE > "$work/out" 2> "$work/err"
+    status=$?
+    if [ "$status" -ne 127 ] || [ -s "$work/out" ] || ! grep -q '^this machine lacks a feature of x86-64-v2' "$work/err"; then
+      fail "$form without SSE4.2: status $status, $(cat "$work/err")"
+    fi
+  done
+  run_example 'the program on the least processor' qemu-x86_64 -cpu Nehalem "$program"
+}
+
+# The options and the steps that a text names, a step as MINLEN:
+names() { grep -oE -- '(^|[^-[:alnum:]])--[a-z][a-z-]*|\b[A-Z]+:|\bTOPHRED33\b' | grep -oE -- '--[a-z-]+|[A-Z]+:|TOPHRED33' | sort -u; }
+
+# offered WORDS..: what the completion offers behind these words
+offered() {
+  # shellcheck disable=SC2016  # the inner shell has the variables
+  bash -c 'compopt() { :; }; . "$0"; COMP_WORDS=("$@"); COMP_CWORD=$(($# - 1)); _fq_prog; echo "${COMPREPLY[*]-}"' completions/fq_prog.bash "$@"
+}
+
+# Help, manual page and completion name the same options and steps.
+check_names() {
+  local form
+  { "$program" --help; "$program" PE --help; "$program" IL --help; } | names > "$work/of_help"
+  sed 's/\\-/-/g; s/^\.[A-Z]* //' man/fq_prog.1 | names > "$work/of_page"
+  { offered fq_prog ''; offered fq_prog PE --; offered fq_prog IL i fp fu rp ru ''; } | names > "$work/of_completion"
+  for form in page completion; do
+    diff "$work/of_help" "$work/of_$form" || fail "help and the $form name other options or steps"
+  done
+}
+
+# offers WANTED WORDS..: the completion offers just this behind these words
+offers() {
+  local wanted=$1 got
+  shift
+  got=$(offered "$@")
+  [ "$got" = "$wanted" ] || fail "the completion offers '$got' behind: $*"
+}
+
+check_completion() {
+  offers PE fq_prog P
+  offers --trimlog fq_prog PE --threads 2 --tr
+  offers 'sanger solexa' fq_prog PE --encoding s
+  offers 'solexa' fq_prog IL --encoding = so
+  offers '' fq_prog PE f r fp fu rp L
+  offers LEADING: fq_prog PE f r fp fu rp ru L
+  offers MINLEN: fq_prog IL --trimlog log --no-name-check i fp fu rp ru M
+}
+
+# The scripts that are packed with the program answer where they are.
+check_scripts() {
+  local script
+  if [ -e contrib/trim_gz ]; then [ -x "$release/bin/trim_gz" ] || fail 'the tarball has no trim_gz'; fi
+  for script in "$release"/contrib/*; do
+    if [ -f "$script" ] && [ -x "$script" ]; then
+      PATH=$release/bin:$PATH "$script" --help > "$work/out" 2>&1 || fail "$script --help fails: $(cat "$work/out")"
+    fi
+  done
+}
+
+# What is installed runs, and is taken away to the last file; another's file stays.
+check_install() {
+  local stage=$work/stage
+  install -D -m 644 README.md "$stage/usr/bin/other"
+  make -s install DESTDIR="$stage" PREFIX=/usr > /dev/null || fail 'make install fails'
+  run_example 'the installed program' "$stage/usr/bin/fq_prog"
+  {
+    printf '%s\n' bin/fq_prog bin/other share/man/man1/fq_prog.1 share/bash-completion/completions/fq_prog
+    if [ -e contrib/trim_gz ]; then echo bin/trim_gz; fi
+  } | sort | diff - <(find "$stage/usr" ! -type d -printf '%P\n' | sort) || fail 'make install makes other files'
+  make -s uninstall DESTDIR="$stage" PREFIX=/usr > /dev/null || fail 'make uninstall fails'
+  [ "$(find "$stage" ! -type d)" = "$stage/usr/bin/other" ] || fail "make uninstall leaves $(find "$stage" ! -type d)"
+}
+
+check_tarball
+check_version
+check_alone
+check_same_bytes
+check_package
+check_again
+check_processors
+check_names
+check_completion
+check_scripts
+check_install
+[ "$failed" -eq 0 ] && echo 'dist: as it says'
+exit "$failed"

@@ -1,0 +1,166 @@
+#!/usr/bin/env bash
+# The documents say what the program says. Help, README.md, docs/FORMAT.md and the manual page name the same steps, options
+# and statuses; the first run of README.md prints and writes what stands there; its lines that call the library run; each file
+# that a document leads to is there.
+# DOCUMENTS_WIDTH=100 also wants every line of a document, outside tables and code, to be at most 100 columns wide.
+set -uo pipefail
+cd "$(dirname "$0")/.." || exit 1
+top=$PWD
+width=${DOCUMENTS_WIDTH:-0}
+program=$top/crates/fq_prog/out/fq_prog
+make -s build > /dev/null || exit 1
+work=$(mktemp -d)
+trap 'rm -rf "$work"' EXIT
+failed=0
+
+fail() {
+  echo "documents: $1"
+  failed=1
+}
+
+# alike WHAT FILE FILE: both have the same lines, in any order
+alike() {
+  diff <(sort -u "$2") <(sort -u "$3") || fail "$1"
+}
+
+# The code of a document, or with `text` all else but its tables. Code is fenced, or indented by four columns behind an
+# empty line. Each block ends with a form feed.
+parts() {
+  awk -v wanted="$1" '
+    /^ *(```|~~~)/ { if (fenced && wanted == "code") print "\f"; fenced = !fenced; next }
+    fenced { if (wanted == "code") print; next }
+    /^    / && (indented || empty) { indented = 1; if (wanted == "code") print substr($0, 5); next }
+    /^$/ && indented { held = held "\n"; next }
+    { if (indented && wanted == "code") print "\f"; indented = 0; held = ""; empty = ($0 == "")
+      if (wanted == "text" && !/^ *\|/) print FNR ": " $0 }
+    END { if (indented && wanted == "code") print "\f" }' "$2"
+}
+
+# The first cells of those rows of tables whose head begins with this cell.
+cells() {
+  awk -v head="$1" -F' *[|] *' '!/^\|/ { inside = 0; next } $2 == head { inside = 1; next } inside && $2 !~ /^-+$/ { print $2 }' "$2"
+}
+
+# The words of a text that are steps with the letters of their numbers, as LEADING:t, and TOPHRED33.
+steps() { grep -oE '\b[A-Z]+(:[a-z]\b)+|\bTOPHRED33\b' | sort -u; }
+options() { grep -oE -- '(^|[^-[:alnum:]])--[a-z][a-z-]*' | grep -oE -- '--.*' | sort -u; }
+
+compare_names() {
+  local document
+  { "$program" --help; "$program" PE --help; "$program" IL --help; } > "$work/help"
+  steps < "$work/help" > "$work/steps"
+  grep -v '^ *fq_prog [A-Z]* --help' "$work/help" | options > "$work/options"
+  [ "$(wc -l < "$work/steps")" -ge 8 ] || fail 'help lists no steps'
+  # The manual page, as plain words: its steps are written LEADING: t there.
+  sed 's/\\-/-/g; s/^\.[A-Z]* //; s/ *: *\([a-z]\)\b/:\1/g' man/fq_prog.1 > "$work/page"
+  for document in README.md docs/FORMAT.md "$work/page"; do
+    steps < "$document" > "$work/named"
+    alike "help and ${document##*/} name other steps" "$work/steps" "$work/named"
+  done
+  options < "$work/page" > "$work/named"
+  alike 'help and the manual page name other options' "$work/options" "$work/named"
+  cells Option README.md | options > "$work/named"
+  alike 'help and the table of README.md name other options' "$work/options" "$work/named"
+}
+
+compare_statuses() {
+  local document
+  tr '\n' ' ' < "$work/help" | grep -oE 'Exit status: [^.]*\.' | grep -oE '(: |; )[0-9]+ ' | tr -dc '0-9\n' | sort -u > "$work/statuses"
+  [ "$(wc -l < "$work/statuses")" -eq 7 ] || fail 'help lists no statuses'
+  for document in README.md docs/FORMAT.md; do
+    cells Status "$document" | sort -u > "$work/named"
+    # README.md may leave them to docs/FORMAT.md.
+    if [ -s "$work/named" ] || [ "$document" != README.md ]; then
+      alike "help and $document list other statuses" "$work/statuses" "$work/named"
+    fi
+  done
+  sed -n '/^\.SH EXIT STATUS/,/^\.SH EXAMPLES/p' man/fq_prog.1 | sed -n 's/^\.B \([0-9]*\)$/\1/p' > "$work/named"
+  alike 'help and the manual page list other statuses' "$work/statuses" "$work/named"
+}
+
+# shown FILE WHAT: a block of code of README.md holds the lines of FILE, one behind the other
+shown() {
+  awk -v RS='\f\n' -v want="$(cat "$1")" 'index("\n" $0, "\n" want "\n") { found = 1 } END { exit !found }' "$work/code" || fail "README.md doesn't show $2: $(cat "$1")"
+}
+
+# Runs the block of README.md that makes r1.fq and r2.fq and trims them.
+first_run() {
+  parts code README.md > "$work/code"
+  awk -v RS='\f\n' '/printf/ && /> *r1\.fq/ && /fq_prog PE/ && !found { found = 1; print }' "$work/code" |
+    grep -E '^(\$ )?(printf|fq_prog|cat|  )' | sed 's/^\$ //' > "$work/commands"
+  [ -s "$work/commands" ] || { fail 'README.md has no first run'; return; }
+  mkdir "$work/run" "$work/bin"
+  ln -s "$program" "$work/bin/fq_prog"
+  (cd "$work/run" && PATH=$work/bin:$PATH bash -euo pipefail "$work/commands") > "$work/printed" || fail 'the first run of README.md fails'
+  shown "$work/printed" 'what its first run prints'
+  [ -s "$work/run/trim.log" ] && shown "$work/run/trim.log" 'the log of its first run'
+}
+
+# Runs the lines of README.md that call the library, in a program of their own over the crates as they are built.
+call_library() {
+  local room=$work/library crate
+  awk -v RS='\f\n' '/run_threads\(/ && !found { found = 1; print }' "$work/code" > "$work/lines"
+  [ -s "$work/lines" ] || { fail 'README.md has no lines that call the library'; return; }
+  mkdir -p "$room/crates/shown/src"
+  grep -vE '^(#|fq_prog)' crates.txt > "$room/crates.txt"
+  while IFS= read -r crate; do
+    mkdir -p "$room/crates/$crate/out"
+    cp -r "crates/$crate"/{src,specs,proofs} "$room/crates/$crate/"
+    cp -r "crates/$crate/out/rlib" "$room/crates/$crate/out/"
+  done < <(grep -oE '^[a-z_0-9]+' crates.txt | grep -v '^fq_prog')
+  echo 'shown: fq_text fq_trim fq_work fq_run anyhow' >> "$room/crates.txt"
+  cp HANDLES "$room/"
+  sed -e "/@LINES@/{r $work/lines" -e 'd}' tests/documents/main.rt.in > "$room/crates/shown/src/main.rt"
+  if ! (cd "$room/crates/shown" && rt try) > "$work/log" 2>&1 || ! grep -qx 'Finished, 1 pair' "$work/log"; then
+    tail -n 20 "$work/log"
+    fail 'the lines of README.md that call the library do not run'
+  fi
+}
+
+documents() {
+  git ls-files --cached --others --exclude-standard -- '*.md' 2> /dev/null || find . -name '*.md' -not -path '*/out/*' -printf '%P\n'
+}
+
+# Where the links of a document lead, without those to other places of the net and within the document.
+links() { parts text "$1" | grep -oE '\]\([^) ]+\)' | sed 's/^](//; s/)$//; s/#.*//' | grep -vE '^([a-z]+:|$)'; }
+
+# The names in a document's backticks that begin with a folder of the tree.
+# shellcheck disable=SC2016  # the backticks are those of the document
+named_files() {
+  grep -oE '`(bench|config|contrib|docs|man|completions|packaging|profiles|tests|workflow)/[A-Za-z0-9_./-]+`' "$1" | tr -d '`'
+}
+
+# Links and names lead to something. A name may also be that of a file beside the document, or of a crate's tests.
+follow_links() {
+  local document link
+  while IFS= read -r document; do
+    while IFS= read -r link; do
+      [ -e "$(dirname "$document")/$link" ] || fail "$document leads to $link, which isn't there"
+    done < <(links "$document")
+    while IFS= read -r link; do
+      [ -e "$link" ] || [ -e "$(dirname "$document")/$link" ] || compgen -G "crates/*/src/$link" > /dev/null ||
+        fail "$document names $link, which isn't there"
+    done < <(named_files "$document")
+  done < <(documents)
+}
+
+# Lines with more characters than that, by their numbers.
+measure_width() {
+  local document
+  while IFS= read -r document; do
+    parts text "$document" | LC_ALL=C.UTF-8 grep -E "^[0-9]+: .{$((width + 1))}" | sed "s|^\([0-9]*\): |$document:\1: |" | cut -c 1-70
+  done < <(documents) > "$work/wide"
+  if [ -s "$work/wide" ]; then
+    cat "$work/wide"
+    fail "$(wc -l < "$work/wide") lines are over $width columns"
+  fi
+}
+
+compare_names
+compare_statuses
+first_run
+call_library
+follow_links
+if [ "$width" -gt 0 ]; then measure_width; fi
+[ "$failed" -eq 0 ] && echo 'documents: as the program says'
+exit "$failed"
