@@ -44,9 +44,10 @@ fail() {
   failed=1
 }
 
-# left: the ids of the processes that this test started and that still run
+# left: the ids of the processes that this test started and that still run, without those that look for them
 left() {
-  env -u TIBZHARUK_TEST grep -lzxF "TIBZHARUK_TEST=$work" /proc/[0-9]*/environ 2> /dev/null | sed 's|/proc/\([0-9]*\)/.*|\1|'
+  # shellcheck disable=SC2016
+  env -u TIBZHARUK_TEST bash -c 'grep -lzxF "TIBZHARUK_TEST=$1" /proc/[0-9]*/environ | cut -d/ -f3' left "$work" 2> /dev/null
 }
 
 # stop_slurm: cancels its jobs, waits until they are gone, and ends its daemons by their ids
@@ -67,12 +68,13 @@ stop_slurm() {
 
 # shellcheck disable=SC2317
 clean_up() {
-  local signal
+  local signal id ids
   stop_slurm
   for signal in TERM KILL; do
     for _ in $(seq 10); do
-      [ -n "$(left)" ] || break 2
-      left | while read -r id; do kill -s "$signal" "$id" 2> /dev/null; done
+      ids=$(left)
+      [ -n "$ids" ] || break 2
+      for id in $ids; do kill -s "$signal" "$id" 2> /dev/null; done
       sleep 0.5
     done
   done
@@ -133,6 +135,8 @@ new_lab() {
       printf '%s\t%s\treads/%s_R1.fq.gz\treads/%s_R2.fq.gz\n' "${lane%_*}" "${lane#*_}" "$lane" "$lane"
     done
   } > config/samples.tsv
+  mv reads/s3_L001_R1.fq.gz "reads/it's s3.fq.gz"
+  sed -i "s|reads/s3_L001_R1.fq.gz|reads/it's s3.fq.gz|" config/samples.tsv
   sed -i "s|^program:.*|program: $program|; s/^line_graphs:.*/line_graphs: true/; s/^steps:.*/steps: ${steps[*]}/
     s/threads: .*/threads: 2/; s/memory_mb: .*/memory_mb: 200/; s/minutes: .*/minutes: 5/" config/config.yaml
 }
@@ -260,6 +264,12 @@ bad_tables() {
   row='a table with a file that is not there'
   table "s1\tL1\t$one\treads/none.fq.gz\n"
   refused 'config/samples.tsv, line 2: column r2: there is no file reads/none.fq.gz'
+  row='a table with a name that Snakemake would read in its own way'
+  table "s1\tL1\t$one\treads/{sample}.fq.gz\n"
+  refused "config/samples.tsv, line 2: column r2: 'reads/{sample}.fq.gz' isn't the name of a file without { and }"
+  row='a table with three columns'
+  table "s1\t$one\t$two\n"
+  refused 'config/samples.tsv, line 2: 3 columns, not 4 with tabs between them'
   row='a table without rows'
   table ''
   refused 'config/samples.tsv: no sample'
@@ -400,5 +410,10 @@ else
   fail 'it does not start'
 fi
 row='the end'
-[ -z "$(left)" ] || fail "processes are left: $(left | paste -sd' ')"
+for _ in $(seq 20); do
+  ids=$(left)
+  [ -n "$ids" ] || break
+  sleep 0.5
+done
+[ -z "$ids" ] || fail "processes are left: $(paste -sd' ' <<< "$ids")"
 exit "$failed"

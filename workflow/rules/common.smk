@@ -12,12 +12,15 @@ from tables import Refused, check_settings, read_samples
 try:
     check_settings(config, HERE / "schemas" / "config.schema.yaml")
     SAMPLES = read_samples(config["samples"], HERE / "schemas" / "samples.schema.yaml")
+    OPTIONS = shlex.split(config["options"])
 except Refused as why:
     raise WorkflowError(str(why))
+except ValueError as why:
+    raise WorkflowError(f"settings: options: {why}")
 
 TRIM_GZ = str(HERE.parent / "contrib" / "trim_gz")
 LOG_TO_MQC = str(HERE.parent / "contrib" / "log_to_mqc")
-RESULTS = config["results"]
+RESULTS = config["results"].rstrip("/") or "/"
 GRAPHS = ["lengths", "front", "behind"]
 TRIMMED = RESULTS + "/trimmed/{sample}.{read}.{kind}.fastq.gz"
 SUMMARY = RESULTS + "/summaries/{sample}.summary"

@@ -28,7 +28,7 @@ rule trim:
     # Only what changes the trimmed reads is a parameter: Snakemake trims again where one of these changes.
     params:
         inputs=inputs_as_options,
-        options=quoted(shlex.split(config["options"])),
+        options=quoted(OPTIONS),
         steps=quoted(config["steps"].split()),
     threads: config["trim"]["threads"]
     resources:

@@ -33,7 +33,7 @@ class Refused(Exception):
 
 
 def last_line(path):
-    """The last line of a log that says something, or nothing."""
+    """The last line of a log that says something, or an empty one; None where there is no log."""
     last = ""
     try:
         with open(path, encoding="utf-8", errors="replace") as lines:
@@ -44,12 +44,10 @@ def last_line(path):
     return last
 
 
-def why_not(logs, sample):
-    """Why a sample is not trimmed, as far as its log tells."""
+def why_failed(logs, sample):
+    """Why a sample failed, as far as its log tells; nothing where it has no log, so was not begun."""
     said = last_line(logs / "trim" / f"{sample}.log")
-    if said is None:
-        return "not begun"
-    return said or "stopped without a word; see the messages of the cluster"
+    return "stopped without a word; see the messages of the cluster" if said == "" else said
 
 
 def settings_of(results, samples):
@@ -61,15 +59,22 @@ def settings_of(results, samples):
     return groups
 
 
-def run_section(results, trimmed, failed, without_graphs):
-    """What stands first on the page: how many samples, which failed and why, and how the others were trimmed."""
-    parts = [SECTION, f"<p><strong>{len(trimmed)} of {len(trimmed) + len(failed)} samples</strong> are on this page.</p>"]
+def missing_samples(failed, not_begun, without_graphs):
+    """The samples that the page lacks, and why."""
+    parts = []
     if failed:
-        rows = "".join(f"<li><strong>{html.escape(name)}</strong>: <samp>{html.escape(why)}</samp></li>" for name, why in failed.items())
-        parts.append(f'<div class="alert alert-danger"><strong>Failed: {len(failed)}.</strong> No reads of these were kept:<ul>{rows}</ul></div>')
-    if without_graphs:
-        names = html.escape(", ".join(without_graphs))
-        parts.append(f'<div class="alert alert-warning">Missing in the line graphs: {names}</div>')
+        parts.append(f'<div class="alert alert-danger"><strong>Failed: {len(failed)}.</strong> No reads of these were kept:<ul>')
+        parts += [f"<li><strong>{html.escape(name)}</strong>: <samp>{html.escape(why)}</samp></li>" for name, why in failed.items()]
+        parts.append("</ul></div>")
+    for what, names in ("Not begun", not_begun), ("Missing in the line graphs", without_graphs):
+        if names:
+            parts.append(f'<div class="alert alert-warning"><strong>{what}:</strong> {html.escape(", ".join(names))}</div>')
+    return parts
+
+
+def how_trimmed(results, trimmed):
+    """Version, steps and options; each sample is named where they are not the same for all."""
+    parts = []
     groups = settings_of(results, trimmed)
     for (version, steps, options), samples in groups.items():
         if len(groups) > 1:
@@ -80,7 +85,7 @@ def run_section(results, trimmed, failed, without_graphs):
             f"<tr><th>Steps</th><td><samp>{html.escape(steps)}</samp></td></tr>"
             f"<tr><th>Options</th><td><samp>{html.escape(options) or 'none'}</samp></td></tr></table>"
         )
-    return "\n".join(parts) + "\n"
+    return parts
 
 
 def call(command):
@@ -103,7 +108,8 @@ def gather(results, trimmed, line_graphs, folder):
     without_graphs = []
     for sample in trimmed if line_graphs else []:
         files = [results / "graphs" / f"{sample}_{graph}_mqc.json" for graph in GRAPHS]
-        if all(name.is_file() for name in files):
+        made = (results / "summaries" / f"{sample}.summary").stat().st_mtime
+        if all(name.is_file() and name.stat().st_mtime >= made for name in files):
             for name in files:
                 shutil.copy(name, folder)
         else:
@@ -111,15 +117,17 @@ def gather(results, trimmed, line_graphs, folder):
     return without_graphs
 
 
-def make_page(results, trimmed, failed, line_graphs):
+def make_page(results, trimmed, failed, not_begun, line_graphs):
     """Makes the page in a folder of its own, and puts it into its place at the end."""
+    samples = len(trimmed) + len(failed) + len(not_begun)
+    parts = [SECTION, f"<p><strong>{len(trimmed)} of {samples} samples</strong> are on this page.</p>"]
     results.mkdir(parents=True, exist_ok=True)
     with tempfile.TemporaryDirectory(prefix=".report.", dir=results) as room:
         read, written = Path(room) / "read", Path(room) / "written"
         read.mkdir()
         without_graphs = gather(results, trimmed, line_graphs, read)
-        section = run_section(results, trimmed, failed, without_graphs)
-        (read / "run_mqc.html").write_text(section, encoding="utf-8")
+        parts += missing_samples(failed, not_begun, without_graphs) + how_trimmed(results, trimmed)
+        (read / "run_mqc.html").write_text("\n".join(parts) + "\n", encoding="utf-8")
         config = str(HERE.parent / "multiqc.yaml")
         said = call(["multiqc", "--force", "--config", config, "--filename", "report.html", "--outdir", str(written), str(read)])
         if not (written / "report.html").is_file():
@@ -139,15 +147,19 @@ def main():
     samples = sys.stdin.read().split("\n")[:-1]
     parts = ("summary", "settings")
     trimmed = [name for name in samples if all((words.results / "summaries" / f"{name}.{part}").is_file() for part in parts)]
-    failed = {name: why_not(words.logs, name) for name in samples if name not in trimmed}
+    reasons = {name: why_failed(words.logs, name) for name in samples if name not in trimmed}
+    failed = {name: why for name, why in reasons.items() if why is not None}
+    not_begun = [name for name, why in reasons.items() if why is None]
     try:
-        make_page(words.results, trimmed, failed, words.line_graphs)
+        make_page(words.results, trimmed, failed, not_begun, words.line_graphs)
     except (Refused, OSError) as why:
         print(f"page: {' '.join(str(why).split())}", file=sys.stderr)
         return 1
     print(f"{words.results / 'report.html'}: {len(trimmed)} of {len(samples)} samples", file=sys.stderr)
     for name, why in failed.items():
         print(f"failed: {name}: {why}", file=sys.stderr)
+    for name in not_begun:
+        print(f"not begun: {name}", file=sys.stderr)
     return 0
 
 
