@@ -178,7 +178,8 @@ page_tells() {
   local data=results/report_data sample
   for sample in "$@"; do
     sed 's/.*: //' "$work/direct/$sample.summary" | paste -sd' ' | awk -v s="$sample" '{ print s, $2, $3, $4, $5 }'
-  done | cmp - <(sed 1d $data/multiqc_tibzharuk_pairs_plot.txt | awk '{ print $1, $2 + 0, $3 + 0, $4 + 0, $5 + 0 }') || fail 'the bars differ'
+  done | cmp - <(sed 1d $data/multiqc_tibzharuk_pairs_plot.txt | awk '{ print $1, $2 + 0, $3 + 0, $4 + 0, $5 + 0 }') \
+    || fail 'the bars differ'
   for sample in "$@"; do
     sed 's/.*: //' "$work/direct/$sample.summary" | paste -sd' ' | awk -v s="$sample" '{ printf "%s %.3f\n", s, 100 * $2 / $1 }'
   done | cmp - <(sed 1d $data/multiqc_general_stats.txt | awk '{ printf "%s %.3f\n", $1, $2 }') || fail 'the per cents differ'
@@ -377,6 +378,35 @@ start_slurm() {
   return 1
 }
 
+# status_of JOB WANTED: what the profile's script says of a job, within some seconds
+status_of() {
+  local got=''
+  for _ in $(seq 20); do
+    got=$(profiles/slurm/cluster_status "$1" 2> /dev/null)
+    [ "$got" != "$2" ] || return 0
+    sleep 0.5
+  done
+  fail "job $1 is '$got', not $2"
+}
+
+# cluster_scripts: the profile's two scripts on jobs that end, fail, are cancelled, wait for ever, and are not known
+cluster_scripts() {
+  local ends fails stays waits
+  row='the scripts of the profile'
+  ends=$(sbatch --parsable --output=/dev/null --time=5 --mem=10 --wrap true)
+  fails=$(sbatch --parsable --output=/dev/null --time=5 --mem=10 --wrap false)
+  stays=$(sbatch --parsable --output=/dev/null --time=5 --mem=10 --wrap 'sleep 100')
+  waits=$(sbatch --parsable --output=/dev/null --time=500 --mem=10 --wrap true)
+  status_of "$ends" success
+  status_of "$fails" failed
+  status_of "$stays;test" running
+  profiles/slurm/cluster_cancel "$stays" "$ends"
+  status_of "$stays" failed
+  status_of "$waits" failed
+  status_of 4000000 failed
+  [ -z "$(squeue --noheader)" ] || fail 'a job is still there'
+}
+
 draw_reads
 trim_directly s1 L001 L002
 trim_directly s2 L001
@@ -405,6 +435,7 @@ if start_slurm; then
   a_whole_life slurm
   jobs=$(find logs/slurm -name 'trim.s4.*.log' | wc -l)
   [ "$jobs" -eq 3 ] || fail "$jobs jobs of Slurm for s4, not 3"
+  cluster_scripts
   stop_slurm
 else
   fail 'it does not start'

@@ -20,13 +20,13 @@ except ValueError as why:
 
 TRIM_GZ = str(HERE.parent / "contrib" / "trim_gz")
 LOG_TO_MQC = str(HERE.parent / "contrib" / "log_to_mqc")
-RESULTS = config["results"].rstrip("/") or "/"
+RESULTS = config["results"]
 GRAPHS = ["lengths", "front", "behind"]
-TRIMMED = RESULTS + "/trimmed/{sample}.{read}.{kind}.fastq.gz"
-SUMMARY = RESULTS + "/summaries/{sample}.summary"
-SETTINGS = RESULTS + "/summaries/{sample}.settings"
-TRIM_LOG = RESULTS + "/trim_logs/{sample}.log.gz"
-GRAPH = RESULTS + "/graphs/{sample}_{graph}_mqc.json"
+TRIMMED = f"{RESULTS}/trimmed/{{sample}}.{{read}}.{{kind}}.fastq.gz"
+SUMMARY = f"{RESULTS}/summaries/{{sample}}.summary"
+SETTINGS = f"{RESULTS}/summaries/{{sample}}.settings"
+TRIM_LOG = f"{RESULTS}/trim_logs/{{sample}}.log.gz"
+GRAPH = f"{RESULTS}/graphs/{{sample}}_{{graph}}_mqc.json"
 
 
 wildcard_constraints:
@@ -39,3 +39,13 @@ wildcard_constraints:
 def quoted(words):
     """Words as the shell takes them back."""
     return " ".join(shlex.quote(word) for word in words)
+
+
+def lanes(column):
+    """A function that gives the files of one side of a sample, lane by lane."""
+    return lambda wildcards: [lane[column] for lane in SAMPLES[wildcards.sample]]
+
+
+def inputs_as_options(wildcards, input):
+    """The lanes as trim_gz takes them: -1 FILE for each forward file, -2 FILE for each reverse one."""
+    return quoted(word for flag, files in (("-1", input.r1), ("-2", input.r2)) for name in files for word in (flag, name))

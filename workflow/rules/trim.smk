@@ -1,16 +1,6 @@
 # Trims one sample: all its lanes, in one call of trim_gz.
 
 
-def lanes(column):
-    """A function that gives the files of one side of a sample, lane by lane."""
-    return lambda wildcards: [lane[column] for lane in SAMPLES[wildcards.sample]]
-
-
-def inputs_as_options(wildcards, input):
-    """The lanes as trim_gz takes them: -1 FILE for each forward file, -2 FILE for each reverse one."""
-    return quoted(word for flag, files in (("-1", input.r1), ("-2", input.r2)) for name in files for word in (flag, name))
-
-
 rule trim:
     input:
         r1=lanes("r1"),
