@@ -1,5 +1,6 @@
 #!/usr/bin/env bash
-# The gate, and behind it the scripts of this folder, each of which counts as one test. The last line sums up.
+# The gate, and behind it the scripts of this folder, each of which counts as one test. A script that ends with status 77 was skipped, since
+# a package is missing, and says which. The last line sums up.
 set -u
 cd "$(dirname "$0")/.."
 log=$(mktemp)
@@ -13,14 +14,20 @@ failed=$(sed -n 's/^[0-9][0-9]* passed, \([0-9][0-9]*\) failed.*/\1/p' <<<"$summ
 if [ "$gate" -ne 0 ] && [ "$failed" -eq 0 ]; then
   failed=1
 fi
+skipped=0
 for script in tests/*.sh; do
   [ "$script" = tests/all.sh ] && continue
   echo "== $script"
-  if bash "$script"; then
-    passed=$((passed + 1))
-  else
-    failed=$((failed + 1))
-  fi
+  bash "$script"
+  case $? in
+    0) passed=$((passed + 1)) ;;
+    77) skipped=$((skipped + 1)) ;;
+    *) failed=$((failed + 1)) ;;
+  esac
 done
-echo "$passed passed, $failed failed"
+if [ "$skipped" -gt 0 ]; then
+  echo "$passed passed, $failed failed, $skipped skipped"
+else
+  echo "$passed passed, $failed failed"
+fi
 [ "$failed" -eq 0 ]

@@ -1,0 +1,51 @@
+# The settings, the samples, and the names of what is made of them.
+import shlex
+import sys
+from pathlib import Path
+
+from snakemake.exceptions import WorkflowError
+
+HERE = Path(workflow.basedir)
+sys.path.insert(0, str(HERE / "scripts"))
+from tables import Refused, check_settings, read_samples
+
+try:
+    check_settings(config, HERE / "schemas" / "config.schema.yaml")
+    SAMPLES = read_samples(config["samples"], HERE / "schemas" / "samples.schema.yaml")
+    OPTIONS = shlex.split(config["options"])
+except Refused as why:
+    raise WorkflowError(str(why))
+except ValueError as why:
+    raise WorkflowError(f"settings: options: {why}")
+
+TRIM_GZ = str(HERE.parent / "contrib" / "trim_gz")
+LOG_TO_MQC = str(HERE.parent / "contrib" / "log_to_mqc")
+RESULTS = config["results"]
+GRAPHS = ["lengths", "front", "behind"]
+TRIMMED = f"{RESULTS}/trimmed/{{sample}}.{{read}}.{{kind}}.fastq.gz"
+SUMMARY = f"{RESULTS}/summaries/{{sample}}.summary"
+SETTINGS = f"{RESULTS}/summaries/{{sample}}.settings"
+TRIM_LOG = f"{RESULTS}/trim_logs/{{sample}}.log.gz"
+GRAPH = f"{RESULTS}/graphs/{{sample}}_{{graph}}_mqc.json"
+
+
+wildcard_constraints:
+    sample="[A-Za-z0-9][A-Za-z0-9_.-]*",
+    read="r1|r2",
+    kind="paired|unpaired",
+    graph="|".join(GRAPHS),
+
+
+def quoted(words):
+    """Words as the shell takes them back."""
+    return " ".join(shlex.quote(word) for word in words)
+
+
+def lanes(column):
+    """A function that gives the files of one side of a sample, lane by lane."""
+    return lambda wildcards: [lane[column] for lane in SAMPLES[wildcards.sample]]
+
+
+def inputs_as_options(wildcards, input):
+    """The lanes as trim_gz takes them: -1 FILE for each forward file, -2 FILE for each reverse one."""
+    return quoted(word for flag, files in (("-1", input.r1), ("-2", input.r2)) for name in files for word in (flag, name))

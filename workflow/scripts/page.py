@@ -1,0 +1,167 @@
+#!/usr/bin/env python3
+"""Makes the page of all samples with MultiQC, of those that are trimmed, and names the others.
+
+The names of all samples come on standard input, one a line. RESULTS/report.html and the folder RESULTS/report_data
+are written anew; while that is done the old ones stay.
+"""
+
+import argparse
+import html
+import shutil
+import subprocess
+import sys
+import tempfile
+from pathlib import Path
+
+HERE = Path(__file__).resolve().parent
+SUMMARY_TO_MQC = HERE.parent.parent / "contrib" / "summary_to_mqc"
+GRAPHS = ["lengths", "front", "behind"]
+SECTION = """<!--
+id: 'tibzharuk_run'
+parent_id: 'tibzharuk'
+parent_name: 'Tibzharuk'
+parent_description: 'trims paired-end reads before they are mapped.'
+section_name: 'This run'
+description: ''
+plot_type: 'html'
+-->
+"""
+
+
+class Refused(Exception):
+    """Says in one line why there is no page."""
+
+
+def last_line(path):
+    """The last line of a log that says something, or an empty one; None where there is no log."""
+    last = ""
+    try:
+        with open(path, encoding="utf-8", errors="replace") as lines:
+            for line in lines:
+                last = line.strip() or last
+    except OSError:
+        return None
+    return last
+
+
+def why_failed(logs, sample):
+    """Why a sample failed, as far as its log tells; nothing where it has no log, so was not begun."""
+    said = last_line(logs / "trim" / f"{sample}.log")
+    return "stopped without a word; see the messages of the cluster" if said == "" else said
+
+
+def settings_of(results, samples):
+    """The samples that were trimmed by the same program, steps and options, together."""
+    groups = {}
+    for sample in samples:
+        text = (results / "summaries" / f"{sample}.settings").read_text(encoding="utf-8")
+        groups.setdefault(tuple(text.split("\n")[:3]), []).append(sample)
+    return groups
+
+
+def missing_samples(failed, not_begun, without_graphs):
+    """The samples that the page lacks, and why."""
+    parts = []
+    if failed:
+        parts.append(f'<div class="alert alert-danger"><strong>Failed: {len(failed)}.</strong> No reads of these were kept:<ul>')
+        parts += [f"<li><strong>{html.escape(name)}</strong>: <samp>{html.escape(why)}</samp></li>" for name, why in failed.items()]
+        parts.append("</ul></div>")
+    for what, names in ("Not begun", not_begun), ("Missing in the line graphs", without_graphs):
+        if names:
+            parts.append(f'<div class="alert alert-warning"><strong>{what}:</strong> {html.escape(", ".join(names))}</div>')
+    return parts
+
+
+def how_trimmed(results, trimmed):
+    """Version, steps and options; each sample is named where they are not the same for all."""
+    parts = []
+    groups = settings_of(results, trimmed)
+    for (version, steps, options), samples in groups.items():
+        if len(groups) > 1:
+            parts.append(f"<h4>{html.escape(', '.join(samples))}</h4>")
+        parts.append(
+            '<table class="table table-condensed" style="width: auto">'
+            f"<tr><th>Program</th><td><samp>{html.escape(version)}</samp></td></tr>"
+            f"<tr><th>Steps</th><td><samp>{html.escape(steps)}</samp></td></tr>"
+            f"<tr><th>Options</th><td><samp>{html.escape(options) or 'none'}</samp></td></tr></table>"
+        )
+    return parts
+
+
+def call(command):
+    """Runs a command, and refuses with what it said where it fails."""
+    try:
+        done = subprocess.run(command, stdout=subprocess.PIPE, stderr=subprocess.STDOUT, text=True, errors="replace")
+    except OSError as error:
+        raise Refused(f"cannot run {command[0]}: {error.strerror}") from error
+    if done.returncode != 0:
+        print(done.stdout, file=sys.stderr, end="")
+        raise Refused(f"{command[0]} ended with status {done.returncode}")
+    return done.stdout
+
+
+def gather(results, trimmed, line_graphs, folder):
+    """Puts what MultiQC reads into a folder. Gives the samples whose line graphs are missing."""
+    summaries = [str(results / "summaries" / f"{sample}.summary") for sample in trimmed]
+    for first in range(0, len(summaries), 500):
+        call([str(SUMMARY_TO_MQC), "--out", str(folder), *summaries[first : first + 500]])
+    without_graphs = []
+    for sample in trimmed if line_graphs else []:
+        files = [results / "graphs" / f"{sample}_{graph}_mqc.json" for graph in GRAPHS]
+        made = (results / "summaries" / f"{sample}.summary").stat().st_mtime
+        if all(name.is_file() and name.stat().st_mtime >= made for name in files):
+            for name in files:
+                shutil.copy(name, folder)
+        else:
+            without_graphs.append(sample)
+    return without_graphs
+
+
+def make_page(results, trimmed, failed, not_begun, line_graphs):
+    """Makes the page in a folder of its own, and puts it into its place at the end."""
+    samples = len(trimmed) + len(failed) + len(not_begun)
+    parts = [SECTION, f"<p><strong>{len(trimmed)} of {samples} samples</strong> are on this page.</p>"]
+    results.mkdir(parents=True, exist_ok=True)
+    with tempfile.TemporaryDirectory(prefix=".report.", dir=results) as room:
+        read, written = Path(room) / "read", Path(room) / "written"
+        read.mkdir()
+        without_graphs = gather(results, trimmed, line_graphs, read)
+        parts += missing_samples(failed, not_begun, without_graphs) + how_trimmed(results, trimmed)
+        (read / "run_mqc.html").write_text("\n".join(parts) + "\n", encoding="utf-8")
+        config = str(HERE.parent / "multiqc.yaml")
+        said = call(["multiqc", "--force", "--config", config, "--filename", "report.html", "--outdir", str(written), str(read)])
+        if not (written / "report.html").is_file():
+            print(said, file=sys.stderr, end="")
+            raise Refused("multiqc made no page")
+        shutil.rmtree(results / "report_data", ignore_errors=True)
+        for name in ("report_data", "report.html"):
+            (written / name).replace(results / name)
+
+
+def main():
+    parser = argparse.ArgumentParser(description=__doc__, formatter_class=argparse.RawDescriptionHelpFormatter)
+    parser.add_argument("--results", type=Path, required=True, help="the folder of the workflow's results")
+    parser.add_argument("--logs", type=Path, required=True, help="the folder of the workflow's logs")
+    parser.add_argument("--line-graphs", action="store_true", help="draw the line graphs of the trim logs")
+    words = parser.parse_args()
+    samples = sys.stdin.read().split("\n")[:-1]
+    parts = ("summary", "settings")
+    trimmed = [name for name in samples if all((words.results / "summaries" / f"{name}.{part}").is_file() for part in parts)]
+    reasons = {name: why_failed(words.logs, name) for name in samples if name not in trimmed}
+    failed = {name: why for name, why in reasons.items() if why is not None}
+    not_begun = [name for name, why in reasons.items() if why is None]
+    try:
+        make_page(words.results, trimmed, failed, not_begun, words.line_graphs)
+    except (Refused, OSError) as why:
+        print(f"page: {' '.join(str(why).split())}", file=sys.stderr)
+        return 1
+    print(f"{words.results / 'report.html'}: {len(trimmed)} of {len(samples)} samples", file=sys.stderr)
+    for name, why in failed.items():
+        print(f"failed: {name}: {why}", file=sys.stderr)
+    for name in not_begun:
+        print(f"not begun: {name}", file=sys.stderr)
+    return 0
+
+
+if __name__ == "__main__":
+    sys.exit(main())
