@@ -2,11 +2,11 @@
 # The documents say what the program says. Help, README.md, docs/FORMAT.md and the manual page name the same steps, options
 # and statuses; the first run of README.md prints and writes what stands there; its lines that call the library run; each file
 # that a document leads to is there.
-# DOCUMENTS_WIDTH=100 also wants every line of a document, outside tables and code, to be at most 100 columns wide.
+# Every line of a document, outside tables and code, is at most 100 columns wide (DOCUMENTS_WIDTH sets another width, 0 none).
 set -uo pipefail
 cd "$(dirname "$0")/.." || exit 1
 top=$PWD
-width=${DOCUMENTS_WIDTH:-0}
+width=${DOCUMENTS_WIDTH:-100}
 program=$top/crates/fq_prog/out/fq_prog
 make -s build > /dev/null || exit 1
 work=$(mktemp -d)
