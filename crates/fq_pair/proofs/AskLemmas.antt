@@ -1,5 +1,5 @@
 -- What a call of a source of pairs answers, of its state.
-use Rattle.std.proofs.Common.{◌≡◌, ℕ, ◌+◌, ◌*◌, arith, Bool, Option, Some, None, Result, Ok, Err, IfOk, IfErr, List, refl, ap, ◌∙◌}
+use Rattle.std.proofs.Common.{◌≡◌, ℕ, ◌+◌, ◌*◌, Bool, Option, Some, None, Result, Ok, Err, IfOk, IfErr, List, refl, ap, ◌∙◌}
 use Rattle.std.specs.Option.{IfSome}
 use Rattle.fq_text.specs.Lines.{lines}
 use Rattle.fq_text.specs.Sources.{Sourced, rest_in, IsTail, KeepsCount}
@@ -42,7 +42,8 @@ module _ {F G : Type 0} (tells : F → Bool) (to_come : F → List ℕ) (fails :
       record {
         same = same_settings old new k;
         given = found.given;
-        records = omega (arith, f.given);
+        forward_records = f.given;
+        reverse_records = r.given;
         last = found.last;
         forward = drawn tells to_come fails old.forward new.forward 0 k.forward ff;
         reverse = drawn tells' to_come' fails' old.reverse new.reverse 0 k.reverse fr;
