@@ -30,7 +30,7 @@ pub struct Source<F: Feed> {
     encoding: Encoding,
     lines: LineReader<F>,
     given: u64,
-    // The bytes of the last record, a guess at those of the next.
+    // The bytes that were kept of the last record, and its bases: guesses at those of the next.
     room: usize,
     bases: usize,
     // The end or the fault that was answered.
