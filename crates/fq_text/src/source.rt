@@ -144,7 +144,13 @@ impl<F: Feed> Source<F> {
         ensures limit { self.new.taken ≤ self.new.max_reads * self.new.chunk }
         ensures fits { self.new.taken ≤ 2 ^ 60 }
     {
-        match read_record(self.alloc, self.encoding, self.room, self.bases, &mut self.lines) {
+        match read_record(
+            self.alloc,
+            self.encoding,
+            self.room,
+            self.bases,
+            &mut self.lines,
+        ) {
             Ok(Some(record)) => {
                 self.given += 1;
                 self.room = record.len();

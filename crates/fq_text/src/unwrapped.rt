@@ -7,8 +7,7 @@ ghost use Rattle.fq_text.specs.Unwrapped.{IsFourLines, StandsFirst};
 
 use crate::buffer::trimmed;
 use crate::encoding::Encoding;
-use crate::judge::begins_with;
-use crate::lines::LIMIT;
+use crate::judge::{LIMIT, begins_with};
 use crate::view::is_lawful_line;
 use memchr::memchr;
 
@@ -72,7 +71,10 @@ pub(crate) fn first_record(encoding: Encoding, hand: &[u8], guess: usize) -> Opt
         None => return None,
     };
     if stands_first(encoding, hand, title, guess) {
-        return Some(Shape { title, bases: guess });
+        return Some(Shape {
+            title,
+            bases: guess,
+        });
     }
     let bases = match line_end(&hand[title + 2..]) {
         Some(at) => at,

@@ -5,8 +5,7 @@ ghost use Rattle.std.specs.List.{list_all};
 ghost use Rattle.fq_text.specs.Grammar.{Read, IsLawful};
 
 use crate::encoding::Encoding;
-use crate::judge::{all_bases, begins_with};
-use crate::lines::LIMIT;
+use crate::judge::{LIMIT, all_bases, begins_with};
 use memchr::memchr;
 use std::marker::Model;
 

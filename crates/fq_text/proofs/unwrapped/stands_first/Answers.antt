@@ -14,8 +14,7 @@ pub returns-then-trimmed-line : goal.returns-then-trimmed-line
 returns-then-trimmed-line c =
     let t = c.args.title in
     let n = c.args.bases in
-    let parts = parts_of_hand c.args.encoding c.args.hand.now t n in
-    (
+    let parts = parts_of_hand c.args.encoding c.args.hand.now t n in (
       λ lawful. record {
         lines = search rules;
         some = search rules;
