@@ -18,7 +18,7 @@ use Rattle.fq_pair.specs.PairSources.{is_outside, is_cut, if_endless}
 use Rattle.fq_pair.specs.MixedSources.{front_of, GivesPair, StopsPairs, asked, stopped}
 use Rattle.fq_pair.proofs.FrontLemmas.{front_more}
 use Rattle.fq_pair.specs.Walks.{SideState, side_state, Draws, Uses}
-use Rattle.fq_pair.proofs.SideLemmas.{draws_then, uses_then, more_lines, lines_before, lines_left}
+use Rattle.fq_pair.proofs.SideLemmas.{drawn, used, draws_then, uses_then, more_lines, lines_before, lines_left}
 use Rattle.fq_pair.proofs.MixedLaws.{mixed_pairs_of-stopped, mixed_pairs_of-ended, mixed_left_met, mixed_left_stopped}
 
 -- Of three states of a source, what its feed gave up to the second and up to the third.
@@ -27,15 +27,15 @@ module _ {F : Type 0} (tells : F → Bool) (to_come : F → List ℕ) (a b c : S
   abbrev side : Sourced F → SideState
   side s = side_state tells to_come (λ feed. 0) s
 
-  drawn : (old new : Sourced F) → KeepsCount tells to_come old new → Draws (side old) (side new) 0
-  drawn old new k = record { told = k.told; max_reads = k.max_reads; grows = k.grows; bytes = k.fed; size = k.length; failures = refl }
+  abbrev drawn_in : (old new : Sourced F) → KeepsCount tells to_come old new → Draws (side old) (side new) 0
+  drawn_in old new k = drawn tells to_come (λ feed. 0) old new 0 k refl
 
-  abbrev used : (old new : Sourced F) → IsTail (rest_in to_come old) (rest_in to_come new) → Uses (side old) (side new)
-  used old new t = record { used = t.before; split = t.split; at_line = t.at_line }
+  abbrev used_in : (old new : Sourced F) → IsTail (rest_in to_come old) (rest_in to_come new) → Uses (side old) (side new)
+  used_in old new t = used tells to_come (λ feed. 0) old new t
 
   pub keeps_then : KeepsCount tells to_come a c
   keeps_then =
-      let d = draws_then (side a) (side b) (side c) 0 (drawn a b p) (drawn b c q) in
+      let d = draws_then (side a) (side b) (side c) 0 (drawn_in a b p) (drawn_in b c q) in
       record {
         encoding = q.encoding ∙ p.encoding;
         chunk = q.chunk ∙ p.chunk;
@@ -49,7 +49,7 @@ module _ {F : Type 0} (tells : F → Bool) (to_come : F → List ℕ) (a b c : S
   -- a rest of a rest of a text
   tail_then : IsTail (rest_in to_come a) (rest_in to_come b) → IsTail (rest_in to_come b) (rest_in to_come c) → IsTail (rest_in to_come a) (rest_in to_come c)
   tail_then t u =
-      let both = uses_then (side a) (side b) (side c) (used a b t) (used b c u) in
+      let both = uses_then (side a) (side b) (side c) (used_in a b t) (used_in b c u) in
       let some = t.some in
       record { before = t.before ++ u.before; some = omega (arith, length-append t.before u.before); split = both.split; at_line = both.at_line }
 
@@ -89,13 +89,13 @@ module _ {F : Type 0} (tells : F → Bool) (to_come : F → List ℕ) (a b c : S
     came = held to_come a c
 
     abbrev more : List (List ℕ)
-    more = more_lines (side a) (side b) (side c) 0 (drawn a b p) (drawn b c q) told (used a b t)
+    more = more_lines (side a) (side b) (side c) 0 (drawn_in a b p) (drawn_in b c q) told (used_in a b t)
 
     before : lines (rest_in to_come a) ≡ lines (whole_part came) ++ more
-    before = lines_before (side a) (side b) (side c) 0 (drawn a b p) (drawn b c q) told (used a b t)
+    before = lines_before (side a) (side b) (side c) 0 (drawn_in a b p) (drawn_in b c q) told (used_in a b t)
 
     left : (ls : List (List ℕ)) → ls ++ more ≡ lines (rest_in to_come b) → (ls ≡ lines (whole_part (held to_come b c))) ⊎ (ls ≡ [])
-    left = lines_left (side a) (side b) (side c) 0 (drawn a b p) (drawn b c q) told (used a b t)
+    left = lines_left (side a) (side b) (side c) 0 (drawn_in a b p) (drawn_in b c q) told (used_in a b t)
 
     module _ (check : Bool) (given : ℕ) (f : Read) (first : front a.encoding (lines (rest_in to_come a)) ≡ Found f (lines (rest_in to_come b))) (lacks : LacksRecord tells to_come b c) where
       abbrev whole_lines : List (List ℕ)
