@@ -62,10 +62,10 @@ module _ {F : Type 0} (tells : F → Bool) (to_come : F → List ℕ) (a b c : S
       let ls = lines (rest_in to_come c) in
       let n = suc given in
       let pair_is : IsTrue (tells a.feed) → front_of to_come (asked a check given) ≡ Met (mates_in f r) ls ls = λ told.
-          ap (meeting_in_turn check a.encoding n) (first.record_is told)
-          ∙ ap (λ (e : Encoding). meeting_behind check n f (front e (lines (rest_in to_come b)))) (sym p.encoding)
-          ∙ ap (meeting_behind check n f) (second.record_is (p.told ∙ told))
-          ∙ cond-true (belong check (mates_in f r)) (Met (mates_in f r) ls ls) (Stopped (NamesDiffer n)) together in
+      ap (meeting_in_turn check a.encoding n) (first.record_is told)
+      ∙ ap (λ (e : Encoding). meeting_behind check n f (front e (lines (rest_in to_come b)))) (sym p.encoding)
+      ∙ ap (meeting_behind check n f) (second.record_is (p.told ∙ told))
+      ∙ cond-true (belong check (mates_in f r)) (Met (mates_in f r) ls ls) (Stopped (NamesDiffer n)) together in
       subst P (sym is) (record {
         pair_is = pair_is;
         left = λ told. mixed_left_met to_come (asked a check given) (asked c check (given + 1)) (mates_in f r) (q.encoding ∙ p.encoding) refl refl (pair_is told);
@@ -180,9 +180,9 @@ module _ {F : Type 0} (tells : F → Bool) (to_come : F → List ℕ) (a b c : S
       let n = suc given in
       let number : b.given + 1 ≡ 2 * n = omega arith in
       let fault_is : IsTrue (tells a.feed) → is_outside why ≡ false → front_of to_come (asked a check given) ≡ Stopped (Text Reverse why) = λ told inside.
-          ap (meeting_in_turn check a.encoding n) (first.record_is told)
-          ∙ ap (λ (e : Encoding). meeting_behind check n f (front e (lines (rest_in to_come b)))) (sym p.encoding)
-          ∙ stops_behind check n f (front b.encoding (lines (rest_in to_come b))) (b.given + 1) why number inside (stops.fault_is (p.told ∙ told)) in
+      ap (meeting_in_turn check a.encoding n) (first.record_is told)
+      ∙ ap (λ (e : Encoding). meeting_behind check n f (front e (lines (rest_in to_come b)))) (sym p.encoding)
+      ∙ stops_behind check n f (front b.encoding (lines (rest_in to_come b))) (b.given + 1) why number inside (stops.fault_is (p.told ∙ told)) in
       record {
         fault_is = fault_is;
         left = λ told inside. mixed_left_stopped to_come (asked a check given) (Text Reverse why) (fault_is told inside);
@@ -199,10 +199,10 @@ module _ {F : Type 0} (tells : F → Bool) (to_come : F → List ℕ) (a b c : S
   mate_missing ends =
       let n = suc given in
       let fault_is : IsTrue (tells a.feed) → false ≡ false → front_of to_come (asked a check given) ≡ Stopped (MateMissing Reverse (given + 1)) = λ told inside.
-          ap (meeting_in_turn check a.encoding n) (first.record_is told)
-          ∙ ap (λ (e : Encoding). meeting_behind check n f (front e (lines (rest_in to_come b)))) (sym p.encoding)
-          ∙ ap (meeting_behind check n f) (ends.end_is (p.told ∙ told))
-          ∙ ap (λ k. Stopped (MateMissing Reverse k)) (sym (add-one given)) in
+      ap (meeting_in_turn check a.encoding n) (first.record_is told)
+      ∙ ap (λ (e : Encoding). meeting_behind check n f (front e (lines (rest_in to_come b)))) (sym p.encoding)
+      ∙ ap (meeting_behind check n f) (ends.end_is (p.told ∙ told))
+      ∙ ap (λ k. Stopped (MateMissing Reverse k)) (sym (add-one given)) in
       record {
         fault_is = fault_is;
         left = λ told inside. mixed_left_stopped to_come (asked a check given) (MateMissing Reverse (given + 1)) (fault_is told inside);
@@ -221,11 +221,11 @@ module _ {F : Type 0} (tells : F → Bool) (to_come : F → List ℕ) (a b c : S
       let P : InputFault → Type 0 = λ y. StopsPairs tells to_come (asked a check given) (stopped c check given (Err y)) y in
       let ls = lines (rest_in to_come c) in
       let fault_is : IsTrue (tells a.feed) → false ≡ false → front_of to_come (asked a check given) ≡ Stopped (NamesDiffer (given + 1)) = λ told inside.
-          ap (meeting_in_turn check a.encoding n) (first.record_is told)
-          ∙ ap (λ (e : Encoding). meeting_behind check n f (front e (lines (rest_in to_come b)))) (sym p.encoding)
-          ∙ ap (meeting_behind check n f) (second.record_is (p.told ∙ told))
-          ∙ cond-false (belong check (mates_in f r)) (Met (mates_in f r) ls ls) (Stopped (NamesDiffer n)) apart
-          ∙ ap (λ k. Stopped (NamesDiffer k)) (sym (add-one given)) in
+      ap (meeting_in_turn check a.encoding n) (first.record_is told)
+      ∙ ap (λ (e : Encoding). meeting_behind check n f (front e (lines (rest_in to_come b)))) (sym p.encoding)
+      ∙ ap (meeting_behind check n f) (second.record_is (p.told ∙ told))
+      ∙ cond-false (belong check (mates_in f r)) (Met (mates_in f r) ls ls) (Stopped (NamesDiffer n)) apart
+      ∙ ap (λ k. Stopped (NamesDiffer k)) (sym (add-one given)) in
       subst P (sym is) (record {
         fault_is = fault_is;
         left = λ told inside. mixed_left_stopped to_come (asked a check given) (NamesDiffer (given + 1)) (fault_is told inside);

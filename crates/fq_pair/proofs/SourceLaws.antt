@@ -50,10 +50,10 @@ two_given tells to_come tells' to_come' a b a' b' check given f r m is encoding 
     let rs = lines (rest_in to_come' b') in
     let n = suc given in
     let pair_is : IsTrue (tells a.feed) → IsTrue (tells' a'.feed) → front_of to_come to_come' (asked a a' check given) ≡ Met (mates_in f r) fs rs = λ told told'.
-        ap (λ (x : Front). meeting check n x (front a.encoding (lines (rest_in to_come' a')))) (first.record_is told)
-        ∙ ap (λ (e : Encoding). meeting check n (Found f fs) (front e (lines (rest_in to_come' a')))) encoding
-        ∙ ap (meeting check n (Found f fs)) (second.record_is told')
-        ∙ cond-true (belong check (mates_in f r)) (Met (mates_in f r) fs rs) (Stopped (NamesDiffer n)) together in
+    ap (λ (x : Front). meeting check n x (front a.encoding (lines (rest_in to_come' a')))) (first.record_is told)
+    ∙ ap (λ (e : Encoding). meeting check n (Found f fs) (front e (lines (rest_in to_come' a')))) encoding
+    ∙ ap (meeting check n (Found f fs)) (second.record_is told')
+    ∙ cond-true (belong check (mates_in f r)) (Met (mates_in f r) fs rs) (Stopped (NamesDiffer n)) together in
     subst P (sym is) (record {
       pair_is = pair_is;
       left = λ told told'. pairs_left_met to_come to_come' (asked a a' check given) (asked b b' check (given + 1)) (mates_in f r) kept refl refl (pair_is told told');

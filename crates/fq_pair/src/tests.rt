@@ -359,10 +359,12 @@ fn the_forward_text_is_read_first(rt: HostRuntime) -> Result<(), Fail> {
         for _ in 0..before {
             assert!(rt; matches!(pairs.next(), Ok(Some(_))));
         }
-        assert!(rt; matches!(
-            pairs.next(),
-            Err(InputFault::Text(Side::Forward, TextFault::Read))
-        ));
+        assert!(rt;
+            matches!(
+                pairs.next(),
+                Err(InputFault::Text(Side::Forward, TextFault::Read))
+            )
+        );
         let (forward, reverse) = pairs.into_feeds();
         assert_eq!(rt; (forward.failures(), reverse.failures()), (1, 0));
     }
