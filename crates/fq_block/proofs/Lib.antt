@@ -1,3 +1,3 @@
-pub mod Rows
+pub mod WorkedExamples
 pub mod PackingLemmas
 pub mod BlockLemmas

@@ -1,20 +1,14 @@
 -- What a call of a source of pairs answers, of its state.
-use Rattle.std.proofs.Common.{◌≡◌, ℕ, ◌+◌, ◌*◌, arith, Bool, Option, Some, None, Result, Ok, Err, IfOk, IfErr, List, refl, ap, ◌∙◌}
+use Rattle.std.proofs.Common.{◌≡◌, ℕ, ◌+◌, ◌*◌, Bool, Option, Some, None, Result, Ok, Err, IfOk, IfErr, List, refl, ap, ◌∙◌}
 use Rattle.std.specs.Option.{IfSome}
 use Rattle.fq_text.specs.Lines.{lines}
-use Rattle.fq_text.specs.Sources.{Sourced, rest_in, IsTail, KeepsCount}
+use Rattle.fq_text.specs.Sources.{rest_in}
 use Rattle.fq_pair.specs.declared.side.Side.TheVariants.{Forward, Reverse}
 use Rattle.fq_pair.specs.declared.fault.InputFault.{InputFault}
 use Rattle.fq_pair.specs.Mates.{Mates}
 use Rattle.fq_pair.specs.PairSources.{PairSourced, KeepsCounts, GivesPair, EndsPairs, StopsPairs, failed_on}
-use Rattle.fq_pair.specs.Walks.{side_state, source_state, Draws, Uses, KeepsSettings, Asks}
-
-module _ {F : Type 0} (tells : F → Bool) (to_come : F → List ℕ) (fails : F → ℕ) where
-  drawn : (old new : Sourced F) (n : ℕ) → KeepsCount tells to_come old new → fails new.feed ≡ fails old.feed + n → Draws (side_state tells to_come fails old) (side_state tells to_come fails new) n
-  drawn old new n k failed = record { told = k.told; max_reads = k.max_reads; grows = k.grows; bytes = k.fed; size = k.length; failures = failed }
-
-  used : (old new : Sourced F) → IsTail (rest_in to_come old) (rest_in to_come new) → Uses (side_state tells to_come fails old) (side_state tells to_come fails new)
-  used old new t = record { used = t.before; split = t.split; at_line = t.at_line }
+use Rattle.fq_pair.specs.Walks.{source_state, KeepsSettings, Asks}
+use Rattle.fq_pair.proofs.SideLemmas.{drawn, used}
 
 module _ {F G : Type 0} (tells : F → Bool) (to_come : F → List ℕ) (fails : F → ℕ) (tells' : G → Bool) (to_come' : G → List ℕ) (fails' : G → ℕ) where
   same_settings : (old new : PairSourced F G) → KeepsCounts tells to_come tells' to_come' old new →
@@ -42,7 +36,8 @@ module _ {F G : Type 0} (tells : F → Bool) (to_come : F → List ℕ) (fails :
       record {
         same = same_settings old new k;
         given = found.given;
-        records = omega (arith, f.given);
+        forward_records = f.given;
+        reverse_records = r.given;
         last = found.last;
         forward = drawn tells to_come fails old.forward new.forward 0 k.forward ff;
         reverse = drawn tells' to_come' fails' old.reverse new.reverse 0 k.reverse fr;

@@ -1,4 +1,4 @@
-pub mod Rows
+pub mod WorkedExamples
 pub mod PairLaws
 pub mod MixedLaws
 pub mod OutputLaws

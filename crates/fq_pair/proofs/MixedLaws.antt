@@ -1,6 +1,5 @@
--- The pairs of one text begin with the pair that stands in front of it, and what the calls of its source answer, as the pairs that
--- were left before them.
-use Rattle.std.proofs.Common.{◌≡◌, ℕ, suc, ◌+◌, ◌*◌, Bool, false, IsTrue, Some, None, List, [], ◌∷◌, length, take_while, ap, sym, ◌∙◌, add-zero, add-one, arith, ⊎_elim}
+-- The pairs of one text begin with the pair that stands in front of it, and so do the pairs that are left to a source of one text.
+use Rattle.std.proofs.Common.{◌≡◌, ℕ, suc, ◌+◌, ◌*◌, Bool, Some, None, List, [], ◌∷◌, length, take_while, ap, sym, ◌∙◌, add-zero, add-one, arith, ⊎_elim}
 use Rattle.std.proofs.lemmas.Bool.{cond-true, cond-false, cases_Bool}
 use Rattle.std.proofs.lemmas.List.Sums.{take_while-cons}
 use Rattle.fq_text.specs.declared.encoding.Encoding.{Encoding}
@@ -13,8 +12,7 @@ use Rattle.fq_pair.specs.declared.fault.InputFault.TheVariants.{NamesDiffer}
 use Rattle.fq_pair.specs.Mates.{Mates, mates_in}
 use Rattle.fq_pair.specs.Pairing.{Pairs, belong, behind, PairFront, Ended, Stopped, Met, met, records_of, with_pair, from_pair_front}
 use Rattle.fq_pair.specs.Interleaved.{mates_in_turn, mixed_fault_at, mixed_pairs_of, meeting_behind, meeting_in_turn, mixed_front}
-use Rattle.fq_pair.specs.PairSources.{is_from_outside}
-use Rattle.fq_pair.specs.MixedSources.{MixedSourced, pairs_left, KeepsCounts, GivesPair, EndsPairs, StopsPairs}
+use Rattle.fq_pair.specs.MixedSources.{MixedSourced, front_of, pairs_left}
 use Rattle.fq_pair.proofs.PairLaws.{records_of-front}
 
 -- the pairs of a text, where these mates belong together
@@ -82,22 +80,25 @@ module _ (check : Bool) (e : Encoding) (k : ℕ) where
   pub mixed_pairs_of-ended : (ls : List (List ℕ)) → mixed_front check e k ls ≡ Ended → mixed_pairs_of check k (records_of e ls) ≡ record { mates = []; fault = None }
   mixed_pairs_of-ended ls is = mixed_pairs_of-front ls ∙ ap (from_pair_front (λ fs rs. mixed_pairs_of check (suc k) (records_of e fs))) is
 
-module _ {F : Type 0} (tells : F → Bool) (to_come : F → List ℕ) (old new : MixedSourced F) where
-  -- a pair that was given was the first of those left, and the others are left
-  pub mixed_left-given : (m : Mates) → KeepsCounts tells to_come old new → GivesPair tells to_come old new m → IsTrue (tells old.source.feed) →
-      pairs_left to_come old ≡ with_pair m (pairs_left to_come new)
-  mixed_left-given m keeps gives told =
+module _ {F : Type 0} (to_come : F → List ℕ) (old : MixedSourced F) where
+  abbrev text : List (List ℕ)
+  text = lines (rest_in to_come old.source)
+
+  -- a pair in front is the first of those left, and the others are left behind it
+  pub mixed_left_met : (new : MixedSourced F) (m : Mates) → new.source.encoding ≡ old.source.encoding → new.check_names ≡ old.check_names → new.given ≡ old.given + 1 →
+      (let ls = lines (rest_in to_come new.source) in front_of to_come old ≡ Met m ls ls) → pairs_left to_come old ≡ with_pair m (pairs_left to_come new)
+  mixed_left_met new m encoding check_names given front =
       let ls = lines (rest_in to_come new.source) in
-      mixed_pairs_of-met old.check_names old.source.encoding old.given m (lines (rest_in to_come old.source)) ls ls (gives.pair_is told)
-      ∙ ap (λ (e : Encoding). with_pair m (mixed_pairs_of old.check_names (suc old.given) (records_of e ls))) (sym keeps.source.encoding)
-      ∙ ap (λ (check : Bool). with_pair m (mixed_pairs_of check (suc old.given) (records_of new.source.encoding ls))) (sym keeps.check_names)
-      ∙ ap (λ (n : ℕ). with_pair m (mixed_pairs_of new.check_names n (records_of new.source.encoding ls))) (sym (gives.given ∙ add-one old.given))
+      let P : Bool → Encoding → ℕ → Pairs = λ check e n. with_pair m (mixed_pairs_of check n (records_of e ls)) in
+      mixed_pairs_of-met old.check_names old.source.encoding old.given m text ls ls front
+      ∙ ap (λ e. P old.check_names e (suc old.given)) (sym encoding)
+      ∙ ap (λ check. P check new.source.encoding (suc old.given)) (sym check_names)
+      ∙ ap (P new.check_names new.source.encoding) (sym (given ∙ add-one old.given))
 
-  -- where the end was answered no pair was left, and no fault
-  pub mixed_left-ended : EndsPairs tells to_come old new → IsTrue (tells old.source.feed) → pairs_left to_come old ≡ record { mates = []; fault = None }
-  mixed_left-ended ends told = mixed_pairs_of-ended old.check_names old.source.encoding old.given (lines (rest_in to_come old.source)) (ends.end_is told)
+  -- where nothing stands in front no pair is left, and no fault
+  pub mixed_left_ended : front_of to_come old ≡ Ended → pairs_left to_come old ≡ record { mates = []; fault = None }
+  mixed_left_ended front = mixed_pairs_of-ended old.check_names old.source.encoding old.given text front
 
-  -- where a fault of the text was answered no pair was left, and they end by it
-  pub mixed_left-stopped : (why : InputFault) → StopsPairs tells to_come old new why → IsTrue (tells old.source.feed) → is_from_outside why ≡ false →
-      pairs_left to_come old ≡ record { mates = []; fault = Some why }
-  mixed_left-stopped why stops told inside = mixed_pairs_of-stopped old.check_names old.source.encoding old.given (lines (rest_in to_come old.source)) why (stops.fault_is told inside)
+  -- where a fault stands in front no pair is left, and they end by it
+  pub mixed_left_stopped : (why : InputFault) → front_of to_come old ≡ Stopped why → pairs_left to_come old ≡ record { mates = []; fault = Some why }
+  mixed_left_stopped why front = mixed_pairs_of-stopped old.check_names old.source.encoding old.given text why front

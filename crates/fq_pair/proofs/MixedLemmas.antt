@@ -1,24 +1,25 @@
 -- Two records of one source, one after the other.
-use Rattle.std.proofs.Common.{◌≡◌, ℕ, suc, ◌+◌, ◌*◌, ◌⊎◌, ⊎_elim, Bool, true, false, IsTrue, Err, List, [], ◌++◌, refl, ap, sym, subst, ◌∙◌, arith}
-use Rattle.std.proofs.lemmas.Bool.{cond-true}
+use Rattle.std.proofs.Common.{◌≡◌, ℕ, suc, ◌+◌, ◌*◌, ◌⊎◌, ⊎_elim, Bool, true, false, IsTrue, Err, List, [], ◌++◌, refl, ap, sym, subst, ◌∙◌, add-one, arith}
+use Rattle.std.proofs.lemmas.Bool.{cond-true, cond-false}
 use Rattle.std.proofs.lemmas.List.{length-append}
 use Rattle.fq_text.specs.declared.encoding.Encoding.{Encoding}
 use Rattle.fq_text.specs.Grammar.{Read, Front, End, Faulty, Found, front}
 use Rattle.fq_text.specs.Lines.{lines, whole_part}
 use Rattle.fq_text.specs.declared.fault.TextFault.{TextFault}
 use Rattle.fq_text.specs.declared.fault.TextFault.TheVariants as text
-use Rattle.fq_text.specs.Sources.{Sourced, rest_in, held, IsTail, KeepsCount, GivesRecord, StopsText, LacksRecord, FaultIs, if_read, if_endless as endless_text}
+use Rattle.fq_text.specs.Sources.{Sourced, rest_in, held, IsTail, KeepsCount, GivesRecord, EndsText, StopsText, LacksRecord, FaultIs, if_read, if_endless as endless_text}
 use Rattle.fq_pair.specs.declared.side.Side.TheVariants.{Reverse}
-use Rattle.fq_pair.specs.declared.fault.InputFault.TheVariants.{Text, NamesDiffer}
+use Rattle.fq_pair.specs.declared.fault.InputFault.{InputFault}
+use Rattle.fq_pair.specs.declared.fault.InputFault.TheVariants.{Text, MateMissing, NamesDiffer}
 use Rattle.fq_pair.specs.Mates.{Mates, mates_in}
 use Rattle.fq_pair.specs.Pairing.{Pairs, belong, Stopped, Met}
 use Rattle.fq_pair.specs.Interleaved.{mixed_pairs, meeting_behind, meeting_in_turn}
 use Rattle.fq_pair.specs.PairSources.{is_outside, is_cut, if_endless}
-use Rattle.fq_pair.specs.MixedSources.{GivesPair, StopsPairs, asked, stopped}
+use Rattle.fq_pair.specs.MixedSources.{front_of, GivesPair, StopsPairs, asked, stopped}
 use Rattle.fq_pair.proofs.FrontLemmas.{front_more}
 use Rattle.fq_pair.specs.Walks.{SideState, side_state, Draws, Uses}
-use Rattle.fq_pair.proofs.SideLemmas.{draws_then, uses_then, more_lines, lines_before, lines_left}
-use Rattle.fq_pair.proofs.MixedLaws.{mixed_pairs_of-stopped, mixed_pairs_of-ended}
+use Rattle.fq_pair.proofs.SideLemmas.{drawn, used, draws_then, uses_then, more_lines, lines_before, lines_left}
+use Rattle.fq_pair.proofs.MixedLaws.{mixed_pairs_of-stopped, mixed_pairs_of-ended, mixed_left_met, mixed_left_stopped}
 
 -- Of three states of a source, what its feed gave up to the second and up to the third.
 module _ {F : Type 0} (tells : F → Bool) (to_come : F → List ℕ) (a b c : Sourced F) (p : KeepsCount tells to_come a b) (q : KeepsCount tells to_come b c) where
@@ -26,15 +27,15 @@ module _ {F : Type 0} (tells : F → Bool) (to_come : F → List ℕ) (a b c : S
   abbrev side : Sourced F → SideState
   side s = side_state tells to_come (λ feed. 0) s
 
-  drawn : (old new : Sourced F) → KeepsCount tells to_come old new → Draws (side old) (side new) 0
-  drawn old new k = record { told = k.told; max_reads = k.max_reads; grows = k.grows; bytes = k.fed; size = k.length; failures = refl }
+  abbrev drawn_in : (old new : Sourced F) → KeepsCount tells to_come old new → Draws (side old) (side new) 0
+  drawn_in old new k = drawn tells to_come (λ feed. 0) old new 0 k refl
 
-  abbrev used : (old new : Sourced F) → IsTail (rest_in to_come old) (rest_in to_come new) → Uses (side old) (side new)
-  used old new t = record { used = t.before; split = t.split; at_line = t.at_line }
+  abbrev used_in : (old new : Sourced F) → IsTail (rest_in to_come old) (rest_in to_come new) → Uses (side old) (side new)
+  used_in old new t = used tells to_come (λ feed. 0) old new t
 
   pub keeps_then : KeepsCount tells to_come a c
   keeps_then =
-      let d = draws_then (side a) (side b) (side c) 0 (drawn a b p) (drawn b c q) in
+      let d = draws_then (side a) (side b) (side c) 0 (drawn_in a b p) (drawn_in b c q) in
       record {
         encoding = q.encoding ∙ p.encoding;
         chunk = q.chunk ∙ p.chunk;
@@ -48,7 +49,7 @@ module _ {F : Type 0} (tells : F → Bool) (to_come : F → List ℕ) (a b c : S
   -- a rest of a rest of a text
   tail_then : IsTail (rest_in to_come a) (rest_in to_come b) → IsTail (rest_in to_come b) (rest_in to_come c) → IsTail (rest_in to_come a) (rest_in to_come c)
   tail_then t u =
-      let both = uses_then (side a) (side b) (side c) (used a b t) (used b c u) in
+      let both = uses_then (side a) (side b) (side c) (used_in a b t) (used_in b c u) in
       let some = t.some in
       record { before = t.before ++ u.before; some = omega (arith, length-append t.before u.before); split = both.split; at_line = both.at_line }
 
@@ -60,12 +61,14 @@ module _ {F : Type 0} (tells : F → Bool) (to_come : F → List ℕ) (a b c : S
       let one = first.given in let two = second.given in
       let ls = lines (rest_in to_come c) in
       let n = suc given in
+      let pair_is : IsTrue (tells a.feed) → front_of to_come (asked a check given) ≡ Met (mates_in f r) ls ls = λ told.
+      ap (meeting_in_turn check a.encoding n) (first.record_is told)
+      ∙ ap (λ (e : Encoding). meeting_behind check n f (front e (lines (rest_in to_come b)))) (sym p.encoding)
+      ∙ ap (meeting_behind check n f) (second.record_is (p.told ∙ told))
+      ∙ cond-true (belong check (mates_in f r)) (Met (mates_in f r) ls ls) (Stopped (NamesDiffer n)) together in
       subst P (sym is) (record {
-        pair_is = λ told.
-            ap (meeting_in_turn check a.encoding n) (first.record_is told)
-            ∙ ap (λ (e : Encoding). meeting_behind check n f (front e (lines (rest_in to_come b)))) (sym p.encoding)
-            ∙ ap (meeting_behind check n f) (second.record_is (p.told ∙ told))
-            ∙ cond-true (belong check (mates_in f r)) (Met (mates_in f r) ls ls) (Stopped (NamesDiffer n)) together;
+        pair_is = pair_is;
+        left = λ told. mixed_left_met to_come (asked a check given) (asked c check (given + 1)) (mates_in f r) (q.encoding ∙ p.encoding) refl refl (pair_is told);
         records = record {
           forward = first.lawful;
           reverse = second.lawful;
@@ -86,13 +89,13 @@ module _ {F : Type 0} (tells : F → Bool) (to_come : F → List ℕ) (a b c : S
     came = held to_come a c
 
     abbrev more : List (List ℕ)
-    more = more_lines (side a) (side b) (side c) 0 (drawn a b p) (drawn b c q) told (used a b t)
+    more = more_lines (side a) (side b) (side c) 0 (drawn_in a b p) (drawn_in b c q) told (used_in a b t)
 
     before : lines (rest_in to_come a) ≡ lines (whole_part came) ++ more
-    before = lines_before (side a) (side b) (side c) 0 (drawn a b p) (drawn b c q) told (used a b t)
+    before = lines_before (side a) (side b) (side c) 0 (drawn_in a b p) (drawn_in b c q) told (used_in a b t)
 
     left : (ls : List (List ℕ)) → ls ++ more ≡ lines (rest_in to_come b) → (ls ≡ lines (whole_part (held to_come b c))) ⊎ (ls ≡ [])
-    left = lines_left (side a) (side b) (side c) 0 (drawn a b p) (drawn b c q) told (used a b t)
+    left = lines_left (side a) (side b) (side c) 0 (drawn_in a b p) (drawn_in b c q) told (used_in a b t)
 
     module _ (check : Bool) (given : ℕ) (f : Read) (first : front a.encoding (lines (rest_in to_come a)) ≡ Found f (lines (rest_in to_come b))) (lacks : LacksRecord tells to_come b c) where
       abbrev whole_lines : List (List ℕ)
@@ -176,14 +179,59 @@ module _ {F : Type 0} (tells : F → Bool) (to_come : F → List ℕ) (a b c : S
       let one = first.given in
       let n = suc given in
       let number : b.given + 1 ≡ 2 * n = omega arith in
+      let fault_is : IsTrue (tells a.feed) → is_outside why ≡ false → front_of to_come (asked a check given) ≡ Stopped (Text Reverse why) = λ told inside.
+      ap (meeting_in_turn check a.encoding n) (first.record_is told)
+      ∙ ap (λ (e : Encoding). meeting_behind check n f (front e (lines (rest_in to_come b)))) (sym p.encoding)
+      ∙ stops_behind check n f (front b.encoding (lines (rest_in to_come b))) (b.given + 1) why number inside (stops.fault_is (p.told ∙ told)) in
       record {
-        fault_is = λ told inside.
-            ap (meeting_in_turn check a.encoding n) (first.record_is told)
-            ∙ ap (λ (e : Encoding). meeting_behind check n f (front e (lines (rest_in to_come b)))) (sym p.encoding)
-            ∙ stops_behind check n f (front b.encoding (lines (rest_in to_come b))) (b.given + 1) why number inside (stops.fault_is (p.told ∙ told));
+        fault_is = fault_is;
+        left = λ told inside. mixed_left_stopped to_come (asked a check given) (Text Reverse why) (fault_is told inside);
         lacks = λ cut told. no_pair tells to_come a b c p q told (first.tail told) check given f (first.record_is told) (cut_lacks _ why cut stops.lacks);
         endless = endless_behind _ why stops.endless;
-        reading = stops.given ∙ first.given;
+        reading = (stops.last, stops.given ∙ first.given);
         given = refl;
         last = refl;
       }
+
+  -- where the text ends behind a forward mate the reverse one is missing
+  pub mate_missing : EndsText tells to_come b c →
+      (let why = MateMissing Reverse (given + 1) in StopsPairs tells to_come (asked a check given) (stopped c check given (Err why)) why)
+  mate_missing ends =
+      let n = suc given in
+      let fault_is : IsTrue (tells a.feed) → false ≡ false → front_of to_come (asked a check given) ≡ Stopped (MateMissing Reverse (given + 1)) = λ told inside.
+      ap (meeting_in_turn check a.encoding n) (first.record_is told)
+      ∙ ap (λ (e : Encoding). meeting_behind check n f (front e (lines (rest_in to_come b)))) (sym p.encoding)
+      ∙ ap (meeting_behind check n f) (ends.end_is (p.told ∙ told))
+      ∙ ap (λ k. Stopped (MateMissing Reverse k)) (sym (add-one given)) in
+      record {
+        fault_is = fault_is;
+        left = λ told inside. mixed_left_stopped to_come (asked a check given) (MateMissing Reverse (given + 1)) (fault_is told inside);
+        lacks = λ cut. absurd cc;
+        endless = tt;
+        reading = tt;
+        given = refl;
+        last = refl;
+      }
+
+  -- two records that were given make no pair where their names differ
+  pub names_differ : (r : Read) (why : InputFault) → why ≡ NamesDiffer (given + 1) → GivesRecord tells to_come b c r → belong check (mates_in f r) ≡ false →
+      StopsPairs tells to_come (asked a check given) (stopped c check given (Err why)) why
+  names_differ r why is second apart =
+      let n = suc given in
+      let P : InputFault → Type 0 = λ y. StopsPairs tells to_come (asked a check given) (stopped c check given (Err y)) y in
+      let ls = lines (rest_in to_come c) in
+      let fault_is : IsTrue (tells a.feed) → false ≡ false → front_of to_come (asked a check given) ≡ Stopped (NamesDiffer (given + 1)) = λ told inside.
+      ap (meeting_in_turn check a.encoding n) (first.record_is told)
+      ∙ ap (λ (e : Encoding). meeting_behind check n f (front e (lines (rest_in to_come b)))) (sym p.encoding)
+      ∙ ap (meeting_behind check n f) (second.record_is (p.told ∙ told))
+      ∙ cond-false (belong check (mates_in f r)) (Met (mates_in f r) ls ls) (Stopped (NamesDiffer n)) apart
+      ∙ ap (λ k. Stopped (NamesDiffer k)) (sym (add-one given)) in
+      subst P (sym is) (record {
+        fault_is = fault_is;
+        left = λ told inside. mixed_left_stopped to_come (asked a check given) (NamesDiffer (given + 1)) (fault_is told inside);
+        lacks = λ cut. absurd cc;
+        endless = tt;
+        reading = tt;
+        given = refl;
+        last = refl;
+      })

@@ -1,5 +1,5 @@
 -- The two forms in which pairs come: in two texts, or in one in which mates take turns.
-use Rattle.std.specs.Prelude.{ℕ, Bool, Result, List}
+use Rattle.std.specs.Prelude.{ℕ, ◌*◌, Bool, Result, List}
 use Rattle.fq_text.specs.declared.encoding.Encoding.{Encoding}
 use Rattle.fq_pair.specs.declared.side.Side.{Side}
 use Rattle.fq_pair.specs.declared.fault.InputFault.{InputFault}
@@ -22,6 +22,11 @@ pairs_in OneText check encoding given text same = mixed_pairs check encoding giv
 abbrev pub front_in : Form → Bool → Encoding → ℕ → List (List ℕ) → List (List ℕ) → PairFront
 front_in TwoTexts check encoding given forward reverse = pair_front check encoding given forward reverse
 front_in OneText check encoding given text same = mixed_front check encoding given text
+
+-- how many records of a side's text so many pairs are
+abbrev pub records_of_pairs : Form → ℕ → ℕ
+records_of_pairs TwoTexts n = n
+records_of_pairs OneText n = 2 * n
 
 -- how often the feed of a side failed in a call
 abbrev pub failed_at : {T : Type 0} → Form → Side → Result T InputFault → ℕ

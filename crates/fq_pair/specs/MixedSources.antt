@@ -8,7 +8,7 @@ use Rattle.fq_pair.specs.declared.side.Side.TheVariants.{Forward, Reverse}
 use Rattle.fq_pair.specs.declared.fault.InputFault.{InputFault}
 use Rattle.fq_pair.specs.declared.fault.InputFault.TheVariants.{Text}
 use Rattle.fq_pair.specs.Mates.{Mates}
-use Rattle.fq_pair.specs.Pairing.{Pairs, PairFront, Ended, Stopped, Met, belong}
+use Rattle.fq_pair.specs.Pairing.{Pairs, PairFront, Ended, Stopped, Met, belong, with_pair}
 use Rattle.fq_pair.specs.Interleaved.{mixed_pairs, mixed_front}
 use Rattle.fq_pair.specs.PairSources.{is_from_outside, is_cut_short, if_endless, failed_on}
 
@@ -44,18 +44,20 @@ pub record GivesTwo {F : Type 0} (tells : F → Bool) (to_come : F → List ℕ)
   pub last : new.last ≡ None
   pub in_hand : length new.in_hand < new.chunk
 
--- a pair was answered
+-- A pair was answered: it is the first of those that were left, and the others are left.
 pub record GivesPair {F : Type 0} (tells : F → Bool) (to_come : F → List ℕ) (old new : MixedSourced F) (m : Mates) : Type 0 where
   pub pair_is : IsTrue (tells old.source.feed) →
       (let ls = lines (rest_in to_come new.source) in front_of to_come old ≡ Met m ls ls)
+  pub left : IsTrue (tells old.source.feed) → pairs_left to_come old ≡ with_pair m (pairs_left to_come new)
   pub records : GivesTwo tells to_come old.source new.source m
   pub names : belong old.check_names m ≡ true
   pub given : new.given ≡ old.given + 1
   pub last : new.last ≡ None
 
--- the end was answered
+-- The end was answered: no pair was left, and no fault.
 pub record EndsPairs {F : Type 0} (tells : F → Bool) (to_come : F → List ℕ) (old new : MixedSourced F) : Type 0 where
   pub end_is : IsTrue (tells old.source.feed) → front_of to_come old ≡ Ended
+  pub left : IsTrue (tells old.source.feed) → pairs_left to_come old ≡ record { mates = []; fault = None }
   pub source : EndsText tells to_come old.source new.source
   pub given : new.given ≡ old.given
   pub last : new.last ≡ Some (res.Ok tt)
@@ -65,15 +67,17 @@ abbrev pub LacksPair : {F : Type 0} → (F → Bool) → (F → List ℕ) → Mi
 LacksPair tells to_come old new = IsTrue (tells old.source.feed) →
     (mixed_pairs old.check_names old.source.encoding old.given (whole_part (held to_come old.source new.source))).mates ≡ []
 
--- the side of a text's fault, of whatever kind, is that of the record that was being read
+-- The fault of the text, of whatever kind, is the last answer of its source, and its side is that of the record that was being read: at
+-- one of the reverse side the forward record had been given.
 abbrev pub WasReading : {F : Type 0} → Sourced F → Sourced F → InputFault → Type 0
-WasReading old new (Text Forward fault) = new.given ≡ old.given
-WasReading old new (Text Reverse fault) = new.given ≡ old.given + 1
+WasReading old new (Text Forward fault) = (new.last ≡ Some (res.Err fault)) × (new.given ≡ old.given)
+WasReading old new (Text Reverse fault) = (new.last ≡ Some (res.Err fault)) × (new.given ≡ old.given + 1)
 WasReading old new _ = Unit {0}
 
--- a fault was answered
+-- A fault was answered: where it is one of the text no pair was left, and they end by it.
 pub record StopsPairs {F : Type 0} (tells : F → Bool) (to_come : F → List ℕ) (old new : MixedSourced F) (why : InputFault) : Type 0 where
   pub fault_is : IsTrue (tells old.source.feed) → is_from_outside why ≡ false → front_of to_come old ≡ Stopped why
+  pub left : IsTrue (tells old.source.feed) → is_from_outside why ≡ false → pairs_left to_come old ≡ record { mates = []; fault = Some why }
   pub lacks : is_cut_short why ≡ true → LacksPair tells to_come old new
   pub endless : (let most : Type 0 = new.source.max_reads ≤ new.source.taken in if_endless most most why)
   pub reading : WasReading old.source new.source why

@@ -10,7 +10,7 @@ use Rattle.fq_pair.specs.declared.side.Side.TheVariants.{Forward, Reverse}
 use Rattle.fq_pair.specs.declared.fault.InputFault.{InputFault}
 use Rattle.fq_pair.specs.declared.fault.InputFault.TheVariants.{Text}
 use Rattle.fq_pair.specs.Mates.{Mates}
-use Rattle.fq_pair.specs.Pairing.{Pairs, PairFront, Ended, Stopped, Met, belong, pair_front, pairs}
+use Rattle.fq_pair.specs.Pairing.{Pairs, PairFront, Ended, Stopped, Met, belong, pair_front, pairs, with_pair}
 
 -- A source of pairs: the sources of its mates, whether names are checked, how many pairs were given,
 -- and once that is a fault or the end, its last answer.
@@ -49,19 +49,23 @@ pub record KeepsCounts {F G : Type 0} (tells : F → Bool) (to_come : F → List
   pub reverse : KeepsCount tells' to_come' old.reverse new.reverse
   pub check_names : new.check_names ≡ old.check_names
 
--- a pair was answered
+-- A pair was answered: it is the first of those that were left, and the others are left.
 pub record GivesPair {F G : Type 0} (tells : F → Bool) (to_come : F → List ℕ) (tells' : G → Bool) (to_come' : G → List ℕ) (old new : PairSourced F G) (m : Mates) : Type 0 where
   pub pair_is : IsTrue (tells old.forward.feed) → IsTrue (tells' old.reverse.feed) →
       front_of to_come to_come' old ≡ Met m (lines (rest_in to_come new.forward)) (lines (rest_in to_come' new.reverse))
+  pub left : IsTrue (tells old.forward.feed) → IsTrue (tells' old.reverse.feed) →
+      pairs_left to_come to_come' old ≡ with_pair m (pairs_left to_come to_come' new)
   pub forward : GivesRecord tells to_come old.forward new.forward m.forward
   pub reverse : GivesRecord tells' to_come' old.reverse new.reverse m.reverse
   pub names : belong old.check_names m ≡ true
   pub given : new.given ≡ old.given + 1
   pub last : new.last ≡ None
 
--- the end was answered
+-- The end was answered: no pair was left, and no fault.
 pub record EndsPairs {F G : Type 0} (tells : F → Bool) (to_come : F → List ℕ) (tells' : G → Bool) (to_come' : G → List ℕ) (old new : PairSourced F G) : Type 0 where
   pub end_is : IsTrue (tells old.forward.feed) → IsTrue (tells' old.reverse.feed) → front_of to_come to_come' old ≡ Ended
+  pub left : IsTrue (tells old.forward.feed) → IsTrue (tells' old.reverse.feed) →
+      pairs_left to_come to_come' old ≡ record { mates = []; fault = None }
   pub forward : EndsText tells to_come old.forward new.forward
   pub reverse : EndsText tells' to_come' old.reverse new.reverse
   pub given : new.given ≡ old.given
@@ -100,17 +104,21 @@ if_endless P Q (Text Forward text.Endless) = P
 if_endless P Q (Text Reverse text.Endless) = Q
 if_endless P Q _ = Unit {0}
 
--- The forward record is read first: where its text can't be read on the reverse one is as it was, and where the reverse text
--- can't be read on the forward one gave a record, or has ended.
+-- The fault of a side's text, of whatever kind, is that of the source that was being read, and its last answer. The forward record is read
+-- first: at a fault of its text the reverse source is as it was, and at one of the reverse text the forward source has given a record, or
+-- has ended.
 abbrev pub WasReading : {F G : Type 0} → PairSourced F G → PairSourced F G → InputFault → Type 0
-WasReading old new (Text Forward fault) = new.reverse ≡ old.reverse
-WasReading old new (Text Reverse fault) = (new.forward.given ≡ old.forward.given + 1) ⊎ (new.forward.last ≡ Some (res.Ok tt))
+WasReading old new (Text Forward fault) = (new.forward.last ≡ Some (res.Err fault)) × (new.reverse ≡ old.reverse)
+WasReading old new (Text Reverse fault) = (new.reverse.last ≡ Some (res.Err fault))
+    × ((new.forward.given ≡ old.forward.given + 1) ⊎ (new.forward.last ≡ Some (res.Ok tt)))
 WasReading old new _ = Unit {0}
 
--- a fault was answered
+-- A fault was answered: where it is one of the texts no pair was left, and they end by it.
 pub record StopsPairs {F G : Type 0} (tells : F → Bool) (to_come : F → List ℕ) (tells' : G → Bool) (to_come' : G → List ℕ) (old new : PairSourced F G) (why : InputFault) : Type 0 where
   pub fault_is : IsTrue (tells old.forward.feed) → IsTrue (tells' old.reverse.feed) → is_from_outside why ≡ false →
       front_of to_come to_come' old ≡ Stopped why
+  pub left : IsTrue (tells old.forward.feed) → IsTrue (tells' old.reverse.feed) → is_from_outside why ≡ false →
+      pairs_left to_come to_come' old ≡ record { mates = []; fault = Some why }
   pub lacks : is_cut_short why ≡ true → LacksPair tells to_come tells' to_come' old new
   pub endless : if_endless (new.forward.max_reads ≤ new.forward.taken) (new.reverse.max_reads ≤ new.reverse.taken) why
   pub reading : WasReading old new why

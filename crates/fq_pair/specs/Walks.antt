@@ -10,7 +10,7 @@ use Rattle.fq_pair.specs.Mates.{Mates}
 use Rattle.fq_pair.specs.Pairing.{PairFront, Ended, Stopped, Met}
 use Rattle.fq_pair.specs.PairSources.{PairSourced, is_from_outside, is_cut_short, if_endless}
 use Rattle.fq_pair.specs.MixedSources.{MixedSourced}
-use Rattle.fq_pair.specs.Forms.{Form, TwoTexts, OneText, pairs_in, front_in, failed_at}
+use Rattle.fq_pair.specs.Forms.{Form, TwoTexts, OneText, pairs_in, front_in, records_of_pairs, failed_at}
 
 -- one side of a source of pairs: its feed, and the bytes in hand, taken, and records given so far
 pub record SideState : Type 0 where
@@ -117,7 +117,8 @@ next_front s = front_in s.form s.check_names s.encoding s.given (lines (rest s.f
 pub record Walks (old new : SourceState) (ms : List Mates) : Type 0 where
   pub same : KeepsSettings old new
   pub given : new.given ≡ old.given + length ms
-  pub records : old.forward.given + length ms ≤ new.forward.given
+  pub forward_records : new.forward.given ≡ old.forward.given + records_of_pairs old.form (length ms)
+  pub reverse_records : new.reverse.given ≡ old.reverse.given + records_of_pairs old.form (length ms)
   pub last : new.last ≡ None
   pub forward : Draws old.forward new.forward 0
   pub reverse : Draws old.reverse new.reverse 0

@@ -130,6 +130,22 @@ fn counts(pairs: u64, both: u64, forward_only: u64, reverse_only: u64, dropped: 
     }
 }
 
+const OUTS: [Out; 5] = [
+    Out::ForwardPaired,
+    Out::ForwardUnpaired,
+    Out::ReversePaired,
+    Out::ReverseUnpaired,
+    Out::Log,
+];
+
+// Nothing was written, and nothing counted.
+fn are_empty(rt: &impl Abort, texts: &Texts) {
+    for out in OUTS {
+        assert_eq!(rt; texts.text(out), b"".as_slice(), "{out}");
+    }
+    assert_eq!(rt; texts.counts(), counts(0, 0, 0, 0, 0));
+}
+
 #[test]
 fn names(rt: HostRuntime) {
     let rows: [(&[u8], Side, &[u8]); 9] = [
@@ -176,8 +192,7 @@ fn two_pairs(rt: HostRuntime) -> Result<(), Fail> {
         );
         assert_eq!(rt; texts.counts(), counts(2, 1, 1, 0, 0));
         texts.clear();
-        assert_eq!(rt; texts.text(Out::Log), b"".as_slice());
-        assert_eq!(rt; texts.counts(), counts(0, 0, 0, 0, 0));
+        are_empty(&rt, &texts);
     }
     Ok(())
 }
@@ -191,8 +206,7 @@ fn empty_inputs(rt: HostRuntime) -> Result<(), Fail> {
         &["LEADING:3"],
     )?;
     assert_eq!(rt; fault, None);
-    assert_eq!(rt; texts.text(Out::Log), b"".as_slice());
-    assert_eq!(rt; texts.counts(), counts(0, 0, 0, 0, 0));
+    are_empty(&rt, &texts);
     Ok(())
 }
 
@@ -334,6 +348,29 @@ fn faults_in_their_order(rt: HostRuntime) -> Result<(), Fail> {
     Ok(())
 }
 
+// Both feeds fail at the same read: the forward text's fault is answered, and the reverse text isn't read.
+#[test]
+fn the_forward_text_is_read_first(rt: HostRuntime) -> Result<(), Fail> {
+    for (fail_at, before) in [(1, 0), (2, 1)] {
+        let way = Way { chunk: 18, ..PLAIN };
+        let forward = source(&rt, rt.alloc(), TWO_FORWARD, fail_at, way)?;
+        let reverse = source(&rt, rt.alloc(), TWO_REVERSE, fail_at, way)?;
+        let mut pairs = PairSource::new(forward, reverse, true);
+        for _ in 0..before {
+            assert!(rt; matches!(pairs.next(), Ok(Some(_))));
+        }
+        assert!(rt;
+            matches!(
+                pairs.next(),
+                Err(InputFault::Text(Side::Forward, TextFault::Read))
+            )
+        );
+        let (forward, reverse) = pairs.into_feeds();
+        assert_eq!(rt; (forward.failures(), reverse.failures()), (1, 0));
+    }
+    Ok(())
+}
+
 #[test]
 fn logs(rt: HostRuntime) -> Result<(), Fail> {
     let rows: [(&[u8], &str, &[u8]); 4] = [
@@ -389,13 +426,6 @@ fn recoded(rt: HostRuntime) -> Result<(), Fail> {
 
 #[test]
 fn printed(rt: HostRuntime) -> Result<(), Fail> {
-    let outs = [
-        Out::ForwardPaired,
-        Out::ForwardUnpaired,
-        Out::ReversePaired,
-        Out::ReverseUnpaired,
-        Out::Log,
-    ];
     let names = [
         "forward paired",
         "forward unpaired",
@@ -403,7 +433,7 @@ fn printed(rt: HostRuntime) -> Result<(), Fail> {
         "reverse unpaired",
         "trim log",
     ];
-    for (out, name) in outs.iter().zip(names) {
+    for (out, name) in OUTS.iter().zip(names) {
         assert_eq!(rt; format!(in rt.alloc(); "{out}")?.as_str(), name);
     }
     assert_eq!(rt;

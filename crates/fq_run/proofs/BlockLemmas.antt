@@ -18,6 +18,7 @@ use Rattle.fq_run.specs.Writing.{no_halt, Passes}
 use Rattle.fq_run.proofs.OutletLemmas.{all_took_none, all_took_then, all_took_same}
 use Rattle.fq_run.proofs.TextLemmas.{no_text, text_then, some_pair, counts_added}
 use Rattle.fq_run.proofs.WalkLemmas.{walks_none, walks_then, reads_then}
+use Rattle.fq_pair.proofs.SideLemmas.{walked_records}
 
 module _ (c : Choices) (old : SourceState) (before : OutletStates) where
   -- whole blocks have been read and written
@@ -70,7 +71,7 @@ module _ (c : Choices) (old : SourceState) (before : OutletStates) where
     counts_block : (w : Wrote now after counted) (g : Gathers now next c.steps c.block_pairs texts why) → old.forward.given ≡ 0 → old.most_bytes ≤ 2 ^ 60 → c.block_pairs ≤ 65536 →
         capped counted texts.counts ≡ counts_of c.steps (w.whole ++ g.block)
     counts_block w g none few most =
-        let walks = w.walks in let records = walks.records in let same = walks.same in let bytes = same.most_bytes in let goes = w.goes in let within = goes.within in let block = g.few in
+        let walks = w.walks in let records = walked_records old now w.whole walks in let same = walks.same in let bytes = same.most_bytes in let goes = w.goes in let within = goes.within in let block = g.few in
         counts_added c.steps w.whole g.block counted texts.counts w.counts (ap (λ (t : Outputs). t.counts) g.texts) (omega arith)
 
     -- the last block is written
@@ -113,6 +114,6 @@ module _ (c : Choices) (old : SourceState) (before : OutletStates) where
   nearer now next after counted texts why w g some going =
       let P : Option Stop → Type 0 = λ o. Reads now next g.block o in
       let reads : Walks now next g.block = subst P going g.reads in
-      let full = g.full going in let goes = g.goes going in let within = goes.within in let records = reads.records in
+      let full = g.full going in let goes = g.goes going in let within = goes.within in let records = walked_records now next g.block reads in
       let walks = w.walks in let first = walks.same in let second = reads.same in let a = first.most_bytes in let b = second.most_bytes in
       omega arith

@@ -19,6 +19,7 @@ use Rattle.fq_run.specs.Walks.{Reads}
 use Rattle.fq_run.proofs.DealLemmas.{turn_more}
 use Rattle.fq_run.proofs.LaneLemmas.{dealt_offer}
 use Rattle.fq_run.proofs.WalkLemmas.{walks_none, walks_then, reads_then}
+use Rattle.fq_pair.proofs.SideLemmas.{walked_records}
 
 -- Cutting.
 
@@ -103,7 +104,7 @@ module _ (c : Choices) (old : SourceState) (to : List (Line Numbered)) where
       (sends : SendsFilled block lanes after turn) (len : length after ≡ length lanes) (same_names : names_of after ≡ names_of lanes) where
     mates_few : old.forward.given ≡ 0 → old.most_bytes ≤ 2 ^ 60 → length (d.mates ++ block.pairs) ≤ 2 ^ 60
     mates_few fresh bound =
-        let mates = d.mates in let w = d.walks in let s = w.same in let records = w.records in let bytes = s.most_bytes in let within = f.within in omega (arith, length-append mates block.pairs)
+        let mates = d.mates in let w = d.walks in let s = w.same in let records = walked_records old now d.mates w in let bytes = s.most_bytes in let within = f.within in omega (arith, length-append mates block.pairs)
 
     joined_more : join (pairs_of (d.blocks ++ block ∷ [])) ≡ d.mates ++ block.pairs
     joined_more = ap join (pairs_then d.blocks block) ∙ join_then (pairs_of d.blocks) block.pairs ∙ ap (λ ms. ms ++ block.pairs) d.joined

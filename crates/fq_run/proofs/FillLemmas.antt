@@ -9,6 +9,7 @@ use Rattle.fq_run.specs.declared.reading.Stop.TheVariants as stop
 use Rattle.fq_run.specs.Filling.{Fills}
 use Rattle.fq_pair.specs.Walks.{SourceState, Walks, MeetsEnd, MeetsFault, GoesOn}
 use Rattle.fq_run.proofs.WalkLemmas.{walks_none, walks_then}
+use Rattle.fq_pair.proofs.SideLemmas.{walked_records}
 
 -- so many pairs have been read, and stand in the block
 pub record Filled (old now : SourceState) (empty block : Numbered) (n : ℕ) : Type 0 where
@@ -47,7 +48,7 @@ filled_more old now next empty block then n m f w within is =
 -- the pairs of the block are no more than the bytes that may come
 filled_within : (old now : SourceState) (empty block : Numbered) (n : ℕ) → Filled old now empty block n → old.forward.given + length block.pairs ≤ old.most_bytes
 filled_within old now empty block n f =
-    let w = f.walks in let s = w.same in let g = f.goes in let given = w.records in let most = s.most_bytes in let within = g.within in omega arith
+    let w = f.walks in let s = w.same in let g = f.goes in let given = walked_records old now block.pairs w in let most = s.most_bytes in let within = g.within in omega arith
 
 module _ (old now : SourceState) (empty block : Numbered) (n most : ℕ) (f : Filled old now empty block n) where
   pub fills_full : n ≡ most → Fills old now most empty block None

@@ -3,12 +3,12 @@ use Rattle.std.proofs.Common.{◌≡◌, ℕ, suc, ◌+◌, ◌-◌, inl, Bool, 
 use Rattle.std.proofs.lemmas.List.{length-append}
 use Rattle.fq_text.specs.declared.encoding.Encoding.{Encoding}
 use Rattle.fq_text.specs.Lines.{lines}
-use Rattle.fq_pair.specs.Forms.{Form}
+use Rattle.fq_pair.specs.Forms.{Form, TwoTexts, OneText, records_of_pairs}
 use Rattle.fq_pair.specs.Mates.{Mates}
 use Rattle.fq_run.specs.declared.reading.Stop.{Stop}
 use Rattle.fq_run.specs.declared.reading.Stop.TheVariants as stop
 use Rattle.fq_pair.specs.Walks.{SideState, SourceState, rest, fed, Draws, Uses, KeepsSettings, Leads, Walks}
-use Rattle.fq_pair.proofs.SideLemmas.{draws_then, uses_then}
+use Rattle.fq_pair.proofs.SideLemmas.{draws_then, uses_then, records_then}
 use Rattle.fq_run.specs.Walks.{Reads}
 
 -- One side.
@@ -46,11 +46,23 @@ same_none s = record { form = refl; encoding = refl; check_names = refl; most_by
 pub same_then : (a b c : SourceState) → KeepsSettings a b → KeepsSettings b c → KeepsSettings a c
 same_then a b c p q = record { form = q.form ∙ p.form; encoding = q.encoding ∙ p.encoding; check_names = q.check_names ∙ p.check_names; most_bytes = q.most_bytes ∙ p.most_bytes }
 
+records_none : (form : Form) (given : ℕ) → given ≡ given + records_of_pairs form 0
+records_none TwoTexts given = omega arith
+records_none OneText given = omega arith
+
+records_both : (form form' : Form) (a b c : ℕ) (ms ns : List Mates) → form' ≡ form → b ≡ a + records_of_pairs form (length ms) → c ≡ b + records_of_pairs form' (length ns) →
+    c ≡ a + records_of_pairs form (length (ms ++ ns))
+records_both form form' a b c ms ns same p q =
+    let there = ap (λ (x : Form). records_of_pairs x (length ns)) same in
+    let len = ap (records_of_pairs form) (length-append ms ns) ∙ records_then form (length ms) (length ns) in
+    omega arith
+
 pub walks_none : (s : SourceState) → s.last ≡ None → Walks s s []
 walks_none s going = record {
   same = same_none s;
   given = omega arith;
-  records = omega arith;
+  forward_records = records_none s.form s.forward.given;
+  reverse_records = records_none s.form s.reverse.given;
   last = going;
   forward = draws_none s.forward;
   reverse = draws_none s.reverse;
@@ -61,11 +73,12 @@ walks_none s going = record {
 
 pub walks_then : (a b c : SourceState) (ms ns : List Mates) → Walks a b ms → Walks b c ns → Walks a c (ms ++ ns)
 walks_then a b c ms ns p q =
-    let given = p.given in let more = q.given in let records = p.records in let further = q.records in let s = p.same in let f = p.forward in let r = p.reverse in
+    let given = p.given in let more = q.given in let s = p.same in let f = p.forward in let r = p.reverse in
     record {
       same = same_then a b c p.same q.same;
       given = omega (arith, length-append ms ns);
-      records = omega (arith, length-append ms ns);
+      forward_records = records_both a.form b.form _ _ _ ms ns s.form p.forward_records q.forward_records;
+      reverse_records = records_both a.form b.form _ _ _ ms ns s.form p.reverse_records q.reverse_records;
       last = q.last;
       forward = draws_then a.forward b.forward c.forward 0 p.forward q.forward;
       reverse = draws_then a.reverse b.reverse c.reverse 0 p.reverse q.reverse;

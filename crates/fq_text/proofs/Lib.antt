@@ -1,4 +1,4 @@
-pub mod Rows
+pub mod WorkedExamples
 pub mod LineLemmas
 pub mod ReadLemmas
 pub mod StepLemmas

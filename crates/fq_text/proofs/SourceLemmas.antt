@@ -1,5 +1,5 @@
 -- What a reader of lines has done, as what a source answers.
-use Rattle.std.proofs.Common.{◌≡◌, ℕ, suc, ◌+◌, ◌-◌, ◌<◌, ◌≤◌, inl, inr, Bool, true, false, eqb, Option, Some, None, Result, Ok, Err, List, [], ◌∷◌, ◌++◌, length, take, refl, ap, sym, ◌∙◌, arith, IsTrue, ⊎_elim}
+use Rattle.std.proofs.Common.{◌≡◌, ℕ, suc, ◌+◌, ◌-◌, ◌<◌, ◌≤◌, inl, inr, Bool, true, false, eqb, Option, Some, None, Result, Err, List, [], ◌∷◌, ◌++◌, length, take, refl, ap, sym, ◌∙◌, arith, IsTrue, ⊎_elim}
 use Rattle.std.specs.List.{list_any}
 use Rattle.std.proofs.lemmas.List.{append-nil, length-append, take_at}
 use Rattle.std.proofs.lemmas.List.Folds.{list_any-append}
@@ -13,8 +13,8 @@ use Rattle.fq_text.specs.declared.fault.TextFault.{TextFault}
 use Rattle.fq_text.specs.Lines.{lines, is_whole, whole_part}
 use Rattle.fq_text.specs.Grammar.{Read, Front, End, Faulty, Found, front}
 use Rattle.fq_text.specs.Reading.{Lined, rest_of, IsSound, Reads, NoLf}
-use Rattle.fq_text.specs.Steps.{Goes, Ends, Waits, Stops}
-use Rattle.fq_text.specs.Sources.{Sourced, numbered, text_fault, KeepsCount, GivesRecord, EndsText, LacksRecord, FaultIs, if_read, if_endless, StopsText}
+use Rattle.fq_text.specs.Steps.{Goes, Waits, Stops}
+use Rattle.fq_text.specs.Sources.{Sourced, numbered, text_fault, GivesRecord, LacksRecord, FaultIs, if_read, if_endless, StopsText}
 use Rattle.fq_text.proofs.StepLemmas.{rest_is, lines_left}
 use Rattle.fq_text.proofs.LawfulLemmas.{front_is_lawful, front_encoding}
 

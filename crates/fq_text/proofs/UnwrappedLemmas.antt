@@ -1,12 +1,15 @@
 -- A record of four lines that stands first in some bytes.
-use Rattle.std.proofs.Common.{◌≡◌, ℕ, zero, suc, ◌+◌, ◌-◌, ◌<◌, ◌≤◌, Bool, true, inl, List, [], ◌∷◌, ◌++◌, length, take, drop, get_or, refl, ap, sym, subst, ◌∙◌, arith, append_assoc}
+use Rattle.std.proofs.Common.{◌≡◌, ℕ, zero, suc, ◌+◌, ◌-◌, ◌<◌, ◌≤◌, Bool, true, false, not, eqb, Some, None, inl, ⊎_elim, List, [], ◌∷◌, ◌++◌, length, take, drop, get_or, refl, ap, sym, subst, ◌∙◌, arith, append_assoc}
 use Rattle.std.proofs.Math.Seq.{take-add}
-use Rattle.std.proofs.lemmas.List.{drop-drop, take_all, take-take, drop-take, length-take, length-drop}
+use Rattle.std.specs.List.{list_all}
+use Rattle.std.proofs.lemmas.Bool.{cases_Bool, cases_lt, and_from, not_from_false, eqb-true}
+use Rattle.std.proofs.lemmas.List.{drop-drop, get_or-drop, get_or-take, take_all, take-take, drop-take, length-take, length-drop}
+use Rattle.std.proofs.lemmas.List.Folds.{list_all_at}
 use Rattle.fq_text.specs.declared.encoding.Encoding.{Encoding}
 use Rattle.fq_text.specs.Lines.{without_cr, is_whole, lines}
-use Rattle.fq_text.specs.Grammar.{Found, front}
+use Rattle.fq_text.specs.Grammar.{Found, front, is_base}
 use Rattle.fq_text.specs.Written.{line, written}
-use Rattle.fq_text.specs.Reading.{Lined}
+use Rattle.fq_text.specs.Reading.{Lined, NoLf, IsLineEnd}
 use Rattle.fq_text.specs.Steps.{Goes}
 use Rattle.fq_text.specs.Unwrapped.{unwrapped, IsFourLines, StandsFirst}
 use Rattle.fq_text.proofs.LineLemmas.{whole_to}
@@ -125,3 +128,52 @@ module _ {F : Type 0} (tells : F → Bool) (to_come : F → List ℕ) where
         state = λ ls. found_in_hand e a.in_hand t n ls p;
         small = λ lt. omega (arith, length-drop len a.in_hand);
       })
+
+-- Where the lines end.
+
+-- no LF stands below place n, of which all bytes pass a test that LF doesn't
+no_lf_by : (test : ℕ → Bool) (n : ℕ) (xs : List ℕ) → test 10 ≡ false → n ≤ length xs → list_all test (take n xs) ≡ true → NoLf xs n
+no_lf_by test n xs fails within passes k lt is =
+    let here : get_or (take n xs) k 0 ≡ 10 = get_or-take n xs k 0 lt ∙ is in
+    let none : list_all test (take n xs) ≡ false = list_all_at test (take n xs) k 0 (omega (arith, length-take n xs)) (ap test here ∙ fails) in
+    cc
+
+-- the same, the other way
+pub one_line_to : (n : ℕ) (xs : List ℕ) → NoLf xs n → list_all (λ b. not (eqb b 10)) (take n xs) ≡ true
+one_line_to zero xs none = refl
+one_line_to (suc n) [] none = refl
+one_line_to (suc n) (x ∷ xs) none = ⊎_elim
+    (λ here. absurd (none 0 (omega arith) (eqb-true x 10 here)))
+    (λ off. and_from _ _ (not_from_false _ off) (one_line_to n xs (λ k lt is. none (suc k) (omega arith) is)))
+    (cases_Bool (eqb x 10))
+
+-- the first LF stands at one place
+one_end : (xs : List ℕ) (a b : ℕ) → NoLf xs a → get_or xs a 0 ≡ 10 → NoLf xs b → get_or xs b 0 ≡ 10 → a ≡ b
+one_end xs a b none_a at_a none_b at_b = ⊎_elim
+    (λ (lt : a < b). absurd (none_b a lt at_a))
+    (λ (le : b ≤ a). ⊎_elim (λ (lt : b < a). absurd (none_a b lt at_b)) (λ (ge : a ≤ b). omega arith) (cases_lt b a))
+    (cases_lt a b)
+
+module _ (e : Encoding) (hand : List ℕ) (t n : ℕ) (p : StandsFirst e hand t n) where
+  -- the title of a record that stands first ends at the first LF
+  pub title_to : (at : ℕ) → IsLineEnd (drop 1 hand) (Some at) → at ≡ t
+  title_to at is =
+      let fits = p.lines.fits in
+      let none = no_lf_by (λ b. not (eqb b 10)) t (drop 1 hand) refl (omega (arith, length-drop 1 hand)) p.lawful.one_line in
+      one_end (drop 1 hand) at t is.2 is.1 none (get_or-drop 1 hand t 0 ∙ ap (λ i. get_or hand i 0) (omega arith) ∙ p.lines.title_end)
+
+  bases_end : get_or (drop (t + 2) hand) n 0 ≡ 10
+  bases_end = get_or-drop (t + 2) hand n 0 ∙ ap (λ i. get_or hand i 0) (omega arith) ∙ p.lines.seq_end
+
+  -- its bases end at the first LF behind the title
+  pub bases_to : (at : ℕ) → IsLineEnd (drop (t + 2) hand) (Some at) → at ≡ n
+  bases_to at is =
+      let fits = p.lines.fits in
+      let place : drop (t + 1) (drop 1 hand) ≡ drop (t + 2) hand = drop-drop (t + 1) 1 hand ∙ ap (λ m. drop m hand) (omega arith) in
+      let bases = subst (λ xs. list_all is_base (take n xs) ≡ true) place p.lawful.bases in
+      let none = no_lf_by is_base n (drop (t + 2) hand) refl (omega (arith, length-drop (t + 2) hand)) bases in
+      one_end (drop (t + 2) hand) at n is.2 is.1 none bases_end
+
+  -- and there is one
+  pub bases_do_end : IsLineEnd (drop (t + 2) hand) None → ⊥
+  bases_do_end none = let fits = p.lines.fits in none n (omega (arith, length-drop (t + 2) hand)) bases_end

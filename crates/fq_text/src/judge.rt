@@ -6,7 +6,9 @@ ghost use Rattle.fq_text.specs.Grammar.{limit, is_base, begins_with as begins, t
 
 use crate::encoding::Encoding;
 use crate::fault::Fault;
-use crate::lines::LIMIT;
+
+/// The most bytes of a line, and of a sequence whose lines are joined.
+pub(crate) const LIMIT: usize = 1_048_576;
 
 /// Whether a line begins with a mark.
 pub(crate) fn begins_with(line: &[u8], mark: u8) -> bool

@@ -8,10 +8,9 @@ ghost use Rattle.fq_text.specs.Reading.{Lined, IsSound, Reads, Advances, Halts, 
 use crate::buffer::Buffer;
 use crate::fault::{Fault, Stop};
 use crate::feed::Feed;
+use crate::judge::LIMIT;
 use memchr::memchr;
 use std::marker::Model;
-
-pub(crate) const LIMIT: usize = 1_048_576;
 
 /// A feed that is read by lines.
 #[derive(Drop)]

@@ -3,6 +3,7 @@
 ghost use Rattle.std.specs.Prelude.{◌≡◌, ◌+◌, ◌*◌, ◌<◌, ◌≤◌, ℕ, true, List, [], ◌∷◌, length, MatchResult, MatchOption, IfOk, IfErr, IfSome, Ok, None, OnOk};
 ghost use Rattle.fq_text.specs.Grammar.{limit, begins_with, front, Read, Found};
 ghost use Rattle.fq_text.specs.Reading.{IsSound, fails};
+ghost use Rattle.fq_text.specs.Unwrapped.{StandsFirst};
 ghost use Rattle.fq_text.specs.declared.fault.Stop.TheVariants.{OutOfMemory};
 ghost use Rattle.fq_text.specs.Steps.{in_sequence, at_plus, in_quality, Goes, Ends, Stops, FindsTitle, FindsPlus, FindsRecord, FindsRest, FindsNext};
 
@@ -89,7 +90,7 @@ fn read_quality<F: Feed>(lines: &mut LineReader<F>, parts: &mut Parts) -> Result
     Ok(())
 }
 
-// Reads the next record at one stroke, where it stands whole in hand in four unwrapped lines.
+// Reads the next record at one stroke, where it stands whole in hand in four unwrapped lines. So many bases are a guess.
 fn read_in_hand<F: Feed>(
     alloc: Global,
     encoding: Encoding,
@@ -99,6 +100,7 @@ fn read_in_hand<F: Feed>(
     requires { IsSound F.tells F.to_come lines.old }
     ensures found { IfOk result (λ o. IfSome o (λ r. Goes F.tells F.to_come lines.old lines.new (front encoding) (Found r))) }
     ensures none { result ≡ Ok None → lines.new ≡ lines.old }
+    ensures passed_by { result ≡ Ok None → (title : ℕ) → (bases : ℕ) → StandsFirst encoding lines.old.in_hand title bases → ⊥ }
     ensures err { IfErr result (λ stop. (stop ≡ OutOfMemory) × (lines.new ≡ lines.old)) }
     ensures sound { IsSound F.tells F.to_come lines.new }
     ensures feed { lines.new.feed ≡ lines.old.feed }
@@ -136,7 +138,7 @@ fn read_by_lines<F: Feed>(
     }
 }
 
-// Reads the next record, if there is one, into room for so many bytes.
+// Reads the next record, if there is one. Of one in four unwrapped lines so many bases are a guess, of any other so many bytes.
 pub(crate) fn read_record<F: Feed>(
     alloc: Global,
     encoding: Encoding,

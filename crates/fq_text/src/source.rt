@@ -30,7 +30,7 @@ pub struct Source<F: Feed> {
     encoding: Encoding,
     lines: LineReader<F>,
     given: u64,
-    // The bytes of the last record, a guess at those of the next.
+    // The bytes that were kept of the last record, and its bases: guesses at those of the next.
     room: usize,
     bases: usize,
     // The end or the fault that was answered.
@@ -144,7 +144,13 @@ impl<F: Feed> Source<F> {
         ensures limit { self.new.taken ≤ self.new.max_reads * self.new.chunk }
         ensures fits { self.new.taken ≤ 2 ^ 60 }
     {
-        match read_record(self.alloc, self.encoding, self.room, self.bases, &mut self.lines) {
+        match read_record(
+            self.alloc,
+            self.encoding,
+            self.room,
+            self.bases,
+            &mut self.lines,
+        ) {
             Ok(Some(record)) => {
                 self.given += 1;
                 self.room = record.len();

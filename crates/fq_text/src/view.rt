@@ -5,8 +5,7 @@ ghost use Rattle.std.specs.List.{list_all};
 ghost use Rattle.fq_text.specs.Grammar.{Read, IsLawful};
 
 use crate::encoding::Encoding;
-use crate::judge::{all_bases, begins_with};
-use crate::lines::LIMIT;
+use crate::judge::{LIMIT, all_bases, begins_with};
 use memchr::memchr;
 use std::marker::Model;
 
@@ -29,7 +28,7 @@ pub fn is_lawful(encoding: Encoding, title: &[u8], seq: &[u8], qual: &[u8]) -> b
     is_one_line(title) && is_lawful_line(encoding, title, seq, qual)
 }
 
-/// The same of a title that is known to be one line.
+/// Whether the parts make such a record, where the title is known to be one line.
 pub(crate) fn is_lawful_line(encoding: Encoding, title: &[u8], seq: &[u8], qual: &[u8]) -> bool
     requires { list_all (λ b. not (b == 10)) title.now ≡ true }
     ensures { IsTrue result ↔ IsLawful (record { encoding = encoding; title = title.now; seq = seq.now; qual = qual.now }) }

@@ -1,4 +1,4 @@
 pub mod PlaceLemmas
 pub mod WordLemmas
 pub mod ParseLemmas
-pub mod Rows
+pub mod WorkedExamples

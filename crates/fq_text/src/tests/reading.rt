@@ -229,6 +229,20 @@ fn the_longest_title_line(rt: HostRuntime) -> Result<(), Fail> {
     Ok(())
 }
 
+// Of a record that is copied at one stroke the four lines are kept, from the title on up to the last quality byte; of any other its
+// three parts are. The first record of a source comes before there are bytes in hand.
+#[test]
+fn a_plain_record_in_hand_is_copied_at_one_stroke(rt: HostRuntime) -> Result<(), Fail> {
+    let text =
+        b"@r1\nACGT\n+\nIIII\n@r2\nACGT\n+\nIIII\n@r3\nACGTA\n+\nIIIII\n@r4\nAC\nGT\n+\nIIII\n@r5\nACGT\n+r5\nIIII\n";
+    let mut records = source(rt.alloc(), text, Encoding::Sanger, 1000, 1000)?;
+    for kept in [10, 14, 16, 10, 10] {
+        let record = records.next()?.ok_or("a record")?;
+        assert_eq!(rt; record.len(), kept);
+    }
+    Ok(())
+}
+
 #[test]
 fn lawful_parts(rt: HostRuntime) {
     let sanger = Encoding::Sanger;
