@@ -4,8 +4,8 @@ use Rattle.std.proofs.Math.Nat.{zero-mod}
 use Rattle.std.proofs.lemmas.Nat.{mod_below}
 use Rattle.std.proofs.lemmas.List.{append-nil, length-map, map-append}
 use Rattle.fq_lane.specs.Line.{Line}
-use Rattle.fq_lane.specs.declared.rx.Taken.{Taken}
-use Rattle.fq_lane.specs.declared.rx.Taken.TheVariants.{Item, Closed}
+use Rattle.fq_lane.specs.declared.taken.Taken.{Taken}
+use Rattle.fq_lane.specs.declared.taken.Taken.TheVariants.{Item, Closed}
 use Rattle.fq_pair.specs.declared.out.Out.{Out}
 use Rattle.fq_pair.specs.declared.counts.Counts.{Counts}
 use Rattle.fq_pair.specs.Outputs.{text_of, no_counts}

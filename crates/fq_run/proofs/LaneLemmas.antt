@@ -6,8 +6,8 @@ use Rattle.std.proofs.lemmas.Bool.{cases_eq}
 use mathlib.Core.List.{IsPrefix}
 use Rattle.fq_lane.specs.Line.{Line, with_item, with_mark}
 use Rattle.fq_lane.specs.Take.{Takes}
-use Rattle.fq_lane.specs.declared.rx.Taken.{Taken}
-use Rattle.fq_lane.specs.declared.rx.Taken.TheVariants.{Item, Empty, Closed}
+use Rattle.fq_lane.specs.declared.taken.Taken.{Taken}
+use Rattle.fq_lane.specs.declared.taken.Taken.TheVariants.{Item, Empty, Closed}
 use Rattle.fq_run.specs.Dealing.{every}
 use Rattle.fq_run.specs.Lanes.{names_of, IsDealt, IsEnded, IsBegun, TakesAt}
 use Rattle.fq_run.proofs.DealLemmas.{every_here, every_there}
