@@ -1,5 +1,7 @@
 //! What a dealer hands back.
 
+ghost use Rattle.std.specs.Prelude.{◌≡◌, None, IfSome};
+
 use crate::reading::Stop;
 use fq_block::Block;
 use fq_lane::{End, NotEnded, Rx};
@@ -15,4 +17,17 @@ pub(crate) struct Dealt<S> {
     pub(crate) stop: Option<Stop>,
     /// The pairs that are left.
     pub(crate) source: S,
+}
+
+impl<S: Drop> Dealt<S> {
+    /// The source of a dealer that had no start, which has read nothing. `None` where it had one.
+    pub(crate) fn into_unread(self) -> Option<S>
+        ensures { IfSome result (λ source. (source ≡ self.source) × (self.stop ≡ None)) }
+    {
+        let Dealt { stop, source, .. } = self;
+        match stop {
+            None => Some(source),
+            Some(_) => None,
+        }
+    }
 }

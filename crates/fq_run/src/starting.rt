@@ -61,9 +61,9 @@ pub(crate) fn start<
     if !start_workers(alloc, rt, settings, gate, ends, &mut hands) {
         // Without an item in the start lane the dealer reads nothing, and closes the lanes of the workers that are there.
         let _ = starter.close();
-        let Dealt { source, .. } = dealer.join(rt);
+        let source = dealer.join(rt).into_unread();
         let _ = join_workers(rt, hands, worked);
-        return unstarted(Some(source));
+        return unstarted(source);
     }
     let crew = Crew {
         starter,
