@@ -6,8 +6,8 @@
 # used rightly, in which no error may be found.
 #
 # In the lane itself: a move of one end behind which the other is not woken, or only under a condition, or was woken before. Each must
-# be refused by exactly one error, that the witness of the move is let go (error[linear-value-let-go]). The lane as it stands is used
-# rightly.
+# be refused by exactly one error: the witness of the move is let go (error[linear-value-let-go]), or is forgotten without being `Drop`
+# (error[unsatisfied-bound]). The lane as it stands is used rightly.
 #
 # Run it from the root of the repository, with rt on the path. It works in a folder of its own, outside the tree.
 set -uo pipefail
@@ -51,18 +51,18 @@ try() {
     judge "$1" "$2" $?
 }
 
-# try_in_lane NAME FILE OLD NEW: checks the lane with one text of one of its files in place of another.
+# try_in_lane NAME WANTED FILE OLD NEW: checks the lane with one text of one of its files in place of another.
 try_in_lane() {
-    local file="$room/crates/fq_lane/src/$2" text
-    text=$(cat "$root/crates/fq_lane/src/$2")
-    if [ "${text/"$3"/}" = "$text" ]; then
-        echo "WRONG: $1: $2 has no '$3'"
+    local file="$room/crates/fq_lane/src/$3" text
+    text=$(cat "$root/crates/fq_lane/src/$3")
+    if [ "${text/"$4"/}" = "$text" ]; then
+        echo "WRONG: $1: $3 has no '$4'"
         failed=1
         return
     fi
-    printf '%s\n' "${text/"$3"/"$4"}" >"$file"
+    printf '%s\n' "${text/"$4"/"$5"}" >"$file"
     (cd "$room/crates/fq_lane" && rt check) >"$room/log" 2>&1
-    judge "$1" linear-value-let-go $?
+    judge "$1" "$2" $?
     printf '%s\n' "$text" >"$file"
 }
 
@@ -127,11 +127,11 @@ pub fn confirm_twice(rx: &mut Rx<u64>, end: End<u64>)
 }
 RT
 
-try_in_lane "an offer that wakes nobody" tx.rt \
+try_in_lane "an offer that wakes nobody" linear-value-let-go tx.rt \
     'ring::push_item(&mut self.producer, item).wake_receiver(&self.parkers);' \
     'let _ = ring::push_item(&mut self.producer, item);'
 
-try_in_lane "an offer that wakes only the receiver of a lane that was empty" tx.rt \
+try_in_lane "an offer that wakes only the receiver of a lane that was empty" linear-value-let-go tx.rt \
     'ring::push_item(&mut self.producer, item).wake_receiver(&self.parkers);' \
     'let was_empty = self.producer.slots() + 1 > self.producer.capacity();
             let pushed = ring::push_item(&mut self.producer, item);
@@ -139,16 +139,16 @@ try_in_lane "an offer that wakes only the receiver of a lane that was empty" tx.
                 pushed.wake_receiver(&self.parkers);
             }'
 
-try_in_lane "an offer that wakes before it pushes" tx.rt \
+try_in_lane "an offer that wakes before it pushes" linear-value-let-go tx.rt \
     'ring::push_item(&mut self.producer, item).wake_receiver(&self.parkers);' \
     'self.parkers.wake_receiver();
             let _ = ring::push_item(&mut self.producer, item);'
 
-try_in_lane "a mark behind which nobody is woken" tx.rt \
+try_in_lane "a mark behind which nobody is woken" linear-value-let-go tx.rt \
     'pushed.wake_receiver(&parkers);' \
     'drop(parkers);'
 
-try_in_lane "a take that wakes before it pops" rx.rt \
+try_in_lane "a take that wakes before it pops" linear-value-let-go rx.rt \
     'match ring::pop(&mut self.consumer) {
             Popped::Item(item, freed) => {
                 freed.wake_sender(&self.parkers);' \
@@ -156,12 +156,16 @@ try_in_lane "a take that wakes before it pops" rx.rt \
         match ring::pop(&mut self.consumer) {
             Popped::Item(item, _) => {'
 
-try_in_lane "a witness that is forgotten" rx.rt \
+try_in_lane "a witness that is kept for later" linear-value-let-go rx.rt \
     'freed.wake_sender(&self.parkers);' \
-    'let Popped::Item(..) = Popped::Item((), freed) else { return Taken::Empty };'
+    'let _later = freed;'
+
+try_in_lane "a witness that is forgotten" unsatisfied-bound rx.rt \
+    'freed.wake_sender(&self.parkers);' \
+    'std::mem::forget(freed);'
 
 if [ $failed -ne 0 ]; then
     echo "must_not_compile: FAILED"
     exit 1
 fi
-echo "must_not_compile: ok, 8 misuses refused and 2 uses accepted"
+echo "must_not_compile: ok, 9 misuses refused and 2 uses accepted"
