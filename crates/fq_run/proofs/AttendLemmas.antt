@@ -9,8 +9,8 @@ use Rattle.fq_pair.specs.declared.out.Out.{Out}
 use Rattle.fq_pair.specs.declared.counts.Counts.{Counts}
 use Rattle.fq_work.specs.declared.ends.Worked.{Worked}
 use Rattle.fq_run.specs.declared.collector.Collector.{Collector}
-use Rattle.fq_run.specs.declared.dealt.Dealt.{Dealt}
-use Rattle.fq_run.specs.declared.ended.Ended.{Ended}
+use Rattle.fq_run.specs.declared.dealer.Dealt.{Dealt}
+use Rattle.fq_run.specs.declared.ending.Ended.{Ended}
 use Rattle.fq_run.specs.declared.outcome.Outcome.TheVariants as outcome
 use Rattle.fq_run.specs.declared.phase.Phase.TheVariants.{Writing}
 use Rattle.fq_run.specs.Choices.{Choices}

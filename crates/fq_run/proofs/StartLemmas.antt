@@ -16,7 +16,7 @@ use Rattle.fq_run.specs.Fates.{Unbroken}
 use Rattle.fq_run.specs.Outcomes.{rank}
 use Rattle.std.specs.Option.{option_map}
 use Rattle.fq_run.specs.Threads.{IsThreaded, run_from}
-use Rattle.fq_run.specs.declared.ended.Ended.{Ended}
+use Rattle.fq_run.specs.declared.ending.Ended.{Ended}
 use Rattle.fq_pair.specs.Forms.{Form}
 use Rattle.fq_pair.specs.Walks.{SourceState}
 use Rattle.fq_run.specs.Walks.{fresh_source, feed_in}

@@ -19,12 +19,12 @@ use Rattle.fq_run.specs.Walks.{fresh_source, feed_in}
 use Rattle.fq_run.specs.Writing.{occurred}
 use Rattle.fq_run.specs.declared.collector.Collector.{Collector}
 use Rattle.fq_run.specs.declared.dealer.Dealer.{Dealer}
-use Rattle.fq_run.specs.declared.dealt.Dealt.{Dealt}
-use Rattle.fq_run.specs.declared.ended.Ended.{Ended}
+use Rattle.fq_run.specs.declared.dealer.Dealt.{Dealt}
+use Rattle.fq_run.specs.declared.ending.Ended.{Ended}
 use Rattle.fq_run.specs.declared.outcome.Outcome.TheVariants as outcome
-use Rattle.fq_run.specs.declared.ready.Lanes.{Lanes}
-use Rattle.fq_run.specs.declared.ready.Ready.{Ready}
-use Rattle.fq_run.specs.declared.staff.Crew.{Crew}
+use Rattle.fq_run.specs.declared.seats.Lanes.{Lanes}
+use Rattle.fq_run.specs.declared.seats.Ready.{Ready}
+use Rattle.fq_run.specs.declared.crew.Crew.{Crew}
 
 -- the lanes of so many workers and the start lane are as they are made, and there is room for what is handed back
 pub record AreLaidOut (workers : ℕ) (lanes : Lanes) : Type 0 where

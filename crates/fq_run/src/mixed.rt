@@ -9,8 +9,7 @@ ghost use Rattle.fq_run.specs.Outcomes.{rank};
 ghost use Rattle.fq_run.specs.Endings.{mixed_run_of, AreTold, ends_whole, IsTrimmed, IsUntouched, EveryEnding};
 ghost use Rattle.fq_run.specs.Threads.{IsThreaded};
 
-use crate::ended::{Ended, nothing_counted};
-use crate::ending::MixedEnding;
+use crate::ending::{Ended, MixedEnding, nothing_counted};
 use crate::halt::Halt;
 use crate::opening::open_mixed;
 use crate::outcome::{Occurred, Outcome};

@@ -8,15 +8,13 @@ ghost use Rattle.fq_run.specs.Threads.{IsReady, IsFresh, IsManned, run_from, IsT
 
 use crate::collector::{Collector, collect};
 use crate::confirming::confirm;
-use crate::crew::{join_workers, start_dealer, start_workers};
-use crate::dealer::Dealer;
-use crate::dealt::Dealt;
-use crate::ended::{Ended, unstarted};
+use crate::crew::{Crew, join_workers, start_dealer, start_workers};
+use crate::dealer::{Dealer, Dealt};
+use crate::ending::{Ended, unstarted};
 use crate::outcome::{Occurred, Outcome};
 use crate::outlets::Outlets;
-use crate::ready::Ready;
+use crate::seats::Ready;
 use crate::settings::Settings;
-use crate::staff::Crew;
 use fq_lane::{End, NotEnded, Rx, Tx};
 use fq_pair::{Out, PairReader, Texts};
 use fq_text::Outlet;

@@ -6,8 +6,7 @@ ghost use Rattle.fq_run.specs.Devices.{feed_state, outlet_states, AreHealthy};
 ghost use Rattle.fq_run.specs.Endings.{run_of, AreTold, ends_whole, IsTrimmed, IsUntouched, EveryEnding};
 ghost use Rattle.fq_run.specs.Threads.{IsThreaded};
 
-use crate::ended::{Ended, nothing_counted};
-use crate::ending::Ending;
+use crate::ending::{Ended, Ending, nothing_counted};
 use crate::outcome::Outcome;
 use crate::outlets::Outlets;
 use crate::preparing::prepare;

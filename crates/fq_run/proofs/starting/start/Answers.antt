@@ -3,7 +3,7 @@ use Rattle.std.proofs.Common.{refl, sym, ap, subst, arith}
 use Rattle.fq_run.specs.Devices.{outlet_states}
 use Rattle.fq_run.specs.Walks.{feed_in}
 use Rattle.fq_run.specs.Threads.{IsThreaded, run_from}
-use Rattle.fq_run.specs.declared.ended.Ended.{Ended}
+use Rattle.fq_run.specs.declared.ending.Ended.{Ended}
 use Rattle.fq_run.proofs.StaffLemmas.{to_dealt}
 use Rattle.fq_run.proofs.StartLemmas.{of_one, unread, idle, unstarted}
 use Rattle.fq_run.proofs.starting.start.Goals as goal
