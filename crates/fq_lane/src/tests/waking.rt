@@ -36,10 +36,7 @@ fn dawdle(clock: &impl Clock, round: u64) {
 }
 
 // The two ends of a lane, and what they sleep on.
-fn open_lane(
-    alloc: Global,
-    depth: usize,
-) -> Result<(Tx<u64>, Rx<u64>, Arc<Parkers>), AllocError>
+fn open_lane(alloc: Global, depth: usize) -> Result<(Tx<u64>, Rx<u64>, Arc<Parkers>), AllocError>
     requires { depth < 64 }
 {
     let parkers = Arc::new(alloc, Parkers::new())?;
