@@ -116,6 +116,7 @@ impl Feed for CountedFeed {
 
 // How often a gate looks for a read, and how often for one too many behind it.
 const LOOKS: u64 = 1_000_000_000;
+
 const MORE_LOOKS: u64 = 30_000_000;
 
 /// A gate that lets the first block pass only where just so many reads are made while it is asked.
