@@ -1,7 +1,13 @@
 #!/usr/bin/env bash
-# What a lane's types rule out must not compile: an offer after the lane was closed, and one end that confirms twice.
-# Each must be refused by exactly one error, the borrow error E0382: a use of a value that was moved (the check writes it
-# error[borrow-e0382]). Beside each stands the same function used rightly, in which no error may be found.
+# What a lane's types rule out must not compile.
+#
+# By its callers: an offer after the lane was closed, and one end that confirms twice. Each must be refused by exactly one error, the
+# borrow error E0382: a use of a value that was moved (the check writes it error[borrow-e0382]). Beside each stands the same function
+# used rightly, in which no error may be found.
+#
+# In the lane itself: a move of one end behind which the other is not woken, or only under a condition, or was woken before. Each must
+# be refused by exactly one error: the witness of the move is let go (error[linear-value-let-go]), or is forgotten without being `Drop`
+# (error[unsatisfied-bound]). The lane as it stands is used rightly.
 #
 # Run it from the root of the repository, with rt on the path. It works in a folder of its own, outside the tree.
 set -uo pipefail
@@ -22,22 +28,42 @@ echo "misuse: fq_lane" >>"$room/crates.txt"
 
 failed=0
 
-# try NAME WANTED: checks the source on standard input, and compares the errors that are found ("none", or one code).
-try() {
-    cat >"$room/crates/misuse/src/lib.rt"
-    (cd "$room/crates/misuse" && rt check) >"$room/log" 2>&1
-    local status=$? found
+# judge NAME WANTED STATUS: compares the errors that were found ("none", or one code).
+judge() {
+    local found
     found=$(grep -oE '\berror(\[[^]]+\])?:' "$room/log" | sed -E 's/^error(\[(.*)\])?:$/\2/' | tr '\n' ' ')
     found=${found% }
-    if [ "$2" = none ] && [ $status -eq 0 ] && [ -z "$found" ]; then
+    if [ "$2" = none ] && [ "$3" -eq 0 ] && [ -z "$found" ]; then
         echo "compiles, as it must: $1"
-    elif [ "$2" != none ] && [ $status -ne 0 ] && [ "$found" = "$2" ]; then
+    elif [ "$2" != none ] && [ "$3" -ne 0 ] && [ "$found" = "$2" ]; then
         echo "refused by $2, as it must be: $1"
     else
-        echo "WRONG: $1: wanted $2, found '${found:-none}' with status $status; the first lines were:"
+        echo "WRONG: $1: wanted $2, found '${found:-none}' with status $3; the first lines were:"
         head -n 20 "$room/log"
         failed=1
     fi
+}
+
+# try NAME WANTED: checks the source on standard input.
+try() {
+    cat >"$room/crates/misuse/src/lib.rt"
+    (cd "$room/crates/misuse" && rt check) >"$room/log" 2>&1
+    judge "$1" "$2" $?
+}
+
+# try_in_lane NAME WANTED FILE OLD NEW: checks the lane with one text of one of its files in place of another.
+try_in_lane() {
+    local file="$room/crates/fq_lane/src/$3" text
+    text=$(cat "$root/crates/fq_lane/src/$3")
+    if [ "${text/"$4"/}" = "$text" ]; then
+        echo "WRONG: $1: $3 has no '$4'"
+        failed=1
+        return
+    fi
+    printf '%s\n' "${text/"$4"/"$5"}" >"$file"
+    (cd "$room/crates/fq_lane" && rt check) >"$room/log" 2>&1
+    judge "$1" "$2" $?
+    printf '%s\n' "$text" >"$file"
 }
 
 try "an offer before the lane is closed" none <<'RT'
@@ -101,8 +127,45 @@ pub fn confirm_twice(rx: &mut Rx<u64>, end: End<u64>)
 }
 RT
 
+try_in_lane "an offer that wakes nobody" linear-value-let-go tx.rt \
+    'ring::push_item(&mut self.producer, item).wake_receiver(&self.parkers);' \
+    'let _ = ring::push_item(&mut self.producer, item);'
+
+try_in_lane "an offer that wakes only the receiver of a lane that was empty" linear-value-let-go tx.rt \
+    'ring::push_item(&mut self.producer, item).wake_receiver(&self.parkers);' \
+    'let was_empty = self.producer.slots() + 1 > self.producer.capacity();
+            let pushed = ring::push_item(&mut self.producer, item);
+            if was_empty {
+                pushed.wake_receiver(&self.parkers);
+            }'
+
+try_in_lane "an offer that wakes before it pushes" linear-value-let-go tx.rt \
+    'ring::push_item(&mut self.producer, item).wake_receiver(&self.parkers);' \
+    'self.parkers.wake_receiver();
+            let _ = ring::push_item(&mut self.producer, item);'
+
+try_in_lane "a mark behind which nobody is woken" linear-value-let-go tx.rt \
+    'pushed.wake_receiver(&parkers);' \
+    'drop(parkers);'
+
+try_in_lane "a take that wakes before it pops" linear-value-let-go rx.rt \
+    'match ring::pop(&mut self.consumer) {
+            Popped::Item(item, freed) => {
+                freed.wake_sender(&self.parkers);' \
+    'self.parkers.wake_sender();
+        match ring::pop(&mut self.consumer) {
+            Popped::Item(item, _) => {'
+
+try_in_lane "a witness that is kept for later" linear-value-let-go rx.rt \
+    'freed.wake_sender(&self.parkers);' \
+    'let _later = freed;'
+
+try_in_lane "a witness that is forgotten" unsatisfied-bound rx.rt \
+    'freed.wake_sender(&self.parkers);' \
+    'std::mem::forget(freed);'
+
 if [ $failed -ne 0 ]; then
     echo "must_not_compile: FAILED"
     exit 1
 fi
-echo "must_not_compile: ok, 2 misuses refused and 2 uses accepted"
+echo "must_not_compile: ok, 9 misuses refused and 2 uses accepted"

@@ -4,6 +4,9 @@
 # A run may then end by want of memory, by a failed write (a growth of an outlet) or by a refused thread, but never as if nothing
 # had been refused, and its outputs have to be those of the first pairs: refused_growths/main.rt.in judges that.
 #
+# Then each thread of the runs with two workers is refused in turn: the run has to say so and to write nothing, and its feeds are lost
+# where the reading thread was refused, and else come back unread.
+#
 # Wants cc, or else takes the kit's own compiler. ROUNDS, 3 if not set, is how often each growth is refused to the run with two
 # workers, whose growths come in another order each time.
 set -uo pipefail
@@ -22,7 +25,8 @@ fi
 
 # A scratch repository of the run's crates as they are built, and a program over them.
 grep -E '^fq_(text|trim|pair|lane|block|work|run)[ :]' crates.txt >"$room/crates.txt"
-for crate in $(grep -oE '^fq_[a-z]+' "$room/crates.txt"); do
+mapfile -t crates < <(grep -oE '^fq_[a-z]+' "$room/crates.txt")
+for crate in "${crates[@]}"; do
     mkdir -p "$room/crates/$crate/out"
     cp -r "crates/$crate"/{src,specs,proofs} "$room/crates/$crate/"
     cp -r "crates/$crate/out/rlib" "$room/crates/$crate/out/"
@@ -41,15 +45,19 @@ program=$room/crates/judging/out/judging
 
 compiler=${CC:-cc}
 command -v "$compiler" >"$room/log" || compiler=$(dirname "$(rt doc)")/toolchain/bin/clang
-if ! "$compiler" -O2 -fPIC -shared -nostdlib -o "$room/refuse.so" "$here/refuse.c"; then
-    echo "refused_growths: FAILED: refuse.c is not compiled"
-    exit 1
-fi
+for source in refuse refuse_thread; do
+    if ! "$compiler" -O2 -fPIC -shared -nostdlib -o "$room/$source.so" "$here/$source.c"; then
+        echo "refused_growths: FAILED: $source.c is not compiled"
+        exit 1
+    fi
+done
 
 # try NUMBER WAY: runs once. Sets said to what the run printed and refused to whether it met the refusal.
 try() {
-    said=$(timeout 60 env REFUSED_GROWTH="$1" LD_PRELOAD="$room/refuse.so" "$program" $2 2>&1 9>"$room/refused")
-    local status=$?
+    local words status
+    read -ra words <<<"$2"
+    said=$(timeout 60 env REFUSED_GROWTH="$1" LD_PRELOAD="$room/refuse.so" "$program" "${words[@]}" 2>&1 9>"$room/refused")
+    status=$?
     refused=$(cat "$room/refused")
     if [ $status -ne 0 ] || { [ -n "$refused" ] && [ "$said" = Whole ]; } || { [ -z "$refused" ] && [ "$said" != Whole ]; }; then
         echo "WRONG: growth $1, ${2:-serial}: status $status, '$said', ${refused:-nothing refused}"
@@ -63,7 +71,9 @@ sweep() {
     : >"$room/said"
     for number in $(seq 10000); do
         try "$number" "$1"
-        [ $failed -eq 0 ] && [ -n "$refused" ] || break
+        if [ $failed -ne 0 ] || [ -z "$refused" ]; then
+            break
+        fi
         echo "${said%%(*}" >>"$room/said"
     done
     if [ $failed -eq 0 ] && { [ -n "$refused" ] || ! grep -q Memory "$room/said" || ! grep -q Write "$room/said"; }; then
@@ -73,6 +83,21 @@ sweep() {
     echo "${1:-serial}: $(wc -l <"$room/said") growths refused: $(sort "$room/said" | uniq -c | tr -s ' \n' ' ')"
 }
 
+# refuse_threads WAY: refuses each of the three threads in turn, and then none.
+refuse_threads() {
+    local wanted number=1 words
+    read -ra words <<<"$1"
+    for wanted in 'Spawn(Lost)' 'Spawn(Unread)' 'Spawn(Unread)' Whole; do
+        said=$(timeout 60 env REFUSED_THREAD="$number" LD_PRELOAD="$room/refuse_thread.so" "$program" "${words[@]}" 2>&1)
+        if [ "$said" != "$wanted" ]; then
+            echo "WRONG: thread $number, $1: '$said' and not '$wanted'"
+            failed=1
+        fi
+        number=$((number + 1))
+    done
+    echo "$1: each thread refused"
+}
+
 failed=0
 sweep ''
 sweep mixed
@@ -80,6 +105,8 @@ for _ in $(seq "$rounds"); do
     sweep threads
     sweep 'threads mixed'
 done
+refuse_threads threads
+refuse_threads 'threads mixed'
 if [ $failed -ne 0 ]; then
     echo "refused_growths: FAILED"
     exit 1

@@ -6,8 +6,8 @@ use Rattle.fq_lane.specs.Line.{Line, with_item, with_mark}
 use Rattle.fq_lane.specs.Slots.{IsLine}
 use Rattle.fq_lane.specs.Ends.{receiver_line}
 use Rattle.fq_lane.specs.declared.slot.Slot.{Slot}
-use Rattle.fq_lane.specs.declared.rx.Taken.{Taken}
-use Rattle.fq_lane.specs.declared.rx.Taken.TheVariants.{Item, Empty, Closed}
+use Rattle.fq_lane.specs.declared.taken.Taken.{Taken}
+use Rattle.fq_lane.specs.declared.taken.Taken.TheVariants.{Item, Empty, Closed}
 use Rattle.fq_lane.specs.declared.ring.Popped.{Popped}
 use Rattle.fq_lane.specs.declared.ring.Popped.TheVariants as popped
 

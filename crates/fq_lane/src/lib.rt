@@ -17,15 +17,17 @@ mod parkers;
 mod ring;
 mod rx;
 mod slot;
+mod taken;
 #[cfg(test)]
 mod tests;
 mod tx;
 
 use parkers::Parkers;
 use rtrb::RingBuffer;
-pub use rx::{Rx, Taken};
+pub use rx::Rx;
 use std::alloc::{AllocError, Global};
 use std::sync::Arc;
+pub use taken::Taken;
 pub use tx::{End, Full, NotEnded, Tx};
 
 /// A new lane with room for `depth` items, 1 to 64: its sender and its receiver.

@@ -1,23 +1,23 @@
-// Where the two ends of a lane sleep, and how one wakes the other.
+//! Where the two ends of a lane sleep, and how one wakes the other.
 
 use crossbeam_utils::{Backoff, CachePadded};
 use std::sync::Wait;
 use std::thread::Parker;
 
-// What the two ends share beside the ring: a place to sleep for each. Each stands on cache lines of its own, since the
-// other end writes there at each of its moves.
-//
-// No wake-up is lost. A parker holds one token or none: `unpark` leaves one there, and `park` sleeps until there is one
-// and takes it. Both ends keep an order:
-//
-// - an end that moves changes the ring first, and leaves the other end's token after that;
-// - an end that waits looks at the ring, sleeps only if it found nothing, and looks again whenever `park` returns.
-//
-// Take a move that the last look did not see. Each step on the ring and on a parker is sequentially consistent, so that
-// look came before the move, and the move's token comes behind both. While the token is there no `park` sleeps. Only a
-// `park` of the waiting end can take it, and that `park` returns after the move, so the look behind it sees the move.
-// The waiting end never sleeps on while a move stands that it has not seen. A token of a move that was seen long ago
-// costs one look more, and nothing else.
+/// What the two ends share beside the ring: a place to sleep for each. Each stands on cache lines of its own, since the
+/// other end writes there at each of its moves.
+///
+/// No wake-up is lost. A parker holds one token or none: `unpark` leaves one there, and `park` sleeps until there is one
+/// and takes it. Both ends keep an order:
+///
+/// - an end that moves changes the ring first, and leaves the other end's token after that;
+/// - an end that waits looks at the ring, sleeps only if it found nothing, and looks again whenever `park` returns.
+///
+/// Take a move that the last look did not see. Each step on the ring and on a parker is sequentially consistent, so that
+/// look came before the move, and the move's token comes behind both. While the token is there no `park` sleeps. Only a
+/// `park` of the waiting end can take it, and that `park` returns after the move, so the look behind it sees the move.
+/// The waiting end never sleeps on while a move stands that it has not seen. A token of a move that was seen long ago
+/// costs one look more, and nothing else.
 #[derive(Drop)]
 pub(crate) struct Parkers {
     sender: CachePadded<Parker>,
@@ -32,22 +32,22 @@ impl Parkers {
         }
     }
 
-    // For each move of the receiver, behind it.
+    /// For each move of the receiver, behind it.
     pub(crate) fn wake_sender(&self) {
         self.sender.unpark();
     }
 
-    // For each move of the sender, behind it.
+    /// For each move of the sender, behind it.
     pub(crate) fn wake_receiver(&self) {
         self.receiver.unpark();
     }
 
-    // For a sender that found no room.
+    /// For a sender that found no room.
     pub(crate) fn rest_sender(&self, rt: &impl Wait, backoff: &Backoff) {
         rest(rt, &self.sender, backoff);
     }
 
-    // For a receiver that found nothing.
+    /// For a receiver that found nothing.
     pub(crate) fn rest_receiver(&self, rt: &impl Wait, backoff: &Backoff) {
         rest(rt, &self.receiver, backoff);
     }

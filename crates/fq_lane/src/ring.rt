@@ -1,4 +1,10 @@
-// What a lane does with its ring, said of the lines that the ring's ends stand for.
+//! What a lane does with its ring, said of the lines that the ring's ends stand for.
+//!
+//! Each move that the other end may sleep for (a push of an item or of the mark, a pop of an item) answers a witness. A
+//! witness comes only out of its move, and can't be let go: it is taken apart by waking the other end, and by nothing else.
+//! So a caller that forgets the wake-up, or makes it depend on a condition, or does it before the move alone, doesn't
+//! compile.
+
 ghost use Rattle.std.specs.Prelude.{◌≡◌, ◌<◌, false, true, IsTrue, IfSome};
 ghost use Rattle.rtrb.specs.Ring.{sent, known_free, received, all_sent};
 ghost use Rattle.fq_lane.specs.Line.{with_item, with_mark};
@@ -10,40 +16,40 @@ use crate::parkers::Parkers;
 use crate::slot::Slot;
 use rtrb::{Consumer, Finished, Producer};
 
-// A push that the receiver has to be told of. It has no `Drop`, so it can't be let go: `tell` takes it.
+/// A push that the receiver has not been woken for. It is no `Drop`: only [`Pushed::wake_receiver`] takes it apart.
 pub(crate) struct Pushed {
-    made_here: (),
+    made_by_push: (),
 }
 
 impl Pushed {
-    // Wakes the receiver.
-    pub(crate) fn tell(self, parkers: &Parkers) {
-        let Pushed { made_here: () } = self;
+    /// Wakes the receiver, behind the push.
+    pub(crate) fn wake_receiver(self, parkers: &Parkers) {
+        let Pushed { made_by_push: () } = self;
         parkers.wake_receiver();
     }
 }
 
-// A pop that the sender has to be told of. It can't be let go either.
+/// A pop that the sender has not been woken for: a slot is free. It is no `Drop`: only [`Freed::wake_sender`] takes it apart.
 pub(crate) struct Freed {
-    made_here: (),
+    made_by_pop: (),
 }
 
 impl Freed {
-    // Wakes the sender.
-    pub(crate) fn tell(self, parkers: &Parkers) {
-        let Freed { made_here: () } = self;
+    /// Wakes the sender, behind the pop.
+    pub(crate) fn wake_sender(self, parkers: &Parkers) {
+        let Freed { made_by_pop: () } = self;
         parkers.wake_sender();
     }
 }
 
-// What a pop finds.
+/// What a pop finds. The mark frees no slot that a sender could want, since the sender is closed then.
 pub(crate) enum Popped<T> {
     Item(T, Freed),
     Mark,
     Nothing,
 }
 
-// Whether a slot is free beside the one that is kept for the mark.
+/// Whether a slot is free beside the one that is kept for the mark.
 pub(crate) fn has_room<T>(producer: &mut Producer<Slot<T>>) -> bool
     requires { IsOpen producer.old }
     ensures open { IsOpen producer.new }
@@ -53,7 +59,7 @@ pub(crate) fn has_room<T>(producer: &mut Producer<Slot<T>>) -> bool
     producer.cached_slots() > 1 || producer.slots() > 1
 }
 
-// Pushes an item, beside the slot that is kept for the mark.
+/// Pushes an item, beside the slot that is kept for the mark.
 pub(crate) fn push_item<T>(producer: &mut Producer<Slot<T>>, item: T) -> Pushed
     requires open { IsOpen producer.old }
     requires room { 1 < known_free producer.old }
@@ -61,20 +67,20 @@ pub(crate) fn push_item<T>(producer: &mut Producer<Slot<T>>, item: T) -> Pushed
     ensures sent { sender_line producer.new false ≡ with_item (sender_line producer.old false) item }
 {
     producer.push_reserved(Slot::Item(item));
-    Pushed { made_here: () }
+    Pushed { made_by_push: () }
 }
 
-// Pushes the mark, into the slot that is kept for it.
+/// Pushes the mark, into the slot that is kept for it.
 pub(crate) fn push_mark<T>(producer: &mut Producer<Slot<T>>) -> Pushed
     requires { IsOpen producer.old }
     ensures marked { IsLine (sent producer.new) true }
     ensures sent { sender_line producer.new true ≡ with_mark (sender_line producer.old false) }
 {
     producer.push_reserved(Slot::Mark);
-    Pushed { made_here: () }
+    Pushed { made_by_push: () }
 }
 
-// What is left of a producer behind the mark. `None` where the consumer was dropped before.
+/// What is left of a producer behind the mark. `None` where the consumer was dropped before.
 pub(crate) fn finish<T: Drop>(producer: Producer<Slot<T>>) -> Option<Finished<Slot<T>>>
     requires { IsLine (sent producer) true }
     ensures { IfSome result (λ end. IsLine (all_sent end) true × (end_line end ≡ sender_line producer true)) }
@@ -82,19 +88,19 @@ pub(crate) fn finish<T: Drop>(producer: Producer<Slot<T>>) -> Option<Finished<Sl
     producer.finish()
 }
 
-// Pops an item or the mark, whichever is next.
+/// Pops an item or the mark, whichever is next.
 pub(crate) fn pop<T>(consumer: &mut Consumer<Slot<T>>) -> Popped<T>
     requires { IsLine (received consumer.old) false }
     ensures { Pops result consumer.old consumer.new }
 {
     match consumer.pop() {
-        Ok(Slot::Item(item)) => Popped::Item(item, Freed { made_here: () }),
+        Ok(Slot::Item(item)) => Popped::Item(item, Freed { made_by_pop: () }),
         Ok(Slot::Mark) => Popped::Mark,
         Err(_) => Popped::Nothing,
     }
 }
 
-// Looks at all that was ever sent, from behind the mark: it is what was got.
+/// Looks at all that was ever sent, from behind the mark: it is what was got.
 pub(crate) fn see_all<T: Drop>(consumer: &mut Consumer<Slot<T>>, finished: Finished<Slot<T>>)
     requires got { IsLine (received consumer.old) true }
     requires sent { IsLine (all_sent finished) true }

@@ -1,4 +1,5 @@
-// The end of a lane that receives.
+//! The end of a lane that receives.
+
 ghost use Rattle.std.specs.Prelude.{◌≡◌, [], false, true};
 ghost use Rattle.rtrb.specs.Ring.{received};
 ghost use Rattle.fq_lane.specs.Ends.{consumer_name};
@@ -7,6 +8,7 @@ ghost use Rattle.fq_lane.specs.Take.{Takes, taken_of};
 use crate::parkers::Parkers;
 use crate::ring::{self, Popped};
 use crate::slot::Slot;
+use crate::taken::Taken;
 use crate::tx::End;
 use crossbeam_utils::Backoff;
 use rtrb::Consumer;
@@ -20,6 +22,7 @@ use std::sync::{Arc, Wait};
 /// Keep it until the sender's end is there, also behind the mark: [`Tx::close`] gives an end only while it is.
 ///
 /// [`Tx::close`]: crate::Tx::close
+#[derive(Drop)]
 pub struct Rx<T: Drop> {
     consumer: Consumer<Slot<T>>,
     closed: bool,
@@ -37,17 +40,6 @@ impl<T: Drop> Model for Rx<T> {
     ghost view = { λ r. receiver_line r.consumer r.closed };
 
     ghost invariant = { λ r. IsLine (received r.consumer) r.closed };
-}
-
-/// What a receiver found.
-#[derive(Debug, Drop, PartialEq, Eq)]
-pub enum Taken<T> {
-    /// The next item.
-    Item(T),
-    /// Nothing was there. The sender may send more at any time.
-    Empty,
-    /// The mark was there, now or in an earlier call. No item comes any more.
-    Closed,
 }
 
 impl<T: Drop> Rx<T> {
@@ -74,7 +66,7 @@ impl<T: Drop> Rx<T> {
         }
         match ring::pop(&mut self.consumer) {
             Popped::Item(item, freed) => {
-                freed.tell(&self.parkers);
+                freed.wake_sender(&self.parkers);
                 Taken::Item(item)
             }
             Popped::Mark => {
@@ -88,9 +80,9 @@ impl<T: Drop> Rx<T> {
     /// Takes the next item, and waits until it is there: it spins for a short while, and then sleeps until the sender
     /// moves. `None` is the mark, and after it comes `None` for good.
     ///
-    /// No wake-up is lost. The sender leaves a token behind each push, of an item or of the mark, and behind its drop, and
-    /// this end sleeps only while there is none. So a push that the last look at the ring missed ends the sleep, and the
-    /// next look finds what was pushed.
+    /// No wake-up is lost. The sender leaves a token behind each push, of an item or of the mark, and this end sleeps only
+    /// while there is none. So a push that the last look at the ring missed ends the sleep, and the next look finds what
+    /// was pushed.
     ///
     /// Where the sender is dropped and not closed, the mark never comes, and a call on the empty lane does not return.
     pub fn take_wait(&mut self, rt: &impl Wait) -> Option<T>
@@ -124,18 +116,5 @@ impl<T: Drop> Rx<T> {
     {
         let End { finished } = end;
         ring::see_all(&mut self.consumer, finished);
-    }
-}
-
-impl<T: Drop> Drop for Rx<T> {
-    // A sender that sleeps is woken, behind the leave-taking.
-    fn drop(self) {
-        let Rx {
-            consumer,
-            closed: _,
-            parkers,
-        } = self;
-        drop(consumer);
-        parkers.wake_sender();
     }
 }

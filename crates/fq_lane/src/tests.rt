@@ -5,6 +5,7 @@ use std::sync::Wait;
 use std::test::Fail;
 use std::{hint, thread};
 
+mod model;
 mod waking;
 
 const DEPTHS: [usize; 3] = [1, 2, 64];

@@ -1,4 +1,5 @@
-// The end of a lane that sends, and what is left of it.
+//! The end of a lane that sends, and what is left of it.
+
 ghost use Rattle.std.specs.Prelude.{◌≡◌, ◌<◌, false, [], OnOk, IfOk, IfErr};
 ghost use Rattle.rtrb.specs.Ring.{sent, known_free};
 ghost use Rattle.fq_lane.specs.Line.{with_item, with_mark};
@@ -19,6 +20,7 @@ use thiserror::Error;
 ///
 /// A sender that is dropped without [`Tx::close`] leaves a lane that no mark ever comes through: what is still in it can be
 /// taken, and after that the receiver finds nothing, for good.
+#[derive(Drop)]
 pub struct Tx<T: Drop> {
     producer: Producer<Slot<T>>,
     parkers: Arc<Parkers>,
@@ -92,7 +94,7 @@ impl<T: Drop> Tx<T> {
         ensures full { IfErr result (λ refused. (refused.item ≡ item) × (self.new ≡ self.old)) }
     {
         if ring::has_room(&mut self.producer) {
-            ring::push_item(&mut self.producer, item).tell(&self.parkers);
+            ring::push_item(&mut self.producer, item).wake_receiver(&self.parkers);
             Ok(())
         } else {
             Err(Full { item })
@@ -102,8 +104,8 @@ impl<T: Drop> Tx<T> {
     /// Sends the item, and waits until the lane has room for it: it spins for a short while, and then sleeps until the
     /// receiver moves.
     ///
-    /// No wake-up is lost. The receiver leaves a token behind each pop, and behind its drop, and this end sleeps only
-    /// while there is none. So a pop that the last look at the ring missed ends the sleep, and the next look finds the room.
+    /// No wake-up is lost. The receiver leaves a token behind each pop, and this end sleeps only while there is none. So a
+    /// pop that the last look at the ring missed ends the sleep, and the next look finds the room.
     ///
     /// Where the receiver is dropped while the lane is full, room never comes, and the call does not return.
     pub fn put(&mut self, rt: &impl Wait, item: T)
@@ -136,19 +138,10 @@ impl<T: Drop> Tx<T> {
         } = self;
         let pushed = ring::push_mark(&mut producer);
         let finished = ring::finish(producer);
-        pushed.tell(&parkers);
+        pushed.wake_receiver(&parkers);
         match finished {
             Some(finished) => Ok(End { finished }),
             None => Err(NotEnded { made_by_close: () }),
         }
-    }
-}
-
-impl<T: Drop> Drop for Tx<T> {
-    // A receiver that sleeps is woken, behind the leave-taking.
-    fn drop(self) {
-        let Tx { producer, parkers } = self;
-        drop(producer);
-        parkers.wake_receiver();
     }
 }

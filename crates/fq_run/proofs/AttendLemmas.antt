@@ -9,8 +9,8 @@ use Rattle.fq_pair.specs.declared.out.Out.{Out}
 use Rattle.fq_pair.specs.declared.counts.Counts.{Counts}
 use Rattle.fq_work.specs.declared.ends.Worked.{Worked}
 use Rattle.fq_run.specs.declared.collector.Collector.{Collector}
-use Rattle.fq_run.specs.declared.dealt.Dealt.{Dealt}
-use Rattle.fq_run.specs.declared.ended.Ended.{Ended}
+use Rattle.fq_run.specs.declared.dealer.Dealt.{Dealt}
+use Rattle.fq_run.specs.declared.ending.Ended.{Ended}
 use Rattle.fq_run.specs.declared.outcome.Outcome.TheVariants as outcome
 use Rattle.fq_run.specs.declared.phase.Phase.TheVariants.{Writing}
 use Rattle.fq_run.specs.Choices.{Choices}
@@ -25,6 +25,7 @@ use Rattle.fq_run.specs.Threads.{IsFresh, Concludes, run_from, IsThreaded}
 use Rattle.fq_pair.specs.Walks.{SourceState}
 use Rattle.fq_run.specs.Walks.{feed_in}
 use Rattle.fq_run.specs.Writing.{Runs, FlushesAfter}
+use Rattle.fq_run.proofs.StartLemmas.{of_one}
 use Rattle.fq_run.proofs.RunLemmas.{run_rank, run_every, run_whole}
 use Rattle.fq_run.proofs.ThreadLemmas.{runs_threaded}
 
@@ -92,6 +93,8 @@ module _ {S : Type 0} (state : S → SourceState) (c : Choices) (s : SourceState
     no_other = λ there. absurd cc;
     forward = λ gone. absurd (forward_there gone);
     reverse = λ gone. absurd (reverse_there gone);
+    together = of_one forward_of reverse_of ending.source;
+    untouched = λ at. absurd (let r = rank_is none in let e = ap rank at in omega arith);
     whole = whole_is none;
     every = λ sound. every_is none;
   }
@@ -103,6 +106,8 @@ module _ {S : Type 0} (state : S → SourceState) (c : Choices) (s : SourceState
         no_other = λ u. lane;
         forward = λ gone. absurd (forward_there gone);
         reverse = λ gone. absurd (reverse_there gone);
+        together = of_one forward_of reverse_of ending.source;
+        untouched = λ at. absurd (let e = sym lane ∙ at in cc);
         whole = λ ends_so told. absurd (let e : IsTrue false = subst IsTrue (ap ends_whole lane) ends_so in cc);
         every = λ sound. absurd (sound lane);
       }

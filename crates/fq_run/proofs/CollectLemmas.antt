@@ -1,11 +1,10 @@
 -- How a collector changes when it takes a reply.
 use Rattle.std.proofs.Common.{◌≡◌, ℕ, suc, ◌<◌, ◌%◌, Some, None, List, [], ◌∷◌, ◌++◌, length, map, refl, sym, ap, ◌∙◌, arith, subst, append_assoc}
-use Rattle.std.proofs.Math.Nat.{zero-mod}
 use Rattle.std.proofs.lemmas.Nat.{mod_below}
 use Rattle.std.proofs.lemmas.List.{append-nil, length-map, map-append}
 use Rattle.fq_lane.specs.Line.{Line}
-use Rattle.fq_lane.specs.declared.rx.Taken.{Taken}
-use Rattle.fq_lane.specs.declared.rx.Taken.TheVariants.{Item, Closed}
+use Rattle.fq_lane.specs.declared.taken.Taken.{Taken}
+use Rattle.fq_lane.specs.declared.taken.Taken.TheVariants.{Item, Closed}
 use Rattle.fq_pair.specs.declared.out.Out.{Out}
 use Rattle.fq_pair.specs.declared.counts.Counts.{Counts}
 use Rattle.fq_pair.specs.Outputs.{text_of, no_counts}
@@ -27,7 +26,7 @@ use Rattle.fq_run.specs.declared.phase.Phase.{Phase}
 use Rattle.fq_run.specs.declared.phase.Phase.TheVariants.{Writing, Ended, Stopped, WriteFailed}
 use Rattle.fq_run.proofs.DealLemmas.{turn_more}
 use Rattle.fq_run.proofs.LaneLemmas.{dealt_item, ended_closed, ended_takes, begun_takes, takes_length, takes_names}
-use Rattle.fq_run.proofs.OutletLemmas.{all_took_none, all_took_then, all_took_same, still_healthy}
+use Rattle.fq_run.proofs.OutletLemmas.{all_took_then, all_took_same, still_healthy}
 use Rattle.fq_run.proofs.StopLemmas.{heard_at, stops_taken}
 use Rattle.fq_run.proofs.TurnLemmas.{begun_gather, ended_gather}
 

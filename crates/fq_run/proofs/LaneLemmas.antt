@@ -1,13 +1,13 @@
 -- How the lanes change when one of them does.
 use Rattle.std.proofs.Common.{◌≡◌, ℕ, zero, suc, ◌<◌, ◌%◌, true, List, [], ◌∷◌, ◌++◌, length, get_or, refl, sym, ap, ◌∙◌, arith, append_assoc, subst, inl, inr, get_or-set_other, Result, Ok, Err, OnOk, IfErr}
 use Rattle.std.proofs.Math.ListN.{set, length-set}
-use Rattle.std.proofs.lemmas.List.{append-nil, get_or-set_same, get_or_default, set-get_or}
+use Rattle.std.proofs.lemmas.List.{append-nil, get_or-set_same, get_or_default}
 use Rattle.std.proofs.lemmas.Bool.{cases_eq}
 use mathlib.Core.List.{IsPrefix}
 use Rattle.fq_lane.specs.Line.{Line, with_item, with_mark}
 use Rattle.fq_lane.specs.Take.{Takes}
-use Rattle.fq_lane.specs.declared.rx.Taken.{Taken}
-use Rattle.fq_lane.specs.declared.rx.Taken.TheVariants.{Item, Empty, Closed}
+use Rattle.fq_lane.specs.declared.taken.Taken.{Taken}
+use Rattle.fq_lane.specs.declared.taken.Taken.TheVariants.{Item, Empty, Closed}
 use Rattle.fq_run.specs.Dealing.{every}
 use Rattle.fq_run.specs.Lanes.{names_of, IsDealt, IsEnded, IsBegun, TakesAt}
 use Rattle.fq_run.proofs.DealLemmas.{every_here, every_there}

@@ -1,5 +1,5 @@
 -- From the feeds to the outlets.
-use Rattle.std.proofs.Common.{◌≡◌, Option, Some, None, [], ◌++◌, refl, sym, subst, arith}
+use Rattle.std.proofs.Common.{◌≡◌, Option, Some, None, [], ◌++◌, refl, sym, subst}
 use Rattle.fq_pair.specs.declared.out.Out.{Out}
 use Rattle.fq_pair.specs.declared.counts.Counts.{Counts}
 use Rattle.fq_pair.specs.Outputs.{text_of, texts_of, no_counts}
@@ -11,7 +11,7 @@ use Rattle.fq_run.specs.Choices.{Choices}
 use Rattle.fq_run.specs.Devices.{FeedState, OutletStates}
 use Rattle.fq_run.specs.Fates.{Unbroken}
 use Rattle.fq_pair.specs.Forms.{Form}
-use Rattle.fq_pair.specs.Walks.{SourceState, GoesOn}
+use Rattle.fq_pair.specs.Walks.{SourceState}
 use Rattle.fq_run.specs.Walks.{fresh_source, feed_in}
 use Rattle.fq_run.specs.Writing.{no_halt, Passes, Runs}
 use Rattle.fq_run.proofs.OutletLemmas.{all_took_none, all_took_same}

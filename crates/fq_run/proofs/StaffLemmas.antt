@@ -16,7 +16,7 @@ use Rattle.fq_run.specs.Crews.{fresh, Laid, Seated, Joined, CanConfirm, Confirme
 use Rattle.fq_run.specs.Dealt.{Closed}
 use Rattle.fq_run.specs.Each.{Each3}
 use Rattle.fq_run.specs.Lanes.{names_of, IsDealt, AllClosed}
-use Rattle.fq_run.specs.declared.job.Job.{Job}
+use Rattle.fq_run.specs.declared.crew.Job.{Job}
 use Rattle.fq_run.proofs.CrewLemmas.{weaker}
 
 -- Lanes as they are made.

@@ -1,46 +1,70 @@
 -- A run whose threads were not all started.
-use Rattle.std.proofs.Common.{◌≡◌, Option, Some, None, false, IsTrue, Result, List, [], ◌++◌, refl, sym, ap, ◌∙◌, subst, arith}
+use Rattle.std.proofs.Common.{◌≡◌, ◌↔◌, Option, Some, None, IfSome, false, IsTrue, Result, ℕ, ◌-◌, ◌<◌, List, [], ◌∷◌, ◌++◌, length, take, refl, sym, ap, ◌∙◌, subst, arith}
 use Rattle.fq_lane.specs.Line.{Line}
 use Rattle.fq_lane.specs.declared.tx.NotEnded.{NotEnded}
 use Rattle.fq_block.specs.Blocks.{Numbered}
 use Rattle.fq_pair.specs.declared.out.Out.{Out}
-use Rattle.fq_pair.specs.declared.side.Side.TheVariants.{Forward, Reverse}
 use Rattle.fq_pair.specs.Outputs.{text_of, texts_of, no_counts}
 use Rattle.fq_run.specs.declared.outcome.Outcome.{Outcome}
 use Rattle.fq_run.specs.declared.outcome.Outcome.TheVariants as outcome
 use Rattle.fq_run.specs.declared.reading.Stop.{Stop}
 use Rattle.fq_run.specs.Choices.{Choices}
-use Rattle.fq_run.specs.Dealt.{Deals}
+use Rattle.fq_run.specs.Dealt.{HasDealt}
 use Rattle.fq_run.specs.Devices.{FeedState, OutletStates, OutletsTook}
-use Rattle.fq_run.specs.Endings.{Run, all_pairs, ends_whole, IsHandedBack, EveryEnding}
+use Rattle.fq_run.specs.Endings.{Run, all_pairs, ends_whole, IsHandedBack, IsUntouched, EveryEnding}
 use Rattle.fq_run.specs.Fates.{Unbroken}
 use Rattle.fq_run.specs.Outcomes.{rank}
 use Rattle.std.specs.Option.{option_map}
-use Rattle.fq_run.specs.Threads.{IsFresh, IsThreaded, run_from}
-use Rattle.fq_run.specs.declared.ended.Ended.{Ended}
+use Rattle.fq_run.specs.Threads.{IsThreaded, run_from}
+use Rattle.fq_run.specs.declared.ending.Ended.{Ended}
 use Rattle.fq_pair.specs.Forms.{Form}
 use Rattle.fq_pair.specs.Walks.{SourceState}
-use Rattle.fq_run.specs.Walks.{Reads, fresh_source, feed_in}
+use Rattle.fq_run.specs.Walks.{fresh_source, feed_in}
 use Rattle.fq_run.proofs.OutletLemmas.{all_took_none, all_took_same}
-use Rattle.fq_run.proofs.ReadingLemmas.{failed_by, fed_back, reads_forward, reads_reverse}
 use Rattle.fq_run.proofs.TextLemmas.{no_text}
-use Rattle.fq_run.proofs.VerdictLemmas.{failed_once}
 use Rattle.fq_run.proofs.PassLemmas.{runs_refused}
 use Rattle.fq_run.proofs.RunLemmas.{run_every}
 use Rattle.fq_run.specs.declared.reading.Stop.TheVariants as stop
 use Rattle.fq_run.specs.Writing.{FlushesAfter, no_halt}
 use Rattle.fq_pair.specs.declared.counts.Counts.{Counts}
 
--- what the dealer hands back of its feeds
-pub handed_back : (c : Choices) (s old new : SourceState) → IsFresh c s → old ≡ s → (c' : Choices) (to : List (Line Numbered)) (closings : List (Result (Line Numbered) NotEnded)) (why : Option Stop) →
-    Deals c' old new to closings why → IsHandedBack (feed_in s.forward) (Some (feed_in new.forward)) × IsHandedBack (feed_in s.reverse) (Some (feed_in new.reverse))
-handed_back c s old new fresh same c' to closings why d =
-    let x = feed_in s.forward in let y = feed_in s.reverse in
-    let P : SourceState → Type 0 = λ t. Reads t new d.mates why in
-    let reads : Reads (fresh_source s.form c x y) new d.mates why = subst P (same ∙ fresh.fresh) d.reads in (
-      (failed_by s.form Forward why, failed_once s.form Forward why, fed_back c x new.forward _ (reads_forward s.form c x y new d.mates why reads)),
-      (failed_by s.form Reverse why, failed_once s.form Reverse why, fed_back c y new.reverse _ (reads_reverse s.form c x y new d.mates why reads)),
-    )
+-- two things of one source are there, or neither is
+pub of_one : {S A B : Type 0} (f : S → A) (h : S → B) (o : Option S) → (option_map f o ≡ None) ↔ (option_map h o ≡ None)
+of_one f h None = (λ gone. refl, λ gone. refl)
+of_one f h (Some x) = (λ gone. absurd cc, λ gone. absurd cc)
+
+-- a source that is what it was has feeds that are what they were
+pub unread : {S : Type 0} (state : S → SourceState) (s : SourceState) (o : Option S) → IfSome o (λ x. state x ≡ s) →
+    IfSome (option_map (λ x. feed_in (state x).forward) o) (λ left. left ≡ feed_in s.forward) × IfSome (option_map (λ x. feed_in (state x).reverse) o) (λ left. left ≡ feed_in s.reverse)
+unread state s None same = (tt, tt)
+unread state s (Some x) same = (ap (λ z. feed_in z.forward) same, ap (λ z. feed_in z.reverse) same)
+
+no_items : {T : Type 0} (xs : List T) → (0 < length xs → ⊥) → xs ≡ []
+no_items [] none = refl
+no_items (x ∷ xs) none = absurd (none (omega arith))
+
+-- a dealer that has not come to a stop had no start, and has not read
+pub idle : {S : Type 0} (state : S → SourceState) (c : Choices) (s old new : SourceState) (start start_left : Line (Unit {0})) (to : List (Line Numbered)) (closings : List (Result (Line Numbered) NotEnded)) (why : Option Stop) (x : S) (o : Option S) →
+    old ≡ s → state x ≡ new → HasDealt c old new start start_left to closings why → IfSome o (λ y. (y ≡ x) × (why ≡ None)) → IfSome o (λ y. state y ≡ s)
+idle state c s old new start start_left to closings why x None same is h unread = tt
+idle state c s old new start start_left to closings why x (Some y) same is h unread =
+    let none = no_items start_left.items (λ some. h.started some unread.1) in
+    ap state unread.0 ∙ is ∙ (h.idle none).1 ∙ same
+
+-- a side that lacks its feed lacks it before its state is asked
+pub none_of : {A B : Type 0} (f : A → B) (a : Option A) → option_map f a ≡ None → a ≡ None
+none_of f None is = refl
+none_of f (Some x) is = absurd cc
+
+-- and they gave nothing
+gave_nothing : (n : ℕ) (xs : List ℕ) → take (n - n) xs ++ xs ≡ xs
+gave_nothing n xs = let e : n - n ≡ 0 = omega arith in rw e refl
+
+back_as_it_was : (old : FeedState) (left : Option FeedState) → IfSome left (λ x. x ≡ old) → IsHandedBack old left
+back_as_it_was old None same = tt
+back_as_it_was old (Some new) same =
+    let P : FeedState → Type 0 = λ x. IsHandedBack old (Some x) in
+    subst P (sym same) (0, omega arith, record { told = refl; bytes = λ tells. sym (gave_nothing (length old.to_come) old.to_come); failures = omega arith })
 
 -- the outcome of a run in which a thread was refused is none of the others
 apart : (run : Run) → run.outcome ≡ outcome.Spawn → (o : Outcome) → (rank o ≡ 1 → ⊥) → run.outcome ≡ o → ⊥
@@ -49,14 +73,14 @@ apart run e o other is = other (sym (ap rank is) ∙ ap rank e)
 partial : (run : Run) → run.outcome ≡ outcome.Spawn → IsTrue (ends_whole run.outcome) → ⊥
 partial run is whole = let e : IsTrue false = subst IsTrue (ap ends_whole is) whole in absurd cc
 
-module _ (c : Choices) (run : Run) (e : run.outcome ≡ outcome.Spawn) (none : run.counts ≡ no_counts) (same : run.outlets_left ≡ run.outlets) (f : IsHandedBack run.forward run.forward_left) (r : IsHandedBack run.reverse run.reverse_left) where
+module _ (c : Choices) (run : Run) (e : run.outcome ≡ outcome.Spawn) (none : run.counts ≡ no_counts) (same : IsUntouched run) (both : (run.forward_left ≡ None) ↔ (run.reverse_left ≡ None)) where
   nothing : (out : Out) → text_of out (texts_of c.steps []) ++ [] ≡ []
   nothing out = let q = no_text c.steps out in rw q refl
 
   unwritten : OutletsTook run.outlets run.outlets_left (λ out. text_of out (texts_of c.steps []) ++ []) None
   unwritten =
       let P : OutletStates → Type 0 = λ o. OutletsTook run.outlets o (λ out. text_of out (texts_of c.steps []) ++ []) None in
-      subst P (sym same) (all_took_same run.outlets run.outlets (λ out. []) _ None (λ out. sym (nothing out)) (all_took_none run.outlets))
+      subst P (sym same.outlets) (all_took_same run.outlets run.outlets (λ out. []) _ None (λ out. sym (nothing out)) (all_took_none run.outlets))
 
   every : EveryEnding c run
   every = record {
@@ -66,8 +90,8 @@ module _ (c : Choices) (run : Run) (e : run.outcome ≡ outcome.Spawn) (none : r
     took = unwritten;
     cut_short = tt;
     first = λ told. ((all_pairs c run).mates, refl);
-    forward = f;
-    reverse = r;
+    forward = back_as_it_was run.forward run.forward_left same.forward;
+    reverse = back_as_it_was run.reverse run.reverse_left same.reverse;
     outcome = record {
       spawn = λ at. refl;
       write = λ out at. absurd (apart run e (outcome.Write out) (λ q. cc) at);
@@ -87,6 +111,8 @@ module _ (c : Choices) (run : Run) (e : run.outcome ≡ outcome.Spawn) (none : r
     no_other = λ some. absurd cc;
     forward = λ gone. e;
     reverse = λ gone. e;
+    together = both;
+    untouched = λ at. same;
     whole = λ ends told. absurd (partial run e ends);
     every = λ sound. every;
   }
@@ -101,6 +127,8 @@ refused form c f r f' r' before after counted failed same also none flushed soun
       no_other = λ some. absurd cc;
       forward = λ gone. absurd cc;
       reverse = λ gone. absurd cc;
+      together = (λ gone. absurd cc, λ gone. absurd cc);
+      untouched = λ at. absurd cc;
       whole = λ ends told. absurd cc;
       every = λ lane. run_every form c f r f' r' before before counted no_halt (Some stop.Memory) None p after failed outcome.Memory flushed refl sound sound';
     }

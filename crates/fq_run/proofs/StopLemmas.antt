@@ -5,8 +5,8 @@ use Rattle.std.proofs.Math.ListN.{set}
 use Rattle.std.proofs.lemmas.List.Folds.{list_any-append}
 use Rattle.std.specs.List.{list_any}
 use Rattle.fq_lane.specs.Line.{Line}
-use Rattle.fq_lane.specs.declared.rx.Taken.{Taken}
-use Rattle.fq_lane.specs.declared.rx.Taken.TheVariants.{Item, Empty, Closed}
+use Rattle.fq_lane.specs.declared.taken.Taken.{Taken}
+use Rattle.fq_lane.specs.declared.taken.Taken.TheVariants.{Item, Empty, Closed}
 use Rattle.fq_work.specs.declared.reply.Cause.{Cause}
 use Rattle.fq_work.specs.declared.reply.Cause.TheVariants.{Gate, Memory}
 use Rattle.fq_work.specs.declared.reply.Reply.{Reply}

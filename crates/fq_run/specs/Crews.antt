@@ -12,7 +12,7 @@ use Rattle.fq_work.specs.declared.ends.Worked.{Worked}
 use Rattle.fq_work.specs.declared.reply.Cause.{Cause}
 use Rattle.fq_work.specs.declared.reply.Reply.{Reply}
 use Rattle.fq_run.specs.Each.{Each3}
-use Rattle.fq_run.specs.declared.job.Job.{Job}
+use Rattle.fq_run.specs.declared.crew.Job.{Job}
 use Rattle.fq_run.specs.declared.seats.Seats.{Seats}
 
 -- a lane as it is made

@@ -1,5 +1,5 @@
 -- What a run promises, however it ends.
-use Rattle.std.specs.Prelude.{◌≡◌, ℕ, ◌<◌, ◌≤◌, ◌⊎◌, Bool, true, false, IsTrue, Option, Some, None, List, [], ◌++◌, length}
+use Rattle.std.specs.Prelude.{◌≡◌, ℕ, ◌<◌, ◌≤◌, ◌⊎◌, Bool, true, false, IsTrue, Option, Some, None, IfSome, List, [], ◌++◌, length}
 use Rattle.std.specs.Option.{option_map}
 use Rattle.fq_text.specs.Lines.{whole_part}
 use Rattle.fq_pair.specs.declared.out.Out.{Out}
@@ -87,6 +87,12 @@ abbrev pub ends_whole : Outcome → Bool
 ends_whole (outcome.Input fault) = true
 ends_whole outcome.Finished = true
 ends_whole _ = false
+
+-- nothing was read or written: the outlets are as they were, and so is each feed that came back
+pub record IsUntouched (run : Run) : Type 0 where
+  pub outlets : run.outlets_left ≡ run.outlets
+  pub forward : IfSome run.forward_left (λ left. left ≡ run.forward)
+  pub reverse : IfSome run.reverse_left (λ left. left ≡ run.reverse)
 
 -- Every ending.
 

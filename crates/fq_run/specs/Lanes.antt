@@ -3,7 +3,7 @@ use Rattle.std.specs.Prelude.{◌≡◌, ℕ, ◌<◌, ◌%◌, true, List, leng
 use mathlib.Core.List.{IsPrefix}
 use Rattle.fq_lane.specs.Line.{Line, Name}
 use Rattle.fq_lane.specs.Take.{Takes}
-use Rattle.fq_lane.specs.declared.rx.Taken.{Taken}
+use Rattle.fq_lane.specs.declared.taken.Taken.{Taken}
 use Rattle.fq_run.specs.Dealing.{every}
 
 module _ {T : Type 0} where

@@ -1,5 +1,5 @@
 -- A run on several threads: what is ready before its threads, how it is concluded, and what it promises.
-use Rattle.std.specs.Prelude.{◌≡◌, ◌≤◌, ◌<◌, ℕ, IsTrue, Option, Some, None, IfSome, IsSome, Result, IsOkAnd, List, [], length, vec_len, vec_capacity}
+use Rattle.std.specs.Prelude.{◌≡◌, ◌≤◌, ◌<◌, ℕ, IsTrue, ◌↔◌, Option, Some, None, IfSome, IsSome, Result, IsOkAnd, List, [], length, vec_len, vec_capacity}
 use Rattle.std.specs.List.{AllZip}
 use Rattle.std.specs.Option.{option_map}
 use Rattle.fq_lane.specs.declared.tx.NotEnded.{NotEnded}
@@ -12,19 +12,19 @@ use Rattle.fq_run.specs.Choices.{Choices}
 use Rattle.fq_run.specs.Crews.{fresh, Laid, IsLaid, AreFor, Seated, Confirmed}
 use Rattle.fq_run.specs.Devices.{OutletStates}
 use Rattle.fq_run.specs.Each.{Each3}
-use Rattle.fq_run.specs.Endings.{Run, AreTold, ends_whole, IsTrimmed, EveryEnding}
+use Rattle.fq_run.specs.Endings.{Run, AreTold, ends_whole, IsTrimmed, IsUntouched, EveryEnding}
 use Rattle.fq_run.specs.Outcomes.{outcome_of}
 use Rattle.fq_pair.specs.Walks.{SourceState}
 use Rattle.fq_run.specs.Walks.{fresh_source, feed_in}
 use Rattle.fq_run.specs.Writing.{occurred}
 use Rattle.fq_run.specs.declared.collector.Collector.{Collector}
 use Rattle.fq_run.specs.declared.dealer.Dealer.{Dealer}
-use Rattle.fq_run.specs.declared.dealt.Dealt.{Dealt}
-use Rattle.fq_run.specs.declared.ended.Ended.{Ended}
+use Rattle.fq_run.specs.declared.dealer.Dealt.{Dealt}
+use Rattle.fq_run.specs.declared.ending.Ended.{Ended}
 use Rattle.fq_run.specs.declared.outcome.Outcome.TheVariants as outcome
-use Rattle.fq_run.specs.declared.ready.Lanes.{Lanes}
-use Rattle.fq_run.specs.declared.ready.Ready.{Ready}
-use Rattle.fq_run.specs.declared.staff.Crew.{Crew}
+use Rattle.fq_run.specs.declared.seats.Lanes.{Lanes}
+use Rattle.fq_run.specs.declared.seats.Ready.{Ready}
+use Rattle.fq_run.specs.declared.crew.Crew.{Crew}
 
 -- the lanes of so many workers and the start lane are as they are made, and there is room for what is handed back
 pub record AreLaidOut (workers : ℕ) (lanes : Lanes) : Type 0 where
@@ -92,11 +92,14 @@ run_from state s before after ending = record {
 }
 
 -- What a run on several threads promises: a lane that could not be confirmed is answered, and nothing else as Lane; a feed is lost where a
--- thread was refused; where the run ends whole it has trimmed all pairs; and what holds at every other ending.
+-- thread was refused, and only with the other one; where a thread was refused nothing was read or written; where the run ends whole it
+-- has trimmed all pairs; and what holds at every other ending.
 pub record IsThreaded (c : Choices) (run : Run) (unended : Option NotEnded) : Type 0 where
   pub lane : run.outcome ≡ outcome.Lane → IsSome unended
   pub no_other : IsSome unended → run.outcome ≡ outcome.Lane
   pub forward : run.forward_left ≡ None → run.outcome ≡ outcome.Spawn
   pub reverse : run.reverse_left ≡ None → run.outcome ≡ outcome.Spawn
+  pub together : (run.forward_left ≡ None) ↔ (run.reverse_left ≡ None)
+  pub untouched : run.outcome ≡ outcome.Spawn → IsUntouched run
   pub whole : IsTrue (ends_whole run.outcome) → AreTold run → IsTrimmed c run
   pub every : (run.outcome ≡ outcome.Lane → ⊥) → EveryEnding c run

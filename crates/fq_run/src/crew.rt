@@ -6,18 +6,45 @@ ghost use Rattle.fq_run.specs.Crews.{Seated, Joined};
 ghost use Rattle.fq_run.specs.Lanes.{IsDealt};
 ghost use Rattle.fq_pair.specs.Walks.{GoesOn};
 
-use crate::dealer::{Dealer, deal};
-use crate::dealing::Dealing;
-use crate::dealt::Dealt;
-use crate::job::Job;
+use crate::dealer::{Dealer, Dealing, Dealt, deal};
 use crate::settings::Settings;
+use fq_block::Block;
+use fq_lane::{Rx, Tx};
 use fq_pair::PairReader;
-use fq_work::{Gate, WorkEnds, Worked, work};
+use fq_trim::Steps;
+use fq_work::{Gate, Reply, WorkEnds, Worked, work};
 use std::alloc::Global;
 use std::snapshot::Snapshot;
 use std::sync::{Arc, Wait};
 use std::thread;
-use std::thread::{PromisedHandle, Threads};
+use std::thread::{Promise, PromisedHandle, Threads};
+
+/// The steps and the two lanes that a worker is started with, which say what its join gives.
+#[derive(Drop)]
+pub(crate) struct Job {
+    pub(crate) steps: Steps,
+    pub(crate) rx: Snapshot<Rx<Block>>,
+    pub(crate) tx: Snapshot<Tx<Reply>>,
+}
+
+impl Promise<Worked> for Job {
+    ghost use Rattle.fq_work.specs.Work.{IsWork};
+
+    ghost kept_by = { λ job worked. IsWork job.steps job.rx.value job.tx.value worked };
+}
+
+/// The threads of a run, which wait for the start.
+#[derive(Drop)]
+pub(crate) struct Crew<S: PairReader> {
+    /// The sender of the start lane.
+    pub(crate) starter: Tx<()>,
+    /// The dealer.
+    pub(crate) dealer: PromisedHandle<Dealt<S>, Dealing<S>>,
+    /// The workers.
+    pub(crate) hands: Vec<PromisedHandle<Worked, Job>>,
+    /// Room for what the workers hand back.
+    pub(crate) worked: Vec<Worked>,
+}
 
 /// Starts the dealer. `None` where its thread was refused, and the source is then lost.
 pub(crate) fn start_dealer<

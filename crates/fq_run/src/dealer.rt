@@ -1,6 +1,6 @@
 //! The thread of a run that reads.
 
-ghost use Rattle.std.specs.Prelude.{◌≡◌, ◌≤◌, ◌<◌, ◌^◌, true, Some, None, [], length, vec_len, vec_capacity};
+ghost use Rattle.std.specs.Prelude.{◌≡◌, ◌≤◌, ◌<◌, ◌^◌, true, Some, None, IfSome, [], length, vec_len, vec_capacity};
 ghost use Rattle.std.specs.List.{AllZip};
 ghost use Rattle.fq_run.specs.DealingOut.{DealsOut};
 ghost use Rattle.fq_run.specs.Dealt.{HasDealt, Closed};
@@ -8,7 +8,6 @@ ghost use Rattle.fq_run.specs.Filling.{SendsFilled};
 ghost use Rattle.fq_run.specs.Lanes.{names_of, IsDealt};
 ghost use Rattle.fq_pair.specs.Walks.{GoesOn};
 
-use crate::dealt::Dealt;
 use crate::filling::fill;
 use crate::lanes::{next_turn, put_at};
 use crate::reading::Stop;
@@ -18,7 +17,9 @@ use fq_lane::{End, NotEnded, Rx, Taken, Tx};
 use fq_pair::PairReader;
 use fq_text::Encoding;
 use std::alloc::Global;
+use std::snapshot::Snapshot;
 use std::sync::Wait;
+use std::thread::Promise;
 
 /// What a dealer works with.
 #[derive(Drop)]
@@ -33,6 +34,49 @@ pub(crate) struct Dealer<S> {
     pub(crate) blocks_back: Vec<Rx<Block>>,
     /// Room for the ends of the lanes of blocks.
     pub(crate) closings: Vec<Result<End<Block>, NotEnded>>,
+}
+
+/// What is left of a dealer: what is needed to confirm its lanes, how the reading ended, and the source as it stands.
+#[derive(Drop)]
+pub(crate) struct Dealt<S> {
+    /// The receiver of the start lane, which has come to the mark.
+    pub(crate) start: Rx<()>,
+    /// The ends of the lanes of blocks, worker for worker.
+    pub(crate) closings: Vec<Result<End<Block>, NotEnded>>,
+    /// Why no further pair was read. `None` where there was no start.
+    pub(crate) stop: Option<Stop>,
+    /// The pairs that are left.
+    pub(crate) source: S,
+}
+
+impl<S: Drop> Dealt<S> {
+    /// The source of a dealer that had no start, which has read nothing. `None` where it had one.
+    pub(crate) fn into_unread(self) -> Option<S>
+        ensures { IfSome result (λ source. (source ≡ self.source) × (self.stop ≡ None)) }
+    {
+        let Dealt { stop, source, .. } = self;
+        match stop {
+            None => Some(source),
+            Some(_) => None,
+        }
+    }
+}
+
+/// The settings, the start lane, the lanes of blocks and the pairs that a dealer is started with, which say what its join
+/// gives.
+#[derive(Drop)]
+pub(crate) struct Dealing<S> {
+    pub(crate) settings: Settings,
+    pub(crate) start: Snapshot<Rx<()>>,
+    pub(crate) to: Snapshot<Vec<Tx<Block>>>,
+    pub(crate) source: Snapshot<S>,
+}
+
+impl<S: PairReader> Promise<Dealt<S>> for Dealing<S> {
+    ghost use Rattle.fq_run.specs.Dealt.{HasDealt};
+
+    ghost kept_by = { λ dealing dealt. HasDealt dealing.settings (S.state dealing.source.value) (S.state dealt.source)
+        dealing.start.value dealt.start dealing.to.value.items dealt.closings.items dealt.stop };
 }
 
 /// Waits for the start, reads all pairs, deals them out in blocks, in turn, and closes all lanes. Without a start it reads

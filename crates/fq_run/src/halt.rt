@@ -1,5 +1,7 @@
 //! Why workers have stopped.
 
+use fq_work::Cause;
+
 /// Why workers have stopped before the last of their blocks, if any has.
 #[derive(Clone, Copy, Debug, PartialEq, Eq)]
 pub(crate) struct Halt {
@@ -15,4 +17,20 @@ impl Halt {
         gate: false,
         memory: false,
     };
+
+    ghost use Rattle.std.specs.Prelude.{◌≡◌};
+    ghost use Rattle.fq_run.specs.Stops.{with_stop};
+
+    /// The same with one stop more.
+    pub(crate) fn with(self, cause: Cause) -> Halt
+        ensures { result ≡ with_stop cause self }
+    {
+        match cause {
+            Cause::Gate => Halt { gate: true, ..self },
+            Cause::Memory => Halt {
+                memory: true,
+                ..self
+            },
+        }
+    }
 }

@@ -6,11 +6,10 @@ ghost use Rattle.fq_pair.specs.Forms.{OneText};
 ghost use Rattle.fq_run.specs.Devices.{feed_state, outlet_states, AreHealthy};
 ghost use Rattle.fq_run.specs.Writing.{Runs, no_halt};
 ghost use Rattle.fq_run.specs.Outcomes.{rank};
-ghost use Rattle.fq_run.specs.Endings.{mixed_run_of, AreTold, ends_whole, IsTrimmed, EveryEnding};
+ghost use Rattle.fq_run.specs.Endings.{mixed_run_of, AreTold, ends_whole, IsTrimmed, IsUntouched, EveryEnding};
 ghost use Rattle.fq_run.specs.Threads.{IsThreaded};
 
-use crate::ended::{Ended, nothing_counted};
-use crate::ending::MixedEnding;
+use crate::ending::{Ended, MixedEnding, nothing_counted};
 use crate::halt::Halt;
 use crate::opening::open_mixed;
 use crate::outcome::{Occurred, Outcome};
@@ -116,6 +115,9 @@ pub fn run_threads_mixed<
     ensures lane { result.outcome ≡ Outcome.Lane → IsSome result.unended }
     ensures no_other { IsSome result.unended → result.outcome ≡ Outcome.Lane }
     ensures feed { result.feed ≡ None → result.outcome ≡ Outcome.Spawn }
+    // Where a thread was refused the outlets are as they were, and so is the feed where it comes back.
+    ensures untouched { result.outcome ≡ Outcome.Spawn → IsUntouched
+        (mixed_run_of (feed_state F.tells F.to_come F.failure_count) (outlet_states O.tells O.taken O.failure_count) feed outlets.old outlets.new result) }
     // Where the run ends whole, it has trimmed all pairs one after the other, up to the end of the input or its fault.
     ensures whole { let run = mixed_run_of (feed_state F.tells F.to_come F.failure_count) (outlet_states O.tells O.taken O.failure_count) feed outlets.old outlets.new result in
         IsTrue (ends_whole run.outcome) → AreTold run → IsTrimmed settings.now run }

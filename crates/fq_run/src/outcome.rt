@@ -13,7 +13,7 @@ use fq_text::TextFault;
 /// A run ends whole at `Input` and `Finished`: all pairs before the end of the input or its fault are then written.
 #[derive(Clone, Copy, Debug, PartialEq, Eq)]
 pub enum Outcome {
-    /// A thread couldn't be started. Nothing was read or written.
+    /// A thread couldn't be started. Nothing was written, and nothing was read from the feeds that come back.
     Spawn,
     /// A lane between threads couldn't be confirmed.
     Lane,

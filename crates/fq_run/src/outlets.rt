@@ -1,8 +1,12 @@
 //! The outlets that a run writes to.
 
-use crate::sending::{flush_one, send_to};
+ghost use Rattle.std.specs.Prelude.{◌≡◌};
+ghost use Rattle.fq_pair.specs.Outputs.{text_of};
+ghost use Rattle.fq_run.specs.Devices.{outlet_state};
+ghost use Rattle.fq_run.specs.Sending.{SendsTo, FlushesOne};
+
 use fq_pair::{Out, Texts};
-use fq_text::Outlet;
+use fq_text::{Outlet, send};
 
 /// Where the texts of a run go.
 #[derive(Drop)]
@@ -67,5 +71,27 @@ impl<O: Outlet> Outlets<O> {
             Some(out) => Some(out),
             None => self.flush().err(),
         }
+    }
+}
+
+// Sends one of the texts to its outlet.
+fn send_to<O: Outlet>(outlet: &mut O, texts: &Texts, out: Out) -> Result<(), Out>
+    requires { O.failure_count outlet.old ≡ 0 }
+    ensures { SendsTo (outlet_state O.tells O.taken O.failure_count outlet.old) (outlet_state O.tells O.taken O.failure_count outlet.new) (text_of out texts.now) out result }
+{
+    match send(outlet, texts.text(out)) {
+        Ok(()) => Ok(()),
+        Err(_) => Err(out),
+    }
+}
+
+// Flushes one outlet.
+fn flush_one<O: Outlet>(outlet: &mut O, out: Out) -> Result<(), Out>
+    requires { O.failure_count outlet.old ≡ 0 }
+    ensures { FlushesOne (outlet_state O.tells O.taken O.failure_count outlet.old) (outlet_state O.tells O.taken O.failure_count outlet.new) out result }
+{
+    match outlet.flush() {
+        Ok(()) => Ok(()),
+        Err(_) => Err(out),
     }
 }

@@ -9,8 +9,7 @@ ghost use Rattle.fq_run.specs.Walks.{fresh_source};
 
 use crate::dealer::Dealer;
 use crate::opening::{open, open_mixed};
-use crate::ready::{Lanes, Ready};
-use crate::seats::{Seats, lay};
+use crate::seats::{Lanes, Ready, Seats, lay};
 use crate::settings::Settings;
 use fq_lane::lane;
 use fq_pair::{MixedSource, PairSource};

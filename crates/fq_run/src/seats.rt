@@ -3,12 +3,14 @@
 ghost use Rattle.std.specs.Prelude.{◌≡◌, ◌≤◌, IfOk};
 ghost use Rattle.fq_run.specs.Crews.{IsLaid, AreFor};
 
+use crate::crew::Job;
 use fq_block::Block;
-use fq_lane::{Rx, Tx, lane};
+use fq_lane::{End, NotEnded, Rx, Tx, lane};
 use fq_pair::Texts;
 use fq_text::OutOfMemory;
-use fq_work::{Reply, WorkEnds};
+use fq_work::{Reply, WorkEnds, Worked};
 use std::alloc::Global;
+use std::thread::PromisedHandle;
 
 /// The ends of the lanes of all workers, worker for worker: those of the dealer, of the workers and of the collector.
 #[derive(Drop)]
@@ -22,6 +24,34 @@ pub(crate) struct Seats {
     /// The receivers of replies, for the collector.
     pub(crate) replies: Vec<Rx<Reply>>,
     /// The senders of texts that were written, for the collector.
+    pub(crate) texts_back: Vec<Tx<Texts>>,
+}
+
+/// The lanes of a run, and room for what its threads hand back.
+#[derive(Drop)]
+pub(crate) struct Lanes {
+    pub(crate) starter: Tx<()>,
+    pub(crate) start: Rx<()>,
+    pub(crate) seats: Seats,
+    pub(crate) closings: Vec<Result<End<Block>, NotEnded>>,
+    pub(crate) hands: Vec<PromisedHandle<Worked, Job>>,
+    pub(crate) worked: Vec<Worked>,
+}
+
+/// What the calling thread has, beside what the dealer takes, once all memory that a run needs before its threads is there.
+#[derive(Drop)]
+pub(crate) struct Ready {
+    /// The sender of the start lane.
+    pub(crate) starter: Tx<()>,
+    /// What each worker gets.
+    pub(crate) ends: Vec<WorkEnds>,
+    /// Room for the workers' handles.
+    pub(crate) hands: Vec<PromisedHandle<Worked, Job>>,
+    /// Room for what the workers hand back.
+    pub(crate) worked: Vec<Worked>,
+    /// The receivers of replies, worker for worker.
+    pub(crate) replies: Vec<Rx<Reply>>,
+    /// The lanes in which texts that were written go back, worker for worker.
     pub(crate) texts_back: Vec<Tx<Texts>>,
 }
 

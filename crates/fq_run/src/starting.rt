@@ -8,15 +8,13 @@ ghost use Rattle.fq_run.specs.Threads.{IsReady, IsFresh, IsManned, run_from, IsT
 
 use crate::collector::{Collector, collect};
 use crate::confirming::confirm;
-use crate::crew::{join_workers, start_dealer, start_workers};
-use crate::dealer::Dealer;
-use crate::dealt::Dealt;
-use crate::ended::{Ended, unstarted};
+use crate::crew::{Crew, join_workers, start_dealer, start_workers};
+use crate::dealer::{Dealer, Dealt};
+use crate::ending::{Ended, unstarted};
 use crate::outcome::{Occurred, Outcome};
 use crate::outlets::Outlets;
-use crate::ready::Ready;
+use crate::seats::Ready;
 use crate::settings::Settings;
-use crate::staff::Crew;
 use fq_lane::{End, NotEnded, Rx, Tx};
 use fq_pair::{Out, PairReader, Texts};
 use fq_text::Outlet;
@@ -61,9 +59,9 @@ pub(crate) fn start<
     if !start_workers(alloc, rt, settings, gate, ends, &mut hands) {
         // Without an item in the start lane the dealer reads nothing, and closes the lanes of the workers that are there.
         let _ = starter.close();
-        let Dealt { source, .. } = dealer.join(rt);
+        let source = dealer.join(rt).into_unread();
         let _ = join_workers(rt, hands, worked);
-        return unstarted(Some(source));
+        return unstarted(source);
     }
     let crew = Crew {
         starter,

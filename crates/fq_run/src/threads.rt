@@ -1,13 +1,12 @@
 //! A run on several threads.
 
-ghost use Rattle.std.specs.Prelude.{◌≡◌, None, IsTrue, IsSome};
+ghost use Rattle.std.specs.Prelude.{◌≡◌, ◌↔◌, None, IsTrue, IsSome};
 ghost use Rattle.std.specs.Option.{option_map};
 ghost use Rattle.fq_run.specs.Devices.{feed_state, outlet_states, AreHealthy};
-ghost use Rattle.fq_run.specs.Endings.{run_of, AreTold, ends_whole, IsTrimmed, EveryEnding};
+ghost use Rattle.fq_run.specs.Endings.{run_of, AreTold, ends_whole, IsTrimmed, IsUntouched, EveryEnding};
 ghost use Rattle.fq_run.specs.Threads.{IsThreaded};
 
-use crate::ended::{Ended, nothing_counted};
-use crate::ending::Ending;
+use crate::ending::{Ended, Ending, nothing_counted};
 use crate::outcome::Outcome;
 use crate::outlets::Outlets;
 use crate::preparing::prepare;
@@ -35,9 +34,9 @@ use std::thread::Threads;
 /// In the end all threads are joined, and all lanes are confirmed: what came at one end is what left the other. Where more than one
 /// of the outcomes occurred the first in the order of [`Outcome`] is answered. At [`Outcome::Lane`] the ending has the lane's
 /// [`NotEnded`], and nothing is said of outputs and counts. At every other outcome the counts are those of the pairs whose block was
-/// written whole. Both feeds are handed back as they stand, but where the reading thread could not be started they are lost.
-/// Where memory was refused before the first thread nothing is read or written. Where a thread was refused nothing is written, and no
-/// outlet is called.
+/// written whole. Both feeds are handed back as they stand, but where the reading thread could not be started both are lost.
+/// Where memory was refused before the first thread nothing is read or written. Where a thread was refused nothing is read or written
+/// either: no outlet is called, and feeds that are handed back are as they were.
 ///
 /// No device may have failed before the run.
 pub fn run_threads<
@@ -62,6 +61,10 @@ pub fn run_threads<
     ensures no_other { IsSome result.unended → result.outcome ≡ Outcome.Lane }
     ensures forward { result.forward ≡ None → result.outcome ≡ Outcome.Spawn }
     ensures reverse { result.reverse ≡ None → result.outcome ≡ Outcome.Spawn }
+    ensures together { (result.forward ≡ None) ↔ (result.reverse ≡ None) }
+    // Where a thread was refused the outlets are as they were, and so are the feeds where they come back.
+    ensures untouched { result.outcome ≡ Outcome.Spawn → IsUntouched
+        (run_of (feed_state F.tells F.to_come F.failure_count) (feed_state G.tells G.to_come G.failure_count) (outlet_states O.tells O.taken O.failure_count) forward reverse outlets.old outlets.new result) }
     // Where the run ends whole, it has trimmed all pairs one after the other, up to the end of the input or its fault.
     ensures whole { let run = run_of (feed_state F.tells F.to_come F.failure_count) (feed_state G.tells G.to_come G.failure_count) (outlet_states O.tells O.taken O.failure_count) forward reverse outlets.old outlets.new result in
         IsTrue (ends_whole run.outcome) → AreTold run → IsTrimmed settings.now run }

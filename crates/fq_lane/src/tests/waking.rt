@@ -1,4 +1,7 @@
-// No wake-up is lost. A test in which one is lost does not end, and fails when its time is up.
+//! No wake-up is lost. A test in which one is lost does not end, and fails when its time is up.
+
+ghost use Rattle.std.specs.Prelude.{◌<◌};
+
 use super::*;
 use crossbeam_utils::Backoff;
 use std::time::{Clock, CpuClock, Duration};
@@ -33,9 +36,11 @@ fn dawdle(clock: &impl Clock, round: u64) {
 }
 
 // The two ends of a lane, and what they sleep on.
-fn open_lane(alloc: Global) -> Result<(Tx<u64>, Rx<u64>, Arc<Parkers>), AllocError> {
+fn open_lane(alloc: Global, depth: usize) -> Result<(Tx<u64>, Rx<u64>, Arc<Parkers>), AllocError>
+    requires { depth < 64 }
+{
     let parkers = Arc::new(alloc, Parkers::new())?;
-    let (producer, consumer) = RingBuffer::new(alloc, 2)?;
+    let (producer, consumer) = RingBuffer::new(alloc, depth + 1)?;
     let tx = Tx::over(producer, Arc::try_clone(&parkers)?);
     let rx = Rx::over(consumer, Arc::try_clone(&parkers)?);
     Ok((tx, rx, parkers))
@@ -44,7 +49,7 @@ fn open_lane(alloc: Global) -> Result<(Tx<u64>, Rx<u64>, Arc<Parkers>), AllocErr
 #[test]
 fn each_move_of_an_end_wakes_the_other(rt: HostRuntime) -> Result<(), Fail> {
     let spun = spun();
-    let (mut tx, mut rx, parkers) = open_lane(rt.alloc())?;
+    let (mut tx, mut rx, parkers) = open_lane(rt.alloc(), 1)?;
     assert!(rt; tx.offer(1).is_ok());
     parkers.rest_receiver(&rt, &spun);
     assert_eq!(rt; rx.take(), Taken::Item(1));
@@ -55,12 +60,21 @@ fn each_move_of_an_end_wakes_the_other(rt: HostRuntime) -> Result<(), Fail> {
     parkers.rest_sender(&rt, &spun);
     assert!(rt; tx.close().is_ok());
     parkers.rest_receiver(&rt, &spun);
-    drop(rx);
-    parkers.rest_sender(&rt, &spun);
+    Ok(())
+}
 
-    let (tx, _rx, parkers) = open_lane(rt.alloc())?;
-    drop(tx);
-    parkers.rest_receiver(&rt, &spun);
+#[test]
+fn each_move_in_a_lane_of_two_wakes_the_other(rt: HostRuntime) -> Result<(), Fail> {
+    let spun = spun();
+    let (mut tx, mut rx, parkers) = open_lane(rt.alloc(), 2)?;
+    for n in 1..=2u64 {
+        assert!(rt; tx.offer(n).is_ok());
+        parkers.rest_receiver(&rt, &spun);
+    }
+    for n in 1..=2u64 {
+        assert_eq!(rt; rx.take(), Taken::Item(n));
+        parkers.rest_sender(&rt, &spun);
+    }
     Ok(())
 }
 

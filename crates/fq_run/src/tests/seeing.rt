@@ -225,13 +225,15 @@ fn a_reader_and_a_writer_see_each_other(rt: HostRuntime) -> Result<(), Fail> {
     let wanted = seven_pairs();
     assert_eq!(rt; ending.outcome, wanted.outcome);
     assert_eq!(rt; ending.counts, wanted.counts);
-    assert_eq!(rt;
-        outlets.forward_paired.outlet.bytes(),
-        wanted.forward_paired
-    );
-    assert_eq!(rt;
-        outlets.reverse_paired.outlet.bytes(),
-        wanted.reverse_paired
-    );
+    let log = outlets.log.as_ref().ok_or("a log")?;
+    for (outlet, text) in [
+        (&outlets.forward_paired, wanted.forward_paired),
+        (&outlets.forward_unpaired, wanted.forward_unpaired),
+        (&outlets.reverse_paired, wanted.reverse_paired),
+        (&outlets.reverse_unpaired, wanted.reverse_unpaired),
+        (log, wanted.log),
+    ] {
+        assert_eq!(rt; outlet.outlet.bytes(), text);
+    }
     Ok(())
 }

@@ -114,29 +114,40 @@ impl Feed for CountedFeed {
     }
 }
 
-/// A gate that lets no block pass once more reads than these were made while it is asked for the first.
+// How often a gate looks for a read, and how often for one too many behind it.
+const LOOKS: u64 = 1_000_000_000;
+
+const MORE_LOOKS: u64 = 30_000_000;
+
+/// A gate that lets the first block pass only where just so many reads are made while it is asked.
 #[derive(Drop)]
-struct FewReads {
-    most: u64,
+struct JustSoManyReads {
+    wanted: u64,
     reads: Arc<AtomicU64>,
 }
 
-impl Gate for FewReads {
-    fn passes(&self, number: u64) -> bool {
-        if number == 0 {
-            for _ in 0..100_000_000u64 {
-                if self.most < self.reads.load(Ordering::SeqCst) {
-                    return false;
-                }
+impl JustSoManyReads {
+    // Whether so many reads were made at one of so many looks.
+    fn sees(&self, reads: u64, looks: u64) -> bool {
+        for _ in 0..looks {
+            if reads <= self.reads.load(Ordering::SeqCst) {
+                return true;
             }
         }
-        true
+        false
+    }
+}
+
+impl Gate for JustSoManyReads {
+    fn passes(&self, number: u64) -> bool {
+        let one_more = self.wanted.saturating_add(1);
+        number > 0 || (self.sees(self.wanted, LOOKS) && !self.sees(one_more, MORE_LOOKS))
     }
 }
 
 // While the one worker has block 0, `depth` blocks lie in its lane, and one more is in the dealer's hand. A record is a read.
 #[test]
-fn no_more_is_read_than_the_lanes_hold(rt: HostRuntime) -> Result<(), Fail> {
+fn just_as_much_is_read_ahead_as_the_lanes_hold(rt: HostRuntime) -> Result<(), Fail> {
     let given = Given {
         block_pairs: 1,
         chunk: 18,
@@ -145,8 +156,8 @@ fn no_more_is_read_than_the_lanes_hold(rt: HostRuntime) -> Result<(), Fail> {
     for depth in 1..4u64 {
         let settings = with(&given, depth, 1)?;
         let reads = Arc::new(rt.alloc(), AtomicU64::new(0))?;
-        let gate = FewReads {
-            most: depth + 2,
+        let gate = JustSoManyReads {
+            wanted: depth + 2,
             reads: Arc::try_clone(&reads)?,
         };
         let forward = CountedFeed {

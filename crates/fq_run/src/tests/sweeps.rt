@@ -62,12 +62,24 @@ pub fn run<R: Abort + Threads + Wait + Copy + Send + 'static>(
     way: Way,
     failing_read: Option<(Side, u64)>,
 ) -> Result<Left, Fail> {
-    let settings = settings_of(given, 2, 4)?;
     let (fails_forward, fails_reverse) = match failing_read {
         None => (0, 0),
         Some((Side::Forward, number)) => (number, 0),
         Some((Side::Reverse, number)) => (0, number),
     };
+    run_failing(rt, alloc, given, way, fails_forward, fails_reverse)
+}
+
+/// A run in which the reads of these numbers fail, one of each side, or none where the number is 0.
+fn run_failing<R: Abort + Threads + Wait + Copy + Send + 'static>(
+    rt: &R,
+    alloc: Global,
+    given: &Given<'_>,
+    way: Way,
+    fails_forward: u64,
+    fails_reverse: u64,
+) -> Result<Left, Fail> {
+    let settings = settings_of(given, 2, 4)?;
     let forward = feed(rt, alloc, given.forward, given.cut, fails_forward)?;
     let reverse = feed(rt, alloc, given.reverse, given.cut, fails_reverse)?;
     let mut outlets = outlets(rt, alloc, given);
@@ -111,6 +123,44 @@ fn each_read_fails_in_turn(rt: HostRuntime) -> Result<(), Fail> {
         for way in WAYS {
             // 126 bytes by 26 reads, and one that finds the end.
             assert_eq!(rt; reads_that_fail(&rt, rt.alloc(), side, way)?, 27);
+        }
+    }
+    Ok(())
+}
+
+// The pair whose record the read of this number is needed for, or the one behind the last.
+fn pair_of(read: u64) -> u64 {
+    read.saturating_sub(1).saturating_mul(CUT as u64) / RECORD as u64 + 1
+}
+
+// The forward mate of a pair is read before its reverse mate.
+#[test]
+fn where_both_feeds_fail_the_one_that_is_read_first_is_answered(
+    rt: HostRuntime,
+) -> Result<(), Fail> {
+    let reads = [1, 4, 5, 8, 26, 27u64];
+    for fails_forward in reads {
+        for fails_reverse in reads {
+            let (forward, reverse) = (pair_of(fails_forward), pair_of(fails_reverse));
+            let (side, pair) = if forward <= reverse {
+                (Side::Forward, forward)
+            } else {
+                (Side::Reverse, reverse)
+            };
+            for way in WAYS {
+                let given = seven_in_twos();
+                let left = run_failing(&rt, rt.alloc(), &given, way, fails_forward, fails_reverse)?;
+                assert_eq!(rt;
+                    left.ending.outcome,
+                    Outcome::Read(side),
+                    "reads {fails_forward} and {fails_reverse}"
+                );
+                let front = left.front()?;
+                assert_eq!(rt;
+                    (front.pairs as u64, front.failed),
+                    (pair.saturating_sub(1), None)
+                );
+            }
         }
     }
     Ok(())

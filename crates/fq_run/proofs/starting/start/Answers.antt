@@ -1,10 +1,11 @@
 -- Where a thread was refused nothing was written.
 use Rattle.std.proofs.Common.{refl, sym, ap, subst, arith}
 use Rattle.fq_run.specs.Devices.{outlet_states}
+use Rattle.fq_run.specs.Walks.{feed_in}
 use Rattle.fq_run.specs.Threads.{IsThreaded, run_from}
-use Rattle.fq_run.specs.declared.ended.Ended.{Ended}
+use Rattle.fq_run.specs.declared.ending.Ended.{Ended}
 use Rattle.fq_run.proofs.StaffLemmas.{to_dealt}
-use Rattle.fq_run.proofs.StartLemmas.{handed_back, unstarted}
+use Rattle.fq_run.proofs.StartLemmas.{of_one, unread, idle, unstarted}
 use Rattle.fq_run.proofs.starting.start.Goals as goal
 
 pub start_dealer-requires-clause-lanes : goal.start_dealer-requires-clause-lanes
@@ -17,12 +18,14 @@ returns-in_default g c =
     let s = g.S.PairReader in let o = g.O.Outlet in
     let states = outlet_states o.tells o.taken o.failure_count in
     let P : Ended g.row.S.Denot → Type 0 = λ e. IsThreaded c.args.settings.now (run_from s.state (s.state c.args.dealer.source) (states c.args.outlets.now) (states c.args.outlets.now) e) e.unended in
-    subst P (sym c.unstarted.ensures) (unstarted _ _ refl refl refl tt tt)
+    subst P (sym c.unstarted.ensures) (unstarted _ _ refl refl (record { outlets = refl; forward = tt; reverse = tt }) (λ gone. refl, λ gone. refl))
 
 pub returns-then-not-start_workers : goal.returns-then-not-start_workers
 returns-then-not-start_workers g c =
     let s = g.S.PairReader in let o = g.O.Outlet in
     let states = outlet_states o.tells o.taken o.failure_count in
     let P : Ended g.row.S.Denot → Type 0 = λ e. IsThreaded c.args.settings.now (run_from s.state (s.state c.args.dealer.source) (states c.args.outlets.now) (states c.args.outlets.now) e) e.unended in
-    let back = handed_back c.args.settings.now (s.state c.args.dealer.source) _ _ c.requires.fresh (ap s.state c.in-Some.ensures.source) _ _ _ _ c.join-source.ensures.deals in
-    subst P (sym c.unstarted-then-not-start_workers.ensures) (unstarted _ _ refl refl refl back.0 back.1)
+    let left = c.into_unread-source.result in
+    let back = unread s.state (s.state c.args.dealer.source) left (idle s.state _ _ _ _ _ _ _ _ _ c.join.result.source left (ap s.state c.in-Some.ensures.source) refl c.join.ensures c.into_unread-source.ensures) in
+    subst P (sym c.unstarted-then-not-start_workers.ensures)
+    (unstarted _ _ refl refl (record { outlets = refl; forward = back.0; reverse = back.1 }) (of_one (λ x. feed_in (s.state x).forward) (λ x. feed_in (s.state x).reverse) left))

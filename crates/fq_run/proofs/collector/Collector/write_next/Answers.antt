@@ -2,7 +2,7 @@
 use Rattle.std.proofs.Common.{◌≡◌, ℕ, refl, ap, ◌∙◌, arith, subst, Option, Some, List}
 use Rattle.fq_lane.specs.Line.{Line}
 use Rattle.fq_lane.specs.Take.{taken_of}
-use Rattle.fq_lane.specs.declared.rx.Taken.TheVariants.{Item, Closed}
+use Rattle.fq_lane.specs.declared.taken.Taken.TheVariants.{Item, Closed}
 use Rattle.fq_work.specs.declared.reply.Reply.{Reply}
 use Rattle.fq_work.specs.declared.reply.Reply.TheVariants.{Done as done, Stop}
 use Rattle.fq_run.specs.Lanes.{TakesAt}

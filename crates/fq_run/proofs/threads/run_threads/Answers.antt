@@ -1,0 +1,13 @@
+-- A run has one source, so both feeds are lost with it or none is.
+use Rattle.std.proofs.Common.{ap}
+use Rattle.std.specs.Option.{option_map}
+use Rattle.fq_run.specs.Devices.{feed_state}
+use Rattle.fq_run.proofs.StartLemmas.{none_of}
+use Rattle.fq_run.proofs.threads.run_threads.Goals as goal
+
+pub returns-clause-together : goal.returns-clause-together
+returns-clause-together g c =
+    let f = g.F.Feed in let r = g.G.Feed in
+    let fs = feed_state f.tells f.to_come f.failure_count in let gs = feed_state r.tells r.to_come r.failure_count in
+    let e = c.begin.result in let t = c.begin.ensures.together in
+    (λ gone. none_of gs e.reverse (t.0 (ap (option_map fs) gone)), λ gone. none_of fs e.forward (t.1 (ap (option_map gs) gone)))
