@@ -29,7 +29,7 @@ fi
 program=$(realpath "$program")
 
 # Not below TMPDIR: the name of a socket in it may have no more than 107 bytes.
-work=$(mktemp -d /tmp/tibzharuk.XXXXXX) || exit 1
+work=$(mktemp -d -p /tmp tibzharuk.XXXXXX) || exit 1
 # All that is started has this in its environment, so that what is left of it can be found at the end.
 export TIBZHARUK_TEST=$work
 export XDG_CACHE_HOME=$work/cache MPLCONFIGDIR=$work/cache PYTHONDONTWRITEBYTECODE=1 LC_ALL=C.UTF-8
