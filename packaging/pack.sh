@@ -56,7 +56,7 @@ put_tree() {
 # The documents, and below licences/ what the C library's licence asks to be passed on.
 put_documents() {
   local to=$1 file
-  for file in README.md CHANGELOG.md NOTICES.md LICENSE-MIT LICENSE-APACHE; do put 644 "$file" "$to/$file"; done
+  for file in README.md CHANGELOG.md CONTRIBUTING.md NOTICES.md LICENSE-MIT LICENSE-APACHE; do put 644 "$file" "$to/$file"; done
   put_tree "$to" docs
   put 644 "$licences/LGPL-2.1" "$to/licences/LGPL-2.1"
   put 644 "$licences/GPL-3" "$to/licences/GPL-3"
@@ -114,6 +114,9 @@ pack_package() {
   put_documents "$documents"
   put 644 packaging/copyright "$documents/copyright"
   put_scripts "$root/usr/share/tibzharuk"
+  # The documents and the workflow lead to each other.
+  ln -s ../../tibzharuk/workflow "$documents/workflow"
+  ln -s ../doc/tibzharuk/docs "$root/usr/share/tibzharuk/docs"
   if [ -e contrib/trim_gz ]; then ln -s ../share/tibzharuk/contrib/trim_gz "$root/usr/bin/trim_gz"; fi
   put_objects "$root/usr/share/tibzharuk/relink"
   mkdir "$root/DEBIAN"

@@ -37,6 +37,16 @@ run_example() {
     fail "$name prints another EXAMPLE: $(cat "$work/difference" "$work/err")"
 }
 
+# Each file to which a document below this folder leads is there.
+check_links() {
+  local document link
+  while IFS= read -r document; do
+    while IFS= read -r link; do
+      [ -e "$(dirname "$document")/$link" ] || fail "${document#"$work"/} leads to $link, which isn't there"
+    done < <(grep -oE '\]\([^) ]+\)' "$document" | sed 's/^](//; s/)$//; s/#.*//' | grep -vE '^([a-z]+:|$)')
+  done < <(find "$1" -name '*.md')
+}
+
 # The tarball, in an empty folder, with no word of the environment.
 check_tarball() {
   local file
@@ -44,10 +54,11 @@ check_tarball() {
   mkdir "$work/empty"
   tar -C "$work/empty" -xzf "$tarball" || fail 'the tarball is not unpacked'
   [ "$(ls "$work/empty")" = "${release##*/}" ] || fail "the tarball has another folder: $(ls "$work/empty")"
-  for file in README.md CHANGELOG.md NOTICES.md LICENSE-MIT LICENSE-APACHE share/man/man1/fq_prog.1 share/bash-completion/completions/fq_prog; do
+  for file in README.md CHANGELOG.md CONTRIBUTING.md NOTICES.md LICENSE-MIT LICENSE-APACHE share/man/man1/fq_prog.1 share/bash-completion/completions/fq_prog; do
     [ -s "$release/$file" ] || fail "the tarball lacks $file"
   done
   (cd "$release" && sha256sum --quiet -c SHA256SUMS) || fail 'the sums in the tarball are not those of its files'
+  check_links "$release"
   run_example 'the program of the tarball' env -i "$program"
   if tar --numeric-owner -tvzf "$tarball" | grep -v ' 0/0 '; then fail 'the tarball names an owner'; fi
 }
@@ -97,12 +108,14 @@ check_package() {
   if [ "$(id -u)" -ne 0 ] || ! command -v dpkg > /dev/null; then
     echo 'dist: installing with dpkg: skipped: needs root and dpkg; the package is only unpacked'
     dpkg-deb -x "$package" "$root" || fail 'the package is not unpacked'
+    check_links "$root"
     run_example 'the program of the package' env -i "$root/usr/bin/fq_prog"
     return
   fi
   touch "$root/var/lib/dpkg/status" "$root/var/lib/dpkg/available"
   dpkg --root="$root" --log=/dev/null --install "$package" > "$work/log" 2>&1 || fail "dpkg does not install the package: $(cat "$work/log")"
   run_example 'the program of the package' env -i "$root/usr/bin/fq_prog"
+  check_links "$root"
   [ -s "$root/usr/share/man/man1/fq_prog.1.gz" ] || fail 'the package has no manual page'
   [ -s "$root/usr/share/doc/tibzharuk/copyright" ] || fail 'the package has no copyright'
   if [ -e contrib/trim_gz ]; then [ -x "$root/usr/bin/trim_gz" ] || fail 'the package has no trim_gz'; fi

@@ -280,6 +280,13 @@ bad_tables() {
   refused "settings: line_graphs: 'perhaps' is not of type 'boolean'"
 }
 
+# An option that the program doesn't know fails each sample, and is named.
+bad_option() {
+  row='an option that the program does not know'
+  call 1 --profile profiles/local --config line_graphs=False options=--frob
+  grep -q "^failed: s1: error: .*'--frob'" said || fail "it is not named, but: $(grep '^failed:' said)"
+}
+
 # refuses SCRIPT FILE: the script ends with status 1 and one line, and writes nothing
 refuses() {
   "$tree/contrib/$1" --sample x --out "$work/none" "$2" 2> "$work/err"
@@ -419,6 +426,7 @@ mv "$work/half" "$work/reads/s4_L001_R2.fq.gz"
 bad_files
 new_lab tables
 bad_tables
+bad_option
 new_lab local
 a_whole_life local
 row='nothing to do'

@@ -32,21 +32,26 @@ class Refused(Exception):
     """Says in one line why there is no page."""
 
 
-def last_line(path):
-    """The last line of a log that says something, or an empty one; None where there is no log."""
-    last = ""
+def telling_line(path):
+    """The last line of a log that says something, or an empty one; None where there is no log.
+
+    Of words that the program doesn't know it says more than one line, of which the first, `error: ..`, tells which.
+    """
+    telling = ""
     try:
         with open(path, encoding="utf-8", errors="replace") as lines:
             for line in lines:
-                last = line.strip() or last
+                telling = line.strip() or telling
+                if telling.startswith("error: "):
+                    break
     except OSError:
         return None
-    return last
+    return telling
 
 
 def why_failed(logs, sample):
     """Why a sample failed, as far as its log tells; nothing where it has no log, so was not begun."""
-    said = last_line(logs / "trim" / f"{sample}.log")
+    said = telling_line(logs / "trim" / f"{sample}.log")
     return "stopped without a word; see the messages of the cluster" if said == "" else said
 
 
