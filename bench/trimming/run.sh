@@ -1,148 +1,111 @@
 #!/usr/bin/env bash
-# Times the built program beside the trimmers that are installed, on drawn pairs. bench/README.md says what is measured.
+# Times the built program on drawn pairs, beside a loop that only copies lines, cat, and the trimmers that are installed.
+# bench/README.md says what is measured.
 #
-#     bench/trimming/run.sh [--pairs N] [--rounds N] [--program PATH] [--serial PATH] [--ours] [--memory]
+#     bench/trimming/run.sh [MODE] [OPTION]..
 #
-#     --pairs N        pairs of 2 x 150 bases (250000)
+# Modes; without one it prints a row for each tool:
+#     --sets           the program and the loop over all data sets, in memory and on the disk: a row for each set
+#     --threads-time   the processor seconds of each of the program's threads
+#     --memory         the program's peak memory at 50,000, 250,000 and 1,000,000 pairs
+#     --block-time     the program's time with --block 1 beside its time with the default
+#
+# Options:
+#     --pairs N        pairs of reads (1000000)
 #     --rounds N       runs of each row, taken in turn, of which the median is printed (3)
+#     --in PLACE       where inputs and outputs lie: disk (TMPDIR, or /tmp) or memory (/dev/shm); with --sets both, without it the disk
 #     --program PATH   the program that is measured (crates/fq_prog/out/fq_prog)
 #     --serial PATH    the run on one thread, as bench/trimming/serial.sh builds it (no row without it)
 #     --ours           no other trimmer
-#     --memory         in place of the times the program's peak memory at 50,000, 250,000 and 1,000,000 pairs
+#     --bases N, --bases LEAST-MOST, --bins, --titles, --crlf
+#                      how the reads are drawn, as bench/trimming/pairs.c says (with --sets not looked at)
+#     --help
 #
-# Wants cc, GNU time and taskset. Files lie in a folder of their own below TMPDIR (/tmp), which is removed.
+# Wants cc, GNU time, taskset and findmnt. Files lie in folders of their own in that place and below TMPDIR, which are removed.
 set -euo pipefail
 export LC_ALL=C
 
 here=$(cd "$(dirname "$0")" && pwd)
 program=$here/../../crates/fq_prog/out/fq_prog
 serial=
-count=250000
+count=1000000
 rounds=3
 peers=yes
-memory=no
+mode=tools
+place=
+form=()
+room=
+spent=
+pairs_read=
 
 stop() {
     echo "bench: $*" >&2
     exit 1
 }
 
+print_help() {
+    awk 'NR > 1 && !/^#/ { exit } NR > 1 { sub(/^# ?/, ""); print }' "$0"
+}
+
 while [ $# -gt 0 ]; do
     case $1 in
+        --sets | --threads-time | --memory | --block-time) mode=${1#--}; shift ;;
         --pairs) count=${2:?}; shift 2 ;;
         --rounds) rounds=${2:?}; shift 2 ;;
+        --in) place=${2:?}; shift 2 ;;
         --program) program=${2:?}; shift 2 ;;
         --serial) serial=$(realpath "${2:?}"); shift 2 ;;
         --ours) peers=no; shift ;;
-        --memory) memory=yes; shift ;;
-        *) stop "unknown word $1" ;;
+        --bases) form+=(--bases "${2:?}"); shift 2 ;;
+        --bins | --titles | --crlf) form+=("$1"); shift ;;
+        --help) print_help; exit ;;
+        *) stop "unknown word $1 (--help lists all)" ;;
     esac
 done
 
 [ -x "$program" ] || stop "no program $program (make build makes it)"
 program=$(realpath "$program")
-clock=$(type -P time) || stop "no GNU time (Debian package time)"
-room=$(mktemp -d)
-trap 'rm -rf "$room"' EXIT
-cc -std=c11 -O2 -o "$room/pairs" "$here/pairs.c"
-forward=$room/forward.fq
-reverse=$room/reverse.fq
-out=$room/out
-steps=(LEADING:3 TRAILING:3 SLIDINGWINDOW:4:15 MINLEN:36)
+built=$(mktemp -d)
+trap 'rm -rf "$built" ${room:+"$room"}' EXIT
+for tool in pairs copy thread_times; do
+    cc -std=c11 -O2 -Wall -Wextra -pthread -o "$built/$tool" "$here/$tool.c"
+done
+# shellcheck source=/dev/null
+. "$here/tools.sh"
 
-# draw COUNT: the inputs.
+# folder_of PLACE
+folder_of() {
+    case $1 in
+        disk) echo "${TMPDIR:-/tmp}" ;;
+        memory) echo /dev/shm ;;
+        *) stop "no place $1: disk or memory" ;;
+    esac
+}
+
+# enter PLACE: takes a folder there for inputs and outputs.
+enter() {
+    local folder
+    folder=$(folder_of "$1")
+    [ -z "$room" ] || rm -rf "$room"
+    room=$(mktemp -d -p "$folder")
+    forward=$room/forward.fq
+    reverse=$room/reverse.fq
+    out=$room/out
+    kind="$1, $(findmnt -no FSTYPE,SOURCE -T "$room" | awk '{ kind = $1 == $2 ? $1 : $1 " on " $2 } END { print kind }')"
+}
+
+# free_bytes FOLDER: what may still be written there.
+free_bytes() {
+    df -B1 --output=avail "$1" | tail -n 1
+}
+
+# draw OPTION..: the inputs, which are in the page cache then.
 draw() {
-    "$room/pairs" "$1" "$forward" "$reverse"
+    "$built/pairs" "$@" "$count" "$forward" "$reverse"
     size=$(($(stat -c %s "$forward") + $(stat -c %s "$reverse")))
-    sync
-}
-
-# timed COMMAND..: runs it in the folder of outputs, and leaves its seconds, processor seconds and kilobytes in `spent`.
-timed() {
-    local begin end
-    rm -rf "$out"
-    mkdir "$out"
-    begin=$EPOCHREALTIME
-    (cd "$out" && "$clock" -o "$room/clock" -f '%U %S %M' "$@" >"$room/said" 2>"$room/told") || {
-        tail -n 20 "$room/said" "$room/told" >&2
-        stop "failed: $*"
-    }
-    end=$EPOCHREALTIME
-    spent=$(awk -v begin="$begin" -v end="$end" '{ print end - begin, $1 + $2, $3 }' "$room/clock")
-}
-
-# number_in FILE TEXT: the number behind TEXT.
-number_in() {
-    sed -n "s/.*$2[ \t:]*\([0-9][0-9,]*\).*/\1/p" "$1" | head -n 1 | tr -d ,
-}
-
-# Each of these runs one tool with so many threads, and leaves in `pairs_read` how many pairs the tool says that it read.
-# Each writes the pairs of which both mates survive to fp and rp.
-
-run_cat() {
-    timed cat "$forward" "$reverse"
-    pairs_read=$count
-    cp "$forward" "$out/fp"
-}
-
-run_ours() {
-    timed "$program" PE --threads "$1" "$forward" "$reverse" fp fu rp ru "${steps[@]}"
-    pairs_read=$(number_in "$room/said" 'Input Read Pairs')
-}
-
-run_ours_log() {
-    timed "$program" PE --threads "$1" --trimlog log "$forward" "$reverse" fp fu rp ru "${steps[@]}"
-    pairs_read=$(number_in "$room/said" 'Input Read Pairs')
-}
-
-run_ours_alone() {
-    timed taskset -c 0 "$program" PE --threads "$1" --trimlog log "$forward" "$reverse" fp fu rp ru "${steps[@]}"
-    pairs_read=$(number_in "$room/said" 'Input Read Pairs')
-}
-
-run_ours_serial() {
-    timed "$serial" "$forward" "$reverse" fp fu rp ru log "${steps[@]}"
-    pairs_read=$(number_in "$room/said" 'Input Read Pairs')
-}
-
-run_trimmomatic() {
-    timed TrimmomaticPE -threads "$1" -phred33 "$forward" "$reverse" fp fu rp ru "${steps[@]}"
-    pairs_read=$(number_in "$room/told" 'Input Read Pairs')
-}
-
-run_trimmomatic_log() {
-    timed TrimmomaticPE -threads "$1" -phred33 -trimlog log "$forward" "$reverse" fp fu rp ru "${steps[@]}"
-    pairs_read=$(number_in "$room/told" 'Input Read Pairs')
-}
-
-run_fastp() {
-    timed fastp --thread "$1" -i "$forward" -I "$reverse" -o fp -O rp --unpaired1 fu --unpaired2 ru --json json --html html \
-        --cut_front --cut_front_window_size 1 --cut_front_mean_quality 3 --cut_tail --cut_tail_window_size 1 --cut_tail_mean_quality 3 \
-        --cut_right --cut_right_window_size 4 --cut_right_mean_quality 15 --length_required 36 \
-        --disable_adapter_trimming --disable_trim_poly_g --disable_quality_filtering --dont_eval_duplication
-    pairs_read=$(($(number_in "$out/json" '"total_reads"') / 2))
-}
-
-run_cutadapt() {
-    timed cutadapt --cores "$1" --quality-cutoff 3,15 --minimum-length 36 -o fp -p rp "$forward" "$reverse"
-    pairs_read=$(number_in "$room/said" 'Total read pairs processed')
-}
-
-run_sickle() {
-    timed sickle pe -t sanger -q 15 -l 36 -f "$forward" -r "$reverse" -o fp -p rp -s single
-    pairs_read=$(number_in "$room/said" 'Total input FastQ records')
-    pairs_read=$((pairs_read / 2))
-}
-
-run_bbduk() {
-    timed bbduk.sh threads="$1" in="$forward" in2="$reverse" out=fp out2=rp outs=single qtrim=window,4 trimq=15 minlen=36 ordered=t
-    pairs_read=$(($(number_in "$room/told" 'Input') / 2))
-}
-
-run_adapterremoval() {
-    timed AdapterRemoval --threads "$1" --file1 "$forward" --file2 "$reverse" --output1 fp --output2 rp --singleton single \
-        --discarded discarded --settings settings --trimqualities --trimwindows 4 --minquality 15 --minlength 36
-    pairs_read=$(number_in "$out/settings" 'Total number of read pairs')
+    sync -f "$room"
+    [ "$(cat "$forward" "$reverse" | wc -l)" = $((8 * count)) ] || stop "the inputs aren't whole"
+    [ "$(free_bytes "$room")" -gt $((size + size / 4)) ] || stop "no room for the outputs at $room"
 }
 
 rows=()
@@ -157,7 +120,7 @@ row() {
 peer() {
     local command=$1 label=$2 function=$3 threads
     shift 3
-    if ! type -P "$command" >"$room/found"; then
+    if ! type -P "$command" >"$built/found"; then
         missing+=("$label")
         return
     fi
@@ -166,15 +129,24 @@ peer() {
     done
 }
 
-list_rows() {
+# The rows that all modes have in common, at the places that the names below give them.
+list_own_rows() {
     row 'fq_prog, log' 1 run_ours_log
     row 'fq_prog, log' 2 run_ours_log
     row 'fq_prog, log' 4 run_ours_log
     row 'fq_prog, log, one processor' 1 run_ours_alone
-    [ -z "$serial" ] || row 'run_serial, log' 1 run_ours_serial
+    row 'loop' 1 run_loop
+    row 'loop, one processor' 1 run_loop_alone
+    row 'cat' 1 run_cat
+}
+at_1=0 at_2=1 at_4=2 at_alone=3 at_loop=4 at_loop_alone=5 at_cat=6
+
+list_rows() {
+    list_own_rows
+    row 'loop' 2 run_loop
     row 'fq_prog' 1 run_ours
     row 'fq_prog' 4 run_ours
-    row 'cat' 1 run_cat
+    [ -z "$serial" ] || row 'run_serial, log' 1 run_ours_serial
     [ "$peers" = yes ] || return 0
     peer TrimmomaticPE 'trimmomatic, log' run_trimmomatic_log 1 4
     peer TrimmomaticPE 'trimmomatic' run_trimmomatic 1 4
@@ -195,49 +167,153 @@ run_row() {
     echo "$spent $kept" >>"$room/row.$1"
 }
 
-# median FIELD FILE
-median() {
-    awk -v field="$1" '{ print $field }' "$2" | sort -n | awk '{ x[NR] = $1 } END { print x[int((NR + 1) / 2)] }'
-}
-
-print_rows() {
-    local number label threads function at_1 at_4
-    at_1=$(median 1 "$room/row.0")
-    at_4=$(median 1 "$room/row.2")
-    echo '| Tool | Threads | Seconds | MB/s | Processor seconds | Peak MB | Pairs kept | Time to ours at 1 | at 4 |'
-    echo '|---|---|---|---|---|---|---|---|---|'
-    for number in "${!rows[@]}"; do
-        IFS='|' read -r label threads function <<<"${rows[$number]}"
-        awk -v label="$label" -v threads="$threads" -v seconds="$(median 1 "$room/row.$number")" -v spent="$(median 2 "$room/row.$number")" \
-            -v memory="$(median 3 "$room/row.$number")" -v kept="$(median 4 "$room/row.$number")" -v size="$size" -v at_1="$at_1" -v at_4="$at_4" \
-            'BEGIN { printf "| %s | %d | %.3f | %.0f | %.2f | %.1f | %d | %.2f | %.2f |\n",
-                label, threads, seconds, size / seconds / 1e6, spent, memory * 1.024 / 1000, kept, seconds / at_1, seconds / at_4 }'
-    done
-}
-
-measure_times() {
+# Runs all rows one after the other, and that so many times over.
+run_rows() {
     local number round
-    draw "$count"
-    list_rows
-    echo "$count pairs, $((size / 1000000)) MB; median of $rounds; $(nproc) processors, load $(cut -d ' ' -f 1 /proc/loadavg) before"
+    rm -f "$room"/row.*
     for ((round = 0; round < rounds; round++)); do
         for number in "${!rows[@]}"; do
             run_row "$number"
         done
     done
-    print_rows
+}
+
+# median FIELD FILE
+median() {
+    awk -v field="$1" '{ print $field }' "$2" | sort -n | awk '{ x[NR] = $1 } END { print x[int((NR + 1) / 2)] }'
+}
+
+# medians FIELD ROW..: of each of these rows.
+medians() {
+    local field=$1 number
+    shift
+    for number in "$@"; do
+        median "$field" "$room/row.$number"
+    done | paste -s -d ' '
+}
+
+print_machine() {
+    echo "$(nproc) processors ($(sed -n 's/^model name[^:]*: //p' /proc/cpuinfo | head -n 1)), load $(cut -d ' ' -f 1 /proc/loadavg) before"
+}
+
+# print_row NUMBER: its medians, beside those of the loop (on one processor where the row is), of cat, and of ours at 4 threads.
+print_row() {
+    local label threads function loop=$at_loop
+    IFS='|' read -r label threads function <<<"${rows[$1]}"
+    [[ $label != *'one processor' ]] || loop=$at_loop_alone
+    awk -v label="$label" -v threads="$threads" -v size="$size" \
+        -v seconds="$(medians 1 "$1" "$loop" "$at_cat" "$at_4")" -v spent="$(medians 2 "$1" "$loop")" \
+        -v memory="$(medians 3 "$1")" -v kept="$(medians 4 "$1")" \
+        'BEGIN { split(seconds, s, " "); split(spent, p, " ")
+            printf "| %s | %d | %.3f | %.0f | %.3f | %.1f | %d | %.2f | %.2f | %.2f | %.2f |\n",
+                label, threads, s[1], size / s[1] / 1e6, p[1], memory * 1.024 / 1000, kept, p[1] / p[2], s[1] / s[2], s[1] / s[3], s[1] / s[4] }'
+}
+
+measure_tools() {
+    local number
+    enter "${place:-disk}"
+    draw "${form[@]}"
+    list_rows
+    echo "$count pairs, $((size / 1000000)) MB, $kind; median of $rounds; $(print_machine)"
+    run_rows
+    echo "| Tool | Threads | Seconds | MB/s | Processor seconds | Peak MB | Pairs kept | Processor to the loop's | Time to the loop's | to cat's | to ours at 4 |"
+    echo '|---|---|---|---|---|---|---|---|---|---|---|'
+    for number in "${!rows[@]}"; do
+        print_row "$number"
+    done
     [ ${#missing[@]} -eq 0 ] || echo "not installed: ${missing[*]}"
-    if [ "$peers" = yes ] && type -P dpkg-query >"$room/found"; then
-        dpkg-query -W -f '${Package} ${Version}\n' trimmomatic fastp cutadapt sickle bbmap adapterremoval 2>"$room/told" || true
+    if [ "$peers" = yes ] && type -P dpkg-query >"$built/found"; then
+        # shellcheck disable=SC2016  # the fields are dpkg-query's
+        { dpkg-query -W -f '${Package} ${Version}\n' trimmomatic fastp cutadapt sickle bbmap adapterremoval 2>"$built/told" || true; } | awk 'NF == 2'
     fi
+}
+
+sets=(
+    '150 bases|'
+    '50 bases|--bases 50'
+    '300 bases|--bases 300'
+    '35 to 150 bases|--bases 35-150'
+    'scores in four bins|--bins'
+    'titles behind +|--titles'
+    'lines in CR LF|--crlf'
+)
+
+# print_set LABEL
+print_set() {
+    awk -v label="$1" -v size="$size" -v spent="$(medians 2 $at_loop $at_1 $at_2 $at_4)" \
+        -v seconds="$(medians 1 $at_cat $at_1 $at_2 $at_4 $at_loop_alone $at_alone)" -v memory="$(medians 3 $at_4)" \
+        'BEGIN { split(spent, p, " "); split(seconds, s, " ")
+            printf "| %s | %.0f | %.3f | %.2f | %.2f | %.2f | %.3f | %.2f | %.2f | %.2f | %.3f | %.2f | %.1f |\n", label, size / 1e6,
+                p[1], p[2] / p[1], p[3] / p[1], p[4] / p[1], s[1], s[2] / s[1], s[3] / s[1], s[4] / s[1], s[5], s[6] / s[5], memory * 1.024 / 1000 }'
+}
+
+# measure_sets PLACE
+measure_sets() {
+    local set options
+    enter "$1"
+    echo
+    echo "$count pairs, $kind; median of $rounds; $(print_machine)"
+    echo "| Data | MB | Loop, processor s | ours to it, 1 thread | 2 | 4 | cat, s | ours to it, 1 thread | 2 | 4 | Loop on one processor, s | ours to it | Peak MB at 4 |"
+    echo '|---|---|---|---|---|---|---|---|---|---|---|---|---|'
+    for set in "${sets[@]}"; do
+        read -r -a options <<<"${set#*|}"
+        draw "${options[@]}"
+        run_rows
+        print_set "${set%%|*}"
+    done
+}
+
+# Where only one of the places has room for the longest reads, the other is left out, and said to be.
+measure_all_sets() {
+    local at
+    list_own_rows
+    for at in ${place:-memory disk}; do
+        if [ -z "$place" ] && [ "$(free_bytes "$(folder_of "$at")")" -lt $((3000 * count)) ]; then
+            echo "skipped: $at has no room for $count pairs of 300 bases and their outputs"
+            continue
+        fi
+        measure_sets "$at"
+    done
+}
+
+# The times of the threads of one run in one line: the writing thread's and the system's part of it, the reading thread's, the
+# trimming ones' together, the least and the most of them, and the sum. The program makes its reading thread first.
+times_of_threads() {
+    awk -v threads="$1" '
+        NR == 1 { writing = $1 " " $2 }
+        NR == 2 { reading = $1 " " $2 }
+        NR > 2 { trimming += $1; trimming_system += $2; least = NR == 3 || $1 < least ? $1 : least; most = $1 > most ? $1 : most }
+        { sum += $1 }
+        END { if (NR != threads + 2) exit 1; print reading, trimming, trimming_system, least, most, writing, sum }' "$room/threads"
+}
+
+measure_threads() {
+    local threads round field
+    enter "${place:-disk}"
+    draw "${form[@]}"
+    echo "$count pairs, $((size / 1000000)) MB, $kind; processor seconds, median of $rounds; $(print_machine)"
+    echo "| Threads | Reading | the system's | Trimming, all | the system's | least | most | Writing | the system's | Sum |"
+    echo '|---|---|---|---|---|---|---|---|---|---|'
+    for threads in 1 2 4; do
+        for ((round = 0; round < rounds; round++)); do
+            run_ours_traced "$threads"
+            times_of_threads "$threads" >>"$room/times.$threads" || stop "the program has other threads than one to read and one to write"
+        done
+        printf '| %d |' "$threads"
+        for field in 1 2 3 4 5 6 7 8 9; do
+            printf ' %.2f |' "$(median "$field" "$room/times.$threads")"
+        done
+        echo
+    done
 }
 
 measure_memory() {
     local threads
+    enter "${place:-disk}"
     echo '| Pairs | Input MB | Peak MB at 1 thread | at 2 | at 4 |'
     echo '|---|---|---|---|---|'
     for count in 50000 250000 1000000; do
-        draw "$count"
+        draw "${form[@]}"
         printf '| %d | %d |' "$count" $((size / 1000000))
         for threads in 1 2 4; do
             run_ours_log "$threads"
@@ -247,8 +323,30 @@ measure_memory() {
     done
 }
 
-if [ "$memory" = yes ]; then
-    measure_memory
-else
-    measure_times
-fi
+measure_blocks() {
+    local threads round
+    enter "${place:-disk}"
+    draw "${form[@]}"
+    echo "$count pairs, $((size / 1000000)) MB, $kind; median of $rounds; $(print_machine)"
+    echo '| Threads | Seconds | with --block 1 | by each other | Processor seconds | with --block 1 | by each other |'
+    echo '|---|---|---|---|---|---|---|'
+    for threads in 1 2 4; do
+        for ((round = 0; round < rounds; round++)); do
+            run_ours_log "$threads"
+            echo "$spent" >>"$room/row.$threads.default"
+            run_ours_log "$threads" --block 1
+            echo "$spent" >>"$room/row.$threads.1"
+        done
+        awk -v threads="$threads" -v seconds="$(medians 1 "$threads.default" "$threads.1")" -v spent="$(medians 2 "$threads.default" "$threads.1")" \
+            'BEGIN { split(seconds, s, " "); split(spent, p, " ")
+                printf "| %d | %.3f | %.3f | %.1f | %.2f | %.2f | %.1f |\n", threads, s[1], s[2], s[2] / s[1], p[1], p[2], p[2] / p[1] }'
+    done
+}
+
+case $mode in
+    tools) measure_tools ;;
+    sets) measure_all_sets ;;
+    threads-time) measure_threads ;;
+    memory) measure_memory ;;
+    block-time) measure_blocks ;;
+esac
