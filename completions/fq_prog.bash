@@ -48,7 +48,7 @@ _fq_prog() {
       ;;
   esac
   if [[ $word == -* ]]; then
-    mapfile -t COMPREPLY < <(compgen -W '--threads --block --depth --chunk --encoding --trimlog --no-name-check --help' -- "$word")
+    mapfile -t COMPREPLY < <(compgen -W '--threads --block --depth --chunk --encoding --trimlog --no-name-check --sync --help' -- "$word")
   elif [ "$place" -lt "$files" ]; then
     compopt -o default
   else

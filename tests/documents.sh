@@ -102,10 +102,12 @@ call_library() {
   awk -v RS='\f\n' '/run_threads\(/ && !found { found = 1; print }' "$work/code" > "$work/lines"
   [ -s "$work/lines" ] || { fail 'README.md has no lines that call the library'; return; }
   mkdir -p "$room/crates/shown/src"
-  grep -vE '^(#|fq_prog)' crates.txt > "$room/crates.txt"
+  # The libraries below the program, which its build has made.
   while IFS= read -r crate; do
+    [ -d "crates/$crate/out/rlib" ] || continue
+    grep -E "^${crate}[ :]" crates.txt >> "$room/crates.txt"
     mkdir -p "$room/crates/$crate/out"
-    cp -r "crates/$crate"/{src,specs,proofs} "$room/crates/$crate/"
+    find "crates/$crate" -maxdepth 1 '(' -name src -o -name specs -o -name proofs ')' -exec cp -r -t "$room/crates/$crate" {} +
     cp -r "crates/$crate/out/rlib" "$room/crates/$crate/out/"
   done < <(grep -oE '^[a-z_0-9]+' crates.txt | grep -v '^fq_prog')
   echo 'shown: fq_text fq_trim fq_work fq_run anyhow' >> "$room/crates.txt"

@@ -24,11 +24,11 @@ if ! (cd crates/fq_run && rt lib) >"$room/log" 2>&1; then
 fi
 
 # A scratch repository of the run's crates as they are built, and a program over them.
-grep -E '^fq_(text|trim|pair|lane|block|work|run)[ :]' crates.txt >"$room/crates.txt"
+grep -E '^fq_(text|samples|trim|pair|lane|block|work|serial|run)[ :]' crates.txt >"$room/crates.txt"
 mapfile -t crates < <(grep -oE '^fq_[a-z]+' "$room/crates.txt")
 for crate in "${crates[@]}"; do
     mkdir -p "$room/crates/$crate/out"
-    cp -r "crates/$crate"/{src,specs,proofs} "$room/crates/$crate/"
+    find "crates/$crate" -maxdepth 1 '(' -name src -o -name specs -o -name proofs ')' -exec cp -r -t "$room/crates/$crate" {} +
     cp -r "crates/$crate/out/rlib" "$room/crates/$crate/out/"
 done
 echo "judging: fq_text fq_trim fq_pair fq_work fq_run anyhow" >>"$room/crates.txt"

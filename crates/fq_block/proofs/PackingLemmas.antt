@@ -5,7 +5,7 @@ use Rattle.std.proofs.lemmas.Nat.{from_be_bytes-to_be_bytes_4}
 use Rattle.fq_text.specs.declared.encoding.Encoding.{Encoding}
 use Rattle.fq_text.specs.Grammar.{Read, IsLawful}
 use Rattle.fq_pair.specs.Mates.{Mates}
-use Rattle.fq_block.specs.Packing.{packed_length, packed_read, packed_pair, room_of, length_in, title_len_in, bases_in, parts_in, read_in, behind_read, pair_in, HoldsRead, HoldsPair}
+use Rattle.fq_block.specs.Packing.{packed_length, packed_read, packed_pair, length_in, title_len_in, bases_in, parts_in, read_in, behind_read, pair_in, HoldsRead, HoldsPair}
 use Rattle.fq_block.specs.Blocks.{Fits}
 
 -- A length.

@@ -1,16 +1,10 @@
-ghost use Rattle.std.specs.Prelude.{◌≡◌, IfOk};
-ghost use Rattle.fq_pair.specs.PairSources.{IsUnasked};
-
 use crate::Block;
 use fq_pair::{Pair, PairSource};
-use fq_text::{Encoding, ScriptFeed, Source};
+use fq_samples::{TWO_FORWARD, TWO_REVERSE, source_of};
+use fq_text::Encoding;
 use std::alloc::Global;
 use std::process::Abort;
 use std::test::Fail;
-
-const TWO_FORWARD: &[u8] = b"@p1/1\nACGT\n+\n#!II\n@p2/1\nGGCC\n+\nIIII\n";
-
-const TWO_REVERSE: &[u8] = b"@p1/2\nTTTT\n+\nIIII\n@p2/2\nAAAA\n+\n!!!\"\n";
 
 // The first of these pairs, packed.
 const FIRST_PACKED: &[u8] = &[
@@ -18,25 +12,6 @@ const FIRST_PACKED: &[u8] = &[
     0x23, 0x21, 0x49, 0x49, 0x00, 0x00, 0x00, 0x04, 0x00, 0x00, 0x00, 0x04, 0x70, 0x31, 0x2f, 0x32,
     0x54, 0x54, 0x54, 0x54, 0x49, 0x49, 0x49, 0x49,
 ];
-
-fn source(alloc: Global, text: &[u8], encoding: Encoding) -> Result<Source<ScriptFeed>, Fail>
-    ensures unasked { IfOk result IsUnasked }
-    ensures encoding { IfOk result (λ source. source.encoding ≡ encoding) }
-{
-    let feed = ScriptFeed::new(alloc, text, 1000, 0)?;
-    match Source::new(alloc, feed, encoding, 1000, 1000) {
-        Ok(source) => Ok(source),
-        Err(_) => Err("out of memory")?,
-    }
-}
-
-fn push(rt: &impl Abort, block: &mut Block, pair: &Pair) -> Result<(), Fail> {
-    let encoding = pair.encoding();
-    assert!(rt; encoding == block.encoding());
-    assert!(rt; block.len() < 65_536);
-    block.push(pair)?;
-    Ok(())
-}
 
 // Pushes the pairs of two texts, as many as there are, up to `most`.
 fn push_pairs(
@@ -48,16 +23,23 @@ fn push_pairs(
     most: usize,
 ) -> Result<(), Fail> {
     let encoding = block.encoding();
-    let forward = source(alloc, forward, encoding)?;
-    let reverse = source(alloc, reverse, encoding)?;
+    let forward = source_of(alloc, forward, encoding)?;
+    let reverse = source_of(alloc, reverse, encoding)?;
     let mut pairs = PairSource::new(forward, reverse, true);
     for _ in 0..most {
-        match pairs.next() {
-            Ok(Some(pair)) => push(rt, block, &pair)?,
-            Ok(None) => break,
-            Err(_) => Err("a fault of the input")?,
+        match pairs.next()? {
+            Some(pair) => push(rt, block, &pair)?,
+            None => break,
         }
     }
+    Ok(())
+}
+
+fn push(rt: &impl Abort, block: &mut Block, pair: &Pair) -> Result<(), Fail> {
+    let encoding = pair.encoding();
+    assert!(rt; encoding == block.encoding());
+    assert!(rt; block.len() < 65_536);
+    block.push(pair)?;
     Ok(())
 }
 

@@ -49,9 +49,9 @@ pub trait Files {
     /// A feed of the file's bytes, which has not failed. It changes nothing. Files that tell their bytes refuse only a name that is
     /// not held.
     fn source(&mut self, name: &str) -> Result<Self::In, FileFault>
-        ensures fresh { IfOk result (λ feed. Self.In.failure_count feed ≡ 0) }
-        ensures telling { IfOk result (λ feed. IsTrue (tells_bytes self.old) → IsTrue (Self.In.tells feed)) }
-        ensures given { IfOk result (λ feed. IsTrue (tells_bytes self.old) → bytes_of self.old name.now ≡ Some (Self.In.to_come feed)) }
+        ensures fresh { IfOk result (λ feed. (Self.In.state feed).failures ≡ 0) }
+        ensures telling { IfOk result (λ feed. IsTrue (tells_bytes self.old) → IsTrue (Self.In.state feed).tells) }
+        ensures given { IfOk result (λ feed. IsTrue (tells_bytes self.old) → bytes_of self.old name.now ≡ Some (Self.In.state feed).to_come) }
         ensures refused { IsTrue (tells_bytes self.old) → result ≡ Err FileFault.Refused → bytes_of self.old name.now ≡ None }
         ensures unchanged { IsTrue (tells_bytes self.old) → IsUnchanged (bytes_of self.old) (bytes_of self.new) }
         ensures told { tells_bytes self.new ≡ tells_bytes self.old };
@@ -66,12 +66,21 @@ pub trait Files {
         false
     }
 
+    /// From now on a flush of each target waits until its bytes are where they are to stay. Files without a disk, as those in memory,
+    /// have nothing to wait for. It changes no file.
+    ///
+    /// Call it before the first [`target`](Files::target): those that are made already flush as before.
+    fn sync_always(&mut self)
+        ensures unchanged { IsTrue (tells_bytes self.old) → IsUnchanged (bytes_of self.old) (bytes_of self.new) }
+        ensures told { tells_bytes self.new ≡ tells_bytes self.old }
+    {}
+
     /// An outlet to the file, which is made, or emptied where it is there. The outlet has taken nothing, and has not failed. Where the file is
     /// refused it holds what it held, or nothing.
     fn target(&mut self, name: &str) -> Result<Self::Target, FileFault>
-        ensures fresh { IfOk result (λ target. Self.Target.failure_count target ≡ 0) }
-        ensures telling { IfOk result (λ target. IsTrue (tells_bytes self.old) → IsTrue (Self.Target.tells target)) }
-        ensures nothing { IfOk result (λ target. IsTrue (tells_bytes self.old) → Self.Target.taken target ≡ []) }
+        ensures fresh { IfOk result (λ target. (Self.Target.state target).failures ≡ 0) }
+        ensures telling { IfOk result (λ target. IsTrue (tells_bytes self.old) → IsTrue (Self.Target.state target).tells) }
+        ensures nothing { IfOk result (λ target. IsTrue (tells_bytes self.old) → (Self.Target.state target).taken ≡ []) }
         ensures emptied { OnOk result (IsTrue (tells_bytes self.old) → bytes_of self.new name.now ≡ Some []) }
         ensures refused { OnErr result (IsTrue (tells_bytes self.old) → (bytes_of self.new name.now ≡ bytes_of self.old name.now) ⊎ (bytes_of self.new name.now ≡ Some [])) }
         ensures held { IsTrue (tells_bytes self.old) → KeepsNames (bytes_of self.old) (bytes_of self.new) }
@@ -82,7 +91,7 @@ pub trait Files {
     /// [`target`](Files::target) has answered Ok for it.
     fn done(&mut self, name: &str, target: Self::Target)
         requires { IsTrue (tells_bytes self.old) → IsSome (bytes_of self.old name.now) }
-        ensures stored { IsTrue (tells_bytes self.old) → IsTrue (Self.Target.tells target) → bytes_of self.new name.now ≡ Some (Self.Target.taken target) }
+        ensures stored { IsTrue (tells_bytes self.old) → IsTrue (Self.Target.state target).tells → bytes_of self.new name.now ≡ Some (Self.Target.state target).taken }
         ensures held { IsTrue (tells_bytes self.old) → KeepsNames (bytes_of self.old) (bytes_of self.new) }
         ensures others { IsTrue (tells_bytes self.old) → KeepsOthers (bytes_of self.old) (bytes_of self.new) name.now }
         ensures told { tells_bytes self.new ≡ tells_bytes self.old };

@@ -1,6 +1,7 @@
 //! Files by name: where a program's inputs come from and its outputs go, in memory or on a disk.
 #![tactic(auto)]
 
+mod device;
 mod files;
 mod memory;
 mod system;

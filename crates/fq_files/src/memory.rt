@@ -116,11 +116,7 @@ impl MemoryTarget {
 impl Outlet for MemoryTarget {
     ghost use Rattle.std.specs.Prelude.{true};
 
-    ghost tells = { λ _. true };
-
-    ghost taken = { λ t. t.bytes.items };
-
-    ghost failure_count = { λ t. t.failures };
+    ghost state = { λ t. record { tells = true; taken = t.bytes.items; failures = t.failures } };
 
     fn write(&mut self, bytes: &[u8]) -> Result<usize, OutletFailed> {
         match self.bytes.extend_from_slice(bytes) {

@@ -1,5 +1,6 @@
 //! Files of the system.
 
+use crate::device::major_of;
 use crate::files::{FileFault, Files};
 use fq_text::{FromRead, OutOfMemory, Outlet, OutletFailed};
 use std::alloc::Global;
@@ -34,6 +35,8 @@ pub struct SystemFiles<'a, R: rt::Files<File = File>> {
     inputs: Vec<Identity>,
     // The regular ones alone: several outputs may go to one pipe or to `/dev/null`.
     outputs: Vec<Identity>,
+    // Whether a flush waits for the disk on each device.
+    syncs_always: bool,
 }
 
 impl<'a, R: rt::Files<File = File>> SystemFiles<'a, R> {
@@ -43,6 +46,7 @@ impl<'a, R: rt::Files<File = File>> SystemFiles<'a, R> {
             runtime,
             inputs: Vec::new(alloc),
             outputs: Vec::new(alloc),
+            syncs_always: false,
         }
     }
 
@@ -64,6 +68,12 @@ impl<'a, R: rt::Files<File = File>> SystemFiles<'a, R> {
     // Whether this file is an output already.
     fn is_output(&self, identity: Identity) -> bool {
         self.outputs.iter().any(|output| *output == identity)
+    }
+
+    // Whether a flush of a regular file waits for the disk. The system may tell an error late where the file's device has no block
+    // device of its own.
+    fn syncs(&self, identity: Identity) -> bool {
+        self.syncs_always || major_of(identity.device) == 0
     }
 }
 
@@ -124,9 +134,13 @@ impl<'a, R: rt::Files<File = File>> Files for SystemFiles<'a, R> {
         }
         Ok(SystemTarget {
             file,
-            is_regular,
+            syncs: is_regular && self.syncs(identity),
             failed_calls: 0,
         })
+    }
+
+    fn sync_always(&mut self) {
+        self.syncs_always = true;
     }
 
     fn done(&mut self, _name: &str, _target: SystemTarget) {}
@@ -134,13 +148,17 @@ impl<'a, R: rt::Files<File = File>> Files for SystemFiles<'a, R> {
 
 /// A file of the system that is written. It tells no bytes.
 ///
-/// It is written without a buffer, so write large pieces. A flush of a regular file waits until its bytes are on the disk, and fails
-/// where the system says only then that some were lost, as on a full quota or a disk over a network.
+/// It is written without a buffer, so write large pieces.
+///
+/// A flush waits until the bytes of a regular file are where they are to stay, and fails where the system says only then that some
+/// were lost. It does so where the file's device has no block device of its own (its major number is 0), as on a network's file
+/// system, in memory, and on a file system over others; and on every device after [`sync_always`](Files::sync_always). Elsewhere a
+/// write that succeeds has its place on the disk, and a flush does nothing.
 #[derive(Drop)]
 pub struct SystemTarget {
     file: File,
-    // Pipes and terminals have no disk to wait for.
-    is_regular: bool,
+    // Whether a flush waits. Pipes and terminals have no disk to wait for.
+    syncs: bool,
     failed_calls: u64,
 }
 
@@ -160,11 +178,7 @@ impl SystemTarget {
 impl Outlet for SystemTarget {
     ghost use Rattle.std.specs.Prelude.{false, []};
 
-    ghost tells = { λ _. false };
-
-    ghost taken = { λ _. [] };
-
-    ghost failure_count = { λ t. t.failed_calls };
+    ghost state = { λ t. record { tells = false; taken = []; failures = t.failed_calls } };
 
     fn write(&mut self, bytes: &[u8]) -> Result<usize, OutletFailed> {
         match self.file.write(bytes) {
@@ -175,7 +189,7 @@ impl Outlet for SystemTarget {
     }
 
     fn flush(&mut self) -> Result<(), OutletFailed> {
-        if self.is_regular && self.file.sync_data().is_err() {
+        if self.syncs && self.file.sync_data().is_err() {
             return Err(self.fail());
         }
         Ok(())

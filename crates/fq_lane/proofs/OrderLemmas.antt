@@ -1,7 +1,7 @@
 use Rattle.std.proofs.Common.{◌≡◌, Bool, true, false, List, [], ◌∷◌, ◌++◌, length, take, drop, refl, sym, ap, ◌∙◌, append_assoc, subst}
 use Rattle.std.proofs.lemmas.List.{append-nil}
 use mathlib.Core.List.{IsPrefix}
-use Rattle.fq_lane.specs.Line.{Line, with_item, with_mark}
+use Rattle.fq_lane.specs.History.{History, with_item, with_mark}
 use Rattle.fq_lane.specs.Slots.{slots_of}
 use Rattle.fq_lane.specs.Order.{Event, push_item, push_mark, pop, give_end, Lane, after_event, after_events, new_lane, has_mark, pushed_unless, next_slot, lane_of}
 use Rattle.fq_lane.proofs.SlotLemmas.{slots-item, slots-mark}
@@ -88,29 +88,29 @@ module _ {T : Type 0} where
   lane_is : (a b c d : List (Slot T)) → a ≡ b → c ≡ d → (let l : Lane T = record { sent = a; got = c } in l) ≡ (let l : Lane T = record { sent = b; got = d } in l)
   lane_is a b c d p q = cc
 
-  -- the slots of an open line, and one more behind them
-  open_item : (l : Line T) (x : T) → l.marked ≡ false → slots_of l.items l.marked ++ Item x ∷ [] ≡ slots_of (with_item l x).items (with_item l x).marked
+  -- the slots of an open history, and one more behind them
+  open_item : (l : History T) (x : T) → l.marked ≡ false → slots_of l.items l.marked ++ Item x ∷ [] ≡ slots_of (with_item l x).items (with_item l x).marked
   open_item l x unmarked =
       ap (λ b. slots_of l.items b ++ Item x ∷ []) unmarked ∙ slots-item l.items x ∙ ap (slots_of (l.items ++ x ∷ [])) (sym unmarked)
 
-  open_mark : (l : Line T) → l.marked ≡ false → slots_of l.items l.marked ++ Mark ∷ [] ≡ slots_of (with_mark l).items (with_mark l).marked
+  open_mark : (l : History T) → l.marked ≡ false → slots_of l.items l.marked ++ Mark ∷ [] ≡ slots_of (with_mark l).items (with_mark l).marked
   open_mark l unmarked = ap (λ b. slots_of l.items b ++ Mark ∷ []) unmarked ∙ slots-mark l.items
 
-  open_has_none : (l : Line T) → l.marked ≡ false → has_mark (slots_of l.items l.marked) ≡ false
+  open_has_none : (l : History T) → l.marked ≡ false → has_mark (slots_of l.items l.marked) ≡ false
   open_has_none l unmarked = ap (λ b. has_mark (slots_of l.items b)) unmarked ∙ no_mark l.items
 
-  pub item_sent : (sent got : Line T) (x : T) → sent.marked ≡ false → after_event (lane_of sent got) (push_item x) ≡ lane_of (with_item sent x) got
+  pub item_sent : (sent got : History T) (x : T) → sent.marked ≡ false → after_event (lane_of sent got) (push_item x) ≡ lane_of (with_item sent x) got
   item_sent sent got x unmarked =
       lane_is _ _ _ _ (pushed_open _ (slots_of sent.items sent.marked) (Item x) (open_has_none sent unmarked) ∙ open_item sent x unmarked) refl
 
-  pub mark_sent : (sent got : Line T) → sent.marked ≡ false → after_event (lane_of sent got) push_mark ≡ lane_of (with_mark sent) got
+  pub mark_sent : (sent got : History T) → sent.marked ≡ false → after_event (lane_of sent got) push_mark ≡ lane_of (with_mark sent) got
   mark_sent sent got unmarked =
       lane_is _ _ _ _ (pushed_open _ (slots_of sent.items sent.marked) Mark (open_has_none sent unmarked) ∙ open_mark sent unmarked) refl
 
-  pub item_got : (sent got : Line T) (x : T) → got.marked ≡ false → next_slot (lane_of sent got) ≡ Item x ∷ [] → after_event (lane_of sent got) pop ≡ lane_of sent (with_item got x)
+  pub item_got : (sent got : History T) (x : T) → got.marked ≡ false → next_slot (lane_of sent got) ≡ Item x ∷ [] → after_event (lane_of sent got) pop ≡ lane_of sent (with_item got x)
   item_got sent got x unmarked next =
       lane_is _ _ _ _ refl (ap (λ ss. slots_of got.items got.marked ++ ss) next ∙ open_item got x unmarked)
 
-  pub mark_got : (sent got : Line T) → got.marked ≡ false → next_slot (lane_of sent got) ≡ Mark ∷ [] → after_event (lane_of sent got) pop ≡ lane_of sent (with_mark got)
+  pub mark_got : (sent got : History T) → got.marked ≡ false → next_slot (lane_of sent got) ≡ Mark ∷ [] → after_event (lane_of sent got) pop ≡ lane_of sent (with_mark got)
   mark_got sent got unmarked next =
       lane_is _ _ _ _ refl (ap (λ ss. slots_of got.items got.marked ++ ss) next ∙ open_mark got unmarked)

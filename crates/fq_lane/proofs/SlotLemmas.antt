@@ -2,8 +2,8 @@ use Rattle.std.proofs.Common.{◌≡◌, Bool, true, false, List, [], ◌∷◌,
 use Rattle.std.proofs.lemmas.List.{append-nil}
 use Rattle.rtrb.specs.Ends.{SameRing}
 use Rattle.rtrb.specs.declared.end.End.{End}
-use Rattle.fq_lane.specs.Line.{Line, Name}
-use Rattle.fq_lane.specs.Slots.{slots_of, items_of, IsLine}
+use Rattle.fq_lane.specs.History.{History, Name}
+use Rattle.fq_lane.specs.Slots.{slots_of, items_of, IsHistory}
 use Rattle.fq_lane.specs.declared.slot.Slot.{Slot}
 use Rattle.fq_lane.specs.declared.slot.Slot.TheVariants.{Item, Mark}
 
@@ -28,20 +28,20 @@ module _ {T : Type 0} where
   items-slots (x ∷ xs) b = ap (λ ys. x ∷ ys) (items-slots xs b)
 
   -- an item more
-  pub item_items : (ss ts : List (Slot T)) (x : T) → IsLine ss false → ts ≡ ss ++ Item x ∷ [] → items_of ts ≡ items_of ss ++ x ∷ []
-  item_items ss ts x line is = ap items_of is ∙ items-append ss (Item x ∷ [])
+  pub item_items : (ss ts : List (Slot T)) (x : T) → IsHistory ss false → ts ≡ ss ++ Item x ∷ [] → items_of ts ≡ items_of ss ++ x ∷ []
+  item_items ss ts x history is = ap items_of is ∙ items-append ss (Item x ∷ [])
 
-  pub item_line : (ss ts : List (Slot T)) (x : T) → IsLine ss false → ts ≡ ss ++ Item x ∷ [] → IsLine ts false
-  item_line ss ts x line is =
-      is ∙ ap (λ us. us ++ Item x ∷ []) line ∙ slots-item (items_of ss) x ∙ ap (λ ys. slots_of ys false) (sym (item_items ss ts x line is))
+  pub item_history : (ss ts : List (Slot T)) (x : T) → IsHistory ss false → ts ≡ ss ++ Item x ∷ [] → IsHistory ts false
+  item_history ss ts x history is =
+      is ∙ ap (λ us. us ++ Item x ∷ []) history ∙ slots-item (items_of ss) x ∙ ap (λ ys. slots_of ys false) (sym (item_items ss ts x history is))
 
   -- the mark behind the items
-  pub mark_items : (ss ts : List (Slot T)) → IsLine ss false → ts ≡ ss ++ Mark ∷ [] → items_of ts ≡ items_of ss
-  mark_items ss ts line is = ap items_of is ∙ items-append ss (Mark ∷ []) ∙ append-nil (items_of ss)
+  pub mark_items : (ss ts : List (Slot T)) → IsHistory ss false → ts ≡ ss ++ Mark ∷ [] → items_of ts ≡ items_of ss
+  mark_items ss ts history is = ap items_of is ∙ items-append ss (Mark ∷ []) ∙ append-nil (items_of ss)
 
-  pub mark_line : (ss ts : List (Slot T)) → IsLine ss false → ts ≡ ss ++ Mark ∷ [] → IsLine ts true
-  mark_line ss ts line is =
-      is ∙ ap (λ us. us ++ Mark ∷ []) line ∙ slots-mark (items_of ss) ∙ ap (λ ys. slots_of ys true) (sym (mark_items ss ts line is))
+  pub mark_history : (ss ts : List (Slot T)) → IsHistory ss false → ts ≡ ss ++ Mark ∷ [] → IsHistory ts true
+  mark_history ss ts history is =
+      is ∙ ap (λ us. us ++ Mark ∷ []) history ∙ slots-mark (items_of ss) ∙ ap (λ ys. slots_of ys true) (sym (mark_items ss ts history is))
 
   -- nothing stands behind the mark
   whole : (xs ys : List T) (rest : List (Slot T)) → slots_of xs true ++ rest ≡ slots_of ys true → xs ≡ ys
@@ -54,15 +54,15 @@ module _ {T : Type 0} where
       cc
 
   -- what was got up to the mark is all that was sent
-  pub whole_items : (got rest sent : List (Slot T)) → IsLine got true → IsLine sent true → got ++ rest ≡ sent → items_of got ≡ items_of sent
+  pub whole_items : (got rest sent : List (Slot T)) → IsHistory got true → IsHistory sent true → got ++ rest ≡ sent → items_of got ≡ items_of sent
   whole_items got rest sent g s e = whole (items_of got) (items_of sent) rest (ap (λ us. us ++ rest) (sym g) ∙ e ∙ s)
 
-  pub line_along : (ss ts : List (Slot T)) (b : Bool) → IsLine ss b → ts ≡ ss → IsLine ts b
-  line_along ss ts b line is = is ∙ line ∙ ap (λ us. slots_of (items_of us) b) (sym is)
+  pub history_along : (ss ts : List (Slot T)) (b : Bool) → IsHistory ss b → ts ≡ ss → IsHistory ts b
+  history_along ss ts b history is = is ∙ history ∙ ap (λ us. slots_of (items_of us) b) (sym is)
 
-  pub line_is : (m n : Name) (xs ys : List T) (b c : Bool) → m ≡ n → xs ≡ ys → b ≡ c
-      → (let l : Line T = record { name = m; items = xs; marked = b } in l) ≡ (let l : Line T = record { name = n; items = ys; marked = c } in l)
-  line_is m n xs ys b c p q r = cc
+  pub history_is : (m n : Name) (xs ys : List T) (b c : Bool) → m ≡ n → xs ≡ ys → b ≡ c
+      → (let l : History T = record { name = m; items = xs; marked = b } in l) ≡ (let l : History T = record { name = n; items = ys; marked = c } in l)
+  history_is m n xs ys b c p q r = cc
 
 module _ {T A P : Type 0} where
   pub same_name : (a b : End T A P) → SameRing a b → (let n : Name = (b.words, (b.slots, b.names)) in n) ≡ (let n : Name = (a.words, (a.slots, a.names)) in n)

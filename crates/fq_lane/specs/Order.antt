@@ -1,6 +1,6 @@
 -- A lane as two lists, what was sent and what was got, under every order of events.
 use Rattle.std.specs.Prelude.{Bool, true, false, List, [], ◌∷◌, ◌++◌, length, take, drop}
-use Rattle.fq_lane.specs.Line.{Line}
+use Rattle.fq_lane.specs.History.{History}
 use Rattle.fq_lane.specs.Slots.{slots_of}
 use Rattle.fq_lane.specs.declared.slot.Slot.{Slot}
 use Rattle.fq_lane.specs.declared.slot.Slot.TheVariants.{Item, Mark}
@@ -48,6 +48,6 @@ after_events l (e ∷ es) = after_events (after_event l e) es
 abbrev pub new_lane : {T : Type 0} → Lane T
 new_lane = record { sent = []; got = [] }
 
--- the lane whose ends show these lines
-abbrev pub lane_of : {T : Type 0} → Line T → Line T → Lane T
+-- the lane whose ends show these histories
+abbrev pub lane_of : {T : Type 0} → History T → History T → Lane T
 lane_of sent got = record { sent = slots_of sent.items sent.marked; got = slots_of got.items got.marked }

@@ -16,5 +16,5 @@ items_of (Item x ∷ ss) = x ∷ items_of ss
 items_of (Mark ∷ ss) = items_of ss
 
 -- items alone, and then the mark where b says so
-abbrev pub IsLine : {T : Type 0} → List (Slot T) → Bool → Type 0
-IsLine ss b = ss ≡ slots_of (items_of ss) b
+abbrev pub IsHistory : {T : Type 0} → List (Slot T) → Bool → Type 0
+IsHistory ss b = ss ≡ slots_of (items_of ss) b

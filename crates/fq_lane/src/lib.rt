@@ -4,8 +4,8 @@
 //! behind the last one. The receiver [`Rx`] takes them out, in order, up to that mark. Closing gives an [`End`], and
 //! [`Rx::confirm`] with that end shows that what was got is what was sent: each item once, in order, and nothing else.
 //!
-//! Contracts see each end as a `Line` of `specs/Line.antt`: the lane's name, the items that went through this end, in order,
-//! and whether the mark did. While both ends run, neither knows the other's line.
+//! Contracts see each end as a `History` of `specs/History.antt`: the lane's name, the items that went through this end, in order,
+//! and whether the mark did. While both ends run, neither knows the other's history.
 //!
 //! No contract says that a lane has room, that an item is there, or that a call that waits returns: tests show it.
 #![tactic(auto)]

@@ -1,4 +1,4 @@
-//! What a lane does with its ring, said of the lines that the ring's ends stand for.
+//! What a lane does with its ring, said of the histories that the ring's ends stand for.
 //!
 //! Each move that the other end may sleep for (a push of an item or of the mark, a pop of an item) answers a witness. A
 //! witness comes only out of its move, and can't be let go: it is taken apart by waking the other end, and by nothing else.
@@ -7,9 +7,9 @@
 
 ghost use Rattle.std.specs.Prelude.{◌≡◌, ◌<◌, false, true, IsTrue, IfSome};
 ghost use Rattle.rtrb.specs.Ring.{sent, known_free, received, all_sent};
-ghost use Rattle.fq_lane.specs.Line.{with_item, with_mark};
-ghost use Rattle.fq_lane.specs.Slots.{IsLine};
-ghost use Rattle.fq_lane.specs.Ends.{sender_line, receiver_line, end_line, consumer_name, finished_name, IsOpen};
+ghost use Rattle.fq_lane.specs.History.{with_item, with_mark};
+ghost use Rattle.fq_lane.specs.Slots.{IsHistory};
+ghost use Rattle.fq_lane.specs.Ends.{sender_history, receiver_history, end_history, consumer_name, finished_name, IsOpen};
 ghost use Rattle.fq_lane.specs.Take.{Pops};
 
 use crate::parkers::Parkers;
@@ -53,7 +53,7 @@ pub(crate) enum Popped<T> {
 pub(crate) fn has_room<T>(producer: &mut Producer<Slot<T>>) -> bool
     requires { IsOpen producer.old }
     ensures open { IsOpen producer.new }
-    ensures unchanged { sender_line producer.new false ≡ sender_line producer.old false }
+    ensures unchanged { sender_history producer.new false ≡ sender_history producer.old false }
     ensures room { IsTrue result → 1 < known_free producer.new }
 {
     producer.cached_slots() > 1 || producer.slots() > 1
@@ -64,7 +64,7 @@ pub(crate) fn push_item<T>(producer: &mut Producer<Slot<T>>, item: T) -> Pushed
     requires open { IsOpen producer.old }
     requires room { 1 < known_free producer.old }
     ensures open { IsOpen producer.new }
-    ensures sent { sender_line producer.new false ≡ with_item (sender_line producer.old false) item }
+    ensures sent { sender_history producer.new false ≡ with_item (sender_history producer.old false) item }
 {
     producer.push_reserved(Slot::Item(item));
     Pushed { made_by_push: () }
@@ -73,8 +73,8 @@ pub(crate) fn push_item<T>(producer: &mut Producer<Slot<T>>, item: T) -> Pushed
 /// Pushes the mark, into the slot that is kept for it.
 pub(crate) fn push_mark<T>(producer: &mut Producer<Slot<T>>) -> Pushed
     requires { IsOpen producer.old }
-    ensures marked { IsLine (sent producer.new) true }
-    ensures sent { sender_line producer.new true ≡ with_mark (sender_line producer.old false) }
+    ensures marked { IsHistory (sent producer.new) true }
+    ensures sent { sender_history producer.new true ≡ with_mark (sender_history producer.old false) }
 {
     producer.push_reserved(Slot::Mark);
     Pushed { made_by_push: () }
@@ -82,15 +82,15 @@ pub(crate) fn push_mark<T>(producer: &mut Producer<Slot<T>>) -> Pushed
 
 /// What is left of a producer behind the mark. `None` where the consumer was dropped before.
 pub(crate) fn finish<T: Drop>(producer: Producer<Slot<T>>) -> Option<Finished<Slot<T>>>
-    requires { IsLine (sent producer) true }
-    ensures { IfSome result (λ end. IsLine (all_sent end) true × (end_line end ≡ sender_line producer true)) }
+    requires { IsHistory (sent producer) true }
+    ensures { IfSome result (λ end. IsHistory (all_sent end) true × (end_history end ≡ sender_history producer true)) }
 {
     producer.finish()
 }
 
 /// Pops an item or the mark, whichever is next.
 pub(crate) fn pop<T>(consumer: &mut Consumer<Slot<T>>) -> Popped<T>
-    requires { IsLine (received consumer.old) false }
+    requires { IsHistory (received consumer.old) false }
     ensures { Pops result consumer.old consumer.new }
 {
     match consumer.pop() {
@@ -102,12 +102,12 @@ pub(crate) fn pop<T>(consumer: &mut Consumer<Slot<T>>) -> Popped<T>
 
 /// Looks at all that was ever sent, from behind the mark: it is what was got.
 pub(crate) fn see_all<T: Drop>(consumer: &mut Consumer<Slot<T>>, finished: Finished<Slot<T>>)
-    requires got { IsLine (received consumer.old) true }
-    requires sent { IsLine (all_sent finished) true }
+    requires got { IsHistory (received consumer.old) true }
+    requires sent { IsHistory (all_sent finished) true }
     requires one_lane { finished_name finished ≡ consumer_name consumer.old }
-    ensures got { IsLine (received consumer.new) true }
-    ensures unchanged { receiver_line consumer.new true ≡ receiver_line consumer.old true }
-    ensures whole { receiver_line consumer.new true ≡ end_line finished }
+    ensures got { IsHistory (received consumer.new) true }
+    ensures unchanged { receiver_history consumer.new true ≡ receiver_history consumer.old true }
+    ensures whole { receiver_history consumer.new true ≡ end_history finished }
 {
     let mut finished = finished;
     consumer.slots_after(&mut finished);

@@ -30,16 +30,16 @@ pub struct Rx<T: Drop> {
 }
 
 impl<T: Drop> Model for Rx<T> {
-    ghost use Rattle.fq_lane.specs.Line.{Line};
-    ghost use Rattle.fq_lane.specs.Slots.{IsLine};
-    ghost use Rattle.fq_lane.specs.Ends.{receiver_line};
+    ghost use Rattle.fq_lane.specs.History.{History};
+    ghost use Rattle.fq_lane.specs.Slots.{IsHistory};
+    ghost use Rattle.fq_lane.specs.Ends.{receiver_history};
     ghost use Rattle.rtrb.specs.Ring.{received};
 
-    ghost Value = { Line T };
+    ghost Value = { History T };
 
-    ghost view = { λ r. receiver_line r.consumer r.closed };
+    ghost view = { λ r. receiver_history r.consumer r.closed };
 
-    ghost invariant = { λ r. IsLine (received r.consumer) r.closed };
+    ghost invariant = { λ r. IsHistory (received r.consumer) r.closed };
 }
 
 impl<T: Drop> Rx<T> {

@@ -2,7 +2,7 @@
 
 ghost use Rattle.std.specs.Prelude.{◌≡◌, ◌<◌, false, [], OnOk, IfOk, IfErr};
 ghost use Rattle.rtrb.specs.Ring.{sent, known_free};
-ghost use Rattle.fq_lane.specs.Line.{with_item, with_mark};
+ghost use Rattle.fq_lane.specs.History.{with_item, with_mark};
 ghost use Rattle.fq_lane.specs.Ends.{producer_name};
 
 use crate::parkers::Parkers;
@@ -28,12 +28,12 @@ pub struct Tx<T: Drop> {
 
 impl<T: Drop> Model for Tx<T> {
     ghost use Rattle.std.specs.Prelude.{false};
-    ghost use Rattle.fq_lane.specs.Line.{Line};
-    ghost use Rattle.fq_lane.specs.Ends.{sender_line, IsOpen};
+    ghost use Rattle.fq_lane.specs.History.{History};
+    ghost use Rattle.fq_lane.specs.Ends.{sender_history, IsOpen};
 
-    ghost Value = { Line T };
+    ghost Value = { History T };
 
-    ghost view = { λ t. sender_line t.producer false };
+    ghost view = { λ t. sender_history t.producer false };
 
     ghost invariant = { λ t. IsOpen t.producer };
 }
@@ -66,16 +66,16 @@ pub struct End<T: Drop> {
 
 impl<T: Drop> Model for End<T> {
     ghost use Rattle.std.specs.Prelude.{true};
-    ghost use Rattle.fq_lane.specs.Line.{Line};
-    ghost use Rattle.fq_lane.specs.Slots.{IsLine};
-    ghost use Rattle.fq_lane.specs.Ends.{end_line};
+    ghost use Rattle.fq_lane.specs.History.{History};
+    ghost use Rattle.fq_lane.specs.Slots.{IsHistory};
+    ghost use Rattle.fq_lane.specs.Ends.{end_history};
     ghost use Rattle.rtrb.specs.Ring.{all_sent};
 
-    ghost Value = { Line T };
+    ghost Value = { History T };
 
-    ghost view = { λ e. end_line e.finished };
+    ghost view = { λ e. end_history e.finished };
 
-    ghost invariant = { λ e. IsLine (all_sent e.finished) true };
+    ghost invariant = { λ e. IsHistory (all_sent e.finished) true };
 }
 
 impl<T: Drop> Tx<T> {

@@ -9,7 +9,7 @@ use Rattle.fq_text.specs.Grammar.{Read}
 use Rattle.fq_pair.specs.declared.side.Side.{Side}
 use Rattle.fq_pair.specs.declared.side.Side.TheVariants.{Forward, Reverse}
 use Rattle.fq_pair.specs.Mates.{Mates, name_of}
-use Rattle.fq_pair.specs.Outputs.{Outputs, kept_places, is_empty, both_survive, forward_alone, reverse_alone, none_survive, record_at, record_text, line_of, log_line, log_lines, texts_of, joined, places_of}
+use Rattle.fq_pair.specs.Outputs.{Outputs, kept_places, is_empty, both_survive, forward_alone, reverse_alone, none_survive, record_at, record_text, log_line_of, log_line, log_lines, texts_of, joined, places_of}
 
 some_places : (start n : ℕ) → 0 < n → is_empty (places start n) ≡ false
 some_places start zero some = absurd (omega arith)
@@ -56,12 +56,12 @@ text_with old room new recode steps o k read same put recodes_is is some_is =
     ∙ ap (λ (xs : List ℕ). old ++ record_at (recodes steps) xs read) (sym (is ∙ ap places_of some_is))
 
 -- a log behind which a line was put
-pub log_with : (old room new : List ℕ) (side : Side) (steps : List Step) (o : Option Kept) (read : Read) (name : List ℕ) (bases : ℕ) → room ≡ old → new ≡ room ++ line_of name bases (places_of o)
+pub log_with : (old room new : List ℕ) (side : Side) (steps : List Step) (o : Option Kept) (read : Read) (name : List ℕ) (bases : ℕ) → room ≡ old → new ≡ room ++ log_line_of name bases (places_of o)
     → name ≡ name_of side read.title → bases ≡ length read.seq → kept_places steps read ≡ places_of o → new ≡ old ++ log_line side (kept_places steps read) read
 log_with old room new side steps o read name bases same put named counted is =
-    put ∙ ap (λ (xs : List ℕ). xs ++ line_of name bases (places_of o)) same
-    ∙ ap (λ (xs : List ℕ). old ++ line_of xs bases (places_of o)) named
-    ∙ ap (λ (n : ℕ). old ++ line_of (name_of side read.title) n (places_of o)) counted
+    put ∙ ap (λ (xs : List ℕ). xs ++ log_line_of name bases (places_of o)) same
+    ∙ ap (λ (xs : List ℕ). old ++ log_line_of xs bases (places_of o)) named
+    ∙ ap (λ (n : ℕ). old ++ log_line_of (name_of side read.title) n (places_of o)) counted
     ∙ ap (λ (xs : List ℕ). old ++ log_line side xs read) (sym is)
 
 module _ (steps : List Step) (m : Mates) (old : Outputs) where

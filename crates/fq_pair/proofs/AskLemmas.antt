@@ -1,6 +1,7 @@
 -- What a call of a source of pairs answers, of its state.
-use Rattle.std.proofs.Common.{◌≡◌, ℕ, ◌+◌, ◌*◌, Bool, Option, Some, None, Result, Ok, Err, IfOk, IfErr, List, refl, ap, ◌∙◌}
+use Rattle.std.proofs.Common.{◌≡◌, ◌+◌, ◌*◌, Option, Some, None, Result, Ok, Err, IfOk, IfErr, refl, ap, ◌∙◌}
 use Rattle.std.specs.Option.{IfSome}
+use Rattle.fq_text.specs.Devices.{FeedState}
 use Rattle.fq_text.specs.Lines.{lines}
 use Rattle.fq_text.specs.Sources.{rest_in}
 use Rattle.fq_pair.specs.declared.side.Side.TheVariants.{Forward, Reverse}
@@ -10,9 +11,9 @@ use Rattle.fq_pair.specs.PairSources.{PairSourced, KeepsCounts, GivesPair, EndsP
 use Rattle.fq_pair.specs.Walks.{source_state, KeepsSettings, Asks}
 use Rattle.fq_pair.proofs.SideLemmas.{drawn, used}
 
-module _ {F G : Type 0} (tells : F → Bool) (to_come : F → List ℕ) (fails : F → ℕ) (tells' : G → Bool) (to_come' : G → List ℕ) (fails' : G → ℕ) where
-  same_settings : (old new : PairSourced F G) → KeepsCounts tells to_come tells' to_come' old new →
-      KeepsSettings (source_state tells to_come fails tells' to_come' fails' old) (source_state tells to_come fails tells' to_come' fails' new)
+module _ {F G : Type 0} (state : F → FeedState) (state' : G → FeedState) where
+  same_settings : (old new : PairSourced F G) → KeepsCounts state state' old new →
+      KeepsSettings (source_state state state' old) (source_state state state' new)
   same_settings old new k =
       let f = k.forward in
       record {
@@ -24,13 +25,13 @@ module _ {F G : Type 0} (tells : F → Bool) (to_come : F → List ℕ) (fails :
 
   -- the answer of a source that goes on
   pub asks : (old new : PairSourced F G) (r : Result (Option Mates) InputFault) →
-      IfOk r (λ o. IfSome o (GivesPair tells to_come tells' to_come' old new)) →
-      (r ≡ Ok None → EndsPairs tells to_come tells' to_come' old new) →
-      IfErr r (StopsPairs tells to_come tells' to_come' old new) →
-      fails new.forward.feed ≡ fails old.forward.feed + failed_on Forward r →
-      fails' new.reverse.feed ≡ fails' old.reverse.feed + failed_on Reverse r →
-      KeepsCounts tells to_come tells' to_come' old new →
-      Asks (source_state tells to_come fails tells' to_come' fails' old) (source_state tells to_come fails tells' to_come' fails' new) r
+      IfOk r (λ o. IfSome o (GivesPair state state' old new)) →
+      (r ≡ Ok None → EndsPairs state state' old new) →
+      IfErr r (StopsPairs state state' old new) →
+      (state new.forward.feed).failures ≡ (state old.forward.feed).failures + failed_on Forward r →
+      (state' new.reverse.feed).failures ≡ (state' old.reverse.feed).failures + failed_on Reverse r →
+      KeepsCounts state state' old new →
+      Asks (source_state state state' old) (source_state state state' new) r
   asks old new (Ok (Some m)) found end fault ff fr k =
       let f = found.forward in let r = found.reverse in
       record {
@@ -39,23 +40,23 @@ module _ {F G : Type 0} (tells : F → Bool) (to_come : F → List ℕ) (fails :
         forward_records = f.given;
         reverse_records = r.given;
         last = found.last;
-        forward = drawn tells to_come fails old.forward new.forward 0 k.forward ff;
-        reverse = drawn tells' to_come' fails' old.reverse new.reverse 0 k.reverse fr;
-        forward_used = λ told. used tells to_come fails old.forward new.forward (f.tail told);
-        reverse_used = λ told. used tells' to_come' fails' old.reverse new.reverse (r.tail told);
-        leads = λ tf tr. (lines (rest_in to_come new.forward), lines (rest_in to_come' new.reverse), found.pair_is tf tr, (refl, refl));
+        forward = drawn state old.forward new.forward 0 k.forward ff;
+        reverse = drawn state' old.reverse new.reverse 0 k.reverse fr;
+        forward_used = λ told. used state old.forward new.forward (f.tail told);
+        reverse_used = λ told. used state' old.reverse new.reverse (r.tail told);
+        leads = λ tf tr. (lines (rest_in state new.forward), lines (rest_in state' new.reverse), found.pair_is tf tr, (refl, refl));
       }
   asks old new (Ok None) found end fault ff fr k =
       let e = end refl in
       record {
-        forward = drawn tells to_come fails old.forward new.forward 0 k.forward ff;
-        reverse = drawn tells' to_come' fails' old.reverse new.reverse 0 k.reverse fr;
+        forward = drawn state old.forward new.forward 0 k.forward ff;
+        reverse = drawn state' old.reverse new.reverse 0 k.reverse fr;
         end_is = e.end_is;
       }
   asks old new (Err why) found end fault ff fr k =
       record {
-        forward = drawn tells to_come fails old.forward new.forward _ k.forward ff;
-        reverse = drawn tells' to_come' fails' old.reverse new.reverse _ k.reverse fr;
+        forward = drawn state old.forward new.forward _ k.forward ff;
+        reverse = drawn state' old.reverse new.reverse _ k.reverse fr;
         fault_is = fault.fault_is;
         lacks = fault.lacks;
         endless = fault.endless;

@@ -1,6 +1,6 @@
 pub mod WorkedExamples
 pub mod PairLaws
-pub mod MixedLaws
+pub mod InterleavedLaws
 pub mod OutputLaws
 pub mod NameLemmas
 pub mod TextLemmas
@@ -10,4 +10,4 @@ pub mod FrontLemmas
 pub mod WholeLemmas
 pub mod SideLemmas
 pub mod AskLemmas
-pub mod MixedLemmas
+pub mod InterleavedLemmas

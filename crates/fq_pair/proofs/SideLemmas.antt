@@ -1,22 +1,23 @@
 -- One side of a source of pairs, in three states one after the other, and the records of pairs.
-use Rattle.std.proofs.Common.{◌≡◌, ℕ, ◌+◌, ◌-◌, ◌≤◌, ◌⊎◌, inl, inr, ⊎_elim, Bool, true, IsTrue, List, [], ◌++◌, length, take, refl, ap, sym, ◌∙◌, arith, append_assoc}
+use Rattle.std.proofs.Common.{◌≡◌, ℕ, ◌+◌, ◌-◌, ◌≤◌, ◌⊎◌, inl, inr, ⊎_elim, true, IsTrue, List, [], ◌++◌, length, take, refl, ap, sym, ◌∙◌, arith, append_assoc}
 use Rattle.std.proofs.lemmas.List.{append_cancel_left, append_cancel_right, length-append, length-take-le, nil_from_length, take_at}
+use Rattle.fq_text.specs.Devices.{FeedState}
 use Rattle.fq_text.specs.Lines.{lines, is_whole, whole_part}
 use Rattle.fq_text.proofs.LineLemmas.{lines-append, whole-append}
 use Rattle.fq_pair.specs.Mates.{Mates}
-use Rattle.fq_pair.specs.Forms.{Form, TwoTexts, OneText, records_of_pairs}
+use Rattle.fq_pair.specs.Forms.{Form, TwoTexts, InterleavedText, records_of_pairs}
 use Rattle.fq_text.specs.Sources.{Sourced, rest_in, IsTail, KeepsCount}
 use Rattle.fq_pair.specs.Walks.{SideState, side_state, SourceState, rest, fed, came, Draws, Uses, Walks}
 use Rattle.fq_pair.proofs.WholeLemmas.{behind_whole, whole_split, is_whole-whole_part, whole_part-whole}
 
 -- One source as a side.
-module _ {F : Type 0} (tells : F → Bool) (to_come : F → List ℕ) (fails : F → ℕ) (old new : Sourced F) where
+module _ {F : Type 0} (state : F → FeedState) (old new : Sourced F) where
   -- what its feed gave in a call, in which it failed so often
-  pub drawn : (n : ℕ) → KeepsCount tells to_come old new → fails new.feed ≡ fails old.feed + n → Draws (side_state tells to_come fails old) (side_state tells to_come fails new) n
+  pub drawn : (n : ℕ) → KeepsCount state old new → (state new.feed).failures ≡ (state old.feed).failures + n → Draws (side_state state old) (side_state state new) n
   drawn n k failed = record { told = k.told; max_reads = k.max_reads; grows = k.grows; bytes = k.fed; size = k.length; failures = failed }
 
   -- the bytes that a record was
-  abbrev pub used : IsTail (rest_in to_come old) (rest_in to_come new) → Uses (side_state tells to_come fails old) (side_state tells to_come fails new)
+  abbrev pub used : IsTail (rest_in state old) (rest_in state new) → Uses (side_state state old) (side_state state new)
   used t = record { used = t.before; split = t.split; at_line = t.at_line }
 
 -- what a feed gave in two calls
@@ -101,12 +102,12 @@ module _ (old mid new : SideState) (n : ℕ) (a : Draws old mid 0) (b : Draws mi
 -- in either form there are as many records as pairs, or more
 pub some_records : (form : Form) (n : ℕ) → n ≤ records_of_pairs form n
 some_records TwoTexts n = omega arith
-some_records OneText n = omega arith
+some_records InterleavedText n = omega arith
 
 -- so many pairs and more come in two lists, one behind the other
 pub records_then : (form : Form) (m n : ℕ) → records_of_pairs form (m + n) ≡ records_of_pairs form m + records_of_pairs form n
 records_then TwoTexts m n = refl
-records_then OneText m n = omega arith
+records_then InterleavedText m n = omega arith
 
 -- a forward record at least was given for each pair
 pub walked_records : (old new : SourceState) (ms : List Mates) → Walks old new ms → old.forward.given + length ms ≤ new.forward.given

@@ -1,6 +1,7 @@
 -- The pairs that are left to a source of two texts, by what stands in front of them.
 use Rattle.std.proofs.Common.{◌≡◌, ℕ, suc, ◌+◌, Bool, true, IsTrue, Some, None, List, [], refl, ap, sym, subst, ◌∙◌, add-one}
 use Rattle.std.proofs.lemmas.Bool.{cond-true}
+use Rattle.fq_text.specs.Devices.{FeedState}
 use Rattle.fq_text.specs.declared.encoding.Encoding.{Encoding}
 use Rattle.fq_text.specs.Lines.{lines}
 use Rattle.fq_text.specs.Grammar.{Read, Front, Found, front}
@@ -12,20 +13,20 @@ use Rattle.fq_pair.specs.Pairing.{Pairs, Ended, Stopped, Met, belong, meeting, p
 use Rattle.fq_pair.specs.PairSources.{PairSourced, front_of, pairs_left, GivesPair, asked}
 use Rattle.fq_pair.proofs.PairLaws.{pairs_of-met, pairs_of-stopped, pairs_of-ended}
 
-module _ {F G : Type 0} (to_come : F → List ℕ) (to_come' : G → List ℕ) (old : PairSourced F G) where
+module _ {F G : Type 0} (state : F → FeedState) (state' : G → FeedState) (old : PairSourced F G) where
   abbrev forward : List (List ℕ)
-  forward = lines (rest_in to_come old.forward)
+  forward = lines (rest_in state old.forward)
 
   abbrev reverse : List (List ℕ)
-  reverse = lines (rest_in to_come' old.reverse)
+  reverse = lines (rest_in state' old.reverse)
 
   -- a pair in front is the first of those left, and the others are left behind it
   pub pairs_left_met : (new : PairSourced F G) (m : Mates) → new.forward.encoding ≡ old.forward.encoding → new.check_names ≡ old.check_names → new.given ≡ old.given + 1 →
-      front_of to_come to_come' old ≡ Met m (lines (rest_in to_come new.forward)) (lines (rest_in to_come' new.reverse)) →
-      pairs_left to_come to_come' old ≡ with_pair m (pairs_left to_come to_come' new)
+      front_of state state' old ≡ Met m (lines (rest_in state new.forward)) (lines (rest_in state' new.reverse)) →
+      pairs_left state state' old ≡ with_pair m (pairs_left state state' new)
   pairs_left_met new m encoding check_names given front =
-      let fs = lines (rest_in to_come new.forward) in
-      let rs = lines (rest_in to_come' new.reverse) in
+      let fs = lines (rest_in state new.forward) in
+      let rs = lines (rest_in state' new.reverse) in
       let P : Bool → Encoding → ℕ → Pairs = λ check e n. with_pair m (pairs_of check n (records_of e fs) (records_of e rs)) in
       pairs_of-met old.check_names old.forward.encoding old.given forward reverse m fs rs front
       ∙ ap (λ e. P old.check_names e (suc old.given)) (sym encoding)
@@ -33,30 +34,30 @@ module _ {F G : Type 0} (to_come : F → List ℕ) (to_come' : G → List ℕ) (
       ∙ ap (P new.check_names new.forward.encoding) (sym (given ∙ add-one old.given))
 
   -- where nothing stands in front no pair is left, and no fault
-  pub pairs_left_ended : front_of to_come to_come' old ≡ Ended → pairs_left to_come to_come' old ≡ record { mates = []; fault = None }
+  pub pairs_left_ended : front_of state state' old ≡ Ended → pairs_left state state' old ≡ record { mates = []; fault = None }
   pairs_left_ended front = pairs_of-ended old.check_names old.forward.encoding old.given forward reverse front
 
   -- where a fault stands in front no pair is left, and they end by it
-  pub pairs_left_stopped : (why : InputFault) → front_of to_come to_come' old ≡ Stopped why → pairs_left to_come to_come' old ≡ record { mates = []; fault = Some why }
+  pub pairs_left_stopped : (why : InputFault) → front_of state state' old ≡ Stopped why → pairs_left state state' old ≡ record { mates = []; fault = Some why }
   pairs_left_stopped why front = pairs_of-stopped old.check_names old.forward.encoding old.given forward reverse why front
 
 -- two records that were given make a pair, where their names allow it
-pub two_given : {F G : Type 0} (tells : F → Bool) (to_come : F → List ℕ) (tells' : G → Bool) (to_come' : G → List ℕ) (a b : Sourced F) (a' b' : Sourced G) (check : Bool) (given : ℕ)
-    (f r : Read) (m : Mates) → m ≡ mates_in f r → a.encoding ≡ a'.encoding → b.encoding ≡ a.encoding → GivesRecord tells to_come a b f → GivesRecord tells' to_come' a' b' r →
-    belong check (mates_in f r) ≡ true → GivesPair tells to_come tells' to_come' (asked a a' check given) (asked b b' check (given + 1)) m
-two_given tells to_come tells' to_come' a b a' b' check given f r m is encoding kept first second together =
-    let P : Mates → Type 0 = GivesPair tells to_come tells' to_come' (asked a a' check given) (asked b b' check (given + 1)) in
-    let fs = lines (rest_in to_come b) in
-    let rs = lines (rest_in to_come' b') in
+pub two_given : {F G : Type 0} (state : F → FeedState) (state' : G → FeedState) (a b : Sourced F) (a' b' : Sourced G) (check : Bool) (given : ℕ)
+    (f r : Read) (m : Mates) → m ≡ mates_in f r → a.encoding ≡ a'.encoding → b.encoding ≡ a.encoding → GivesRecord state a b f → GivesRecord state' a' b' r →
+    belong check (mates_in f r) ≡ true → GivesPair state state' (asked a a' check given) (asked b b' check (given + 1)) m
+two_given state state' a b a' b' check given f r m is encoding kept first second together =
+    let P : Mates → Type 0 = GivesPair state state' (asked a a' check given) (asked b b' check (given + 1)) in
+    let fs = lines (rest_in state b) in
+    let rs = lines (rest_in state' b') in
     let n = suc given in
-    let pair_is : IsTrue (tells a.feed) → IsTrue (tells' a'.feed) → front_of to_come to_come' (asked a a' check given) ≡ Met (mates_in f r) fs rs = λ told told'.
-    ap (λ (x : Front). meeting check n x (front a.encoding (lines (rest_in to_come' a')))) (first.record_is told)
-    ∙ ap (λ (e : Encoding). meeting check n (Found f fs) (front e (lines (rest_in to_come' a')))) encoding
+    let pair_is : IsTrue (state a.feed).tells → IsTrue (state' a'.feed).tells → front_of state state' (asked a a' check given) ≡ Met (mates_in f r) fs rs = λ told told'.
+    ap (λ (x : Front). meeting check n x (front a.encoding (lines (rest_in state' a')))) (first.record_is told)
+    ∙ ap (λ (e : Encoding). meeting check n (Found f fs) (front e (lines (rest_in state' a')))) encoding
     ∙ ap (meeting check n (Found f fs)) (second.record_is told')
     ∙ cond-true (belong check (mates_in f r)) (Met (mates_in f r) fs rs) (Stopped (NamesDiffer n)) together in
     subst P (sym is) (record {
       pair_is = pair_is;
-      left = λ told told'. pairs_left_met to_come to_come' (asked a a' check given) (asked b b' check (given + 1)) (mates_in f r) kept refl refl (pair_is told told');
+      left = λ told told'. pairs_left_met state state' (asked a a' check given) (asked b b' check (given + 1)) (mates_in f r) kept refl refl (pair_is told told');
       forward = first;
       reverse = second;
       names = together;

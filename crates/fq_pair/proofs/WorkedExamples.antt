@@ -1,5 +1,5 @@
 -- Worked inputs: names, pairs, texts and the summary.
-use Rattle.std.proofs.Common.{◌≡◌, ℕ, true, false, Some, None, List, [], ◌∷◌, codes, refl}
+use Rattle.std.proofs.Common.{◌≡◌, ℕ, true, false, Some, None, List, [], ◌∷◌, ◌++◌, codes, refl}
 use Rattle.std.specs.Fmt.{digits}
 use Rattle.fq_text.specs.declared.encoding.Encoding.TheVariants.{Sanger}
 use Rattle.fq_text.specs.declared.fault.TextFault.TheVariants.{NoTitle, PlusDiffers, NoPlus, BadSequence}
@@ -9,7 +9,7 @@ use Rattle.fq_pair.specs.declared.side.Side.TheVariants.{Forward, Reverse}
 use Rattle.fq_pair.specs.declared.fault.InputFault.TheVariants.{Text, MateMissing, NamesDiffer}
 use Rattle.fq_pair.specs.Mates.{Mates, mates_in, name_of, names_match}
 use Rattle.fq_pair.specs.Pairing.{pairs}
-use Rattle.fq_pair.specs.Interleaved.{mixed_pairs}
+use Rattle.fq_pair.specs.Interleaved.{interleaved_pairs}
 use Rattle.fq_pair.specs.Outputs.{texts_of, counts_of}
 use Rattle.fq_pair.specs.Summaries.{summary_of, capped}
 
@@ -90,47 +90,51 @@ other_names = refl
 names_unchecked : (pairs false Sanger 0 (codes "@a/1\nA\n+\nI\n@b/1\nA\n+\nI\n") (codes "@a/2 x\nA\n+\nI\n@c/2\nA\n+\nI\n")).fault ≡ None
 names_unchecked = refl
 
--- Pairs of one text, in which mates take turns.
+-- Pairs of an interleaved text.
 
-two_in_turn : mixed_pairs true Sanger 0 (codes "@p1/1\nACGT\n+\n#!II\n@p1/2\nTTTT\n+\nIIII\n@p2/1\nGGCC\n+\nIIII\n@p2/2\nAAAA\n+\n!!!\"\n") ≡ record { mates = first ∷ second ∷ []; fault = None }
-two_in_turn = refl
+-- two pairs, of which the last record has this plus line
+abbrev two_pairs_with : List ℕ → List ℕ
+two_pairs_with plus = codes "@p1/1\nACGT\n+\n#!II\n@p1/2\nTTTT\n+\nIIII\n@p2/1\nGGCC\n+\nIIII\n@p2/2\nAAAA\n" ++ (plus ++ codes "\n!!!\"\n")
+
+two_interleaved : interleaved_pairs true Sanger 0 (two_pairs_with (codes "+")) ≡ record { mates = first ∷ second ∷ []; fault = None }
+two_interleaved = refl
 
 -- the fourth record is at fault
-fault_of_second_mate : mixed_pairs true Sanger 0 (codes "@p1/1\nACGT\n+\n#!II\n@p1/2\nTTTT\n+\nIIII\n@p2/1\nGGCC\n+\nIIII\n@p2/2\nAAAA\n+x\n!!!\"\n") ≡ record { mates = first ∷ []; fault = Some (Text Reverse (PlusDiffers 4)) }
+fault_of_second_mate : interleaved_pairs true Sanger 0 (two_pairs_with (codes "+x")) ≡ record { mates = first ∷ []; fault = Some (Text Reverse (PlusDiffers 4)) }
 fault_of_second_mate = refl
 
 -- the third one is
-fault_of_first_mate : mixed_pairs true Sanger 0 (codes "@p1/1\nACGT\n+\n#!II\n@p1/2\nTTTT\n+\nIIII\np2/1\n") ≡ record { mates = first ∷ []; fault = Some (Text Forward (NoTitle 3)) }
+fault_of_first_mate : interleaved_pairs true Sanger 0 (codes "@p1/1\nACGT\n+\n#!II\n@p1/2\nTTTT\n+\nIIII\np2/1\n") ≡ record { mates = first ∷ []; fault = Some (Text Forward (NoTitle 3)) }
 fault_of_first_mate = refl
 
-empty_text : mixed_pairs true Sanger 0 [] ≡ record { mates = []; fault = None }
+empty_text : interleaved_pairs true Sanger 0 [] ≡ record { mates = []; fault = None }
 empty_text = refl
 
-one_record : mixed_pairs true Sanger 0 (codes "@p1/1\nACGT\n+\n#!II\n") ≡ record { mates = []; fault = Some (MateMissing Reverse 1) }
+one_record : interleaved_pairs true Sanger 0 (codes "@p1/1\nACGT\n+\n#!II\n") ≡ record { mates = []; fault = Some (MateMissing Reverse 1) }
 one_record = refl
 
-three_records : mixed_pairs true Sanger 0 (codes "@p1/1\nACGT\n+\n#!II\n@p1/2\nTTTT\n+\nIIII\n@p2/1\nGGCC\n+\nIIII\n") ≡ record { mates = first ∷ []; fault = Some (MateMissing Reverse 2) }
+three_records : interleaved_pairs true Sanger 0 (codes "@p1/1\nACGT\n+\n#!II\n@p1/2\nTTTT\n+\nIIII\n@p2/1\nGGCC\n+\nIIII\n") ≡ record { mates = first ∷ []; fault = Some (MateMissing Reverse 2) }
 three_records = refl
 
 -- behind five pairs stand records 11 and 12, of pair 6
-later_first_mate : (mixed_pairs true Sanger 5 (codes "@a\nA\n+x\nI\n")).fault ≡ Some (Text Forward (PlusDiffers 11))
+later_first_mate : (interleaved_pairs true Sanger 5 (codes "@a\nA\n+x\nI\n")).fault ≡ Some (Text Forward (PlusDiffers 11))
 later_first_mate = refl
 
-later_second_mate : (mixed_pairs true Sanger 5 (codes "@a\nA\n+\nI\n@a\nA C\n+\nIII\n")).fault ≡ Some (Text Reverse (BadSequence 12))
+later_second_mate : (interleaved_pairs true Sanger 5 (codes "@a\nA\n+\nI\n@a\nA C\n+\nIII\n")).fault ≡ Some (Text Reverse (BadSequence 12))
 later_second_mate = refl
 
-later_missing : (mixed_pairs true Sanger 5 (codes "@a\nA\n+\nI\n")).fault ≡ Some (MateMissing Reverse 6)
+later_missing : (interleaved_pairs true Sanger 5 (codes "@a\nA\n+\nI\n")).fault ≡ Some (MateMissing Reverse 6)
 later_missing = refl
 
-later_names : (mixed_pairs true Sanger 5 (codes "@a\nA\n+\nI\n@b\nA\n+\nI\n@r")).fault ≡ Some (NamesDiffer 6)
+later_names : (interleaved_pairs true Sanger 5 (codes "@a\nA\n+\nI\n@b\nA\n+\nI\n@r")).fault ≡ Some (NamesDiffer 6)
 later_names = refl
 
 -- of two mates whose names differ, and a text that goes on
-names_in_turn : mixed_pairs true Sanger 0 (codes "@p1/1\nACGT\n+\n#!II\n@p1/2\nTTTT\n+\nIIII\n@b/1\nA\n+\nI\n@c/2\nA\n+\nI\n@d/1\n") ≡ record { mates = first ∷ []; fault = Some (NamesDiffer 2) }
-names_in_turn = refl
+interleaved_names : interleaved_pairs true Sanger 0 (codes "@p1/1\nACGT\n+\n#!II\n@p1/2\nTTTT\n+\nIIII\n@b/1\nA\n+\nI\n@c/2\nA\n+\nI\n@d/1\n") ≡ record { mates = first ∷ []; fault = Some (NamesDiffer 2) }
+interleaved_names = refl
 
-names_in_turn_unchecked : (mixed_pairs false Sanger 0 (codes "@b/1\nA\n+\nI\n@c/2\nA\n+\nI\n")).fault ≡ None
-names_in_turn_unchecked = refl
+interleaved_names_unchecked : (interleaved_pairs false Sanger 0 (codes "@b/1\nA\n+\nI\n@c/2\nA\n+\nI\n")).fault ≡ None
+interleaved_names_unchecked = refl
 
 -- Logs.
 
@@ -162,9 +166,9 @@ six_and_five : let left = pairs true Sanger 0 (codes "@n1/1\nACGT\n+\nIIII\n@n2/
     (left.fault ≡ Some (MateMissing Reverse 6)) × (counts_of trimming left.mates ≡ record { pairs = 5; both = 4; forward_only = 1; reverse_only = 0; dropped = 0 })
 six_and_five = (refl, refl)
 
-eleven_in_turn : let left = mixed_pairs true Sanger 0 (codes "@n1/1\nACGT\n+\nIIII\n@n1/2\nTTTT\n+\nII##\n@n2/1\nACGT\n+\n##II\n@n2/2\nTTTT\n+\nII##\n@n3/1\nACGT\n+\nIIII\n@n3/2\nTTTT\n+\n!!!!\n@n4/1\nACGT\n+\n##II\n@n4/2\nTTTT\n+\nII##\n@n5/1\nACGT\n+\nIIII\n@n5/2\nTTTT\n+\nII##\n@n6/1\nACGT\n+\n##II\n") in
+eleven_interleaved : let left = interleaved_pairs true Sanger 0 (codes "@n1/1\nACGT\n+\nIIII\n@n1/2\nTTTT\n+\nII##\n@n2/1\nACGT\n+\n##II\n@n2/2\nTTTT\n+\nII##\n@n3/1\nACGT\n+\nIIII\n@n3/2\nTTTT\n+\n!!!!\n@n4/1\nACGT\n+\n##II\n@n4/2\nTTTT\n+\nII##\n@n5/1\nACGT\n+\nIIII\n@n5/2\nTTTT\n+\nII##\n@n6/1\nACGT\n+\n##II\n") in
     (left.fault ≡ Some (MateMissing Reverse 6)) × (counts_of trimming left.mates ≡ record { pairs = 5; both = 4; forward_only = 1; reverse_only = 0; dropped = 0 })
-eleven_in_turn = (refl, refl)
+eleven_interleaved = (refl, refl)
 
 -- The summary.
 

@@ -1,34 +1,34 @@
--- The two forms in which pairs come: in two texts, or in one in which mates take turns.
+-- The two forms in which pairs come: in two texts, or in an interleaved one.
 use Rattle.std.specs.Prelude.{ℕ, ◌*◌, Bool, Result, List}
 use Rattle.fq_text.specs.declared.encoding.Encoding.{Encoding}
 use Rattle.fq_pair.specs.declared.side.Side.{Side}
 use Rattle.fq_pair.specs.declared.fault.InputFault.{InputFault}
 use Rattle.fq_pair.specs.Pairing.{Pairs, PairFront, pairs, pair_front}
-use Rattle.fq_pair.specs.Interleaved.{mixed_pairs, mixed_front}
+use Rattle.fq_pair.specs.Interleaved.{interleaved_pairs, interleaved_front}
 use Rattle.fq_pair.specs.PairSources.{failed_on}
 use Rattle.fq_pair.specs.MixedSources.{failed_in}
 
--- The form of the inputs. Where there is one text, it stands for the forward and for the reverse one.
+-- The form of the inputs. An interleaved text stands for the forward and for the reverse one.
 pub data Form : Type 0 where
   TwoTexts : Form
-  OneText : Form
+  InterleavedText : Form
 
 -- the pairs of the inputs, as bytes
 abbrev pub pairs_in : Form → Bool → Encoding → ℕ → List ℕ → List ℕ → Pairs
 pairs_in TwoTexts check encoding given forward reverse = pairs check encoding given forward reverse
-pairs_in OneText check encoding given text same = mixed_pairs check encoding given text
+pairs_in InterleavedText check encoding given text same = interleaved_pairs check encoding given text
 
 -- what stands in front of the lines of the inputs, behind the pairs given
 abbrev pub front_in : Form → Bool → Encoding → ℕ → List (List ℕ) → List (List ℕ) → PairFront
 front_in TwoTexts check encoding given forward reverse = pair_front check encoding given forward reverse
-front_in OneText check encoding given text same = mixed_front check encoding given text
+front_in InterleavedText check encoding given text same = interleaved_front check encoding given text
 
 -- how many records of a side's text so many pairs are
 abbrev pub records_of_pairs : Form → ℕ → ℕ
 records_of_pairs TwoTexts n = n
-records_of_pairs OneText n = 2 * n
+records_of_pairs InterleavedText n = 2 * n
 
 -- how often the feed of a side failed in a call
 abbrev pub failed_at : {T : Type 0} → Form → Side → Result T InputFault → ℕ
 failed_at TwoTexts side r = failed_on side r
-failed_at OneText side r = failed_in r
+failed_at InterleavedText side r = failed_in r

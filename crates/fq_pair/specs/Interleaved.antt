@@ -1,4 +1,4 @@
--- The pairs of one text in which mates take turns, and how they end: its records of odd numbers are forward, those of even numbers reverse.
+-- The pairs of an interleaved text, in which mates take turns, and how they end: its records of odd numbers are forward, those of even numbers reverse.
 use Rattle.std.specs.Prelude.{ℕ, suc, ◌+◌, ◌-◌, ◌*◌, Bool, Option, List, [], ◌∷◌, length, drop, take_while}
 use Rattle.fq_text.specs.declared.encoding.Encoding.{Encoding}
 use Rattle.fq_text.specs.Grammar.{Read, Front, End, Faulty, Found, front}
@@ -11,29 +11,29 @@ use Rattle.fq_pair.specs.Mates.{Mates, mates_in}
 use Rattle.fq_pair.specs.Pairing.{Pairs, belong, fault_behind, text_fault, mate_fault, first_fault, behind, PairFront, Ended, Stopped, met}
 
 -- the pairs of mates that follow one another in a list
-abbrev pub mates_in_turn : List Read → List Mates
-mates_in_turn [] = []
-mates_in_turn (f ∷ []) = []
-mates_in_turn (f ∷ r ∷ others) = mates_in f r ∷ mates_in_turn others
+abbrev pub interleaved_mates : List Read → List Mates
+interleaved_mates [] = []
+interleaved_mates (f ∷ []) = []
+interleaved_mates (f ∷ r ∷ others) = mates_in f r ∷ interleaved_mates others
 
 -- why there is no pair n, where what is left of the text begins with its record 2n - 1
-abbrev pub mixed_fault_at : ℕ → Records → Option InputFault
-mixed_fault_at n text =
+abbrev pub interleaved_fault_at : ℕ → Records → Option InputFault
+interleaved_fault_at n text =
     let second = drop 1 text.reads in
     first_fault (text_fault Forward text.reads (fault_behind (2 * n - 1) text))
     (first_fault (text_fault Reverse second (fault_behind (2 * n) text))
     (mate_fault n text.reads second))
 
--- The pairs of one text, numbered on from those given: up to where a record is missing or two names differ.
-abbrev pub mixed_pairs_of : Bool → ℕ → Records → Pairs
-mixed_pairs_of check given text =
-    let mates = take_while (belong check) (mates_in_turn text.reads) in
+-- The pairs of an interleaved text, numbered on from those given: up to where a record is missing or two names differ.
+abbrev pub interleaved_pairs_of : Bool → ℕ → Records → Pairs
+interleaved_pairs_of check given text =
+    let mates = take_while (belong check) (interleaved_mates text.reads) in
     let n = length mates in
-    record { mates = mates; fault = mixed_fault_at (suc (given + n)) (behind (2 * n) text) }
+    record { mates = mates; fault = interleaved_fault_at (suc (given + n)) (behind (2 * n) text) }
 
--- the pairs of one text, as bytes
-abbrev pub mixed_pairs : Bool → Encoding → ℕ → List ℕ → Pairs
-mixed_pairs check encoding given text = mixed_pairs_of check given (records encoding text)
+-- the pairs of an interleaved text, as bytes
+abbrev pub interleaved_pairs : Bool → Encoding → ℕ → List ℕ → Pairs
+interleaved_pairs check encoding given text = interleaved_pairs_of check given (records encoding text)
 
 -- One pair after the other.
 
@@ -44,11 +44,11 @@ meeting_behind check n f End = Stopped (MateMissing Reverse n)
 meeting_behind check n f (Found r ls) = met check n (mates_in f r) ls ls
 
 -- pair n, where this stands in front of the text
-abbrev pub meeting_in_turn : Bool → Encoding → ℕ → Front → PairFront
-meeting_in_turn check encoding n (Faulty fault) = Stopped (Text Forward (numbered fault (2 * n - 1)))
-meeting_in_turn check encoding n End = Ended
-meeting_in_turn check encoding n (Found f ls) = meeting_behind check n f (front encoding ls)
+abbrev pub interleaved_meeting : Bool → Encoding → ℕ → Front → PairFront
+interleaved_meeting check encoding n (Faulty fault) = Stopped (Text Forward (numbered fault (2 * n - 1)))
+interleaved_meeting check encoding n End = Ended
+interleaved_meeting check encoding n (Found f ls) = meeting_behind check n f (front encoding ls)
 
 -- What stands in front of a list of lines, behind the pairs given. The lines behind a pair are left for both sides.
-abbrev pub mixed_front : Bool → Encoding → ℕ → List (List ℕ) → PairFront
-mixed_front check encoding given ls = meeting_in_turn check encoding (suc given) (front encoding ls)
+abbrev pub interleaved_front : Bool → Encoding → ℕ → List (List ℕ) → PairFront
+interleaved_front check encoding given ls = interleaved_meeting check encoding (suc given) (front encoding ls)

@@ -1,6 +1,7 @@
--- What a source of pairs out of one text is, and what its calls answer.
-use Rattle.std.specs.Prelude.{◌≡◌, ℕ, ◌+◌, ◌*◌, ◌<◌, ◌≤◌, Bool, true, false, IsTrue, Option, Some, None, Result, List, [], length}
+-- What a source of pairs out of an interleaved text is, and what its calls answer.
+use Rattle.std.specs.Prelude.{◌≡◌, ℕ, ◌+◌, ◌*◌, ◌<◌, ◌≤◌, Bool, true, false, IsTrue, Option, Some, None, Result, [], length}
 use Rattle.std.specs.declared.result.Result.TheVariants as res
+use Rattle.fq_text.specs.Devices.{FeedState}
 use Rattle.fq_text.specs.Lines.{lines, whole_part}
 use Rattle.fq_text.specs.Grammar.{IsLawful}
 use Rattle.fq_text.specs.Sources.{Sourced, rest_in, held, IsTail, KeepsCount, EndsText}
@@ -9,7 +10,7 @@ use Rattle.fq_pair.specs.declared.fault.InputFault.{InputFault}
 use Rattle.fq_pair.specs.declared.fault.InputFault.TheVariants.{Text}
 use Rattle.fq_pair.specs.Mates.{Mates}
 use Rattle.fq_pair.specs.Pairing.{Pairs, PairFront, Ended, Stopped, Met, belong, with_pair}
-use Rattle.fq_pair.specs.Interleaved.{mixed_pairs, mixed_front}
+use Rattle.fq_pair.specs.Interleaved.{interleaved_pairs, interleaved_front}
 use Rattle.fq_pair.specs.PairSources.{is_from_outside, is_cut_short, if_endless, failed_on}
 
 -- A source of pairs: the source of both mates, whether names are checked, how many pairs were given,
@@ -21,51 +22,51 @@ pub record MixedSourced (F : Type 0) : Type 0 where
   pub last : Option (Result (Unit {0}) InputFault)
 
 -- what stands next
-abbrev pub front_of : {F : Type 0} → (F → List ℕ) → MixedSourced F → PairFront
-front_of to_come s = mixed_front s.check_names s.source.encoding s.given (lines (rest_in to_come s.source))
+abbrev pub front_of : {F : Type 0} → (F → FeedState) → MixedSourced F → PairFront
+front_of state s = interleaved_front s.check_names s.source.encoding s.given (lines (rest_in state s.source))
 
 -- the pairs that are left, and how they end
-abbrev pub pairs_left : {F : Type 0} → (F → List ℕ) → MixedSourced F → Pairs
-pairs_left to_come s = mixed_pairs s.check_names s.source.encoding s.given (rest_in to_come s.source)
+abbrev pub pairs_left : {F : Type 0} → (F → FeedState) → MixedSourced F → Pairs
+pairs_left state s = interleaved_pairs s.check_names s.source.encoding s.given (rest_in state s.source)
 
 -- What every call keeps: the number of bytes taken grows by those that the feed gave.
-pub record KeepsCounts {F : Type 0} (tells : F → Bool) (to_come : F → List ℕ) (old new : MixedSourced F) : Type 0 where
-  pub source : KeepsCount tells to_come old.source new.source
+pub record KeepsCounts {F : Type 0} (state : F → FeedState) (old new : MixedSourced F) : Type 0 where
+  pub source : KeepsCount state old.source new.source
   pub check_names : new.check_names ≡ old.check_names
 
 -- two records were given, one after the other
-pub record GivesTwo {F : Type 0} (tells : F → Bool) (to_come : F → List ℕ) (old new : Sourced F) (m : Mates) : Type 0 where
+pub record GivesTwo {F : Type 0} (state : F → FeedState) (old new : Sourced F) (m : Mates) : Type 0 where
   pub forward : IsLawful m.forward
   pub reverse : IsLawful m.reverse
   pub forward_encoding : m.forward.encoding ≡ old.encoding
   pub reverse_encoding : m.reverse.encoding ≡ old.encoding
-  pub tail : IsTrue (tells old.feed) → IsTail (rest_in to_come old) (rest_in to_come new)
+  pub tail : IsTrue (state old.feed).tells → IsTail (rest_in state old) (rest_in state new)
   pub given : new.given ≡ old.given + 2
   pub last : new.last ≡ None
   pub in_hand : length new.in_hand < new.chunk
 
 -- A pair was answered: it is the first of those that were left, and the others are left.
-pub record GivesPair {F : Type 0} (tells : F → Bool) (to_come : F → List ℕ) (old new : MixedSourced F) (m : Mates) : Type 0 where
-  pub pair_is : IsTrue (tells old.source.feed) →
-      (let ls = lines (rest_in to_come new.source) in front_of to_come old ≡ Met m ls ls)
-  pub left : IsTrue (tells old.source.feed) → pairs_left to_come old ≡ with_pair m (pairs_left to_come new)
-  pub records : GivesTwo tells to_come old.source new.source m
+pub record GivesPair {F : Type 0} (state : F → FeedState) (old new : MixedSourced F) (m : Mates) : Type 0 where
+  pub pair_is : IsTrue (state old.source.feed).tells →
+      (let ls = lines (rest_in state new.source) in front_of state old ≡ Met m ls ls)
+  pub left : IsTrue (state old.source.feed).tells → pairs_left state old ≡ with_pair m (pairs_left state new)
+  pub records : GivesTwo state old.source new.source m
   pub names : belong old.check_names m ≡ true
   pub given : new.given ≡ old.given + 1
   pub last : new.last ≡ None
 
 -- The end was answered: no pair was left, and no fault.
-pub record EndsPairs {F : Type 0} (tells : F → Bool) (to_come : F → List ℕ) (old new : MixedSourced F) : Type 0 where
-  pub end_is : IsTrue (tells old.source.feed) → front_of to_come old ≡ Ended
-  pub left : IsTrue (tells old.source.feed) → pairs_left to_come old ≡ record { mates = []; fault = None }
-  pub source : EndsText tells to_come old.source new.source
+pub record EndsPairs {F : Type 0} (state : F → FeedState) (old new : MixedSourced F) : Type 0 where
+  pub end_is : IsTrue (state old.source.feed).tells → front_of state old ≡ Ended
+  pub left : IsTrue (state old.source.feed).tells → pairs_left state old ≡ record { mates = []; fault = None }
+  pub source : EndsText state old.source new.source
   pub given : new.given ≡ old.given
   pub last : new.last ≡ Some (res.Ok tt)
 
 -- the whole lines of the bytes in hand before a call and those that the feed gave in it make no pair
-abbrev pub LacksPair : {F : Type 0} → (F → Bool) → (F → List ℕ) → MixedSourced F → MixedSourced F → Type 0
-LacksPair tells to_come old new = IsTrue (tells old.source.feed) →
-    (mixed_pairs old.check_names old.source.encoding old.given (whole_part (held to_come old.source new.source))).mates ≡ []
+abbrev pub LacksPair : {F : Type 0} → (F → FeedState) → MixedSourced F → MixedSourced F → Type 0
+LacksPair state old new = IsTrue (state old.source.feed).tells →
+    (interleaved_pairs old.check_names old.source.encoding old.given (whole_part (held state old.source new.source))).mates ≡ []
 
 -- The fault of the text, of whatever kind, is the last answer of its source, and its side is that of the record that was being read: at
 -- one of the reverse side the forward record had been given.
@@ -75,10 +76,10 @@ WasReading old new (Text Reverse fault) = (new.last ≡ Some (res.Err fault)) ×
 WasReading old new _ = Unit {0}
 
 -- A fault was answered: where it is one of the text no pair was left, and they end by it.
-pub record StopsPairs {F : Type 0} (tells : F → Bool) (to_come : F → List ℕ) (old new : MixedSourced F) (why : InputFault) : Type 0 where
-  pub fault_is : IsTrue (tells old.source.feed) → is_from_outside why ≡ false → front_of to_come old ≡ Stopped why
-  pub left : IsTrue (tells old.source.feed) → is_from_outside why ≡ false → pairs_left to_come old ≡ record { mates = []; fault = Some why }
-  pub lacks : is_cut_short why ≡ true → LacksPair tells to_come old new
+pub record StopsPairs {F : Type 0} (state : F → FeedState) (old new : MixedSourced F) (why : InputFault) : Type 0 where
+  pub fault_is : IsTrue (state old.source.feed).tells → is_from_outside why ≡ false → front_of state old ≡ Stopped why
+  pub left : IsTrue (state old.source.feed).tells → is_from_outside why ≡ false → pairs_left state old ≡ record { mates = []; fault = Some why }
+  pub lacks : is_cut_short why ≡ true → LacksPair state old new
   pub endless : (let most : Type 0 = new.source.max_reads ≤ new.source.taken in if_endless most most why)
   pub reading : WasReading old.source new.source why
   pub given : new.given ≡ old.given

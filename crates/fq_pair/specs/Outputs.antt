@@ -67,11 +67,11 @@ abbrev pub field : ℕ → List ℕ
 field n = 32 ∷ decimal n
 
 -- a name and four numbers
-abbrev pub line_of : List ℕ → ℕ → List ℕ → List ℕ
-line_of name bases kept_at = line (name ++ flat_map field (log_numbers bases kept_at))
+abbrev pub log_line_of : List ℕ → ℕ → List ℕ → List ℕ
+log_line_of name bases kept_at = line (name ++ flat_map field (log_numbers bases kept_at))
 
 abbrev pub log_line : Side → List ℕ → Read → List ℕ
-log_line side kept_at read = line_of (name_of side read.title) (length read.seq) kept_at
+log_line side kept_at read = log_line_of (name_of side read.title) (length read.seq) kept_at
 
 abbrev pub log_lines : List Step → Mates → List ℕ
 log_lines steps m = log_line Forward (kept_places steps m.forward) m.forward ++ log_line Reverse (kept_places steps m.reverse) m.reverse

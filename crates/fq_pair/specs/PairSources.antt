@@ -1,6 +1,7 @@
 -- What a source of pairs is, and what its calls answer.
-use Rattle.std.specs.Prelude.{◌≡◌, ℕ, ◌+◌, ◌*◌, ◌≤◌, ◌⊎◌, Bool, true, false, IsTrue, Option, Some, None, Result, List, []}
+use Rattle.std.specs.Prelude.{◌≡◌, ℕ, ◌+◌, ◌*◌, ◌≤◌, ◌⊎◌, Bool, true, false, IsTrue, Option, Some, None, Result, []}
 use Rattle.std.specs.declared.result.Result.TheVariants as res
+use Rattle.fq_text.specs.Devices.{FeedState}
 use Rattle.fq_text.specs.declared.fault.TextFault.{TextFault}
 use Rattle.fq_text.specs.declared.fault.TextFault.TheVariants as text
 use Rattle.fq_text.specs.Lines.{lines, whole_part}
@@ -34,40 +35,40 @@ answer_of (res.Ok x) = res.Ok None
 answer_of (res.Err fault) = res.Err fault
 
 -- what stands next
-abbrev pub front_of : {F G : Type 0} → (F → List ℕ) → (G → List ℕ) → PairSourced F G → PairFront
-front_of to_come to_come' s =
-    pair_front s.check_names s.forward.encoding s.given (lines (rest_in to_come s.forward)) (lines (rest_in to_come' s.reverse))
+abbrev pub front_of : {F G : Type 0} → (F → FeedState) → (G → FeedState) → PairSourced F G → PairFront
+front_of state state' s =
+    pair_front s.check_names s.forward.encoding s.given (lines (rest_in state s.forward)) (lines (rest_in state' s.reverse))
 
 -- the pairs that are left, and how they end
-abbrev pub pairs_left : {F G : Type 0} → (F → List ℕ) → (G → List ℕ) → PairSourced F G → Pairs
-pairs_left to_come to_come' s =
-    pairs s.check_names s.forward.encoding s.given (rest_in to_come s.forward) (rest_in to_come' s.reverse)
+abbrev pub pairs_left : {F G : Type 0} → (F → FeedState) → (G → FeedState) → PairSourced F G → Pairs
+pairs_left state state' s =
+    pairs s.check_names s.forward.encoding s.given (rest_in state s.forward) (rest_in state' s.reverse)
 
 -- What every call keeps: the numbers of bytes taken grow by those that the feeds gave.
-pub record KeepsCounts {F G : Type 0} (tells : F → Bool) (to_come : F → List ℕ) (tells' : G → Bool) (to_come' : G → List ℕ) (old new : PairSourced F G) : Type 0 where
-  pub forward : KeepsCount tells to_come old.forward new.forward
-  pub reverse : KeepsCount tells' to_come' old.reverse new.reverse
+pub record KeepsCounts {F G : Type 0} (state : F → FeedState) (state' : G → FeedState) (old new : PairSourced F G) : Type 0 where
+  pub forward : KeepsCount state old.forward new.forward
+  pub reverse : KeepsCount state' old.reverse new.reverse
   pub check_names : new.check_names ≡ old.check_names
 
 -- A pair was answered: it is the first of those that were left, and the others are left.
-pub record GivesPair {F G : Type 0} (tells : F → Bool) (to_come : F → List ℕ) (tells' : G → Bool) (to_come' : G → List ℕ) (old new : PairSourced F G) (m : Mates) : Type 0 where
-  pub pair_is : IsTrue (tells old.forward.feed) → IsTrue (tells' old.reverse.feed) →
-      front_of to_come to_come' old ≡ Met m (lines (rest_in to_come new.forward)) (lines (rest_in to_come' new.reverse))
-  pub left : IsTrue (tells old.forward.feed) → IsTrue (tells' old.reverse.feed) →
-      pairs_left to_come to_come' old ≡ with_pair m (pairs_left to_come to_come' new)
-  pub forward : GivesRecord tells to_come old.forward new.forward m.forward
-  pub reverse : GivesRecord tells' to_come' old.reverse new.reverse m.reverse
+pub record GivesPair {F G : Type 0} (state : F → FeedState) (state' : G → FeedState) (old new : PairSourced F G) (m : Mates) : Type 0 where
+  pub pair_is : IsTrue (state old.forward.feed).tells → IsTrue (state' old.reverse.feed).tells →
+      front_of state state' old ≡ Met m (lines (rest_in state new.forward)) (lines (rest_in state' new.reverse))
+  pub left : IsTrue (state old.forward.feed).tells → IsTrue (state' old.reverse.feed).tells →
+      pairs_left state state' old ≡ with_pair m (pairs_left state state' new)
+  pub forward : GivesRecord state old.forward new.forward m.forward
+  pub reverse : GivesRecord state' old.reverse new.reverse m.reverse
   pub names : belong old.check_names m ≡ true
   pub given : new.given ≡ old.given + 1
   pub last : new.last ≡ None
 
 -- The end was answered: no pair was left, and no fault.
-pub record EndsPairs {F G : Type 0} (tells : F → Bool) (to_come : F → List ℕ) (tells' : G → Bool) (to_come' : G → List ℕ) (old new : PairSourced F G) : Type 0 where
-  pub end_is : IsTrue (tells old.forward.feed) → IsTrue (tells' old.reverse.feed) → front_of to_come to_come' old ≡ Ended
-  pub left : IsTrue (tells old.forward.feed) → IsTrue (tells' old.reverse.feed) →
-      pairs_left to_come to_come' old ≡ record { mates = []; fault = None }
-  pub forward : EndsText tells to_come old.forward new.forward
-  pub reverse : EndsText tells' to_come' old.reverse new.reverse
+pub record EndsPairs {F G : Type 0} (state : F → FeedState) (state' : G → FeedState) (old new : PairSourced F G) : Type 0 where
+  pub end_is : IsTrue (state old.forward.feed).tells → IsTrue (state' old.reverse.feed).tells → front_of state state' old ≡ Ended
+  pub left : IsTrue (state old.forward.feed).tells → IsTrue (state' old.reverse.feed).tells →
+      pairs_left state state' old ≡ record { mates = []; fault = None }
+  pub forward : EndsText state old.forward new.forward
+  pub reverse : EndsText state' old.reverse new.reverse
   pub given : new.given ≡ old.given
   pub last : new.last ≡ Some (res.Ok tt)
 
@@ -93,10 +94,10 @@ is_cut_short (Text side fault) = is_cut fault
 is_cut_short _ = false
 
 -- the whole lines of the bytes in hand before a call and those that the feeds gave in it make no pair
-abbrev pub LacksPair : {F G : Type 0} → (F → Bool) → (F → List ℕ) → (G → Bool) → (G → List ℕ) → PairSourced F G → PairSourced F G → Type 0
-LacksPair tells to_come tells' to_come' old new = IsTrue (tells old.forward.feed) → IsTrue (tells' old.reverse.feed) →
+abbrev pub LacksPair : {F G : Type 0} → (F → FeedState) → (G → FeedState) → PairSourced F G → PairSourced F G → Type 0
+LacksPair state state' old new = IsTrue (state old.forward.feed).tells → IsTrue (state' old.reverse.feed).tells →
     (pairs old.check_names old.forward.encoding old.given
-    (whole_part (held to_come old.forward new.forward)) (whole_part (held to_come' old.reverse new.reverse))).mates ≡ []
+    (whole_part (held state old.forward new.forward)) (whole_part (held state' old.reverse new.reverse))).mates ≡ []
 
 -- the first fact at Text(Forward, Endless), the second at Text(Reverse, Endless)
 abbrev pub if_endless : Type 0 → Type 0 → InputFault → Type 0
@@ -114,12 +115,12 @@ WasReading old new (Text Reverse fault) = (new.reverse.last ≡ Some (res.Err fa
 WasReading old new _ = Unit {0}
 
 -- A fault was answered: where it is one of the texts no pair was left, and they end by it.
-pub record StopsPairs {F G : Type 0} (tells : F → Bool) (to_come : F → List ℕ) (tells' : G → Bool) (to_come' : G → List ℕ) (old new : PairSourced F G) (why : InputFault) : Type 0 where
-  pub fault_is : IsTrue (tells old.forward.feed) → IsTrue (tells' old.reverse.feed) → is_from_outside why ≡ false →
-      front_of to_come to_come' old ≡ Stopped why
-  pub left : IsTrue (tells old.forward.feed) → IsTrue (tells' old.reverse.feed) → is_from_outside why ≡ false →
-      pairs_left to_come to_come' old ≡ record { mates = []; fault = Some why }
-  pub lacks : is_cut_short why ≡ true → LacksPair tells to_come tells' to_come' old new
+pub record StopsPairs {F G : Type 0} (state : F → FeedState) (state' : G → FeedState) (old new : PairSourced F G) (why : InputFault) : Type 0 where
+  pub fault_is : IsTrue (state old.forward.feed).tells → IsTrue (state' old.reverse.feed).tells → is_from_outside why ≡ false →
+      front_of state state' old ≡ Stopped why
+  pub left : IsTrue (state old.forward.feed).tells → IsTrue (state' old.reverse.feed).tells → is_from_outside why ≡ false →
+      pairs_left state state' old ≡ record { mates = []; fault = Some why }
+  pub lacks : is_cut_short why ≡ true → LacksPair state state' old new
   pub endless : if_endless (new.forward.max_reads ≤ new.forward.taken) (new.reverse.max_reads ≤ new.reverse.taken) why
   pub reading : WasReading old new why
   pub given : new.given ≡ old.given

@@ -1,6 +1,7 @@
 -- Reading pairs, one after the other.
 use Rattle.std.specs.Prelude.{◌≡◌, ℕ, suc, ◌+◌, ◌-◌, ◌*◌, ◌≤◌, ◌⊎◌, Bool, true, false, IsTrue, Option, Some, None, Result, List, [], ◌∷◌, ◌++◌, length, take}
 use Rattle.std.specs.declared.result.Result.TheVariants as res
+use Rattle.fq_text.specs.Devices.{FeedState}
 use Rattle.fq_text.specs.declared.encoding.Encoding.{Encoding}
 use Rattle.fq_text.specs.Lines.{lines, is_whole, whole_part}
 use Rattle.fq_text.specs.Sources.{Sourced}
@@ -10,7 +11,7 @@ use Rattle.fq_pair.specs.Mates.{Mates}
 use Rattle.fq_pair.specs.Pairing.{PairFront, Ended, Stopped, Met}
 use Rattle.fq_pair.specs.PairSources.{PairSourced, is_from_outside, is_cut_short, if_endless}
 use Rattle.fq_pair.specs.MixedSources.{MixedSourced}
-use Rattle.fq_pair.specs.Forms.{Form, TwoTexts, OneText, pairs_in, front_in, records_of_pairs, failed_at}
+use Rattle.fq_pair.specs.Forms.{Form, TwoTexts, InterleavedText, pairs_in, front_in, records_of_pairs, failed_at}
 
 -- one side of a source of pairs: its feed, and the bytes in hand, taken, and records given so far
 pub record SideState : Type 0 where
@@ -22,18 +23,18 @@ pub record SideState : Type 0 where
   pub given : ℕ
   pub max_reads : ℕ
 
-abbrev pub side_state : {F : Type 0} → (F → Bool) → (F → List ℕ) → (F → ℕ) → Sourced F → SideState
-side_state tells to_come failure_count s = record {
-  tells = tells s.feed;
+abbrev pub side_state : {F : Type 0} → (F → FeedState) → Sourced F → SideState
+side_state state s = record {
+  tells = (state s.feed).tells;
   in_hand = s.in_hand;
-  to_come = to_come s.feed;
-  failures = failure_count s.feed;
+  to_come = (state s.feed).to_come;
+  failures = (state s.feed).failures;
   taken = s.taken;
   given = s.given;
   max_reads = s.max_reads;
 }
 
--- A source of pairs: its form, its two sides, what it was set to, how many pairs it gave, and whether it goes on. Where there is one text
+-- A source of pairs: its form, its two sides, what it was set to, how many pairs it gave, and whether it goes on. Of an interleaved text
 -- both sides are its own.
 pub record SourceState : Type 0 where
   pub form : Form
@@ -45,11 +46,11 @@ pub record SourceState : Type 0 where
   pub given : ℕ
   pub last : Option (Result (Unit {0}) InputFault)
 
-abbrev pub source_state : {F G : Type 0} → (F → Bool) → (F → List ℕ) → (F → ℕ) → (G → Bool) → (G → List ℕ) → (G → ℕ) → PairSourced F G → SourceState
-source_state tells to_come failure_count tells' to_come' failure_count' s = record {
+abbrev pub source_state : {F G : Type 0} → (F → FeedState) → (G → FeedState) → PairSourced F G → SourceState
+source_state state state' s = record {
   form = TwoTexts;
-  forward = side_state tells to_come failure_count s.forward;
-  reverse = side_state tells' to_come' failure_count' s.reverse;
+  forward = side_state state s.forward;
+  reverse = side_state state' s.reverse;
   encoding = s.forward.encoding;
   check_names = s.check_names;
   most_bytes = s.forward.max_reads * s.forward.chunk;
@@ -57,11 +58,11 @@ source_state tells to_come failure_count tells' to_come' failure_count' s = reco
   last = s.last;
 }
 
-abbrev pub mixed_state : {F : Type 0} → (F → Bool) → (F → List ℕ) → (F → ℕ) → MixedSourced F → SourceState
-mixed_state tells to_come failure_count s = record {
-  form = OneText;
-  forward = side_state tells to_come failure_count s.source;
-  reverse = side_state tells to_come failure_count s.source;
+abbrev pub interleaved_state : {F : Type 0} → (F → FeedState) → MixedSourced F → SourceState
+interleaved_state state s = record {
+  form = InterleavedText;
+  forward = side_state state s.source;
+  reverse = side_state state s.source;
   encoding = s.source.encoding;
   check_names = s.check_names;
   most_bytes = s.source.max_reads * s.source.chunk;

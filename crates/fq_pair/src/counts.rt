@@ -26,20 +26,16 @@ pub struct Counts {
 
 impl Counts {
     ghost use Rattle.std.specs.Prelude.{◌≡◌};
-    ghost use Rattle.fq_pair.specs.Outputs.{no_counts};
     ghost use Rattle.fq_pair.specs.Summaries.{capped};
 
-    pub(crate) fn zero() -> Counts
-        ensures { result ≡ no_counts }
-    {
-        Counts {
-            pairs: 0,
-            both: 0,
-            forward_only: 0,
-            reverse_only: 0,
-            dropped: 0,
-        }
-    }
+    /// Nothing was counted so far.
+    pub const ZERO: Counts = Counts {
+        pairs: 0,
+        both: 0,
+        forward_only: 0,
+        reverse_only: 0,
+        dropped: 0,
+    };
 
     /// The counts of both together. A sum that is larger than `u64::MAX` is kept at that.
     pub fn plus(self, other: Counts) -> Counts

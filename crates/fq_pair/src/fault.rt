@@ -4,11 +4,11 @@ use crate::side::Side;
 use fq_text::TextFault;
 use thiserror::Error;
 
-/// Why two texts, or one in which mates take turns, give no further pair. Pairs are numbered from 1, and records from 1 in the
+/// Why two texts, or an interleaved one, give no further pair. Pairs are numbered from 1, and records from 1 in the
 /// text that they stand in.
 #[derive(Clone, Copy, Debug, PartialEq, Eq, Error)]
 pub enum InputFault {
-    /// The text of one side is at fault, or couldn't be read. Where mates take turns in one text, the side is that of the
+    /// The text of one side is at fault, or couldn't be read. In an interleaved text the side is that of the
     /// record that was being read.
     #[error("{0} input: {1}")]
     Text(Side, TextFault),

@@ -1,14 +1,14 @@
 //! Pairs of mates: read from two FASTQ texts, trimmed, and put into the four texts of records, the trim log and the
 //! counts that a run writes.
 //!
-//! [`PairSource`] gives the pairs of two inputs and [`MixedSource`] those of one in which mates take turns; [`Texts`] takes
+//! [`PairSource`] gives the pairs of two inputs and [`MixedSource`] those of an interleaved one; [`Texts`] takes
 //! them, one after the other.
 #![tactic(auto)]
 
 mod answer;
 mod counts;
 mod fault;
-mod line;
+mod log_line;
 mod mixed_source;
 mod name;
 mod out;

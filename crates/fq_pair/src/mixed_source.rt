@@ -1,4 +1,4 @@
-//! Pairs out of one feed, in which mates take turns.
+//! Pairs out of one feed, which is interleaved: mates take turns.
 
 ghost use Rattle.std.specs.Prelude.{◌≡◌, ℕ, ◌+◌, ◌*◌, ◌≤◌, ◌^◌, Some, None, Ok, IfOk, IfErr, IfSome, MatchOption};
 ghost use Rattle.fq_text.specs.Sources.{KeepsCount};
@@ -74,13 +74,13 @@ impl<F: Feed> MixedSource<F> {
         ensures again { MatchOption self.old.last (Unit {0}) (λ last. (result ≡ answer_of last) × (self.new ≡ self.old)) }
 
         // Otherwise the answer is what stands in front of the rest.
-        ensures found { self.old.last ≡ None → IfOk result (λ o. IfSome o (GivesPair F.tells F.to_come self.old self.new)) }
-        ensures end { self.old.last ≡ None → result ≡ Ok None → EndsPairs F.tells F.to_come self.old self.new }
-        ensures fault { self.old.last ≡ None → IfErr result (StopsPairs F.tells F.to_come self.old self.new) }
+        ensures found { self.old.last ≡ None → IfOk result (λ o. IfSome o (GivesPair F.state self.old self.new)) }
+        ensures end { self.old.last ≡ None → result ≡ Ok None → EndsPairs F.state self.old self.new }
+        ensures fault { self.old.last ≡ None → IfErr result (StopsPairs F.state self.old self.new) }
 
         // The feed fails where the answer says so, and what it gives is counted.
-        ensures failures { self.old.last ≡ None → F.failure_count self.new.source.feed ≡ F.failure_count self.old.source.feed + failed_in result }
-        ensures count { KeepsCounts F.tells F.to_come self.old self.new }
+        ensures failures { self.old.last ≡ None → (F.state self.new.source.feed).failures ≡ (F.state self.old.source.feed).failures + failed_in result }
+        ensures count { KeepsCounts F.state self.old self.new }
         ensures bound { IsBounded self.new.source }
         ensures pairs_bound { 2 * self.new.given ≤ self.new.source.given }
     {
@@ -112,13 +112,13 @@ fn read_mates<F: Feed>(
     requires bound { IsBounded source.old }
     requires fits { given ≤ 2 ^ 60 }
     ensures found { IfOk result (λ o. IfSome o
-        (GivesPair F.tells F.to_come (asked source.old check_names given) (asked source.new check_names (given + 1)))) }
+        (GivesPair F.state (asked source.old check_names given) (asked source.new check_names (given + 1)))) }
     ensures end { result ≡ Ok None →
-        EndsPairs F.tells F.to_come (asked source.old check_names given) (stopped source.new check_names given (Ok tt)) }
+        EndsPairs F.state (asked source.old check_names given) (stopped source.new check_names given (Ok tt)) }
     ensures fault { IfErr result (λ why.
-        StopsPairs F.tells F.to_come (asked source.old check_names given) (stopped source.new check_names given (Err why)) why) }
-    ensures failures { F.failure_count source.new.feed ≡ F.failure_count source.old.feed + failed_in result }
-    ensures count { KeepsCount F.tells F.to_come source.old source.new }
+        StopsPairs F.state (asked source.old check_names given) (stopped source.new check_names given (Err why)) why) }
+    ensures failures { (F.state source.new.feed).failures ≡ (F.state source.old.feed).failures + failed_in result }
+    ensures count { KeepsCount F.state source.old source.new }
     ensures bounded { IsBounded source.new }
     ensures pairs_bound { 2 * given ≤ source.new.given }
     ensures few { IfOk result (λ o. IfSome o (λ pair. (given + 1 ≤ 2 ^ 60) × (2 * (given + 1) ≤ source.new.given))) }

@@ -78,14 +78,14 @@ impl<F: Feed, G: Feed> PairSource<F, G> {
         ensures again { MatchOption self.old.last (Unit {0}) (λ last. (result ≡ answer_of last) × (self.new ≡ self.old)) }
 
         // Otherwise the answer is what stands in front of the two rests.
-        ensures found { self.old.last ≡ None → IfOk result (λ o. IfSome o (GivesPair F.tells F.to_come G.tells G.to_come self.old self.new)) }
-        ensures end { self.old.last ≡ None → result ≡ Ok None → EndsPairs F.tells F.to_come G.tells G.to_come self.old self.new }
-        ensures fault { self.old.last ≡ None → IfErr result (StopsPairs F.tells F.to_come G.tells G.to_come self.old self.new) }
+        ensures found { self.old.last ≡ None → IfOk result (λ o. IfSome o (GivesPair F.state G.state self.old self.new)) }
+        ensures end { self.old.last ≡ None → result ≡ Ok None → EndsPairs F.state G.state self.old self.new }
+        ensures fault { self.old.last ≡ None → IfErr result (StopsPairs F.state G.state self.old self.new) }
 
         // A feed fails where the answer says so, and what the feeds give is counted.
-        ensures forward_failures { self.old.last ≡ None → F.failure_count self.new.forward.feed ≡ F.failure_count self.old.forward.feed + failed_on Forward result }
-        ensures reverse_failures { self.old.last ≡ None → G.failure_count self.new.reverse.feed ≡ G.failure_count self.old.reverse.feed + failed_on Reverse result }
-        ensures count { KeepsCounts F.tells F.to_come G.tells G.to_come self.old self.new }
+        ensures forward_failures { self.old.last ≡ None → (F.state self.new.forward.feed).failures ≡ (F.state self.old.forward.feed).failures + failed_on Forward result }
+        ensures reverse_failures { self.old.last ≡ None → (G.state self.new.reverse.feed).failures ≡ (G.state self.old.reverse.feed).failures + failed_on Reverse result }
+        ensures count { KeepsCounts F.state G.state self.old self.new }
         ensures forward_bound { IsBounded self.new.forward }
         ensures reverse_bound { IsBounded self.new.reverse }
         ensures pairs_bound { (self.new.given ≤ self.new.forward.given) × (self.new.given ≤ self.new.reverse.given) }
@@ -132,15 +132,15 @@ fn read_mates<F: Feed, G: Feed>(
     requires reverse_bound { IsBounded reverse.old }
     requires fits { given ≤ 2 ^ 60 }
     ensures found { IfOk result (λ o. IfSome o
-        (GivesPair F.tells F.to_come G.tells G.to_come (asked forward.old reverse.old check_names given) (asked forward.new reverse.new check_names (given + 1)))) }
+        (GivesPair F.state G.state (asked forward.old reverse.old check_names given) (asked forward.new reverse.new check_names (given + 1)))) }
     ensures end { result ≡ Ok None →
-        EndsPairs F.tells F.to_come G.tells G.to_come (asked forward.old reverse.old check_names given) (stopped forward.new reverse.new check_names given (Ok tt)) }
+        EndsPairs F.state G.state (asked forward.old reverse.old check_names given) (stopped forward.new reverse.new check_names given (Ok tt)) }
     ensures fault { IfErr result (λ why.
-        StopsPairs F.tells F.to_come G.tells G.to_come (asked forward.old reverse.old check_names given) (stopped forward.new reverse.new check_names given (Err why)) why) }
-    ensures forward_failures { F.failure_count forward.new.feed ≡ F.failure_count forward.old.feed + failed_on Forward result }
-    ensures reverse_failures { G.failure_count reverse.new.feed ≡ G.failure_count reverse.old.feed + failed_on Reverse result }
-    ensures forward_count { KeepsCount F.tells F.to_come forward.old forward.new }
-    ensures reverse_count { KeepsCount G.tells G.to_come reverse.old reverse.new }
+        StopsPairs F.state G.state (asked forward.old reverse.old check_names given) (stopped forward.new reverse.new check_names given (Err why)) why) }
+    ensures forward_failures { (F.state forward.new.feed).failures ≡ (F.state forward.old.feed).failures + failed_on Forward result }
+    ensures reverse_failures { (G.state reverse.new.feed).failures ≡ (G.state reverse.old.feed).failures + failed_on Reverse result }
+    ensures forward_count { KeepsCount F.state forward.old forward.new }
+    ensures reverse_count { KeepsCount G.state reverse.old reverse.new }
     ensures forward_bounded { IsBounded forward.new }
     ensures reverse_bounded { IsBounded reverse.new }
     ensures pairs_bound { (given ≤ forward.new.given) × (given ≤ reverse.new.given) }

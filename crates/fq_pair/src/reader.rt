@@ -10,7 +10,7 @@ use crate::pair::Pair;
 use crate::pair_source::PairSource;
 use fq_text::Feed;
 
-/// A source of pairs, one after the other: of two texts ([`PairSource`]), or of one in which mates take turns ([`MixedSource`]).
+/// A source of pairs, one after the other: of two texts ([`PairSource`]), or of an interleaved one ([`MixedSource`]).
 pub trait PairReader {
     /// What contracts see of the source: its form, the bytes in hand and to come of each side, and what was counted so far.
     ghost state: { Self → SourceState };
@@ -31,7 +31,7 @@ pub trait PairReader {
 impl<F: Feed, G: Feed> PairReader for PairSource<F, G> {
     ghost use Rattle.fq_pair.specs.Walks.{source_state};
 
-    ghost state = { λ s. source_state F.tells F.to_come F.failure_count G.tells G.to_come G.failure_count s };
+    ghost state = { λ s. source_state F.state G.state s };
 
     fn next_pair(&mut self) -> Result<Option<Pair>, InputFault> {
         self.next()
@@ -39,9 +39,9 @@ impl<F: Feed, G: Feed> PairReader for PairSource<F, G> {
 }
 
 impl<F: Feed> PairReader for MixedSource<F> {
-    ghost use Rattle.fq_pair.specs.Walks.{mixed_state};
+    ghost use Rattle.fq_pair.specs.Walks.{interleaved_state};
 
-    ghost state = { λ s. mixed_state F.tells F.to_come F.failure_count s };
+    ghost state = { λ s. interleaved_state F.state s };
 
     fn next_pair(&mut self) -> Result<Option<Pair>, InputFault> {
         self.next()

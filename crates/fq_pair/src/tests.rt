@@ -10,7 +10,7 @@ use std::alloc::Global;
 use std::process::Abort;
 use std::test::Fail;
 
-mod mixed;
+mod interleaved;
 
 const LONG: u64 = 1 << 40;
 

@@ -6,7 +6,7 @@ ghost use Rattle.fq_pair.specs.Mates.{mates_in};
 ghost use Rattle.fq_pair.specs.Outputs.{kept_places, places_of, IsWithin, record_at};
 
 use crate::counts::Counts;
-use crate::line::{line_room, put_line};
+use crate::log_line::{line_room, put_line};
 use crate::name::name_of;
 use crate::out::Out;
 use crate::pair::PairView;
@@ -59,7 +59,7 @@ impl Texts {
             reverse_paired: Vec::new(alloc),
             reverse_unpaired: Vec::new(alloc),
             log: Vec::new(alloc),
-            counts: Counts::zero(),
+            counts: Counts::ZERO,
         }
     }
 
@@ -150,7 +150,7 @@ impl Texts {
         self.reverse_paired.clear();
         self.reverse_unpaired.clear();
         self.log.clear();
-        self.counts = Counts::zero();
+        self.counts = Counts::ZERO;
     }
 }
 

@@ -6,11 +6,12 @@ use Rattle.fq_pair.specs.declared.counts.Counts.{Counts}
 use Rattle.fq_pair.specs.declared.side.Side.{Side}
 use Rattle.clap.specs.Kinds.{IsAmong, Kinds}
 use Rattle.clap.specs.declared.error.kind.ErrorKind.{ErrorKind}
-use Rattle.fq_run.specs.declared.outcome.Outcome.{Outcome}
-use Rattle.fq_run.specs.declared.outcome.Outcome.TheVariants.{Spawn, Lane, Gate, Memory, Write, Read, Endless, Input, Finished}
+use Rattle.fq_run.specs.Outcome.{Outcome}
+use Rattle.fq_run.specs.Outcome.TheVariants.{Spawn, Lane, Gate, Memory, Write, Read, Endless, Input, Finished}
 use Rattle.fq_run.specs.Endings.{ends_whole}
 use Rattle.fq_prog.specs.Faults.{outcome_status, outcome_line}
-use Rattle.fq_prog.specs.Requests.{Asking, wrong_with, input_name}
+use Rattle.fq_words.specs.Requests.{Asking, input_name}
+use Rattle.fq_prog.specs.Judging.{wrong_with}
 use Rattle.fq_prog.specs.Trimming.{HasDistinctOutputs, TrimsFiles}
 use Rattle.fq_prog.specs.Leaving.{RefusalLeaves, HoldFirstPairs, AreLeft}
 use Rattle.fq_prog.proofs.LeavingLemmas.{refusal_untrimmed, whole_first}

@@ -5,7 +5,8 @@ use Rattle.fq_pair.specs.Pairing.{pairs}
 use Rattle.fq_pair.specs.Outputs.{texts_of, text_of, counts_of}
 use Rattle.fq_pair.specs.Summaries.{summary_of}
 use Rattle.fq_run.specs.Choices.{Choices}
-use Rattle.fq_run.specs.Devices.{OutletState, Took, TookText}
+use Rattle.fq_text.specs.Devices.{OutletState}
+use Rattle.fq_run.specs.Devices.{Took, TookText}
 use Rattle.fq_prog.specs.Example.{example_choices, example_forward, example_output, example_pairs, example_reverse, example_summary}
 
 module _ (choices : Choices) (forward reverse : List ℕ) (choices_are : choices ≡ example_choices) (forward_is : forward ≡ example_forward) (reverse_is : reverse ≡ example_reverse) where

@@ -1,5 +1,5 @@
 -- What the files of the outputs hold where the program ends otherwise than whole.
-use Rattle.std.proofs.Common.{◌≡◌, ◌≢◌, ℕ, Bool, IsTrue, Option, Some, None, Result, Ok, Err, List, [], ◌++◌, refl, sym, ap, subst, ◌∙◌, arith, inl, inr, ◌⊎◌}
+use Rattle.std.proofs.Common.{◌≡◌, ◌≢◌, ℕ, IsTrue, Option, Some, None, Result, Ok, Err, List, [], ◌++◌, refl, sym, ap, subst, ◌∙◌, inl, inr, ◌⊎◌}
 use Rattle.std.proofs.lemmas.List.{append-nil}
 use Rattle.fq_files.specs.Holding.{Holding, IsUnchanged}
 use Rattle.fq_trim.specs.declared.step.Step.{Step}
@@ -11,16 +11,17 @@ use Rattle.fq_pair.specs.declared.fault.InputFault.{InputFault}
 use Rattle.fq_pair.specs.declared.out.Out.{Out}
 use Rattle.fq_pair.specs.Outputs.{texts_of, text_of}
 use Rattle.fq_run.specs.Choices.{Choices, checked}
-use Rattle.fq_run.specs.declared.settings.BadSetting.{BadSetting}
-use Rattle.fq_run.specs.declared.outcome.Outcome.{Outcome}
-use Rattle.fq_run.specs.declared.outcome.Outcome.TheVariants.{Spawn, Write, Input, Finished}
+use Rattle.fq_run.specs.BadSetting.{BadSetting}
+use Rattle.fq_run.specs.Outcome.{Outcome}
+use Rattle.fq_run.specs.Outcome.TheVariants.{Spawn, Write}
 use Rattle.fq_run.specs.Endings.{Run, AreTold, EveryEnding, all_pairs, trimmed_outcome}
 use Rattle.fq_run.specs.Fates.{Unbroken}
 use Rattle.fq_prog.specs.declared.refusal.Refusal.{Refusal}
 use Rattle.fq_prog.specs.declared.refusal.Refusal.TheVariants as why
-use Rattle.fq_prog.specs.Requests.{Asking, encoding_of, judged, with_steps, with_encoding, settings_of, choices_of, wrong_among}
+use Rattle.fq_words.specs.Requests.{Asking, encoding_of}
+use Rattle.fq_prog.specs.Judging.{judged, with_steps, with_encoding, settings_of, choices_of}
 use Rattle.fq_prog.specs.Trimming.{TrimsFiles, pairs_of}
-use Rattle.fq_prog.specs.Leaving.{AreUntrimmed, RefusalLeaves, is_early, TrimsFirst, IsTold, HoldFirstPairs, AreLeft}
+use Rattle.fq_prog.specs.Leaving.{AreUntrimmed, RefusalLeaves, is_early, TrimsFirst, HoldFirstPairs}
 use Rattle.fq_prog.proofs.MakingLemmas.{stops_untrimmed}
 
 -- what a run promises of every ending, of its outlets

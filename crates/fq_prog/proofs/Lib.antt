@@ -4,6 +4,4 @@ mod RestLemmas
 mod MakingLemmas
 mod LeavingLemmas
 mod TextLemmas
-mod WordLemmas
 mod ExampleLemmas
-mod WorkedExamples

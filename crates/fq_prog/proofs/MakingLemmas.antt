@@ -1,14 +1,15 @@
 -- Outputs that are made one after the other.
-use Rattle.std.proofs.Common.{◌≡◌, ◌≢◌, ℕ, suc, ◌<◌, ◌≤◌, IsSome, Option, Some, None, List, [], unwrap_or, refl, sym, ap, subst, ◌∙◌, arith, inl, inr, ◌⊎◌, ⊎_elim}
+use Rattle.std.proofs.Common.{◌≡◌, ◌≢◌, ℕ, suc, ◌<◌, Bool, IsTrue, IsSome, Option, Some, None, List, [], unwrap_or, refl, sym, ap, subst, ◌∙◌, arith, inl, inr, ◌⊎◌, ⊎_elim}
 use Rattle.fq_pair.specs.declared.out.Out.{Out}
 use Rattle.fq_pair.specs.declared.out.Out.TheVariants.{ForwardPaired, ForwardUnpaired, ReversePaired, ReverseUnpaired, Log}
-use Rattle.fq_files.specs.Holding.{Holding, IsUnchanged}
+use Rattle.fq_files.specs.Holding.{Holding, KeepsNames, KeepsOthers}
 use Rattle.fq_run.specs.Devices.{place}
 use Rattle.fq_prog.specs.declared.refusal.Refusal.{Refusal}
 use Rattle.fq_prog.specs.declared.refusal.Refusal.TheVariants as why
-use Rattle.fq_prog.specs.Requests.{Asking, output_name}
+use Rattle.fq_words.specs.Requests.{Asking, output_name}
 use Rattle.fq_prog.specs.Trimming.{HasDistinctOutputs, KeepsRest, AreHeld}
-use Rattle.fq_prog.specs.Leaving.{AreUntrimmed, IsMade, IsUnmade, StopsAt, RefusalLeaves}
+use Rattle.fq_prog.specs.Leaving.{AreUntrimmed, StopsAt, RefusalLeaves}
+use Rattle.fq_prog.specs.Making.{AreMade, Made, Unmade}
 use Rattle.fq_prog.proofs.StoreLemmas.{same_place, below_next}
 
 -- a name that is wanted is the one that is given
@@ -16,15 +17,42 @@ pub wanted : (o : Option (List ℕ)) (name : List ℕ) → IsSome o → name ≡
 wanted (Some n) name some is = ap Some (sym is)
 wanted None name some is = absurd cc
 
--- the first n outputs are made, and the others are as they were
-pub record Made (a : Asking) (start : Holding) (n : ℕ) (files : Holding) : Type 0 where
-  pub held : (out : Out) (name : List ℕ) → output_name a out ≡ Some name → place out < n → IsSome (files name)
-  pub empty : HasDistinctOutputs a → (out : Out) (name : List ℕ) → output_name a out ≡ Some name → place out < n → files name ≡ Some []
-  pub kept : HasDistinctOutputs a → (out : Out) (name : List ℕ) → output_name a out ≡ Some name → n ≤ place out → files name ≡ start name
-  pub rest : KeepsRest a start files
+-- an output was made, empty, and no other file was touched
+record IsMade (a : Asking) (out : Out) (old new : Holding) : Type 0 where
+  empty : (name : List ℕ) → output_name a out ≡ Some name → new name ≡ Some []
+  names : KeepsNames old new
+  others : (name : List ℕ) → output_name a out ≢ Some name → new name ≡ old name
 
-pub none_made : (a : Asking) (start : Holding) → Made a start 0 start
-none_made a start = record {
+-- it was not made: it holds what it held, or nothing, and no other file was touched
+record IsUnmade (a : Asking) (out : Out) (old new : Holding) : Type 0 where
+  there : (name : List ℕ) → output_name a out ≡ Some name → (new name ≡ old name) ⊎ (new name ≡ Some [])
+  others : (name : List ℕ) → output_name a out ≢ Some name → new name ≡ old name
+
+same_name : (o : Option (List ℕ)) (one other : List ℕ) → o ≡ Some one → o ≡ Some other → one ≡ other
+same_name o one other first second = let same : Some one ≡ Some other = sym first ∙ second in cc
+
+-- a call that emptied the file of an output, and kept the others, made it
+made_of : (a : Asking) (this : Out) (name : List ℕ) (old new : Holding) → output_name a this ≡ Some name → new name ≡ Some [] → KeepsNames old new → KeepsOthers old new name → IsMade a this old new
+made_of a this name old new named emptied names others = record {
+  empty = λ other is. ap new (same_name (output_name a this) other name is named) ∙ emptied;
+  names = names;
+  others = λ other free. others other (λ same. free (named ∙ ap Some (sym same)));
+}
+
+unmade_of : (a : Asking) (this : Out) (name : List ℕ) (old new : Holding) → output_name a this ≡ Some name → (new name ≡ old name) ⊎ (new name ≡ Some []) → KeepsOthers old new name → IsUnmade a this old new
+unmade_of a this name old new named there others = record {
+  there = λ other is.
+      let same = same_name (output_name a this) other name is named in
+      ⊎_elim (λ kept. inl (ap new same ∙ (kept ∙ sym (ap old same)))) (λ nothing. inr (ap new same ∙ nothing)) there;
+  others = λ other free. others other (λ same. free (named ∙ ap Some (sym same)));
+}
+
+-- files tell their bytes for good
+pub along : (a b : Bool) → a ≡ b → IsTrue b → IsTrue a
+along a b e told = subst IsTrue (sym e) told
+
+pub none_made : (a : Asking) (start : Holding) (tells : Bool) → Made a start 0 tells start
+none_made a start tells told = record {
   held = λ out name named below. absurd (omega (arith, below));
   empty = λ distinct out name named below. absurd (omega (arith, below));
   kept = λ distinct out name named behind. refl;
@@ -44,7 +72,7 @@ is_there (Some bytes) e = refl
 is_there None e = absurd cc
 
 -- one more output is made
-pub next_made : (a : Asking) (start old new : Holding) (this : Out) → Made a start (place this) old → IsMade a this old new → Made a start (suc (place this)) new
+next_made : (a : Asking) (start old new : Holding) (this : Out) → AreMade a start (place this) old → IsMade a this old new → AreMade a start (suc (place this)) new
 next_made a start old new this first made = record {
   held = λ out name named below. ⊎_elim
       (λ before. made.names name (first.held out name named before))
@@ -60,10 +88,10 @@ next_made a start old new this first made = record {
 }
 
 -- the next output is not made
-pub rest_unmade : (a : Asking) (start old new : Holding) (this : Out) → Made a start (place this) old → IsUnmade a this old new → KeepsRest a start new
+rest_unmade : (a : Asking) (start old new : Holding) (this : Out) → AreMade a start (place this) old → IsUnmade a this old new → KeepsRest a start new
 rest_unmade a start old new this first unmade = λ name free. unmade.others name (free this) ∙ first.rest name free
 
-stops_at : (a : Asking) (start old new : Holding) (this : Out) → HasDistinctOutputs a → Made a start (place this) old → IsUnmade a this old new → StopsAt a this start new
+stops_at : (a : Asking) (start old new : Holding) (this : Out) → HasDistinctOutputs a → AreMade a start (place this) old → IsUnmade a this old new → StopsAt a this start new
 stops_at a start old new this distinct first unmade = record {
   before = λ other name named before. unmade.others name (apart a distinct other this name named (λ e. omega (arith, before, e))) ∙ first.empty distinct other name named before;
   there = λ name named. ⊎_elim
@@ -84,24 +112,46 @@ stops_untrimmed a this start new stops out name named = ⊎_elim
     (three_ways (place out) (place this))
 
 -- what a refusal in the making of the outputs leaves
-pub leaves_made : (a : Asking) (start old new : Holding) (this : Out) (refusal : Refusal) → HasDistinctOutputs a → Made a start (place this) old → IsUnmade a this old new →
+leaves_made : (a : Asking) (start old new : Holding) (this : Out) (refusal : Refusal) → HasDistinctOutputs a → AreMade a start (place this) old → IsUnmade a this old new →
     (refusal ≡ why.Target this) ⊎ (refusal ≡ why.Memory) → RefusalLeaves a refusal start new
 leaves_made a start old new this refusal distinct first unmade is =
     let stops = stops_at a start old new this distinct first unmade in
     let P : Refusal → Type 0 = λ r. RefusalLeaves a r start new in
     ⊎_elim (λ target. subst P (sym target) stops) (λ memory. subst P (sym memory) (stops_untrimmed a this start new stops)) is
 
--- all five are made, or four and no log is wanted
-pub five_held : (a : Asking) (start files : Holding) → Made a start 5 files → AreHeld a files
+-- A call for one more output: it is made, or the making is refused.
+module _ (a : Asking) (start : Holding) (this : Out) (name : List ℕ) (wants : IsSome (output_name a this)) (name_is : name ≡ unwrap_or (output_name a this) [])
+    (old new : Holding) (told_old told_new : Bool) (told_is : told_new ≡ told_old) (first : Made a start (place this) told_old old) (others : IsTrue told_old → KeepsOthers old new name) where
+  pub one_made : (IsTrue told_old → new name ≡ Some []) → (IsTrue told_old → KeepsNames old new) → Made a start (suc (place this)) told_new new
+  one_made emptied names told =
+      let before = along told_old told_new (sym told_is) told in
+      next_made a start old new this (first before) (made_of a this name old new (wanted (output_name a this) name wants name_is) (emptied before) (names before) (others before))
+
+  pub none_more : (refusal : Refusal) → (IsTrue told_old → (new name ≡ old name) ⊎ (new name ≡ Some [])) → (refusal ≡ why.Target this) ⊎ (refusal ≡ why.Memory) → Unmade a refusal start told_new new
+  none_more refusal there is told =
+      let before = along told_old told_new (sym told_is) told in
+      let unmade = unmade_of a this name old new (wanted (output_name a this) name wants name_is) (there before) (others before) in
+      record {
+        rest = rest_unmade a start old new this (first before) unmade;
+        leaves = λ distinct. leaves_made a start old new this refusal distinct (first before) unmade is;
+      }
+
+-- where no log is wanted all are made behind the fourth
+pub no_log_made : (a : Asking) (start files : Holding) (tells : Bool) → output_name a Log ≡ None → Made a start 4 tells files → Made a start 5 tells files
+no_log_made a start files tells none made told = record {
+  held = λ out name named below. ⊎_elim (λ before. (made told).held out name named before) (λ four. absurd (not_log out name four named)) (below_next (place out) 4 below);
+  empty = λ distinct out name named below. ⊎_elim (λ before. (made told).empty distinct out name named before) (λ four. absurd (not_log out name four named)) (below_next (place out) 4 below);
+  kept = λ distinct out name named behind. (made told).kept distinct out name named (omega (arith, behind));
+  rest = (made told).rest;
+}
+  where
+    not_log : (out : Out) (name : List ℕ) → place out ≡ 4 → output_name a out ≢ Some name
+    not_log out name four named =
+        let bad : None ≡ Some name = sym none ∙ (ap (output_name a) (sym (same_place out Log four)) ∙ named) in absurd cc
+
+pub five_held : (a : Asking) (start files : Holding) → AreMade a start 5 files → AreHeld a files
 five_held a start files made ForwardPaired name named = made.held ForwardPaired name named (omega arith)
 five_held a start files made ForwardUnpaired name named = made.held ForwardUnpaired name named (omega arith)
 five_held a start files made ReversePaired name named = made.held ReversePaired name named (omega arith)
 five_held a start files made ReverseUnpaired name named = made.held ReverseUnpaired name named (omega arith)
 five_held a start files made Log name named = made.held Log name named (omega arith)
-
-pub four_held : (a : Asking) (start files : Holding) → Made a start 4 files → output_name a Log ≡ None → AreHeld a files
-four_held a start files made none ForwardPaired name named = made.held ForwardPaired name named (omega arith)
-four_held a start files made none ForwardUnpaired name named = made.held ForwardUnpaired name named (omega arith)
-four_held a start files made none ReversePaired name named = made.held ReversePaired name named (omega arith)
-four_held a start files made none ReverseUnpaired name named = made.held ReverseUnpaired name named (omega arith)
-four_held a start files made none Log name named = let bad : None ≡ Some name = sym none ∙ named in absurd cc

@@ -2,7 +2,7 @@
 use Rattle.std.proofs.Common.{◌≡◌, ℕ, Some, List, sym, ap, ◌∙◌}
 use Rattle.fq_pair.specs.declared.out.Out.{Out}
 use Rattle.fq_files.specs.Holding.{Holding, KeepsOthers}
-use Rattle.fq_prog.specs.Requests.{Asking, output_name}
+use Rattle.fq_words.specs.Requests.{Asking, output_name}
 use Rattle.fq_prog.specs.Trimming.{KeepsRest}
 
 -- a call for one output keeps the rest

@@ -1,16 +1,14 @@
 -- Outputs that are done with one after the other.
-use Rattle.std.proofs.Common.{◌≡◌, ℕ, suc, ◌<◌, ◌==◌, IsTrue, Some, List, refl, sym, ap, subst, ◌∙◌, arith, if◌then◌else◌, ◌⊎◌, ⊎_elim}
+use Rattle.std.proofs.Common.{◌≡◌, ℕ, suc, ◌<◌, ◌==◌, Bool, IsTrue, Some, List, refl, sym, ap, subst, ◌∙◌, arith, if◌then◌else◌, ◌⊎◌, ⊎_elim}
 use Rattle.fq_pair.specs.declared.out.Out.{Out}
 use Rattle.fq_pair.specs.declared.out.Out.TheVariants.{ForwardPaired, ForwardUnpaired, ReversePaired, ReverseUnpaired, Log}
 use Rattle.fq_files.specs.Holding.{Holding, KeepsOthers}
-use Rattle.fq_run.specs.Devices.{OutletState, OutletStates, outlet_at, place}
-use Rattle.fq_prog.specs.Requests.{Asking, output_name}
+use Rattle.fq_text.specs.Devices.{OutletState}
+use Rattle.fq_run.specs.Devices.{OutletStates, outlet_at, place}
+use Rattle.fq_words.specs.Requests.{Asking, output_name}
 use Rattle.fq_prog.specs.Trimming.{HasDistinctOutputs, HoldTaken}
-
--- the first n outputs hold what their outlets have taken
-abbrev pub HoldFirst : ℕ → Asking → OutletStates → Holding → Type 0
-HoldFirst n a states files = (out : Out) (name : List ℕ) (outlet : OutletState) → place out < n →
-    output_name a out ≡ Some name → outlet_at out states ≡ Some outlet → IsTrue outlet.tells → files name ≡ Some outlet.taken
+use Rattle.fq_prog.specs.Making.{HoldFirst, Stored}
+use Rattle.fq_prog.proofs.RestLemmas.{rest_of, then_rest}
 
 -- the output at a place
 out_at : ℕ → Out
@@ -37,12 +35,12 @@ same_place one other e = sym (out_at-place one) ∙ (ap out_at e ∙ out_at-plac
 pub below_next : (m n : ℕ) → m < suc n → (m < n) ⊎ (m ≡ n)
 below_next m n h = grind arith
 
-pub none_first : (a : Asking) (states : OutletStates) (files : Holding) → HoldFirst 0 a states files
-none_first a states files = λ out name outlet h. absurd (omega arith)
+pub none_stored : (a : Asking) (states : OutletStates) (files : Holding) (tells : Bool) → Stored a files states 0 tells files
+none_stored a states files tells told = record { rest = λ name free. refl; hold = λ distinct out name outlet h. absurd (omega arith) }
 
 module _ (a : Asking) (distinct : HasDistinctOutputs a) (states : OutletStates) (old new : Holding) where
   -- one more output is done with
-  pub next_first : (this : Out) (name : List ℕ) (outlet : OutletState) → output_name a this ≡ Some name → outlet_at this states ≡ Some outlet →
+  next_first : (this : Out) (name : List ℕ) (outlet : OutletState) → output_name a this ≡ Some name → outlet_at this states ≡ Some outlet →
       HoldFirst (place this) a states old → (IsTrue outlet.tells → new name ≡ Some outlet.taken) → KeepsOthers old new name → HoldFirst (suc (place this)) a states new
   next_first this name outlet named at first stored others = λ out n o below out_named out_at_is tells. ⊎_elim
       (λ before. others n (λ same. let is : out ≡ this = distinct out this n out_named (named ∙ ap Some (sym same)) in
@@ -56,6 +54,29 @@ module _ (a : Asking) (distinct : HasDistinctOutputs a) (states : OutletStates) 
       ap new n_is ∙ (stored told ∙ ap (λ (x : OutletState). Some x.taken) (sym o_is)))
       (below_next (place out) (place this) below)
 
+-- one more output is done with, by a call that keeps the others
+pub one_stored : (a : Asking) (start : Holding) (states : OutletStates) (this : Out) (name : List ℕ) (outlet : OutletState) (old new : Holding) (told_old told_new : Bool) → output_name a this ≡ Some name → outlet_at this states ≡ Some outlet
+    → told_new ≡ told_old → (IsTrue told_old → IsTrue outlet.tells → new name ≡ Some outlet.taken) → (IsTrue told_old → KeepsOthers old new name)
+    → Stored a start states (place this) told_old old → Stored a start states (suc (place this)) told_new new
+one_stored a start states this name outlet old new told_old told_new named at told_is kept others first told =
+    let before = subst IsTrue told_is told in
+    record {
+      rest = then_rest a start old new (first before).rest (rest_of a this name old new named (others before));
+      hold = λ distinct. next_first a distinct states old new this name outlet named at ((first before).hold distinct) (kept before) (others before);
+    }
+
+-- where there is no log all are done with behind the fourth
+pub no_log_stored : (a : Asking) (start : Holding) (states : OutletStates) (files : Holding) (tells : Bool)
+    → ((name : List ℕ) (outlet : OutletState) → output_name a Log ≡ Some name → outlet_at Log states ≡ Some outlet → ⊥) → Stored a start states 4 tells files → Stored a start states 5 tells files
+no_log_stored a start states files tells none stored told = record { rest = (stored told).rest; hold = λ distinct. five ((stored told).hold distinct) }
+  where
+    five : HoldFirst 4 a states files → HoldFirst 5 a states files
+    five first ForwardPaired name outlet below = first ForwardPaired name outlet (omega arith)
+    five first ForwardUnpaired name outlet below = first ForwardUnpaired name outlet (omega arith)
+    five first ReversePaired name outlet below = first ReversePaired name outlet (omega arith)
+    five first ReverseUnpaired name outlet below = first ReverseUnpaired name outlet (omega arith)
+    five first Log name outlet below = λ named at told. absurd (none name outlet named at)
+
 -- all five are done with
 pub all_hold : (a : Asking) (states : OutletStates) (files : Holding) → HoldFirst 5 a states files → HoldTaken a states files
 all_hold a states files first ForwardPaired name outlet = first ForwardPaired name outlet (omega arith)
@@ -63,12 +84,3 @@ all_hold a states files first ForwardUnpaired name outlet = first ForwardUnpaire
 all_hold a states files first ReversePaired name outlet = first ReversePaired name outlet (omega arith)
 all_hold a states files first ReverseUnpaired name outlet = first ReverseUnpaired name outlet (omega arith)
 all_hold a states files first Log name outlet = first Log name outlet (omega arith)
-
--- four are done with, and there is no log
-pub four_hold : (a : Asking) (states : OutletStates) (files : Holding) → HoldFirst 4 a states files
-    → ((name : List ℕ) (outlet : OutletState) → output_name a Log ≡ Some name → outlet_at Log states ≡ Some outlet → ⊥) → HoldTaken a states files
-four_hold a states files first none ForwardPaired name outlet = first ForwardPaired name outlet (omega arith)
-four_hold a states files first none ForwardUnpaired name outlet = first ForwardUnpaired name outlet (omega arith)
-four_hold a states files first none ReversePaired name outlet = first ReversePaired name outlet (omega arith)
-four_hold a states files first none ReverseUnpaired name outlet = first ReverseUnpaired name outlet (omega arith)
-four_hold a states files first none Log name outlet = λ named at told. absurd (none name outlet named at)

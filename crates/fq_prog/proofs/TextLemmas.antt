@@ -3,8 +3,9 @@ use Rattle.std.proofs.Common.{◌≡◌, ℕ, true, IsTrue, Option, Some, None, 
 use Rattle.fq_pair.specs.declared.out.Out.{Out}
 use Rattle.fq_pair.specs.declared.out.Out.TheVariants.{ForwardPaired, ForwardUnpaired, ReversePaired, ReverseUnpaired, Log}
 use Rattle.fq_files.specs.Holding.{Holding}
-use Rattle.fq_run.specs.Devices.{OutletState, OutletStates, TookText, Took, OutletsTook, failures_at}
-use Rattle.fq_prog.specs.Requests.{Asking, output_name}
+use Rattle.fq_text.specs.Devices.{OutletState}
+use Rattle.fq_run.specs.Devices.{OutletStates, TookText, Took, OutletsTook, failures_at}
+use Rattle.fq_words.specs.Requests.{Asking, output_name}
 use Rattle.fq_prog.specs.Trimming.{HoldTaken, AreEmpty, IsEmptyOutlet}
 
 -- an outlet that has taken this text and no other

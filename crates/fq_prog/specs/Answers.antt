@@ -1,18 +1,20 @@
 -- How a call of the program ends.
 use Rattle.std.specs.Prelude.{◌≡◌, ◌≢◌, ◌⊎◌, ℕ, ◌<◌, Bool, IsTrue, IsSome, Some, None, List, [], ◌++◌, codes, length, take}
 use Rattle.std.specs.List.{All}
+use Rattle.fq_text.specs.Devices.{OutletState}
 use Rattle.fq_text.specs.Written.{line}
 use Rattle.fq_files.specs.Holding.{Holding, IsUnchanged}
 use Rattle.fq_pair.specs.declared.counts.Counts.{Counts}
 use Rattle.fq_pair.specs.declared.side.Side.{Side}
 use Rattle.fq_pair.specs.Summaries.{summary_of}
-use Rattle.fq_run.specs.declared.outcome.Outcome.{Outcome}
-use Rattle.fq_run.specs.declared.outcome.Outcome.TheVariants.{Lane}
+use Rattle.fq_run.specs.Outcome.{Outcome}
+use Rattle.fq_run.specs.Outcome.TheVariants.{Lane}
 use Rattle.clap.specs.Kinds.{Kinds}
 use Rattle.clap.specs.declared.error.kind.ErrorKind.{ErrorKind}
 use Rattle.clap.specs.declared.error.kind.ErrorKind.TheVariants.{DisplayHelp, DisplayVersion}
 use Rattle.fq_prog.specs.declared.refusal.Refusal.{Refusal}
-use Rattle.fq_prog.specs.Requests.{Asking, wrong_with, input_name}
+use Rattle.fq_words.specs.Requests.{Asking, input_name}
+use Rattle.fq_prog.specs.Judging.{wrong_with}
 use Rattle.fq_prog.specs.Refusals.{status_of, line_of}
 use Rattle.fq_prog.specs.Faults.{outcome_status, outcome_line}
 use Rattle.fq_prog.specs.Trimming.{HasDistinctOutputs, TrimsFiles}
@@ -26,8 +28,8 @@ pub record Device : Type 0 where
   pub after : List ℕ
   pub failures : ℕ
 
-abbrev pub device_of : {D : Type 0} → (D → Bool) → (D → List ℕ) → (D → ℕ) → D → D → Device
-device_of tells taken failures old new = record { tells = tells old; before = taken old; after = taken new; failures = failures new }
+abbrev pub device_of : {D : Type 0} → (D → OutletState) → D → D → Device
+device_of state old new = record { tells = (state old).tells; before = (state old).taken; after = (state new).taken; failures = (state new).failures }
 
 -- where it has not failed, it took this text and nothing else
 abbrev pub TookText : Device → List ℕ → Type 0

@@ -7,8 +7,8 @@ use Rattle.fq_pair.specs.declared.side.Side.{Side}
 use Rattle.fq_pair.specs.declared.fault.InputFault.{InputFault}
 use Rattle.fq_pair.specs.declared.fault.InputFault.TheVariants.{Text, MateMissing, NamesDiffer}
 use Rattle.fq_pair.specs.Summaries.{side_name, out_name}
-use Rattle.fq_run.specs.declared.outcome.Outcome.{Outcome}
-use Rattle.fq_run.specs.declared.outcome.Outcome.TheVariants.{Spawn, Lane, Gate, Memory, Write, Read, Endless, Input, Finished}
+use Rattle.fq_run.specs.Outcome.{Outcome}
+use Rattle.fq_run.specs.Outcome.TheVariants.{Spawn, Lane, Gate, Memory, Write, Read, Endless, Input, Finished}
 use Rattle.fq_run.specs.Outcomes.{end_of}
 
 -- An outcome as it is told: a text that could not be read on is no fault of the text.
@@ -38,39 +38,26 @@ status_when Gate = 6
 abbrev pub outcome_status : Outcome → ℕ
 outcome_status outcome = status_when (settled outcome)
 
--- a fault of a text: its name, and the number of its record (none where the text could not be read on)
-abbrev pub kind_name : TextFault → List ℕ
-kind_name (text.NoTitle k) = codes "NoTitle"
-kind_name (text.BadSequence k) = codes "BadSequence"
-kind_name (text.NoPlus k) = codes "NoPlus"
-kind_name (text.PlusDiffers k) = codes "PlusDiffers"
-kind_name (text.BadQuality k) = codes "BadQuality"
-kind_name (text.QualityLong k) = codes "QualityLong"
-kind_name (text.QualityShort k) = codes "QualityShort"
-kind_name (text.TooLong k) = codes "TooLong"
-kind_name text.Read = codes "Read"
-kind_name text.Endless = codes "Endless"
-kind_name text.OutOfMemory = codes "OutOfMemory"
-
-abbrev pub record_of : TextFault → ℕ
-record_of (text.NoTitle k) = k
-record_of (text.BadSequence k) = k
-record_of (text.NoPlus k) = k
-record_of (text.PlusDiffers k) = k
-record_of (text.BadQuality k) = k
-record_of (text.QualityLong k) = k
-record_of (text.QualityShort k) = k
-record_of (text.TooLong k) = k
-record_of text.Read = 0
-record_of text.Endless = 0
-record_of text.OutOfMemory = 0
+-- a fault of a text: the number of its record (none where the text could not be read on), and its name
+abbrev pub record_and_name : TextFault → ℕ × List ℕ
+record_and_name (text.NoTitle k) = (k, codes "NoTitle")
+record_and_name (text.BadSequence k) = (k, codes "BadSequence")
+record_and_name (text.NoPlus k) = (k, codes "NoPlus")
+record_and_name (text.PlusDiffers k) = (k, codes "PlusDiffers")
+record_and_name (text.BadQuality k) = (k, codes "BadQuality")
+record_and_name (text.QualityLong k) = (k, codes "QualityLong")
+record_and_name (text.QualityShort k) = (k, codes "QualityShort")
+record_and_name (text.TooLong k) = (k, codes "TooLong")
+record_and_name text.Read = (0, codes "Read")
+record_and_name text.Endless = (0, codes "Endless")
+record_and_name text.OutOfMemory = (0, codes "OutOfMemory")
 
 -- a fault of one side's record
 abbrev pub at_record : Side → ℕ → List ℕ → List ℕ
 at_record side k kind = codes "input: " ++ side_name side ++ codes " record " ++ decimal k ++ codes ": " ++ kind
 
 abbrev pub input_words : InputFault → List ℕ
-input_words (Text side fault) = at_record side (record_of fault) (kind_name fault)
+input_words (Text side fault) = at_record side (record_and_name fault).0 (record_and_name fault).1
 input_words (MateMissing side k) = at_record side k (codes "MateMissing")
 input_words (NamesDiffer k) = codes "input: record " ++ decimal k ++ codes ": NamesDiffer"
 

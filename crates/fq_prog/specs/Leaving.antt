@@ -1,20 +1,21 @@
 -- What the files of the outputs hold where the program ends otherwise than whole.
-use Rattle.std.specs.Prelude.{◌≡◌, ◌≢◌, ◌<◌, ◌≤◌, ◌⊎◌, ℕ, Bool, true, false, Some, None, Ok, List, [], ◌++◌, length}
-use Rattle.fq_files.specs.Holding.{Holding, IsUnchanged, KeepsNames}
+use Rattle.std.specs.Prelude.{◌≡◌, ◌<◌, ◌≤◌, ◌⊎◌, ℕ, Bool, true, false, Some, Ok, List, [], ◌++◌}
+use Rattle.fq_files.specs.Holding.{Holding, IsUnchanged}
 use Rattle.fq_pair.specs.declared.out.Out.{Out}
 use Rattle.fq_pair.specs.Mates.{Mates}
 use Rattle.fq_pair.specs.Pairing.{Pairs}
 use Rattle.fq_pair.specs.Outputs.{texts_of, text_of}
 use Rattle.fq_run.specs.Choices.{Choices}
-use Rattle.fq_run.specs.declared.outcome.Outcome.{Outcome}
-use Rattle.fq_run.specs.declared.outcome.Outcome.TheVariants as outcome
+use Rattle.fq_run.specs.Outcome.{Outcome}
+use Rattle.fq_run.specs.Outcome.TheVariants as outcome
 use Rattle.fq_run.specs.Devices.{OutletStates, OutletsTook, place}
 use Rattle.fq_run.specs.Endings.{AreFirst}
 use Rattle.fq_run.specs.Fates.{Fate, failed_outlet, block_begun, part_begun, IsCutShort}
 use Rattle.fq_run.specs.Outcomes.{rank}
 use Rattle.fq_prog.specs.declared.refusal.Refusal.{Refusal}
 use Rattle.fq_prog.specs.declared.refusal.Refusal.TheVariants as why
-use Rattle.fq_prog.specs.Requests.{Asking, settings_of, output_name}
+use Rattle.fq_words.specs.Requests.{Asking, output_name}
+use Rattle.fq_prog.specs.Judging.{settings_of}
 use Rattle.fq_prog.specs.Trimming.{pairs_of}
 
 -- Where the trimming was begun.
@@ -57,17 +58,6 @@ pub record HoldFirstPairs (a : Asking) (old new : Holding) (ended : Outcome) : T
 -- each output's file holds what it held, or nothing
 abbrev pub AreUntrimmed : Asking → Holding → Holding → Type 0
 AreUntrimmed a old new = (out : Out) (name : List ℕ) → output_name a out ≡ Some name → (new name ≡ old name) ⊎ (new name ≡ Some [])
-
--- an output was made, empty, and no other file was touched
-pub record IsMade (a : Asking) (out : Out) (old new : Holding) : Type 0 where
-  pub empty : (name : List ℕ) → output_name a out ≡ Some name → new name ≡ Some []
-  pub names : KeepsNames old new
-  pub others : (name : List ℕ) → output_name a out ≢ Some name → new name ≡ old name
-
--- it was not made: it holds what it held, or nothing, and no other file was touched
-pub record IsUnmade (a : Asking) (out : Out) (old new : Holding) : Type 0 where
-  pub there : (name : List ℕ) → output_name a out ≡ Some name → (new name ≡ old name) ⊎ (new name ≡ Some [])
-  pub others : (name : List ℕ) → output_name a out ≢ Some name → new name ≡ old name
 
 -- an output could not be made: those before it are empty, and those behind it hold what they held
 pub record StopsAt (a : Asking) (out : Out) (old new : Holding) : Type 0 where

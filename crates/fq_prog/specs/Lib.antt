@@ -1,8 +1,8 @@
 pub mod Refusals
-pub mod Requests
+pub mod Judging
 pub mod Trimming
 pub mod Leaving
+pub mod Making
 pub mod Answers
 pub mod Faults
-pub mod Words
 pub mod Example

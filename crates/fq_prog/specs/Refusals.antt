@@ -3,11 +3,11 @@ use Rattle.std.specs.Prelude.{ℕ, List, [], ◌++◌, codes, decimal, unwrap_or
 use Rattle.fq_text.specs.Written.{line}
 use Rattle.fq_trim.specs.declared.fault.StepFaultKind.{StepFaultKind}
 use Rattle.fq_trim.specs.declared.fault.StepFaultKind.TheVariants as step
-use Rattle.fq_run.specs.declared.settings.BadSetting.{BadSetting}
-use Rattle.fq_run.specs.declared.settings.BadSetting.TheVariants as setting
+use Rattle.fq_run.specs.BadSetting.{BadSetting}
+use Rattle.fq_run.specs.BadSetting.TheVariants as setting
 use Rattle.fq_prog.specs.declared.refusal.Refusal.{Refusal}
 use Rattle.fq_prog.specs.declared.refusal.Refusal.TheVariants.{Encoding, Step, Setting, SameName, Source, Target, Memory}
-use Rattle.fq_prog.specs.Requests.{Asking, input_name, output_name}
+use Rattle.fq_words.specs.Requests.{Asking, input_name, output_name}
 
 -- the exit status
 abbrev pub status_of : Refusal → ℕ

@@ -4,13 +4,15 @@ use Rattle.fq_files.specs.Holding.{Holding}
 use Rattle.fq_pair.specs.declared.out.Out.{Out}
 use Rattle.fq_pair.specs.declared.counts.Counts.{Counts}
 use Rattle.fq_pair.specs.Pairing.{Pairs}
-use Rattle.fq_pair.specs.Forms.{Form, TwoTexts, OneText, pairs_in}
+use Rattle.fq_pair.specs.Forms.{Form, TwoTexts, InterleavedText, pairs_in}
 use Rattle.fq_pair.specs.Outputs.{texts_of, text_of, counts_of}
 use Rattle.fq_run.specs.Choices.{Choices}
-use Rattle.fq_run.specs.declared.outcome.Outcome.{Outcome}
-use Rattle.fq_run.specs.Devices.{FeedState, OutletState, OutletStates, OutletsTook, outlet_at}
+use Rattle.fq_run.specs.Outcome.{Outcome}
+use Rattle.fq_text.specs.Devices.{FeedState, OutletState}
+use Rattle.fq_run.specs.Devices.{OutletStates, OutletsTook, outlet_at}
 use Rattle.fq_run.specs.Endings.{trimmed_outcome}
-use Rattle.fq_prog.specs.Requests.{Asking, InputNames, settings_of, output_name}
+use Rattle.fq_words.specs.Requests.{Asking, InputNames, output_name}
+use Rattle.fq_prog.specs.Judging.{settings_of}
 use Rattle.fq_prog.specs.declared.trimming.Feeds.{Feeds}
 use Rattle.fq_prog.specs.declared.trimming.Feeds.TheVariants.{Apart, Interleaved}
 
@@ -45,7 +47,7 @@ pub record IsFed (tells : Bool) (to_come : List ℕ) (bytes : Option (List ℕ))
   pub told : IsTrue tells
   pub bytes_are : bytes ≡ Some to_come
 
--- Inputs that are opened, in their form. Where mates take turns in one, it stands for both sides.
+-- Inputs that are opened, in their form. An interleaved one stands for both sides.
 pub record Opened : Type 0 where
   pub form : Form
   pub forward : FeedState
@@ -53,7 +55,7 @@ pub record Opened : Type 0 where
 
 abbrev pub opened_of : {F : Type 0} → (F → FeedState) → Feeds F → Opened
 opened_of state (Apart forward reverse) = record { form = TwoTexts; forward = state forward; reverse = state reverse }
-opened_of state (Interleaved both) = record { form = OneText; forward = state both; reverse = state both }
+opened_of state (Interleaved both) = record { form = InterleavedText; forward = state both; reverse = state both }
 
 -- no input has failed
 pub record AreFresh (inputs : Opened) : Type 0 where

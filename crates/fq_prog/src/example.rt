@@ -3,10 +3,10 @@
 ghost use Rattle.std.specs.Prelude.{◌≡◌, ◌++◌, [], IfOk, IfErr, OnOk};
 ghost use Rattle.fq_prog.specs.Example.{example_choices, example_text, sections};
 ghost use Rattle.fq_prog.specs.Faults.{outcome_status};
-ghost use Rattle.fq_prog.specs.declared.trimming.Ended.{Ended};
+ghost use Rattle.fq_prog.specs.declared.trimming.Account.{Account};
 ghost use Rattle.fq_prog.specs.declared.unshown.Unshown.TheVariants.{Unrun};
 
-use crate::trimming::Ended;
+use crate::trimming::Account;
 use crate::unshown::Unshown;
 use fq_pair::summary;
 use fq_run::{Outcome, Outlets, Settings, run_threads};
@@ -55,7 +55,7 @@ pub(crate) fn example<R: Threads + Wait + Copy + Send + 'static>(
     rt: &R,
 ) -> Result<Vec<u8>, Unshown>
     ensures text { IfOk result (λ text. text.items ≡ example_text) }
-    ensures unrun { IfErr result (λ why. (ended : Ended) → why ≡ Unrun ended → outcome_status ended.outcome ≡ 6) }
+    ensures unrun { IfErr result (λ why. (account : Account) → why ≡ Unrun account → outcome_status account.outcome ≡ 6) }
 {
     let Ok(gate) = Arc::new(alloc, OpenGate) else {
         return Err(Unshown::Memory);
@@ -77,7 +77,7 @@ pub(crate) fn example<R: Threads + Wait + Copy + Send + 'static>(
             log.bytes(),
             summary(alloc, &ending.counts)?.as_bytes(),
         )?),
-        (Outcome::Spawn | Outcome::Lane, _) => Err(Unshown::Unrun(Ended {
+        (Outcome::Spawn | Outcome::Lane, _) => Err(Unshown::Unrun(Account {
             outcome: ending.outcome,
             counts: ending.counts,
         })),

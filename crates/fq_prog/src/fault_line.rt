@@ -3,7 +3,7 @@
 ghost use Rattle.std.specs.Prelude.{◌≡◌, ◌++◌, OnOk, OnErr, IfOk, codes, decimal};
 ghost use Rattle.std.specs.String.{string_bytes};
 ghost use Rattle.fq_text.specs.Written.{line};
-ghost use Rattle.fq_prog.specs.Faults.{settled, status_when, outcome_status, kind_name, record_of, at_record, input_words, line_when, outcome_line};
+ghost use Rattle.fq_prog.specs.Faults.{settled, status_when, outcome_status, record_and_name, at_record, input_words, line_when, outcome_line};
 
 use fq_pair::{InputFault, Side};
 use fq_run::Outcome;
@@ -74,7 +74,8 @@ fn input_line(alloc: Global, fault: InputFault) -> Result<String, OutOfMemory>
 {
     match fault {
         InputFault::Text(side, fault) => {
-            record_line(alloc, side, record_of(fault), kind_name(fault))
+            let (k, name) = record_and_name(fault);
+            record_line(alloc, side, k, name)
         }
         InputFault::MateMissing(side, k) => record_line(alloc, side, k, "MateMissing"),
         InputFault::NamesDiffer(k) => names_line(alloc, k),
@@ -95,38 +96,21 @@ fn record_line(alloc: Global, side: Side, k: u64, kind: &str) -> Result<String, 
     format!(in alloc; "input: {side} record {k}: {kind}\n")
 }
 
-// The name of a fault of a text.
-fn kind_name(fault: TextFault) -> &'static str
-    ensures { result.now ≡ kind_name fault }
+// The number of the record of a fault of a text, and the fault's name.
+fn record_and_name(fault: TextFault) -> (u64, &'static str)
+    ensures { (result.0 ≡ (record_and_name fault).0) × (result.1.now ≡ (record_and_name fault).1) }
 {
     match fault {
-        TextFault::NoTitle(_) => "NoTitle",
-        TextFault::BadSequence(_) => "BadSequence",
-        TextFault::NoPlus(_) => "NoPlus",
-        TextFault::PlusDiffers(_) => "PlusDiffers",
-        TextFault::BadQuality(_) => "BadQuality",
-        TextFault::QualityLong(_) => "QualityLong",
-        TextFault::QualityShort(_) => "QualityShort",
-        TextFault::TooLong(_) => "TooLong",
-        TextFault::Read => "Read",
-        TextFault::Endless => "Endless",
-        TextFault::OutOfMemory => "OutOfMemory",
-    }
-}
-
-// The number of the record of a fault of a text.
-fn record_of(fault: TextFault) -> u64
-    ensures { result ≡ record_of fault }
-{
-    match fault {
-        TextFault::NoTitle(k)
-        | TextFault::BadSequence(k)
-        | TextFault::NoPlus(k)
-        | TextFault::PlusDiffers(k)
-        | TextFault::BadQuality(k)
-        | TextFault::QualityLong(k)
-        | TextFault::QualityShort(k)
-        | TextFault::TooLong(k) => k,
-        TextFault::Read | TextFault::Endless | TextFault::OutOfMemory => 0,
+        TextFault::NoTitle(k) => (k, "NoTitle"),
+        TextFault::BadSequence(k) => (k, "BadSequence"),
+        TextFault::NoPlus(k) => (k, "NoPlus"),
+        TextFault::PlusDiffers(k) => (k, "PlusDiffers"),
+        TextFault::BadQuality(k) => (k, "BadQuality"),
+        TextFault::QualityLong(k) => (k, "QualityLong"),
+        TextFault::QualityShort(k) => (k, "QualityShort"),
+        TextFault::TooLong(k) => (k, "TooLong"),
+        TextFault::Read => (0, "Read"),
+        TextFault::Endless => (0, "Endless"),
+        TextFault::OutOfMemory => (0, "OutOfMemory"),
     }
 }

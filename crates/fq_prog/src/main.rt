@@ -1,20 +1,19 @@
-//! Trims pairs of reads: the command `PE` for two files, `IL` for one in which mates take turns, and `EXAMPLE`, which shows what
-//! becomes of two built-in pairs.
+//! Trims pairs of reads: the command `PE` for two files, `IL` for an interleaved one, and `EXAMPLE`, which shows what becomes of two
+//! built-in pairs.
 #![tactic(auto)]
 
 ghost use Rattle.std.specs.Prelude.{◌≡◌};
 
 mod example;
 mod fault_line;
-mod help;
+mod judging;
+mod outputs;
 mod program;
 mod refusal;
 mod refusal_line;
 mod report;
-mod request;
 mod trimming;
 mod unshown;
-mod words;
 
 use fq_files::SystemFiles;
 use fq_text::{FromWrite, Outlet, send};
@@ -72,7 +71,7 @@ fn words_of<'a>(alloc: Global, texts: &'a [String]) -> Result<Vec<&'a str>, Allo
 
 // A word of the command line is not UTF-8: says which, counted behind the program's name, and answers the exit status.
 fn refuse_bytes<E: Outlet>(rt: &HostRuntime, err: &mut E) -> u8
-    requires { E.failure_count err.old ≡ 0 }
+    requires { (E.state err.old).failures ≡ 0 }
 {
     let Ok(text) = bytes_line(rt) else {
         return out_of_memory(err);

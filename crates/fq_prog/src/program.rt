@@ -1,9 +1,10 @@
 //! The program, apart from where its words and files come from and its texts go to.
 
 ghost use Rattle.std.specs.Prelude.{◌≡◌, ◌≢◌, ◌⊎◌, ◌++◌, Some, None, [], IsSome, IsTrue, map};
-ghost use Rattle.fq_prog.specs.Requests.{Asking, asking_of, wrong_with};
+ghost use Rattle.fq_words.specs.Requests.{Asking, asking_of};
+ghost use Rattle.fq_prog.specs.Judging.{wrong_with};
 ghost use Rattle.fq_prog.specs.Trimming.{KeepsRest};
-ghost use Rattle.fq_prog.specs.Words.{AskedFor, words_fault};
+ghost use Rattle.fq_words.specs.Words.{AskedFor, words_fault};
 ghost use Rattle.fq_prog.specs.Answers.{device_of, TookText, LacksMemory, Refuses, PairsAnswered, AreRefused, IsCall, AreCalls, print_line};
 ghost use Rattle.fq_prog.specs.Example.{example_text};
 ghost use Rattle.clap.specs.Words.{kind_of};
@@ -13,14 +14,13 @@ use crate::example::example;
 use crate::refusal::Refusal;
 use crate::refusal_line::{refusal_line, refusal_status};
 use crate::report::{cannot_print, out_of_memory, report};
-use crate::request::Request;
 use crate::trimming::trim_files;
 use crate::unshown::Unshown;
-use crate::words::{Asked, read_words};
 use clap::Error;
 use clap::error::ErrorKind;
 use fq_files::Files;
 use fq_text::{Outlet, send};
+use fq_words::{Asked, Request, read_words};
 use std::alloc::Global;
 use std::sync::Wait;
 use std::thread::Threads;
@@ -31,8 +31,8 @@ use std::thread::Threads;
 /// to FP and RP, and a mate that survives alone goes to FU or RU. Where the run ends whole, at the end of the inputs or at a fault of theirs,
 /// the summary goes to `out`. Each refusal and each fault sends one line to `err`; whether that fails changes nothing.
 ///
-/// `IL [options] I FP FU RP RU STEPS..` does the same with the pairs of one file I, in which mates take turns: a forward record, then
-/// its reverse mate.
+/// `IL [options] I FP FU RP RU STEPS..` does the same with the pairs of one interleaved file I: a forward record, then its
+/// reverse mate, and so on.
 ///
 /// `EXAMPLE` prints what becomes of two built-in pairs under the step `LEADING:3`: the four outputs, the trim log and the
 /// summary, each below a label.
@@ -47,13 +47,13 @@ pub fn program<'a, R: Threads + Wait + Copy + Send + 'static, T: Files, O: Outle
     out: &mut O,
     err: &mut E,
 ) -> u8
-    requires out { O.failure_count out.old ≡ 0 }
-    requires err { E.failure_count err.old ≡ 0 }
+    requires out { (O.state out.old).failures ≡ 0 }
+    requires err { (E.state err.old).failures ≡ 0 }
 
     // Words that parse as `PE` or `IL` are answered as they ask: the pairs are trimmed, or it is told why not. What is wrong with the words
     // is found before a file is touched.
     ensures pairs { (a : Asking) → AskedFor (map (λ word. word.now) words.entry.now) (Some a)
-        → PairsAnswered a (T.tells_bytes files.old) (T.bytes_of files.old) (T.bytes_of files.new) (device_of O.tells O.taken O.failure_count out.old out.new) (device_of E.tells E.taken E.failure_count err.old err.new) result }
+        → PairsAnswered a (T.tells_bytes files.old) (T.bytes_of files.old) (T.bytes_of files.new) (device_of O.state out.old out.new) (device_of E.state err.old err.new) result }
     ensures wrong { (a : Asking) → AskedFor (map (λ word. word.now) words.entry.now) (Some a) → IsSome (wrong_with a) → files.new ≡ files.old }
 
     // No file is touched but those of the outputs.
@@ -62,7 +62,7 @@ pub fn program<'a, R: Threads + Wait + Copy + Send + 'static, T: Files, O: Outle
     // Other words touch no file. `EXAMPLE` is printed, but where `out`, memory or a thread fails; words that don't parse are refused, but
     // calls for help or for the version are not.
     ensures example { AskedFor (map (λ word. word.now) words.entry.now) None → (files.new ≡ files.old) × ((result ≡ 0) ⊎ ((result ≡ 4) ⊎ ((result ≡ 5) ⊎ (result ≡ 6)))) }
-    ensures shown { AskedFor (map (λ word. word.now) words.entry.now) None → result ≡ 0 → IsTrue (O.tells out.old) → O.taken out.new ≡ O.taken out.old ++ example_text }
+    ensures shown { AskedFor (map (λ word. word.now) words.entry.now) None → result ≡ 0 → IsTrue (O.state out.old).tells → (O.state out.new).taken ≡ (O.state out.old).taken ++ example_text }
     ensures refused { words_fault (map (λ word. word.now) words.entry.now) ≢ [] → files.new ≡ files.old }
     ensures usage { AreRefused (words_fault (map (λ word. word.now) words.entry.now)) → (result ≡ 1) ⊎ (result ≡ 5) }
     ensures called { AreCalls (words_fault (map (λ word. word.now) words.entry.now)) → result ≢ 1 }
@@ -70,10 +70,10 @@ pub fn program<'a, R: Threads + Wait + Copy + Send + 'static, T: Files, O: Outle
 
     // Where all is done nothing is told, and `out` has taken all. Where it fails the status says so, or tells of the input; nothing is
     // printed at any other status, and want of memory is told as such.
-    ensures finished { result ≡ 0 → (O.failure_count out.new ≡ 0) × (err.new ≡ err.old) }
-    ensures quiet { result ≢ 0 → result ≢ 3 → O.failure_count out.new ≡ 0 → out.new ≡ out.old }
-    ensures failed { O.failure_count out.new ≢ 0 → (result ≡ 3) ⊎ ((result ≡ 4) × TookText (device_of E.tells E.taken E.failure_count err.old err.new) print_line) }
-    ensures memory { result ≡ 5 → (out.new ≡ out.old) × LacksMemory (device_of E.tells E.taken E.failure_count err.old err.new) result }
+    ensures finished { result ≡ 0 → ((O.state out.new).failures ≡ 0) × (err.new ≡ err.old) }
+    ensures quiet { result ≢ 0 → result ≢ 3 → (O.state out.new).failures ≡ 0 → out.new ≡ out.old }
+    ensures failed { (O.state out.new).failures ≢ 0 → (result ≡ 3) ⊎ ((result ≡ 4) × TookText (device_of E.state err.old err.new) print_line) }
+    ensures memory { result ≡ 5 → (out.new ≡ out.old) × LacksMemory (device_of E.state err.old err.new) result }
 {
     match read_words(alloc, words) {
         Ok(Asked::Example) => print_example(alloc, rt, out, err),
@@ -91,26 +91,26 @@ fn trim_pairs<R: Threads + Wait + Copy + Send + 'static, T: Files, O: Outlet, E:
     out: &mut O,
     err: &mut E,
 ) -> u8
-    requires out { O.failure_count out.old ≡ 0 }
-    requires err { E.failure_count err.old ≡ 0 }
-    ensures pairs { PairsAnswered (asking_of request.now) (T.tells_bytes files.old) (T.bytes_of files.old) (T.bytes_of files.new) (device_of O.tells O.taken O.failure_count out.old out.new) (device_of E.tells E.taken E.failure_count err.old err.new) result }
+    requires out { (O.state out.old).failures ≡ 0 }
+    requires err { (E.state err.old).failures ≡ 0 }
+    ensures pairs { PairsAnswered (asking_of request.now) (T.tells_bytes files.old) (T.bytes_of files.old) (T.bytes_of files.new) (device_of O.state out.old out.new) (device_of E.state err.old err.new) result }
     ensures wrong { IsSome (wrong_with (asking_of request.now)) → files.new ≡ files.old }
     ensures rest { IsTrue (T.tells_bytes files.old) → KeepsRest (asking_of request.now) (T.bytes_of files.old) (T.bytes_of files.new) }
-    ensures finished { result ≡ 0 → (O.failure_count out.new ≡ 0) × (err.new ≡ err.old) }
-    ensures quiet { result ≢ 0 → result ≢ 3 → O.failure_count out.new ≡ 0 → out.new ≡ out.old }
-    ensures failed { O.failure_count out.new ≢ 0 → (result ≡ 3) ⊎ ((result ≡ 4) × TookText (device_of E.tells E.taken E.failure_count err.old err.new) print_line) }
-    ensures memory { result ≡ 5 → (out.new ≡ out.old) × LacksMemory (device_of E.tells E.taken E.failure_count err.old err.new) result }
+    ensures finished { result ≡ 0 → ((O.state out.new).failures ≡ 0) × (err.new ≡ err.old) }
+    ensures quiet { result ≢ 0 → result ≢ 3 → (O.state out.new).failures ≡ 0 → out.new ≡ out.old }
+    ensures failed { (O.state out.new).failures ≢ 0 → (result ≡ 3) ⊎ ((result ≡ 4) × TookText (device_of E.state err.old err.new) print_line) }
+    ensures memory { result ≡ 5 → (out.new ≡ out.old) × LacksMemory (device_of E.state err.old err.new) result }
 {
     match trim_files(alloc, rt, request, files) {
-        Ok(ended) => report(alloc, &ended, out, err),
+        Ok(account) => report(alloc, &account, out, err),
         Err(refusal) => refuse(alloc, request, refusal, err),
     }
 }
 
 // Says why nothing was trimmed, and answers the exit status.
 fn refuse<E: Outlet>(alloc: Global, request: &Request<'_>, refusal: Refusal, err: &mut E) -> u8
-    requires { E.failure_count err.old ≡ 0 }
-    ensures { Refuses (asking_of request.now) refusal (device_of E.tells E.taken E.failure_count err.old err.new) result }
+    requires { (E.state err.old).failures ≡ 0 }
+    ensures { Refuses (asking_of request.now) refusal (device_of E.state err.old err.new) result }
 {
     match refusal_line(alloc, request, refusal) {
         Ok(line) => {
@@ -129,37 +129,37 @@ fn print_example<R: Threads + Wait + Copy + Send + 'static, O: Outlet, E: Outlet
     out: &mut O,
     err: &mut E,
 ) -> u8
-    requires out { O.failure_count out.old ≡ 0 }
-    requires err { E.failure_count err.old ≡ 0 }
+    requires out { (O.state out.old).failures ≡ 0 }
+    requires err { (E.state err.old).failures ≡ 0 }
     ensures status { (result ≡ 0) ⊎ ((result ≡ 4) ⊎ ((result ≡ 5) ⊎ (result ≡ 6))) }
-    ensures shown { result ≡ 0 → IsTrue (O.tells out.old) → O.taken out.new ≡ O.taken out.old ++ example_text }
-    ensures finished { result ≡ 0 → (O.failure_count out.new ≡ 0) × (err.new ≡ err.old) }
-    ensures quiet { result ≢ 0 → O.failure_count out.new ≡ 0 → out.new ≡ out.old }
-    ensures failed { O.failure_count out.new ≢ 0 → (result ≡ 4) × TookText (device_of E.tells E.taken E.failure_count err.old err.new) print_line }
-    ensures memory { result ≡ 5 → (out.new ≡ out.old) × LacksMemory (device_of E.tells E.taken E.failure_count err.old err.new) result }
+    ensures shown { result ≡ 0 → IsTrue (O.state out.old).tells → (O.state out.new).taken ≡ (O.state out.old).taken ++ example_text }
+    ensures finished { result ≡ 0 → ((O.state out.new).failures ≡ 0) × (err.new ≡ err.old) }
+    ensures quiet { result ≢ 0 → (O.state out.new).failures ≡ 0 → out.new ≡ out.old }
+    ensures failed { (O.state out.new).failures ≢ 0 → (result ≡ 4) × TookText (device_of E.state err.old err.new) print_line }
+    ensures memory { result ≡ 5 → (out.new ≡ out.old) × LacksMemory (device_of E.state err.old err.new) result }
 {
     match example(alloc, rt) {
         Ok(text) => match send(out, &text) {
             Ok(()) => 0,
             Err(_) => cannot_print(err),
         },
-        Err(Unshown::Unrun(ended)) => report(alloc, &ended, out, err),
+        Err(Unshown::Unrun(account)) => report(alloc, &account, out, err),
         Err(Unshown::Memory) => out_of_memory(err),
     }
 }
 
 // Prints help that was asked for, or what is wrong with the words.
 fn refuse_words<O: Outlet, E: Outlet>(alloc: Global, error: &Error, out: &mut O, err: &mut E) -> u8
-    requires out { O.failure_count out.old ≡ 0 }
-    requires err { E.failure_count err.old ≡ 0 }
+    requires out { (O.state out.old).failures ≡ 0 }
+    requires err { (E.state err.old).failures ≡ 0 }
     ensures status { (result ≡ 0) ⊎ ((result ≡ 1) ⊎ ((result ≡ 4) ⊎ (result ≡ 5))) }
     ensures no_memory { kind_of error.now ≡ OutOfMemory → result ≡ 5 }
     ensures usage { kind_of error.now ≢ DisplayHelp → kind_of error.now ≢ DisplayVersion → (result ≡ 1) ⊎ (result ≡ 5) }
     ensures called { IsCall (kind_of error.now) → result ≢ 1 }
     ensures usage_only { result ≡ 1 → (out.new ≡ out.old) × (kind_of error.now ≢ OutOfMemory) }
-    ensures finished { result ≡ 0 → (O.failure_count out.new ≡ 0) × (err.new ≡ err.old) }
-    ensures failed { result ≡ 4 → (O.failure_count out.new ≡ 1) × TookText (device_of E.tells E.taken E.failure_count err.old err.new) print_line }
-    ensures memory { result ≡ 5 → (out.new ≡ out.old) × LacksMemory (device_of E.tells E.taken E.failure_count err.old err.new) result }
+    ensures finished { result ≡ 0 → ((O.state out.new).failures ≡ 0) × (err.new ≡ err.old) }
+    ensures failed { result ≡ 4 → ((O.state out.new).failures ≡ 1) × TookText (device_of E.state err.old err.new) print_line }
+    ensures memory { result ≡ 5 → (out.new ≡ out.old) × LacksMemory (device_of E.state err.old err.new) result }
 {
     if error.kind() == ErrorKind::OutOfMemory {
         return out_of_memory(err);

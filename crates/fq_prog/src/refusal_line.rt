@@ -3,14 +3,14 @@
 ghost use Rattle.std.specs.Prelude.{◌≡◌, ◌++◌, IfOk, codes, decimal};
 ghost use Rattle.fq_text.specs.Written.{line};
 ghost use Rattle.std.specs.String.{string_bytes};
-ghost use Rattle.fq_prog.specs.Requests.{asking_of};
+ghost use Rattle.fq_words.specs.Requests.{asking_of};
 ghost use Rattle.fq_prog.specs.Refusals.{status_of, line_of, step_fault_name, setting_name};
 
 use crate::refusal::Refusal;
-use crate::request::Request;
 use fq_run::BadSetting;
 use fq_text::OutOfMemory;
 use fq_trim::StepFaultKind;
+use fq_words::Request;
 use std::alloc::Global;
 
 /// The exit status of a refusal.

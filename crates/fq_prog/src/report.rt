@@ -6,7 +6,7 @@ ghost use Rattle.fq_prog.specs.Answers.{device_of, TookText, TookPart, Reports, 
 ghost use Rattle.fq_prog.specs.Faults.{outcome_status, outcome_line};
 
 use crate::fault_line::{fault_line, status_of};
-use crate::trimming::Ended;
+use crate::trimming::Account;
 use fq_pair::{Counts, summary};
 use fq_run::Outcome;
 use fq_text::{OutOfMemory, Outlet, send};
@@ -15,42 +15,42 @@ use std::alloc::Global;
 /// Prints the summary of a run that ended whole to `out`, and the line of a fault to `err`. Answers the exit status.
 pub(crate) fn report<O: Outlet, E: Outlet>(
     alloc: Global,
-    ended: &Ended,
+    account: &Account,
     out: &mut O,
     err: &mut E,
 ) -> u8
-    requires out { O.failure_count out.old ≡ 0 }
-    requires err { E.failure_count err.old ≡ 0 }
+    requires out { (O.state out.old).failures ≡ 0 }
+    requires err { (E.state err.old).failures ≡ 0 }
 
     // At the end of the inputs, or at a fault of theirs, the summary was printed, or at a fault a part of it.
-    ensures whole { (result ≡ 0) ⊎ (result ≡ 3) → outcome_status ended.now.outcome ≡ result }
-    ensures printed { (result ≡ 0) ⊎ (result ≡ 3) → TookPart (device_of O.tells O.taken O.failure_count out.old out.new) (summary_of ended.now.counts) }
-    ensures finished { result ≡ 0 → (O.failure_count out.new ≡ 0) × (err.new ≡ err.old) }
+    ensures whole { (result ≡ 0) ⊎ (result ≡ 3) → outcome_status account.now.outcome ≡ result }
+    ensures printed { (result ≡ 0) ⊎ (result ≡ 3) → TookPart (device_of O.state out.old out.new) (summary_of account.now.counts) }
+    ensures finished { result ≡ 0 → ((O.state out.new).failures ≡ 0) × (err.new ≡ err.old) }
 
-    ensures status { (result ≡ outcome_status ended.now.outcome) ⊎ ((result ≡ 4) ⊎ (result ≡ 5)) }
+    ensures status { (result ≡ outcome_status account.now.outcome) ⊎ ((result ≡ 4) ⊎ (result ≡ 5)) }
 
     // The line of the outcome.
-    ensures told { (result ≡ 0) ⊎ (result ≡ 3) → TookText (device_of E.tells E.taken E.failure_count err.old err.new) (outcome_line ended.now.outcome) }
-    ensures line { result ≢ 0 → Reports ended.now.outcome (device_of E.tells E.taken E.failure_count err.old err.new) result }
-    ensures memory { result ≡ 5 → (out.new ≡ out.old) × LacksMemory (device_of E.tells E.taken E.failure_count err.old err.new) result }
+    ensures told { (result ≡ 0) ⊎ (result ≡ 3) → TookText (device_of E.state err.old err.new) (outcome_line account.now.outcome) }
+    ensures line { result ≢ 0 → Reports account.now.outcome (device_of E.state err.old err.new) result }
+    ensures memory { result ≡ 5 → (out.new ≡ out.old) × LacksMemory (device_of E.state err.old err.new) result }
 
     // Where `out` failed the status says so, and otherwise nothing but the summary is printed.
-    ensures quiet { result ≢ 0 → result ≢ 3 → O.failure_count out.new ≡ 0 → out.new ≡ out.old }
-    ensures failed { O.failure_count out.new ≢ 0 → (result ≡ 3) ⊎ ((result ≡ 4) × TookText (device_of E.tells E.taken E.failure_count err.old err.new) print_line) }
+    ensures quiet { result ≢ 0 → result ≢ 3 → (O.state out.new).failures ≡ 0 → out.new ≡ out.old }
+    ensures failed { (O.state out.new).failures ≢ 0 → (result ≡ 3) ⊎ ((result ≡ 4) × TookText (device_of E.state err.old err.new) print_line) }
     ensures known { (result ≢ 1) × (result ≢ 2) }
 {
-    if matches!(ended.outcome, Outcome::Lane) {
+    if matches!(account.outcome, Outcome::Lane) {
         // It is told without memory: what is told of want of memory holds of every other outcome.
         let _ = send(err, b"lane not confirmed\n");
         return 6;
     }
     let mut line = String::new(alloc);
-    if fault_line(alloc, &mut line, &ended.outcome).is_err() {
+    if fault_line(alloc, &mut line, &account.outcome).is_err() {
         return out_of_memory(err);
     }
-    let status = status_of(&ended.outcome);
+    let status = status_of(&account.outcome);
     if status == 0 || status == 3 {
-        match print_summary(alloc, &ended.counts, out) {
+        match print_summary(alloc, &account.counts, out) {
             Ok(printed) => {
                 if !printed && status == 0 {
                     return cannot_print(err);
@@ -70,10 +70,10 @@ fn print_summary<O: Outlet>(
     counts: &Counts,
     out: &mut O,
 ) -> Result<bool, OutOfMemory>
-    requires { O.failure_count out.old ≡ 0 }
-    ensures printed { IfOk result (λ printed. TookPart (device_of O.tells O.taken O.failure_count out.old out.new) (summary_of counts.now)) }
-    ensures whole { result ≡ Ok true → O.failure_count out.new ≡ 0 }
-    ensures failed { result ≡ Ok false → O.failure_count out.new ≡ 1 }
+    requires { (O.state out.old).failures ≡ 0 }
+    ensures printed { IfOk result (λ printed. TookPart (device_of O.state out.old out.new) (summary_of counts.now)) }
+    ensures whole { result ≡ Ok true → (O.state out.new).failures ≡ 0 }
+    ensures failed { result ≡ Ok false → (O.state out.new).failures ≡ 1 }
     ensures memory { OnErr result (out.new ≡ out.old) }
 {
     let text = summary(alloc, counts)?;
@@ -85,8 +85,8 @@ fn print_summary<O: Outlet>(
 
 /// Memory was refused: says so on `err`, and answers the exit status.
 pub(crate) fn out_of_memory<E: Outlet>(err: &mut E) -> u8
-    requires { E.failure_count err.old ≡ 0 }
-    ensures { LacksMemory (device_of E.tells E.taken E.failure_count err.old err.new) result }
+    requires { (E.state err.old).failures ≡ 0 }
+    ensures { LacksMemory (device_of E.state err.old err.new) result }
 {
     let _ = send(err, b"out of memory\n");
     5
@@ -94,9 +94,9 @@ pub(crate) fn out_of_memory<E: Outlet>(err: &mut E) -> u8
 
 /// What was to be printed was not: says so on `err`, and answers the exit status.
 pub(crate) fn cannot_print<E: Outlet>(err: &mut E) -> u8
-    requires { E.failure_count err.old ≡ 0 }
+    requires { (E.state err.old).failures ≡ 0 }
     ensures status { result ≡ 4 }
-    ensures told { TookText (device_of E.tells E.taken E.failure_count err.old err.new) print_line }
+    ensures told { TookText (device_of E.state err.old err.new) print_line }
 {
     let _ = send(err, b"cannot print\n");
     4

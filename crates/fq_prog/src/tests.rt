@@ -1,5 +1,4 @@
 mod devices;
-mod interleaved;
 mod lines;
 mod rows;
 mod words;
@@ -18,12 +17,12 @@ const FORWARD: &[u8] = b"@p1/1\nACGT\n+\n#!II\n@p2/1\nGGCC\n+\nIIII\n";
 
 const REVERSE: &[u8] = b"@p1/2\nTTTT\n+\nIIII\n@p2/2\nAAAA\n+\n!!!\"\n";
 
-// The two pairs, mates in turn.
-const IN_TURN: &[u8] =
+// The two pairs, interleaved.
+const INTERLEAVED: &[u8] =
     b"@p1/1\nACGT\n+\n#!II\n@p1/2\nTTTT\n+\nIIII\n@p2/1\nGGCC\n+\nIIII\n@p2/2\nAAAA\n+\n!!!\"\n";
 
 // What becomes of the two pairs under LEADING:3.
-const TWO_TRIMMED: [(&str, &[u8]); 5] = [
+const TWO_TRIMMED: &[(&'static str, &'static [u8])] = &[
     ("fp", b"@p1/1\nGT\n+\nII\n"),
     ("fu", b"@p2/1\nGGCC\n+\nIIII\n"),
     ("rp", b"@p1/2\nTTTT\n+\nIIII\n"),
@@ -34,14 +33,26 @@ const TWO_TRIMMED: [(&str, &[u8]); 5] = [
 const TWO_COUNTED: &[u8] =
     b"Input Read Pairs: 2\nBoth Surviving: 1\nForward Only Surviving: 1\nReverse Only Surviving: 0\nDropped: 0\n";
 
-// Seven pairs: each record has 18 bytes.
+// Seven pairs.
 const SEVEN_FORWARD: &[u8] =
     b"@n1/1\nACGT\n+\nIIII\n@n2/1\nACGT\n+\n##II\n@n3/1\nACGT\n+\nIIII\n@n4/1\nACGT\n+\n##II\n@n5/1\nACGT\n+\nIIII\n@n6/1\nACGT\n+\n##II\n@n7/1\nACGT\n+\nIIII\n";
 
 const SEVEN_REVERSE: &[u8] =
     b"@n1/2\nTTTT\n+\nII##\n@n2/2\nTTTT\n+\nII##\n@n3/2\nTTTT\n+\n!!!!\n@n4/2\nTTTT\n+\nII##\n@n5/2\nTTTT\n+\nII##\n@n6/2\nTTTT\n+\n!!!!\n@n7/2\nTTTT\n+\nII##\n";
 
-const RECORD: usize = 18;
+// The forward reads of six of them, and the reverse reads of five.
+const SIX_FORWARD: &[u8] =
+    b"@n1/1\nACGT\n+\nIIII\n@n2/1\nACGT\n+\n##II\n@n3/1\nACGT\n+\nIIII\n@n4/1\nACGT\n+\n##II\n@n5/1\nACGT\n+\nIIII\n@n6/1\nACGT\n+\n##II\n";
+
+const FIVE_REVERSE: &[u8] =
+    b"@n1/2\nTTTT\n+\nII##\n@n2/2\nTTTT\n+\nII##\n@n3/2\nTTTT\n+\n!!!!\n@n4/2\nTTTT\n+\nII##\n@n5/2\nTTTT\n+\nII##\n";
+
+// The same, interleaved.
+const ELEVEN_INTERLEAVED: &[u8] =
+    b"@n1/1\nACGT\n+\nIIII\n@n1/2\nTTTT\n+\nII##\n@n2/1\nACGT\n+\n##II\n@n2/2\nTTTT\n+\nII##\n@n3/1\nACGT\n+\nIIII\n@n3/2\nTTTT\n+\n!!!!\n@n4/1\nACGT\n+\n##II\n@n4/2\nTTTT\n+\nII##\n@n5/1\nACGT\n+\nIIII\n@n5/2\nTTTT\n+\nII##\n@n6/1\nACGT\n+\n##II\n";
+
+// The first of the two forward reads, without the end of its quality.
+const FORWARD_SHORT: &[u8] = b"@p1/1\nACGT\n+\n#!I";
 
 const SEVEN_STEPS: &[&'static str] = &["LEADING:3", "TRAILING:3", "MINLEN:2"];
 
@@ -58,23 +69,32 @@ struct Called {
     err: ScriptOutlet,
 }
 
-fn call<R: Threads + Wait + Copy + Send + 'static, T: Files>(
+// Calls the program on files in memory.
+fn call<R: Threads + Wait + Copy + Send + 'static>(
     rt: &R,
     alloc: Global,
     words: &[&str],
-    files: &mut T,
+    files: &mut MemoryFiles,
 ) -> Called {
-    call_onto(
-        rt,
-        alloc,
-        words,
-        files,
-        ScriptOutlet::new(alloc, 1000, 0, false),
-    )
+    let out = ScriptOutlet::new(alloc, 1000, 0, false);
+    call_onto(rt, alloc, words, files, out)
 }
 
 // The same, with a standard output of the test's.
-fn call_onto<R: Threads + Wait + Copy + Send + 'static, T: Files>(
+fn call_onto<R: Threads + Wait + Copy + Send + 'static>(
+    rt: &R,
+    alloc: Global,
+    words: &[&str],
+    files: &mut MemoryFiles,
+    out: ScriptOutlet,
+) -> Called
+    requires { out.failures ≡ 0 }
+{
+    call_program(rt, alloc, words, files, out)
+}
+
+// The same, of any files.
+fn call_program<R: Threads + Wait + Copy + Send + 'static, T: Files>(
     rt: &R,
     alloc: Global,
     words: &[&str],
@@ -117,6 +137,12 @@ fn files_of(alloc: Global, forward: &[u8], reverse: &[u8]) -> Result<MemoryFiles
     let mut files = MemoryFiles::new(alloc);
     files.put("f", forward)?;
     files.put("r", reverse)?;
+    Ok(files)
+}
+
+fn interleaved_file(alloc: Global, text: &[u8]) -> Result<MemoryFiles, Fail> {
+    let mut files = MemoryFiles::new(alloc);
+    files.put("i", text)?;
     Ok(files)
 }
 

@@ -1,13 +1,13 @@
 //! Why the example is not shown.
 
-use crate::trimming::Ended;
+use crate::trimming::Account;
 use fq_text::OutOfMemory;
 
 /// Why the example is not shown.
 #[derive(Drop)]
 pub(crate) enum Unshown {
     /// A thread was refused, or a lane could not be confirmed.
-    Unrun(Ended),
+    Unrun(Account),
     /// Memory was refused.
     Memory,
 }

@@ -2,7 +2,7 @@
 use Rattle.std.proofs.Common.{◌≡◌, ℕ, suc, ◌<◌, ◌%◌, Some, None, List, [], ◌∷◌, ◌++◌, length, map, refl, sym, ap, ◌∙◌, arith, subst, append_assoc}
 use Rattle.std.proofs.lemmas.Nat.{mod_below}
 use Rattle.std.proofs.lemmas.List.{append-nil, length-map, map-append}
-use Rattle.fq_lane.specs.Line.{Line}
+use Rattle.fq_lane.specs.History.{History}
 use Rattle.fq_lane.specs.declared.taken.Taken.{Taken}
 use Rattle.fq_lane.specs.declared.taken.Taken.TheVariants.{Item, Closed}
 use Rattle.fq_pair.specs.declared.out.Out.{Out}
@@ -14,19 +14,20 @@ use Rattle.fq_work.specs.declared.reply.Cause.{Cause}
 use Rattle.fq_work.specs.declared.reply.Cause.TheVariants as cause
 use Rattle.fq_work.specs.declared.reply.Reply.{Reply}
 use Rattle.fq_work.specs.declared.reply.Reply.TheVariants.{Done as done, Stop}
-use Rattle.fq_run.specs.Devices.{OutletStates, AreHealthy, OutletsTook, part_at}
-use Rattle.fq_run.specs.Sending.{BreaksAt}
+use Rattle.fq_serial.specs.Devices.{OutletStates, AreHealthy, OutletsTook, part_at}
+use Rattle.fq_serial.specs.Sending.{BreaksAt}
 use Rattle.fq_run.specs.Dealing.{every, gather}
 use Rattle.fq_run.specs.Lanes.{lists_of, IsDealt, IsBegun, TakesAt}
 use Rattle.fq_run.specs.Collecting.{written_text, counted_from, counted, before_stop, TookAll, IsHeard, HasStopped, HasBroken, Writes, failed_in, Collects}
-use Rattle.fq_run.specs.Stops.{HearsAll, Drains, with_stop}
+use Rattle.fq_run.specs.Stops.{HearsAll, Drains}
+use Rattle.fq_serial.specs.Writing.{with_stop}
 use Rattle.fq_run.specs.declared.collector.Collector.{Collector}
-use Rattle.fq_run.specs.declared.halt.Halt.{Halt}
-use Rattle.fq_run.specs.declared.phase.Phase.{Phase}
-use Rattle.fq_run.specs.declared.phase.Phase.TheVariants.{Writing, Ended, Stopped, WriteFailed}
+use Rattle.fq_serial.specs.declared.halt.Halt.{Halt}
+use Rattle.fq_run.specs.declared.collector.phase.Phase.{Phase}
+use Rattle.fq_run.specs.declared.collector.phase.Phase.TheVariants.{Writing, Ended, Stopped, WriteFailed}
 use Rattle.fq_run.proofs.DealLemmas.{turn_more}
 use Rattle.fq_run.proofs.LaneLemmas.{dealt_item, ended_closed, ended_takes, begun_takes, takes_length, takes_names}
-use Rattle.fq_run.proofs.OutletLemmas.{all_took_then, all_took_same, still_healthy}
+use Rattle.fq_serial.proofs.OutletLemmas.{all_took_then, all_took_same, still_healthy}
 use Rattle.fq_run.proofs.StopLemmas.{heard_at, stops_taken}
 use Rattle.fq_run.proofs.TurnLemmas.{begun_gather, ended_gather}
 
@@ -86,7 +87,7 @@ hears_take r k l j lt t e h = e ∙ ap (heard_at r) h ∙ sym (stops_taken r k.r
 -- While it writes.
 
 -- what is dealt out is begun
-begun_now : {T : Type 0} (w : ℕ) (xs : List T) (ls : List (Line T)) → IsDealt w xs ls → IsBegun w xs ls
+begun_now : {T : Type 0} (w : ℕ) (xs : List T) (ls : List (History T)) → IsDealt w xs ls → IsBegun w xs ls
 begun_now w xs ls h = record {
   lanes = h.lanes;
   begins = λ j d lt. ([], append-nil (every j w xs) ∙ sym (h.items j d lt));

@@ -1,7 +1,7 @@
 -- Facts place for place, and what is known of lanes as they are made.
 use Rattle.std.proofs.Common.{◌≡◌, false, List, [], ◌∷◌, ◌++◌, length, sym, ap, ◌∙◌, subst, Result, Ok, Err, IfOk}
 use Rattle.std.specs.List.{AllZip}
-use Rattle.fq_lane.specs.Line.{Line, Name}
+use Rattle.fq_lane.specs.History.{History, Name}
 use Rattle.fq_run.specs.Each.{Each3}
 use Rattle.fq_run.specs.Crews.{fresh}
 
@@ -39,10 +39,10 @@ module _ {A B C : Type 0} (R Q : A → B → C → Type 0) where
   nothing_left (a ∷ xs) (b ∷ ys) [] h e = absurd h
 
 -- a lane through which nothing has gone
-pub fresh_is : {T : Type 0} (l : Line T) (n : Name) → l.name ≡ n → l.items ≡ [] → l.marked ≡ false → l ≡ fresh n
+pub fresh_is : {T : Type 0} (l : History T) (n : Name) → l.name ≡ n → l.items ≡ [] → l.marked ≡ false → l ≡ fresh n
 fresh_is {T = T} l n p q r =
-    ap (λ m. let k : Line T = record { name = m; items = l.items; marked = l.marked } in k) p
-    ∙ ap (λ xs. let k : Line T = record { name = n; items = xs; marked = l.marked } in k) q ∙ ap (λ b. let k : Line T = record { name = n; items = []; marked = b } in k) r
+    ap (λ m. let k : History T = record { name = m; items = l.items; marked = l.marked } in k) p
+    ∙ ap (λ xs. let k : History T = record { name = n; items = xs; marked = l.marked } in k) q ∙ ap (λ b. let k : History T = record { name = n; items = []; marked = b } in k) r
 
 pub weaker : {A E : Type 0} (P Q : A → Type 0) → ((x : A) → P x → Q x) → (r : Result A E) → IfOk r P → IfOk r Q
 weaker P Q f (Ok x) h = f x h

@@ -3,22 +3,21 @@ use Rattle.std.proofs.Common.{◌≡◌, ℕ, suc, ◌+◌, ◌<◌, ◌≤◌, 
 use Rattle.std.proofs.Math.Nat.{zero-mod}
 use Rattle.std.proofs.lemmas.List.{append-nil, map-append}
 use Rattle.fq_text.specs.declared.encoding.Encoding.{Encoding}
-use Rattle.fq_lane.specs.Line.{Line}
+use Rattle.fq_lane.specs.History.{History}
 use Rattle.fq_block.specs.Blocks.{Numbered}
 use Rattle.fq_pair.specs.Mates.{Mates}
-use Rattle.fq_run.specs.declared.reading.Stop.{Stop}
-use Rattle.fq_run.specs.declared.reading.Stop.TheVariants as stop
-use Rattle.fq_run.specs.Choices.{Choices}
+use Rattle.fq_serial.specs.declared.reading_end.ReadingEnd.{ReadingEnd}
+use Rattle.fq_serial.specs.declared.reading_end.ReadingEnd.TheVariants as reading
+use Rattle.fq_serial.specs.Choices.{Choices}
 use Rattle.fq_run.specs.Dealing.{join, AreEven}
-use Rattle.fq_run.specs.DealingOut.{DealsOut}
-use Rattle.fq_run.specs.Dealt.{AreNumbered, AreBlocks}
-use Rattle.fq_run.specs.Filling.{Fills, SendsFilled}
+use Rattle.fq_run.specs.DealingOut.{AreNumbered, AreBlocks, DealsOut, SendsFilled}
+use Rattle.fq_serial.specs.Filling.{Fills}
 use Rattle.fq_run.specs.Lanes.{names_of, IsDealt}
 use Rattle.fq_pair.specs.Walks.{SourceState, Walks, GoesOn}
-use Rattle.fq_run.specs.Walks.{Reads}
+use Rattle.fq_serial.specs.Walks.{Reads}
 use Rattle.fq_run.proofs.DealLemmas.{turn_more}
 use Rattle.fq_run.proofs.LaneLemmas.{dealt_offer}
-use Rattle.fq_run.proofs.WalkLemmas.{walks_none, walks_then, reads_then}
+use Rattle.fq_serial.proofs.WalkLemmas.{walks_none, walks_then, reads_then}
 use Rattle.fq_pair.proofs.SideLemmas.{walked_records}
 
 -- Cutting.
@@ -61,9 +60,9 @@ numbered_then encoding n (b ∷ blocks) block are is same = (are.0, are.1, numbe
 
 -- Dealing.
 
-module _ (c : Choices) (old : SourceState) (to : List (Line Numbered)) where
+module _ (c : Choices) (old : SourceState) (to : List (History Numbered)) where
   -- full blocks were dealt out
-  pub record DealsFull (now : SourceState) (lanes : List (Line Numbered)) (turn number : ℕ) : Type 0 where
+  pub record DealsFull (now : SourceState) (lanes : List (History Numbered)) (turn number : ℕ) : Type 0 where
     pub mates : List Mates
     pub blocks : List Numbered
     pub walks : Walks old now mates
@@ -99,7 +98,7 @@ module _ (c : Choices) (old : SourceState) (to : List (Line Numbered)) where
   }
 
   -- One block more.
-  module _ (now next : SourceState) (lanes after : List (Line Numbered)) (turn number : ℕ) (empty block : Numbered) (why : Option Stop) (d : DealsFull now lanes turn number)
+  module _ (now next : SourceState) (lanes after : List (History Numbered)) (turn number : ℕ) (empty block : Numbered) (why : Option ReadingEnd) (d : DealsFull now lanes turn number)
       (f : Fills now next c.block_pairs empty block why) (numbered_as : empty.number ≡ number) (encoded_as : empty.encoding ≡ c.encoding)
       (sends : SendsFilled block lanes after turn) (len : length after ≡ length lanes) (same_names : names_of after ≡ names_of lanes) where
     mates_few : old.forward.given ≡ 0 → old.most_bytes ≤ 2 ^ 60 → length (d.mates ++ block.pairs) ≤ 2 ^ 60
@@ -119,7 +118,7 @@ module _ (c : Choices) (old : SourceState) (to : List (Line Numbered)) where
     deals_more going most turn' is below =
         let full = f.full going in
         let blocks = d.blocks in let mates = d.mates in let few = d.few in let number_is = d.number_is in
-        let P : Option Stop → Type 0 = λ o. Reads now next block.pairs o in
+        let P : Option ReadingEnd → Type 0 = λ o. Reads now next block.pairs o in
         record {
           mates = mates ++ block.pairs;
           blocks = blocks ++ block ∷ [];
@@ -136,7 +135,7 @@ module _ (c : Choices) (old : SourceState) (to : List (Line Numbered)) where
           number_is = omega (arith, length-append blocks (block ∷ []));
         }
 
-    lost_last : why ≡ Some stop.Memory → next.given ≡ old.given + length (d.mates ++ block.pairs) + 1
+    lost_last : why ≡ Some reading.Memory → next.given ≡ old.given + length (d.mates ++ block.pairs) + 1
     lost_last refused = let mates = d.mates in let w = d.walks in let given = w.given in let more = f.lost refused in omega (arith, length-append mates block.pairs)
 
     cut_last : (blocks : List Numbered) (mates : List Mates) → join (pairs_of blocks) ≡ mates → AreEven c.block_pairs (pairs_of blocks) → AreNumbered c.encoding 0 blocks → AreBlocks c mates blocks
@@ -163,7 +162,7 @@ module _ (c : Choices) (old : SourceState) (to : List (Line Numbered)) where
         let same : mates ++ block.pairs ≡ mates = ap (λ ms. mates ++ ms) none ∙ append-nil mates in
         let P : List Mates → Type 0 = λ ms. Reads old next ms why in
         let Q : List Mates → Type 0 = λ ms. length ms ≤ 2 ^ 60 in
-        let R : List Mates → Type 0 = λ ms. why ≡ Some stop.Memory → next.given ≡ old.given + length ms + 1 in
+        let R : List Mates → Type 0 = λ ms. why ≡ Some reading.Memory → next.given ≡ old.given + length ms + 1 in
         record {
           mates = mates;
           blocks = blocks;

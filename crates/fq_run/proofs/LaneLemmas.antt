@@ -1,10 +1,10 @@
 -- How the lanes change when one of them does.
-use Rattle.std.proofs.Common.{◌≡◌, ℕ, zero, suc, ◌<◌, ◌%◌, true, List, [], ◌∷◌, ◌++◌, length, get_or, refl, sym, ap, ◌∙◌, arith, append_assoc, subst, inl, inr, get_or-set_other, Result, Ok, Err, OnOk, IfErr}
+use Rattle.std.proofs.Common.{◌≡◌, ℕ, zero, suc, ◌<◌, ◌%◌, true, List, [], ◌∷◌, ◌++◌, length, get_or, refl, sym, ap, ◌∙◌, arith, append_assoc, subst, inl, inr, get_or-set_other}
 use Rattle.std.proofs.Math.ListN.{set, length-set}
 use Rattle.std.proofs.lemmas.List.{append-nil, get_or-set_same, get_or_default}
 use Rattle.std.proofs.lemmas.Bool.{cases_eq}
 use mathlib.Core.List.{IsPrefix}
-use Rattle.fq_lane.specs.Line.{Line, with_item, with_mark}
+use Rattle.fq_lane.specs.History.{History, with_item, with_mark}
 use Rattle.fq_lane.specs.Take.{Takes}
 use Rattle.fq_lane.specs.declared.taken.Taken.{Taken}
 use Rattle.fq_lane.specs.declared.taken.Taken.TheVariants.{Item, Empty, Closed}
@@ -14,68 +14,68 @@ use Rattle.fq_run.proofs.DealLemmas.{every_here, every_there}
 
 module _ {T : Type 0} where
   -- a receiver that may have taken more
-  record Follows (a b : Line T) : Type 0 where
+  record Follows (a b : History T) : Type 0 where
     pub name : b.name ≡ a.name
     pub begins : IsPrefix a.items b.items
     pub stays : a.marked ≡ true → b ≡ a
 
-  marked_again : (l : Line T) → l.marked ≡ true → with_mark l ≡ l
-  marked_again l m = ap (λ b. let k : Line T = record { name = l.name; items = l.items; marked = b } in k) (sym m)
+  marked_again : (l : History T) → l.marked ≡ true → with_mark l ≡ l
+  marked_again l m = ap (λ b. let k : History T = record { name = l.name; items = l.items; marked = b } in k) (sym m)
 
-  follows_same : (a b : Line T) → b ≡ a → Follows a b
+  follows_same : (a b : History T) → b ≡ a → Follows a b
   follows_same a b e = subst (Follows a) (sym e) (record { name = refl; begins = ([], append-nil a.items); stays = λ _. refl })
 
-  follows_take : (r : Taken T) (a b : Line T) → Takes r a b → Follows a b
+  follows_take : (r : Taken T) (a b : History T) → Takes r a b → Follows a b
   follows_take (Item x) a b t = subst (Follows a) (sym t.1) (record { name = refl; begins = (x ∷ [], refl); stays = λ m. cc })
   follows_take Empty a b t = follows_same a b t.1
   follows_take Closed a b t = subst (Follows a) (sym t) (record { name = refl; begins = ([], append-nil a.items); stays = marked_again a })
 
   -- the lanes after one of them changed
-  set_at : (ls : List (Line T)) (j i : ℕ) (l d : Line T) (P : Line T → Type 0) → j < length ls → (i ≡ j → P l) → ((i ≡ j → ⊥) → P (get_or ls i d)) → P (get_or (set ls j l) i d)
+  set_at : (ls : List (History T)) (j i : ℕ) (l d : History T) (P : History T → Type 0) → j < length ls → (i ≡ j → P l) → ((i ≡ j → ⊥) → P (get_or ls i d)) → P (get_or (set ls j l) i d)
   set_at ls j i l d P lt here there =
       elim (cases_eq i j) [
         | inl e ↦ subst P (sym (ap (λ k. get_or (set ls j l) k d) e ∙ get_or-set_same ls j l d lt)) (here e)
         | inr n ↦ subst P (sym (get_or-set_other ls j i l d n)) (there n)
       ]
 
-  names-set : (ls : List (Line T)) (j : ℕ) (l : Line T) → l.name ≡ (get_or ls j l).name → names_of (set ls j l) ≡ names_of ls
+  names-set : (ls : List (History T)) (j : ℕ) (l : History T) → l.name ≡ (get_or ls j l).name → names_of (set ls j l) ≡ names_of ls
   names-set [] j l e = refl
   names-set (k ∷ ls) zero l e = ap (λ n. n ∷ names_of ls) e
   names-set (k ∷ ls) (suc j) l e = ap (λ ns. k.name ∷ ns) (names-set ls j l e)
 
-  pub takes_names : (r : Taken T) (old new : List (Line T)) (j : ℕ) → TakesAt r old new j → names_of new ≡ names_of old
-  takes_names r old new j t = ap names_of t.becomes ∙ names-set old j t.line (follows_take r _ t.line t.takes).name
+  pub takes_names : (r : Taken T) (old new : List (History T)) (j : ℕ) → TakesAt r old new j → names_of new ≡ names_of old
+  takes_names r old new j t = ap names_of t.becomes ∙ names-set old j t.history (follows_take r _ t.history t.takes).name
 
-  pub takes_length : (r : Taken T) (old new : List (Line T)) (j : ℕ) → TakesAt r old new j → length new ≡ length old
-  takes_length r old new j t = ap length t.becomes ∙ length-set old j t.line
+  pub takes_length : (r : Taken T) (old new : List (History T)) (j : ℕ) → TakesAt r old new j → length new ≡ length old
+  takes_length r old new j t = ap length t.becomes ∙ length-set old j t.history
 
-  takes_follow : (r : Taken T) (old new : List (Line T)) (j : ℕ) → TakesAt r old new j → j < length old → (i : ℕ) (d : Line T) → Follows (get_or old i d) (get_or new i d)
+  takes_follow : (r : Taken T) (old new : List (History T)) (j : ℕ) → TakesAt r old new j → j < length old → (i : ℕ) (d : History T) → Follows (get_or old i d) (get_or new i d)
   takes_follow r old new j t lt i d =
-      let P : List (Line T) → Type 0 = λ ls. Follows (get_or old i d) (get_or ls i d) in
-      subst P (sym t.becomes) (set_at old j i t.line d (Follows (get_or old i d)) lt
-      (λ e. subst (λ (k : Line T). Follows k t.line) (get_or_default old j t.line d lt ∙ ap (λ k. get_or old k d) (sym e)) (follows_take r (get_or old j t.line) t.line t.takes))
+      let P : List (History T) → Type 0 = λ ls. Follows (get_or old i d) (get_or ls i d) in
+      subst P (sym t.becomes) (set_at old j i t.history d (Follows (get_or old i d)) lt
+      (λ e. subst (λ (k : History T). Follows k t.history) (get_or_default old j t.history d lt ∙ ap (λ k. get_or old k d) (sym e)) (follows_take r (get_or old j t.history) t.history t.takes))
       (λ n. follows_same _ _ refl))
 
-  pub dealt_item : (w : ℕ) (xs : List T) (x : T) (old new : List (Line T)) (j : ℕ) → IsDealt w xs old → TakesAt (Item x) old new j → j < w → j ≡ length xs % w → IsDealt w (xs ++ x ∷ []) new
+  pub dealt_item : (w : ℕ) (xs : List T) (x : T) (old new : List (History T)) (j : ℕ) → IsDealt w xs old → TakesAt (Item x) old new j → j < w → j ≡ length xs % w → IsDealt w (xs ++ x ∷ []) new
   dealt_item w xs x old new j h t lt turn =
       let within : j < length old = omega (arith, h.lanes) in
-      let here : t.line.items ≡ every j w (xs ++ x ∷ []) = ap (λ l. l.items) t.takes.1 ∙ ap (λ ys. ys ++ x ∷ []) (h.items j t.line lt) ∙ sym (every_here xs x j w lt (sym turn)) in
+      let here : t.history.items ≡ every j w (xs ++ x ∷ []) = ap (λ l. l.items) t.takes.1 ∙ ap (λ ys. ys ++ x ∷ []) (h.items j t.history lt) ∙ sym (every_here xs x j w lt (sym turn)) in
       record {
         lanes = takes_length (Item x) old new j t ∙ h.lanes;
-        items = λ i d below. (let P : List (Line T) → Type 0 = λ ls. (get_or ls i d).items ≡ every i w (xs ++ x ∷ []) in
-            subst P (sym t.becomes) (set_at old j i t.line d (λ l. l.items ≡ every i w (xs ++ x ∷ [])) within
-            (λ e. subst (λ (k : ℕ). t.line.items ≡ every k w (xs ++ x ∷ [])) (sym e) here)
+        items = λ i d below. (let P : List (History T) → Type 0 = λ ls. (get_or ls i d).items ≡ every i w (xs ++ x ∷ []) in
+            subst P (sym t.becomes) (set_at old j i t.history d (λ l. l.items ≡ every i w (xs ++ x ∷ [])) within
+            (λ e. subst (λ (k : ℕ). t.history.items ≡ every k w (xs ++ x ∷ [])) (sym e) here)
             (λ n. h.items i d below ∙ sym (every_there xs x i w below (λ m. n (sym m ∙ sym turn))))));
       }
 
   prefix_trans : (xs ys zs : List T) → IsPrefix xs ys → IsPrefix ys zs → IsPrefix xs zs
   prefix_trans xs ys zs p q = (p.0 ++ q.0, sym (append_assoc xs p.0 q.0) ∙ ap (λ us. us ++ q.0) p.1 ∙ q.1)
 
-  pub ended_closed : (w : ℕ) (xs : List T) (old new : List (Line T)) (j : ℕ) → IsDealt w xs old → TakesAt Closed old new j → j < w → j ≡ length xs % w → IsEnded w xs new
+  pub ended_closed : (w : ℕ) (xs : List T) (old new : List (History T)) (j : ℕ) → IsDealt w xs old → TakesAt Closed old new j → j < w → j ≡ length xs % w → IsEnded w xs new
   ended_closed w xs old new j h t lt turn =
       let within : j < length old = omega (arith, h.lanes) in
-      let at_j : (d : Line T) → get_or new j d ≡ t.line = λ d. ap (λ ls. get_or ls j d) t.becomes ∙ get_or-set_same old j t.line d within in
-      let items_j : t.line.items ≡ every j w xs = ap (λ l. l.items) t.takes ∙ h.items j t.line lt in
+      let at_j : (d : History T) → get_or new j d ≡ t.history = λ d. ap (λ ls. get_or ls j d) t.becomes ∙ get_or-set_same old j t.history d within in
+      let items_j : t.history.items ≡ every j w xs = ap (λ l. l.items) t.takes ∙ h.items j t.history lt in
       record {
         lanes = takes_length Closed old new j t ∙ h.lanes;
         begins = λ i d below. prefix_trans _ _ _ ([], append-nil (every i w xs) ∙ sym (h.items i d below)) (takes_follow Closed old new j t within i d).begins;
@@ -83,10 +83,10 @@ module _ {T : Type 0} where
         closed = λ d. (let P : ℕ → Type 0 = λ k. (get_or new k d).marked ≡ true in subst P turn (ap (λ l. l.marked) (at_j d) ∙ ap (λ l. l.marked) t.takes));
       }
 
-  pub ended_takes : (w : ℕ) (r : Taken T) (xs : List T) (old new : List (Line T)) (j : ℕ) → IsEnded w xs old → TakesAt r old new j → j < w → IsEnded w xs new
+  pub ended_takes : (w : ℕ) (r : Taken T) (xs : List T) (old new : List (History T)) (j : ℕ) → IsEnded w xs old → TakesAt r old new j → j < w → IsEnded w xs new
   ended_takes w r xs old new j h t lt =
       let within : j < length old = omega (arith, h.lanes) in
-      let stays : (d : Line T) → get_or new (length xs % w) d ≡ get_or old (length xs % w) d = λ d. (takes_follow r old new j t within (length xs % w) d).stays (h.closed d) in
+      let stays : (d : History T) → get_or new (length xs % w) d ≡ get_or old (length xs % w) d = λ d. (takes_follow r old new j t within (length xs % w) d).stays (h.closed d) in
       record {
         lanes = takes_length r old new j t ∙ h.lanes;
         begins = λ i d below. prefix_trans _ _ _ (h.begins i d below) (takes_follow r old new j t within i d).begins;
@@ -95,34 +95,27 @@ module _ {T : Type 0} where
       }
 
   -- the names after one lane changed, of which this was read
-  pub names_written : (ls : List (Line T)) (j : ℕ) (k l : Line T) → j < length ls → k ≡ get_or ls j k → l.name ≡ k.name → names_of (set ls j l) ≡ names_of ls
-  names_written ls j k l lt read same = names-set ls j l (same ∙ ap (λ (m : Line T). m.name) (read ∙ get_or_default ls j k l lt))
+  pub names_written : (ls : List (History T)) (j : ℕ) (k l : History T) → j < length ls → k ≡ get_or ls j k → l.name ≡ k.name → names_of (set ls j l) ≡ names_of ls
+  names_written ls j k l lt read same = names-set ls j l (same ∙ ap (λ (m : History T). m.name) (read ∙ get_or_default ls j k l lt))
 
-  pub take_name : (r : Taken T) (a b : Line T) → Takes r a b → b.name ≡ a.name
-  take_name r a b t = (follows_take r a b t).name
+  -- the names after something was taken from one lane, which was read
+  pub taken_names : (r : Taken T) (ls : List (History T)) (j : ℕ) (k l : History T) → j < length ls → k ≡ get_or ls j k → Takes r k l → names_of (set ls j l) ≡ names_of ls
+  taken_names r ls j k l lt read t = names_written ls j k l lt read (follows_take r k l t).name
 
-  pub offer_name : {A E : Type 0} (r : Result A E) (Q : E → Type 0) (a b : Line T) (x : T) → OnOk r (b ≡ with_item a x) → IfErr r (λ e. Q e × (b ≡ a)) → b.name ≡ a.name
-  offer_name (Ok u) Q a b x ok err = ap (λ l. l.name) ok
-  offer_name (Err e) Q a b x ok err = ap (λ l. l.name) err.1
-
-  pub dealt_offer : (w : ℕ) (xs : List T) (x : T) (old new : List (Line T)) (j : ℕ) → IsDealt w xs old → length new ≡ length old → ((d : Line T) → new ≡ set old j (with_item (get_or old j d) x)) → j < w → j ≡ length xs % w → IsDealt w (xs ++ x ∷ []) new
+  pub dealt_offer : (w : ℕ) (xs : List T) (x : T) (old new : List (History T)) (j : ℕ) → IsDealt w xs old → length new ≡ length old → ((d : History T) → new ≡ set old j (with_item (get_or old j d) x)) → j < w → j ≡ length xs % w → IsDealt w (xs ++ x ∷ []) new
   dealt_offer w xs x old new j h len t lt turn =
       let within : j < length old = omega (arith, h.lanes) in
       record {
         lanes = len ∙ h.lanes;
-        items = λ i d below. (let P : List (Line T) → Type 0 = λ ls. (get_or ls i d).items ≡ every i w (xs ++ x ∷ []) in
+        items = λ i d below. (let P : List (History T) → Type 0 = λ ls. (get_or ls i d).items ≡ every i w (xs ++ x ∷ []) in
             let here : get_or old j d ≡ get_or old j d = refl in
             subst P (sym (t d)) (set_at old j i (with_item (get_or old j d) x) d (λ l. l.items ≡ every i w (xs ++ x ∷ [])) within
             (λ e. subst (λ (k : ℕ). (with_item (get_or old j d) x).items ≡ every k w (xs ++ x ∷ [])) (sym e) (ap (λ ys. ys ++ x ∷ []) (h.items j d lt) ∙ sym (every_here xs x j w lt (sym turn))))
             (λ n. h.items i d below ∙ sym (every_there xs x i w below (λ m. n (sym m ∙ sym turn))))));
       }
 
-  -- one item goes from what waits to what was sent
-  pub moved : (sent rest left all : List T) (x : T) → sent ++ (x ∷ rest) ≡ all → rest ≡ left → (sent ++ x ∷ []) ++ left ≡ all
-  moved sent rest left all x e r = append_assoc sent (x ∷ []) left ∙ ap (λ us. sent ++ (x ∷ us)) (sym r) ∙ e
-
   -- what came first has been written
-  pub begun_takes : (w : ℕ) (r : Taken T) (xs : List T) (old new : List (Line T)) (j : ℕ) → IsBegun w xs old → TakesAt r old new j → j < w → IsBegun w xs new
+  pub begun_takes : (w : ℕ) (r : Taken T) (xs : List T) (old new : List (History T)) (j : ℕ) → IsBegun w xs old → TakesAt r old new j → j < w → IsBegun w xs new
   begun_takes w r xs old new j h t lt =
       let within : j < length old = omega (arith, h.lanes) in
       record {

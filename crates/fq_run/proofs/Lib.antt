@@ -1,16 +1,3 @@
-pub mod OutletLemmas
-pub mod WalkLemmas
-pub mod TextLemmas
-pub mod GatherLemmas
-pub mod BlockLemmas
-pub mod PassLemmas
-pub mod FormLemmas
-pub mod FrontLemmas
-pub mod CutLemmas
-pub mod ReadingLemmas
-pub mod VerdictLemmas
-pub mod EndLemmas
-pub mod RunLemmas
 pub mod DealLemmas
 pub mod TurnLemmas
 pub mod LaneLemmas
@@ -20,7 +7,6 @@ pub mod StartLemmas
 pub mod AttendLemmas
 pub mod MatchLemmas
 pub mod ThreadLemmas
-pub mod FillLemmas
 pub mod DealerLemmas
 pub mod StopLemmas
 pub mod CollectLemmas

@@ -6,7 +6,7 @@ use Rattle.std.proofs.lemmas.Nat.{mod_below}
 use denote.RawPtr.{null_ptr}
 use mathlib.Core.List.{IsPrefix}
 use Rattle.fq_trim.specs.declared.step.Step.{Step}
-use Rattle.fq_lane.specs.Line.{Line}
+use Rattle.fq_lane.specs.History.{History}
 use Rattle.fq_lane.specs.declared.tx.NotEnded.{NotEnded}
 use Rattle.fq_block.specs.Blocks.{Numbered}
 use Rattle.fq_work.specs.Replies.{done_of, Answers}
@@ -28,7 +28,7 @@ every_first zero w (x ∷ xs) ys = let p = every_first (w - 1) w xs ys in (p.0, 
 every_first (suc k) w (x ∷ xs) ys = every_first k w xs ys
 
 -- lanes that begin with two lists, one behind the other, begin with the first
-pub begun_before : {T : Type 0} (w : ℕ) (xs ys : List T) (ls : List (Line T)) → IsBegun w (xs ++ ys) ls → IsBegun w xs ls
+pub begun_before : {T : Type 0} (w : ℕ) (xs ys : List T) (ls : List (History T)) → IsBegun w (xs ++ ys) ls → IsBegun w xs ls
 begun_before w xs ys ls b = record {
   lanes = b.lanes;
   begins = λ j d lt. let p = every_first j w xs ys in let q = b.begins j d lt in (p.0 ++ q.0, sym (append_assoc (every j w xs) p.0 q.0) ∙ ap (λ zs. zs ++ q.0) p.1 ∙ q.1);
@@ -69,11 +69,11 @@ module _ (steps : List Step) where
       ap (λ y. y ∷ answered bs) (sym h.0 ∙ same) ∙ ap (λ ys. d ∷ ys) (answers_all ds bs rs cause tail h.1)
   answers_all (d ∷ ds) (b ∷ bs) (Stop why ∷ rs) cause e h = cc
 
-  matched_one : (t : Line Numbered) (c : Result (Line Numbered) NotEnded) (f : Line Reply) → Closed t c → Matched steps c f → (cause : Option Cause) × Answers steps t.items f.items cause
-  matched_one t (Ok e) f h m = (m.0, subst (λ (l : Line Numbered). Answers steps l.items f.items m.0) h m.1)
+  matched_one : (t : History Numbered) (c : Result (History Numbered) NotEnded) (f : History Reply) → Closed t c → Matched steps c f → (cause : Option Cause) × Answers steps t.items f.items cause
+  matched_one t (Ok e) f h m = (m.0, subst (λ (l : History Numbered). Answers steps l.items f.items m.0) h m.1)
   matched_one t (Err e) f h m = absurd m
 
-  matched_at : (ts : List (Line Numbered)) (cs : List (Result (Line Numbered) NotEnded)) (fs : List (Line Reply)) → AllZip Closed ts cs → AllZip (Matched steps) cs fs → (j : ℕ) (d : Line Numbered) (e : Line Reply) → j < length fs →
+  matched_at : (ts : List (History Numbered)) (cs : List (Result (History Numbered) NotEnded)) (fs : List (History Reply)) → AllZip Closed ts cs → AllZip (Matched steps) cs fs → (j : ℕ) (d : History Numbered) (e : History Reply) → j < length fs →
       (cause : Option Cause) × Answers steps (get_or ts j d).items (get_or fs j e).items cause
   matched_at (t ∷ ts) (c ∷ cs) (f ∷ fs) h m zero d e lt = matched_one t c f h.0 m.0
   matched_at (t ∷ ts) (c ∷ cs) (f ∷ fs) h m (suc j) d e lt = matched_at ts cs fs h.1 m.1 j d e (omega arith)
@@ -81,34 +81,34 @@ module _ (steps : List Step) where
   matched_at ts [] (f ∷ fs) h m j d e lt = absurd m
   matched_at [] (c ∷ cs) (f ∷ fs) h m j d e lt = absurd h
 
-  module _ (w : ℕ) (bs : List Numbered) (ts : List (Line Numbered)) (cs : List (Result (Line Numbered) NotEnded)) (fs : List (Line Reply))
+  module _ (w : ℕ) (bs : List Numbered) (ts : List (History Numbered)) (cs : List (Result (History Numbered) NotEnded)) (fs : List (History Reply))
       (dealt : IsDealt w bs ts) (closed : AllZip Closed ts cs) (matched : AllZip (Matched steps) cs fs) (some : 0 < w) where
-    no_line : {T : Type 0} → Line T
-    no_line = record { name = (null_ptr, (null_ptr, (0, (0, 0)))); items = []; marked = false }
+    no_history : {T : Type 0} → History T
+    no_history = record { name = (null_ptr, (null_ptr, (0, (0, 0)))); items = []; marked = false }
 
     -- the replies of lane j answer the blocks that were dealt to it
-    replied : length fs ≡ w → (j : ℕ) → j < w → (cause : Option Cause) × Answers steps (every j w bs) (get_or fs j no_line).items cause
+    replied : length fs ≡ w → (j : ℕ) → j < w → (cause : Option Cause) × Answers steps (every j w bs) (get_or fs j no_history).items cause
     replied lanes j lt =
-        let m = matched_at ts cs fs closed matched j no_line no_line (omega (arith, lanes)) in
-        (m.0, subst (λ xs. Answers steps xs (get_or fs j no_line).items m.0) (dealt.items j no_line lt) m.1)
+        let m = matched_at ts cs fs closed matched j no_history no_history (omega (arith, lanes)) in
+        (m.0, subst (λ xs. Answers steps xs (get_or fs j no_history).items m.0) (dealt.items j no_history lt) m.1)
 
-    first_at : (ds : List Done) → length fs ≡ w → (j : ℕ) → j < w → IsPrefix (every j w (map done ds)) (get_or fs j no_line).items → IsPrefix (every j w ds) (every j w (answered bs))
+    first_at : (ds : List Done) → length fs ≡ w → (j : ℕ) → j < w → IsPrefix (every j w (map done ds)) (get_or fs j no_history).items → IsPrefix (every j w ds) (every j w (answered bs))
     first_at ds lanes j lt begins =
         let r = replied lanes j lt in
-        let p : IsPrefix (map done (every j w ds)) (get_or fs j no_line).items = subst (λ rs. IsPrefix rs (get_or fs j no_line).items) (every-map done j w ds) begins in
-        subst (λ ys. IsPrefix (every j w ds) ys) (sym (every-map (done_of steps) j w bs)) (answers_first (every j w ds) (every j w bs) (get_or fs j no_line).items r.0 p r.1)
+        let p : IsPrefix (map done (every j w ds)) (get_or fs j no_history).items = subst (λ rs. IsPrefix rs (get_or fs j no_history).items) (every-map done j w ds) begins in
+        subst (λ ys. IsPrefix (every j w ds) ys) (sym (every-map (done_of steps) j w bs)) (answers_first (every j w ds) (every j w bs) (get_or fs j no_history).items r.0 p r.1)
 
     -- what was written in turn are the answers to the first blocks
     pub begun_first : (ds : List Done) → IsBegun w (map done ds) fs → IsPrefix ds (answered bs)
-    begun_first ds b = prefix_from_turns ds (answered bs) w some (λ j lt. first_at ds b.lanes j lt (b.begins j no_line lt))
+    begun_first ds b = prefix_from_turns ds (answered bs) w some (λ j lt. first_at ds b.lanes j lt (b.begins j no_history lt))
 
     -- and up to a lane that had no more, those to all
     pub ended_all : (ds : List Done) → IsEnded w (map done ds) fs → ds ≡ answered bs
     ended_all ds k =
         let turn = mod_below (length ds) w some in
         let r = replied k.lanes (length ds % w) turn in
-        let ends : (get_or fs (length ds % w) no_line).items ≡ every (length ds % w) w (map done ds) =
-        (let P : ℕ → Type 0 = λ i. (get_or fs (i % w) no_line).items ≡ every (i % w) w (map done ds) in subst P (length-map ds done) (k.ends no_line)) in
-        whole_from_turns ds (answered bs) w some (λ j lt. first_at ds k.lanes j lt (k.begins j no_line lt))
+        let ends : (get_or fs (length ds % w) no_history).items ≡ every (length ds % w) w (map done ds) =
+        (let P : ℕ → Type 0 = λ i. (get_or fs (i % w) no_history).items ≡ every (i % w) w (map done ds) in subst P (length-map ds done) (k.ends no_history)) in
+        whole_from_turns ds (answered bs) w some (λ j lt. first_at ds k.lanes j lt (k.begins j no_history lt))
         (every-map (done_of steps) (length ds % w) w bs
-        ∙ answers_all (every (length ds % w) w ds) (every (length ds % w) w bs) (get_or fs (length ds % w) no_line).items r.0 (ends ∙ every-map done (length ds % w) w ds) r.1)
+        ∙ answers_all (every (length ds % w) w ds) (every (length ds % w) w bs) (get_or fs (length ds % w) no_history).items r.0 (ends ∙ every-map done (length ds % w) w ds) r.1)

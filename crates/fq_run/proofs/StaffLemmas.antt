@@ -3,7 +3,7 @@ use Rattle.std.proofs.Common.{◌≡◌, ℕ, zero, suc, ◌<◌, true, List, []
 use Rattle.std.specs.List.{AllZip}
 use Rattle.std.specs.declared.thread.PromisedHandle.{PromisedHandle}
 use Rattle.fq_trim.specs.declared.step.Step.{Step}
-use Rattle.fq_lane.specs.Line.{Line, Name, with_mark}
+use Rattle.fq_lane.specs.History.{History, Name, with_mark}
 use Rattle.fq_lane.specs.declared.tx.NotEnded.{NotEnded}
 use Rattle.fq_block.specs.Blocks.{Numbered}
 use Rattle.fq_work.specs.Replies.{Answers}
@@ -16,20 +16,20 @@ use Rattle.fq_run.specs.Crews.{fresh, Laid, Seated, Joined, CanConfirm, Confirme
 use Rattle.fq_run.specs.Dealt.{Closed}
 use Rattle.fq_run.specs.Each.{Each3}
 use Rattle.fq_run.specs.Lanes.{names_of, IsDealt, AllClosed}
-use Rattle.fq_run.specs.declared.crew.Job.{Job}
+use Rattle.fq_run.specs.declared.crew.job.Job.{Job}
 use Rattle.fq_run.proofs.CrewLemmas.{weaker}
 
 -- Lanes as they are made.
 
-laid_to : (ts : List (Line Numbered)) (es : List WorkEnds) (fs : List (Line Reply)) → Each3 Laid ts es fs → (j : ℕ) (d : Line Numbered) → j < length ts → (get_or ts j d).items ≡ []
-laid_to (t ∷ ts) (e ∷ es) (f ∷ fs) h zero d lt = let l = h.0 in ap (λ (x : Line Numbered). x.items) l.to_is
+laid_to : (ts : List (History Numbered)) (es : List WorkEnds) (fs : List (History Reply)) → Each3 Laid ts es fs → (j : ℕ) (d : History Numbered) → j < length ts → (get_or ts j d).items ≡ []
+laid_to (t ∷ ts) (e ∷ es) (f ∷ fs) h zero d lt = let l = h.0 in ap (λ (x : History Numbered). x.items) l.to_is
 laid_to (t ∷ ts) (e ∷ es) (f ∷ fs) h (suc j) d lt = laid_to ts es fs h.1 j d (omega arith)
 laid_to [] es fs h j d lt = absurd (omega arith)
 laid_to (t ∷ ts) [] fs h j d lt = absurd h
 laid_to (t ∷ ts) (e ∷ es) [] h j d lt = absurd h
 
-laid_replies : (ts : List (Line Numbered)) (es : List WorkEnds) (fs : List (Line Reply)) → Each3 Laid ts es fs → (j : ℕ) (d : Line Reply) → j < length fs → (get_or fs j d).items ≡ []
-laid_replies (t ∷ ts) (e ∷ es) (f ∷ fs) h zero d lt = let l = h.0 in ap (λ (x : Line Reply). x.items) l.replies_are
+laid_replies : (ts : List (History Numbered)) (es : List WorkEnds) (fs : List (History Reply)) → Each3 Laid ts es fs → (j : ℕ) (d : History Reply) → j < length fs → (get_or fs j d).items ≡ []
+laid_replies (t ∷ ts) (e ∷ es) (f ∷ fs) h zero d lt = let l = h.0 in ap (λ (x : History Reply). x.items) l.replies_are
 laid_replies (t ∷ ts) (e ∷ es) (f ∷ fs) h (suc j) d lt = laid_replies ts es fs h.1 j d (omega arith)
 laid_replies ts es [] h j d lt = absurd (omega arith)
 laid_replies [] [] (f ∷ fs) h j d lt = absurd h
@@ -37,14 +37,14 @@ laid_replies [] (e ∷ es) (f ∷ fs) h j d lt = absurd h
 laid_replies (t ∷ ts) [] (f ∷ fs) h j d lt = absurd h
 
 -- nothing is dealt to lanes as they are made
-pub to_dealt : (w : ℕ) (ts : List (Line Numbered)) (es : List WorkEnds) (fs : List (Line Reply)) → length ts ≡ w → Each3 Laid ts es fs → IsDealt w [] ts
+pub to_dealt : (w : ℕ) (ts : List (History Numbered)) (es : List WorkEnds) (fs : List (History Reply)) → length ts ≡ w → Each3 Laid ts es fs → IsDealt w [] ts
 to_dealt w ts es fs len h = record { lanes = len; items = λ j d lt. laid_to ts es fs h j d (omega (arith, len)) }
 
-pub replies_dealt : (w : ℕ) (ts : List (Line Numbered)) (es : List WorkEnds) (fs : List (Line Reply)) → length fs ≡ w → Each3 Laid ts es fs → IsDealt w [] fs
+pub replies_dealt : (w : ℕ) (ts : List (History Numbered)) (es : List WorkEnds) (fs : List (History Reply)) → length fs ≡ w → Each3 Laid ts es fs → IsDealt w [] fs
 replies_dealt w ts es fs len h = record { lanes = len; items = λ j d lt. laid_replies ts es fs h j d (omega (arith, len)) }
 
 -- as many lanes to the workers as from them
-pub laid_length : (ts : List (Line Numbered)) (es : List WorkEnds) (fs : List (Line Reply)) → Each3 Laid ts es fs → length ts ≡ length fs
+pub laid_length : (ts : List (History Numbered)) (es : List WorkEnds) (fs : List (History Reply)) → Each3 Laid ts es fs → length ts ≡ length fs
 laid_length [] [] [] h = refl
 laid_length (t ∷ ts) (e ∷ es) (f ∷ fs) h = ap (λ n. suc n) (laid_length ts es fs h.1)
 laid_length [] [] (f ∷ fs) h = absurd h
@@ -61,26 +61,26 @@ module _ (steps : List Step) where
     pub closed : w.rx.marked ≡ true
     pub answers : IfOk w.closing (λ e. (e.name ≡ m) × Answers steps w.rx.items e.items w.cause)
 
-  answered : (t : Line Numbered) (e : WorkEnds) (f : Line Reply) (h : PromisedHandle Worked Job) (w : Worked) → Laid t e f → Seated steps e h → Joined h w → Answered t.name f.name w
+  answered : (t : History Numbered) (e : WorkEnds) (f : History Reply) (h : PromisedHandle Worked Job) (w : Worked) → Laid t e f → Seated steps e h → Joined h w → Answered t.name f.name w
   answered t e f h w l s j =
       let rx : h.promise.rx.value ≡ fresh t.name = s.rx ∙ l.rx in
       let tx : h.promise.tx.value ≡ fresh f.name = s.tx ∙ l.tx in
       let took = j.took in
-      let came : took ≡ w.rx.items = sym (ap (λ x. x.items) j.received ∙ ap (λ (x : Line Numbered). x.items ++ took) rx) in
+      let came : took ≡ w.rx.items = sym (ap (λ x. x.items) j.received ∙ ap (λ (x : History Numbered). x.items ++ took) rx) in
       record {
-        name = ap (λ x. x.name) j.received ∙ ap (λ (x : Line Numbered). x.name) rx;
+        name = ap (λ x. x.name) j.received ∙ ap (λ (x : History Numbered). x.name) rx;
         closed = ap (λ x. x.marked) j.received;
         answers = weaker (λ x. x ≡ with_items h.promise.tx.value j.replies true) (λ x. (x.name ≡ f.name) × Answers steps w.rx.items x.items w.cause)
             (λ x q.
-            (let sent : x.items ≡ j.replies = ap (λ y. y.items) q ∙ ap (λ (y : Line Reply). y.items ++ j.replies) tx in
+            (let sent : x.items ≡ j.replies = ap (λ y. y.items) q ∙ ap (λ (y : History Reply). y.items ++ j.replies) tx in
             let P : List Step → Type 0 = λ s. Answers s took j.replies w.cause in
             let a : Answers steps took j.replies w.cause = subst P s.steps_are j.answers in (
-              ap (λ y. y.name) q ∙ ap (λ (y : Line Reply). y.name) tx,
+              ap (λ y. y.name) q ∙ ap (λ (y : History Reply). y.name) tx,
               subst (λ bs. Answers steps bs x.items w.cause) came (subst (λ rs. Answers steps took rs w.cause) (sym sent) a),
             ))) w.closing j.sent;
       }
 
-  pub all_answered : (ts : List (Line Numbered)) (es : List WorkEnds) (fs : List (Line Reply)) (hs : List (PromisedHandle Worked Job)) (ws : List Worked) →
+  pub all_answered : (ts : List (History Numbered)) (es : List WorkEnds) (fs : List (History Reply)) (hs : List (PromisedHandle Worked Job)) (ws : List Worked) →
       Each3 Laid ts es fs → AllZip (Seated steps) es hs → AllZip Joined hs ws → Each3 Answered (names_of ts) (names_of fs) ws
   all_answered [] [] [] [] [] l s j = tt
   all_answered (t ∷ ts) (e ∷ es) (f ∷ fs) (h ∷ hs) (w ∷ ws) l s j = (answered t e f h w l.0 s.0 j.0, all_answered ts es fs hs ws l.1 s.1 j.1)
@@ -93,13 +93,13 @@ module _ (steps : List Step) where
   all_answered (t ∷ ts) (e ∷ es) (f ∷ fs) [] ws l s j = absurd s
   all_answered (t ∷ ts) (e ∷ es) (f ∷ fs) (h ∷ hs) [] l s j = absurd j
 
-  closed_first : (f : Line Reply) (fs : List (Line Reply)) → AllClosed (f ∷ fs) → f.marked ≡ true
+  closed_first : (f : History Reply) (fs : List (History Reply)) → AllClosed (f ∷ fs) → f.marked ≡ true
   closed_first f fs h = h 0 f (omega arith)
 
-  closed_rest : (f : Line Reply) (fs : List (Line Reply)) → AllClosed (f ∷ fs) → AllClosed fs
+  closed_rest : (f : History Reply) (fs : List (History Reply)) → AllClosed (f ∷ fs) → AllClosed fs
   closed_rest f fs h = λ j d lt. h (suc j) d (omega arith)
 
-  can_confirm_one : (t : Line Numbered) (c : Result (Line Numbered) NotEnded) (w : Worked) (f : Line Reply) → Closed t c → Answered t.name f.name w → f.marked ≡ true → CanConfirm c w f
+  can_confirm_one : (t : History Numbered) (c : Result (History Numbered) NotEnded) (w : Worked) (f : History Reply) → Closed t c → Answered t.name f.name w → f.marked ≡ true → CanConfirm c w f
   can_confirm_one t c w f h a m = record {
     blocks = weaker (λ e. e ≡ with_mark t) (λ e. e.name ≡ w.rx.name) (λ e q. ap (λ l. l.name) q ∙ sym a.name) c h;
     came = a.closed;
@@ -107,7 +107,7 @@ module _ (steps : List Step) where
     got = m;
   }
 
-  pub can_confirm : (ts : List (Line Numbered)) (cs : List (Result (Line Numbered) NotEnded)) (ws : List Worked) (fs : List (Line Reply)) → AllZip Closed ts cs → Each3 Answered (names_of ts) (names_of fs) ws → AllClosed fs → Each3 CanConfirm cs ws fs
+  pub can_confirm : (ts : List (History Numbered)) (cs : List (Result (History Numbered) NotEnded)) (ws : List Worked) (fs : List (History Reply)) → AllZip Closed ts cs → Each3 Answered (names_of ts) (names_of fs) ws → AllClosed fs → Each3 CanConfirm cs ws fs
   can_confirm [] [] [] [] h a m = tt
   can_confirm (t ∷ ts) (c ∷ cs) (w ∷ ws) (f ∷ fs) h a m = (can_confirm_one t c w f h.0 a.0 (closed_first f fs m), can_confirm ts cs ws fs h.1 a.1 (closed_rest f fs m))
   can_confirm [] (c ∷ cs) ws fs h a m = absurd h
@@ -119,17 +119,17 @@ module _ (steps : List Step) where
 
   -- Behind the confirms.
 
-  matched_by : (n m : Name) (e r : Line Numbered) (x f : Line Reply) (cause : Option Cause) → r ≡ e → f ≡ x → Answers steps r.items x.items cause → Answers steps e.items f.items cause
+  matched_by : (n m : Name) (e r : History Numbered) (x f : History Reply) (cause : Option Cause) → r ≡ e → f ≡ x → Answers steps r.items x.items cause → Answers steps e.items f.items cause
   matched_by n m e r x f cause rx same a =
-      subst (λ (l : Line Numbered). Answers steps l.items f.items cause) rx (subst (λ (l : Line Reply). Answers steps r.items l.items cause) (sym same) a)
+      subst (λ (l : History Numbered). Answers steps l.items f.items cause) rx (subst (λ (l : History Reply). Answers steps r.items l.items cause) (sym same) a)
 
-  matched_one : (n m : Name) (c : Result (Line Numbered) NotEnded) (w : Worked) (f : Line Reply) (replied : Result (Line Reply) NotEnded) → IfOk replied (λ e. (e.name ≡ m) × Answers steps w.rx.items e.items w.cause) →
+  matched_one : (n m : Name) (c : Result (History Numbered) NotEnded) (w : Worked) (f : History Reply) (replied : Result (History Reply) NotEnded) → IfOk replied (λ e. (e.name ≡ m) × Answers steps w.rx.items e.items w.cause) →
       IsOkAnd c (λ e. w.rx ≡ e) → IsOkAnd replied (λ e. f ≡ e) → Matched steps c f
   matched_one n m (Ok e) w f (Ok x) a rx same = (w.cause, matched_by n m e w.rx x f w.cause rx same a.1)
   matched_one n m (Err e) w f replied a rx same = absurd rx
   matched_one n m (Ok e) w f (Err x) a rx same = absurd same
 
-  pub matched : (ns ms : List Name) (cs : List (Result (Line Numbered) NotEnded)) (ws : List Worked) (fs : List (Line Reply)) → Each3 Answered ns ms ws → Each3 Confirmed cs ws fs → AllZip (Matched steps) cs fs
+  pub matched : (ns ms : List Name) (cs : List (Result (History Numbered) NotEnded)) (ws : List Worked) (fs : List (History Reply)) → Each3 Answered ns ms ws → Each3 Confirmed cs ws fs → AllZip (Matched steps) cs fs
   matched [] [] [] [] [] a k = tt
   matched (n ∷ ns) (m ∷ ms) (c ∷ cs) (w ∷ ws) (f ∷ fs) a k = (let first = a.0 in matched_one n m c w f w.closing first.answers k.0.0 k.0.1, matched ns ms cs ws fs a.1 k.1)
   matched [] [] [] [] (f ∷ fs) a k = absurd k

@@ -1,31 +1,35 @@
 -- A run whose threads were not all started.
-use Rattle.std.proofs.Common.{◌≡◌, ◌↔◌, Option, Some, None, IfSome, false, IsTrue, Result, ℕ, ◌-◌, ◌<◌, List, [], ◌∷◌, ◌++◌, length, take, refl, sym, ap, ◌∙◌, subst, arith}
-use Rattle.fq_lane.specs.Line.{Line}
+use Rattle.std.proofs.Common.{◌≡◌, ◌↔◌, Option, Some, None, IfSome, false, IsTrue, Result, ℕ, ◌-◌, ◌<◌, List, [], ◌∷◌, ◌++◌, length, take, refl, sym, ap, ◌∙◌, subst, arith, ◌≤◌, ◌^◌, vec_len}
+use Rattle.fq_lane.specs.History.{History}
 use Rattle.fq_lane.specs.declared.tx.NotEnded.{NotEnded}
 use Rattle.fq_block.specs.Blocks.{Numbered}
 use Rattle.fq_pair.specs.declared.out.Out.{Out}
 use Rattle.fq_pair.specs.Outputs.{text_of, texts_of, no_counts}
-use Rattle.fq_run.specs.declared.outcome.Outcome.{Outcome}
-use Rattle.fq_run.specs.declared.outcome.Outcome.TheVariants as outcome
-use Rattle.fq_run.specs.declared.reading.Stop.{Stop}
-use Rattle.fq_run.specs.Choices.{Choices}
-use Rattle.fq_run.specs.Dealt.{HasDealt}
-use Rattle.fq_run.specs.Devices.{FeedState, OutletStates, OutletsTook}
-use Rattle.fq_run.specs.Endings.{Run, all_pairs, ends_whole, IsHandedBack, IsUntouched, EveryEnding}
-use Rattle.fq_run.specs.Fates.{Unbroken}
-use Rattle.fq_run.specs.Outcomes.{rank}
+use Rattle.fq_serial.specs.declared.outcome.Outcome.{Outcome}
+use Rattle.fq_serial.specs.declared.outcome.Outcome.TheVariants as outcome
+use Rattle.fq_serial.specs.declared.reading_end.ReadingEnd.{ReadingEnd}
+use Rattle.fq_serial.specs.Choices.{Choices}
+use Rattle.fq_run.specs.Dealt.{CanDeal, HasDealt}
+use Rattle.fq_run.specs.declared.dealer.Dealer.{Dealer}
+use Rattle.fq_run.specs.declared.ready.Ready.{Ready}
+use Rattle.fq_run.proofs.StaffLemmas.{to_dealt}
+use Rattle.fq_text.specs.Devices.{FeedState}
+use Rattle.fq_serial.specs.Devices.{OutletStates, OutletsTook}
+use Rattle.fq_serial.specs.Endings.{Run, all_pairs, ends_whole, IsHandedBack, IsUntouched, EveryEnding}
+use Rattle.fq_serial.specs.Fates.{Unbroken}
+use Rattle.fq_serial.specs.Outcomes.{rank}
 use Rattle.std.specs.Option.{option_map}
-use Rattle.fq_run.specs.Threads.{IsThreaded, run_from}
-use Rattle.fq_run.specs.declared.ending.Ended.{Ended}
+use Rattle.fq_run.specs.Threads.{IsReady, IsFresh, IsThreaded, run_from}
+use Rattle.fq_run.specs.declared.conclusion.Conclusion.{Conclusion}
 use Rattle.fq_pair.specs.Forms.{Form}
-use Rattle.fq_pair.specs.Walks.{SourceState}
-use Rattle.fq_run.specs.Walks.{fresh_source, feed_in}
-use Rattle.fq_run.proofs.OutletLemmas.{all_took_none, all_took_same}
-use Rattle.fq_run.proofs.TextLemmas.{no_text}
-use Rattle.fq_run.proofs.PassLemmas.{runs_refused}
-use Rattle.fq_run.proofs.RunLemmas.{run_every}
-use Rattle.fq_run.specs.declared.reading.Stop.TheVariants as stop
-use Rattle.fq_run.specs.Writing.{FlushesAfter, no_halt}
+use Rattle.fq_pair.specs.Walks.{SourceState, GoesOn}
+use Rattle.fq_serial.specs.Walks.{fresh_source, feed_in}
+use Rattle.fq_serial.proofs.OutletLemmas.{all_took_none, all_took_same}
+use Rattle.fq_serial.proofs.TextLemmas.{no_text}
+use Rattle.fq_serial.proofs.PassLemmas.{runs_refused}
+use Rattle.fq_serial.proofs.RunLemmas.{run_every}
+use Rattle.fq_serial.specs.declared.reading_end.ReadingEnd.TheVariants as reading
+use Rattle.fq_serial.specs.Writing.{FlushesAfter, no_halt}
 use Rattle.fq_pair.specs.declared.counts.Counts.{Counts}
 
 -- two things of one source are there, or neither is
@@ -44,7 +48,7 @@ no_items [] none = refl
 no_items (x ∷ xs) none = absurd (none (omega arith))
 
 -- a dealer that has not come to a stop had no start, and has not read
-pub idle : {S : Type 0} (state : S → SourceState) (c : Choices) (s old new : SourceState) (start start_left : Line (Unit {0})) (to : List (Line Numbered)) (closings : List (Result (Line Numbered) NotEnded)) (why : Option Stop) (x : S) (o : Option S) →
+pub idle : {S : Type 0} (state : S → SourceState) (c : Choices) (s old new : SourceState) (start start_left : History (Unit {0})) (to : List (History Numbered)) (closings : List (Result (History Numbered) NotEnded)) (why : Option ReadingEnd) (x : S) (o : Option S) →
     old ≡ s → state x ≡ new → HasDealt c old new start start_left to closings why → IfSome o (λ y. (y ≡ x) × (why ≡ None)) → IfSome o (λ y. state y ≡ s)
 idle state c s old new start start_left to closings why x None same is h unread = tt
 idle state c s old new start start_left to closings why x (Some y) same is h unread =
@@ -130,7 +134,7 @@ refused form c f r f' r' before after counted failed same also none flushed soun
       together = (λ gone. absurd cc, λ gone. absurd cc);
       untouched = λ at. absurd cc;
       whole = λ ends told. absurd cc;
-      every = λ lane. run_every form c f r f' r' before before counted no_halt (Some stop.Memory) None p after failed outcome.Memory flushed refl sound sound';
+      every = λ lane. run_every form c f r f' r' before before counted no_halt (Some reading.Memory) None p after failed outcome.Memory flushed refl sound sound';
     }
 
 -- the feeds of a source that is left, if one is
@@ -141,7 +145,7 @@ left_as feed fs side same (Some x) a is = ap Some (sym (same x)) ∙ sym (ap (op
 -- what holds of a run over a source holds of it over the feeds of that source
 pub closed : {S F G : Type 0} (state : S → SourceState) (fs : F → FeedState) (gs : G → FeedState) (forward_of : S → F) (reverse_of : S → G) →
     ((x : S) → fs (forward_of x) ≡ feed_in (state x).forward) → ((x : S) → gs (reverse_of x) ≡ feed_in (state x).reverse) →
-    (form : Form) (c : Choices) (s : SourceState) (f : F) (r : G) → s ≡ fresh_source form c (fs f) (gs r) → (before after : OutletStates) (e : Ended S) →
+    (form : Form) (c : Choices) (s : SourceState) (f : F) (r : G) → s ≡ fresh_source form c (fs f) (gs r) → (before after : OutletStates) (e : Conclusion S) →
     (o : Outcome) (counted : Counts) (f' : Option F) (r' : Option G) (u : Option NotEnded) → o ≡ e.outcome → counted ≡ e.counts → u ≡ e.unended → f' ≡ option_map forward_of e.source → r' ≡ option_map reverse_of e.source →
     IsThreaded c (run_from state s before after e) e.unended →
     IsThreaded c (record { form = form; forward = fs f; reverse = gs r; outlets = before; forward_left = option_map fs f'; reverse_left = option_map gs r'; outlets_left = after; outcome = o; counts = counted }) u
@@ -158,3 +162,20 @@ closed state fs gs forward_of reverse_of first second form c s f r is before aft
     ∙ ap (λ x. R fresh o counted x q) (left_as forward_of fs (λ x. feed_in (state x).forward) first e.source f' left)
     ∙ ap (λ x. R fresh o counted (option_map fs f') x) (left_as reverse_of gs (λ x. feed_in (state x).reverse) second e.source r' right) in
     subst (λ (v : Run). IsThreaded c v u) same (subst (λ (v : Option NotEnded). IsThreaded c (run_from state s before after e) v) (sym ended) t)
+
+-- a dealer whose lanes are as they are made, over a source that has not been asked
+pub can_deal : {S : Type 0} (workers : ℕ) (c : Choices) (s : SourceState) (dealer : Dealer S) (ready : Ready) → IsReady workers dealer ready → length dealer.to.items ≡ vec_len dealer.to → IsFresh c s → s.most_bytes ≤ 2 ^ 60 → CanDeal c s dealer
+can_deal workers c s dealer ready r len is few =
+    let some = r.some in let to = r.to in let closings = r.closings in
+    record {
+      room = (closings.0, omega (arith, closings.1));
+      deals = record {
+        some = omega arith;
+        lanes = to_dealt (vec_len dealer.to) dealer.to.items _ _ len r.laid;
+        backs = r.blocks_back ∙ sym to;
+        goes = subst GoesOn (sym is.fresh) (record { last = refl; within = omega arith });
+        fresh = ap (λ (z : SourceState). z.forward.given) is.fresh;
+        encoding = ap (λ (z : SourceState). z.encoding) is.fresh;
+        few = few;
+      };
+    }

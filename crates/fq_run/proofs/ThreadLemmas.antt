@@ -4,7 +4,7 @@ use Rattle.std.specs.List.{AllZip}
 use Rattle.std.proofs.lemmas.List.{append-nil}
 use mathlib.Core.List.{IsPrefix}
 use Rattle.fq_trim.specs.declared.step.Step.{Step}
-use Rattle.fq_lane.specs.Line.{Line}
+use Rattle.fq_lane.specs.History.{History}
 use Rattle.fq_lane.specs.declared.tx.NotEnded.{NotEnded}
 use Rattle.fq_pair.specs.declared.out.Out.{Out}
 use Rattle.fq_pair.specs.declared.counts.Counts.{Counts}
@@ -18,26 +18,28 @@ use Rattle.fq_work.specs.declared.reply.Cause.{Cause}
 use Rattle.fq_work.specs.declared.reply.Cause.TheVariants as cause
 use Rattle.fq_work.specs.declared.reply.Reply.TheVariants.{Done as done, Stop}
 use Rattle.fq_run.specs.declared.collector.Collector.{Collector}
-use Rattle.fq_run.specs.declared.halt.Halt.{Halt}
-use Rattle.fq_run.specs.declared.phase.Phase.{Phase}
-use Rattle.fq_run.specs.declared.phase.Phase.TheVariants.{Writing, Ended, Stopped, WriteFailed}
-use Rattle.fq_run.specs.declared.reading.Stop as reading
-use Rattle.fq_run.specs.Choices.{Choices}
+use Rattle.fq_serial.specs.declared.halt.Halt.{Halt}
+use Rattle.fq_run.specs.declared.collector.phase.Phase.{Phase}
+use Rattle.fq_run.specs.declared.collector.phase.Phase.TheVariants.{Writing, Ended, Stopped, WriteFailed}
+use Rattle.fq_serial.specs.declared.reading_end.ReadingEnd.{ReadingEnd}
+use Rattle.fq_serial.specs.Choices.{Choices}
 use Rattle.fq_run.specs.Collecting.{Collects, Writes, IsHeard, TookAll, written_text, counted_from, counted, failed_in}
 use Rattle.fq_run.specs.Crews.{Matched}
 use Rattle.fq_run.specs.Dealing.{AreEven, IsCut, join}
-use Rattle.fq_run.specs.Dealt.{Deals}
-use Rattle.fq_run.specs.Devices.{FeedState, OutletStates, OutletsTook, part_at}
-use Rattle.fq_run.specs.Fates as fate
+use Rattle.fq_run.specs.Dealt.{Closed}
+use Rattle.fq_run.specs.DealingOut.{DealsOut}
+use Rattle.fq_text.specs.Devices.{FeedState}
+use Rattle.fq_serial.specs.Devices.{OutletStates, OutletsTook, part_at}
+use Rattle.fq_serial.specs.Fates as fate
 use Rattle.fq_run.specs.Lanes.{IsDealt}
 use Rattle.fq_pair.specs.Forms.{Form}
 use Rattle.fq_pair.specs.Walks.{SourceState}
-use Rattle.fq_run.specs.Walks.{Reads, fresh_source, feed_in}
-use Rattle.fq_run.specs.Writing.{no_halt, Passes, Runs}
+use Rattle.fq_serial.specs.Walks.{Reads, fresh_source, feed_in}
+use Rattle.fq_serial.specs.Writing.{no_halt, Passes, Runs}
 use Rattle.fq_run.proofs.MatchLemmas.{answered, begun_before, begun_first, ended_all}
-use Rattle.fq_run.proofs.OutletLemmas.{all_took_same}
-use Rattle.fq_run.proofs.PassLemmas.{runs_passed}
-use Rattle.fq_run.proofs.TextLemmas.{no_text, text_then, some_pair, counts_added}
+use Rattle.fq_serial.proofs.OutletLemmas.{all_took_same}
+use Rattle.fq_serial.proofs.PassLemmas.{runs_passed}
+use Rattle.fq_serial.proofs.TextLemmas.{no_text, text_then, some_pair, counts_added}
 
 -- the pairs of some blocks
 abbrev pairs_in : List Numbered → List Mates
@@ -95,7 +97,7 @@ module _ (steps : List Step) where
       let tail : (ds ++ es) ++ p.0 ≡ answered steps bs = cc in
       splits_more d b ds es bs same (splits ds es bs (p.0, tail))
 
-module _ (c : Choices) (old new : SourceState) (mates : List Mates) (why : Option reading.Stop) (bs : List Numbered) (before mid : OutletStates)
+module _ (c : Choices) (old new : SourceState) (mates : List Mates) (why : Option ReadingEnd) (bs : List Numbered) (before mid : OutletStates)
     (reads : Reads old new mates why) (few : length mates ≤ 2 ^ 60) (cut : IsCut c.block_pairs mates (map (λ (b : Numbered). b.pairs) bs)) (stopped : why ≡ None → ⊥) where
   -- the pairs that were read are those of the first blocks and those of the others
   read_is : (first rest : List Numbered) → bs ≡ first ++ rest → mates ≡ pairs_in first ++ pairs_in rest
@@ -167,26 +169,26 @@ halted : (why : Cause) (k : Collector) → IsHeard why k → k.halt ≡ no_halt 
 halted cause.Gate k heard sound = let e = sym heard ∙ ap (λ (h : Halt). h.gate) sound in cc
 halted cause.Memory k heard sound = let e = sym heard ∙ ap (λ (h : Halt). h.memory) sound in cc
 
-module _ (form : Form) (c : Choices) (f r : FeedState) (old new : SourceState) (to : List (Line Numbered)) (closings : List (Result (Line Numbered) NotEnded)) (why : Option reading.Stop) (w : ℕ) (before mid : OutletStates) (k : Collector)
-    (is : old ≡ fresh_source form c f r) (d : Deals c old new to closings why) (matched : AllZip (Matched c.steps) closings k.replies.items) (stopped : why ≡ None → ⊥) (lanes : length to ≡ w) (some : 0 < w) where
-  dealt_to : IsDealt w d.blocks d.sent
-  dealt_to = subst (λ n. IsDealt n d.blocks d.sent) lanes d.dealt
+module _ (form : Form) (c : Choices) (f r : FeedState) (old new : SourceState) (to : List (History Numbered)) (closings : List (Result (History Numbered) NotEnded)) (why : Option ReadingEnd) (w : ℕ) (before mid : OutletStates) (k : Collector)
+    (is : old ≡ fresh_source form c f r) (sent : List (History Numbered)) (d : DealsOut c old new to sent why) (ends : AllZip Closed sent closings) (matched : AllZip (Matched c.steps) closings k.replies.items) (stopped : why ≡ None → ⊥) (lanes : length to ≡ w) (some : 0 < w) where
+  dealt_to : IsDealt w d.blocks sent
+  dealt_to = subst (λ n. IsDealt n d.blocks sent) lanes d.dealt
 
   -- the answers of the first blocks, by how far the collector came
   passes_by : (phase : Phase) (ds : List Done) → k.counts ≡ counted ds → Writes phase w before mid ds k → (phase ≡ Writing → ⊥) → Passes c old new before mid k.counts k.halt why (failed_in phase)
   passes_by Writing ds totals writes over = absurd (over refl)
   passes_by Ended ds totals writes over =
       let cut = d.cut in
-      let all = ended_all c.steps w d.blocks d.sent closings k.replies.items dealt_to d.ends matched some ds writes.0 in
+      let all = ended_all c.steps w d.blocks sent closings k.replies.items dealt_to ends matched some ds writes.0 in
       passes_first c old new d.mates why d.blocks before mid d.reads d.few cut.cut stopped ds k.counts k.halt d.blocks [] (sym (append-nil d.blocks)) all totals writes.1 (λ sound. refl)
   passes_by Stopped ds totals writes over =
       let cut = d.cut in
-      let begun = begun_first c.steps w d.blocks d.sent closings k.replies.items dealt_to d.ends matched some ds (begun_before w (map done ds) (Stop writes.why ∷ []) k.replies.items writes.begun) in
+      let begun = begun_first c.steps w d.blocks sent closings k.replies.items dealt_to ends matched some ds (begun_before w (map done ds) (Stop writes.why ∷ []) k.replies.items writes.begun) in
       let s = splits c.steps ds [] d.blocks (subst (λ xs. IsPrefix xs (answered c.steps d.blocks)) (sym (append-nil ds)) begun) in
       passes_first c old new d.mates why d.blocks before mid d.reads d.few cut.cut stopped ds k.counts k.halt s.first s.rest s.all s.answers totals writes.took (λ sound. absurd (halted writes.why k writes.heard sound))
   passes_by (WriteFailed failed) ds totals writes over =
       let cut = d.cut in
-      let begun = begun_first c.steps w d.blocks d.sent closings k.replies.items dealt_to d.ends matched some (ds ++ writes.next ∷ []) writes.begun in
+      let begun = begun_first c.steps w d.blocks sent closings k.replies.items dealt_to ends matched some (ds ++ writes.next ∷ []) writes.begun in
       let s = splits c.steps ds (writes.next ∷ []) d.blocks begun in
       passes_behind c old new d.mates why d.blocks before mid d.reads d.few cut.cut stopped failed ds k.counts k.halt writes.next writes.sent s.first s.rest s.all s.answers s.others totals writes.short writes.took
 

@@ -5,7 +5,7 @@ use Rattle.std.proofs.lemmas.Nat.{mod_below}
 use Rattle.std.proofs.lemmas.Bool.{cases_lt}
 use denote.RawPtr.{null_ptr}
 use mathlib.Core.List.{IsPrefix}
-use Rattle.fq_lane.specs.Line.{Line}
+use Rattle.fq_lane.specs.History.{History}
 use Rattle.fq_run.specs.Lanes.{lists_of, IsEnded, IsBegun}
 use Rattle.fq_run.specs.Dealing.{every, gather_turns, gather, total_length}
 use Rattle.fq_run.proofs.DealLemmas.{next_wraps, next_within}
@@ -123,35 +123,35 @@ module _ {T : Type 0} where
       let t = total-snoc ls l in
       omega arith
 
-  get-items : (ls : List (Line T)) (j : ℕ) (d : Line T) → j < length ls → get_or (lists_of ls) j [] ≡ (get_or ls j d).items
+  get-items : (ls : List (History T)) (j : ℕ) (d : History T) → j < length ls → get_or (lists_of ls) j [] ≡ (get_or ls j d).items
   get-items (l ∷ ls) zero d lt = refl
   get-items (l ∷ ls) (suc j) d lt = get-items ls j d (omega arith)
   get-items [] j d lt = absurd (omega arith)
 
-  length-items : (ls : List (Line T)) → length (lists_of ls) ≡ length ls
+  length-items : (ls : List (History T)) → length (lists_of ls) ≡ length ls
   length-items [] = refl
   length-items (l ∷ ls) = ap (λ n. suc n) (length-items ls)
 
-  fresh_line : Line T
-  fresh_line = record { name = (null_ptr, (null_ptr, (0, (0, 0)))); items = []; marked = false }
+  fresh_history : History T
+  fresh_history = record { name = (null_ptr, (null_ptr, (0, (0, 0)))); items = []; marked = false }
 
-  begun_lists : (w : ℕ) (xs : List T) (ls : List (Line T)) → IsBegun w xs ls → Begins w xs (lists_of ls)
+  begun_lists : (w : ℕ) (xs : List T) (ls : List (History T)) → IsBegun w xs ls → Begins w xs (lists_of ls)
   begun_lists w xs ls h = record {
     lanes = length-items ls ∙ h.lanes;
-    begins = λ j lt. subst (λ k. IsPrefix (every j w xs) k) (sym (get-items ls j fresh_line (omega (arith, h.lanes)))) (h.begins j fresh_line lt);
+    begins = λ j lt. subst (λ k. IsPrefix (every j w xs) k) (sym (get-items ls j fresh_history (omega (arith, h.lanes)))) (h.begins j fresh_history lt);
   }
 
   -- what was written in turn comes first in what is gathered
-  pub begun_gather : (w : ℕ) (xs : List T) (ls : List (Line T)) → 0 < w → IsBegun w xs ls → IsPrefix xs (gather (lists_of ls))
+  pub begun_gather : (w : ℕ) (xs : List T) (ls : List (History T)) → 0 < w → IsBegun w xs ls → IsPrefix xs (gather (lists_of ls))
   begun_gather zero xs ls pos h = absurd (omega arith)
   begun_gather (suc n) xs ls pos h =
       let t = begun_lists (suc n) xs ls h in
       gathers_first n (total_length (lists_of ls)) xs (lists_of ls) (enough n xs (lists_of ls) t) t
 
   -- what was written in turn, up to a lane that had no more, is what is gathered
-  pub ended_gather : (w : ℕ) (xs : List T) (ls : List (Line T)) → 0 < w → IsEnded w xs ls → gather (lists_of ls) ≡ xs
+  pub ended_gather : (w : ℕ) (xs : List T) (ls : List (History T)) → 0 < w → IsEnded w xs ls → gather (lists_of ls) ≡ xs
   ended_gather zero xs ls pos h = absurd (omega arith)
   ended_gather (suc n) xs ls pos h =
       let t = begun_lists (suc n) xs ls (record { lanes = h.lanes; begins = h.begins }) in
-      let ends = get-items ls (length xs % suc n) fresh_line (omega (arith, h.lanes, mod_below (length xs) (suc n) pos)) ∙ h.ends fresh_line in
+      let ends = get-items ls (length xs % suc n) fresh_history (omega (arith, h.lanes, mod_below (length xs) (suc n) pos)) ∙ h.ends fresh_history in
       gathers n (total_length (lists_of ls)) xs (lists_of ls) (enough n xs (lists_of ls) t) (record { lists = t; ends = ends })

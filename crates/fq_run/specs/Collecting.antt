@@ -9,11 +9,11 @@ use Rattle.fq_work.specs.declared.reply.Cause.{Cause}
 use Rattle.fq_work.specs.declared.reply.Cause.TheVariants as cause
 use Rattle.fq_work.specs.declared.reply.Reply.{Reply}
 use Rattle.fq_work.specs.declared.reply.Reply.TheVariants.{Done as done, Stop}
-use Rattle.fq_run.specs.Devices.{OutletStates, OutletsTook, part_at}
+use Rattle.fq_serial.specs.Devices.{OutletStates, OutletsTook, part_at}
 use Rattle.fq_run.specs.Lanes.{IsDealt, IsEnded, IsBegun}
 use Rattle.fq_run.specs.declared.collector.Collector.{Collector}
-use Rattle.fq_run.specs.declared.phase.Phase.{Phase}
-use Rattle.fq_run.specs.declared.phase.Phase.TheVariants.{Writing, Ended, Stopped, WriteFailed}
+use Rattle.fq_run.specs.declared.collector.phase.Phase.{Phase}
+use Rattle.fq_run.specs.declared.collector.phase.Phase.TheVariants.{Writing, Ended, Stopped, WriteFailed}
 
 -- one of the five texts of some replies, one behind the other
 abbrev pub written_text : Out → List Done → List ℕ

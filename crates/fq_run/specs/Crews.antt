@@ -2,7 +2,7 @@
 use Rattle.std.specs.Prelude.{◌≡◌, ◌≤◌, ℕ, true, false, Option, Result, IfOk, IsOkAnd, List, [], vec_len, vec_capacity}
 use Rattle.std.specs.declared.thread.PromisedHandle.{PromisedHandle}
 use Rattle.fq_trim.specs.declared.step.Step.{Step}
-use Rattle.fq_lane.specs.Line.{Line, Name}
+use Rattle.fq_lane.specs.History.{History, Name}
 use Rattle.fq_lane.specs.declared.tx.NotEnded.{NotEnded}
 use Rattle.fq_block.specs.Blocks.{Numbered}
 use Rattle.fq_work.specs.Replies.{Answers}
@@ -12,17 +12,17 @@ use Rattle.fq_work.specs.declared.ends.Worked.{Worked}
 use Rattle.fq_work.specs.declared.reply.Cause.{Cause}
 use Rattle.fq_work.specs.declared.reply.Reply.{Reply}
 use Rattle.fq_run.specs.Each.{Each3}
-use Rattle.fq_run.specs.declared.crew.Job.{Job}
-use Rattle.fq_run.specs.declared.seats.Seats.{Seats}
+use Rattle.fq_run.specs.declared.crew.job.Job.{Job}
+use Rattle.fq_run.specs.declared.lanes.seats.Seats.{Seats}
 
 -- a lane as it is made
-abbrev pub fresh : {T : Type 0} → Name → Line T
+abbrev pub fresh : {T : Type 0} → Name → History T
 fresh n = record { name = n; items = []; marked = false }
 
 -- Before the threads.
 
 -- at one place: the lane of blocks and the lane of replies of one worker, and its own ends of them, as they are made
-pub record Laid (to : Line Numbered) (ends : WorkEnds) (replies : Line Reply) : Type 0 where
+pub record Laid (to : History Numbered) (ends : WorkEnds) (replies : History Reply) : Type 0 where
   pub to_is : to ≡ fresh to.name
   pub replies_are : replies ≡ fresh replies.name
   pub rx : ends.rx ≡ fresh to.name
@@ -65,16 +65,16 @@ Joined h worked = IsWork h.promise.steps h.promise.rx.value h.promise.tx.value w
 
 -- What stands at one place before its two lanes are confirmed: the end of the block lane, what the worker left, the receiver of replies.
 -- Both receivers have come to the mark, and each end has the name of its receiver.
-pub record CanConfirm (closing : Result (Line Numbered) NotEnded) (worked : Worked) (replies : Line Reply) : Type 0 where
+pub record CanConfirm (closing : Result (History Numbered) NotEnded) (worked : Worked) (replies : History Reply) : Type 0 where
   pub blocks : IfOk closing (λ e. e.name ≡ worked.rx.name)
   pub came : worked.rx.marked ≡ true
   pub sent : IfOk worked.closing (λ e. e.name ≡ replies.name)
   pub got : replies.marked ≡ true
 
 -- both lanes are confirmed: what came at one end is what left the other
-abbrev pub Confirmed : Result (Line Numbered) NotEnded → Worked → Line Reply → Type 0
+abbrev pub Confirmed : Result (History Numbered) NotEnded → Worked → History Reply → Type 0
 Confirmed closing worked replies = IsOkAnd closing (λ e. worked.rx ≡ e) × IsOkAnd worked.closing (λ e. replies ≡ e)
 
 -- the replies that came answer the blocks that were sent
-abbrev pub Matched : List Step → Result (Line Numbered) NotEnded → Line Reply → Type 0
+abbrev pub Matched : List Step → Result (History Numbered) NotEnded → History Reply → Type 0
 Matched steps closing replies = IsOkAnd closing (λ e. (cause : Option Cause) × Answers steps e.items replies.items cause)

@@ -1,24 +1,50 @@
--- The blocks of all pairs, dealt out.
-use Rattle.std.specs.Prelude.{◌≡◌, ◌+◌, ◌≤◌, ◌^◌, Option, Some, List, length}
-use Rattle.fq_lane.specs.Line.{Line}
+-- The blocks of all pairs, dealt out to the lanes of the workers.
+use Rattle.std.specs.Prelude.{◌≡◌, ℕ, suc, ◌+◌, ◌<◌, ◌≤◌, ◌^◌, Option, Some, List, [], ◌∷◌, map, length, slice_index_or, slice_set}
+use Rattle.fq_text.specs.declared.encoding.Encoding.{Encoding}
+use Rattle.fq_lane.specs.History.{History, with_item}
 use Rattle.fq_block.specs.Blocks.{Numbered}
 use Rattle.fq_pair.specs.Mates.{Mates}
-use Rattle.fq_run.specs.Choices.{Choices}
-use Rattle.fq_run.specs.Dealt.{AreBlocks}
+use Rattle.fq_serial.specs.Choices.{Choices}
+use Rattle.fq_run.specs.Dealing.{IsCut}
 use Rattle.fq_run.specs.Lanes.{names_of, IsDealt}
-use Rattle.fq_pair.specs.Walks.{SourceState}
-use Rattle.fq_run.specs.Walks.{Reads}
-use Rattle.fq_run.specs.declared.reading.Stop.{Stop}
-use Rattle.fq_run.specs.declared.reading.Stop.TheVariants as stop
+use Rattle.fq_pair.specs.Walks.{SourceState, GoesOn}
+use Rattle.fq_serial.specs.Walks.{Reads}
+use Rattle.fq_serial.specs.declared.reading_end.ReadingEnd.{ReadingEnd}
+use Rattle.fq_serial.specs.declared.reading_end.ReadingEnd.TheVariants as reading
+
+-- blocks are numbered on from n, and all are in one encoding
+abbrev pub AreNumbered : Encoding → ℕ → List Numbered → Type 0
+AreNumbered encoding n [] = Unit {0}
+AreNumbered encoding n (block ∷ blocks) = (block.number ≡ n) × (block.encoding ≡ encoding) × AreNumbered encoding (suc n) blocks
+
+-- these blocks, numbered from 0, are the cut of these pairs
+pub record AreBlocks (c : Choices) (ms : List Mates) (blocks : List Numbered) : Type 0 where
+  pub cut : IsCut c.block_pairs ms (map (λ (b : Numbered). b.pairs) blocks)
+  pub numbered : AreNumbered c.encoding 0 blocks
+
+-- what may be dealt: the pairs of a source that has not been asked, to some lanes through which nothing has gone, with as many ways back
+pub record MayDeal (c : Choices) (s : SourceState) (w ways : ℕ) (to : List (History Numbered)) : Type 0 where
+  pub some : 0 < w
+  pub lanes : IsDealt w [] to
+  pub backs : ways ≡ w
+  pub goes : GoesOn s
+  pub fresh : s.forward.given ≡ 0
+  pub encoding : s.encoding ≡ c.encoding
+  pub few : s.most_bytes ≤ 2 ^ 60
 
 -- pairs were read from a source, up to where the reading stopped, and their blocks were dealt out to lanes, which go on. Where that was
 -- a want of memory, the source gave one pair more, which is lost
-pub record DealsOut (c : Choices) (old new : SourceState) (to sent : List (Line Numbered)) (why : Option Stop) : Type 0 where
+pub record DealsOut (c : Choices) (old new : SourceState) (to sent : List (History Numbered)) (why : Option ReadingEnd) : Type 0 where
   pub mates : List Mates
   pub blocks : List Numbered
   pub reads : Reads old new mates why
-  pub lost : why ≡ Some stop.Memory → new.given ≡ old.given + length mates + 1
+  pub lost : why ≡ Some reading.Memory → new.given ≡ old.given + length mates + 1
   pub few : length mates ≤ 2 ^ 60
   pub cut : AreBlocks c mates blocks
   pub dealt : IsDealt (length to) blocks sent
   pub names : names_of sent ≡ names_of to
+
+-- a block that has pairs was sent to one lane, and one that has none to no lane
+pub record SendsFilled (block : Numbered) (old new : List (History Numbered)) (j : ℕ) : Type 0 where
+  pub none : block.pairs ≡ [] → new ≡ old
+  pub some : 0 < length block.pairs → (d : History Numbered) → new ≡ slice_set old j (with_item (slice_index_or old j d) block)

@@ -1,41 +1,41 @@
 -- The lanes of a crew, in order.
 use Rattle.std.specs.Prelude.{◌≡◌, ℕ, ◌<◌, ◌%◌, true, List, length, map, slice_index_or, slice_set}
 use mathlib.Core.List.{IsPrefix}
-use Rattle.fq_lane.specs.Line.{Line, Name}
+use Rattle.fq_lane.specs.History.{History, Name}
 use Rattle.fq_lane.specs.Take.{Takes}
 use Rattle.fq_lane.specs.declared.taken.Taken.{Taken}
 use Rattle.fq_run.specs.Dealing.{every}
 
 module _ {T : Type 0} where
-  abbrev pub names_of : List (Line T) → List Name
+  abbrev pub names_of : List (History T) → List Name
   names_of ls = map (λ l. l.name) ls
 
   -- the items of each lane
-  abbrev pub lists_of : List (Line T) → List (List T)
+  abbrev pub lists_of : List (History T) → List (List T)
   lists_of ls = map (λ l. l.items) ls
 
   -- there are w lanes, and their items are xs, dealt out
-  pub record IsDealt (w : ℕ) (xs : List T) (ls : List (Line T)) : Type 0 where
+  pub record IsDealt (w : ℕ) (xs : List T) (ls : List (History T)) : Type 0 where
     pub lanes : length ls ≡ w
-    pub items : (j : ℕ) (d : Line T) → j < w → (slice_index_or ls j d).items ≡ every j w xs
+    pub items : (j : ℕ) (d : History T) → j < w → (slice_index_or ls j d).items ≡ every j w xs
 
   -- the items of each lane begin with those of xs that are dealt to it, and where the next of xs would come from, the lane is closed and has no more
-  pub record IsEnded (w : ℕ) (xs : List T) (ls : List (Line T)) : Type 0 where
+  pub record IsEnded (w : ℕ) (xs : List T) (ls : List (History T)) : Type 0 where
     pub lanes : length ls ≡ w
-    pub begins : (j : ℕ) (d : Line T) → j < w → IsPrefix (every j w xs) (slice_index_or ls j d).items
-    pub ends : (d : Line T) → (slice_index_or ls (length xs % w) d).items ≡ every (length xs % w) w xs
-    pub closed : (d : Line T) → (slice_index_or ls (length xs % w) d).marked ≡ true
+    pub begins : (j : ℕ) (d : History T) → j < w → IsPrefix (every j w xs) (slice_index_or ls j d).items
+    pub ends : (d : History T) → (slice_index_or ls (length xs % w) d).items ≡ every (length xs % w) w xs
+    pub closed : (d : History T) → (slice_index_or ls (length xs % w) d).marked ≡ true
 
   -- the items of each lane begin with those of xs that are dealt to it
-  pub record IsBegun (w : ℕ) (xs : List T) (ls : List (Line T)) : Type 0 where
+  pub record IsBegun (w : ℕ) (xs : List T) (ls : List (History T)) : Type 0 where
     pub lanes : length ls ≡ w
-    pub begins : (j : ℕ) (d : Line T) → j < w → IsPrefix (every j w xs) (slice_index_or ls j d).items
+    pub begins : (j : ℕ) (d : History T) → j < w → IsPrefix (every j w xs) (slice_index_or ls j d).items
 
   -- what a take at one place answers and changes
-  pub record TakesAt (r : Taken T) (old new : List (Line T)) (j : ℕ) : Type 0 where
-    pub line : Line T
-    pub takes : Takes r (slice_index_or old j line) line
-    pub becomes : new ≡ slice_set old j line
+  pub record TakesAt (r : Taken T) (old new : List (History T)) (j : ℕ) : Type 0 where
+    pub history : History T
+    pub takes : Takes r (slice_index_or old j history) history
+    pub becomes : new ≡ slice_set old j history
 
-  abbrev pub AllClosed : List (Line T) → Type 0
-  AllClosed ls = (j : ℕ) (d : Line T) → j < length ls → (slice_index_or ls j d).marked ≡ true
+  abbrev pub AllClosed : List (History T) → Type 0
+  AllClosed ls = (j : ℕ) (d : History T) → j < length ls → (slice_index_or ls j d).marked ≡ true

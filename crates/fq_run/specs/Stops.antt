@@ -1,16 +1,16 @@
 -- Which stops came, and how a collector notes them.
 use Rattle.std.specs.Prelude.{◌≡◌, ℕ, Bool, true, false, List}
 use Rattle.std.specs.List.{list_any}
-use Rattle.fq_lane.specs.Line.{Line}
+use Rattle.fq_lane.specs.History.{History}
 use Rattle.fq_work.specs.declared.reply.Cause.{Cause}
 use Rattle.fq_work.specs.declared.reply.Cause.TheVariants.{Gate, Memory}
 use Rattle.fq_work.specs.declared.reply.Reply.{Reply}
 use Rattle.fq_work.specs.declared.reply.Reply.TheVariants.{Stop}
 use Rattle.fq_run.specs.Collecting.{Collects}
-use Rattle.fq_run.specs.Devices.{OutletStates}
+use Rattle.fq_serial.specs.Devices.{OutletStates}
 use Rattle.fq_run.specs.Lanes.{names_of}
 use Rattle.fq_run.specs.declared.collector.Collector.{Collector}
-use Rattle.fq_run.specs.declared.halt.Halt.{Halt}
+use Rattle.fq_serial.specs.declared.halt.Halt.{Halt}
 
 -- a Stop for this cause
 abbrev pub is_stop : Cause → Reply → Bool
@@ -19,16 +19,11 @@ is_stop Memory (Stop Memory) = true
 is_stop why reply = false
 
 -- one came through one of these lanes
-abbrev pub has_come : Cause → List (Line Reply) → Bool
-has_come why ls = list_any (λ (l : Line Reply). list_any (is_stop why) l.items) ls
+abbrev pub has_come : Cause → List (History Reply) → Bool
+has_come why ls = list_any (λ (l : History Reply). list_any (is_stop why) l.items) ls
 
-abbrev pub stops_of : List (Line Reply) → Halt
+abbrev pub stops_of : List (History Reply) → Halt
 stops_of ls = record { gate = has_come Gate ls; memory = has_come Memory ls }
-
--- one stop more
-abbrev pub with_stop : Cause → Halt → Halt
-with_stop Gate halt = record { gate = true; memory = halt.memory }
-with_stop Memory halt = record { gate = halt.gate; memory = true }
 
 -- all stops that came are noted, and no others
 abbrev pub HearsAll : Collector → Type 0

@@ -3,27 +3,27 @@ use Rattle.std.specs.Prelude.{◌≡◌, ◌≤◌, ◌<◌, ℕ, IsTrue, ◌↔
 use Rattle.std.specs.List.{AllZip}
 use Rattle.std.specs.Option.{option_map}
 use Rattle.fq_lane.specs.declared.tx.NotEnded.{NotEnded}
-use Rattle.fq_lane.specs.Line.{Line}
+use Rattle.fq_lane.specs.History.{History}
 use Rattle.fq_pair.specs.declared.out.Out.{Out}
 use Rattle.fq_work.specs.declared.ends.WorkEnds.{WorkEnds}
 use Rattle.fq_work.specs.declared.ends.Worked.{Worked}
 use Rattle.fq_work.specs.declared.reply.Reply.{Reply}
-use Rattle.fq_run.specs.Choices.{Choices}
+use Rattle.fq_serial.specs.Choices.{Choices}
 use Rattle.fq_run.specs.Crews.{fresh, Laid, IsLaid, AreFor, Seated, Confirmed}
-use Rattle.fq_run.specs.Devices.{OutletStates}
+use Rattle.fq_serial.specs.Devices.{OutletStates}
 use Rattle.fq_run.specs.Each.{Each3}
-use Rattle.fq_run.specs.Endings.{Run, AreTold, ends_whole, IsTrimmed, IsUntouched, EveryEnding}
-use Rattle.fq_run.specs.Outcomes.{outcome_of}
+use Rattle.fq_serial.specs.Endings.{Run, AreTold, ends_whole, IsTrimmed, IsUntouched, EveryEnding}
+use Rattle.fq_serial.specs.Outcomes.{outcome_of}
 use Rattle.fq_pair.specs.Walks.{SourceState}
-use Rattle.fq_run.specs.Walks.{fresh_source, feed_in}
-use Rattle.fq_run.specs.Writing.{occurred}
+use Rattle.fq_serial.specs.Walks.{fresh_source, feed_in}
+use Rattle.fq_serial.specs.Writing.{occurred}
 use Rattle.fq_run.specs.declared.collector.Collector.{Collector}
 use Rattle.fq_run.specs.declared.dealer.Dealer.{Dealer}
-use Rattle.fq_run.specs.declared.dealer.Dealt.{Dealt}
-use Rattle.fq_run.specs.declared.ending.Ended.{Ended}
-use Rattle.fq_run.specs.declared.outcome.Outcome.TheVariants as outcome
-use Rattle.fq_run.specs.declared.seats.Lanes.{Lanes}
-use Rattle.fq_run.specs.declared.seats.Ready.{Ready}
+use Rattle.fq_run.specs.declared.dealer.dealt.Dealt.{Dealt}
+use Rattle.fq_run.specs.declared.conclusion.Conclusion.{Conclusion}
+use Rattle.fq_serial.specs.declared.outcome.Outcome.TheVariants as outcome
+use Rattle.fq_run.specs.declared.lanes.Lanes.{Lanes}
+use Rattle.fq_run.specs.declared.ready.Ready.{Ready}
 use Rattle.fq_run.specs.declared.crew.Crew.{Crew}
 
 -- the lanes of so many workers and the start lane are as they are made, and there is room for what is handed back
@@ -59,7 +59,7 @@ pub record IsFresh (c : Choices) (s : SourceState) : Type 0 where
   pub reverse : s.reverse.failures ≡ 0
 
 -- threads that hold the ends of these lanes, which are as they are made
-pub record IsManned {S : Type 0} (crew : Crew S) (replies : List (Line Reply)) : Type 0 where
+pub record IsManned {S : Type 0} (crew : Crew S) (replies : List (History Reply)) : Type 0 where
   pub ends : List WorkEnds
   pub some : 0 < length replies
   pub laid : Each3 Laid crew.dealer.promise.to.value.items ends replies
@@ -69,16 +69,16 @@ pub record IsManned {S : Type 0} (crew : Crew S) (replies : List (Line Reply)) :
   pub worked : (crew.worked.items ≡ []) × (vec_len crew.hands ≤ vec_capacity crew.worked)
 
 -- Behind the joins the ends of all lanes are confirmed, or one is not; then the first that occurred is answered.
-pub record Concludes {S : Type 0} (started : Result (Line (Unit {0})) NotEnded) (dealt : Dealt S) (worked : List Worked) (k : Collector) (failed : Option Out) (ending : Ended S) : Type 0 where
+pub record Concludes {S : Type 0} (started : Result (History (Unit {0})) NotEnded) (dealt : Dealt S) (worked : List Worked) (k : Collector) (failed : Option Out) (ending : Conclusion S) : Type 0 where
   pub counts : ending.counts ≡ k.counts
   pub source : ending.source ≡ Some dealt.source
   pub lane : IfSome ending.unended (λ unended. ending.outcome ≡ outcome.Lane)
-  pub outcome_is : ending.unended ≡ None → ending.outcome ≡ outcome_of (occurred k.halt dealt.stop failed)
+  pub outcome_is : ending.unended ≡ None → ending.outcome ≡ outcome_of (occurred k.halt dealt.why failed)
   pub start : ending.unended ≡ None → IsOkAnd started (λ e. dealt.start ≡ e)
   pub workers : ending.unended ≡ None → Each3 Confirmed dealt.closings.items worked k.replies.items
 
 -- a run over a source
-abbrev pub run_from : {S : Type 0} → (S → SourceState) → SourceState → OutletStates → OutletStates → Ended S → Run
+abbrev pub run_from : {S : Type 0} → (S → SourceState) → SourceState → OutletStates → OutletStates → Conclusion S → Run
 run_from state s before after ending = record {
   form = s.form;
   forward = feed_in s.forward;

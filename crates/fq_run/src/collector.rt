@@ -3,18 +3,21 @@
 ghost use Rattle.std.specs.Prelude.{◌≡◌, ◌<◌, [], None, vec_len};
 ghost use Rattle.fq_run.specs.Collecting.{Collects, TookAll, before_stop, failed_in};
 ghost use Rattle.fq_run.specs.Dealing.{gather};
-ghost use Rattle.fq_run.specs.Devices.{OutletStates, outlet_states, AreHealthy};
+ghost use Rattle.fq_serial.specs.Devices.{OutletStates, outlet_states, AreHealthy};
 ghost use Rattle.fq_run.specs.Lanes.{names_of, lists_of, AllClosed, IsDealt};
 ghost use Rattle.fq_run.specs.Stops.{HearsAll};
 
-use crate::halt::Halt;
-use crate::lanes::{next_turn, take_wait_at};
-use crate::outlets::Outlets;
-use crate::phase::Phase;
+mod draining;
+pub(crate) mod phase;
+
+use crate::lanes::places::{next_turn, take_wait_at};
 use fq_lane::{Rx, Tx};
 use fq_pair::{Counts, Texts};
+use fq_serial::Outlets;
+use fq_serial::shared::Halt;
 use fq_text::Outlet;
 use fq_work::Reply;
+use phase::Phase;
 use std::sync::Wait;
 
 /// Takes replies in turn, and writes their texts.
@@ -47,12 +50,12 @@ pub(crate) fn collect<R: Wait, O: Outlet>(
     requires some { 0 < vec_len replies }
     requires fresh { IsDealt (vec_len replies) [] replies.items }
     requires backs { vec_len texts_back ≡ vec_len replies }
-    requires outlets { AreHealthy (outlet_states O.tells O.taken O.failure_count outlets.old) }
-    ensures collects { Collects (vec_len replies) (outlet_states O.tells O.taken O.failure_count outlets.old) (outlet_states O.tells O.taken O.failure_count outlets.new) result }
+    requires outlets { AreHealthy (outlet_states O.state outlets.old) }
+    ensures collects { Collects (vec_len replies) (outlet_states O.state outlets.old) (outlet_states O.state outlets.new) result }
     ensures names { names_of result.replies.items ≡ names_of replies.items }
     ensures over { (result.phase ≡ Phase.Writing → ⊥) × AllClosed result.replies.items }
     // Where no write failed, the outlets have the texts of what came, gathered in turn, before its first stop.
-    ensures written { failed_in result.phase ≡ None → TookAll (outlet_states O.tells O.taken O.failure_count outlets.old) (outlet_states O.tells O.taken O.failure_count outlets.new)
+    ensures written { failed_in result.phase ≡ None → TookAll (outlet_states O.state outlets.old) (outlet_states O.state outlets.new)
         (before_stop (gather (lists_of result.replies.items))) }
     // Each stop that came was noted, and no other.
     ensures hears { HearsAll result }
@@ -77,26 +80,17 @@ impl Collector {
             replies,
             texts_back,
             turn: 0,
-            counts: Counts {
-                pairs: 0,
-                both: 0,
-                forward_only: 0,
-                reverse_only: 0,
-                dropped: 0,
-            },
+            counts: Counts::ZERO,
             phase: Phase::Writing,
-            halt: Halt {
-                gate: false,
-                memory: false,
-            },
+            halt: Halt::NONE,
         }
     }
 
     // Writes replies in turn, until nothing more is to be written.
     fn write_all<R: Wait, O: Outlet>(&mut self, rt: &R, outlets: &mut Outlets<O>)
-        requires collects { Collects (vec_len self.old.replies) (outlet_states O.tells O.taken O.failure_count outlets.old) (outlet_states O.tells O.taken O.failure_count outlets.old) self.old }
-        requires outlets { AreHealthy (outlet_states O.tells O.taken O.failure_count outlets.old) }
-        ensures collects { Collects (vec_len self.old.replies) (outlet_states O.tells O.taken O.failure_count outlets.old) (outlet_states O.tells O.taken O.failure_count outlets.new) self.new }
+        requires collects { Collects (vec_len self.old.replies) (outlet_states O.state outlets.old) (outlet_states O.state outlets.old) self.old }
+        requires outlets { AreHealthy (outlet_states O.state outlets.old) }
+        ensures collects { Collects (vec_len self.old.replies) (outlet_states O.state outlets.old) (outlet_states O.state outlets.new) self.new }
         ensures names { names_of self.new.replies.items ≡ names_of self.old.replies.items }
         ensures over { self.new.phase ≡ Phase.Writing → ⊥ }
         ensures hears { HearsAll self.old → HearsAll self.new }
@@ -115,9 +109,9 @@ impl Collector {
         requires writing { self.old.phase ≡ Phase.Writing }
         requires turn { self.old.turn < vec_len self.old.replies }
         requires backs { vec_len self.old.texts_back ≡ vec_len self.old.replies }
-        requires outlets { AreHealthy (outlet_states O.tells O.taken O.failure_count outlets.old) }
-        ensures collects { (before : OutletStates) → Collects (vec_len self.old.replies) before (outlet_states O.tells O.taken O.failure_count outlets.old) self.old
-            → Collects (vec_len self.old.replies) before (outlet_states O.tells O.taken O.failure_count outlets.new) self.new }
+        requires outlets { AreHealthy (outlet_states O.state outlets.old) }
+        ensures collects { (before : OutletStates) → Collects (vec_len self.old.replies) before (outlet_states O.state outlets.old) self.old
+            → Collects (vec_len self.old.replies) before (outlet_states O.state outlets.new) self.new }
         ensures names { names_of self.new.replies.items ≡ names_of self.old.replies.items }
         ensures hears { HearsAll self.old → HearsAll self.new }
     {

@@ -1,53 +1,97 @@
-//! One lane among those of all workers.
+//! The lanes of a run, before its threads are started.
 
-ghost use Rattle.std.specs.Prelude.{◌≡◌, ◌<◌, ◌%◌, suc, vec_len, slice_index_or, slice_set};
-ghost use Rattle.fq_lane.specs.Line.{Line, with_item};
-ghost use Rattle.fq_lane.specs.Take.{taken_of};
-ghost use Rattle.fq_block.specs.Blocks.{Numbered};
-ghost use Rattle.fq_run.specs.Lanes.{TakesAt, names_of};
+pub(crate) mod places;
+pub(crate) mod seats;
 
+use crate::crew::job::Job;
+use crate::dealer::Dealer;
+use crate::ready::Ready;
 use fq_block::Block;
-use fq_lane::{Rx, Taken, Tx};
-use fq_work::Reply;
-use std::sync::Wait;
+use fq_lane::{End, NotEnded, Rx, Tx, lane};
+use fq_serial::Settings;
+use fq_text::OutOfMemory;
+use fq_work::Worked;
+use seats::{Seats, lay};
+use std::alloc::Global;
+use std::thread::PromisedHandle;
 
-/// The place after this one, round and round.
-pub(crate) fn next_turn(turn: usize, lanes: usize) -> usize
-    requires { turn < lanes }
-    ensures value { result ≡ suc turn % lanes }
-    ensures below { result < lanes }
-{
-    (turn + 1) % lanes
+/// The lanes of a run, and room for what its threads hand back.
+#[derive(Drop)]
+pub(crate) struct Lanes {
+    pub(crate) starter: Tx<()>,
+    pub(crate) start: Rx<()>,
+    pub(crate) seats: Seats,
+    pub(crate) closings: Vec<Result<End<Block>, NotEnded>>,
+    pub(crate) hands: Vec<PromisedHandle<Worked, Job>>,
+    pub(crate) worked: Vec<Worked>,
 }
 
-/// Sends a block to one lane, and waits for room.
-pub(crate) fn put_at<R: Wait>(rt: &R, to: &mut Vec<Tx<Block>>, at: usize, block: Block)
-    requires { at < vec_len to.old }
-    ensures put { (d : Line Numbered) → to.new.items ≡ slice_set to.old.items at (with_item (slice_index_or to.old.items at d) block) }
-    ensures len { vec_len to.new ≡ vec_len to.old }
-    ensures names { names_of to.new.items ≡ names_of to.old.items }
-{
-    to[at].put(rt, block)
-}
+impl Lanes {
+    ghost use Rattle.std.specs.Prelude.{◌≡◌, IfOk};
+    ghost use Rattle.fq_run.specs.Threads.{AreLaidOut, IsReady};
 
-/// Takes from one lane what is there.
-pub(crate) fn take_at(replies: &mut Vec<Rx<Reply>>, at: usize) -> Taken<Reply>
-    requires { at < vec_len replies.old }
-    ensures takes { TakesAt result replies.old.items replies.new.items at }
-    ensures names { names_of replies.new.items ≡ names_of replies.old.items }
-{
-    replies[at].take()
-}
+    /// Makes all lanes.
+    pub(crate) fn new(alloc: Global, settings: &Settings) -> Result<Lanes, OutOfMemory>
+        ensures { IfOk result (AreLaidOut settings.now.workers) }
+    {
+        let workers = settings.workers() as usize;
+        let (starter, start) = lane(alloc, 1)?;
+        Ok(Lanes {
+            starter,
+            start,
+            seats: lay(alloc, workers, settings.depth() as usize)?,
+            closings: Vec::with_capacity(alloc, workers)?,
+            hands: Vec::with_capacity(alloc, workers)?,
+            worked: Vec::with_capacity(alloc, workers)?,
+        })
+    }
 
-/// Takes the next reply of one lane, or its mark, and waits until it is there.
-pub(crate) fn take_wait_at<R: Wait>(
-    rt: &R,
-    replies: &mut Vec<Rx<Reply>>,
-    at: usize,
-) -> Option<Reply>
-    requires { at < vec_len replies.old }
-    ensures takes { TakesAt (taken_of result) replies.old.items replies.new.items at }
-    ensures names { names_of replies.new.items ≡ names_of replies.old.items }
-{
-    replies[at].take_wait(rt)
+    /// What the dealer takes, and what stays.
+    pub(crate) fn over<S>(self, source: S) -> (Dealer<S>, Ready)
+        ensures source { result.0.source ≡ source }
+        ensures start { result.0.start ≡ self.start }
+        ensures to { result.0.to ≡ self.seats.to }
+        ensures blocks_back { result.0.blocks_back ≡ self.seats.blocks_back }
+        ensures closings { result.0.closings ≡ self.closings }
+        ensures ready { result.1 ≡ record {
+          starter = self.starter;
+          ends = self.seats.ends;
+          hands = self.hands;
+          worked = self.worked;
+          replies = self.seats.replies;
+          texts_back = self.seats.texts_back;
+        } }
+    {
+        let Lanes {
+            starter,
+            start,
+            seats,
+            closings,
+            hands,
+            worked,
+        } = self;
+        let Seats {
+            to,
+            blocks_back,
+            ends,
+            replies,
+            texts_back,
+        } = seats;
+        let dealer = Dealer {
+            start,
+            source,
+            to,
+            blocks_back,
+            closings,
+        };
+        let ready = Ready {
+            starter,
+            ends,
+            hands,
+            worked,
+            replies,
+            texts_back,
+        };
+        (dealer, ready)
+    }
 }

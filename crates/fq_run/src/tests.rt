@@ -4,16 +4,15 @@ mod fronts;
 mod mixed;
 mod rows;
 mod seeing;
-mod settings;
 mod stops;
 mod sweeps;
 
 ghost use Rattle.std.specs.Prelude.{◌≡◌, ◌<◌, true, [], IfOk};
-ghost use Rattle.fq_run.specs.Devices.{outlet_states, AreHealthy};
+ghost use Rattle.fq_serial.specs.Devices.{outlet_states, AreHealthy};
 
 use crate::{Ending, Outcome, Outlets, Settings, run_serial, run_threads};
 use fq_pair::{Counts, Out};
-use fq_text::{Encoding, ScriptFeed, ScriptOutlet};
+use fq_text::{Encoding, Feed, Outlet, ScriptFeed, ScriptOutlet};
 use fq_trim::Steps;
 use fq_work::{Gate, OpenGate};
 use std::alloc::Global;
@@ -124,17 +123,28 @@ fn outlet(rt: &impl Abort, alloc: Global, given: &Given<'_>, out: Out) -> Script
 }
 
 fn settings_of(given: &Given<'_>, workers: u64, depth: u64) -> Result<Settings, Fail> {
-    Ok(Settings::new(
+    settings_with(given, workers, depth, LONG)
+}
+
+fn settings_with(
+    given: &Given<'_>,
+    workers: u64,
+    depth: u64,
+    gate_turns: u64,
+) -> Result<Settings, Fail> {
+    let steps = Steps::parse(given.steps)?;
+    let settings = Settings::new(
         given.encoding,
-        Steps::parse(given.steps)?,
+        steps,
         given.check_names,
         workers,
         given.block_pairs,
         depth,
         given.chunk,
         given.max_reads,
-        LONG,
-    )?)
+        gate_turns,
+    );
+    Ok(settings?)
 }
 
 fn outlets(rt: &impl Abort, alloc: Global, given: &Given<'_>) -> Outlets<ScriptOutlet>
@@ -170,15 +180,61 @@ fn assert_written(
     outlets: &Outlets<ScriptOutlet>,
     wanted: &Wanted<'_>,
 ) -> Result<(), Fail> {
-    assert_eq!(rt; outcome, wanted.outcome);
-    assert_eq!(rt; counts, wanted.counts);
-    assert_eq!(rt; outlets.forward_paired.bytes(), wanted.forward_paired);
-    assert_eq!(rt; outlets.forward_unpaired.bytes(), wanted.forward_unpaired);
-    assert_eq!(rt; outlets.reverse_paired.bytes(), wanted.reverse_paired);
-    assert_eq!(rt; outlets.reverse_unpaired.bytes(), wanted.reverse_unpaired);
+    assert_eq!(rt; (outcome, counts), (wanted.outcome, wanted.counts));
+    assert_reads(rt, outlets, wanted);
     let log = outlets.log.as_ref().ok_or("a log")?;
     assert_eq!(rt; log.bytes(), wanted.log);
     Ok(())
+}
+
+/// Compares the texts of the reads.
+fn assert_reads(rt: &impl Abort, outlets: &Outlets<ScriptOutlet>, wanted: &Wanted<'_>) {
+    for (outlet, text) in [
+        (&outlets.forward_paired, wanted.forward_paired),
+        (&outlets.forward_unpaired, wanted.forward_unpaired),
+        (&outlets.reverse_paired, wanted.reverse_paired),
+        (&outlets.reverse_unpaired, wanted.reverse_unpaired),
+    ] {
+        assert_eq!(rt; outlet.bytes(), text);
+    }
+}
+
+// The runs without their promise. A test has no use for it, and its proof is long where it is known.
+
+fn serial<O: Outlet>(
+    alloc: Global,
+    settings: &Settings,
+    forward: ScriptFeed,
+    reverse: ScriptFeed,
+    outlets: &mut Outlets<O>,
+) -> Ending<ScriptFeed, ScriptFeed>
+    requires forward { forward.failures ≡ 0 }
+    requires reverse { reverse.failures ≡ 0 }
+    requires outlets { AreHealthy (outlet_states O.state outlets.old) }
+{
+    run_serial(alloc, settings, forward, reverse, outlets)
+}
+
+fn threaded<
+    R: Threads + Wait + Copy + Send + 'static,
+    F: Feed + Drop + Send + 'static,
+    O: Outlet,
+    H: Gate + 'static,
+>(
+    rt: &R,
+    alloc: Global,
+    settings: &Settings,
+    gate: H,
+    forward: F,
+    reverse: ScriptFeed,
+    outlets: &mut Outlets<O>,
+) -> Result<Ending<F, ScriptFeed>, Fail>
+    requires forward { (F.state forward).failures ≡ 0 }
+    requires reverse { reverse.failures ≡ 0 }
+    requires outlets { AreHealthy (outlet_states O.state outlets.old) }
+{
+    let gate = Arc::new(alloc, gate)?;
+    Ok(run_threads(alloc, rt, settings, gate, forward, reverse, outlets))
 }
 
 /// Runs with a log on one thread.
@@ -192,7 +248,7 @@ fn leaves_alone(
     let forward = feed(rt, alloc, given.forward, given.cut, given.fails_at_read)?;
     let reverse = feed(rt, alloc, given.reverse, given.cut, 0)?;
     let mut outlets = outlets(rt, alloc, given);
-    let ending = run_serial(alloc, &settings, forward, reverse, &mut outlets);
+    let ending = serial(alloc, &settings, forward, reverse, &mut outlets);
     assert_left(rt, &ending, &outlets, wanted)
 }
 
@@ -205,11 +261,10 @@ fn leaves_behind<R: Abort + Threads + Wait + Copy + Send + 'static, H: Gate + 's
     gate: H,
     wanted: &Wanted<'_>,
 ) -> Result<(), Fail> {
-    let gate = Arc::new(alloc, gate)?;
     let forward = feed(rt, alloc, given.forward, given.cut, given.fails_at_read)?;
     let reverse = feed(rt, alloc, given.reverse, given.cut, 0)?;
     let mut outlets = outlets(rt, alloc, given);
-    let ending = run_threads(alloc, rt, settings, gate, forward, reverse, &mut outlets);
+    let ending = threaded(rt, alloc, settings, gate, forward, reverse, &mut outlets)?;
     assert_left(rt, &ending, &outlets, wanted)
 }
 

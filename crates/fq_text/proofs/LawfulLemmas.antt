@@ -29,17 +29,17 @@ clean_pieces (b ∷ bs) = ⊎_elim
     (λ no_is. ap (list_all clean) (cond-false (eqb b 10) ([] ∷ pieces bs) (before_first_piece b (pieces bs)) no_is) ∙ clean_first b (pieces bs) no_is (clean_pieces bs))
     (cases_Bool (eqb b 10))
 
-clean_trimmed : (l : List ℕ) → clean l ≡ true → clean (without_cr l) ≡ true
-clean_trimmed [] all = refl
-clean_trimmed (b ∷ []) all = ⊎_elim
+clean_without_cr : (l : List ℕ) → clean l ≡ true → clean (without_cr l) ≡ true
+clean_without_cr [] all = refl
+clean_without_cr (b ∷ []) all = ⊎_elim
     (λ yes_is. ap clean (cond-true (eqb b 13) [] (b ∷ []) yes_is))
     (λ no_is. ap clean (cond-false (eqb b 13) [] (b ∷ []) no_is) ∙ all)
     (cases_Bool (eqb b 13))
-clean_trimmed (b ∷ c ∷ bs) all = let parts = and_parts _ _ all in and_from _ _ parts.0 (clean_trimmed (c ∷ bs) parts.1)
+clean_without_cr (b ∷ c ∷ bs) all = let parts = and_parts _ _ all in and_from _ _ parts.0 (clean_without_cr (c ∷ bs) parts.1)
 
 clean_map : (ps : List (List ℕ)) → list_all clean ps ≡ true → list_all clean (map without_cr ps) ≡ true
 clean_map [] all = refl
-clean_map (p ∷ ps) all = let parts = and_parts _ _ all in and_from _ _ (clean_trimmed p parts.0) (clean_map ps parts.1)
+clean_map (p ∷ ps) all = let parts = and_parts _ _ all in and_from _ _ (clean_without_cr p parts.0) (clean_map ps parts.1)
 
 clean_lines : (text : List ℕ) → list_all clean (lines text) ≡ true
 clean_lines text = clean_map (pieces text) (clean_pieces text)

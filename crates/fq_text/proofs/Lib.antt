@@ -1,7 +1,7 @@
 pub mod WorkedExamples
 pub mod LineLemmas
 pub mod ReadLemmas
-pub mod StepLemmas
+pub mod AdvanceLemmas
 pub mod GoLemmas
 pub mod GrammarLemmas
 pub mod PartLemmas

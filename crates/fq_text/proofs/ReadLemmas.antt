@@ -1,10 +1,11 @@
 -- The bytes in hand, as a part of a buffer.
-use Rattle.std.proofs.Common.{◌≡◌, ℕ, ◌+◌, ◌-◌, ◌≤◌, Bool, List, ◌++◌, length, take, drop, arith, ap, sym, ◌∙◌, append_assoc}
+use Rattle.std.proofs.Common.{◌≡◌, ℕ, ◌+◌, ◌-◌, ◌≤◌, List, ◌++◌, length, take, drop, arith, ap, sym, ◌∙◌, append_assoc}
 use Rattle.std.proofs.Math.Seq.{take-add}
 use Rattle.std.proofs.lemmas.List.{take-take, take_at, drop_at, take-append-le, drop-append-le, drop-take, drop-drop, length-take}
+use Rattle.fq_text.specs.Devices.{FeedState}
 use Rattle.fq_text.specs.Lines.{without_cr}
 use Rattle.fq_text.specs.Reading.{Moved, MovesOr}
-use Rattle.fq_text.specs.declared.fault.Stop.{Stop}
+use Rattle.fq_text.specs.declared.fault.ReadError.{ReadError}
 
 -- what stands behind the first `filled` bytes of a buffer that a feed wrote into
 pub written_behind : (grown wrote past other before : List ℕ) (filled n room : ℕ) →
@@ -29,7 +30,7 @@ drop_hand bytes start filled used le =
 pub line_of_hand : (bytes seen hand : List ℕ) (start filled len used r : ℕ) → seen ≡ bytes → take (filled - start) (drop start bytes) ≡ hand → len ≤ used → used ≤ length hand →
     without_cr (take (start + len - start) (drop start seen)) ≡ take r (take (start + len - start) (drop start seen)) → r ≤ length (take (start + len - start) (drop start seen)) →
     take (start + r - start) (drop start bytes) ≡ without_cr (take len hand)
-line_of_hand bytes seen hand start filled len used r same is le within trimmed short =
+line_of_hand bytes seen hand start filled len used r same is le within without short =
     let a : start + len - start ≡ len = omega arith in
     let b : start + r - start ≡ r = omega arith in
     let size = ap length is in
@@ -37,7 +38,7 @@ line_of_hand bytes seen hand start filled len used r same is le within trimmed s
     let shorter : r ≤ len = omega (arith, length-take (start + len - start) (drop start seen)) in
     let piece : take (start + len - start) (drop start seen) ≡ take len (drop start bytes) = ap (λ m. take m (drop start seen)) a ∙ ap (λ xs. take len (drop start xs)) same in
     let front : take len (drop start bytes) ≡ take len hand = sym (take-take len (filled - start) (drop start bytes) room) ∙ ap (take len) is in
-    ap (λ m. take m (drop start bytes)) b ∙ sym (take-take r len (drop start bytes) shorter) ∙ ap (take r) (sym piece) ∙ sym trimmed ∙ ap without_cr (piece ∙ front)
+    ap (λ m. take m (drop start bytes)) b ∙ sym (take-take r len (drop start bytes) shorter) ∙ ap (take r) (sym piece) ∙ sym without ∙ ap without_cr (piece ∙ front)
 
 pub hand_used : (bytes hand : List ℕ) (start filled used : ℕ) → take (filled - start) (drop start bytes) ≡ hand → used ≤ length hand →
     take (filled - (start + used)) (drop (start + used) bytes) ≡ drop used hand
@@ -55,10 +56,10 @@ hand_grows old new gave start filled n is le within =
     ∙ drop-append-le start (take filled old) gave (omega (arith, length-take filled old))
     ∙ ap (λ xs. xs ++ gave) (ap (λ m. drop start (take m old)) (sym b) ∙ drop-take start (filled - start) old)
 
-module _ {F : Type 0} (tells : F → Bool) (to_come : F → List ℕ) where
+module _ {F : Type 0} (state : F → FeedState) where
   -- what was read behind the filled part was read behind the bytes in hand
   pub hand_moved : (old new : F) (before after hand : List ℕ) (start filled chunk n : ℕ) → start ≤ filled → filled ≤ length before → take (filled - start) (drop start before) ≡ hand →
-      Moved tells to_come old new (take filled before) (take (filled + n) after) chunk n → Moved tells to_come old new hand (take (filled + n - start) (drop start after)) chunk n
+      Moved state old new (take filled before) (take (filled + n) after) chunk n → Moved state old new hand (take (filled + n - start) (drop start after)) chunk n
   hand_moved old new before after hand start filled chunk n le within is p = record {
     gave = p.gave;
     len = p.len;
@@ -69,8 +70,8 @@ module _ {F : Type 0} (tells : F → Bool) (to_come : F → List ℕ) where
   }
 
   -- and where nothing was read they stay
-  pub hand_stays : (old new : F) (before after hand : List ℕ) (start filled : ℕ) (why : Stop) → start ≤ filled → take (filled - start) (drop start before) ≡ hand →
-      MovesOr tells to_come old new (take filled before) (take filled after) why → MovesOr tells to_come old new hand (take (filled - start) (drop start after)) why
+  pub hand_stays : (old new : F) (before after hand : List ℕ) (start filled : ℕ) (why : ReadError) → start ≤ filled → take (filled - start) (drop start before) ≡ hand →
+      MovesOr state old new (take filled before) (take filled after) why → MovesOr state old new hand (take (filled - start) (drop start after)) why
   hand_stays old new before after hand start filled why le is p =
       let b : start + (filled - start) ≡ filled = omega arith in record {
         bytes = sym (ap (λ m. drop start (take m after)) (sym b) ∙ drop-take start (filled - start) after) ∙ ap (drop start) p.bytes

@@ -4,18 +4,19 @@ use Rattle.std.specs.List.{list_any}
 use Rattle.std.proofs.lemmas.List.{append-nil, length-append, take_at}
 use Rattle.std.proofs.lemmas.List.Folds.{list_any-append}
 use Rattle.std.proofs.lemmas.Bool.{cond-true, cond-false, or_left, or_right, or_from, ne_eqb}
+use Rattle.fq_text.specs.Devices.{FeedState}
 use Rattle.fq_text.specs.declared.encoding.Encoding.{Encoding}
 use Rattle.fq_text.specs.declared.fault.Fault.{Fault}
 use Rattle.fq_text.specs.declared.fault.Fault.TheVariants as fault
-use Rattle.fq_text.specs.declared.fault.Stop.{Stop}
-use Rattle.fq_text.specs.declared.fault.Stop.TheVariants as stop
+use Rattle.fq_text.specs.declared.fault.ReadError.{ReadError}
+use Rattle.fq_text.specs.declared.fault.ReadError.TheVariants as error
 use Rattle.fq_text.specs.declared.fault.TextFault.{TextFault}
 use Rattle.fq_text.specs.Lines.{lines, is_whole, whole_part}
 use Rattle.fq_text.specs.Grammar.{Read, Front, End, Faulty, Found, front}
 use Rattle.fq_text.specs.Reading.{Lined, rest_of, IsSound, Reads, NoLf}
-use Rattle.fq_text.specs.Steps.{Goes, Waits, Stops}
+use Rattle.fq_text.specs.Phases.{Goes, Waits, Stops}
 use Rattle.fq_text.specs.Sources.{Sourced, numbered, text_fault, GivesRecord, LacksRecord, FaultIs, if_read, if_endless, StopsText}
-use Rattle.fq_text.proofs.StepLemmas.{rest_is, lines_left}
+use Rattle.fq_text.proofs.AdvanceLemmas.{rest_is, lines_left}
 use Rattle.fq_text.proofs.LawfulLemmas.{front_is_lawful, front_encoding}
 
 abbrev is_lf : ℕ → Bool
@@ -46,51 +47,51 @@ some_used : (e : Encoding) (r : Read) (used : List ℕ) → front e (lines used 
 some_used e r [] is = absurd (let h : End ≡ Found r [] = is in cc)
 some_used e r (b ∷ bs) is = omega arith
 
-module _ {F : Type 0} (tells : F → Bool) (to_come : F → List ℕ) (e : Encoding) where
+module _ {F : Type 0} (state : F → FeedState) (e : Encoding) where
   -- a reader of lines as a source
   abbrev pub source_of : Lined F → ℕ → Option (Result (Unit {0}) TextFault) → Sourced F
   source_of r k last = record { feed = r.feed; encoding = e; chunk = r.chunk; max_reads = r.max_reads; in_hand = r.in_hand; taken = r.taken; given = k; last = last }
 
-  gave_is : (a b : Lined F) (used : List ℕ) (p : Reads tells to_come a b used) → IsTrue (tells a.feed) → take (b.taken - a.taken) (to_come a.feed) ≡ p.gave
+  gave_is : (a b : Lined F) (used : List ℕ) (p : Reads state a b used) → IsTrue (state a.feed).tells → take (b.taken - a.taken) (state a.feed).to_come ≡ p.gave
   gave_is a b used p told =
       let taken = p.taken in
       let n : b.taken - a.taken ≡ length p.gave = omega arith in
-      ap (λ m. take m (to_come a.feed)) n ∙ ap (take (length p.gave)) (p.fed told) ∙ take_at p.gave (to_come b.feed) (length p.gave) refl
+      ap (λ m. take m (state a.feed).to_come) n ∙ ap (take (length p.gave)) (p.fed told) ∙ take_at p.gave (state b.feed).to_come (length p.gave) refl
 
-  pub counted : (a b : Lined F) (used : List ℕ) (k : ℕ) → Reads tells to_come a b used → k + length a.in_hand ≤ a.taken → k + length used + length b.in_hand ≤ b.taken
+  pub counted : (a b : Lined F) (used : List ℕ) (k : ℕ) → Reads state a b used → k + length a.in_hand ≤ a.taken → k + length used + length b.in_hand ≤ b.taken
   counted a b used k p le =
       let taken = p.taken in let hand = ap length p.hand in omega (arith, length-append a.in_hand p.gave, length-append used b.in_hand)
 
-  pub gives_record : (a b : Lined F) (k : ℕ) (l : Option (Result (Unit {0}) TextFault)) (r : Read) → l ≡ None → Goes tells to_come a b (front e) (Found r) → IsSound tells to_come b → length a.in_hand < a.chunk →
-      GivesRecord tells to_come (source_of a k l) (source_of b (k + 1) l) r
+  pub gives_record : (a b : Lined F) (k : ℕ) (l : Option (Result (Unit {0}) TextFault)) (r : Read) → l ≡ None → Goes state a b (front e) (Found r) → IsSound state b → length a.in_hand < a.chunk →
+      GivesRecord state (source_of a k l) (source_of b (k + 1) l) r
   gives_record a b k l r none p sound small = record {
-    lawful = front_is_lawful e p.used r [] (ap (front e) (sym (append-nil (lines p.used))) ∙ p.state []);
-    encoding = front_encoding e (lines p.used) r [] (ap (front e) (sym (append-nil (lines p.used))) ∙ p.state []);
-    record_is = λ told. ap (front e) (lines_left tells to_come a b p.used p.reads p.closed sound told) ∙ p.state (lines (rest_of to_come b));
+    lawful = front_is_lawful e p.used r [] (ap (front e) (sym (append-nil (lines p.used))) ∙ p.answer []);
+    encoding = front_encoding e (lines p.used) r [] (ap (front e) (sym (append-nil (lines p.used))) ∙ p.answer []);
+    record_is = λ told. ap (front e) (lines_left state a b p.used p.reads p.closed sound told) ∙ p.answer (lines (rest_of state b));
     tail = λ told. record {
       before = p.used;
-      some = some_used e r p.used (p.state []);
-      split = rest_is tells to_come a b p.used p.reads told;
+      some = some_used e r p.used (p.answer []);
+      split = rest_is state a b p.used p.reads told;
       at_line = ⊎_elim (λ whole. inl whole)
-          (λ (end : (b.ended ≡ true) × (b.in_hand ≡ [])). inr (ap (λ xs. xs ++ to_come b.feed) end.1 ∙ sound.nothing end.0 (p.reads.told ∙ told))) p.closed;
+          (λ (end : (b.ended ≡ true) × (b.in_hand ≡ [])). inr (ap (λ xs. xs ++ (state b.feed).to_come) end.1 ∙ sound.nothing end.0 (p.reads.told ∙ told))) p.closed;
     };
     given = refl;
     last = none;
     in_hand = p.small small;
   }
 
-  pub record_used : (a b : Lined F) (r : Read) (p : Goes tells to_come a b (front e) (Found r)) → 0 < length p.used
-  record_used a b r p = some_used e r p.used (p.state [])
+  pub record_used : (a b : Lined F) (r : Read) (p : Goes state a b (front e) (Found r)) → 0 < length p.used
+  record_used a b r p = some_used e r p.used (p.answer [])
 
-  lacks_record : (a b : Lined F) (k m : ℕ) (l n : Option (Result (Unit {0}) TextFault)) → Waits tells to_come a b (front e) → LacksRecord tells to_come (source_of a k l) (source_of b m n)
-  lacks_record a b k m l n p = λ told read ls is. p.state read ls
+  lacks_record : (a b : Lined F) (k m : ℕ) (l n : Option (Result (Unit {0}) TextFault)) → Waits state a b (front e) → LacksRecord state (source_of a k l) (source_of b m n)
+  lacks_record a b k m l n p = λ told read ls is. p.answer read ls
       (ap (λ xs. front e (lines xs)) (sym (ap whole_part (ap (λ xs. a.in_hand ++ xs) (gave_is a b p.used p.reads told) ∙ p.reads.hand) ∙ whole_part-append p.used b.in_hand p.whole p.no_line)) ∙ is)
 
-  pub stops_used : (a b : Lined F) (why : Stop) → Stops tells to_come a b (front e) why → (used : List ℕ) × Reads tells to_come a b used
-  stops_used a b (stop.Fault f) p = (p.used, p.reads)
-  stops_used a b stop.Read p = (p.used, p.reads)
-  stops_used a b stop.Endless p = (p.0.used, p.0.reads)
-  stops_used a b stop.OutOfMemory p = (p.used, p.reads)
+  pub stops_used : (a b : Lined F) (why : ReadError) → Stops state a b (front e) why → (used : List ℕ) × Reads state a b used
+  stops_used a b (error.Fault f) p = (p.used, p.reads)
+  stops_used a b error.Read p = (p.used, p.reads)
+  stops_used a b error.Endless p = (p.0.used, p.0.reads)
+  stops_used a b error.OutOfMemory p = (p.used, p.reads)
 
   fault_is : (S : Front) (k : ℕ) (f : Fault) → S ≡ Faulty f → FaultIs S k (numbered f k)
   fault_is S k fault.NoTitle is = (is, refl)
@@ -112,15 +113,15 @@ module _ {F : Type 0} (tells : F → Bool) (to_come : F → List ℕ) (e : Encod
   no_device P k fault.QualityShort = (tt, tt)
   no_device P k fault.TooLong = (tt, tt)
 
-  pub stops_text : (a b : Lined F) (k : ℕ) (l : Option (Result (Unit {0}) TextFault)) (why : Stop) → Stops tells to_come a b (front e) why →
-      StopsText tells to_come (source_of a k l) (source_of b k (Some (Err (text_fault why (k + 1))))) (text_fault why (k + 1))
-  stops_text a b k l (stop.Fault f) p = record {
-    fault_is = λ told. fault_is _ (k + 1) f (p.state told);
+  pub stops_text : (a b : Lined F) (k : ℕ) (l : Option (Result (Unit {0}) TextFault)) (why : ReadError) → Stops state a b (front e) why →
+      StopsText state (source_of a k l) (source_of b k (Some (Err (text_fault why (k + 1))))) (text_fault why (k + 1))
+  stops_text a b k l (error.Fault f) p = record {
+    fault_is = λ told. fault_is _ (k + 1) f (p.answer told);
     given = refl;
     last = refl;
     lacks = (no_device _ (k + 1) f).0;
     endless = (no_device _ (k + 1) f).1;
   }
-  stops_text a b k l stop.Read p = record { fault_is = λ told. tt; given = refl; last = refl; lacks = lacks_record a b k k l None p; endless = tt }
-  stops_text a b k l stop.Endless p = record { fault_is = λ told. tt; given = refl; last = refl; lacks = lacks_record a b k k l None p.0; endless = p.1 }
-  stops_text a b k l stop.OutOfMemory p = record { fault_is = λ told. tt; given = refl; last = refl; lacks = tt; endless = tt }
+  stops_text a b k l error.Read p = record { fault_is = λ told. tt; given = refl; last = refl; lacks = lacks_record a b k k l None p; endless = tt }
+  stops_text a b k l error.Endless p = record { fault_is = λ told. tt; given = refl; last = refl; lacks = lacks_record a b k k l None p.0; endless = p.1 }
+  stops_text a b k l error.OutOfMemory p = record { fault_is = λ told. tt; given = refl; last = refl; lacks = tt; endless = tt }

@@ -1,43 +1,40 @@
 -- A record of four lines that stands first in some bytes.
-use Rattle.std.proofs.Common.{◌≡◌, ℕ, zero, suc, ◌+◌, ◌-◌, ◌<◌, ◌≤◌, Bool, true, false, not, eqb, Some, None, inl, ⊎_elim, List, [], ◌∷◌, ◌++◌, length, take, drop, get_or, refl, ap, sym, subst, ◌∙◌, arith, append_assoc}
+use Rattle.std.proofs.Common.{◌≡◌, ℕ, zero, suc, ◌+◌, ◌-◌, ◌*◌, ◌<◌, ◌≤◌, ◌⊎◌, Bool, true, false, not, eqb, Some, None, inl, inr, ⊎_elim, List, [], ◌∷◌, ◌++◌, length, take, drop, get_or, bytes_eq, refl, ap, sym, subst, ◌∙◌, arith, append_assoc}
 use Rattle.std.proofs.Math.Seq.{take-add}
 use Rattle.std.specs.List.{list_all}
-use Rattle.std.proofs.lemmas.Bool.{cases_Bool, cases_lt, and_from, not_from_false, eqb-true}
-use Rattle.std.proofs.lemmas.List.{drop-drop, get_or-drop, get_or-take, take_all, take-take, drop-take, length-take, length-drop}
+use Rattle.std.proofs.lemmas.Bool.{cases_Bool, cases_lt, and_from, not_from_false, eqb-true, cond-false, le-ltb, or_right}
+use Rattle.std.proofs.lemmas.List.{append-nil, drop-drop, get_or-drop, get_or-take, take-take, drop-take, length-take, length-drop}
 use Rattle.std.proofs.lemmas.List.Folds.{list_all_at}
+use Rattle.std.proofs.lemmas.Slice.Eq.{bytes_eq-Decides}
 use Rattle.fq_text.specs.declared.encoding.Encoding.{Encoding}
+use Rattle.fq_text.specs.declared.unwrapped.Shape.{Shape}
+use Rattle.fq_text.specs.Devices.{FeedState}
 use Rattle.fq_text.specs.Lines.{without_cr, is_whole, lines}
-use Rattle.fq_text.specs.Grammar.{Found, front, is_base}
-use Rattle.fq_text.specs.Written.{line, written}
-use Rattle.fq_text.specs.Reading.{Lined, NoLf, IsLineEnd}
-use Rattle.fq_text.specs.Steps.{Goes}
-use Rattle.fq_text.specs.Unwrapped.{unwrapped, IsFourLines, StandsFirst}
-use Rattle.fq_text.proofs.LineLemmas.{whole_to}
-use Rattle.fq_text.proofs.StepLemmas.{behind_line, behind_reads, reads_none}
-use Rattle.fq_text.proofs.WrittenLemmas.{found_first}
+use Rattle.fq_text.specs.Grammar.{limit, Read, IsLawful, Found, front, is_base, plus_fault}
+use Rattle.fq_text.specs.Reading.{Lined, NoLf}
+use Rattle.fq_text.specs.Phases.{Goes}
+use Rattle.fq_text.specs.Unwrapped.{unwrapped, EndsAt, IsFirstLine, IsFourLines, IsShape, StandsFirst}
+use Rattle.fq_text.proofs.LineLemmas.{whole_to, without_cr_yes, without_cr_no}
+use Rattle.fq_text.proofs.AdvanceLemmas.{behind_line, behind_reads, reads_none}
+use Rattle.fq_text.proofs.WrittenLemmas.{Ends, ends_in_lf, ends_in_cr_lf, four, AreItsLines, clean_bases, plain_bases, plain_behind, quals_are_bases, found_first}
 
 -- the parts by their places in the bytes in hand
-pub parts_of_hand : (e : Encoding) (hand : List ℕ) (t n : ℕ) →
-    record { encoding = e; title = take (t + 1 - 1) (drop 1 hand); seq = take (t + 2 + n - (t + 2)) (drop (t + 2) hand); qual = take (t + n + 5 + n - (t + n + 5)) (drop (t + n + 5) hand) }
-    ≡ unwrapped e t n (drop 1 hand)
-parts_of_hand e hand t n =
-    let a : t + 1 - 1 ≡ t = omega arith in
-    let b : t + 2 + n - (t + 2) ≡ n = omega arith in
-    let c : t + n + 5 + n - (t + n + 5) ≡ n = omega arith in
-    let s : 1 + (t + 1) ≡ t + 2 = omega arith in
-    let q : 1 + (t + n + 4) ≡ t + n + 5 = omega arith in
-    let seq = drop-drop (t + 1) 1 hand ∙ ap (λ m. drop m hand) s in
-    let qual = drop-drop (t + n + 4) 1 hand ∙ ap (λ m. drop m hand) q in
+pub parts_of_hand : (encoding : Encoding) (hand : List ℕ) (s : Shape) → let t = s.title in let n = s.bases in let a = s.again in let e = s.end in
+    record { encoding = encoding; title = take (t + 1 - 1) (drop 1 hand); seq = take (t + e + 1 + n - (t + e + 1)) (drop (t + e + 1) hand); qual = take (t + n + a + 3 * e + 2 + n - (t + n + a + 3 * e + 2)) (drop (t + n + a + 3 * e + 2) hand) }
+    ≡ unwrapped encoding s (drop 1 hand)
+parts_of_hand encoding hand s =
+    let t = s.title in
+    let n = s.bases in
+    let a = s.again in
+    let e = s.end in
+    let title : t + 1 - 1 ≡ t = omega arith in
+    let bases : t + e + 1 + n - (t + e + 1) ≡ n = omega arith in
+    let scores : t + n + a + 3 * e + 2 + n - (t + n + a + 3 * e + 2) ≡ n = omega arith in
+    let j : 1 + (t + e) ≡ t + e + 1 = omega arith in
+    let k : 1 + (t + n + a + 3 * e + 1) ≡ t + n + a + 3 * e + 2 = omega arith in
+    let seq = drop-drop (t + e) 1 hand ∙ ap (λ m. drop m hand) j in
+    let qual = drop-drop (t + n + a + 3 * e + 1) 1 hand ∙ ap (λ m. drop m hand) k in
     cc
-
--- a title that keeps all its bytes without a CR
-pub plain_title_of_hand : (hand : List ℕ) (t r : ℕ) → r ≡ length (take (t + 1 - 1) (drop 1 hand)) → without_cr (take (t + 1 - 1) (drop 1 hand)) ≡ take r (take (t + 1 - 1) (drop 1 hand)) →
-    without_cr (take t (drop 1 hand)) ≡ take t (drop 1 hand)
-plain_title_of_hand hand t r all is =
-    let a : t + 1 - 1 ≡ t = omega arith in
-    let title = take (t + 1 - 1) (drop 1 hand) in
-    let same : title ≡ take t (drop 1 hand) = ap (λ m. take m (drop 1 hand)) a in
-    ap without_cr (sym same) ∙ is ∙ ap (λ m. take m title) all ∙ take_all (length title) title (omega arith) ∙ same
 
 one_at : (xs : List ℕ) (i b : ℕ) → i < length xs → get_or xs i 0 ≡ b → take 1 (drop i xs) ≡ b ∷ []
 one_at [] i b lt is = absurd (omega arith)
@@ -50,82 +47,162 @@ parted xs i j a b c sum place =
     ap (λ m. take m (drop i xs)) (sym sum) ∙ take-add a b (drop i xs)
     ∙ ap (λ ys. take a (drop i xs) ++ take b ys) (drop-drop a i xs ∙ ap (λ m. drop m xs) place)
 
--- a part, and the byte behind it
-part_then : (xs : List ℕ) (i n j b : ℕ) → i + n ≡ j → j < length xs → get_or xs j 0 ≡ b → take (n + 1) (drop i xs) ≡ take n (drop i xs) ++ b ∷ []
-part_then xs i n j b place lt is = parted xs i j n 1 (n + 1) refl place ∙ ap (λ ys. take n (drop i xs) ++ ys) (one_at xs j b lt is)
+-- a line end of one byte, or of two
+abbrev IsEnd : ℕ → Type 0
+IsEnd e = (e ≡ 1) ⊎ (e ≡ 2)
 
-regrouped : (title seq qual : List ℕ) → (64 ∷ []) ++ ((title ++ 10 ∷ []) ++ ((seq ++ 10 ∷ []) ++ ((43 ∷ 10 ∷ []) ++ (qual ++ 10 ∷ [])))) ≡ written title seq qual
-regrouped title seq qual =
-    sym (append_assoc (line (64 ∷ title) ++ line seq) (line (43 ∷ [])) (line qual) ∙ append_assoc (line (64 ∷ title)) (line seq) (line (43 ∷ []) ++ line qual))
+abbrev bytes_of : {e : ℕ} → IsEnd e → List ℕ
+bytes_of (inl one) = 10 ∷ []
+bytes_of (inr two) = 13 ∷ 10 ∷ []
 
--- the first bytes in hand are the record as it would be written
-pub written_first : (e : Encoding) (hand : List ℕ) (t n : ℕ) → IsFourLines hand t n →
-    take (t + n + n + 6) hand ≡ written (unwrapped e t n (drop 1 hand)).title (unwrapped e t n (drop 1 hand)).seq (unwrapped e t n (drop 1 hand)).qual
-written_first e hand t n p =
-    let fits = p.fits in
-    let title = take t (drop 1 hand) in
-    let seq = take n (drop (t + 2) hand) in
-    let qual = take n (drop (t + n + 5) hand) in
-    let first : take (t + n + n + 6) hand ≡ take 1 hand ++ take (t + n + n + 5) (drop 1 hand) = parted hand 0 1 1 (t + n + n + 5) (t + n + n + 6) (omega arith) refl in
-    let second : take (t + n + n + 5) (drop 1 hand) ≡ take (t + 1) (drop 1 hand) ++ take (n + n + 4) (drop (t + 2) hand) = parted hand 1 (t + 2) (t + 1) (n + n + 4) (t + n + n + 5) (omega arith) (omega arith) in
-    let third : take (n + n + 4) (drop (t + 2) hand) ≡ take (n + 1) (drop (t + 2) hand) ++ take (n + 3) (drop (t + n + 3) hand) = parted hand (t + 2) (t + n + 3) (n + 1) (n + 3) (n + n + 4) (omega arith) (omega arith) in
-    let fourth : take (n + 3) (drop (t + n + 3) hand) ≡ take 2 (drop (t + n + 3) hand) ++ take (n + 1) (drop (t + n + 5) hand) = parted hand (t + n + 3) (t + n + 5) 2 (n + 1) (n + 3) (omega arith) (omega arith) in
-    let marked : take 1 hand ≡ 64 ∷ [] = one_at hand 0 64 (omega arith) p.mark in
-    let titled : take (t + 1) (drop 1 hand) ≡ title ++ 10 ∷ [] = part_then hand 1 t (t + 1) 10 (omega arith) (omega arith) p.title_end in
-    let bases : take (n + 1) (drop (t + 2) hand) ≡ seq ++ 10 ∷ [] = part_then hand (t + 2) n (t + n + 2) 10 (omega arith) (omega arith) p.seq_end in
-    let plus : take 2 (drop (t + n + 3) hand) ≡ 43 ∷ 10 ∷ [] =
-    parted hand (t + n + 3) (t + n + 4) 1 1 2 refl (omega arith)
-    ∙ ap (λ ys. ys ++ take 1 (drop (t + n + 4) hand)) (one_at hand (t + n + 3) 43 (omega arith) p.plus)
-    ∙ ap (λ ys. 43 ∷ ys) (one_at hand (t + n + 4) 10 (omega arith) p.plus_end) in
-    let scores : take (n + 1) (drop (t + n + 5) hand) ≡ qual ++ 10 ∷ [] = part_then hand (t + n + 5) n (t + n + n + 5) 10 (omega arith) (omega arith) p.qual_end in
-    let last = fourth ∙ ap (λ ys. ys ++ take (n + 1) (drop (t + n + 5) hand)) plus ∙ ap (λ ys. (43 ∷ 10 ∷ []) ++ ys) scores in
-    let later = third ∙ ap (λ ys. ys ++ take (n + 3) (drop (t + n + 3) hand)) bases ∙ ap (λ ys. (seq ++ 10 ∷ []) ++ ys) last in
-    let behind = second ∙ ap (λ ys. ys ++ take (n + n + 4) (drop (t + 2) hand)) titled ∙ ap (λ ys. (title ++ 10 ∷ []) ++ ys) later in
-    let whole = first ∙ ap (λ ys. ys ++ take (t + n + n + 5) (drop 1 hand)) marked ∙ ap (λ ys. (64 ∷ []) ++ ys) behind in
-    let place_seq : drop (t + 1) (drop 1 hand) ≡ drop (t + 2) hand = drop-drop (t + 1) 1 hand ∙ ap (λ m. drop m hand) (omega arith) in
-    let place_qual : drop (t + n + 4) (drop 1 hand) ≡ drop (t + n + 5) hand = drop-drop (t + n + 4) 1 hand ∙ ap (λ m. drop m hand) (omega arith) in
-    whole ∙ regrouped title seq qual
-    ∙ ap (λ ys. written title (take n ys) qual) (sym place_seq)
-    ∙ ap (λ ys. written title (take n (drop (t + 1) (drop 1 hand))) (take n ys)) (sym place_qual)
+end_at : (hand : List ℕ) (i e : ℕ) (is : IsEnd e) → i + e ≤ length hand → EndsAt hand i e → take e (drop i hand) ≡ bytes_of is
+end_at hand i e (inl one) within p =
+    ap (λ m. take m (drop i hand)) one ∙ one_at hand i 10 (omega arith) (ap (λ m. get_or hand m 0) (omega arith) ∙ p.lf)
+end_at hand i e (inr two) within p =
+    let cr : get_or hand i 0 ≡ 13 = ⊎_elim (λ one. absurd (omega arith)) (λ at. at) p.cr in
+    parted hand i (i + 1) 1 1 e (omega arith) refl
+    ∙ ap (λ ys. ys ++ take 1 (drop (i + 1) hand)) (one_at hand i 13 (omega arith) cr)
+    ∙ ap (λ ys. 13 ∷ ys) (one_at hand (i + 1) 10 (omega arith) (ap (λ m. get_or hand m 0) (omega arith) ∙ p.lf))
 
--- what is used up of a record that stands first ends its last line
-pub whole_first : (hand : List ℕ) (t n : ℕ) → IsFourLines hand t n → is_whole (take (t + n + n + 6) hand) ≡ true
-whole_first hand t n p =
-    let fits = p.fits in
-    let len : t + n + n + 6 ≡ suc (t + n + n + 5) = omega arith in
-    ap (λ m. is_whole (take m hand)) len ∙ whole_to hand (t + n + n + 5) (omega arith) p.qual_end
+-- a line of k bytes at place i, with its end
+line_at : (hand : List ℕ) (i k j e c : ℕ) (is : IsEnd e) → i + k ≡ j → k + e ≡ c → j + e ≤ length hand → EndsAt hand j e →
+    take c (drop i hand) ≡ take k (drop i hand) ++ bytes_of is
+line_at hand i k j e c is place sum within p =
+    parted hand i j k e c sum place ∙ ap (λ ys. take k (drop i hand) ++ ys) (end_at hand j e is within p)
+
+-- the same behind a mark
+marked_at : (hand : List ℕ) (i b k j e c : ℕ) (is : IsEnd e) → get_or hand i 0 ≡ b → i + 1 + k ≡ j → k + e + 1 ≡ c → j + e ≤ length hand → EndsAt hand j e →
+    take c (drop i hand) ≡ (b ∷ take k (drop (i + 1) hand)) ++ bytes_of is
+marked_at hand i b k j e c is mark place sum within p =
+    parted hand i (i + 1) 1 (k + e) c (omega arith) refl
+    ∙ ap (λ ys. ys ++ take (k + e) (drop (i + 1) hand)) (one_at hand i b (omega arith) mark)
+    ∙ ap (λ ys. b ∷ ys) (line_at hand (i + 1) k j e (k + e) is place refl within p)
+
+-- how many bytes four lines of a shape are
+abbrev pub four_len : Shape → ℕ
+four_len s = s.title + s.bases + s.bases + s.again + 4 * s.end + 2
+
+module _ (encoding : Encoding) (hand : List ℕ) (s : Shape) (p : IsFourLines hand s) (is : IsEnd s.end) where
+  -- the first bytes in hand are the record in four lines
+  lines_first : take (four_len s) hand ≡ four (bytes_of is) (take s.again (drop 1 hand)) (unwrapped encoding s (drop 1 hand)) []
+  lines_first =
+      let t = s.title in
+      let n = s.bases in
+      let a = s.again in
+      let e = s.end in
+      let fits = p.fits in
+      let end = bytes_of is in
+      let title = take t (drop 1 hand) in
+      let seq = take n (drop (t + e + 1) hand) in
+      let qual = take n (drop (t + n + a + 3 * e + 2) hand) in
+      let first : take (t + e + 1) (drop 0 hand) ≡ (64 ∷ title) ++ end = marked_at hand 0 64 t (t + 1) e (t + e + 1) is p.mark (omega arith) (omega arith) (omega arith) p.ends.title in
+      let second : take (n + e) (drop (t + e + 1) hand) ≡ seq ++ end = line_at hand (t + e + 1) n (t + n + e + 1) e (n + e) is (omega arith) refl (omega arith) p.ends.seq in
+      let third : take (a + e + 1) (drop (t + n + 2 * e + 1) hand) ≡ (43 ∷ take a (drop (t + n + 2 * e + 1 + 1) hand)) ++ end =
+      marked_at hand (t + n + 2 * e + 1) 43 a (t + n + a + 2 * e + 2) e (a + e + 1) is p.plus (omega arith) (omega arith) (omega arith) p.ends.plus in
+      let fourth : take (n + e) (drop (t + n + a + 3 * e + 2) hand) ≡ qual ++ end = line_at hand (t + n + a + 3 * e + 2) n (t + n + n + a + 3 * e + 2) e (n + e) is (omega arith) refl (omega arith) p.ends.qual in
+      let behind : t + n + 2 * e + 1 + 1 ≡ t + n + 2 * e + 2 = omega arith in
+      let again : take a (drop (t + n + 2 * e + 1 + 1) hand) ≡ take a (drop 1 hand) = ap (λ m. take a (drop m hand)) behind ∙ p.repeats in
+      let from_third : take (a + n + 2 * e + 1) (drop (t + n + 2 * e + 1) hand) ≡ ((43 ∷ take a (drop 1 hand)) ++ end) ++ (qual ++ end) =
+      parted hand (t + n + 2 * e + 1) (t + n + a + 3 * e + 2) (a + e + 1) (n + e) (a + n + 2 * e + 1) (omega arith) (omega arith)
+      ∙ ap (λ ys. ys ++ take (n + e) (drop (t + n + a + 3 * e + 2) hand)) (third ∙ ap (λ ys. (43 ∷ ys) ++ end) again)
+      ∙ ap (λ ys. ((43 ∷ take a (drop 1 hand)) ++ end) ++ ys) fourth in
+      let from_second : take (n + a + n + 3 * e + 1) (drop (t + e + 1) hand) ≡ (seq ++ end) ++ (((43 ∷ take a (drop 1 hand)) ++ end) ++ (qual ++ end)) =
+      parted hand (t + e + 1) (t + n + 2 * e + 1) (n + e) (a + n + 2 * e + 1) (n + a + n + 3 * e + 1) (omega arith) (omega arith)
+      ∙ ap (λ ys. ys ++ take (a + n + 2 * e + 1) (drop (t + n + 2 * e + 1) hand)) second
+      ∙ ap (λ ys. (seq ++ end) ++ ys) from_third in
+      let place_seq : drop (t + e) (drop 1 hand) ≡ drop (t + e + 1) hand = drop-drop (t + e) 1 hand ∙ ap (λ m. drop m hand) (omega arith) in
+      let place_qual : drop (t + n + a + 3 * e + 1) (drop 1 hand) ≡ drop (t + n + a + 3 * e + 2) hand = drop-drop (t + n + a + 3 * e + 1) 1 hand ∙ ap (λ m. drop m hand) (omega arith) in
+      parted hand 0 (t + e + 1) (t + e + 1) (n + a + n + 3 * e + 1) (four_len s) (omega arith) (omega arith)
+      ∙ ap (λ ys. ys ++ take (n + a + n + 3 * e + 1) (drop (t + e + 1) hand)) first
+      ∙ ap (λ ys. ((64 ∷ title) ++ end) ++ ys) from_second
+      ∙ ap (λ ys. ((64 ∷ title) ++ end) ++ ((seq ++ end) ++ (((43 ∷ take a (drop 1 hand)) ++ end) ++ ys))) (sym (append-nil (qual ++ end)))
+      ∙ ap (λ ys. ((64 ∷ title) ++ end) ++ ((take n ys ++ end) ++ (((43 ∷ take a (drop 1 hand)) ++ end) ++ ((qual ++ end) ++ [])))) (sym place_seq)
+      ∙ ap (λ ys. ((64 ∷ title) ++ end) ++ ((take n (drop (t + e) (drop 1 hand)) ++ end) ++ (((43 ∷ take a (drop 1 hand)) ++ end) ++ ((take n ys ++ end) ++ [])))) (sym place_qual)
+
+  -- what is used up of such lines ends the last of them
+  whole_first : is_whole (take (four_len s) hand) ≡ true
+  whole_first =
+      let fits = p.fits in
+      let some : 0 < s.end = ⊎_elim (λ one. omega arith) (λ two. omega arith) is in
+      let last = s.title + s.bases + s.bases + s.again + 3 * s.end + 2 + s.end - 1 in
+      let len : four_len s ≡ suc last = omega arith in
+      ap (λ m. is_whole (take m hand)) len ∙ whole_to hand last (omega arith) p.ends.qual.lf
+
+-- what follows the second mark is nothing, or the title
+plus_is_sound : (title again : List ℕ) → length title < limit → (again ≡ []) ⊎ (again ≡ title) → plus_fault title (43 ∷ again) ≡ None
+plus_is_sound title again fits (inl none) = ap (λ xs. plus_fault title (43 ∷ xs)) none
+plus_is_sound title again fits (inr same) =
+    let short = cond-false _ _ _ (le-ltb limit (length (43 ∷ title)) (omega arith)) in
+    let equal = (bytes_eq-Decides (43 ∷ title) (43 ∷ title)).1 refl in
+    ap (λ xs. plus_fault title (43 ∷ xs)) same ∙ short ∙ cond-false _ _ _ (ap not (or_right (bytes_eq (43 ∷ title) (43 ∷ [])) _ equal))
+
+ends_plus : (end title again : List ℕ) → (again ≡ []) ⊎ (again ≡ title) → Ends end (43 ∷ []) → Ends end (43 ∷ title) → Ends end (43 ∷ again)
+ends_plus end title again (inl none) bare titled = subst (λ (xs : List ℕ). Ends end (43 ∷ xs)) (sym none) bare
+ends_plus end title again (inr same) bare titled = subst (λ (xs : List ℕ). Ends end (43 ∷ xs)) (sym same) titled
+
+-- lines of a lawful record are its own
+lawful_lines : {e : ℕ} (is : IsEnd e) (r : Read) (again : List ℕ) → IsLawful r → (e ≡ 1 → without_cr r.title ≡ r.title) → (again ≡ []) ⊎ (again ≡ r.title) →
+    AreItsLines (bytes_of is) again r
+lawful_lines (inl one) r again lawful plain shape =
+    let quals = quals_are_bases r lawful in
+    record {
+      lawful = lawful;
+      title = ends_in_lf (64 ∷ r.title) lawful.one_line (plain_behind 64 r.title refl (plain one));
+      seq = ends_in_lf r.seq (clean_bases r.seq lawful.bases) (plain_bases r.seq lawful.bases);
+      plus = ends_plus (10 ∷ []) r.title again shape (ends_in_lf (43 ∷ []) refl refl) (ends_in_lf (43 ∷ r.title) lawful.one_line (plain_behind 43 r.title refl (plain one)));
+      qual = ends_in_lf r.qual (clean_bases r.qual quals) (plain_bases r.qual quals);
+      same = plus_is_sound r.title again lawful.title_fits shape;
+    }
+lawful_lines (inr two) r again lawful plain shape =
+    let quals = quals_are_bases r lawful in
+    record {
+      lawful = lawful;
+      title = ends_in_cr_lf (64 ∷ r.title) lawful.one_line;
+      seq = ends_in_cr_lf r.seq (clean_bases r.seq lawful.bases);
+      plus = ends_plus (13 ∷ 10 ∷ []) r.title again shape (ends_in_cr_lf (43 ∷ []) refl) (ends_in_cr_lf (43 ∷ r.title) lawful.one_line);
+      qual = ends_in_cr_lf r.qual (clean_bases r.qual quals);
+      same = plus_is_sound r.title again lawful.title_fits shape;
+    }
+
+its_lines : (encoding : Encoding) (hand : List ℕ) (s : Shape) (p : StandsFirst encoding hand s) → AreItsLines (bytes_of p.shape.end) (take s.again (drop 1 hand)) (unwrapped encoding s (drop 1 hand))
+its_lines encoding hand s p =
+    let again : (take s.again (drop 1 hand) ≡ []) ⊎ (take s.again (drop 1 hand) ≡ take s.title (drop 1 hand)) =
+    ⊎_elim (λ none. inl (ap (λ (m : ℕ). take m (drop 1 hand)) none)) (λ same. inr (ap (λ (m : ℕ). take m (drop 1 hand)) same)) p.shape.again in
+    lawful_lines p.shape.end (unwrapped encoding s (drop 1 hand)) (take s.again (drop 1 hand)) p.lawful p.plain again
 
 -- such a record is what stands first, whatever lines follow
-pub found_in_hand : (e : Encoding) (hand : List ℕ) (t n : ℕ) (ls : List (List ℕ)) → StandsFirst e hand t n →
-    front e (lines (take (t + n + n + 6) hand) ++ ls) ≡ Found (unwrapped e t n (drop 1 hand)) ls
-found_in_hand e hand t n ls p =
-    let r = unwrapped e t n (drop 1 hand) in
+pub found_in_hand : (encoding : Encoding) (hand : List ℕ) (s : Shape) (ls : List (List ℕ)) → StandsFirst encoding hand s →
+    front encoding (lines (take (four_len s) hand) ++ ls) ≡ Found (unwrapped encoding s (drop 1 hand)) ls
+found_in_hand encoding hand s ls p =
+    let r = unwrapped encoding s (drop 1 hand) in
     let fits = p.lines.fits in
-    ap (λ xs. front e (lines xs ++ ls)) (written_first e hand t n p.lines)
-    ∙ found_first r ls p.lawful p.plain (omega (arith, length-take n (drop (t + 1) (drop 1 hand)), length-drop (t + 1) (drop 1 hand), length-drop 1 hand, p.some))
+    ap (λ xs. front encoding (lines xs ++ ls)) (lines_first encoding hand s p.lines p.shape.end)
+    ∙ found_first (bytes_of p.shape.end) (take s.again (drop 1 hand)) r ls (its_lines encoding hand s p)
+    (omega (arith, length-take s.bases (drop (s.title + s.end) (drop 1 hand)), length-drop (s.title + s.end) (drop 1 hand), length-drop 1 hand, p.some))
 
 -- a part of the bytes in hand that is long enough holds the same record
-pub unwrapped_front : (e : Encoding) (bytes : List ℕ) (t n k : ℕ) → t + n + n + 4 ≤ k → unwrapped e t n (take k bytes) ≡ unwrapped e t n bytes
-unwrapped_front e bytes t n k le =
+pub unwrapped_front : (encoding : Encoding) (bytes : List ℕ) (s : Shape) (k : ℕ) → s.title + s.bases + s.bases + s.again + 3 * s.end + 1 ≤ k →
+    unwrapped encoding s (take k bytes) ≡ unwrapped encoding s bytes
+unwrapped_front encoding bytes s k le =
     let part : (a m : ℕ) → a + m ≤ k → take m (drop a (take k bytes)) ≡ take m (drop a bytes) =
     λ a m within. let sum : a + (k - a) ≡ k = omega arith in
     ap (λ j. take m (drop a (take j bytes))) (sym sum) ∙ ap (take m) (drop-take a (k - a) bytes) ∙ take-take m (k - a) (drop a bytes) (omega arith) in
-    let title = take-take t k bytes (omega arith) in
-    let seq = part (t + 1) n (omega arith) in
-    let qual = part (t + n + 4) n (omega arith) in
+    let title = take-take s.title k bytes (omega arith) in
+    let seq = part (s.title + s.end) s.bases (omega arith) in
+    let qual = part (s.title + s.bases + s.again + 3 * s.end + 1) s.bases (omega arith) in
     cc
 
-module _ {F : Type 0} (tells : F → Bool) (to_come : F → List ℕ) where
+module _ {F : Type 0} (state : F → FeedState) where
   -- a reader that takes a record out of the bytes in hand has gone on behind it
-  pub goes_first : (a b : Lined F) (e : Encoding) (t n : ℕ) → b ≡ behind_line tells to_come a 0 (t + n + n + 6) → StandsFirst e a.in_hand t n →
-      Goes tells to_come a b (front e) (Found (unwrapped e t n (drop 1 a.in_hand)))
-  goes_first a b e t n is p =
-      let len = t + n + n + 6 in
-      subst (λ (r : Lined F). Goes tells to_come a r (front e) (Found (unwrapped e t n (drop 1 a.in_hand)))) (sym is) (record {
+  pub goes_first : (a b : Lined F) (encoding : Encoding) (s : Shape) → b ≡ behind_line state a 0 (four_len s) → StandsFirst encoding a.in_hand s →
+      Goes state a b (front encoding) (Found (unwrapped encoding s (drop 1 a.in_hand)))
+  goes_first a b encoding s is p =
+      let len = four_len s in
+      subst (λ (r : Lined F). Goes state a r (front encoding) (Found (unwrapped encoding s (drop 1 a.in_hand)))) (sym is) (record {
         used = take len a.in_hand;
-        reads = behind_reads tells to_come a a 0 len (reads_none tells to_come a);
-        closed = inl (whole_first a.in_hand t n p.lines);
-        state = λ ls. found_in_hand e a.in_hand t n ls p;
+        reads = behind_reads state a a 0 len (reads_none state a);
+        closed = inl (whole_first encoding a.in_hand s p.lines p.shape.end);
+        answer = λ ls. found_in_hand encoding a.in_hand s ls p;
         small = λ lt. omega (arith, length-drop len a.in_hand);
       })
 
@@ -154,26 +231,119 @@ one_end xs a b none_a at_a none_b at_b = ⊎_elim
     (λ (le : b ≤ a). ⊎_elim (λ (lt : b < a). absurd (none_a b lt at_b)) (λ (ge : a ≤ b). omega arith) (cases_lt b a))
     (cases_lt a b)
 
-module _ (e : Encoding) (hand : List ℕ) (t n : ℕ) (p : StandsFirst e hand t n) where
-  -- the title of a record that stands first ends at the first LF
-  pub title_to : (at : ℕ) → IsLineEnd (drop 1 hand) (Some at) → at ≡ t
-  title_to at is =
+-- the end of a line stands behind a place
+shifted : (i : ℕ) (hand : List ℕ) (k e : ℕ) → 1 ≤ e → EndsAt hand (i + k) e → EndsAt (drop i hand) k e
+shifted i hand k e some p =
+    let place : i + (k + e - 1) ≡ i + k + e - 1 = omega arith in
+    record {
+      lf = get_or-drop i hand (k + e - 1) 0 ∙ ap (λ m. get_or hand m 0) place ∙ p.lf;
+      cr = ⊎_elim (λ one. inl one) (λ at. inr (get_or-drop i hand k 0 ∙ at)) p.cr;
+    }
+
+-- no LF stands before that of the end
+no_lf_to_end : (xs : List ℕ) (k e : ℕ) → IsFirstLine xs k e → NoLf xs (k + e - 1)
+no_lf_to_end xs k e p j lt at = ⊎_elim
+    (λ (one : e ≡ 1). p.no_lf j (omega arith) at)
+    (λ (two : e ≡ 2). ⊎_elim
+    (λ (below : j < k). p.no_lf j below at)
+    (λ (above : k ≤ j).
+    let here : j ≡ k = omega arith in
+    let cr : get_or xs k 0 ≡ 13 = ⊎_elim (λ one. absurd (omega arith)) (λ is. is) p.ends.cr in
+    let lf : get_or xs k 0 ≡ 10 = ap (λ m. get_or xs m 0) (sym here) ∙ at in
+    absurd (omega arith))
+    (cases_lt j k))
+    p.end_is
+
+some_end : {xs : List ℕ} {k e : ℕ} → IsFirstLine xs k e → 1 ≤ e
+some_end p = ⊎_elim (λ one. omega arith) (λ two. omega arith) p.end_is
+
+-- where an end is LF alone, no CR stands before it
+no_cr_before : (xs : List ℕ) (k e : ℕ) → IsFirstLine xs k e → e ≡ 1 → 1 ≤ k → get_or xs (k - 1) 0 ≡ 13 → ⊥
+no_cr_before xs k e p one some cr =
+    let fits = p.fits in
+    let line = take k xs in
+    let size : length line ≡ k = omega (arith, length-take k xs) in
+    let last : get_or line (k - 1) 0 ≡ 13 = get_or-take k xs (k - 1) 0 (omega arith) ∙ cr in
+    let shorter = ap length (sym (p.plain one) ∙ without_cr_yes line (k - 1) (omega arith) last) in
+    omega (arith, length-take (k - 1) line)
+
+-- a line with no CR at its last place keeps all its bytes
+pub plain_to : (xs : List ℕ) (k : ℕ) → k ≤ length xs → (1 ≤ k → get_or xs (k - 1) 0 ≡ 13 → ⊥) → without_cr (take k xs) ≡ take k xs
+plain_to xs zero le none = refl
+plain_to xs (suc n) le none =
+    let last : suc n - 1 ≡ n = omega arith in
+    let size : length (take (suc n) xs) ≡ suc n = omega (arith, length-take (suc n) xs) in
+    without_cr_no (take (suc n) xs) n size (λ is. none (omega arith) (ap (λ m. get_or xs m 0) last ∙ sym (get_or-take (suc n) xs n 0 (omega arith)) ∙ is))
+
+-- there is one first line, and one end of it
+one_end_of : (xs : List ℕ) (k e k' e' : ℕ) → IsFirstLine xs k e → IsFirstLine xs k' e' → k + e ≡ k' + e' → e ≡ 1 → e' ≡ 2 → ⊥
+one_end_of xs k e k' e' p q same one two =
+    let cr : get_or xs k' 0 ≡ 13 = ⊎_elim (λ one. absurd (omega arith)) (λ is. is) q.ends.cr in
+    let before : k' ≡ k - 1 = omega arith in
+    no_cr_before xs k e p one (omega arith) (ap (λ m. get_or xs m 0) (sym before) ∙ cr)
+
+pub same_line : (xs : List ℕ) (k e k' e' : ℕ) → IsFirstLine xs k e → IsFirstLine xs k' e' → (k ≡ k') × (e ≡ e')
+same_line xs k e k' e' p q =
+    let some = some_end p in
+    let some' = some_end q in
+    let place : k + e - 1 ≡ k' + e' - 1 = one_end xs (k + e - 1) (k' + e' - 1) (no_lf_to_end xs k e p) p.ends.lf (no_lf_to_end xs k' e' q) q.ends.lf in
+    let same : k + e ≡ k' + e' = omega arith in
+    let ends : e ≡ e' = ⊎_elim
+    (λ (one : e ≡ 1). ⊎_elim (λ (one' : e' ≡ 1). omega arith) (λ (two' : e' ≡ 2). absurd (one_end_of xs k e k' e' p q same one two')) q.end_is)
+    (λ (two : e ≡ 2). ⊎_elim (λ (one' : e' ≡ 1). absurd (one_end_of xs k' e' k e q p (sym same) one' two)) (λ (two' : e' ≡ 2). omega arith) q.end_is)
+    p.end_is in
+    (omega arith, ends)
+
+-- a first line has its LF
+pub first_line_ends : (xs : List ℕ) (k e : ℕ) → IsFirstLine xs k e → NoLf xs (length xs) → ⊥
+first_line_ends xs k e p none =
+    let some = some_end p in
+    let fits = p.fits in
+    none (k + e - 1) (omega arith) p.ends.lf
+
+module _ (encoding : Encoding) (hand : List ℕ) (s : Shape) (p : StandsFirst encoding hand s) where
+  end_of_shape : 1 ≤ s.end
+  end_of_shape = ⊎_elim (λ one. omega arith) (λ two. omega arith) p.shape.end
+
+  -- the title of a record that stands first is the first line
+  pub title_line : IsFirstLine (drop 1 hand) s.title s.end
+  title_line =
       let fits = p.lines.fits in
-      let none = no_lf_by (λ b. not (eqb b 10)) t (drop 1 hand) refl (omega (arith, length-drop 1 hand)) p.lawful.one_line in
-      one_end (drop 1 hand) at t is.2 is.1 none (get_or-drop 1 hand t 0 ∙ ap (λ i. get_or hand i 0) (omega arith) ∙ p.lines.title_end)
+      let some = end_of_shape in
+      let place : s.title + 1 ≡ 1 + s.title = omega arith in
+      record {
+        end_is = p.shape.end;
+        fits = omega (arith, length-drop 1 hand);
+        no_lf = no_lf_by (λ b. not (eqb b 10)) s.title (drop 1 hand) refl (omega (arith, length-drop 1 hand)) p.lawful.one_line;
+        ends = shifted 1 hand s.title s.end some (subst (λ (m : ℕ). EndsAt hand m s.end) place p.lines.ends.title);
+        plain = p.plain;
+      }
 
-  bases_end : get_or (drop (t + 2) hand) n 0 ≡ 10
-  bases_end = get_or-drop (t + 2) hand n 0 ∙ ap (λ i. get_or hand i 0) (omega arith) ∙ p.lines.seq_end
-
-  -- its bases end at the first LF behind the title
-  pub bases_to : (at : ℕ) → IsLineEnd (drop (t + 2) hand) (Some at) → at ≡ n
-  bases_to at is =
+  -- and its bases are the first line behind it
+  bases_line : IsFirstLine (drop (s.title + s.end + 1) hand) s.bases s.end
+  bases_line =
       let fits = p.lines.fits in
-      let place : drop (t + 1) (drop 1 hand) ≡ drop (t + 2) hand = drop-drop (t + 1) 1 hand ∙ ap (λ m. drop m hand) (omega arith) in
-      let bases = subst (λ xs. list_all is_base (take n xs) ≡ true) place p.lawful.bases in
-      let none = no_lf_by is_base n (drop (t + 2) hand) refl (omega (arith, length-drop (t + 2) hand)) bases in
-      one_end (drop (t + 2) hand) at n is.2 is.1 none bases_end
+      let some = end_of_shape in
+      let place : s.title + s.bases + s.end + 1 ≡ s.title + s.end + 1 + s.bases = omega arith in
+      let behind : 1 + (s.title + s.end) ≡ s.title + s.end + 1 = omega arith in
+      let seq : drop (s.title + s.end) (drop 1 hand) ≡ drop (s.title + s.end + 1) hand = drop-drop (s.title + s.end) 1 hand ∙ ap (λ m. drop m hand) behind in
+      let bases = subst (λ xs. list_all is_base (take s.bases xs) ≡ true) seq p.lawful.bases in
+      record {
+        end_is = p.shape.end;
+        fits = omega (arith, length-drop (s.title + s.end + 1) hand);
+        no_lf = no_lf_by is_base s.bases (drop (s.title + s.end + 1) hand) refl (omega (arith, length-drop (s.title + s.end + 1) hand)) bases;
+        ends = shifted (s.title + s.end + 1) hand s.bases s.end some (subst (λ (m : ℕ). EndsAt hand m s.end) place p.lines.ends.seq);
+        plain = λ one. plain_bases (take s.bases (drop (s.title + s.end + 1) hand)) bases;
+      }
 
-  -- and there is one
-  pub bases_do_end : IsLineEnd (drop (t + 2) hand) None → ⊥
-  bases_do_end none = let fits = p.lines.fits in none n (omega (arith, length-drop (t + 2) hand)) bases_end
+  -- both, where the first line was found
+  pub as_found : (t k : ℕ) → IsFirstLine (drop 1 hand) t k → (t ≡ s.title) × (k ≡ s.end) × IsFirstLine (drop (t + k + 1) hand) s.bases s.end
+  as_found t k title =
+      let same = same_line (drop 1 hand) t k s.title s.end title title_line in
+      let place : s.title + s.end + 1 ≡ t + k + 1 = cc in
+      (same.0, same.1, subst (λ (m : ℕ). IsFirstLine (drop m hand) s.bases s.end) place bases_line)
+
+-- a shape by its parts
+pub shape_is : (s : Shape) (t n e : ℕ) → t ≡ s.title → n ≡ s.bases → e ≡ s.end → s ≡ record { title = t; bases = n; end = e; again = s.again }
+shape_is s t n e title bases end =
+    ap (λ (m : ℕ). record s { title = m }) (sym title) ∙ ap (λ (m : ℕ). record s { title = t; bases = m }) (sym bases) ∙ ap (λ (m : ℕ). record s { title = t; bases = n; end = m }) (sym end)

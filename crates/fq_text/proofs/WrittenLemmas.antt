@@ -1,14 +1,15 @@
 -- What was written is read again.
-use Rattle.std.proofs.Common.{◌≡◌, ℕ, ◌+◌, ◌<◌, ◌≤◌, Bool, true, false, not, eqb, Option, Some, None, suc, List, [], ◌∷◌, ◌++◌, length, map, refl, ap, sym, ◌∙◌, arith, append_assoc, ⊎_elim}
+use Rattle.std.proofs.Common.{◌≡◌, ℕ, ◌+◌, ◌<◌, ◌≤◌, Bool, true, false, not, ◌&&◌, eqb, Option, Some, None, suc, List, [], ◌∷◌, ◌++◌, length, map, refl, ap, sym, ◌∙◌, arith, append_assoc, ⊎_elim}
 use Rattle.std.specs.List.{list_all}
 use Rattle.std.proofs.lemmas.Bool.{cond-true, cond-false, cases_Bool, and_parts, and_from, not-true, not_from_false, not_from_true, le-ltb, le-leb, leb-true, ne_eqb}
 use Rattle.fq_text.specs.declared.encoding.Encoding.{Encoding}
 use Rattle.fq_text.specs.declared.encoding.Encoding.TheVariants.{Sanger, Illumina13, Solexa}
-use Rattle.std.proofs.lemmas.List.{append-nil, length-map}
+use Rattle.std.proofs.lemmas.List.{length-map}
+use Rattle.std.proofs.lemmas.List.Folds.{list_all-append}
 use Rattle.fq_text.specs.Scores.{lowest, is_scored, recoded}
 use Rattle.fq_text.specs.Lines.{pieces, before_first_piece, without_cr, lines}
 use Rattle.fq_text.specs.Grammar.{limit, is_base, IsLawful, Read, Found, front, begins_with, title_fault, sequence_fault, plus_fault, quality_fault}
-use Rattle.fq_text.specs.Steps.{in_quality}
+use Rattle.fq_text.specs.Phases.{in_quality}
 use Rattle.fq_text.specs.Written.{line, written, as_written, CanRecode, ReadsBack}
 use Rattle.fq_text.specs.Records.{with_first, from_front, records_within, records}
 use Rattle.fq_text.proofs.ScoreLemmas.{all_recoded_scored}
@@ -23,27 +24,23 @@ pieces_line [] ys clean = refl
 pieces_line (x ∷ xs) ys clean = let parts = and_parts _ _ clean in
     cond-false (eqb x 10) _ _ (not-true _ parts.0) ∙ ap (before_first_piece x) (pieces_line xs ys parts.1)
 
-lines_line : (l ys : List ℕ) → list_all not_lf l ≡ true → without_cr l ≡ l → lines (line l ++ ys) ≡ l ∷ lines ys
-lines_line l ys clean plain =
-    ap lines (append_assoc l (10 ∷ []) ys) ∙ ap (map without_cr) (pieces_line l ys clean) ∙ ap (λ m. m ∷ lines ys) plain
-
 -- bytes from 33 on hold neither line end
 base_high : (b : ℕ) → is_base b ≡ true → 33 ≤ b
 base_high b is = leb-true 33 b (and_parts _ _ is).0
 
-clean_bases : (l : List ℕ) → list_all is_base l ≡ true → list_all not_lf l ≡ true
+pub clean_bases : (l : List ℕ) → list_all is_base l ≡ true → list_all not_lf l ≡ true
 clean_bases [] all = refl
 clean_bases (b ∷ bs) all = let parts = and_parts _ _ all in let high = base_high b parts.0 in
     and_from _ _ (not_from_false _ (ne_eqb b 10 (λ e. absurd (omega arith)))) (clean_bases bs parts.1)
 
-plain_bases : (l : List ℕ) → list_all is_base l ≡ true → without_cr l ≡ l
+pub plain_bases : (l : List ℕ) → list_all is_base l ≡ true → without_cr l ≡ l
 plain_bases [] all = refl
 plain_bases (b ∷ []) all = let high = base_high b (and_parts _ _ all).0 in cond-false (eqb b 13) _ _ (ne_eqb b 13 (λ e. absurd (omega arith)))
 plain_bases (b ∷ c ∷ bs) all = ap (λ xs. b ∷ xs) (plain_bases (c ∷ bs) (and_parts _ _ all).1)
 
-plain_title : (title : List ℕ) → without_cr title ≡ title → without_cr (64 ∷ title) ≡ 64 ∷ title
-plain_title [] plain = refl
-plain_title (b ∷ bs) plain = ap (λ xs. 64 ∷ xs) plain
+pub plain_behind : (b : ℕ) (l : List ℕ) → eqb b 13 ≡ false → without_cr l ≡ l → without_cr (b ∷ l) ≡ b ∷ l
+plain_behind b [] other plain = cond-false (eqb b 13) _ _ other
+plain_behind b (c ∷ cs) other plain = ap (λ xs. b ∷ xs) plain
 
 -- no encoding has a score below byte 33
 low_base : (e : Encoding) → 33 ≤ lowest e
@@ -62,20 +59,64 @@ scored_bases : (e : Encoding) (l : List ℕ) → list_all (is_scored e) l ≡ tr
 scored_bases e [] all = refl
 scored_bases e (b ∷ bs) all = let parts = and_parts _ _ all in and_from _ _ (scored_base e b parts.0) (scored_bases e bs parts.1)
 
--- the four lines
-four_lines : (r : Read) (text : List ℕ) → IsLawful r → without_cr r.title ≡ r.title →
-    lines (written r.title r.seq r.qual ++ text) ≡ (64 ∷ r.title) ∷ r.seq ∷ (43 ∷ []) ∷ r.qual ∷ lines text
-four_lines r text lawful plain =
-    let quals = scored_bases r.encoding r.qual lawful.scores in
-    let regrouped : written r.title r.seq r.qual ++ text ≡ line (64 ∷ r.title) ++ (line r.seq ++ (line (43 ∷ []) ++ (line r.qual ++ text))) =
+-- A line with this end behind it is one line, whatever follows.
+abbrev pub Ends : List ℕ → List ℕ → Type 0
+Ends end l = (ys : List ℕ) → lines ((l ++ end) ++ ys) ≡ l ∷ lines ys
+
+pub ends_in_lf : (l : List ℕ) → list_all not_lf l ≡ true → without_cr l ≡ l → Ends (10 ∷ []) l
+ends_in_lf l clean plain ys = ap lines (append_assoc l (10 ∷ []) ys) ∙ ap (map without_cr) (pieces_line l ys clean) ∙ ap (λ m. m ∷ lines ys) plain
+
+without_last_cr : (l : List ℕ) → without_cr (l ++ 13 ∷ []) ≡ l
+without_last_cr [] = refl
+without_last_cr (b ∷ []) = refl
+without_last_cr (b ∷ c ∷ bs) = ap (λ xs. b ∷ xs) (without_last_cr (c ∷ bs))
+
+pub ends_in_cr_lf : (l : List ℕ) → list_all not_lf l ≡ true → Ends (13 ∷ 10 ∷ []) l
+ends_in_cr_lf l clean ys =
+    let all : list_all not_lf (l ++ 13 ∷ []) ≡ true = list_all-append not_lf l (13 ∷ []) ∙ ap (λ b. b && true) clean in
+    ap lines (append_assoc l (13 ∷ 10 ∷ []) ys ∙ sym (append_assoc l (13 ∷ []) (10 ∷ ys)))
+    ∙ ap (map without_cr) (pieces_line (l ++ 13 ∷ []) ys all) ∙ ap (λ m. m ∷ lines ys) (without_last_cr l)
+
+-- a record as four lines with this end, these bytes behind the second mark, and a text behind them
+abbrev pub four : List ℕ → List ℕ → Read → List ℕ → List ℕ
+four end again r text = ((64 ∷ r.title) ++ end) ++ ((r.seq ++ end) ++ (((43 ∷ again) ++ end) ++ ((r.qual ++ end) ++ text)))
+
+-- what makes four such lines a record's
+pub record AreItsLines (end again : List ℕ) (r : Read) : Type 0 where
+  pub lawful : IsLawful r
+  pub title : Ends end (64 ∷ r.title)
+  pub seq : Ends end r.seq
+  pub plus : Ends end (43 ∷ again)
+  pub qual : Ends end r.qual
+  pub same : plus_fault r.title (43 ∷ again) ≡ None
+
+four_lines : (end again : List ℕ) (r : Read) (text : List ℕ) → AreItsLines end again r →
+    lines (four end again r text) ≡ (64 ∷ r.title) ∷ r.seq ∷ (43 ∷ again) ∷ r.qual ∷ lines text
+four_lines end again r text p =
+    let qual = ap (λ ls. (43 ∷ again) ∷ ls) (p.qual text) in
+    let plus = ap (λ ls. r.seq ∷ ls) (p.plus ((r.qual ++ end) ++ text) ∙ qual) in
+    let seq = ap (λ ls. (64 ∷ r.title) ∷ ls) (p.seq (((43 ∷ again) ++ end) ++ ((r.qual ++ end) ++ text)) ∙ plus) in
+    p.title ((r.seq ++ end) ++ (((43 ∷ again) ++ end) ++ ((r.qual ++ end) ++ text))) ∙ seq
+
+-- a record as it is written is such lines
+written_four : (r : Read) (text : List ℕ) → written r.title r.seq r.qual ++ text ≡ four (10 ∷ []) [] r text
+written_four r text =
     append_assoc (line (64 ∷ r.title) ++ line r.seq ++ line (43 ∷ [])) (line r.qual) text
     ∙ append_assoc (line (64 ∷ r.title) ++ line r.seq) (line (43 ∷ [])) (line r.qual ++ text)
-    ∙ append_assoc (line (64 ∷ r.title)) (line r.seq) (line (43 ∷ []) ++ (line r.qual ++ text)) in
-    ap lines regrouped
-    ∙ lines_line (64 ∷ r.title) (line r.seq ++ (line (43 ∷ []) ++ (line r.qual ++ text))) lawful.one_line (plain_title r.title plain)
-    ∙ ap (λ ls. (64 ∷ r.title) ∷ ls) (lines_line r.seq (line (43 ∷ []) ++ (line r.qual ++ text)) (clean_bases r.seq lawful.bases) (plain_bases r.seq lawful.bases)
-    ∙ ap (λ ls. r.seq ∷ ls) (lines_line (43 ∷ []) (line r.qual ++ text) refl refl
-    ∙ ap (λ ls. (43 ∷ []) ∷ ls) (lines_line r.qual text (clean_bases r.qual quals) (plain_bases r.qual quals))))
+    ∙ append_assoc (line (64 ∷ r.title)) (line r.seq) (line (43 ∷ []) ++ (line r.qual ++ text))
+
+pub quals_are_bases : (r : Read) → IsLawful r → list_all is_base r.qual ≡ true
+quals_are_bases r lawful = scored_bases r.encoding r.qual lawful.scores
+
+its_lines : (r : Read) → IsLawful r → without_cr r.title ≡ r.title → AreItsLines (10 ∷ []) [] r
+its_lines r lawful plain = record {
+  lawful = lawful;
+  title = ends_in_lf (64 ∷ r.title) lawful.one_line (plain_behind 64 r.title refl plain);
+  seq = ends_in_lf r.seq (clean_bases r.seq lawful.bases) (plain_bases r.seq lawful.bases);
+  plus = ends_in_lf (43 ∷ []) refl refl;
+  qual = let quals = quals_are_bases r lawful in ends_in_lf r.qual (clean_bases r.qual quals) (plain_bases r.qual quals);
+  same = refl;
+}
 
 -- no line has a fault
 sound_title : (title : List ℕ) → length title < limit → title_fault (64 ∷ title) ≡ None
@@ -90,16 +131,15 @@ sound_qual : (e : Encoding) (bases : ℕ) (qual : List ℕ) → bases ≤ limit 
 sound_qual e bases qual fits same scores =
     cond-false _ _ _ (le-ltb limit (length qual) (omega arith)) ∙ cond-false _ _ _ (le-ltb bases (0 + length qual) (omega arith)) ∙ cond-false _ _ _ (not_from_true _ scores)
 
-sound_plus : (title : List ℕ) → plus_fault title (43 ∷ []) ≡ None
-sound_plus title = refl
-
 -- the way to the quality
-to_quality : (r : Read) (ls : List (List ℕ)) → IsLawful r → front r.encoding ((64 ∷ r.title) ∷ r.seq ∷ (43 ∷ []) ∷ ls) ≡ in_quality r.encoding r.title r.seq [] ls
-to_quality r ls lawful =
-    title_goes r.encoding 64 r.title (r.seq ∷ (43 ∷ []) ∷ ls) (sound_title r.title lawful.title_fits)
-    ∙ sequence_goes r.encoding r.title [] r.seq ((43 ∷ []) ∷ ls) (not-true _ lawful.no_plus) (sound_seq r.seq lawful.seq_fits lawful.bases (not-true _ lawful.no_title))
-    ∙ sequence_ends r.encoding r.title r.seq (43 ∷ []) ls refl
-    ∙ plus_goes r.encoding r.title r.seq (43 ∷ []) ls (sound_plus r.title)
+to_quality : (end again : List ℕ) (r : Read) (ls : List (List ℕ)) → AreItsLines end again r →
+    front r.encoding ((64 ∷ r.title) ∷ r.seq ∷ (43 ∷ again) ∷ ls) ≡ in_quality r.encoding r.title r.seq [] ls
+to_quality end again r ls p =
+    let lawful = p.lawful in
+    title_goes r.encoding 64 r.title (r.seq ∷ (43 ∷ again) ∷ ls) (sound_title r.title lawful.title_fits)
+    ∙ sequence_goes r.encoding r.title [] r.seq ((43 ∷ again) ∷ ls) (not-true _ lawful.no_plus) (sound_seq r.seq lawful.seq_fits lawful.bases (not-true _ lawful.no_title))
+    ∙ sequence_ends r.encoding r.title r.seq (43 ∷ again) ls refl
+    ∙ plus_goes r.encoding r.title r.seq (43 ∷ again) ls p.same
 
 nil_qual : (qual : List ℕ) → length qual ≡ 0 → qual ≡ []
 nil_qual [] none = refl
@@ -117,7 +157,8 @@ stands_before : (r : Read) (text : List ℕ) → IsLawful r → without_cr r.tit
 stands_before r text lawful plain =
     let same = lawful.same_len in
     let fits = lawful.seq_fits in
-    let four = ap (front r.encoding) (four_lines r text lawful plain) ∙ to_quality r (r.qual ∷ lines text) lawful in
+    let its = its_lines r lawful plain in
+    let four = ap (λ xs. front r.encoding (lines xs)) (written_four r text) ∙ ap (front r.encoding) (four_lines (10 ∷ []) [] r text its) ∙ to_quality (10 ∷ []) [] r (r.qual ∷ lines text) its in
     ⊎_elim
     (λ none.
     let empty : r.qual ≡ [] = nil_qual r.qual (omega arith) in
@@ -135,14 +176,14 @@ stands_before r text lawful plain =
     })
     (Rattle.std.proofs.lemmas.Bool.cases_eq (length r.seq) 0)
 
--- a record with bases stands first, whatever lines follow it
-pub found_first : (r : Read) (ls : List (List ℕ)) → IsLawful r → without_cr r.title ≡ r.title → 0 < length r.seq →
-    front r.encoding (lines (written r.title r.seq r.qual) ++ ls) ≡ Found r ls
-found_first r ls lawful plain some =
+-- a record with bases that is four lines stands first, whatever lines follow it
+pub found_first : (end again : List ℕ) (r : Read) (ls : List (List ℕ)) → AreItsLines end again r → 0 < length r.seq →
+    front r.encoding (lines (four end again r []) ++ ls) ≡ Found r ls
+found_first end again r ls p some =
+    let lawful = p.lawful in
     let same = lawful.same_len in
-    ap (λ xs. front r.encoding (lines xs ++ ls)) (sym (append-nil (written r.title r.seq r.qual)))
-    ∙ ap (λ xs. front r.encoding (xs ++ ls)) (four_lines r [] lawful plain)
-    ∙ to_quality r (r.qual ∷ ls) lawful
+    ap (λ xs. front r.encoding (xs ++ ls)) (four_lines end again r [] p)
+    ∙ to_quality end again r (r.qual ∷ ls) p
     ∙ quality_goes r.encoding r.title r.seq [] r.qual ls (omega arith) (sound_qual r.encoding (length r.seq) r.qual lawful.seq_fits same lawful.scores)
     ∙ quality_ends r.encoding r.title r.seq r.qual ls (omega arith)
 
@@ -159,7 +200,7 @@ reads_lawful : (r : Read) (text : List ℕ) → IsLawful r → without_cr r.titl
     records r.encoding (written r.title r.seq r.qual ++ text) ≡ with_first r (records r.encoding text)
 reads_lawful r text lawful plain =
     let whole = lines (written r.title r.seq r.qual ++ text) in
-    let len : suc (length whole) ≡ suc (suc (length (lines text) + 3)) = omega (arith, ap length (four_lines r text lawful plain)) in
+    let len : suc (length whole) ≡ suc (suc (length (lines text) + 3)) = omega (arith, ap (λ xs. length (lines xs)) (written_four r text), ap length (four_lines (10 ∷ []) [] r text (its_lines r lawful plain))) in
     ap (λ n. records_within n r.encoding whole) len
     ∙ records_of (length (lines text) + 3) r.encoding r whole (lines text) (omega arith) (stands_before r text lawful plain)
 

@@ -1,5 +1,17 @@
--- What a device is: one in memory by its bytes and its script, and one of the standard library by what is in it.
+-- What a device is: as contracts see each; one in memory by its bytes and its script; one of the standard library by what is in it.
 use Rattle.std.specs.Prelude.{ℕ, List, Bool}
+
+-- a feed: whether it tells its bytes, those still to come, and how often it has failed
+pub record FeedState : Type 0 where
+  pub tells : Bool
+  pub to_come : List ℕ
+  pub failures : ℕ
+
+-- an outlet: whether it tells its bytes, those taken, oldest first, and how many writes and flushes have failed
+pub record OutletState : Type 0 where
+  pub tells : Bool
+  pub taken : List ℕ
+  pub failures : ℕ
 
 -- the bytes still to come from a feed, the most that a read moves, the number of reads up to and with the one that fails
 -- (0: none does), and its failures so far

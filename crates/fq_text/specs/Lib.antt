@@ -2,7 +2,7 @@ pub mod Lines
 pub mod Scores
 pub mod Grammar
 pub mod Devices
-pub mod Steps
+pub mod Phases
 pub mod Reading
 pub mod Sources
 pub mod Written

@@ -1,11 +1,12 @@
 -- What a reader of lines is, and what a call reads.
 use Rattle.std.specs.Prelude.{◌≡◌, ℕ, ◌+◌, ◌-◌, ◌*◌, ◌<◌, ◌≤◌, ◌⊎◌, Bool, true, false, Result, Option, Some, None, List, [], ◌∷◌, ◌++◌, length, IsTrue, slice_index}
 use Rattle.std.specs.declared.result.Result.TheVariants as res
+use Rattle.fq_text.specs.Devices.{FeedState}
 use Rattle.fq_text.specs.Lines.{lines, is_whole}
 use Rattle.fq_text.specs.Grammar.{limit}
 use Rattle.fq_text.specs.declared.fault.Fault.TheVariants as fault
-use Rattle.fq_text.specs.declared.fault.Stop.{Stop}
-use Rattle.fq_text.specs.declared.fault.Stop.TheVariants as stop
+use Rattle.fq_text.specs.declared.fault.ReadError.{ReadError}
+use Rattle.fq_text.specs.declared.fault.ReadError.TheVariants as error
 
 -- the line that was used up last, and the bytes behind it that are in hand
 pub record Buffered : Type 0 where
@@ -24,8 +25,8 @@ pub record Lined (F : Type 0) : Type 0 where
   pub max_reads : ℕ
 
 -- the bytes behind the last line, in hand and still to come
-abbrev pub rest_of : {F : Type 0} → (F → List ℕ) → Lined F → List ℕ
-rest_of to_come r = r.in_hand ++ to_come r.feed
+abbrev pub rest_of : {F : Type 0} → (F → FeedState) → Lined F → List ℕ
+rest_of state r = r.in_hand ++ (state r.feed).to_come
 
 -- no LF stands below place n
 abbrev pub NoLf : List ℕ → ℕ → Type 0
@@ -41,17 +42,17 @@ abbrev pub fuel_of : {F : Type 0} → Lined F → ℕ
 fuel_of r = (r.max_reads * r.chunk - r.taken) + length r.in_hand
 
 -- What every reader keeps.
-pub record IsSound {F : Type 0} (tells : F → Bool) (to_come : F → List ℕ) (r : Lined F) : Type 0 where
+pub record IsSound {F : Type 0} (state : F → FeedState) (r : Lined F) : Type 0 where
   pub bound : r.taken ≤ r.max_reads * r.chunk
-  pub nothing : IsTrue r.ended → IsTrue (tells r.feed) → to_come r.feed ≡ []
+  pub nothing : IsTrue r.ended → IsTrue (state r.feed).tells → (state r.feed).to_come ≡ []
 
 -- A reader has used up bytes: those in hand and those that the feed gave are the used ones and those now in hand.
-pub record Reads {F : Type 0} (tells : F → Bool) (to_come : F → List ℕ) (old new : Lined F) (used : List ℕ) : Type 0 where
+pub record Reads {F : Type 0} (state : F → FeedState) (old new : Lined F) (used : List ℕ) : Type 0 where
   pub gave : List ℕ
   pub taken : new.taken ≡ old.taken + length gave
   pub hand : old.in_hand ++ gave ≡ used ++ new.in_hand
-  pub fed : IsTrue (tells old.feed) → to_come old.feed ≡ gave ++ to_come new.feed
-  pub told : tells new.feed ≡ tells old.feed
+  pub fed : IsTrue (state old.feed).tells → (state old.feed).to_come ≡ gave ++ (state new.feed).to_come
+  pub told : (state new.feed).tells ≡ (state old.feed).tells
   pub quiet : old.ended ≡ true → (gave ≡ []) × (new.ended ≡ true)
   pub chunk : new.chunk ≡ old.chunk
   pub max_reads : new.max_reads ≡ old.max_reads
@@ -61,75 +62,75 @@ abbrev pub Closed : {F : Type 0} → Lined F → List ℕ → Type 0
 Closed new used = (is_whole used ≡ true) ⊎ ((new.ended ≡ true) × (new.in_hand ≡ []))
 
 -- the next line has been read
-pub record TakesLine {F : Type 0} (tells : F → Bool) (to_come : F → List ℕ) (old new : Lined F) : Type 0 where
+pub record TakesLine {F : Type 0} (state : F → FeedState) (old new : Lined F) : Type 0 where
   pub used : List ℕ
-  pub reads : Reads tells to_come old new used
+  pub reads : Reads state old new used
   pub is_line : lines used ≡ new.line ∷ []
   pub some : 0 < length used
   pub closed : Closed new used
   pub small : length old.in_hand < old.chunk → length new.in_hand < new.chunk
 
 -- no line is left
-pub record IsAtEnd {F : Type 0} (tells : F → Bool) (to_come : F → List ℕ) (old new : Lined F) : Type 0 where
-  pub reads : Reads tells to_come old new []
+pub record IsAtEnd {F : Type 0} (state : F → FeedState) (old new : Lined F) : Type 0 where
+  pub reads : Reads state old new []
   pub ended : new.ended ≡ true
   pub empty : new.in_hand ≡ []
 
-abbrev pub Advances : {F : Type 0} → (F → Bool) → (F → List ℕ) → Lined F → Lined F → Bool → Type 0
-Advances tells to_come old new true = TakesLine tells to_come old new × (length new.line ≤ limit)
-Advances tells to_come old new false = IsAtEnd tells to_come old new
+abbrev pub Advances : {F : Type 0} → (F → FeedState) → Lined F → Lined F → Bool → Type 0
+Advances state old new true = TakesLine state old new × (length new.line ≤ limit)
+Advances state old new false = IsAtEnd state old new
 
 -- no whole line is in hand, and the reader has not ended
-pub record LacksLine {F : Type 0} (tells : F → Bool) (to_come : F → List ℕ) (old new : Lined F) : Type 0 where
-  pub reads : Reads tells to_come old new []
+pub record LacksLine {F : Type 0} (state : F → FeedState) (old new : Lined F) : Type 0 where
+  pub reads : Reads state old new []
   pub going : new.ended ≡ false
   pub no_line : NoLf new.in_hand (length new.in_hand)
 
 -- the next line is too long
-pub record IsLong {F : Type 0} (tells : F → Bool) (to_come : F → List ℕ) (old new : Lined F) : Type 0 where
+pub record IsLong {F : Type 0} (state : F → FeedState) (old new : Lined F) : Type 0 where
   pub used : List ℕ
-  pub reads : Reads tells to_come old new used
+  pub reads : Reads state old new used
   pub line : List ℕ
   pub behind : List (List ℕ)
-  pub is_line : IsTrue (tells old.feed) → lines (rest_of to_come old) ≡ line ∷ behind
+  pub is_line : IsTrue (state old.feed).tells → lines (rest_of state old) ≡ line ∷ behind
   pub long : limit < length line
 
-abbrev pub Halts : {F : Type 0} → (F → Bool) → (F → List ℕ) → Lined F → Lined F → Stop → Type 0
-Halts tells to_come old new (stop.Fault f) = (f ≡ fault.TooLong) × IsLong tells to_come old new
-Halts tells to_come old new stop.Read = LacksLine tells to_come old new
-Halts tells to_come old new stop.Endless = LacksLine tells to_come old new × (new.max_reads ≤ new.taken)
-Halts tells to_come old new stop.OutOfMemory = Reads tells to_come old new []
+abbrev pub Halts : {F : Type 0} → (F → FeedState) → Lined F → Lined F → ReadError → Type 0
+Halts state old new (error.Fault f) = (f ≡ fault.TooLong) × IsLong state old new
+Halts state old new error.Read = LacksLine state old new
+Halts state old new error.Endless = LacksLine state old new × (new.max_reads ≤ new.taken)
+Halts state old new error.OutOfMemory = Reads state old new []
 
 -- how often the feed failed
-abbrev pub failed_once : Stop → ℕ
-failed_once (stop.Fault f) = 0
-failed_once stop.Read = 1
-failed_once stop.Endless = 0
-failed_once stop.OutOfMemory = 0
+abbrev pub failed_once : ReadError → ℕ
+failed_once (error.Fault f) = 0
+failed_once error.Read = 1
+failed_once error.Endless = 0
+failed_once error.OutOfMemory = 0
 
-abbrev pub fails : {T : Type 0} → Result T Stop → ℕ
+abbrev pub fails : {T : Type 0} → Result T ReadError → ℕ
 fails (res.Ok x) = 0
 fails (res.Err e) = failed_once e
 
 -- a feed has given bytes, behind those that were there
-pub record Moved {F : Type 0} (tells : F → Bool) (to_come : F → List ℕ) (old new : F) (before after : List ℕ) (chunk n : ℕ) : Type 0 where
+pub record Moved {F : Type 0} (state : F → FeedState) (old new : F) (before after : List ℕ) (chunk n : ℕ) : Type 0 where
   pub gave : List ℕ
   pub len : length gave ≡ n
   pub within : n ≤ chunk
   pub bytes : after ≡ before ++ gave
-  pub fed : IsTrue (tells old) → to_come old ≡ gave ++ to_come new
-  pub none : n ≡ 0 → IsTrue (tells old) → to_come old ≡ []
+  pub fed : IsTrue (state old).tells → (state old).to_come ≡ gave ++ (state new).to_come
+  pub none : n ≡ 0 → IsTrue (state old).tells → (state old).to_come ≡ []
 
 -- a feed, or memory, has given nothing
-pub record MovesOr {F : Type 0} (tells : F → Bool) (to_come : F → List ℕ) (old new : F) (before after : List ℕ) (why : Stop) : Type 0 where
+pub record MovesOr {F : Type 0} (state : F → FeedState) (old new : F) (before after : List ℕ) (why : ReadError) : Type 0 where
   pub bytes : after ≡ before
-  pub fed : IsTrue (tells old) → to_come new ≡ to_come old
-  pub cause : (why ≡ stop.Read) ⊎ (why ≡ stop.OutOfMemory)
+  pub fed : IsTrue (state old).tells → (state new).to_come ≡ (state old).to_come
+  pub cause : (why ≡ error.Read) ⊎ (why ≡ error.OutOfMemory)
 
 -- one more read was made, or refused
-abbrev pub Fills : {F : Type 0} → (F → Bool) → (F → List ℕ) → Lined F → Lined F → Result Unit Stop → Type 0
-Fills tells to_come old new (res.Ok x) = Reads tells to_come old new [] × (length new.in_hand < length old.in_hand + new.chunk + 1) × (new.ended ≡ false → old.taken < new.taken)
-Fills tells to_come old new (res.Err (stop.Fault f)) = ⊥
-Fills tells to_come old new (res.Err stop.Read) = Reads tells to_come old new [] × (new.ended ≡ false) × (new.in_hand ≡ old.in_hand)
-Fills tells to_come old new (res.Err stop.Endless) = Reads tells to_come old new [] × (new.ended ≡ false) × (new.in_hand ≡ old.in_hand) × (new.max_reads ≤ new.taken)
-Fills tells to_come old new (res.Err stop.OutOfMemory) = Reads tells to_come old new []
+abbrev pub Fills : {F : Type 0} → (F → FeedState) → Lined F → Lined F → Result Unit ReadError → Type 0
+Fills state old new (res.Ok x) = Reads state old new [] × (length new.in_hand < length old.in_hand + new.chunk + 1) × (new.ended ≡ false → old.taken < new.taken)
+Fills state old new (res.Err (error.Fault f)) = ⊥
+Fills state old new (res.Err error.Read) = Reads state old new [] × (new.ended ≡ false) × (new.in_hand ≡ old.in_hand)
+Fills state old new (res.Err error.Endless) = Reads state old new [] × (new.ended ≡ false) × (new.in_hand ≡ old.in_hand) × (new.max_reads ≤ new.taken)
+Fills state old new (res.Err error.OutOfMemory) = Reads state old new []

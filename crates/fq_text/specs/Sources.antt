@@ -1,11 +1,12 @@
 -- What a source of records is, and what its calls answer.
-use Rattle.std.specs.Prelude.{◌≡◌, ℕ, ◌+◌, ◌-◌, ◌<◌, ◌≤◌, ◌⊎◌, Bool, true, IsTrue, Option, Some, None, Result, List, [], ◌++◌, length, take}
+use Rattle.std.specs.Prelude.{◌≡◌, ℕ, ◌+◌, ◌-◌, ◌<◌, ◌≤◌, ◌⊎◌, true, IsTrue, Option, Some, None, Result, List, [], ◌++◌, length, take}
 use Rattle.std.specs.declared.result.Result.TheVariants as res
+use Rattle.fq_text.specs.Devices.{FeedState}
 use Rattle.fq_text.specs.declared.encoding.Encoding.{Encoding}
 use Rattle.fq_text.specs.declared.fault.Fault.{Fault}
 use Rattle.fq_text.specs.declared.fault.Fault.TheVariants as fault
-use Rattle.fq_text.specs.declared.fault.Stop.{Stop}
-use Rattle.fq_text.specs.declared.fault.Stop.TheVariants as stop
+use Rattle.fq_text.specs.declared.fault.ReadError.{ReadError}
+use Rattle.fq_text.specs.declared.fault.ReadError.TheVariants as error
 use Rattle.fq_text.specs.declared.fault.TextFault.{TextFault}
 use Rattle.fq_text.specs.declared.fault.TextFault.TheVariants as text
 use Rattle.fq_text.specs.Lines.{lines, is_whole, whole_part}
@@ -34,11 +35,11 @@ numbered fault.QualityLong k = text.QualityLong k
 numbered fault.QualityShort k = text.QualityShort k
 numbered fault.TooLong k = text.TooLong k
 
-abbrev pub text_fault : Stop → ℕ → TextFault
-text_fault (stop.Fault f) k = numbered f k
-text_fault stop.Read k = text.Read
-text_fault stop.Endless k = text.Endless
-text_fault stop.OutOfMemory k = text.OutOfMemory
+abbrev pub text_fault : ReadError → ℕ → TextFault
+text_fault (error.Fault f) k = numbered f k
+text_fault error.Read k = text.Read
+text_fault error.Endless k = text.Endless
+text_fault error.OutOfMemory k = text.OutOfMemory
 
 -- the answer of a source that gave its last answer
 abbrev pub answer_of : Result (Unit {0}) TextFault → Result (Option Read) TextFault
@@ -46,16 +47,16 @@ answer_of (res.Ok x) = res.Ok None
 answer_of (res.Err f) = res.Err f
 
 -- the bytes that a source still has to read records from
-abbrev pub rest_in : {F : Type 0} → (F → List ℕ) → Sourced F → List ℕ
-rest_in to_come s = s.in_hand ++ to_come s.feed
+abbrev pub rest_in : {F : Type 0} → (F → FeedState) → Sourced F → List ℕ
+rest_in state s = s.in_hand ++ (state s.feed).to_come
 
 -- what stands next
-abbrev pub front_of : {F : Type 0} → (F → List ℕ) → Sourced F → Front
-front_of to_come s = front s.encoding (lines (rest_in to_come s))
+abbrev pub front_of : {F : Type 0} → (F → FeedState) → Sourced F → Front
+front_of state s = front s.encoding (lines (rest_in state s))
 
 -- the bytes in hand before a call, and those that the feed gave in it
-abbrev pub held : {F : Type 0} → (F → List ℕ) → Sourced F → Sourced F → List ℕ
-held to_come old new = old.in_hand ++ take (new.taken - old.taken) (to_come old.feed)
+abbrev pub held : {F : Type 0} → (F → FeedState) → Sourced F → Sourced F → List ℕ
+held state old new = old.in_hand ++ take (new.taken - old.taken) (state old.feed).to_come
 
 -- a text is a rest of another, from the start of a line on
 pub record IsTail (whole tail : List ℕ) : Type 0 where
@@ -65,35 +66,35 @@ pub record IsTail (whole tail : List ℕ) : Type 0 where
   pub at_line : (is_whole before ≡ true) ⊎ (tail ≡ [])
 
 -- What every call keeps: the number of bytes taken grows by those that the feed gave.
-pub record KeepsCount {F : Type 0} (tells : F → Bool) (to_come : F → List ℕ) (old new : Sourced F) : Type 0 where
+pub record KeepsCount {F : Type 0} (state : F → FeedState) (old new : Sourced F) : Type 0 where
   pub encoding : new.encoding ≡ old.encoding
   pub chunk : new.chunk ≡ old.chunk
   pub max_reads : new.max_reads ≡ old.max_reads
-  pub told : tells new.feed ≡ tells old.feed
+  pub told : (state new.feed).tells ≡ (state old.feed).tells
   pub grows : old.taken ≤ new.taken
-  pub fed : IsTrue (tells old.feed) → to_come old.feed ≡ take (new.taken - old.taken) (to_come old.feed) ++ to_come new.feed
-  pub length : IsTrue (tells old.feed) → new.taken - old.taken ≤ length (to_come old.feed)
+  pub fed : IsTrue (state old.feed).tells → (state old.feed).to_come ≡ take (new.taken - old.taken) (state old.feed).to_come ++ (state new.feed).to_come
+  pub length : IsTrue (state old.feed).tells → new.taken - old.taken ≤ length (state old.feed).to_come
 
 -- a record was answered
-pub record GivesRecord {F : Type 0} (tells : F → Bool) (to_come : F → List ℕ) (old new : Sourced F) (read : Read) : Type 0 where
+pub record GivesRecord {F : Type 0} (state : F → FeedState) (old new : Sourced F) (read : Read) : Type 0 where
   pub lawful : IsLawful read
   pub encoding : read.encoding ≡ old.encoding
-  pub record_is : IsTrue (tells old.feed) → front_of to_come old ≡ Found read (lines (rest_in to_come new))
-  pub tail : IsTrue (tells old.feed) → IsTail (rest_in to_come old) (rest_in to_come new)
+  pub record_is : IsTrue (state old.feed).tells → front_of state old ≡ Found read (lines (rest_in state new))
+  pub tail : IsTrue (state old.feed).tells → IsTail (rest_in state old) (rest_in state new)
   pub given : new.given ≡ old.given + 1
   pub last : new.last ≡ None
   pub in_hand : length new.in_hand < new.chunk
 
 -- the end was answered
-pub record EndsText {F : Type 0} (tells : F → Bool) (to_come : F → List ℕ) (old new : Sourced F) : Type 0 where
-  pub end_is : IsTrue (tells old.feed) → front_of to_come old ≡ End
+pub record EndsText {F : Type 0} (state : F → FeedState) (old new : Sourced F) : Type 0 where
+  pub end_is : IsTrue (state old.feed).tells → front_of state old ≡ End
   pub given : new.given ≡ old.given
   pub last : new.last ≡ Some (res.Ok tt)
 
 -- no whole record was read
-abbrev pub LacksRecord : {F : Type 0} → (F → Bool) → (F → List ℕ) → Sourced F → Sourced F → Type 0
-LacksRecord tells to_come old new = IsTrue (tells old.feed) → (read : Read) (ls : List (List ℕ)) →
-    front old.encoding (lines (whole_part (held to_come old new))) ≡ Found read ls → ⊥
+abbrev pub LacksRecord : {F : Type 0} → (F → FeedState) → Sourced F → Sourced F → Type 0
+LacksRecord state old new = IsTrue (state old.feed).tells → (read : Read) (ls : List (List ℕ)) →
+    front old.encoding (lines (whole_part (held state old new))) ≡ Found read ls → ⊥
 
 abbrev pub FaultIs : Front → ℕ → TextFault → Type 0
 FaultIs front k (text.NoTitle n) = (front ≡ Faulty fault.NoTitle) × (n ≡ k)
@@ -118,11 +119,11 @@ if_endless P text.Endless = P
 if_endless P _ = Unit {0}
 
 -- a fault was answered
-pub record StopsText {F : Type 0} (tells : F → Bool) (to_come : F → List ℕ) (old new : Sourced F) (why : TextFault) : Type 0 where
-  pub fault_is : IsTrue (tells old.feed) → FaultIs (front_of to_come old) (old.given + 1) why
+pub record StopsText {F : Type 0} (state : F → FeedState) (old new : Sourced F) (why : TextFault) : Type 0 where
+  pub fault_is : IsTrue (state old.feed).tells → FaultIs (front_of state old) (old.given + 1) why
   pub given : new.given ≡ old.given
   pub last : new.last ≡ Some (res.Err why)
-  pub lacks : if_read (LacksRecord tells to_come old new) why
+  pub lacks : if_read (LacksRecord state old new) why
   pub endless : if_endless (new.max_reads ≤ new.taken) why
 
 -- how often the feed failed in a call

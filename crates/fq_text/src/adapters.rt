@@ -52,11 +52,7 @@ impl<R: Read> FromRead<R> {
 impl<R: Read> Feed for FromRead<R> {
     ghost use Rattle.std.specs.Prelude.{false, []};
 
-    ghost tells = { λ _. false };
-
-    ghost to_come = { λ _. [] };
-
-    ghost failure_count = { λ d. d.failures };
+    ghost state = { λ d. record { tells = false; to_come = []; failures = d.failures } };
 
     fn read(&mut self, buf: &mut [u8]) -> Result<usize, FeedFailed>
         requires { self.old.failures < u64.MAX }
@@ -132,11 +128,7 @@ impl<W: Write> FromWrite<W> {
 impl<W: Write> Outlet for FromWrite<W> {
     ghost use Rattle.std.specs.Prelude.{false, []};
 
-    ghost tells = { λ _. false };
-
-    ghost taken = { λ _. [] };
-
-    ghost failure_count = { λ d. d.failures };
+    ghost state = { λ d. record { tells = false; taken = []; failures = d.failures } };
 
     fn write(&mut self, bytes: &[u8]) -> Result<usize, OutletFailed>
         requires { self.old.failures < u64.MAX }

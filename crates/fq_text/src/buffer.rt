@@ -4,13 +4,13 @@ ghost use Rattle.std.specs.Prelude.{◌≡◌, ℕ, ◌+◌, ◌-◌, ◌<◌, �
 ghost use Rattle.fq_text.specs.Lines.{without_cr};
 ghost use Rattle.fq_text.specs.Reading.{Moved, MovesOr, fails};
 
-use crate::fault::Stop;
+use crate::fault::ReadError;
 use crate::feed::Feed;
 use std::alloc::{AllocError, Global};
 use std::marker::Model;
 
 /// How many bytes of a piece are its line: all but one CR at the end.
-pub(crate) fn trimmed(piece: &[u8]) -> usize
+pub(crate) fn len_without_cr(piece: &[u8]) -> usize
     ensures within { result ≤ length piece.now }
     ensures line { without_cr piece.now ≡ take result piece.now }
 {
@@ -42,21 +42,21 @@ fn read_more<F: Feed>(
     bytes: &mut Vec<u8>,
     filled: usize,
     chunk: usize,
-) -> Result<usize, Stop>
-    requires failures { F.failure_count feed.old < u64.MAX }
+) -> Result<usize, ReadError>
+    requires failures { (F.state feed.old).failures < u64.MAX }
     requires filled { filled ≤ length bytes.old.items }
     requires room { filled + chunk < u64.MAX }
     requires some { 0 < chunk }
-    ensures moved { MatchResult result (λ n. Moved F.tells F.to_come feed.old feed.new (take filled bytes.old.items) (take (filled + n) bytes.new.items) chunk n)
-        (MovesOr F.tells F.to_come feed.old feed.new (take filled bytes.old.items) (take filled bytes.new.items)) }
+    ensures moved { MatchResult result (λ n. Moved F.state feed.old feed.new (take filled bytes.old.items) (take (filled + n) bytes.new.items) chunk n)
+        (MovesOr F.state feed.old feed.new (take filled bytes.old.items) (take filled bytes.new.items)) }
     ensures within { MatchResult result (λ n. filled + n ≤ length bytes.new.items) (λ _. filled ≤ length bytes.new.items) }
-    ensures failures { F.failure_count feed.new ≡ F.failure_count feed.old + fails result }
-    ensures told { F.tells feed.new ≡ F.tells feed.old }
+    ensures failures { (F.state feed.new).failures ≡ (F.state feed.old).failures + fails result }
+    ensures told { (F.state feed.new).tells ≡ (F.state feed.old).tells }
 {
     grow(bytes, filled, chunk)?;
     match feed.read(&mut bytes[filled..filled + chunk]) {
         Ok(n) => Ok(n),
-        Err(_) => Err(Stop::Read),
+        Err(_) => Err(ReadError::Read),
     }
 }
 
@@ -132,7 +132,7 @@ impl Buffer {
         ensures { self.new ≡ record { line = without_cr (take len self.old.in_hand); in_hand = drop used self.old.in_hand } }
     {
         let start = self.start;
-        let end = start + trimmed(&self.bytes[start..start + len]);
+        let end = start + len_without_cr(&self.bytes[start..start + len]);
         self.line_start = start;
         self.line_end = end;
         self.start = start + used;
@@ -153,14 +153,18 @@ impl Buffer {
     }
 
     /// Reads once, at most `chunk` bytes.
-    pub(crate) fn read_from<F: Feed>(&mut self, feed: &mut F, chunk: usize) -> Result<usize, Stop>
-        requires failures { F.failure_count feed.old < u64.MAX }
+    pub(crate) fn read_from<F: Feed>(
+        &mut self,
+        feed: &mut F,
+        chunk: usize,
+    ) -> Result<usize, ReadError>
+        requires failures { (F.state feed.old).failures < u64.MAX }
         requires some { 0 < chunk }
         requires small { chunk ≤ 1048576 }
-        ensures moved { MatchResult result (Moved F.tells F.to_come feed.old feed.new self.old.in_hand self.new.in_hand chunk)
-            (MovesOr F.tells F.to_come feed.old feed.new self.old.in_hand self.new.in_hand) }
-        ensures failures { F.failure_count feed.new ≡ F.failure_count feed.old + fails result }
-        ensures told { F.tells feed.new ≡ F.tells feed.old }
+        ensures moved { MatchResult result (Moved F.state feed.old feed.new self.old.in_hand self.new.in_hand chunk)
+            (MovesOr F.state feed.old feed.new self.old.in_hand self.new.in_hand) }
+        ensures failures { (F.state feed.new).failures ≡ (F.state feed.old).failures + fails result }
+        ensures told { (F.state feed.new).tells ≡ (F.state feed.old).tells }
     {
         self.make_room();
         match read_more(feed, &mut self.bytes, self.filled, chunk) {
@@ -168,7 +172,7 @@ impl Buffer {
                 self.filled += n;
                 Ok(n)
             }
-            Err(stop) => Err(stop),
+            Err(error) => Err(error),
         }
     }
 }

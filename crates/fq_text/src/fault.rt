@@ -60,14 +60,14 @@ pub enum TextFault {
 
 /// Why a record couldn't be read.
 #[derive(Clone, Copy, Debug, PartialEq, Eq)]
-pub(crate) enum Stop {
+pub(crate) enum ReadError {
     Fault(Fault),
     Read,
     Endless,
     OutOfMemory,
 }
 
-impl Stop {
+impl ReadError {
     ghost use Rattle.fq_text.specs.Sources.{text_fault};
 
     /// The fault of the record of this number.
@@ -75,28 +75,28 @@ impl Stop {
         ensures { result ≡ text_fault self number }
     {
         match self {
-            Stop::Fault(Fault::NoTitle) => TextFault::NoTitle(number),
-            Stop::Fault(Fault::BadSequence) => TextFault::BadSequence(number),
-            Stop::Fault(Fault::NoPlus) => TextFault::NoPlus(number),
-            Stop::Fault(Fault::PlusDiffers) => TextFault::PlusDiffers(number),
-            Stop::Fault(Fault::BadQuality) => TextFault::BadQuality(number),
-            Stop::Fault(Fault::QualityLong) => TextFault::QualityLong(number),
-            Stop::Fault(Fault::QualityShort) => TextFault::QualityShort(number),
-            Stop::Fault(Fault::TooLong) => TextFault::TooLong(number),
-            Stop::Read => TextFault::Read,
-            Stop::Endless => TextFault::Endless,
-            Stop::OutOfMemory => TextFault::OutOfMemory,
+            ReadError::Fault(Fault::NoTitle) => TextFault::NoTitle(number),
+            ReadError::Fault(Fault::BadSequence) => TextFault::BadSequence(number),
+            ReadError::Fault(Fault::NoPlus) => TextFault::NoPlus(number),
+            ReadError::Fault(Fault::PlusDiffers) => TextFault::PlusDiffers(number),
+            ReadError::Fault(Fault::BadQuality) => TextFault::BadQuality(number),
+            ReadError::Fault(Fault::QualityLong) => TextFault::QualityLong(number),
+            ReadError::Fault(Fault::QualityShort) => TextFault::QualityShort(number),
+            ReadError::Fault(Fault::TooLong) => TextFault::TooLong(number),
+            ReadError::Read => TextFault::Read,
+            ReadError::Endless => TextFault::Endless,
+            ReadError::OutOfMemory => TextFault::OutOfMemory,
         }
     }
 }
 
-impl From<AllocError> for Stop {
+impl From<AllocError> for ReadError {
     ghost use Rattle.std.specs.Prelude.{◌≡◌};
-    ghost use Rattle.fq_text.specs.declared.fault.Stop.TheVariants.{OutOfMemory};
+    ghost use Rattle.fq_text.specs.declared.fault.ReadError.TheVariants.{OutOfMemory};
 
     ghost from_gives = { λ _ e. e ≡ OutOfMemory };
 
-    fn from(_e: AllocError) -> Stop {
-        Stop::OutOfMemory
+    fn from(_e: AllocError) -> ReadError {
+        ReadError::OutOfMemory
     }
 }

@@ -1,6 +1,7 @@
 //! Where the bytes of a text come from.
 
-ghost use Rattle.std.specs.Prelude.{◌≡◌, ℕ, ◌+◌, ◌-◌, ◌<◌, ◌≤◌, ◌==◌, min, Bool, true, List, [], ◌++◌, length, take, drop, IsTrue, IfOk, OnErr, is_ok, is_err, if◌then◌else◌};
+ghost use Rattle.std.specs.Prelude.{◌≡◌, ◌+◌, ◌-◌, ◌<◌, ◌≤◌, ◌==◌, min, true, [], ◌++◌, length, take, drop, IsTrue, IfOk, OnErr, is_ok, is_err, if◌then◌else◌};
+ghost use Rattle.fq_text.specs.Devices.{FeedState};
 
 use crate::memory::OutOfMemory;
 use std::alloc::Global;
@@ -17,33 +18,27 @@ pub struct FeedFailed;
 /// A feed tells its bytes for good or never: memory does, a file doesn't. What is promised of bytes is promised of feeds
 /// that tell them; the count of failures and the lengths hold of all.
 pub trait Feed {
-    /// Whether the feed tells its bytes.
-    ghost tells: { Self → Bool };
-
-    /// The bytes still to come.
-    ghost to_come: { Self → List ℕ };
-
-    /// How many reads have failed.
-    ghost failure_count: { Self → ℕ };
+    /// What contracts see of the feed: whether it tells its bytes, those still to come, and how many reads have failed.
+    ghost state: { Self → FeedState };
 
     /// Moves the next bytes to the front of `buf`, and answers how many. Into a buffer that has room it answers 0 only at
     /// the end. A failed read moves nothing, and counts.
     fn read(&mut self, buf: &mut [u8]) -> Result<usize, FeedFailed>
-        requires { failure_count self.old < u64.MAX }
+        requires { (state self.old).failures < u64.MAX }
 
         // So many bytes as fit, the next ones.
         ensures within { IfOk result (λ n. n ≤ length buf.old) }
-        ensures moved { IfOk result (λ n. IsTrue (tells self.old) → to_come self.old ≡ take n buf.new ++ to_come self.new) }
-        ensures end { result ≡ Ok 0 → 0 < length buf.old → IsTrue (tells self.old) → to_come self.old ≡ [] }
+        ensures moved { IfOk result (λ n. IsTrue (state self.old).tells → (state self.old).to_come ≡ take n buf.new ++ (state self.new).to_come) }
+        ensures end { result ≡ Ok 0 → 0 < length buf.old → IsTrue (state self.old).tells → (state self.old).to_come ≡ [] }
 
         // A failure moves nothing and counts once.
-        ensures err { OnErr result (IsTrue (tells self.old) → to_come self.new ≡ to_come self.old) }
-        ensures failures { failure_count self.new ≡ failure_count self.old + (if is_ok result then 0 else 1) }
-        ensures told { tells self.new ≡ tells self.old };
+        ensures err { OnErr result (IsTrue (state self.old).tells → (state self.new).to_come ≡ (state self.old).to_come) }
+        ensures failures { (state self.new).failures ≡ (state self.old).failures + (if is_ok result then 0 else 1) }
+        ensures told { (state self.new).tells ≡ (state self.old).tells };
 
     /// How many reads have failed.
     fn failures(&self) -> u64
-        ensures { result ≡ failure_count self.now };
+        ensures { result ≡ (state self.now).failures };
 }
 
 /// A feed over bytes in memory that cuts them and fails as a script says. It tells its bytes.
@@ -92,11 +87,7 @@ impl ScriptFeed {
 }
 
 impl Feed for ScriptFeed {
-    ghost tells = { λ _. true };
-
-    ghost to_come = { λ f. f.bytes };
-
-    ghost failure_count = { λ f. f.failures };
+    ghost state = { λ f. record { tells = true; to_come = f.bytes; failures = f.failures } };
 
     fn read(&mut self, buf: &mut [u8]) -> Result<usize, FeedFailed>
         requires { self.old.failures < u64.MAX }

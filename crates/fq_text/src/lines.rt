@@ -6,7 +6,7 @@ ghost use Rattle.fq_text.specs.Grammar.{limit};
 ghost use Rattle.fq_text.specs.Reading.{Lined, IsSound, Reads, Advances, Halts, fails};
 
 use crate::buffer::Buffer;
-use crate::fault::{Fault, Stop};
+use crate::fault::{Fault, ReadError};
 use crate::feed::Feed;
 use crate::judge::LIMIT;
 use memchr::memchr;
@@ -43,7 +43,7 @@ impl<F: Feed> Model for LineReader<F> {
 
     ghost invariant = { λ r. (0 < r.chunk) × (r.chunk ≤ 1048576) × (r.max_reads ≤ 2 ^ 40) × (r.reads ≤ r.max_reads) × (r.taken ≤ r.reads * r.chunk)
         × (r.ended ≡ false → r.reads ≤ r.taken)
-        × (IsTrue r.ended → IsTrue (F.tells r.feed) → F.to_come r.feed ≡ []) };
+        × (IsTrue r.ended → IsTrue (F.state r.feed).tells → (F.state r.feed).to_come ≡ []) };
 }
 
 impl<F: Feed> LineReader<F> {
@@ -107,16 +107,16 @@ impl<F: Feed> LineReader<F> {
     }
 
     // Reads once more.
-    fn fill(&mut self) -> Result<(), Stop>
-        requires failures { F.failure_count self.old.feed < u64.MAX }
+    fn fill(&mut self) -> Result<(), ReadError>
+        requires failures { (F.state self.old.feed).failures < u64.MAX }
         requires going { self.old.ended ≡ false }
         requires small { length self.old.in_hand ≤ 1048577 }
-        ensures fills { Fills F.tells F.to_come self.old self.new result }
-        ensures sound { IsSound F.tells F.to_come self.new }
-        ensures failures { F.failure_count self.new.feed ≡ F.failure_count self.old.feed + fails result }
+        ensures fills { Fills F.state self.old self.new result }
+        ensures sound { IsSound F.state self.new }
+        ensures failures { (F.state self.new.feed).failures ≡ (F.state self.old.feed).failures + fails result }
     {
         if self.reads == self.max_reads {
-            return Err(Stop::Endless);
+            return Err(ReadError::Endless);
         }
         let n = self.buffer.read_from(&mut self.feed, self.chunk)?;
         self.reads += 1;
@@ -126,12 +126,12 @@ impl<F: Feed> LineReader<F> {
     }
 
     /// Goes on to the next line, if there is one.
-    pub(crate) fn advance(&mut self) -> Result<bool, Stop>
-        requires failures { F.failure_count self.old.feed < u64.MAX }
-        requires sound { IsSound F.tells F.to_come self.old }
-        ensures step { MatchResult result (Advances F.tells F.to_come self.old self.new) (Halts F.tells F.to_come self.old self.new) }
-        ensures sound { IsSound F.tells F.to_come self.new }
-        ensures failures { F.failure_count self.new.feed ≡ F.failure_count self.old.feed + fails result }
+    pub(crate) fn advance(&mut self) -> Result<bool, ReadError>
+        requires failures { (F.state self.old.feed).failures < u64.MAX }
+        requires sound { IsSound F.state self.old }
+        ensures step { MatchResult result (Advances F.state self.old self.new) (Halts F.state self.old self.new) }
+        ensures sound { IsSound F.state self.new }
+        ensures failures { (F.state self.new.feed).failures ≡ (F.state self.old.feed).failures + fails result }
     {
         // So many bytes in hand hold no LF.
         let mut scanned = 0;
@@ -142,7 +142,7 @@ impl<F: Feed> LineReader<F> {
             }
             scanned = self.in_hand();
             if scanned > LIMIT + 1 {
-                return Err(Stop::Fault(Fault::TooLong));
+                return Err(ReadError::Fault(Fault::TooLong));
             }
             if self.ended {
                 if scanned == 0 {
@@ -176,12 +176,12 @@ impl<F: Feed> LineReader<F> {
     }
 
     // The answer behind a line that was taken.
-    fn judged(&self) -> Result<bool, Stop>
+    fn judged(&self) -> Result<bool, ReadError>
         ensures ok { IfOk result (λ more. (more ≡ true) × (length self.now.line ≤ limit)) }
-        ensures err { IfErr result (λ stop. (stop ≡ Stop.Fault TooLong) × (limit < length self.now.line)) }
+        ensures err { IfErr result (λ error. (error ≡ ReadError.Fault TooLong) × (limit < length self.now.line)) }
     {
         if self.line().len() > LIMIT {
-            Err(Stop::Fault(Fault::TooLong))
+            Err(ReadError::Fault(Fault::TooLong))
         } else {
             Ok(true)
         }

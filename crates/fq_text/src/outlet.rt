@@ -1,6 +1,7 @@
 //! Where texts go: a device that takes bytes, and the sending of a whole text to it.
 
-ghost use Rattle.std.specs.Prelude.{◌≡◌, ℕ, ◌≢◌, ◌+◌, ◌-◌, ◌<◌, ◌≤◌, min, Bool, true, List, [], ◌++◌, length, take, drop, IsTrue, IsErr, IfOk, IfErr, OnOk, OnErr, is_ok, is_err, if◌then◌else◌};
+ghost use Rattle.std.specs.Prelude.{◌≡◌, ◌≢◌, ◌+◌, ◌-◌, ◌<◌, ◌≤◌, min, true, [], ◌++◌, length, take, drop, IsTrue, IsErr, IfOk, IfErr, OnOk, OnErr, is_ok, is_err, if◌then◌else◌};
+ghost use Rattle.fq_text.specs.Devices.{OutletState};
 
 use std::alloc::Global;
 use std::marker::Model;
@@ -17,37 +18,32 @@ pub struct OutletFailed;
 /// ([`FromWrite`](crate::FromWrite)). What the contracts say of the bytes taken is said of outlets that tell them; the counts hold
 /// of all.
 pub trait Outlet {
-    /// Whether the outlet tells its bytes.
-    ghost tells: { Self → Bool };
-
-    /// The bytes taken so far, oldest first.
-    ghost taken: { Self → List ℕ };
-
-    /// How many writes and flushes have failed.
-    ghost failure_count: { Self → ℕ };
+    /// What contracts see of the outlet: whether it tells its bytes, those taken so far, and how many writes and flushes have
+    /// failed.
+    ghost state: { Self → OutletState };
 
     /// Takes the first n of these bytes behind those that it has, and answers n: 1 or more, unless there are none to take.
     ///
     /// A failure takes nothing, and is counted.
     fn write(&mut self, bytes: &[u8]) -> Result<usize, OutletFailed>
-        requires { failure_count self.old < u64.MAX }
+        requires { (state self.old).failures < u64.MAX }
         ensures within { IfOk result (λ n. n ≤ length bytes.now) }
         ensures some { IfOk result (λ n. 0 < length bytes.now → 0 < n) }
-        ensures moved { IfOk result (λ n. IsTrue (tells self.old) → taken self.new ≡ taken self.old ++ take n bytes.now) }
-        ensures err { OnErr result (IsTrue (tells self.old) → taken self.new ≡ taken self.old) }
-        ensures failures { failure_count self.new ≡ failure_count self.old + (if is_ok result then 0 else 1) }
-        ensures told { tells self.new ≡ tells self.old };
+        ensures moved { IfOk result (λ n. IsTrue (state self.old).tells → (state self.new).taken ≡ (state self.old).taken ++ take n bytes.now) }
+        ensures err { OnErr result (IsTrue (state self.old).tells → (state self.new).taken ≡ (state self.old).taken) }
+        ensures failures { (state self.new).failures ≡ (state self.old).failures + (if is_ok result then 0 else 1) }
+        ensures told { (state self.new).tells ≡ (state self.old).tells };
 
     /// Passes on what was taken, as to a disk. It takes nothing. A failure is counted.
     fn flush(&mut self) -> Result<(), OutletFailed>
-        requires { failure_count self.old < u64.MAX }
-        ensures kept { IsTrue (tells self.old) → taken self.new ≡ taken self.old }
-        ensures failures { failure_count self.new ≡ failure_count self.old + (if is_ok result then 0 else 1) }
-        ensures told { tells self.new ≡ tells self.old };
+        requires { (state self.old).failures < u64.MAX }
+        ensures kept { IsTrue (state self.old).tells → (state self.new).taken ≡ (state self.old).taken }
+        ensures failures { (state self.new).failures ≡ (state self.old).failures + (if is_ok result then 0 else 1) }
+        ensures told { (state self.new).tells ≡ (state self.old).tells };
 
     /// How many writes and flushes have failed so far.
     fn failures(&self) -> u64
-        ensures { result ≡ failure_count self.now };
+        ensures { result ≡ (state self.now).failures };
 }
 
 /// An outlet into memory that cuts its writes, and fails when it is told to. It shows how a program behaves on such a device.
@@ -109,11 +105,7 @@ impl ScriptOutlet {
 }
 
 impl Outlet for ScriptOutlet {
-    ghost tells = { λ _. true };
-
-    ghost taken = { λ o. o.bytes };
-
-    ghost failure_count = { λ o. o.failures };
+    ghost state = { λ o. record { tells = true; taken = o.bytes; failures = o.failures } };
 
     fn write(&mut self, bytes: &[u8]) -> Result<usize, OutletFailed>
         requires { self.old.failures < u64.MAX }
@@ -176,12 +168,12 @@ pub struct Sent {
 ///
 /// The first failure ends it: the outlet has then taken the first `count` bytes, and failed once in this call.
 pub fn send<O: Outlet>(outlet: &mut O, bytes: &[u8]) -> Result<(), Sent>
-    requires { O.failure_count outlet.old < u64.MAX }
-    ensures ok { OnOk result (IsTrue (O.tells outlet.old) → O.taken outlet.new ≡ O.taken outlet.old ++ bytes.now) }
+    requires { (O.state outlet.old).failures < u64.MAX }
+    ensures ok { OnOk result (IsTrue (O.state outlet.old).tells → (O.state outlet.new).taken ≡ (O.state outlet.old).taken ++ bytes.now) }
     ensures short { IfErr result (λ sent. sent.count < length bytes.now) }
-    ensures err { IfErr result (λ sent. IsTrue (O.tells outlet.old) → O.taken outlet.new ≡ O.taken outlet.old ++ take sent.count bytes.now) }
-    ensures failures { O.failure_count outlet.new ≡ O.failure_count outlet.old + (if is_ok result then 0 else 1) }
-    ensures told { O.tells outlet.new ≡ O.tells outlet.old }
+    ensures err { IfErr result (λ sent. IsTrue (O.state outlet.old).tells → (O.state outlet.new).taken ≡ (O.state outlet.old).taken ++ take sent.count bytes.now) }
+    ensures failures { (O.state outlet.new).failures ≡ (O.state outlet.old).failures + (if is_ok result then 0 else 1) }
+    ensures told { (O.state outlet.new).tells ≡ (O.state outlet.old).tells }
     ensures empty { bytes.now ≡ [] → outlet.new ≡ outlet.old }
 {
     let mut sent = 0;

@@ -134,7 +134,7 @@ impl Model for FastqRecord {
 }
 
 impl FastqRecord {
-    ghost use Rattle.std.specs.Prelude.{◌+◌, ◌≤◌, length, IfOk};
+    ghost use Rattle.std.specs.Prelude.{◌+◌, ◌*◌, ◌≤◌, length, IfOk};
     ghost use Rattle.fq_text.specs.Grammar.{Read, IsLawful};
     ghost use Rattle.fq_text.specs.Unwrapped.{unwrapped};
 
@@ -159,18 +159,18 @@ impl FastqRecord {
         lines: &[u8],
         shape: Shape,
     ) -> Result<FastqRecord, AllocError>
-        requires lawful { IsLawful (unwrapped encoding shape.title shape.bases lines.now) }
-        requires whole { length lines.now ≡ shape.title + shape.bases + shape.bases + 4 }
-        ensures { IfOk result (λ r. r ≡ unwrapped encoding shape.title shape.bases lines.now) }
+        requires lawful { IsLawful (unwrapped encoding shape lines.now) }
+        requires whole { length lines.now ≡ shape.title + shape.bases + shape.bases + shape.again + 3 * shape.end + 1 }
+        ensures { IfOk result (λ r. r ≡ unwrapped encoding shape lines.now) }
     {
         let bytes = Vec::from_slice(alloc, lines)?;
         Ok(FastqRecord {
             encoding,
             bytes,
             title_len: shape.title,
-            seq_start: shape.title + 1,
+            seq_start: shape.title + shape.end,
             seq_len: shape.bases,
-            qual_start: shape.title + shape.bases + 4,
+            qual_start: shape.title + shape.bases + shape.again + 3 * shape.end + 1,
         })
     }
 

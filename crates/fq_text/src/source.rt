@@ -55,11 +55,11 @@ impl<F: Feed> Model for Source<F> {
       last = s.last;
     } };
 
-    ghost invariant = { λ s. IsSound F.tells F.to_come s.lines
+    ghost invariant = { λ s. IsSound F.state s.lines
         × (s.given + length s.lines.in_hand ≤ s.lines.taken)
         × (s.lines.chunk ≤ 1048576) × (s.lines.max_reads ≤ 2 ^ 40)
         × (s.last ≡ None → length s.lines.in_hand < s.lines.chunk)
-        × (s.last ≡ None → F.failure_count s.lines.feed ≡ 0) };
+        × (s.last ≡ None → (F.state s.lines.feed).failures ≡ 0) };
 }
 
 impl<F: Feed> Source<F> {
@@ -77,7 +77,7 @@ impl<F: Feed> Source<F> {
         requires small { chunk ≤ 1048576 }
         requires reads { 0 < max_reads }
         requires few { max_reads ≤ 2 ^ 40 }
-        requires healthy { F.failure_count feed ≡ 0 }
+        requires healthy { (F.state feed).failures ≡ 0 }
         ensures ok { IfOk result (λ source. source ≡ record { feed = feed; encoding = encoding; chunk = chunk; max_reads = max_reads; in_hand = []; taken = 0; given = 0; last = None }) }
         ensures err { IfErr result (λ refused. refused.feed ≡ feed) }
     {
@@ -115,13 +115,13 @@ impl<F: Feed> Source<F> {
         ensures again { MatchOption self.old.last (Unit {0}) (λ last. (result ≡ answer_of last) × (self.new ≡ self.old)) }
 
         // Otherwise the answer is what stands in front of the rest.
-        ensures found { self.old.last ≡ None → IfOk result (λ o. IfSome o (GivesRecord F.tells F.to_come self.old self.new)) }
-        ensures end { self.old.last ≡ None → result ≡ Ok None → EndsText F.tells F.to_come self.old self.new }
-        ensures fault { self.old.last ≡ None → IfErr result (StopsText F.tells F.to_come self.old self.new) }
+        ensures found { self.old.last ≡ None → IfOk result (λ o. IfSome o (GivesRecord F.state self.old self.new)) }
+        ensures end { self.old.last ≡ None → result ≡ Ok None → EndsText F.state self.old self.new }
+        ensures fault { self.old.last ≡ None → IfErr result (StopsText F.state self.old self.new) }
 
         // The feed fails where the answer says so, and what it gives is counted.
-        ensures failures { self.old.last ≡ None → F.failure_count self.new.feed ≡ F.failure_count self.old.feed + failed_in result }
-        ensures count { KeepsCount F.tells F.to_come self.old self.new }
+        ensures failures { self.old.last ≡ None → (F.state self.new.feed).failures ≡ (F.state self.old.feed).failures + failed_in result }
+        ensures count { KeepsCount F.state self.old self.new }
         ensures bound { self.new.given ≤ self.new.taken }
         ensures limit { self.new.taken ≤ self.new.max_reads * self.new.chunk }
         ensures fits { self.new.taken ≤ 2 ^ 60 }
@@ -135,11 +135,11 @@ impl<F: Feed> Source<F> {
 
     fn read_next(&mut self) -> Result<Option<FastqRecord>, TextFault>
         requires { self.old.last ≡ None }
-        ensures found { IfOk result (λ o. IfSome o (GivesRecord F.tells F.to_come self.old self.new)) }
-        ensures end { result ≡ Ok None → EndsText F.tells F.to_come self.old self.new }
-        ensures fault { IfErr result (StopsText F.tells F.to_come self.old self.new) }
-        ensures failures { F.failure_count self.new.feed ≡ F.failure_count self.old.feed + failed_in result }
-        ensures count { KeepsCount F.tells F.to_come self.old self.new }
+        ensures found { IfOk result (λ o. IfSome o (GivesRecord F.state self.old self.new)) }
+        ensures end { result ≡ Ok None → EndsText F.state self.old self.new }
+        ensures fault { IfErr result (StopsText F.state self.old self.new) }
+        ensures failures { (F.state self.new.feed).failures ≡ (F.state self.old.feed).failures + failed_in result }
+        ensures count { KeepsCount F.state self.old self.new }
         ensures bound { self.new.given ≤ self.new.taken }
         ensures limit { self.new.taken ≤ self.new.max_reads * self.new.chunk }
         ensures fits { self.new.taken ≤ 2 ^ 60 }
@@ -161,8 +161,8 @@ impl<F: Feed> Source<F> {
                 self.last = Some(Ok(()));
                 Ok(None)
             }
-            Err(stop) => {
-                let fault = stop.numbered(self.given + 1);
+            Err(error) => {
+                let fault = error.numbered(self.given + 1);
                 self.last = Some(Err(fault));
                 Err(fault)
             }

@@ -1,21 +1,146 @@
 //! A record of four unwrapped lines that is whole in hand: most files hold no other, and it is copied at one stroke.
 
-ghost use Rattle.std.specs.Prelude.{◌≡◌, ◌↔◌, ◌≤◌, ℕ, None, drop, IsTrue, IfSome};
+ghost use Rattle.std.specs.Prelude.{◌≡◌, ◌↔◌, ◌+◌, ◌*◌, ◌-◌, ◌≤◌, ◌⊎◌, ℕ, None, take, drop, length, slice_index, IsTrue, IfSome};
 ghost use Rattle.fq_text.specs.Grammar.{limit};
 ghost use Rattle.fq_text.specs.Reading.{NoLf, IsLineEnd};
-ghost use Rattle.fq_text.specs.Unwrapped.{IsFourLines, StandsFirst};
+ghost use Rattle.fq_text.specs.Unwrapped.{EndsAt, IsFirstLine, DoLinesEnd, IsFourLines, IsShape, StandsFirst};
+ghost use Rattle.fq_text.specs.declared.unwrapped.Shape.{Shape};
 
-use crate::buffer::trimmed;
 use crate::encoding::Encoding;
 use crate::judge::{LIMIT, begins_with};
 use crate::view::is_lawful_line;
 use memchr::memchr;
 
-/// How long the title and the sequence of a record are.
+/// How long the parts of a record are: the title, the sequence, each line end (LF, or CR and LF), and what follows the mark of the third
+/// line, which is nothing or the title again.
 #[derive(Clone, Copy)]
 pub(crate) struct Shape {
     pub(crate) title: usize,
     pub(crate) bases: usize,
+    pub(crate) end: usize,
+    pub(crate) again: usize,
+}
+
+// How long a line is, and its end: LF, or CR and LF.
+#[derive(Clone, Copy)]
+struct FirstLine {
+    len: usize,
+    end: usize,
+}
+
+// Whether a line end of so many bytes stands at this place.
+fn ends_at(hand: &[u8], place: usize, end: usize) -> bool
+    requires some { 1 ≤ end }
+    requires within { place + end ≤ length hand.now }
+    ensures { IsTrue result ↔ EndsAt hand.now place end }
+{
+    hand[place + end - 1] == b'\n' && (end == 1 || hand[place] == b'\r')
+}
+
+// Whether so many bytes at this place are those behind the first.
+fn repeats(hand: &[u8], place: usize, len: usize) -> bool
+    requires some { 1 ≤ place }
+    requires within { place + len ≤ length hand.now }
+    ensures { IsTrue result ↔ take len (drop place hand.now) ≡ take len (drop 1 hand.now) }
+{
+    hand[place..place + len] == hand[1..1 + len]
+}
+
+// Whether each of four lines of this shape ends where it does.
+fn do_lines_end(hand: &[u8], shape: Shape) -> bool
+    requires some { 1 ≤ shape.end }
+    requires fits { shape.title + shape.bases + shape.bases + shape.again + 4 * shape.end + 2 ≤ length hand.now }
+    ensures { IsTrue result ↔ DoLinesEnd hand.now shape }
+{
+    let Shape {
+        title,
+        bases,
+        end,
+        again,
+    } = shape;
+    ends_at(hand, title + 1, end)
+        && ends_at(hand, title + bases + end + 1, end)
+        && ends_at(hand, title + bases + again + 2 * end + 2, end)
+        && ends_at(hand, title + bases + bases + again + 3 * end + 2, end)
+}
+
+// Whether the marks, the line ends and what follows the second mark stand where they do in four lines of this shape.
+fn are_four_lines(hand: &[u8], shape: Shape) -> bool
+    requires some { 1 ≤ shape.end }
+    requires end { shape.end ≤ 2 }
+    requires title { shape.title ≤ limit }
+    requires bases { shape.bases ≤ limit }
+    requires again { shape.again ≤ limit }
+    ensures { IsTrue result ↔ IsFourLines hand.now shape }
+{
+    let Shape {
+        title,
+        bases,
+        end,
+        again,
+    } = shape;
+    if title + bases + bases + again + 4 * end + 2 > hand.len() {
+        return false;
+    }
+    let plus = title + bases + 2 * end + 1;
+    hand[0] == b'@'
+        && hand[plus] == b'+'
+        && do_lines_end(hand, shape)
+        && repeats(hand, plus + 1, again)
+}
+
+// Whether a record of this shape stands first in these bytes.
+fn stands_first(encoding: Encoding, hand: &[u8], shape: Shape) -> bool
+    requires shape { IsShape shape }
+    requires title { IsFirstLine (drop 1 hand.now) shape.title shape.end }
+    ensures { IsTrue result ↔ StandsFirst encoding hand.now shape }
+{
+    let Shape {
+        title,
+        bases,
+        end,
+        again,
+    } = shape;
+    if title >= LIMIT || bases == 0 || bases > LIMIT || !are_four_lines(hand, shape) {
+        return false;
+    }
+    let seq = title + end + 1;
+    let qual = title + bases + again + 3 * end + 2;
+    is_lawful_line(
+        encoding,
+        &hand[1..title + 1],
+        &hand[seq..seq + bases],
+        &hand[qual..qual + bases],
+    )
+}
+
+// The shape of a record with this title and so many bases that stands first in these bytes.
+fn shape_of(encoding: Encoding, hand: &[u8], title: FirstLine, bases: usize) -> Option<Shape>
+    requires { IsFirstLine (drop 1 hand.now) title.len title.end }
+    ensures found { IfSome result (StandsFirst encoding hand.now) }
+    ensures none { result ≡ None → (again : ℕ) → StandsFirst encoding hand.now (record { title = title.len; bases = bases; end = title.end; again = again }) → ⊥ }
+{
+    let FirstLine { len: title, end } = title;
+    let bare = Shape {
+        title,
+        bases,
+        end,
+        again: 0,
+    };
+    if stands_first(encoding, hand, bare) {
+        return Some(bare);
+    }
+    let titled = Shape {
+        title,
+        bases,
+        end,
+        again: title,
+    };
+    if stands_first(encoding, hand, titled) {
+        Some(titled)
+    } else {
+        None
+    }
 }
 
 // The place of the first LF, if there is one.
@@ -25,64 +150,45 @@ fn line_end(text: &[u8]) -> Option<usize>
     memchr(b'\n', text)
 }
 
-// Whether the marks and the line ends stand where they do in a record of four lines with a title and a sequence of these lengths.
-fn are_four_lines(hand: &[u8], title: usize, bases: usize) -> bool
-    requires title { title ≤ limit }
-    requires bases { bases ≤ limit }
-    ensures { IsTrue result ↔ IsFourLines hand.now title bases }
+// The first line of a text, and how many bytes its line end has. A CR before the LF belongs to the end.
+fn first_line(text: &[u8]) -> Option<FirstLine>
+    ensures found { IfSome result (λ l. IsFirstLine text.now l.len l.end) }
+    ensures none { result ≡ None → NoLf text.now (length text.now) }
 {
-    let plus = title + bases + 3;
-    plus + bases + 2 < hand.len()
-        && hand[0] == b'@'
-        && hand[title + 1] == b'\n'
-        && hand[plus - 1] == b'\n'
-        && hand[plus] == b'+'
-        && hand[plus + 1] == b'\n'
-        && hand[plus + bases + 2] == b'\n'
-}
-
-// Whether a record with a title and a sequence of these lengths stands first in these bytes, of which the title is one line.
-fn stands_first(encoding: Encoding, hand: &[u8], title: usize, bases: usize) -> bool
-    requires { NoLf (drop 1 hand.now) title }
-    ensures { IsTrue result ↔ StandsFirst encoding hand.now title bases }
-{
-    if title >= LIMIT || bases == 0 || bases > LIMIT || !are_four_lines(hand, title, bases) {
-        return false;
+    let place = match line_end(text) {
+        Some(place) => place,
+        None => return None,
+    };
+    if 0 < place && text[place - 1] == b'\r' {
+        Some(FirstLine {
+            len: place - 1,
+            end: 2,
+        })
+    } else {
+        Some(FirstLine { len: place, end: 1 })
     }
-    let line = &hand[1..title + 1];
-    let seq = &hand[title + 2..title + 2 + bases];
-    let qual = &hand[title + bases + 5..title + bases + 5 + bases];
-    trimmed(line) == line.len() && is_lawful_line(encoding, line, seq, qual)
 }
 
-/// The shape of a record that stands first in these bytes, in four lines that end in LF alone, the third a bare `+`.
-/// Where it is `None` there is none, and may be a record of another form.
+/// The shape of a record that stands first in these bytes, in four lines that all end in LF or all in CR and LF, the third a bare `+`
+/// or one with the title behind it. Where it is `None` there is none, and may be a record of another form.
 ///
 /// The end of the title is searched for. So is that of the sequence, but where as many bases as guessed make a record.
 pub(crate) fn first_record(encoding: Encoding, hand: &[u8], guess: usize) -> Option<Shape>
-    ensures found { IfSome result (λ s. StandsFirst encoding hand.now s.title s.bases) }
-    ensures none { result ≡ None → (title : ℕ) → (bases : ℕ) → StandsFirst encoding hand.now title bases → ⊥ }
+    ensures found { IfSome result (StandsFirst encoding hand.now) }
+    ensures none { result ≡ None → (shape : Shape) → StandsFirst encoding hand.now shape → ⊥ }
 {
     if !begins_with(hand, b'@') {
         return None;
     }
-    let title = match line_end(&hand[1..]) {
-        Some(at) => at,
+    let title = match first_line(&hand[1..]) {
+        Some(title) => title,
         None => return None,
     };
-    if stands_first(encoding, hand, title, guess) {
-        return Some(Shape {
-            title,
-            bases: guess,
-        });
+    if let Some(shape) = shape_of(encoding, hand, title, guess) {
+        return Some(shape);
     }
-    let bases = match line_end(&hand[title + 2..]) {
-        Some(at) => at,
-        None => return None,
-    };
-    if stands_first(encoding, hand, title, bases) {
-        Some(Shape { title, bases })
-    } else {
-        None
+    match first_line(&hand[title.len + title.end + 1..]) {
+        Some(seq) if seq.end == title.end => shape_of(encoding, hand, title, seq.len),
+        _ => None,
     }
 }

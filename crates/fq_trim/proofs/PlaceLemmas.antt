@@ -318,30 +318,34 @@ module _ (e : Encoding) (qual : List ℕ) where
       (λ k from lt. subst (λ n. n < t) (same k lt) (low k from (omega arith))))
 
 -- The sum of windows begins with the one that ends at `from`: each of the first `front` scores is at least t.
-module _ (e : Encoding) (qual : List ℕ) (w t least front from total : ℕ) (least_is : least ≡ w * t) (fits : w ≤ length qual) (within : front ≤ length qual)
+module _ (e : Encoding) (qual : List ℕ) (w t score front from total : ℕ) (score_is : score ≡ t) (fits : w ≤ length qual) (within : front ≤ length qual)
     (high : list_all (leb t) (take front (scores e qual)) ≡ true) (from_is : from ≡ max front w) (total_is : total ≡ sum (scores e (take (from - (from - w)) (drop (from - w) qual)))) where
+  least_is : w * score ≡ w * t
+  least_is = ap (λ n. w * n) score_is
+
   pub from_sum : total ≡ sum (take w (drop (from - w) (scores e qual)))
   from_sum =
       let size : from - (from - w) ≡ w = omega arith in
       total_is ∙ ap sum (scores_of_part e qual (from - w) (from - (from - w))) ∙ ap (λ n. sum (take n (drop (from - w) (scores e qual)))) size
 
   -- a window up to there is good, or it is the first of all
-  window_up_to : (s : ℕ) → s + w ≤ from → (least ≤ sum (take w (drop s (scores e qual)))) ⊎ (from ≡ w)
+  window_up_to : (s : ℕ) → s + w ≤ from → (w * score ≤ sum (take w (drop s (scores e qual)))) ⊎ (from ≡ w)
   window_up_to s le = ⊎_elim
-      (λ skips. let len = length-scores e qual in let good = high_window w t front s (scores e qual) (omega arith) high (omega arith) in inl (omega arith))
+      (λ skips. let least = least_is in let len = length-scores e qual in let good = high_window w t front s (scores e qual) (omega arith) high (omega arith) in inl (omega arith))
       (λ none. inr (omega arith))
       (cases_lt w front)
 
-  pub from_good : least ≤ total → (s : ℕ) → s + w ≤ from → least ≤ sum (take w (drop s (scores e qual)))
+  pub from_good : w * score ≤ total → (s : ℕ) → s + w ≤ from → w * score ≤ sum (take w (drop s (scores e qual)))
   from_good good s le = ⊎_elim
       (λ is. is)
       (λ first. let here = from_sum in let start : from - w ≡ s = omega arith in let is = ap (λ n. sum (take w (drop n (scores e qual)))) start in omega arith)
       (window_up_to s le)
 
-  pub from_bad : total < least → IsBetween (keeps (SlidingWindow w t) (scores e qual)) (length qual) 0 0
+  pub from_bad : total < w * score → IsBetween (keeps (SlidingWindow w t) (scores e qual)) (length qual) 0 0
   from_bad bad =
       let q = scores e qual in
       let here = from_sum in
+      let least = least_is in
       let first : sum (take w q) < w * t = ⊎_elim
       (λ good. absurd (omega arith))
       (λ first. let start : from - w ≡ 0 = omega arith in let is = ap (λ n. sum (take w (drop n q))) start in omega arith)

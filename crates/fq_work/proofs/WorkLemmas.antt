@@ -1,8 +1,8 @@
--- Replies to some blocks and one more, and lines with some items more.
+-- Replies to some blocks and one more, and histories with some items more.
 use Rattle.std.proofs.Common.{◌≡◌, Bool, true, false, List, [], ◌∷◌, ◌++◌, refl, sym, ap, ◌∙◌, append_assoc, Option, Some, None, is_some, Result, Ok, Err, IfOk}
 use Rattle.std.proofs.lemmas.List.{append-nil}
 use Rattle.fq_trim.specs.declared.step.Step.{Step}
-use Rattle.fq_lane.specs.Line.{Line, with_item, with_mark}
+use Rattle.fq_lane.specs.History.{History, with_item, with_mark}
 use Rattle.fq_block.specs.Blocks.{Numbered}
 use Rattle.fq_work.specs.declared.done.Done.{Done}
 use Rattle.fq_work.specs.declared.reply.Cause.{Cause}
@@ -37,29 +37,29 @@ module _ (steps : List Step) where
   answers_more (a ∷ bs) more (Stop k ∷ rs) c h = h
 
 module _ {T : Type 0} where
-  pub with_none : (l : Line T) → l ≡ with_items l [] l.marked
-  with_none l = ap (λ xs. let k : Line T = record { name = l.name; items = xs; marked = l.marked } in k) (sym (append-nil l.items))
+  pub with_none : (l : History T) → l ≡ with_items l [] l.marked
+  with_none l = ap (λ xs. let k : History T = record { name = l.name; items = xs; marked = l.marked } in k) (sym (append-nil l.items))
 
   -- one item more than some
-  pub with_more : (l k n : Line T) (xs : List T) (x : T) (m : Bool) → k ≡ with_items l xs m → n ≡ with_item k x → n ≡ with_items l (xs ++ x ∷ []) m
+  pub with_more : (l k n : History T) (xs : List T) (x : T) (m : Bool) → k ≡ with_items l xs m → n ≡ with_item k x → n ≡ with_items l (xs ++ x ∷ []) m
   with_more l k n xs x m e f =
-      f ∙ ap (λ j. with_item j x) e ∙ ap (λ ys. let j : Line T = record { name = l.name; items = ys; marked = m } in j) (append_assoc l.items xs (x ∷ []))
+      f ∙ ap (λ j. with_item j x) e ∙ ap (λ ys. let j : History T = record { name = l.name; items = ys; marked = m } in j) (append_assoc l.items xs (x ∷ []))
 
   -- some items more than some, and the mark
-  pub with_both : (l k n : Line T) (xs ys : List T) (m : Bool) → k ≡ with_items l xs m → n ≡ with_items k ys true → n ≡ with_items l (xs ++ ys) true
+  pub with_both : (l k n : History T) (xs ys : List T) (m : Bool) → k ≡ with_items l xs m → n ≡ with_items k ys true → n ≡ with_items l (xs ++ ys) true
   with_both l k n xs ys m e f =
-      f ∙ ap (λ j. with_items j ys true) e ∙ ap (λ zs. let j : Line T = record { name = l.name; items = zs; marked = true } in j) (append_assoc l.items xs ys)
+      f ∙ ap (λ j. with_items j ys true) e ∙ ap (λ zs. let j : History T = record { name = l.name; items = zs; marked = true } in j) (append_assoc l.items xs ys)
 
 -- what was taken and answered in all: up to a mark, behind a Stop drained up to it
 module _ (steps : List Step) where
-  pub record HasWorked (cause : Option Cause) (rx rx_new : Line Numbered) (tx tx_new : Line Reply) : Type 0 where
+  pub record HasWorked (cause : Option Cause) (rx rx_new : History Numbered) (tx tx_new : History Reply) : Type 0 where
     pub took : List Numbered
     pub replies : List Reply
     pub received : rx_new ≡ with_items rx took true
     pub sent : tx_new ≡ with_items tx replies tx.marked
     pub answers : Answers steps took replies cause
 
-  pub worked : (cause : Option Cause) (b : Bool) (rx rx1 rx2 : Line Numbered) (tx tx1 tx2 : Line Reply) → b ≡ is_some cause → HasAnswered steps cause rx rx1 tx tx1
+  pub worked : (cause : Option Cause) (b : Bool) (rx rx1 rx2 : History Numbered) (tx tx1 tx2 : History Reply) → b ≡ is_some cause → HasAnswered steps cause rx rx1 tx tx1
       → (b ≡ true → HasDrained rx1 rx2 × (tx2 ≡ tx1)) → (b ≡ false → (rx2 ≡ rx1) × (tx2 ≡ tx1)) → HasWorked cause rx rx2 tx tx2
   worked None b rx rx1 rx2 tx tx1 tx2 is h more same =
       record { took = h.took; replies = h.replies; received = (same is).0 ∙ h.received; sent = (same is).1 ∙ h.sent; answers = h.answers }
@@ -72,6 +72,6 @@ module _ (steps : List Step) where
         answers = answers_more steps h.took d.0.took h.replies c h.answers;
       }
 
-pub closed : {E : Type 0} (tx tx1 : Line Reply) (replies : List Reply) (r : Result (Line Reply) E) → tx1 ≡ with_items tx replies tx.marked → IfOk r (λ e. e ≡ with_mark tx1) → IfOk r (λ e. e ≡ with_items tx replies true)
+pub closed : {E : Type 0} (tx tx1 : History Reply) (replies : List Reply) (r : Result (History Reply) E) → tx1 ≡ with_items tx replies tx.marked → IfOk r (λ e. e ≡ with_mark tx1) → IfOk r (λ e. e ≡ with_items tx replies true)
 closed tx tx1 replies (Ok e) is q = q ∙ ap with_mark is
 closed tx tx1 replies (Err e) is q = tt

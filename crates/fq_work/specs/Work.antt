@@ -1,7 +1,7 @@
 -- What a worker has done with its lanes.
 use Rattle.std.specs.Prelude.{◌≡◌, Bool, true, List, ◌++◌, Option, Some, None, IfOk}
 use Rattle.fq_trim.specs.declared.step.Step.{Step}
-use Rattle.fq_lane.specs.Line.{Line}
+use Rattle.fq_lane.specs.History.{History}
 use Rattle.fq_block.specs.Blocks.{Numbered}
 use Rattle.fq_work.specs.declared.ends.Worked.{Worked}
 use Rattle.fq_work.specs.declared.reply.Cause.{Cause}
@@ -9,11 +9,11 @@ use Rattle.fq_work.specs.declared.reply.Reply.{Reply}
 use Rattle.fq_work.specs.Replies.{Answers}
 
 -- some items more, and the mark or not
-abbrev pub with_items : {T : Type 0} → Line T → List T → Bool → Line T
-with_items line items marked = record { name = line.name; items = line.items ++ items; marked = marked }
+abbrev pub with_items : {T : Type 0} → History T → List T → Bool → History T
+with_items history items marked = record { name = history.name; items = history.items ++ items; marked = marked }
 
 -- it took some blocks, up to the mark, and what it sent answers them
-pub record IsWork (steps : List Step) (rx : Line Numbered) (tx : Line Reply) (worked : Worked) : Type 0 where
+pub record IsWork (steps : List Step) (rx : History Numbered) (tx : History Reply) (worked : Worked) : Type 0 where
   pub took : List Numbered
   pub replies : List Reply
   pub received : worked.rx ≡ with_items rx took true
@@ -28,7 +28,7 @@ marked_by None marked = true
 marked_by (Some cause) marked = marked
 
 -- so far it took some blocks, and what it sent answers them
-pub record HasAnswered (steps : List Step) (cause : Option Cause) (rx rx_new : Line Numbered) (tx tx_new : Line Reply) : Type 0 where
+pub record HasAnswered (steps : List Step) (cause : Option Cause) (rx rx_new : History Numbered) (tx tx_new : History Reply) : Type 0 where
   pub took : List Numbered
   pub replies : List Reply
   pub received : rx_new ≡ with_items rx took (marked_by cause rx.marked)
@@ -36,6 +36,6 @@ pub record HasAnswered (steps : List Step) (cause : Option Cause) (rx rx_new : L
   pub answers : Answers steps took replies cause
 
 -- it took some blocks, up to the mark
-pub record HasDrained (rx rx_new : Line Numbered) : Type 0 where
+pub record HasDrained (rx rx_new : History Numbered) : Type 0 where
   pub took : List Numbered
   pub received : rx_new ≡ with_items rx took true

@@ -1,7 +1,7 @@
 //! The worker.
 
 ghost use Rattle.std.specs.Prelude.{◌≡◌, true, IfOk};
-ghost use Rattle.fq_lane.specs.Line.{with_item};
+ghost use Rattle.fq_lane.specs.History.{with_item};
 ghost use Rattle.fq_work.specs.Replies.{done_of, reply_to};
 ghost use Rattle.fq_work.specs.Work.{IsWork, HasAnswered, HasDrained};
 

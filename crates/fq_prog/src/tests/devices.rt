@@ -85,6 +85,17 @@ impl Files for TroubledFiles {
     }
 }
 
+// Calls the program on files that make trouble.
+fn call_troubled<R: Threads + Wait + Copy + Send + 'static>(
+    rt: &R,
+    alloc: Global,
+    words: &[&str],
+    files: &mut TroubledFiles,
+) -> Called {
+    let out = ScriptOutlet::new(alloc, 1000, 0, false);
+    call_program(rt, alloc, words, files, out)
+}
+
 fn two_pairs_with(
     alloc: Global,
     name: &'static str,
@@ -99,7 +110,7 @@ fn each_output_is_done_with_after_a_failed_write(rt: HostRuntime) -> Result<(), 
     let mut files = TroubledFiles::new(rt.alloc(), held, "fp", Trouble::Call(3));
     let options = ["--trimlog", "log", "--threads", "2", "--block", "1"];
     let words = pairs_words(rt.alloc(), &options, SEVEN_STEPS)?;
-    let called = call(&rt, rt.alloc(), &words, &mut files);
+    let called = call_troubled(&rt, rt.alloc(), &words, &mut files);
     assert_eq!(rt; called.status, 4);
     assert_eq!(rt;
         called.err.bytes(),
@@ -135,7 +146,7 @@ fn each_output_is_done_with_after_a_failed_read(rt: HostRuntime) -> Result<(), F
             &["--trimlog", "log", "--chunk", "18"],
             &["LEADING:3"],
         )?;
-        let called = call(&rt, rt.alloc(), &words, &mut files);
+        let called = call_troubled(&rt, rt.alloc(), &words, &mut files);
         assert_eq!(rt; called.status, 4);
         assert_eq!(rt; called.err.bytes(), line);
         assert_eq!(rt; called.out.bytes(), b"".as_slice());
@@ -147,17 +158,18 @@ fn each_output_is_done_with_after_a_failed_read(rt: HostRuntime) -> Result<(), F
 }
 
 #[test]
-fn a_failed_read_of_one_file_has_the_side_of_its_record(rt: HostRuntime) -> Result<(), Fail> {
+fn a_failed_read_of_an_interleaved_file_has_the_side_of_its_record(
+    rt: HostRuntime,
+) -> Result<(), Fail> {
     let rows: [(u64, &[u8], &[u8]); 2] = [
         (2, b"read failed: reverse\n", b""),
         (3, b"read failed: forward\n", b"@p1/1\nGT\n+\nII\n"),
     ];
     for (read, line, trimmed) in rows {
-        let mut held = MemoryFiles::new(rt.alloc());
-        held.put("i", IN_TURN)?;
+        let held = interleaved_file(rt.alloc(), INTERLEAVED)?;
         let mut files = TroubledFiles::new(rt.alloc(), held, "i", Trouble::Call(read));
         let words = command_words(rt.alloc(), "IL", &["--chunk", "18"], &["i"], &["LEADING:3"])?;
-        let called = call(&rt, rt.alloc(), &words, &mut files);
+        let called = call_troubled(&rt, rt.alloc(), &words, &mut files);
         assert_eq!(rt; called.status, 4);
         assert_eq!(rt; called.err.bytes(), line);
         assert!(rt; holds(&files.held, "fp", trimmed));
@@ -181,7 +193,7 @@ fn files_that_are_refused(rt: HostRuntime) -> Result<(), Fail> {
     for (name, fault, status, line) in rows {
         let mut files = two_pairs_with(rt.alloc(), name, Trouble::Refused(fault))?;
         let words = pairs_words(rt.alloc(), TWO_OPTIONS, &["LEADING:3"])?;
-        let called = call(&rt, rt.alloc(), &words, &mut files);
+        let called = call_troubled(&rt, rt.alloc(), &words, &mut files);
         assert_eq!(rt; called.status, status);
         assert_eq!(rt; called.err.bytes(), line);
         assert_eq!(rt; called.out.bytes(), b"".as_slice());
@@ -209,7 +221,7 @@ fn an_output_that_is_an_input_under_another_name(rt: HostRuntime) -> Result<(), 
     for (name, line) in rows {
         let mut files = two_pairs_with(rt.alloc(), name, Trouble::Input)?;
         let words = pairs_words(rt.alloc(), &["--trimlog", "log"], &["LEADING:3"])?;
-        let called = call(&rt, rt.alloc(), &words, &mut files);
+        let called = call_troubled(&rt, rt.alloc(), &words, &mut files);
         assert_eq!(rt; called.status, 4);
         assert_eq!(rt; called.err.bytes(), line);
         for output in OUTPUTS {
@@ -224,11 +236,7 @@ fn a_standard_output_that_fails(rt: HostRuntime) -> Result<(), Fail> {
     let words = pairs_words(rt.alloc(), TWO_OPTIONS, &["LEADING:3"])?;
     let rows: [(&[u8], u8, &[u8]); 2] = [
         (FORWARD, 4, b"cannot print\n"),
-        (
-            &FORWARD[..16],
-            3,
-            b"input: forward record 1: QualityShort\n",
-        ),
+        (FORWARD_SHORT, 3, b"input: forward record 1: QualityShort\n"),
     ];
     for (forward, status, line) in rows {
         let mut files = files_of(rt.alloc(), forward, REVERSE)?;

@@ -76,66 +76,56 @@ fn one_step_too_many(rt: HostRuntime) -> Result<(), Fail> {
 }
 
 #[test]
-fn words_that_are_no_command(rt: HostRuntime) -> Result<(), Fail> {
-    let rows: [&[&str]; 8] = [
-        &["fq"],
-        &["fq", "PE", "f"],
-        &["fq", "IL"],
-        &["fq", "IL", "i", "fp", "fu", "rp"],
-        &["fq", "il", "i", "fp", "fu", "rp", "ru", "LEADING:3"],
-        &["fq", "example"],
-        &["fq", "EXAMPLE", "f"],
-        &[
-            "fq",
-            "PE",
-            "--threads",
-            "x",
-            "f",
-            "r",
-            "fp",
-            "fu",
-            "rp",
-            "ru",
-        ],
+fn what_is_refused_of_an_interleaved_file(rt: HostRuntime) -> Result<(), Fail> {
+    let rows: [(&str, u8, &[u8]); 6] = [
+        ("fq IL i i fu rp ru LEADING:3", 2, b"same name: i\n"),
+        (
+            "fq IL --trimlog i i fp fu rp ru LEADING:3",
+            2,
+            b"same name: i\n",
+        ),
+        ("fq IL i fp fu rp ru", 2, b"bad step 0: NoSteps\n"),
+        (
+            "fq IL --threads 0 i fp fu rp ru LEADING:3",
+            2,
+            b"bad setting: workers\n",
+        ),
+        (
+            "fq IL --encoding phred none fp fu rp ru CROP",
+            2,
+            b"bad encoding: phred\n",
+        ),
+        ("fq IL none fp fu rp ru LEADING:3", 4, b"cannot read none\n"),
     ];
-    for words in rows {
-        let mut files = MemoryFiles::new(rt.alloc());
-        let called = call(&rt, rt.alloc(), words, &mut files);
-        assert_eq!(rt; called.status, 1);
+    for (line_of_words, status, line) in rows {
+        let words: Vec<&str> = line_of_words.split(' ').collect(rt.alloc())?;
+        let mut files = interleaved_file(rt.alloc(), INTERLEAVED)?;
+        let called = call(&rt, rt.alloc(), &words, &mut files);
+        assert_eq!(rt; called.err.bytes(), line);
+        assert_eq!(rt; called.status, status);
         assert_eq!(rt; called.out.bytes(), b"".as_slice());
-        assert!(rt; !called.err.bytes().is_empty());
+        assert!(rt; files.get("fp").is_none());
+        assert!(rt; files.get("fu").is_none());
+        assert!(rt; holds(&files, "i", INTERLEAVED));
     }
     Ok(())
 }
 
+// What `clap` says of words is tested in `fq_words`: here, where it goes.
 #[test]
-fn help_is_printed(rt: HostRuntime) -> Result<(), Fail> {
-    let rows: [&[&str]; 6] = [
-        &["fq", "--help"],
-        &["fq", "PE", "--help"],
-        &["fq", "IL", "--help"],
-        &["fq", "help", "IL"],
-        &["fq", "help", "PE"],
-        &["fq", "EXAMPLE", "--help"],
+fn words_that_are_no_request(rt: HostRuntime) -> Result<(), Fail> {
+    let rows: [(&[&str], u8, bool); 4] = [
+        (&["fq", "PE", "f"], 1, false),
+        (&["fq", "IL", "i", "fp", "fu", "rp"], 1, false),
+        (&["fq", "PE", "--help"], 0, true),
+        (&["fq", "--version"], 0, true),
     ];
-    for words in rows {
+    for (words, status, printed) in rows {
         let mut files = MemoryFiles::new(rt.alloc());
         let called = call(&rt, rt.alloc(), words, &mut files);
-        assert_eq!(rt; called.status, 0);
-        assert_eq!(rt; called.err.bytes(), b"".as_slice());
-        assert!(rt; !called.out.bytes().is_empty());
-    }
-    Ok(())
-}
-
-#[test]
-fn the_version_is_printed(rt: HostRuntime) -> Result<(), Fail> {
-    for word in ["--version", "-V"] {
-        let mut files = MemoryFiles::new(rt.alloc());
-        let called = call(&rt, rt.alloc(), &["fq", word], &mut files);
-        assert_eq!(rt; called.status, 0);
-        assert_eq!(rt; called.out.bytes(), b"fq_prog 1.0.0\n".as_slice());
-        assert_eq!(rt; called.err.bytes(), b"".as_slice());
+        assert_eq!(rt; called.status, status);
+        assert_eq!(rt; !called.out.bytes().is_empty(), printed);
+        assert_eq!(rt; called.err.bytes().is_empty(), printed);
     }
     Ok(())
 }

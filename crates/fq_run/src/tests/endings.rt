@@ -59,33 +59,21 @@ fn a_flush_that_fails(rt: HostRuntime) -> Result<(), Fail> {
 }
 
 #[test]
-fn a_read_that_fails_behind_the_first_pair(rt: HostRuntime) -> Result<(), Fail> {
-    let run = Given {
-        chunk: 18,
-        fails_at_read: 2,
-        ..with_defaults(TWO_FORWARD, TWO_REVERSE, &["LEADING:3"])
-    };
-    leaves(
-        &rt,
-        rt.alloc(),
-        &run,
-        &first_pair(Outcome::Read(Side::Forward)),
-    )
-}
-
-#[test]
-fn an_input_without_an_end(rt: HostRuntime) -> Result<(), Fail> {
-    let run = Given {
-        chunk: 1,
-        max_reads: 10,
-        ..with_defaults(TWO_FORWARD, TWO_REVERSE, &["LEADING:3"])
-    };
-    leaves(
-        &rt,
-        rt.alloc(),
-        &run,
-        &nothing(Outcome::Endless(Side::Forward)),
-    )
+fn a_read_that_fails_and_an_input_without_an_end(rt: HostRuntime) -> Result<(), Fail> {
+    let side = Side::Forward;
+    for (chunk, max_reads, fails_at_read, wanted) in [
+        (18, 1000, 2, first_pair(Outcome::Read(side))),
+        (1, 10, 0, nothing(Outcome::Endless(side))),
+    ] {
+        let run = Given {
+            chunk,
+            max_reads,
+            fails_at_read,
+            ..with_defaults(TWO_FORWARD, TWO_REVERSE, &["LEADING:3"])
+        };
+        leaves(&rt, rt.alloc(), &run, &wanted)?;
+    }
+    Ok(())
 }
 
 #[test]

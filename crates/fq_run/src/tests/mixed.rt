@@ -1,14 +1,17 @@
 //! Runs over one text in which mates take turns.
 
+ghost use Rattle.std.specs.Prelude.{◌≡◌, true};
+ghost use Rattle.fq_serial.specs.Devices.{outlet_states, AreHealthy};
+
 use super::fronts::{Front, OUTS, front_of};
 use super::rows::{SEVEN_STEPS, first_pair, five_pairs, two_pairs};
 use super::sweeps::{BLOCK_PAIRS, CUT, RECORD, WAYS, Way};
 use super::{
     Given, Wanted, assert_written, counts, feed, nothing, outlets, settings_of, with_defaults,
 };
-use crate::{Outcome, run_serial_mixed, run_threads_mixed};
+use crate::{MixedEnding, Outcome, Outlets, Settings, run_serial_mixed, run_threads_mixed};
 use fq_pair::{InputFault, Out, Side};
-use fq_text::TextFault;
+use fq_text::{ScriptFeed, ScriptOutlet, TextFault};
 use fq_work::OpenGate;
 use std::alloc::Global;
 use std::process::Abort;
@@ -23,6 +26,46 @@ const ELEVEN_IN_TURN: &[u8] =
 const TWO_IN_TURN: &[u8] =
     b"@p1/1\nACGT\n+\n#!II\n@p1/2\nTTTT\n+\nIIII\n@p2/1\nGGCC\n+\nIIII\n@p2/2\nAAAA\n+\n!!!\"\n";
 
+// The runs without their promise.
+
+fn serial_mixed(
+    alloc: Global,
+    settings: &Settings,
+    text: ScriptFeed,
+    outlets: &mut Outlets<ScriptOutlet>,
+) -> MixedEnding<ScriptFeed>
+    requires text { text.failures ≡ 0 }
+    requires outlets { AreHealthy (outlet_states (λ o. true) (λ o. o.bytes) (λ o. o.failures) outlets.old) }
+{
+    run_serial_mixed(alloc, settings, text, outlets)
+}
+
+fn threaded_mixed<R: Threads + Wait + Copy + Send + 'static>(
+    rt: &R,
+    alloc: Global,
+    settings: &Settings,
+    text: ScriptFeed,
+    outlets: &mut Outlets<ScriptOutlet>,
+) -> Result<MixedEnding<ScriptFeed>, Fail>
+    requires text { text.failures ≡ 0 }
+    requires outlets { AreHealthy (outlet_states (λ o. true) (λ o. o.bytes) (λ o. o.failures) outlets.old) }
+{
+    let gate = Arc::new(alloc, OpenGate)?;
+    Ok(run_threads_mixed(alloc, rt, settings, gate, text, outlets))
+}
+
+/// Compares what a run has left.
+fn assert_left_in_turn(
+    rt: &impl Abort,
+    ending: &MixedEnding<ScriptFeed>,
+    outlets: &Outlets<ScriptOutlet>,
+    wanted: &Wanted<'_>,
+) -> Result<(), Fail> {
+    assert_written(rt, ending.outcome, ending.counts, outlets, wanted)?;
+    assert!(rt; ending.feed.is_some() && ending.unended.is_none());
+    Ok(())
+}
+
 /// Runs with a log on one thread, and then on those of 1 to 5 workers, and compares what each run leaves. The text is that of
 /// the forward side.
 fn leaves_mixed<R: Abort + Threads + Wait + Copy + Send + 'static>(
@@ -34,17 +77,14 @@ fn leaves_mixed<R: Abort + Threads + Wait + Copy + Send + 'static>(
     let settings = settings_of(given, 4, 4)?;
     let text = feed(rt, alloc, given.forward, given.cut, given.fails_at_read)?;
     let mut alone = outlets(rt, alloc, given);
-    let ending = run_serial_mixed(alloc, &settings, text, &mut alone);
-    assert_written(rt, ending.outcome, ending.counts, &alone, wanted)?;
-    assert!(rt; ending.feed.is_some() && ending.unended.is_none());
+    let ending = serial_mixed(alloc, &settings, text, &mut alone);
+    assert_left_in_turn(rt, &ending, &alone, wanted)?;
     for workers in 1..6 {
         let settings = settings_of(given, workers, 4)?;
-        let gate = Arc::new(alloc, OpenGate)?;
         let text = feed(rt, alloc, given.forward, given.cut, given.fails_at_read)?;
         let mut outlets = outlets(rt, alloc, given);
-        let ending = run_threads_mixed(alloc, rt, &settings, gate, text, &mut outlets);
-        assert_written(rt, ending.outcome, ending.counts, &outlets, wanted)?;
-        assert!(rt; ending.feed.is_some() && ending.unended.is_none());
+        let ending = threaded_mixed(rt, alloc, &settings, text, &mut outlets)?;
+        assert_left_in_turn(rt, &ending, &outlets, wanted)?;
     }
     Ok(())
 }
@@ -121,11 +161,8 @@ fn front_in_turn<R: Abort + Threads + Wait + Copy + Send + 'static>(
     let text = feed(rt, alloc, given.forward, given.cut, given.fails_at_read)?;
     let mut outlets = outlets(rt, alloc, given);
     let ending = match way {
-        Way::Serial => run_serial_mixed(alloc, &settings, text, &mut outlets),
-        Way::TwoWorkers => {
-            let gate = Arc::new(alloc, OpenGate)?;
-            run_threads_mixed(alloc, rt, &settings, gate, text, &mut outlets)
-        }
+        Way::Serial => serial_mixed(alloc, &settings, text, &mut outlets),
+        Way::TwoWorkers => threaded_mixed(rt, alloc, &settings, text, &mut outlets)?,
     };
     let front = front_of(&outlets, ending.counts, BLOCK_PAIRS)?;
     Ok((ending.outcome, front))

@@ -5,10 +5,9 @@ ghost use Rattle.std.specs.Prelude.{◌≡◌, ◌<◌, ◌+◌, ◌^◌, false,
 use super::rows::{
     SEVEN_FORWARD, SEVEN_REVERSE, SEVEN_STEPS, TWO_FORWARD, TWO_REVERSE, seven_pairs, two_pairs,
 };
-use super::{Given, feed, leaves_behind, nothing, with_defaults};
-use crate::{Outcome, Outlets, Settings, run_threads};
+use super::{Given, feed, leaves_behind, nothing, settings_with, threaded, with_defaults};
+use crate::{Outcome, Outlets, Settings};
 use fq_text::{Feed, FeedFailed, Outlet, OutletFailed, ScriptFeed, ScriptOutlet};
-use fq_trim::Steps;
 use fq_work::{Gate, OpenGate};
 use std::alloc::Global;
 use std::process::Abort;
@@ -75,17 +74,7 @@ fn one_pair_a_block() -> Given<'static> {
 }
 
 fn with_one_turn(given: &Given<'_>, workers: u64) -> Result<Settings, Fail> {
-    Ok(Settings::new(
-        given.encoding,
-        Steps::parse(given.steps)?,
-        given.check_names,
-        workers,
-        given.block_pairs,
-        1,
-        given.chunk,
-        given.max_reads,
-        1,
-    )?)
+    settings_with(given, workers, 1, 1)
 }
 
 #[test]
@@ -133,11 +122,7 @@ struct SeeingOutlet {
 }
 
 impl Feed for SeeingFeed {
-    ghost tells = { λ _. false };
-
-    ghost to_come = { λ _. [] };
-
-    ghost failure_count = { λ f. f.failures };
+    ghost state = { λ f. record { tells = false; to_come = []; failures = f.failures } };
 
     fn read(&mut self, buf: &mut [u8]) -> Result<usize, FeedFailed> {
         self.reads = self.reads.saturating_add(1);
@@ -157,11 +142,7 @@ impl Feed for SeeingFeed {
 }
 
 impl Outlet for SeeingOutlet {
-    ghost tells = { λ _. false };
-
-    ghost taken = { λ _. [] };
-
-    ghost failure_count = { λ o. o.failures };
+    ghost state = { λ o. record { tells = false; taken = []; failures = o.failures } };
 
     fn write(&mut self, bytes: &[u8]) -> Result<usize, OutletFailed> {
         let seen = match self.meeting.take() {
@@ -219,12 +200,20 @@ fn a_reader_and_a_writer_see_each_other(rt: HostRuntime) -> Result<(), Fail> {
         reverse_unpaired: seeing_outlet(rt.alloc(), None),
         log: Some(seeing_outlet(rt.alloc(), None)),
     };
-    let gate = Arc::new(rt.alloc(), OpenGate)?;
-    let alloc = rt.alloc();
-    let ending = run_threads(alloc, &rt, &settings, gate, forward, reverse, &mut outlets);
+    let ending = threaded(
+        &rt,
+        rt.alloc(),
+        &settings,
+        OpenGate,
+        forward,
+        reverse,
+        &mut outlets,
+    )?;
     let wanted = seven_pairs();
-    assert_eq!(rt; ending.outcome, wanted.outcome);
-    assert_eq!(rt; ending.counts, wanted.counts);
+    assert_eq!(rt;
+        (ending.outcome, ending.counts),
+        (wanted.outcome, wanted.counts)
+    );
     let log = outlets.log.as_ref().ok_or("a log")?;
     for (outlet, text) in [
         (&outlets.forward_paired, wanted.forward_paired),

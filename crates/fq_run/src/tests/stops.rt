@@ -1,16 +1,18 @@
 //! What a run makes of its gate, of the depth of its lanes, and of outlets behind a stop.
 
 ghost use Rattle.std.specs.Prelude.{◌≡◌, ◌+◌, ◌<◌, ◌^◌, None, false, true, []};
-ghost use Rattle.fq_run.specs.Devices.{outlet_states, AreHealthy};
+ghost use Rattle.fq_serial.specs.Devices.{outlet_states, AreHealthy};
 
 use super::rows::{
     SEVEN_FORWARD, SEVEN_REVERSE, SEVEN_STEPS, TWO_FORWARD, TWO_REVERSE, seven_pairs, two_pairs,
 };
-use super::{Given, feed, leaves_behind, nothing, outlets, settings_of, with_defaults};
-use crate::{Outcome, Settings, run_serial, run_threads};
+use super::{
+    Given, assert_reads, feed, leaves_behind, nothing, outlets, serial, settings_of, settings_with,
+    threaded, with_defaults,
+};
+use crate::{Outcome, Settings};
 use fq_pair::Out;
 use fq_text::{Feed, FeedFailed, Outlet, ScriptFeed};
-use fq_trim::Steps;
 use fq_work::{Gate, OpenGate};
 use std::sync::Arc;
 use std::sync::atomic::{AtomicU64, Ordering};
@@ -37,17 +39,7 @@ fn late(refusals: u64) -> LateGate {
 }
 
 fn with(given: &Given<'_>, depth: u64, gate_turns: u64) -> Result<Settings, Fail> {
-    Ok(Settings::new(
-        given.encoding,
-        Steps::parse(given.steps)?,
-        given.check_names,
-        1,
-        given.block_pairs,
-        depth,
-        given.chunk,
-        given.max_reads,
-        gate_turns,
-    )?)
+    settings_with(given, 1, depth, gate_turns)
 }
 
 #[test]
@@ -75,9 +67,16 @@ fn outlets_are_flushed_behind_a_stop(rt: HostRuntime) -> Result<(), Fail> {
     let forward = feed(&rt, rt.alloc(), given.forward, given.cut, 0)?;
     let reverse = feed(&rt, rt.alloc(), given.reverse, given.cut, 0)?;
     let mut outlets = outlets(&rt, rt.alloc(), &given);
-    let gate = Arc::new(rt.alloc(), late(u64::MAX))?;
-    let alloc = rt.alloc();
-    let ending = run_threads(alloc, &rt, &settings, gate, forward, reverse, &mut outlets);
+    let gate = late(u64::MAX);
+    let ending = threaded(
+        &rt,
+        rt.alloc(),
+        &settings,
+        gate,
+        forward,
+        reverse,
+        &mut outlets,
+    )?;
     assert_eq!(rt; ending.outcome, Outcome::Gate);
     assert_eq!(rt; outlets.forward_unpaired.failures(), 1);
     Ok(())
@@ -92,11 +91,7 @@ struct CountedFeed {
 }
 
 impl Feed for CountedFeed {
-    ghost tells = { λ _. false };
-
-    ghost to_come = { λ _. [] };
-
-    ghost failure_count = { λ f. f.failures };
+    ghost state = { λ f. record { tells = false; to_come = []; failures = f.failures } };
 
     fn read(&mut self, buf: &mut [u8]) -> Result<usize, FeedFailed> {
         self.reads.fetch_add(1, Ordering::SeqCst);
@@ -167,11 +162,20 @@ fn just_as_much_is_read_ahead_as_the_lanes_hold(rt: HostRuntime) -> Result<(), F
         };
         let reverse = feed(&rt, rt.alloc(), given.reverse, given.cut, 0)?;
         let mut outlets = outlets(&rt, rt.alloc(), &given);
-        let gate = Arc::new(rt.alloc(), gate)?;
-        let alloc = rt.alloc();
-        let ending = run_threads(alloc, &rt, &settings, gate, forward, reverse, &mut outlets);
-        assert_eq!(rt; ending.outcome, Outcome::Finished);
-        assert_eq!(rt; ending.counts, seven_pairs().counts);
+        let ending = threaded(
+            &rt,
+            rt.alloc(),
+            &settings,
+            gate,
+            forward,
+            reverse,
+            &mut outlets,
+        )?;
+        let wanted = seven_pairs();
+        assert_eq!(rt;
+            (ending.outcome, ending.counts),
+            (wanted.outcome, wanted.counts)
+        );
     }
     Ok(())
 }
@@ -188,17 +192,23 @@ fn runs_without_a_log(rt: HostRuntime) -> Result<(), Fail> {
         outlets.log = None;
         let alloc = rt.alloc();
         let ending = if threads {
-            let gate = Arc::new(alloc, OpenGate)?;
-            run_threads(alloc, &rt, &settings, gate, forward, reverse, &mut outlets)
+            threaded(
+                &rt,
+                alloc,
+                &settings,
+                OpenGate,
+                forward,
+                reverse,
+                &mut outlets,
+            )?
         } else {
-            run_serial(alloc, &settings, forward, reverse, &mut outlets)
+            serial(alloc, &settings, forward, reverse, &mut outlets)
         };
-        assert_eq!(rt; ending.outcome, wanted.outcome);
-        assert_eq!(rt; ending.counts, wanted.counts);
-        assert_eq!(rt; outlets.forward_paired.bytes(), wanted.forward_paired);
-        assert_eq!(rt; outlets.forward_unpaired.bytes(), wanted.forward_unpaired);
-        assert_eq!(rt; outlets.reverse_paired.bytes(), wanted.reverse_paired);
-        assert_eq!(rt; outlets.reverse_unpaired.bytes(), wanted.reverse_unpaired);
+        assert_eq!(rt;
+            (ending.outcome, ending.counts),
+            (wanted.outcome, wanted.counts)
+        );
+        assert_reads(&rt, &outlets, &wanted);
         assert!(rt; outlets.log.is_none());
     }
     Ok(())

@@ -2,14 +2,16 @@
 
 use super::fronts::{Front, OUTS, front_of};
 use super::rows::{SEVEN_FORWARD, SEVEN_REVERSE, SEVEN_STEPS, seven_pairs};
-use super::{Given, Wanted, assert_left, feed, leaves, outlets, settings_of, with_defaults};
-use crate::{Ending, Outcome, Outlets, run_serial, run_threads};
+use super::{
+    Given, Wanted, assert_left, feed, leaves, outlets, serial, settings_of, threaded, with_defaults,
+};
+use crate::{Ending, Outcome, Outlets};
 use fq_pair::{Out, Side};
 use fq_text::{Feed, ScriptFeed, ScriptOutlet};
 use fq_work::OpenGate;
 use std::alloc::Global;
 use std::process::Abort;
-use std::sync::{Arc, Wait};
+use std::sync::Wait;
 use std::test::Fail;
 use std::thread::Threads;
 
@@ -84,10 +86,17 @@ fn run_failing<R: Abort + Threads + Wait + Copy + Send + 'static>(
     let reverse = feed(rt, alloc, given.reverse, given.cut, fails_reverse)?;
     let mut outlets = outlets(rt, alloc, given);
     let ending = match way {
-        Way::Serial => run_serial(alloc, &settings, forward, reverse, &mut outlets),
+        Way::Serial => serial(alloc, &settings, forward, reverse, &mut outlets),
         Way::TwoWorkers => {
-            let gate = Arc::new(alloc, OpenGate)?;
-            run_threads(alloc, rt, &settings, gate, forward, reverse, &mut outlets)
+            threaded(
+                rt,
+                alloc,
+                &settings,
+                OpenGate,
+                forward,
+                reverse,
+                &mut outlets,
+            )?
         }
     };
     Ok(Left { ending, outlets })

@@ -67,11 +67,7 @@ struct Again {
 impl Feed for Again {
     ghost use Rattle.std.specs.Prelude.{false, []};
 
-    ghost tells = { λ _. false };
-
-    ghost to_come = { λ _. [] };
-
-    ghost failure_count = { λ _. 0 };
+    ghost state = { λ _. record { tells = false; to_come = []; failures = 0 } };
 
     fn read(&mut self, buf: &mut [u8]) -> Result<usize, FeedFailed> {
         self.reads = self.reads.saturating_add(1);

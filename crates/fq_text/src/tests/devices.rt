@@ -49,11 +49,7 @@ struct Counting {
 impl Feed for Counting {
     ghost use Rattle.std.specs.Prelude.{false, []};
 
-    ghost tells = { λ _. false };
-
-    ghost to_come = { λ _. [] };
-
-    ghost failure_count = { λ f. f.feed.failures };
+    ghost state = { λ f. record { tells = false; to_come = []; failures = f.feed.failures } };
 
     fn read(&mut self, buf: &mut [u8]) -> Result<usize, FeedFailed> {
         self.reads = self.reads.saturating_add(1);

@@ -54,6 +54,45 @@ const SANGER: &[Row] = &[
         last: None,
     },
     Row {
+        name: "CR and LF in records of four lines",
+        encoding: Encoding::Sanger,
+        text: "@c/1 x\r\nACG\r\n+\r\nI#I\r\n@d/1\r\nAC\r\n+\r\n!!\r\n",
+        records: &[("c/1 x", "ACG", "I#I"), ("d/1", "AC", "!!")],
+        last: None,
+    },
+    Row {
+        name: "the title again on the plus line, with LF and with CR and LF",
+        encoding: Encoding::Sanger,
+        text: "@r 1\nACG\n+r 1\nI#I\n@r 2\r\nAC\r\n+r 2\r\n!!\r\n@r 3\nA\n+r 3\nI\n",
+        records: &[
+            ("r 1", "ACG", "I#I"),
+            ("r 2", "AC", "!!"),
+            ("r 3", "A", "I"),
+        ],
+        last: None,
+    },
+    Row {
+        name: "a record of which only some lines end in CR and LF",
+        encoding: Encoding::Sanger,
+        text: "@a\r\nAC\n+a\r\nII\n@b\nAC\r\n+\nII\r\n",
+        records: &[("a", "AC", "II"), ("b", "AC", "II")],
+        last: None,
+    },
+    Row {
+        name: "a title that ends in CR, in front of CR and LF",
+        encoding: Encoding::Sanger,
+        text: "@a\r\r\nAC\r\n+\r\nII\r\n@b\r\r\nAC\r\n+b\r\r\nII\r\n",
+        records: &[("a\r", "AC", "II"), ("b\r", "AC", "II")],
+        last: None,
+    },
+    Row {
+        name: "another title behind CR and LF",
+        encoding: Encoding::Sanger,
+        text: "@r1\r\nA\r\n+r2\r\nI\r\n",
+        records: &[],
+        last: Some(TextFault::PlusDiffers(1)),
+    },
+    Row {
         name: "an empty read, and one behind it",
         encoding: Encoding::Sanger,
         text: "@e\n\n+\n\n@f\nA\n+\nI\n",
@@ -234,9 +273,9 @@ fn the_longest_title_line(rt: HostRuntime) -> Result<(), Fail> {
 #[test]
 fn a_plain_record_in_hand_is_copied_at_one_stroke(rt: HostRuntime) -> Result<(), Fail> {
     let text =
-        b"@r1\nACGT\n+\nIIII\n@r2\nACGT\n+\nIIII\n@r3\nACGTA\n+\nIIIII\n@r4\nAC\nGT\n+\nIIII\n@r5\nACGT\n+r5\nIIII\n";
+        b"@r1\nACGT\n+\nIIII\n@r2\nACGT\n+\nIIII\n@r3\nACGTA\n+\nIIIII\n@r4\nAC\nGT\n+\nIIII\n@r5\nACGT\n+r5\nIIII\n@r6\r\nAC\r\n+\r\nII\r\n";
     let mut records = source(rt.alloc(), text, Encoding::Sanger, 1000, 1000)?;
-    for kept in [10, 14, 16, 10, 10] {
+    for kept in [10, 14, 16, 10, 16, 13] {
         let record = records.next()?.ok_or("a record")?;
         assert_eq!(rt; record.len(), kept);
     }

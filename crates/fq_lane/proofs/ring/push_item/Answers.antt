@@ -1,11 +1,11 @@
 use Rattle.std.proofs.Common.{arith}
-use Rattle.fq_lane.proofs.SlotLemmas.{item_line}
+use Rattle.fq_lane.proofs.SlotLemmas.{item_history}
 use Rattle.fq_lane.proofs.EndLemmas.{sender_item}
 use Rattle.fq_lane.proofs.ring.push_item.Goals as goal
 
 pub returns-clause-open : goal.returns-clause-open
 returns-clause-open g c =
-    (omega (arith, c.requires.room, c.push_reserved.ensures.sent.1), item_line _ _ c.args.item c.requires.open.1 c.push_reserved.ensures.sent.0)
+    (omega (arith, c.requires.room, c.push_reserved.ensures.sent.1), item_history _ _ c.args.item c.requires.open.1 c.push_reserved.ensures.sent.0)
 
 pub returns-clause-sent : goal.returns-clause-sent
 returns-clause-sent g c =

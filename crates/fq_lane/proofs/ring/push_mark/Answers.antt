@@ -1,9 +1,9 @@
-use Rattle.fq_lane.proofs.SlotLemmas.{mark_line}
+use Rattle.fq_lane.proofs.SlotLemmas.{mark_history}
 use Rattle.fq_lane.proofs.EndLemmas.{sender_mark}
 use Rattle.fq_lane.proofs.ring.push_mark.Goals as goal
 
 pub returns-clause-marked : goal.returns-clause-marked
-returns-clause-marked g c = mark_line _ _ c.requires.1 c.push_reserved.ensures.sent.0
+returns-clause-marked g c = mark_history _ _ c.requires.1 c.push_reserved.ensures.sent.0
 
 pub returns-clause-sent : goal.returns-clause-sent
 returns-clause-sent g c =

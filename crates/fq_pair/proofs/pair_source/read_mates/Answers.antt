@@ -9,5 +9,5 @@ returns-in-Ok-Some-clause-found g c =
     let two = rw c.in-Ok-Some-next.field-0-is at c.in-Ok-Some-next.ensures in
     let pair = c.in_ok-matched-in-Ok-Some-next.ensures in
     let kept = c.next.ensures.count in
-    two_given g.F.Feed.tells g.F.Feed.to_come g.G.Feed.tells g.G.Feed.to_come _ _ _ _ c.args.check_names c.args.given c.in-Ok-Some.first c.in-Ok-Some-next.second _ pair.ok
+    two_given g.F.Feed.state g.G.Feed.state _ _ _ _ c.args.check_names c.args.given c.in-Ok-Some.first c.in-Ok-Some-next.second _ pair.ok
     c.requires.encoding kept.encoding (one.found c.requires.ready.forward_last) (two.found c.requires.ready.reverse_last) (sym pair.names)

@@ -4,7 +4,7 @@ use Rattle.fq_trim.specs.declared.step.Step.{Step}
 use Rattle.fq_trim.specs.declared.step.Step.TheVariants.{Leading}
 use Rattle.fq_trim.specs.declared.fault.StepFault.{StepFault}
 use Rattle.fq_trim.specs.Words.{steps_of}
-use Rattle.fq_run.specs.declared.settings.BadSetting.{BadSetting}
+use Rattle.fq_run.specs.BadSetting.{BadSetting}
 use Rattle.fq_run.specs.Choices.{Choices, checked}
 use Rattle.fq_prog.specs.Example.{example_choices}
 use Rattle.fq_prog.proofs.example.settings.Goals as goal

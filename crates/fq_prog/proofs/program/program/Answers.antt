@@ -3,7 +3,7 @@ use Rattle.clap.specs.Words.{HasKind, kind_of}
 use Rattle.clap.specs.Kinds.{Kinds}
 use Rattle.clap.specs.declared.error.kind.ErrorKind.TheVariants.{DisplayHelp, DisplayVersion, OutOfMemory}
 use Rattle.fq_prog.specs.Answers.{IsCall}
-use Rattle.fq_prog.specs.Words.{words_fault}
+use Rattle.fq_words.specs.Words.{words_fault}
 use Rattle.fq_prog.proofs.AnswerLemmas.{among_all, lacks_answer}
 use Rattle.fq_prog.proofs.program.program.Goals as goal
 

@@ -1,23 +1,24 @@
 use Rattle.std.proofs.Common.{◌≡◌, ◌≢◌, ◌⊎◌, IsTrue}
 use Rattle.fq_prog.specs.Answers.{TookLine, EndsWhole}
 use Rattle.fq_prog.specs.Trimming.{HasDistinctOutputs}
-use Rattle.fq_prog.specs.Requests.{asking_of, wrong_with}
+use Rattle.fq_words.specs.Requests.{asking_of}
+use Rattle.fq_prog.specs.Judging.{wrong_with}
 use Rattle.fq_prog.proofs.AnswerLemmas.{ends_so, left_so, refused_answer, some_in, told_line}
 use Rattle.fq_prog.proofs.program.trim_pairs.Goals as goal
 
 pub returns-in-Ok-clause-pairs : goal.returns-in-Ok-clause-pairs
 returns-in-Ok-clause-pairs g c =
     let a = asking_of c.args.request.now in
-    let ended = c.in-Ok.ended in
+    let account = c.in-Ok.account in
     let line : c.report.result ≢ 0 → TookLine a _ _ _ _ c.report.result =
-    λ some. told_line a _ _ _ _ _ ended.outcome ended.counts (c.report.ensures.line some) c.in-Ok.ensures.trims c.in-Ok.ensures.ended in
+    λ some. told_line a _ _ _ _ _ account.outcome account.counts (c.report.ensures.line some) c.in-Ok.ensures.trims c.in-Ok.ensures.ended in
     let whole : (c.report.result ≡ 0) ⊎ (c.report.result ≡ 3) → IsTrue (g.T.Files.tells_bytes c.args.files.now) → HasDistinctOutputs a → EndsWhole a _ _ _ _ c.report.result =
     λ ends told distinct.
     let status = c.report.ensures.whole ends in
     record {
-      outcome = ended.outcome;
-      counts = ended.counts;
-      trims = c.in-Ok.ensures.trims told distinct (ends_so ended.outcome c.report.result status ends);
+      outcome = account.outcome;
+      counts = account.counts;
+      trims = c.in-Ok.ensures.trims told distinct (ends_so account.outcome c.report.result status ends);
       status_is = status;
       printed = c.report.ensures.printed ends;
       told = c.report.ensures.told ends;

@@ -8,7 +8,7 @@ returns-clause-printed g c =
     let text_is = c.as_bytes.ensures.value ∙ c.in_ok-text.ensures in
     let failed = c.in-Err.ensures.failures in
     let none = c.requires in
-    let P : List ℕ → Type 0 = λ text. TookPart (device_of g.O.Outlet.tells g.O.Outlet.taken g.O.Outlet.failure_count c.args.out.now c.send.new.outlet) text in
+    let P : List ℕ → Type 0 = λ text. TookPart (device_of g.O.Outlet.state c.args.out.now c.send.new.outlet) text in
     subst P text_is (record {
       whole = λ told healthy. absurd (omega arith);
       part = λ told once. (c.in-Err.field-0.count, c.in-Err.ensures.short, c.in-Err.ensures.err told);

@@ -1,4 +1,3 @@
-use Rattle.std.proofs.Common.{refl}
 use Rattle.fq_prog.proofs.LeavingLemmas.{first_of}
 use Rattle.fq_prog.proofs.trimming.run.Goals as goal
 

@@ -1,14 +1,14 @@
 -- What was written stays so while the rest is let go.
 use Rattle.std.proofs.Common.{sym, ◌∙◌, arith, subst, vec_len}
 use Rattle.fq_run.specs.Collecting.{Collects}
-use Rattle.fq_run.specs.Devices.{outlet_states}
+use Rattle.fq_serial.specs.Devices.{outlet_states}
 use Rattle.fq_run.proofs.CollectLemmas.{written_gathers}
 use Rattle.fq_run.proofs.collector.collect.Goals as goal
 
 pub write_all-requires-clause-collects : goal.write_all-requires-clause-collects
 write_all-requires-clause-collects g c =
     let o = g.O.Outlet in
-    let states = outlet_states o.tells o.taken o.failure_count c.args.outlets.now in
+    let states = outlet_states o.state c.args.outlets.now in
     subst (λ v. Collects (vec_len v) states states c.new-collector.result) (sym c.new-collector.ensures.replies) (c.new-collector.ensures.collects states)
 
 pub returns-clause-written : goal.returns-clause-written

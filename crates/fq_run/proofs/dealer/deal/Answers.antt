@@ -5,22 +5,10 @@ use Rattle.fq_run.proofs.dealer.deal.Goals as goal
 pub returns : goal.returns
 returns g c =
     let s = g.S.PairReader in
-    let out = c.deal_from-stop.ensures.deals in
     record {
-      name = c.deal_from-stop.ensures.name;
-      closed = c.deal_from-stop.ensures.closed;
-      started = c.deal_from-stop.ensures.started;
-      deals = record {
-        mates = out.mates;
-        blocks = out.blocks;
-        sent = c.deal_from-stop.new.to.items;
-        reads = out.reads;
-        lost = out.lost;
-        few = out.few;
-        cut = out.cut;
-        dealt = out.dealt;
-        names = out.names;
-        ends = c.close_all.ensures;
-      };
-      idle = λ none. let idle = c.deal_from-stop.ensures.idle none in (idle.0, ap s.state idle.1, ap (λ (v : _). v.items) idle.2);
+      name = c.deal_from-why.ensures.name;
+      closed = c.deal_from-why.ensures.closed;
+      started = c.deal_from-why.ensures.started;
+      deals = record { sent = c.deal_from-why.new.to.items; out = c.deal_from-why.ensures.deals; ends = c.close_all.ensures };
+      idle = λ none. let idle = c.deal_from-why.ensures.idle none in (idle.0, ap s.state idle.1, ap (λ (v : _). v.items) idle.2);
     }

@@ -1,29 +1,51 @@
-use Rattle.std.proofs.Common.{ℕ, ◌+◌, Some, None, List, drop, sym, subst}
+use Rattle.std.proofs.Common.{◌≡◌, ℕ, ◌+◌, Some, None, List, length, drop, refl, sym, subst, ◌∙◌}
 use Rattle.std.proofs.lemmas.List.{take_rest}
-use Rattle.fq_text.specs.Reading.{IsLineEnd}
-use Rattle.fq_text.specs.Unwrapped.{StandsFirst}
-use Rattle.fq_text.proofs.UnwrappedLemmas.{title_to, bases_to, bases_do_end}
+use Rattle.fq_text.specs.Reading.{NoLf}
+use Rattle.fq_text.specs.Unwrapped.{IsFirstLine, StandsFirst}
+use Rattle.fq_text.specs.declared.unwrapped.Shape.{Shape}
+use Rattle.fq_text.proofs.UnwrappedLemmas.{same_line, first_line_ends, title_line, as_found, shape_is}
 use Rattle.fq_text.proofs.unwrapped.first_record.Goals as goal
 
-pub returns-in-None-line_end-clause-none : goal.returns-in-None-line_end-clause-none
-returns-in-None-line_end-clause-none c none t n first =
-    let e = c.args.encoding in
+pub returns-in-None-clause-none : goal.returns-in-None-clause-none
+returns-in-None-clause-none c none s first =
     let hand = c.args.hand.now in
-    let at = c.in-Some.at in
-    let title = title_to e hand t n first at (subst (λ (xs : List ℕ). IsLineEnd xs (Some at)) (take_rest hand 1) c.in-Some.ensures) in
-    let behind = subst (λ (xs : List ℕ). IsLineEnd xs None) (take_rest hand (at + 2)) c.in-None-line_end.ensures in
-    bases_do_end e hand t n first (subst (λ (k : ℕ). IsLineEnd (drop (k + 2) hand) None) title behind)
+    first_line_ends (drop 1 hand) s.title s.end (title_line c.args.encoding hand s first)
+    (subst (λ (xs : List ℕ). NoLf xs (length xs)) (take_rest hand 1) (c.in-None.ensures.none refl))
 
-pub returns-else-stands_first-2-clause-none : goal.returns-else-stands_first-2-clause-none
-returns-else-stands_first-2-clause-none c none t n first =
+pub shape_of-requires-in-Some-first_line : goal.shape_of-requires-in-Some-first_line
+shape_of-requires-in-Some-first_line c =
+    subst (λ (xs : List ℕ). IsFirstLine xs c.in-Some.title.len c.in-Some.title.end) (take_rest c.args.hand.now 1) c.in-Some.ensures.found
+
+pub returns-in-Some-first_line-clause-none : goal.returns-in-Some-first_line-clause-none
+returns-in-Some-first_line-clause-none c none s first =
     let e = c.args.encoding in
     let hand = c.args.hand.now in
-    let at = c.in-Some.at in
-    let end = c.in-Some-line_end.at in
-    let title = title_to e hand t n first at (subst (λ (xs : List ℕ). IsLineEnd xs (Some at)) (take_rest hand 1) c.in-Some.ensures) in
-    let behind = subst (λ (xs : List ℕ). IsLineEnd xs (Some end)) (take_rest hand (at + 2)) c.in-Some-line_end.ensures in
-    let bases = bases_to e hand t n first end (subst (λ (k : ℕ). IsLineEnd (drop (k + 2) hand) (Some end)) title behind) in
-    let stands = subst (λ (k : ℕ). StandsFirst e hand k end) (sym title) (subst (λ (m : ℕ). StandsFirst e hand t m) (sym bases) first) in
-    let yes = c.stands_first-2.ensures.1 stands in
-    let no = c.if-stands_first-2.false in
-    absurd cc
+    let t = c.in-Some.title.len in
+    let k = c.in-Some.title.end in
+    let seq = c.in-Some-first_line.seq in
+    let found = as_found e hand s first t k (subst (λ (xs : List ℕ). IsFirstLine xs t k) (take_rest hand 1) c.in-Some.ensures.found) in
+    let bases = subst (λ (xs : List ℕ). IsFirstLine xs seq.len seq.end) (take_rest hand (t + k + 1)) c.in-Some-first_line.ensures.found in
+    let same = same_line (drop (t + k + 1) hand) seq.len seq.end s.bases s.end bases found.2 in
+    c.shape_of-in-Some-first_line.ensures.none none s.again (subst (λ (shape : Shape). StandsFirst e hand shape) (shape_is s t seq.len k found.0 same.0 found.1) first)
+
+pub returns-in_default-first_line-clause-none : goal.returns-in_default-first_line-clause-none
+returns-in_default-first_line-clause-none c none s first =
+    let e = c.args.encoding in
+    let hand = c.args.hand.now in
+    let t = c.in-Some.title.len in
+    let k = c.in-Some.title.end in
+    let seq = c.in-Some-first_line.seq in
+    let found = as_found e hand s first t k (subst (λ (xs : List ℕ). IsFirstLine xs t k) (take_rest hand 1) c.in-Some.ensures.found) in
+    let bases = subst (λ (xs : List ℕ). IsFirstLine xs seq.len seq.end) (take_rest hand (t + k + 1)) c.in-Some-first_line.ensures.found in
+    let same = same_line (drop (t + k + 1) hand) seq.len seq.end s.bases s.end bases found.2 in
+    c.if-seq-title.false (same.1 ∙ sym found.1)
+
+pub returns-in_default-first_line-2-clause-none : goal.returns-in_default-first_line-2-clause-none
+returns-in_default-first_line-2-clause-none c none s first =
+    let e = c.args.encoding in
+    let hand = c.args.hand.now in
+    let t = c.in-Some.title.len in
+    let k = c.in-Some.title.end in
+    let found = as_found e hand s first t k (subst (λ (xs : List ℕ). IsFirstLine xs t k) (take_rest hand 1) c.in-Some.ensures.found) in
+    first_line_ends (drop (t + k + 1) hand) s.bases s.end found.2
+    (subst (λ (xs : List ℕ). NoLf xs (length xs)) (take_rest hand (t + k + 1)) (c.in_default-first_line.ensures.none refl))

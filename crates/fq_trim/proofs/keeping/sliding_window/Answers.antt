@@ -10,24 +10,19 @@ total_of-first-requires c =
 
 pub returns-then-first-least : goal.returns-then-first-least
 returns-then-first-least c =
-    let least = ap (λ n. c.args.width * n) c.from.ensures in
-    let long = c.if-qual-width.false in
     let high = c.high_stop.ensures in
-    rw c.stop_at-then-first-least.ensures (from_bad c.args.encoding c.args.qual.now c.args.width c.args.score _ _ _ _ least (omega arith) high.within high.high c.max-from.ensures c.total_of-first.ensures.sum c.if-first-least.true)
+    let none = from_bad c.args.encoding c.args.qual.now c.args.width c.args.score _ _ _ _ c.from.ensures c.if-qual-width.false high.within high.high c.max-from.ensures c.total_of-first.ensures.sum c.if-first-least.true in
+    rw c.stop_at-then-first-least.ensures none
 
 pub good_stop-good-requires-clause-sum : goal.good_stop-good-requires-clause-sum
 good_stop-good-requires-clause-sum c =
-    let least = ap (λ n. c.args.width * n) c.from.ensures in
-    let long = c.if-qual-width.false in
     let high = c.high_stop.ensures in
-    from_sum c.args.encoding c.args.qual.now c.args.width c.args.score _ _ _ _ least (omega arith) high.within high.high c.max-from.ensures c.total_of-first.ensures.sum
+    from_sum c.args.encoding c.args.qual.now c.args.width c.args.score _ _ _ _ c.from.ensures c.if-qual-width.false high.within high.high c.max-from.ensures c.total_of-first.ensures.sum
 
 pub good_stop-good-requires-clause-good : goal.good_stop-good-requires-clause-good
 good_stop-good-requires-clause-good c =
-    let least = ap (λ n. c.args.width * n) c.from.ensures in
-    let long = c.if-qual-width.false in
     let high = c.high_stop.ensures in
-    from_good c.args.encoding c.args.qual.now c.args.width c.args.score _ _ _ _ least (omega arith) high.within high.high c.max-from.ensures c.total_of-first.ensures.sum c.if-first-least.false
+    from_good c.args.encoding c.args.qual.now c.args.width c.args.score _ _ _ _ c.from.ensures c.if-qual-width.false high.within high.high c.max-from.ensures c.total_of-first.ensures.sum c.if-first-least.false
 
 pub behind_last-requires : goal.behind_last-requires
 behind_last-requires c = all_taken (is_scored c.args.encoding) c.args.qual.now c.good_stop-good.result c.requires.scored

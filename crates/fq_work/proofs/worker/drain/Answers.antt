@@ -1,5 +1,5 @@
 use Rattle.std.proofs.Common.{[], ◌∷◌, ◌++◌, refl, ap, ◌∙◌}
-use Rattle.fq_lane.specs.Line.{with_mark}
+use Rattle.fq_lane.specs.History.{with_mark}
 use Rattle.fq_work.proofs.WorkLemmas.{with_none, with_more}
 use Rattle.fq_work.proofs.worker.drain.Goals as goal
 

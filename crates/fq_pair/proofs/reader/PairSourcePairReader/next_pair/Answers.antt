@@ -5,5 +5,5 @@ use Rattle.fq_pair.proofs.reader.PairSourcePairReader.next_pair.Goals as goal
 pub returns-clause-asks : goal.returns-clause-asks
 returns-clause-asks g c going =
     let e = c.next.ensures in
-    asks g.F.Feed.tells g.F.Feed.to_come g.F.Feed.failure_count g.G.Feed.tells g.G.Feed.to_come g.G.Feed.failure_count _ _ _
+    asks g.F.Feed.state g.G.Feed.state _ _ _
     (e.found going) (e.end going) (e.fault going) (e.forward_failures going) (e.reverse_failures going) e.count

@@ -1,17 +1,17 @@
 -- The next reply in turn is written, is a stop, or does not come any more.
 use Rattle.std.proofs.Common.{◌≡◌, ℕ, refl, ap, ◌∙◌, arith, subst, Option, Some, List}
-use Rattle.fq_lane.specs.Line.{Line}
+use Rattle.fq_lane.specs.History.{History}
 use Rattle.fq_lane.specs.Take.{taken_of}
 use Rattle.fq_lane.specs.declared.taken.Taken.TheVariants.{Item, Closed}
 use Rattle.fq_work.specs.declared.reply.Reply.{Reply}
 use Rattle.fq_work.specs.declared.reply.Reply.TheVariants.{Done as done, Stop}
 use Rattle.fq_run.specs.Lanes.{TakesAt}
-use Rattle.fq_run.specs.declared.phase.Phase.TheVariants.{Ended, Stopped, WriteFailed}
+use Rattle.fq_run.specs.declared.collector.phase.Phase.TheVariants.{Ended, Stopped, WriteFailed}
 use Rattle.fq_run.proofs.CollectLemmas.{collects_written, collects_broken, collects_ended, collects_stopped, hears_take}
 use Rattle.fq_run.proofs.collector.Collector.write_next.Goals as goal
 
 -- what was taken, by what it was found to be
-takes_as : (r s : Option Reply) (old new : List (Line Reply)) (j : ℕ) → r ≡ s → TakesAt (taken_of r) old new j → TakesAt (taken_of s) old new j
+takes_as : (r s : Option Reply) (old new : List (History Reply)) (j : ℕ) → r ≡ s → TakesAt (taken_of r) old new j → TakesAt (taken_of s) old new j
 takes_as r s old new j is t = subst (λ o. TakesAt (taken_of o) old new j) is t
 
 pub returns-in-Err-clause-collects : goal.returns-in-Err-clause-collects

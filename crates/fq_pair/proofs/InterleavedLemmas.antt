@@ -1,0 +1,238 @@
+-- Two records of one source, one after the other.
+use Rattle.std.proofs.Common.{◌≡◌, ℕ, suc, ◌+◌, ◌*◌, ◌⊎◌, ⊎_elim, Bool, true, false, IsTrue, Err, List, [], ◌++◌, refl, ap, sym, subst, ◌∙◌, add-one, arith}
+use Rattle.std.proofs.lemmas.Bool.{cond-true, cond-false}
+use Rattle.std.proofs.lemmas.List.{length-append}
+use Rattle.fq_text.specs.Devices.{FeedState}
+use Rattle.fq_text.specs.declared.encoding.Encoding.{Encoding}
+use Rattle.fq_text.specs.Grammar.{Read, Front, End, Faulty, Found, front}
+use Rattle.fq_text.specs.Lines.{lines, whole_part}
+use Rattle.fq_text.specs.declared.fault.TextFault.{TextFault}
+use Rattle.fq_text.specs.declared.fault.TextFault.TheVariants as text
+use Rattle.fq_text.specs.Sources.{Sourced, rest_in, held, IsTail, KeepsCount, GivesRecord, EndsText, StopsText, LacksRecord, FaultIs, if_read, if_endless as endless_text}
+use Rattle.fq_pair.specs.declared.side.Side.TheVariants.{Reverse}
+use Rattle.fq_pair.specs.declared.fault.InputFault.{InputFault}
+use Rattle.fq_pair.specs.declared.fault.InputFault.TheVariants.{Text, MateMissing, NamesDiffer}
+use Rattle.fq_pair.specs.Mates.{Mates, mates_in}
+use Rattle.fq_pair.specs.Pairing.{Pairs, belong, Stopped, Met}
+use Rattle.fq_pair.specs.Interleaved.{interleaved_pairs, meeting_behind, interleaved_meeting}
+use Rattle.fq_pair.specs.PairSources.{is_outside, is_cut, if_endless}
+use Rattle.fq_pair.specs.MixedSources.{front_of, GivesPair, StopsPairs, asked, stopped}
+use Rattle.fq_pair.proofs.FrontLemmas.{front_more}
+use Rattle.fq_pair.specs.Walks.{SideState, side_state, Draws, Uses}
+use Rattle.fq_pair.proofs.SideLemmas.{draws_then, uses_then, more_lines, lines_before, lines_left}
+use Rattle.fq_pair.proofs.InterleavedLaws.{interleaved_pairs_of-stopped, interleaved_pairs_of-ended, interleaved_left_met, interleaved_left_stopped}
+
+-- Of three states of a source, what its feed gave up to the second and up to the third.
+module _ {F : Type 0} (state : F → FeedState) (a b c : Sourced F) (p : KeepsCount state a b) (q : KeepsCount state b c) where
+  -- the source as a side, of which failures don't count here
+  abbrev side : Sourced F → SideState
+  side s = record (side_state state s) { failures = 0 }
+
+  abbrev drawn_in : (old new : Sourced F) → KeepsCount state old new → Draws (side old) (side new) 0
+  drawn_in old new k = record { told = k.told; max_reads = k.max_reads; grows = k.grows; bytes = k.fed; size = k.length; failures = refl }
+
+  abbrev used_in : (old new : Sourced F) → IsTail (rest_in state old) (rest_in state new) → Uses (side old) (side new)
+  used_in old new t = record { used = t.before; split = t.split; at_line = t.at_line }
+
+  pub keeps_then : KeepsCount state a c
+  keeps_then =
+      let d = draws_then (side a) (side b) (side c) 0 (drawn_in a b p) (drawn_in b c q) in
+      record {
+        encoding = q.encoding ∙ p.encoding;
+        chunk = q.chunk ∙ p.chunk;
+        max_reads = d.max_reads;
+        told = d.told;
+        grows = d.grows;
+        fed = d.bytes;
+        length = d.size;
+      }
+
+  -- a rest of a rest of a text
+  tail_then : IsTail (rest_in state a) (rest_in state b) → IsTail (rest_in state b) (rest_in state c) → IsTail (rest_in state a) (rest_in state c)
+  tail_then t u =
+      let both = uses_then (side a) (side b) (side c) (used_in a b t) (used_in b c u) in
+      let some = t.some in
+      record { before = t.before ++ u.before; some = omega (arith, length-append t.before u.before); split = both.split; at_line = both.at_line }
+
+  -- two records that were given make a pair, where their names allow it
+  pub two_given : (check : Bool) (given : ℕ) (f r : Read) (m : Mates) → m ≡ mates_in f r → GivesRecord state a b f → GivesRecord state b c r → belong check (mates_in f r) ≡ true →
+      GivesPair state (asked a check given) (asked c check (given + 1)) m
+  two_given check given f r m is first second together =
+      let P : Mates → Type 0 = GivesPair state (asked a check given) (asked c check (given + 1)) in
+      let one = first.given in let two = second.given in
+      let ls = lines (rest_in state c) in
+      let n = suc given in
+      let pair_is : IsTrue (state a.feed).tells → front_of state (asked a check given) ≡ Met (mates_in f r) ls ls = λ told.
+      ap (interleaved_meeting check a.encoding n) (first.record_is told)
+      ∙ ap (λ (e : Encoding). meeting_behind check n f (front e (lines (rest_in state b)))) (sym p.encoding)
+      ∙ ap (meeting_behind check n f) (second.record_is (p.told ∙ told))
+      ∙ cond-true (belong check (mates_in f r)) (Met (mates_in f r) ls ls) (Stopped (NamesDiffer n)) together in
+      subst P (sym is) (record {
+        pair_is = pair_is;
+        left = λ told. interleaved_left_met state (asked a check given) (asked c check (given + 1)) (mates_in f r) (q.encoding ∙ p.encoding) refl refl (pair_is told);
+        records = record {
+          forward = first.lawful;
+          reverse = second.lawful;
+          forward_encoding = first.encoding;
+          reverse_encoding = second.encoding ∙ p.encoding;
+          tail = λ told. tail_then (first.tail told) (second.tail (p.told ∙ told));
+          given = omega arith;
+          last = second.last;
+          in_hand = second.in_hand;
+        };
+        names = together;
+        given = refl;
+        last = refl;
+      })
+
+  module _ (told : IsTrue (state a.feed).tells) (t : IsTail (rest_in state a) (rest_in state b)) where
+    abbrev came : List ℕ
+    came = held state a c
+
+    abbrev more : List (List ℕ)
+    more = more_lines (side a) (side b) (side c) 0 (drawn_in a b p) (drawn_in b c q) told (used_in a b t)
+
+    before : lines (rest_in state a) ≡ lines (whole_part came) ++ more
+    before = lines_before (side a) (side b) (side c) 0 (drawn_in a b p) (drawn_in b c q) told (used_in a b t)
+
+    left : (ls : List (List ℕ)) → ls ++ more ≡ lines (rest_in state b) → (ls ≡ lines (whole_part (held state b c))) ⊎ (ls ≡ [])
+    left = lines_left (side a) (side b) (side c) 0 (drawn_in a b p) (drawn_in b c q) told (used_in a b t)
+
+    module _ (check : Bool) (given : ℕ) (f : Read) (first : front a.encoding (lines (rest_in state a)) ≡ Found f (lines (rest_in state b))) (lacks : LacksRecord state b c) where
+      abbrev whole_lines : List (List ℕ)
+      whole_lines = lines (whole_part came)
+
+      abbrev HasNone : Type 0
+      HasNone = (interleaved_pairs check a.encoding given (whole_part came)).mates ≡ []
+
+      abbrev n : ℕ
+      n = suc given
+
+      -- no second record stands there
+      none_behind : (x y : Read) (ls rest : List (List ℕ)) → front a.encoding whole_lines ≡ Found x ls → front a.encoding ls ≡ Found y rest → ⊥
+      none_behind x y ls rest one two =
+          let longer : Found x (ls ++ more) ≡ Found f (lines (rest_in state b)) = sym (front_more more a.encoding x ls whole_lines one) ∙ ap (front a.encoding) (sym before) ∙ first in
+          let same : ls ++ more ≡ lines (rest_in state b) = cc in
+          ⊎_elim
+          (λ these. lacks (p.told ∙ told) y rest (ap (λ (e : Encoding). front e (lines (whole_part (held state b c)))) p.encoding ∙ ap (front a.encoding) (sym these) ∙ two))
+          (λ none. absurd (let h : End ≡ Found y rest = ap (front a.encoding) (sym none) ∙ two in cc))
+          (left ls same)
+
+      by_second : (x : Read) (ls : List (List ℕ)) → front a.encoding whole_lines ≡ Found x ls → (B : Front) → front a.encoding ls ≡ B → HasNone
+      by_second x ls one End two = ap (λ (ps : Pairs). ps.mates) (interleaved_pairs_of-stopped check a.encoding given whole_lines _ (ap (interleaved_meeting check a.encoding n) one ∙ ap (meeting_behind check n x) two))
+      by_second x ls one (Faulty y) two = ap (λ (ps : Pairs). ps.mates) (interleaved_pairs_of-stopped check a.encoding given whole_lines _ (ap (interleaved_meeting check a.encoding n) one ∙ ap (meeting_behind check n x) two))
+      by_second x ls one (Found y rest) two = absurd (none_behind x y ls rest one two)
+
+      by_first : (A : Front) → front a.encoding whole_lines ≡ A → HasNone
+      by_first End one = ap (λ (ps : Pairs). ps.mates) (interleaved_pairs_of-ended check a.encoding given whole_lines (ap (interleaved_meeting check a.encoding n) one))
+      by_first (Faulty x) one = ap (λ (ps : Pairs). ps.mates) (interleaved_pairs_of-stopped check a.encoding given whole_lines _ (ap (interleaved_meeting check a.encoding n) one))
+      by_first (Found x ls) one = by_second x ls one (front a.encoding ls) refl
+
+      -- the whole lines that came make no pair where the second record was not read
+      pub no_pair : HasNone
+      no_pair = by_first (front a.encoding whole_lines) refl
+
+-- a fault of the text is that of the record in front of it, with its number
+stops_behind : (check : Bool) (n : ℕ) (f : Read) (x : Front) (k : ℕ) (why : TextFault) → k ≡ 2 * n → is_outside why ≡ false → FaultIs x k why → meeting_behind check n f x ≡ Stopped (Text Reverse why)
+stops_behind check n f x k (text.NoTitle j) is inside p = ap (meeting_behind check n f) p.0 ∙ ap (λ i. Stopped (Text Reverse (text.NoTitle i))) (sym (p.1 ∙ is))
+stops_behind check n f x k (text.BadSequence j) is inside p = ap (meeting_behind check n f) p.0 ∙ ap (λ i. Stopped (Text Reverse (text.BadSequence i))) (sym (p.1 ∙ is))
+stops_behind check n f x k (text.NoPlus j) is inside p = ap (meeting_behind check n f) p.0 ∙ ap (λ i. Stopped (Text Reverse (text.NoPlus i))) (sym (p.1 ∙ is))
+stops_behind check n f x k (text.PlusDiffers j) is inside p = ap (meeting_behind check n f) p.0 ∙ ap (λ i. Stopped (Text Reverse (text.PlusDiffers i))) (sym (p.1 ∙ is))
+stops_behind check n f x k (text.BadQuality j) is inside p = ap (meeting_behind check n f) p.0 ∙ ap (λ i. Stopped (Text Reverse (text.BadQuality i))) (sym (p.1 ∙ is))
+stops_behind check n f x k (text.QualityLong j) is inside p = ap (meeting_behind check n f) p.0 ∙ ap (λ i. Stopped (Text Reverse (text.QualityLong i))) (sym (p.1 ∙ is))
+stops_behind check n f x k (text.QualityShort j) is inside p = ap (meeting_behind check n f) p.0 ∙ ap (λ i. Stopped (Text Reverse (text.QualityShort i))) (sym (p.1 ∙ is))
+stops_behind check n f x k (text.TooLong j) is inside p = ap (meeting_behind check n f) p.0 ∙ ap (λ i. Stopped (Text Reverse (text.TooLong i))) (sym (p.1 ∙ is))
+stops_behind check n f x k text.Read is inside p = absurd cc
+stops_behind check n f x k text.Endless is inside p = absurd cc
+stops_behind check n f x k text.OutOfMemory is inside p = absurd cc
+
+cut_lacks : (P : Type 0) (why : TextFault) → is_cut why ≡ true → if_read P why → P
+cut_lacks P text.Read cut p = p
+cut_lacks P text.Endless cut p = p
+cut_lacks P text.OutOfMemory cut p = absurd cc
+cut_lacks P (text.NoTitle n) cut p = absurd cc
+cut_lacks P (text.BadSequence n) cut p = absurd cc
+cut_lacks P (text.NoPlus n) cut p = absurd cc
+cut_lacks P (text.PlusDiffers n) cut p = absurd cc
+cut_lacks P (text.BadQuality n) cut p = absurd cc
+cut_lacks P (text.QualityLong n) cut p = absurd cc
+cut_lacks P (text.QualityShort n) cut p = absurd cc
+cut_lacks P (text.TooLong n) cut p = absurd cc
+
+endless_behind : (P : Type 0) (why : TextFault) → endless_text P why → if_endless P P (Text Reverse why)
+endless_behind P text.Endless p = p
+endless_behind P text.Read p = tt
+endless_behind P text.OutOfMemory p = tt
+endless_behind P (text.NoTitle n) p = tt
+endless_behind P (text.BadSequence n) p = tt
+endless_behind P (text.NoPlus n) p = tt
+endless_behind P (text.PlusDiffers n) p = tt
+endless_behind P (text.BadQuality n) p = tt
+endless_behind P (text.QualityLong n) p = tt
+endless_behind P (text.QualityShort n) p = tt
+endless_behind P (text.TooLong n) p = tt
+
+module _ {F : Type 0} (state : F → FeedState) (a b c : Sourced F) (p : KeepsCount state a b) (q : KeepsCount state b c) (check : Bool) (given : ℕ) (f : Read) (first : GivesRecord state a b f) where
+  -- a fault behind a forward mate
+  pub second_stops : (why : TextFault) → a.given ≡ 2 * given → StopsText state b c why →
+      StopsPairs state (asked a check given) (stopped c check given (Err (Text Reverse why))) (Text Reverse why)
+  second_stops why records stops =
+      let one = first.given in
+      let n = suc given in
+      let number : b.given + 1 ≡ 2 * n = omega arith in
+      let fault_is : IsTrue (state a.feed).tells → is_outside why ≡ false → front_of state (asked a check given) ≡ Stopped (Text Reverse why) = λ told inside.
+      ap (interleaved_meeting check a.encoding n) (first.record_is told)
+      ∙ ap (λ (e : Encoding). meeting_behind check n f (front e (lines (rest_in state b)))) (sym p.encoding)
+      ∙ stops_behind check n f (front b.encoding (lines (rest_in state b))) (b.given + 1) why number inside (stops.fault_is (p.told ∙ told)) in
+      record {
+        fault_is = fault_is;
+        left = λ told inside. interleaved_left_stopped state (asked a check given) (Text Reverse why) (fault_is told inside);
+        lacks = λ cut told. no_pair state a b c p q told (first.tail told) check given f (first.record_is told) (cut_lacks _ why cut stops.lacks);
+        endless = endless_behind _ why stops.endless;
+        reading = (stops.last, stops.given ∙ first.given);
+        given = refl;
+        last = refl;
+      }
+
+  -- where the text ends behind a forward mate the reverse one is missing
+  pub mate_missing : EndsText state b c →
+      (let why = MateMissing Reverse (given + 1) in StopsPairs state (asked a check given) (stopped c check given (Err why)) why)
+  mate_missing ends =
+      let n = suc given in
+      let fault_is : IsTrue (state a.feed).tells → false ≡ false → front_of state (asked a check given) ≡ Stopped (MateMissing Reverse (given + 1)) = λ told inside.
+      ap (interleaved_meeting check a.encoding n) (first.record_is told)
+      ∙ ap (λ (e : Encoding). meeting_behind check n f (front e (lines (rest_in state b)))) (sym p.encoding)
+      ∙ ap (meeting_behind check n f) (ends.end_is (p.told ∙ told))
+      ∙ ap (λ k. Stopped (MateMissing Reverse k)) (sym (add-one given)) in
+      record {
+        fault_is = fault_is;
+        left = λ told inside. interleaved_left_stopped state (asked a check given) (MateMissing Reverse (given + 1)) (fault_is told inside);
+        lacks = λ cut. absurd cc;
+        endless = tt;
+        reading = tt;
+        given = refl;
+        last = refl;
+      }
+
+  -- two records that were given make no pair where their names differ
+  pub names_differ : (r : Read) (why : InputFault) → why ≡ NamesDiffer (given + 1) → GivesRecord state b c r → belong check (mates_in f r) ≡ false →
+      StopsPairs state (asked a check given) (stopped c check given (Err why)) why
+  names_differ r why is second apart =
+      let n = suc given in
+      let P : InputFault → Type 0 = λ y. StopsPairs state (asked a check given) (stopped c check given (Err y)) y in
+      let ls = lines (rest_in state c) in
+      let fault_is : IsTrue (state a.feed).tells → false ≡ false → front_of state (asked a check given) ≡ Stopped (NamesDiffer (given + 1)) = λ told inside.
+      ap (interleaved_meeting check a.encoding n) (first.record_is told)
+      ∙ ap (λ (e : Encoding). meeting_behind check n f (front e (lines (rest_in state b)))) (sym p.encoding)
+      ∙ ap (meeting_behind check n f) (second.record_is (p.told ∙ told))
+      ∙ cond-false (belong check (mates_in f r)) (Met (mates_in f r) ls ls) (Stopped (NamesDiffer n)) apart
+      ∙ ap (λ k. Stopped (NamesDiffer k)) (sym (add-one given)) in
+      subst P (sym is) (record {
+        fault_is = fault_is;
+        left = λ told inside. interleaved_left_stopped state (asked a check given) (NamesDiffer (given + 1)) (fault_is told inside);
+        lacks = λ cut. absurd cc;
+        endless = tt;
+        reading = tt;
+        given = refl;
+        last = refl;
+      })

@@ -1,0 +1,12 @@
+-- Another is started.
+use Rattle.std.proofs.Common.{arith, ◌∙◌, length-append, [], ◌∷◌}
+use Rattle.fq_run.specs.Crews.{Seated}
+use Rattle.fq_run.proofs.CrewLemmas.{zip_pushed}
+use Rattle.fq_run.proofs.crew.workers.start_workers.Goals as goal
+
+pub loop-ends-preserved : goal.loop-ends-preserved
+loop-ends-preserved g c = record {
+  room = c.push_reserved.ensures.capacity ∙ c.loop-ends.invariant.room;
+  count = omega (arith, c.push_reserved.ensures.len, c.loop-ends.invariant.count, length-append c.loop-ends.yielded (c.in-Some.ends ∷ []));
+  seated = zip_pushed (Seated c.args.settings.now.steps) _ _ _ _ _ c.loop-ends.invariant.seated c.in-Some-start_worker.ensures c.push_reserved.ensures.items;
+}

@@ -1,0 +1,16 @@
+-- All blocks so far are full and dealt out. Each brings the end nearer, since it takes bytes.
+use Rattle.std.proofs.Common.{◌≡◌, ◌-◌, vec_len}
+use Rattle.fq_run.proofs.DealerLemmas.{DealsFull}
+use Rattle.fq_run.proofs.dealer.blocks.deal_blocks.Given as goal
+
+abbrev pub invariant-dealing : goal.invariant-dealing
+invariant-dealing g l =
+    let s = g.S.PairReader in record {
+      lanes : l.lanes ≡ vec_len l.fn.to;
+      backs : vec_len l.blocks_back ≡ vec_len l.fn.to;
+      deals : DealsFull l.fn.settings (s.state l.fn.source) l.fn.to.items
+          (s.state l.source) l.to.items l.turn l.number;
+    }
+
+abbrev pub decreases-dealing : goal.decreases-dealing
+decreases-dealing g l = let s = g.S.PairReader in (s.state l.fn.source).most_bytes - (s.state l.source).forward.given

@@ -1,0 +1,16 @@
+-- The lanes of the new worker are as they are made.
+use Rattle.std.proofs.Common.{refl, sym}
+use Rattle.fq_run.specs.Crews.{Laid}
+use Rattle.fq_run.proofs.CrewLemmas.{each3_pushed, fresh_is}
+use Rattle.fq_run.proofs.lanes.seats.Seats.add.Goals as goal
+
+pub returns-clause-laid : goal.returns-clause-laid
+returns-clause-laid c =
+    let blocks = c.in_ok-to in let replies = c.in_ok-tx in
+    each3_pushed Laid _ _ _ _ _ _ _ _ _ c.requires.laid
+    (record {
+      to_is = fresh_is blocks.to blocks.to.name refl blocks.ensures.sender.0 blocks.ensures.sender.1;
+      replies_are = fresh_is replies.replies replies.replies.name refl replies.ensures.receiver.0 replies.ensures.receiver.1;
+      rx = fresh_is blocks.rx blocks.to.name blocks.ensures.one_lane blocks.ensures.receiver.0 blocks.ensures.receiver.1;
+      tx = fresh_is replies.tx replies.replies.name (sym replies.ensures.one_lane) replies.ensures.sender.0 replies.ensures.sender.1;
+    }) c.push_reserved.ensures.items c.push_reserved-3.ensures.items c.push_reserved-4.ensures.items

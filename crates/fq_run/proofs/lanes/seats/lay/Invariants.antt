@@ -1,0 +1,10 @@
+-- So many workers have their lanes.
+use Rattle.fq_run.specs.Crews.{IsLaid, AreFor, KeepRoom}
+use Rattle.fq_run.proofs.lanes.seats.lay.Given as goal
+
+abbrev pub invariant-loop : goal.invariant-loop
+invariant-loop l = record {
+  laid : IsLaid l.seats;
+  all : AreFor l.counter l.seats;
+  room : KeepRoom l.initial.seats l.seats;
+}

@@ -1,9 +1,0 @@
-use Rattle.std.proofs.Common.{arith}
-use Rattle.fq_lane.specs.Take.{taken_of}
-use Rattle.fq_run.proofs.LaneLemmas.{names_written, take_name}
-use Rattle.fq_run.proofs.lanes.take_wait_at.Goals as goal
-
-pub returns-clause-names : goal.returns-clause-names
-returns-clause-names g c =
-    names_written c.args.replies.now.items c.args.at c.index_mut.result.now c.take_wait.new.self (omega (arith, c.args.replies.now.ok.0)) c.index_mut.ensures.value
-    (take_name (taken_of c.take_wait.result) c.index_mut.result.now c.take_wait.new.self c.take_wait.ensures)

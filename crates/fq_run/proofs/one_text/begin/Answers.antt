@@ -1,0 +1,21 @@
+-- What the threads leave is what the run leaves; where memory was refused before them nothing was written.
+use Rattle.std.proofs.Common.{refl, ap}
+use Rattle.fq_pair.specs.Forms.{InterleavedText}
+use Rattle.fq_pair.specs.Walks.{interleaved_state}
+use Rattle.fq_run.proofs.StartLemmas.{closed, refused}
+use Rattle.fq_run.proofs.one_text.begin.Goals as goal
+
+pub returns-in-Ok : goal.returns-in-Ok
+returns-in-Ok g c =
+    let f = g.F.Feed in
+    let fs = f.state in
+    let e = c.ending_of.ensures in
+    closed (interleaved_state f.state) fs fs (λ s. s.source.feed) (λ s. s.source.feed) (λ s. refl) (λ s. refl)
+    InterleavedText c.args.settings.now _ c.args.feed c.args.feed c.in-Ok.ensures.source _ _ c.start.result _ _ _ _ _ e.outcome e.counts e.unended e.feed e.feed c.start.ensures
+
+pub returns-in-Err : goal.returns-in-Err
+returns-in-Err g c =
+    let f = g.F.Feed in
+    let fs = f.state in
+    let back = c.in-Err.ensures.err in
+    refused _ c.args.settings.now _ _ _ _ _ _ _ _ (ap fs back) (ap fs back) refl c.flush_after.ensures c.requires.feed c.requires.feed

@@ -1,0 +1,22 @@
+//! What a worker is started with.
+
+use fq_block::Block;
+use fq_lane::{Rx, Tx};
+use fq_trim::Steps;
+use fq_work::{Reply, Worked};
+use std::snapshot::Snapshot;
+use std::thread::Promise;
+
+/// The steps and the two lanes that a worker is started with, which say what its join gives.
+#[derive(Drop)]
+pub(crate) struct Job {
+    pub(crate) steps: Steps,
+    pub(crate) rx: Snapshot<Rx<Block>>,
+    pub(crate) tx: Snapshot<Tx<Reply>>,
+}
+
+impl Promise<Worked> for Job {
+    ghost use Rattle.fq_work.specs.Work.{IsWork};
+
+    ghost kept_by = { λ job worked. IsWork job.steps job.rx.value job.tx.value worked };
+}

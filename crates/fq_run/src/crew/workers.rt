@@ -1,0 +1,79 @@
+//! The workers are started and waited for.
+
+ghost use Rattle.std.specs.Prelude.{◌≡◌, ◌≤◌, [], IfSome, IsTrue, vec_len, vec_capacity};
+ghost use Rattle.std.specs.List.{AllZip};
+ghost use Rattle.fq_run.specs.Crews.{Seated, Joined};
+
+use crate::crew::job::Job;
+use fq_serial::Settings;
+use fq_work::{Gate, WorkEnds, Worked, work};
+use std::alloc::Global;
+use std::snapshot::Snapshot;
+use std::sync::{Arc, Wait};
+use std::thread;
+use std::thread::{PromisedHandle, Threads};
+
+/// Starts a worker at each seat. False where one was refused.
+pub(crate) fn start_workers<R: Threads + Wait + Copy + Send + 'static, H: Gate + 'static>(
+    alloc: Global,
+    rt: &R,
+    settings: &Settings,
+    gate: &Arc<H>,
+    seats: Vec<WorkEnds>,
+    hands: &mut Vec<PromisedHandle<Worked, Job>>,
+) -> bool
+    requires { (hands.old.items ≡ []) × (vec_len seats ≤ vec_capacity hands.old) }
+    ensures all { IsTrue result → AllZip (Seated settings.now.steps) seats.items hands.new.items }
+    ensures few { vec_len hands.new ≤ vec_len seats }
+{
+    for ends in seats {
+        let Ok(gate) = Arc::try_clone(gate) else {
+            return false;
+        };
+        let Some(hand) = start_worker(alloc, rt, settings, gate, ends) else {
+            return false;
+        };
+        hands.push_reserved(hand);
+    }
+    true
+}
+
+// Starts one worker. `None` where its thread was refused.
+fn start_worker<R: Threads + Wait + Copy + Send + 'static, H: Gate + 'static>(
+    alloc: Global,
+    rt: &R,
+    settings: &Settings,
+    gate: Arc<H>,
+    ends: WorkEnds,
+) -> Option<PromisedHandle<Worked, Job>>
+    ensures { IfSome result (Seated settings.now.steps ends) }
+{
+    let job = Job {
+        steps: *settings.steps(),
+        rx: Snapshot::of(&ends.rx),
+        tx: Snapshot::of(&ends.tx),
+    };
+    let own = *rt;
+    let steps = *settings.steps();
+    let gate_turns = settings.gate_turns();
+    thread::spawn_with(rt, job, move || {
+        work(alloc, &own, ends, steps, gate, gate_turns)
+    })
+    .ok()
+}
+
+/// Waits for all workers.
+pub(crate) fn join_workers<R: Threads>(
+    rt: &R,
+    hands: Vec<PromisedHandle<Worked, Job>>,
+    worked: Vec<Worked>,
+) -> Vec<Worked>
+    requires { (worked.items ≡ []) × (vec_len hands ≤ vec_capacity worked) }
+    ensures { AllZip Joined hands.items result.items }
+{
+    let mut worked = worked;
+    for hand in hands {
+        worked.push_reserved(hand.join(rt));
+    }
+    worked
+}

@@ -1,0 +1,61 @@
+//! A dealer is started, with what its join gives.
+
+ghost use Rattle.std.specs.Prelude.{◌≡◌, [], IfSome};
+ghost use Rattle.fq_run.specs.Dealt.{CanDeal};
+
+use crate::dealer::dealt::Dealt;
+use crate::dealer::{Dealer, deal};
+use fq_block::Block;
+use fq_lane::{Rx, Tx};
+use fq_pair::PairReader;
+use fq_serial::Settings;
+use std::alloc::Global;
+use std::snapshot::Snapshot;
+use std::sync::Wait;
+use std::thread;
+use std::thread::{Promise, PromisedHandle, Threads};
+
+/// The settings, the start lane, the lanes of blocks and the pairs that a dealer is started with, which say what its join
+/// gives.
+#[derive(Drop)]
+pub(crate) struct Dealing<S> {
+    pub(crate) settings: Settings,
+    pub(crate) start: Snapshot<Rx<()>>,
+    pub(crate) to: Snapshot<Vec<Tx<Block>>>,
+    pub(crate) source: Snapshot<S>,
+}
+
+impl<S: PairReader> Promise<Dealt<S>> for Dealing<S> {
+    ghost use Rattle.fq_run.specs.Dealt.{HasDealt};
+
+    ghost kept_by = { λ dealing dealt. HasDealt dealing.settings (S.state dealing.source.value) (S.state dealt.source)
+        dealing.start.value dealt.start dealing.to.value.items dealt.closings.items dealt.why };
+}
+
+/// Starts the dealer. `None` where its thread was refused, and the source is then lost.
+pub(crate) fn start_dealer<
+    R: Threads + Wait + Copy + Send + 'static,
+    S: PairReader + Drop + Send + 'static,
+>(
+    alloc: Global,
+    rt: &R,
+    settings: &Settings,
+    dealer: Dealer<S>,
+) -> Option<PromisedHandle<Dealt<S>, Dealing<S>>>
+    requires start { dealer.start.items ≡ [] }
+    requires deals { CanDeal settings.now (S.state dealer.source) dealer }
+    ensures settings { IfSome result (λ h. h.promise.settings ≡ settings.now) }
+    ensures start { IfSome result (λ h. h.promise.start.value ≡ dealer.start) }
+    ensures to { IfSome result (λ h. h.promise.to.value ≡ dealer.to) }
+    ensures source { IfSome result (λ h. h.promise.source.value ≡ dealer.source) }
+{
+    let dealing = Dealing {
+        settings: *settings,
+        start: Snapshot::of(&dealer.start),
+        to: Snapshot::of(&dealer.to),
+        source: Snapshot::of(&dealer.source),
+    };
+    let own = *rt;
+    let settings = *settings;
+    thread::spawn_with(rt, dealing, move || deal(alloc, &own, &settings, dealer)).ok()
+}

@@ -1,0 +1,86 @@
+//! The lanes of all workers, before the threads are started.
+
+ghost use Rattle.std.specs.Prelude.{◌≡◌, ◌≤◌, IfOk};
+ghost use Rattle.fq_run.specs.Crews.{IsLaid, AreFor};
+
+use fq_block::Block;
+use fq_lane::{Rx, Tx, lane};
+use fq_pair::Texts;
+use fq_text::OutOfMemory;
+use fq_work::{Reply, WorkEnds};
+use std::alloc::Global;
+
+/// The ends of the lanes of all workers, worker for worker: those of the dealer, of the workers and of the collector.
+#[derive(Drop)]
+pub(crate) struct Seats {
+    /// The senders of blocks, for the dealer.
+    pub(crate) to: Vec<Tx<Block>>,
+    /// The receivers of blocks that were answered, for the dealer.
+    pub(crate) blocks_back: Vec<Rx<Block>>,
+    /// What each worker gets.
+    pub(crate) ends: Vec<WorkEnds>,
+    /// The receivers of replies, for the collector.
+    pub(crate) replies: Vec<Rx<Reply>>,
+    /// The senders of texts that were written, for the collector.
+    pub(crate) texts_back: Vec<Tx<Texts>>,
+}
+
+/// The lanes of so many workers, each with room for `depth` items.
+pub(crate) fn lay(alloc: Global, workers: usize, depth: usize) -> Result<Seats, OutOfMemory>
+    requires depth { (1 ≤ depth) × (depth ≤ 64) }
+    ensures laid { IfOk result IsLaid }
+    ensures all { IfOk result (AreFor workers) }
+{
+    let mut seats = Seats::new(alloc, workers)?;
+    for _ in 0..workers {
+        seats.add(alloc, depth)?;
+    }
+    Ok(seats)
+}
+
+impl Seats {
+    ghost use Rattle.std.specs.Prelude.{◌≡◌, ◌≤◌, ◌<◌, ◌+◌, IfOk, OnOk, vec_len};
+    ghost use Rattle.fq_run.specs.Crews.{IsLaid, AreFor, HaveRoom, KeepRoom};
+
+    // No lanes, with room for those of so many workers.
+    fn new(alloc: Global, workers: usize) -> Result<Seats, OutOfMemory>
+        ensures laid { IfOk result IsLaid }
+        ensures none { IfOk result (AreFor 0) }
+        ensures room { IfOk result (HaveRoom workers) }
+    {
+        Ok(Seats {
+            to: Vec::with_capacity(alloc, workers)?,
+            blocks_back: Vec::with_capacity(alloc, workers)?,
+            ends: Vec::with_capacity(alloc, workers)?,
+            replies: Vec::with_capacity(alloc, workers)?,
+            texts_back: Vec::with_capacity(alloc, workers)?,
+        })
+    }
+
+    // The lanes of one worker more.
+    fn add(&mut self, alloc: Global, depth: usize) -> Result<(), OutOfMemory>
+        requires depth { (1 ≤ depth) × (depth ≤ 64) }
+        requires laid { IsLaid self.old }
+        requires all { AreFor (vec_len self.old.to) self.old }
+        requires room { HaveRoom (vec_len self.old.to + 1) self.old }
+        ensures laid { IsLaid self.new }
+        ensures room { KeepRoom self.old self.new }
+        ensures more { OnOk result (AreFor (vec_len self.old.to + 1) self.new) }
+    {
+        let (to, rx) = lane(alloc, depth)?;
+        let (tx, replies) = lane(alloc, depth)?;
+        let (blocks_back, blocks) = lane(alloc, depth)?;
+        let (texts_back, texts) = lane(alloc, depth)?;
+        self.to.push_reserved(to);
+        self.blocks_back.push_reserved(blocks);
+        self.ends.push_reserved(WorkEnds {
+            rx,
+            tx,
+            blocks_back,
+            texts_back: texts,
+        });
+        self.replies.push_reserved(replies);
+        self.texts_back.push_reserved(texts_back);
+        Ok(())
+    }
+}

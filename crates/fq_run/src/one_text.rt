@@ -1,0 +1,108 @@
+//! A run on several threads, over one text in which mates take turns.
+
+ghost use Rattle.std.specs.Prelude.{◌≡◌, None, IsTrue, IsSome};
+ghost use Rattle.std.specs.Option.{option_map};
+ghost use Rattle.fq_serial.specs.Devices.{outlet_states, AreHealthy};
+ghost use Rattle.fq_serial.specs.Endings.{mixed_run_of, AreTold, ends_whole, IsTrimmed, IsUntouched, EveryEnding};
+ghost use Rattle.fq_run.specs.Threads.{IsThreaded};
+
+use crate::conclusion::Conclusion;
+use crate::preparing::prepare_mixed;
+use crate::threads::start;
+use fq_pair::{Counts, MixedSource};
+use fq_serial::{MixedEnding, Outcome, Outlets, Settings};
+use fq_text::{Feed, Outlet};
+use fq_work::Gate;
+use std::alloc::Global;
+use std::sync::{Arc, Wait};
+use std::thread::Threads;
+
+/// Trims the pairs of one interleaved input on several threads, and writes them as if they were trimmed one after the other.
+///
+/// Records 2n - 1 and 2n of the input are pair n, as in [`run_serial_mixed`]. All else is as in [`run_threads`](crate::run_threads): the
+/// threads, the lanes, the order of writing, and how a run ends.
+pub fn run_threads_mixed<
+    R: Threads + Wait + Copy + Send + 'static,
+    F: Feed + Drop + Send + 'static,
+    O: Outlet,
+    H: Gate + 'static,
+>(
+    alloc: Global,
+    rt: &R,
+    settings: &Settings,
+    gate: Arc<H>,
+    feed: F,
+    outlets: &mut Outlets<O>,
+) -> MixedEnding<F>
+    requires feed { (F.state feed).failures ≡ 0 }
+    requires outlets { AreHealthy (outlet_states O.state outlets.old) }
+    ensures lane { result.outcome ≡ Outcome.Lane → IsSome result.unended }
+    ensures no_other { IsSome result.unended → result.outcome ≡ Outcome.Lane }
+    ensures feed { result.feed ≡ None → result.outcome ≡ Outcome.Spawn }
+    // Where a thread was refused the outlets are as they were, and so is the feed where it comes back.
+    ensures untouched { result.outcome ≡ Outcome.Spawn → IsUntouched
+        (mixed_run_of F.state (outlet_states O.state) feed outlets.old outlets.new result) }
+    // Where the run ends whole, it has trimmed all pairs one after the other, up to the end of the input or its fault.
+    ensures whole { let run = mixed_run_of F.state (outlet_states O.state) feed outlets.old outlets.new result in
+        IsTrue (ends_whole run.outcome) → AreTold run → IsTrimmed settings.now run }
+    // At every ending but that of an unconfirmed lane the outlets have the texts of the first pairs, but for a part of the block in
+    // which a write failed.
+    ensures every { (result.outcome ≡ Outcome.Lane → ⊥) → EveryEnding settings.now
+        (mixed_run_of F.state (outlet_states O.state) feed outlets.old outlets.new result) }
+{
+    begin(alloc, rt, settings, &gate, feed, outlets)
+}
+
+// Makes what a run needs before its threads, and runs.
+fn begin<
+    R: Threads + Wait + Copy + Send + 'static,
+    F: Feed + Drop + Send + 'static,
+    O: Outlet,
+    H: Gate + 'static,
+>(
+    alloc: Global,
+    rt: &R,
+    settings: &Settings,
+    gate: &Arc<H>,
+    feed: F,
+    outlets: &mut Outlets<O>,
+) -> MixedEnding<F>
+    requires feed { (F.state feed).failures ≡ 0 }
+    requires outlets { AreHealthy (outlet_states O.state outlets.old) }
+    ensures { IsThreaded settings.now (mixed_run_of F.state (outlet_states O.state) feed outlets.old outlets.new result) result.unended }
+{
+    match prepare_mixed(alloc, settings, feed) {
+        Ok((dealer, ready)) => ending_of(start(alloc, rt, settings, gate, dealer, ready, outlets)),
+        Err(feed) => {
+            // A failed flush comes behind want of memory in the order of `Outcome`.
+            let _ = outlets.flush_after(None);
+            MixedEnding {
+                outcome: Outcome::Memory,
+                counts: Counts::ZERO,
+                feed: Some(feed),
+                unended: None,
+            }
+        }
+    }
+}
+
+// The ending, with the feed.
+fn ending_of<F: Feed>(conclusion: Conclusion<MixedSource<F>>) -> MixedEnding<F>
+    ensures outcome { result.outcome ≡ conclusion.outcome }
+    ensures counts { result.counts ≡ conclusion.counts }
+    ensures unended { result.unended ≡ conclusion.unended }
+    ensures feed { result.feed ≡ option_map (λ s. s.source.feed) conclusion.source }
+{
+    let Conclusion {
+        outcome,
+        counts,
+        source,
+        unended,
+    } = conclusion;
+    MixedEnding {
+        outcome,
+        counts,
+        feed: source.map(MixedSource::into_feed),
+        unended,
+    }
+}

@@ -1,0 +1,18 @@
+//! Worked texts: pairs of which each trimmed base was counted by hand. Tests of the other crates read them, each at its own level.
+#![tactic(auto)]
+
+mod seven;
+mod source;
+mod two;
+mod written;
+
+pub use seven::{ELEVEN_INTERLEAVED, SEVEN_FORWARD, SEVEN_REVERSE, SEVEN_STEPS, SEVEN_WRITTEN};
+pub use source::source_of;
+pub use two::{
+    FIRST_FORWARD, FIRST_REVERSE, FIRST_WRITTEN, SECOND_FORWARD, SECOND_REVERSE, SECOND_WRITTEN,
+    TWO_FORWARD, TWO_INTERLEAVED, TWO_REVERSE, TWO_STEPS, TWO_WRITTEN,
+};
+pub use written::Written;
+
+#[cfg(test)]
+mod tests;

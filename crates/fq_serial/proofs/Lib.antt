@@ -1,0 +1,14 @@
+pub mod OutletLemmas
+pub mod WalkLemmas
+pub mod TextLemmas
+pub mod GatherLemmas
+pub mod FillLemmas
+pub mod BlockLemmas
+pub mod PassLemmas
+pub mod FormLemmas
+pub mod FrontLemmas
+pub mod CutLemmas
+pub mod ReadingLemmas
+pub mod VerdictLemmas
+pub mod EndLemmas
+pub mod RunLemmas

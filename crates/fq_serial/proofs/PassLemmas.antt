@@ -1,0 +1,57 @@
+-- From the feeds to the outlets.
+use Rattle.std.proofs.Common.{◌≡◌, Option, Some, None, [], ◌++◌, refl, sym, subst}
+use Rattle.fq_pair.specs.declared.out.Out.{Out}
+use Rattle.fq_pair.specs.declared.counts.Counts.{Counts}
+use Rattle.fq_pair.specs.Outputs.{text_of, texts_of, no_counts}
+use Rattle.fq_serial.specs.declared.halt.Halt.{Halt}
+use Rattle.fq_serial.specs.declared.written.Written.{Written}
+use Rattle.fq_serial.specs.declared.reading_end.ReadingEnd.{ReadingEnd}
+use Rattle.fq_serial.specs.declared.reading_end.ReadingEnd.TheVariants as reading
+use Rattle.fq_serial.specs.Choices.{Choices}
+use Rattle.fq_text.specs.Devices.{FeedState}
+use Rattle.fq_serial.specs.Devices.{OutletStates}
+use Rattle.fq_serial.specs.Fates.{Unbroken}
+use Rattle.fq_pair.specs.Forms.{Form}
+use Rattle.fq_pair.specs.Walks.{SourceState}
+use Rattle.fq_serial.specs.Walks.{fresh_source, feed_in}
+use Rattle.fq_serial.specs.Writing.{no_halt, Passes, Runs}
+use Rattle.fq_serial.proofs.OutletLemmas.{all_took_none, all_took_same}
+use Rattle.fq_serial.proofs.TextLemmas.{no_text}
+use Rattle.fq_serial.proofs.WalkLemmas.{walks_none}
+
+-- memory was refused before anything was read
+pub runs_refused : (form : Form) (c : Choices) (f r f' r' : FeedState) (o : OutletStates) (counted : Counts) → f' ≡ f → r' ≡ r → counted ≡ no_counts → Runs form c f r f' r' o o counted no_halt (Some reading.Memory) None
+runs_refused form c f r f' r' o counted same also none = record {
+  new = fresh_source form c f r;
+  passes = record {
+    whole = [];
+    fate = Unbroken;
+    missed = [];
+    counts = none;
+    reads = ([], walks_none (fresh_source form c f r) refl);
+    took = all_took_same o o (λ out. []) _ None (λ out. sym (nothing out)) (all_took_none o);
+    failed = refl;
+    cut_short = tt;
+    over = λ going sound. absurd cc;
+    unflushed = refl;
+    missed_none = λ sound none. refl;
+  };
+  forward = same;
+  reverse = also;
+}
+  where
+    nothing : (out : Out) → text_of out (texts_of c.steps []) ++ [] ≡ []
+    nothing out = let e = no_text c.steps out in rw e refl
+
+pub runs_nothing : (form : Form) (c : Choices) (f r f' r' : FeedState) (o : OutletStates) (w : Written) → w ≡ record { counts = no_counts; why = Some reading.Memory; failed = None } → f' ≡ f → r' ≡ r →
+    Runs form c f r f' r' o o w.counts no_halt w.why w.failed
+runs_nothing form c f r f' r' o w is same also =
+    let P : Written → Type 0 = λ x. Runs form c f r f' r' o o x.counts no_halt x.why x.failed in
+    subst P (sym is) (runs_refused form c f r f' r' o no_counts same also refl)
+
+-- what was passed from a fresh source on
+pub runs_passed : (form : Form) (c : Choices) (f r f' r' : FeedState) (old new : SourceState) (before after : OutletStates) (counted : Counts) (halt : Halt) (why : Option ReadingEnd) (failed : Option Out) →
+    old ≡ fresh_source form c f r → f' ≡ feed_in new.forward → r' ≡ feed_in new.reverse → Passes c old new before after counted halt why failed → Runs form c f r f' r' before after counted halt why failed
+runs_passed form c f r f' r' old new before after counted halt why failed is first second p =
+    let P : SourceState → Type 0 = λ s. Passes c s new before after counted halt why failed in
+    record { new = new; passes = subst P is p; forward = first; reverse = second }

@@ -1,0 +1,9 @@
+-- The block has as many pairs as the loop has gone round.
+use Rattle.fq_serial.proofs.FillLemmas.{Filled}
+use Rattle.fq_serial.proofs.filling.fill.Given as goal
+
+abbrev pub invariant-loop : goal.invariant-loop
+invariant-loop g l =
+    let s = g.S.PairReader in
+    Filled (s.state l.fn.source) (s.state l.source)
+    l.fn.block l.block l.counter

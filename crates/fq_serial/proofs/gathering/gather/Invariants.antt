@@ -1,0 +1,8 @@
+-- The texts are those of as many pairs as the loop has gone round.
+use Rattle.fq_serial.proofs.GatherLemmas.{Gathered}
+use Rattle.fq_serial.proofs.gathering.gather.Given as goal
+
+abbrev pub invariant-loop : goal.invariant-loop
+invariant-loop g l =
+    let s = g.S.PairReader in
+    Gathered (s.state l.fn.source) (s.state l.source) l.fn.steps l.texts l.counter

@@ -1,0 +1,14 @@
+-- All blocks so far are written whole. Each block that is full brings the end nearer, since it takes bytes.
+use Rattle.std.proofs.Common.{◌-◌}
+use Rattle.fq_serial.specs.Devices.{outlet_states}
+use Rattle.fq_serial.proofs.BlockLemmas.{Wrote}
+use Rattle.fq_serial.proofs.writing.write_blocks.Given as goal
+
+abbrev pub invariant-writing : goal.invariant-writing
+invariant-writing g l =
+    let s = g.S.PairReader in let o = g.O.Outlet in
+    Wrote l.fn.settings (s.state l.fn.source) (outlet_states o.state l.fn.outlets)
+    (s.state l.source) (outlet_states o.state l.outlets) l.counts
+
+abbrev pub decreases-writing : goal.decreases-writing
+decreases-writing g l = let s = g.S.PairReader in (s.state l.fn.source).most_bytes - (s.state l.source).forward.given

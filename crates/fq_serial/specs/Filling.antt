@@ -1,0 +1,19 @@
+-- A block that is filled with pairs.
+use Rattle.std.specs.Prelude.{◌≡◌, ℕ, ◌+◌, ◌≤◌, Option, Some, None, length}
+use Rattle.fq_block.specs.Blocks.{Numbered}
+use Rattle.fq_pair.specs.Walks.{SourceState, GoesOn}
+use Rattle.fq_serial.specs.Walks.{Reads}
+use Rattle.fq_serial.specs.declared.reading_end.ReadingEnd.{ReadingEnd}
+use Rattle.fq_serial.specs.declared.reading_end.ReadingEnd.TheVariants as reading
+
+-- Up to so many pairs were read, and stand in a block; where the reading has not stopped they are so many. A pair that was refused
+-- for memory was given by the source, and is in no block.
+pub record Fills (old new : SourceState) (most : ℕ) (empty filled : Numbered) (why : Option ReadingEnd) : Type 0 where
+  pub number : filled.number ≡ empty.number
+  pub encoding : filled.encoding ≡ empty.encoding
+  pub few : length filled.pairs ≤ most
+  pub full : why ≡ None → length filled.pairs ≡ most
+  pub reads : Reads old new filled.pairs why
+  pub lost : why ≡ Some reading.Memory → new.given ≡ old.given + length filled.pairs + 1
+  pub within : old.forward.given + length filled.pairs ≤ old.most_bytes
+  pub goes : why ≡ None → GoesOn new

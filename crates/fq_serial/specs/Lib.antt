@@ -1,0 +1,11 @@
+pub mod Ranges
+pub mod Choices
+pub mod Outcomes
+pub mod Devices
+pub mod Sending
+pub mod Walks
+pub mod Gathering
+pub mod Filling
+pub mod Fates
+pub mod Writing
+pub mod Endings

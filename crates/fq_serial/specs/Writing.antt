@@ -1,0 +1,72 @@
+-- The blocks of a run, read and written.
+use Rattle.std.specs.Prelude.{◌≡◌, Bool, true, false, ◌||◌, Option, Some, None, List, [], ◌++◌}
+use Rattle.fq_pair.specs.declared.out.Out.{Out}
+use Rattle.fq_pair.specs.declared.counts.Counts.{Counts}
+use Rattle.fq_pair.specs.declared.fault.InputFault.{InputFault}
+use Rattle.fq_pair.specs.Mates.{Mates}
+use Rattle.fq_pair.specs.Outputs.{texts_of, text_of, counts_of}
+use Rattle.fq_work.specs.declared.reply.Cause.{Cause}
+use Rattle.fq_work.specs.declared.reply.Cause.TheVariants.{Gate, Memory}
+use Rattle.fq_serial.specs.declared.halt.Halt.{Halt}
+use Rattle.fq_serial.specs.declared.occurred.Occurred.{Occurred}
+use Rattle.fq_serial.specs.declared.reading_end.ReadingEnd.{ReadingEnd}
+use Rattle.fq_serial.specs.declared.reading_end.ReadingEnd.TheVariants as reading
+use Rattle.fq_serial.specs.Choices.{Choices}
+use Rattle.fq_text.specs.Devices.{FeedState}
+use Rattle.fq_serial.specs.Devices.{OutletStates, OutletsTook}
+use Rattle.fq_serial.specs.Fates.{Fate, FlushFailed, failed_outlet, block_begun, part_begun, IsCutShort}
+use Rattle.fq_pair.specs.Forms.{Form}
+use Rattle.fq_pair.specs.Walks.{SourceState}
+use Rattle.fq_serial.specs.Walks.{Reads, fresh_source, feed_in}
+
+-- an outlet failed at its flush
+abbrev pub is_flush : Fate → Bool
+is_flush (FlushFailed out) = true
+is_flush _ = false
+
+-- no worker has stopped before the last of its blocks
+abbrev pub no_halt : Halt
+no_halt = record { gate = false; memory = false }
+
+-- one worker more has stopped
+abbrev pub with_stop : Cause → Halt → Halt
+with_stop Gate halt = record { gate = true; memory = halt.memory }
+with_stop Memory halt = record { gate = halt.gate; memory = true }
+
+-- Pairs were read, up to where the reading stopped, and written, up to where a write failed or a worker stopped: those behind these were missed.
+pub record Passes (c : Choices) (old new : SourceState) (before after : OutletStates) (counted : Counts) (halt : Halt) (why : Option ReadingEnd) (broken : Option Out) : Type 0 where
+  pub whole : List Mates
+  pub fate : Fate
+  pub missed : List Mates
+  pub counts : counted ≡ counts_of c.steps whole
+  pub reads : Reads old new ((whole ++ block_begun fate) ++ missed) why
+  pub took : OutletsTook before after (λ out. text_of out (texts_of c.steps whole) ++ part_begun c.steps fate out) (failed_outlet fate)
+  pub failed : broken ≡ failed_outlet fate
+  pub cut_short : IsCutShort c.block_pairs c.steps fate
+  pub over : why ≡ None → broken ≡ None → ⊥
+  pub unflushed : is_flush fate ≡ false
+  pub missed_none : halt ≡ no_halt → broken ≡ None → missed ≡ []
+
+-- the same from the feeds on
+pub record Runs (form : Form) (c : Choices) (f r f' r' : FeedState) (before after : OutletStates) (counted : Counts) (halt : Halt) (why : Option ReadingEnd) (broken : Option Out) : Type 0 where
+  pub new : SourceState
+  pub passes : Passes c (fresh_source form c f r) new before after counted halt why broken
+  pub forward : f' ≡ feed_in new.forward
+  pub reverse : r' ≡ feed_in new.reverse
+
+-- where no write had failed each outlet was flushed, up to the first that failed in it
+abbrev pub FlushesAfter : Option Out → OutletStates → OutletStates → Option Out → Type 0
+FlushesAfter (Some failed) before after result = (result ≡ Some failed) × (after ≡ before)
+FlushesAfter None before after result = OutletsTook before after (λ out. []) result
+
+-- what of a run's workers, reading and writing an outcome tells
+abbrev pub wants_memory : Option ReadingEnd → Bool
+wants_memory (Some reading.Memory) = true
+wants_memory _ = false
+
+abbrev pub fault_in : Option ReadingEnd → Option InputFault
+fault_in (Some (reading.Fault fault)) = Some fault
+fault_in _ = None
+
+abbrev pub occurred : Halt → Option ReadingEnd → Option Out → Occurred
+occurred halt why failed = record { gate = halt.gate; memory = halt.memory || wants_memory why; failed = failed; fault = fault_in why }

@@ -1,0 +1,35 @@
+//! The pairs of a block, read.
+
+ghost use Rattle.std.specs.Prelude.{◌≡◌, ◌≤◌, []};
+ghost use Rattle.fq_serial.specs.Filling.{Fills};
+ghost use Rattle.fq_pair.specs.Walks.{GoesOn};
+
+use crate::reading_end::ReadingEnd;
+use fq_block::Block;
+use fq_pair::PairReader;
+
+/// Fills a block with the next pairs, up to `most`. Answers why no further pair is read, if the reading has stopped. A pair that
+/// the block refuses for memory is lost, and those before it stay in the block.
+pub fn fill<S: PairReader>(source: &mut S, most: u64, block: &mut Block) -> Option<ReadingEnd>
+    requires goes { GoesOn (S.state source.old) }
+    requires some { 1 ≤ most }
+    requires few { most ≤ 65536 }
+    requires clear { block.old.pairs ≡ [] }
+    requires encoding { block.old.encoding ≡ (S.state source.old).encoding }
+    ensures { Fills (S.state source.old)
+        (S.state source.new) most block.old block.new result }
+{
+    for _ in 0..most {
+        match source.next_pair() {
+            Ok(Some(pair)) => {
+                prove_eq!(pair.encoding(), block.encoding());
+                if block.push(&pair).is_err() {
+                    return Some(ReadingEnd::Memory);
+                }
+            }
+            Ok(None) => return Some(ReadingEnd::End),
+            Err(fault) => return Some(ReadingEnd::Fault(fault)),
+        }
+    }
+    None
+}

@@ -1,0 +1,74 @@
+//! What occurred in a run.
+
+ghost use Rattle.std.specs.Prelude.{◌≡◌};
+ghost use Rattle.fq_serial.specs.Outcomes.{end_of};
+
+use crate::halt::Halt;
+use crate::outcome::Outcome;
+use crate::reading_end::ReadingEnd;
+use fq_pair::{InputFault, Out};
+use fq_text::TextFault;
+
+/// What occurred in a run.
+#[derive(Clone, Copy, Debug, PartialEq, Eq)]
+pub struct Occurred {
+    /// A gate didn't let a block pass.
+    pub gate: bool,
+    /// Memory was refused.
+    pub memory: bool,
+    /// The outlet of which a write or the flush failed.
+    pub failed: Option<Out>,
+    /// The fault at which the reading ended.
+    pub fault: Option<InputFault>,
+}
+
+impl Occurred {
+    ghost use Rattle.fq_serial.specs.Outcomes.{outcome_of};
+    ghost use Rattle.fq_serial.specs.Writing.{occurred};
+
+    /// What occurred where workers stopped for these reasons, the reading stopped for this one, if it did, and this outlet failed, if
+    /// one did.
+    pub fn new(halt: Halt, why: Option<ReadingEnd>, failed: Option<Out>) -> Occurred
+        ensures { result ≡ occurred halt why failed }
+    {
+        Occurred {
+            gate: halt.gate,
+            memory: halt.memory || matches!(why, Some(ReadingEnd::Memory)),
+            failed,
+            fault: match why {
+                Some(ReadingEnd::Fault(fault)) => Some(fault),
+                _ => None,
+            },
+        }
+    }
+
+    /// The first in the order of [`Outcome`] that occurred.
+    pub fn outcome(self) -> Outcome
+        ensures { result ≡ outcome_of self }
+    {
+        if self.gate {
+            return Outcome::Gate;
+        }
+        let ended = end_outcome(self.fault);
+        if self.memory || matches!(ended, Outcome::Memory) {
+            return Outcome::Memory;
+        }
+        match self.failed {
+            Some(out) => Outcome::Write(out),
+            None => ended,
+        }
+    }
+}
+
+// The outcome of a run in which nothing else occurred.
+fn end_outcome(fault: Option<InputFault>) -> Outcome
+    ensures { result ≡ end_of fault }
+{
+    match fault {
+        None => Outcome::Finished,
+        Some(InputFault::Text(side, TextFault::Read)) => Outcome::Read(side),
+        Some(InputFault::Text(side, TextFault::Endless)) => Outcome::Endless(side),
+        Some(InputFault::Text(_, TextFault::OutOfMemory)) => Outcome::Memory,
+        Some(fault) => Outcome::Input(fault),
+    }
+}

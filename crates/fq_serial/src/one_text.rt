@@ -1,0 +1,86 @@
+//! A run on one thread, over one text in which mates take turns.
+
+ghost use Rattle.std.specs.Prelude.{◌≡◌, ◌≤◌, None, IsTrue, IsSome};
+ghost use Rattle.fq_pair.specs.Forms.{InterleavedText};
+ghost use Rattle.fq_serial.specs.Devices.{outlet_states, AreHealthy};
+ghost use Rattle.fq_serial.specs.Writing.{Runs, no_halt};
+ghost use Rattle.fq_serial.specs.Outcomes.{rank};
+ghost use Rattle.fq_serial.specs.Endings.{mixed_run_of, AreTold, ends_whole, IsTrimmed, EveryEnding};
+
+use crate::ending::MixedEnding;
+use crate::halt::Halt;
+use crate::occurred::Occurred;
+use crate::opening::open_mixed;
+use crate::outlets::Outlets;
+use crate::settings::Settings;
+use crate::writing::write_blocks;
+use crate::written::{Pass, Written};
+use fq_text::{Feed, Outlet};
+use std::alloc::Global;
+
+/// Trims the pairs of one interleaved input on this thread, one after the other, and writes them.
+///
+/// Records 2n - 1 and 2n of the input are pair n, the forward mate first. All else is as in [`run_serial`](crate::run_serial). A fault of the
+/// text carries the number of its record there, and the side of the mate that was being read; a missing mate is always a reverse
+/// one. `Read` and `Endless` carry the side of the mate that was being read.
+pub fn run_serial_mixed<F: Feed, O: Outlet>(
+    alloc: Global,
+    settings: &Settings,
+    feed: F,
+    outlets: &mut Outlets<O>,
+) -> MixedEnding<F>
+    requires feed { (F.state feed).failures ≡ 0 }
+    requires outlets { AreHealthy (outlet_states O.state outlets.old) }
+    ensures feed { IsSome result.feed }
+    ensures serial { 4 ≤ rank result.outcome }
+    ensures unended { result.unended ≡ None }
+    // Where the run ends whole, it has trimmed all pairs up to the end of the input or its fault.
+    ensures whole { let run = mixed_run_of F.state (outlet_states O.state) feed outlets.old outlets.new result in
+        IsTrue (ends_whole run.outcome) → AreTold run → IsTrimmed settings.now run }
+    // At every ending the outlets have the texts of the first pairs, but for a part of the block in which a write failed.
+    ensures every { EveryEnding settings.now
+        (mixed_run_of F.state (outlet_states O.state) feed outlets.old outlets.new result) }
+{
+    let Pass {
+        written,
+        feeds: feed,
+    } = pass(alloc, settings, feed, outlets);
+    let Written {
+        counts,
+        why,
+        failed,
+    } = written;
+    let failed = outlets.flush_after(failed);
+    MixedEnding {
+        outcome: Occurred::new(Halt::NONE, why, failed).outcome(),
+        counts,
+        feed: Some(feed),
+        unended: None,
+    }
+}
+
+// Reads and writes all pairs of one text.
+fn pass<F: Feed, O: Outlet>(
+    alloc: Global,
+    settings: &Settings,
+    feed: F,
+    outlets: &mut Outlets<O>,
+) -> Pass<F>
+    requires feed { (F.state feed).failures ≡ 0 }
+    requires outlets { AreHealthy (outlet_states O.state outlets.old) }
+    ensures { Runs InterleavedText settings.now (F.state feed) (F.state feed)
+        (F.state result.feeds) (F.state result.feeds)
+        (outlet_states O.state outlets.old) (outlet_states O.state outlets.new)
+        result.written.counts no_halt result.written.why result.written.failed }
+{
+    match open_mixed(alloc, settings, feed) {
+        Ok(mut source) => Pass {
+            written: write_blocks(alloc, settings, &mut source, outlets),
+            feeds: source.into_feed(),
+        },
+        Err(feed) => Pass {
+            written: Written::nothing(),
+            feeds: feed,
+        },
+    }
+}

@@ -1,0 +1,58 @@
+//! The sources of the pairs of a run.
+
+ghost use Rattle.std.specs.Prelude.{◌≡◌, ◌≤◌, ◌*◌, ◌^◌, IfOk, IfErr};
+ghost use Rattle.fq_pair.specs.Forms.{TwoTexts, InterleavedText};
+ghost use Rattle.fq_pair.specs.Walks.{source_state, interleaved_state};
+ghost use Rattle.fq_serial.specs.Walks.{fresh_source};
+
+use crate::settings::Settings;
+use fq_pair::{MixedSource, PairSource};
+use fq_text::{Feed, NoSource, Source};
+use std::alloc::Global;
+
+/// The source of the pairs of two feeds, or the feeds where memory was refused.
+pub fn open<F: Feed, G: Feed>(
+    alloc: Global,
+    settings: &Settings,
+    forward: F,
+    reverse: G,
+) -> Result<PairSource<F, G>, (F, G)>
+    requires forward { (F.state forward).failures ≡ 0 }
+    requires reverse { (G.state reverse).failures ≡ 0 }
+    ensures ok { IfOk result (λ source. source_state F.state G.state source
+        ≡ fresh_source TwoTexts settings.now (F.state forward) (G.state reverse)) }
+    ensures few { IfOk result (λ source. source.forward.max_reads * source.forward.chunk ≤ 2 ^ 60) }
+    ensures err { IfErr result (λ feeds. (feeds.0 ≡ forward) × (feeds.1 ≡ reverse)) }
+{
+    let encoding = settings.encoding();
+    let chunk = settings.chunk();
+    let max_reads = settings.max_reads();
+    let forward = match Source::new(alloc, forward, encoding, chunk, max_reads) {
+        Ok(source) => source,
+        Err(NoSource { feed }) => return Err((feed, reverse)),
+    };
+    match Source::new(alloc, reverse, encoding, chunk, max_reads) {
+        Ok(reverse) => Ok(PairSource::new(forward, reverse, settings.check_names())),
+        Err(NoSource { feed }) => Err((forward.into_feed(), feed)),
+    }
+}
+
+/// The source of the pairs of one feed in which mates take turns, or the feed where memory was refused.
+pub fn open_mixed<F: Feed>(alloc: Global, settings: &Settings, feed: F) -> Result<MixedSource<F>, F>
+    requires { (F.state feed).failures ≡ 0 }
+    ensures ok { IfOk result (λ source. interleaved_state F.state source
+        ≡ fresh_source InterleavedText settings.now (F.state feed) (F.state feed)) }
+    ensures few { IfOk result (λ source. source.source.max_reads * source.source.chunk ≤ 2 ^ 60) }
+    ensures err { IfErr result (λ back. back ≡ feed) }
+{
+    match Source::new(
+        alloc,
+        feed,
+        settings.encoding(),
+        settings.chunk(),
+        settings.max_reads(),
+    ) {
+        Ok(source) => Ok(MixedSource::new(source, settings.check_names())),
+        Err(NoSource { feed }) => Err(feed),
+    }
+}

@@ -1,0 +1,96 @@
+//! The outlets that a run writes to.
+
+ghost use Rattle.std.specs.Prelude.{◌≡◌};
+ghost use Rattle.fq_pair.specs.Outputs.{text_of};
+ghost use Rattle.fq_serial.specs.Sending.{SendsTo, FlushesOne};
+
+use fq_pair::{Out, Texts};
+use fq_text::{Outlet, send};
+
+/// Where the texts of a run go.
+#[derive(Drop)]
+pub struct Outlets<O> {
+    /// Forward reads whose mate survives too.
+    pub forward_paired: O,
+    /// Forward reads whose mate is dropped.
+    pub forward_unpaired: O,
+    /// Reverse reads whose mate survives too.
+    pub reverse_paired: O,
+    /// Reverse reads whose mate is dropped.
+    pub reverse_unpaired: O,
+    /// The trim log, if one is wanted.
+    pub log: Option<O>,
+}
+
+impl<O: Outlet> Outlets<O> {
+    ghost use Rattle.std.specs.Prelude.{◌≡◌, ◌<◌, None};
+    ghost use Rattle.fq_serial.specs.Devices.{outlet_states, AreHealthy};
+    ghost use Rattle.fq_serial.specs.Sending.{Sends, Flushes};
+    ghost use Rattle.fq_serial.specs.Writing.{FlushesAfter};
+
+    /// Sends the texts to their outlets, in the order of [`Out`], up to the first outlet that fails, which is answered.
+    ///
+    /// The outlets before that one have then taken their texts, that one a first part of its text, and those behind it
+    /// nothing. A log is written only where one is wanted.
+    pub fn write(&mut self, texts: &Texts) -> Result<(), Out>
+        requires { AreHealthy (outlet_states O.state self.old) }
+        ensures { Sends (outlet_states O.state self.old) (outlet_states O.state self.new) texts.now result }
+    {
+        send_to(&mut self.forward_paired, texts, Out::ForwardPaired)?;
+        send_to(&mut self.forward_unpaired, texts, Out::ForwardUnpaired)?;
+        send_to(&mut self.reverse_paired, texts, Out::ReversePaired)?;
+        send_to(&mut self.reverse_unpaired, texts, Out::ReverseUnpaired)?;
+        if let Some(log) = &mut self.log {
+            send_to(log, texts, Out::Log)?;
+        }
+        Ok(())
+    }
+
+    /// Flushes each outlet once, in the order of [`Out`], up to the first that fails, which is answered.
+    pub(crate) fn flush(&mut self) -> Result<(), Out>
+        requires { AreHealthy (outlet_states O.state self.old) }
+        ensures { Flushes (outlet_states O.state self.old) (outlet_states O.state self.new) result }
+    {
+        flush_one(&mut self.forward_paired, Out::ForwardPaired)?;
+        flush_one(&mut self.forward_unpaired, Out::ForwardUnpaired)?;
+        flush_one(&mut self.reverse_paired, Out::ReversePaired)?;
+        flush_one(&mut self.reverse_unpaired, Out::ReverseUnpaired)?;
+        if let Some(log) = &mut self.log {
+            flush_one(log, Out::Log)?;
+        }
+        Ok(())
+    }
+
+    /// Flushes them where no write failed, each once and in the order of [`Out`], up to the first that fails. Answers the outlet that failed, now or before.
+    pub fn flush_after(&mut self, failed: Option<Out>) -> Option<Out>
+        requires { failed ≡ None → AreHealthy (outlet_states O.state self.old) }
+        ensures { FlushesAfter failed (outlet_states O.state self.old) (outlet_states O.state self.new) result }
+    {
+        match failed {
+            Some(out) => Some(out),
+            None => self.flush().err(),
+        }
+    }
+}
+
+// Sends one of the texts to its outlet.
+fn send_to<O: Outlet>(outlet: &mut O, texts: &Texts, out: Out) -> Result<(), Out>
+    requires { (O.state outlet.old).failures ≡ 0 }
+    ensures { SendsTo (O.state outlet.old) (O.state outlet.new) (text_of out texts.now) out result }
+{
+    match send(outlet, texts.text(out)) {
+        Ok(()) => Ok(()),
+        Err(_) => Err(out),
+    }
+}
+
+// Flushes one outlet.
+fn flush_one<O: Outlet>(outlet: &mut O, out: Out) -> Result<(), Out>
+    requires { (O.state outlet.old).failures ≡ 0 }
+    ensures { FlushesOne (O.state outlet.old) (O.state outlet.new) out result }
+{
+    match outlet.flush() {
+        Ok(()) => Ok(()),
+        Err(_) => Err(out),
+    }
+}

@@ -1,0 +1,245 @@
+//! The settings of a run.
+
+ghost use Rattle.std.specs.Prelude.{◌≡◌, ◌≤◌, ◌^◌};
+ghost use Rattle.fq_serial.specs.Ranges.{within};
+
+use fq_text::Encoding;
+use fq_trim::Steps;
+use std::marker::Model;
+use thiserror::Error;
+
+/// The most workers.
+const MOST_WORKERS: u64 = 64;
+/// The most pairs of a block.
+const MOST_PAIRS: u64 = 65_536;
+/// The most items that a lane holds.
+const MOST_DEPTH: u64 = 64;
+/// The most bytes that are asked for by one read.
+const MOST_BYTES: u64 = 1_048_576;
+/// The most reads of one input, and the most turns at a gate: 2 to the power of 40.
+const MOST_TURNS: u64 = 1_099_511_627_776;
+
+/// The first setting that is out of its range.
+#[derive(Clone, Copy, Debug, PartialEq, Eq, Error)]
+pub enum BadSetting {
+    /// The workers aren't 1 to 64.
+    #[error("workers")]
+    Workers,
+    /// The pairs of a block aren't 1 to 65,536.
+    #[error("block")]
+    BlockPairs,
+    /// The depth of a lane isn't 1 to 64.
+    #[error("depth")]
+    Depth,
+    /// The bytes of a read aren't 1 to 1,048,576.
+    #[error("chunk")]
+    Chunk,
+    /// The reads of an input aren't 1 to 2^40.
+    #[error("reads")]
+    MaxReads,
+    /// The turns at a gate aren't 1 to 2^40.
+    #[error("gate")]
+    GateTurns,
+}
+
+/// The settings of a run, each number in its range.
+#[derive(Clone, Copy, Debug, PartialEq, Eq)]
+pub struct Settings {
+    encoding: Encoding,
+    steps: Steps,
+    check_names: bool,
+    workers: u64,
+    block_pairs: u64,
+    depth: u64,
+    chunk: u64,
+    max_reads: u64,
+    gate_turns: u64,
+}
+
+impl Model for Settings {
+    ghost use Rattle.std.specs.Prelude.{◌≤◌, ◌^◌};
+    ghost use Rattle.fq_serial.specs.Choices.{Choices, AreInRange};
+
+    ghost Value = { Choices };
+
+    ghost view = { λ s. record {
+      encoding = s.encoding;
+      steps = s.steps;
+      check_names = s.check_names;
+      workers = s.workers;
+      block_pairs = s.block_pairs;
+      depth = s.depth;
+      chunk = s.chunk;
+      max_reads = s.max_reads;
+      gate_turns = s.gate_turns;
+    } };
+
+    ghost invariant = { λ s. AreInRange s.workers s.block_pairs s.depth s.chunk s.max_reads s.gate_turns };
+
+    ghost inverse = { λ c. record {
+      encoding = c.encoding;
+      steps = c.steps;
+      check_names = c.check_names;
+      workers = c.workers;
+      block_pairs = c.block_pairs;
+      depth = c.depth;
+      chunk = c.chunk;
+      max_reads = c.max_reads;
+      gate_turns = c.gate_turns;
+    } };
+}
+
+impl Settings {
+    ghost use Rattle.fq_serial.specs.Choices.{Choices, AreInRange, checked};
+
+    /// The settings of a run.
+    ///
+    /// - `encoding`: how the quality bytes of both inputs stand for Phred scores.
+    /// - `steps`: what is trimmed.
+    /// - `check_names`: whether the names of mates are compared.
+    /// - `workers`: threads that trim, 1 to 64. A serial run has none.
+    /// - `block_pairs`: pairs that are trimmed and written at a time, 1 to 65,536.
+    /// - `depth`: blocks or replies that a lane between threads holds, 1 to 64.
+    /// - `chunk`: bytes that are asked for by one read, 1 to 1,048,576.
+    /// - `max_reads`: reads of each input before it counts as endless, 1 to 2^40.
+    /// - `gate_turns`: how often a gate is asked about one block, 1 to 2^40.
+    ///
+    /// # Errors
+    ///
+    /// The first of the six numbers, in this order, that is out of its range. It takes no memory.
+    pub fn new(
+        encoding: Encoding,
+        steps: Steps,
+        check_names: bool,
+        workers: u64,
+        block_pairs: u64,
+        depth: u64,
+        chunk: u64,
+        max_reads: u64,
+        gate_turns: u64,
+    ) -> Result<Settings, BadSetting>
+        ensures { result ≡ checked (record {
+          encoding = encoding;
+          steps = steps;
+          check_names = check_names;
+          workers = workers;
+          block_pairs = block_pairs;
+          depth = depth;
+          chunk = chunk;
+          max_reads = max_reads;
+          gate_turns = gate_turns;
+        }) }
+    {
+        if !is_within(MOST_WORKERS, workers) {
+            return Err(BadSetting::Workers);
+        }
+        if !is_within(MOST_PAIRS, block_pairs) {
+            return Err(BadSetting::BlockPairs);
+        }
+        if !is_within(MOST_DEPTH, depth) {
+            return Err(BadSetting::Depth);
+        }
+        if !is_within(MOST_BYTES, chunk) {
+            return Err(BadSetting::Chunk);
+        }
+        if !is_within(MOST_TURNS, max_reads) {
+            return Err(BadSetting::MaxReads);
+        }
+        if !is_within(MOST_TURNS, gate_turns) {
+            return Err(BadSetting::GateTurns);
+        }
+        Ok(Settings {
+            encoding,
+            steps,
+            check_names,
+            workers,
+            block_pairs,
+            depth,
+            chunk,
+            max_reads,
+            gate_turns,
+        })
+    }
+
+    /// How the quality bytes of both inputs stand for scores.
+    pub fn encoding(&self) -> Encoding
+        ensures { result ≡ self.now.encoding }
+    {
+        self.encoding
+    }
+
+    /// What is trimmed.
+    pub fn steps(&self) -> &Steps
+        ensures { result.now ≡ self.now.steps }
+    {
+        &self.steps
+    }
+
+    /// Whether the names of mates are compared.
+    pub fn check_names(&self) -> bool
+        ensures { result ≡ self.now.check_names }
+    {
+        self.check_names
+    }
+
+    /// How many threads trim in a threaded run.
+    pub fn workers(&self) -> u64
+        ensures workers { result ≡ self.now.workers }
+        ensures some { 1 ≤ result }
+        ensures most { result ≤ 64 }
+    {
+        self.workers
+    }
+
+    /// How many pairs are trimmed and written at a time.
+    pub fn block_pairs(&self) -> u64
+        ensures pairs { result ≡ self.now.block_pairs }
+        ensures some { 1 ≤ result }
+        ensures most { result ≤ 65536 }
+    {
+        self.block_pairs
+    }
+
+    /// How many items a lane between threads holds.
+    pub fn depth(&self) -> u64
+        ensures depth { result ≡ self.now.depth }
+        ensures some { 1 ≤ result }
+        ensures most { result ≤ 64 }
+    {
+        self.depth
+    }
+
+    /// How many bytes are asked for by one read.
+    pub fn chunk(&self) -> usize
+        ensures chunk { result ≡ self.now.chunk }
+        ensures some { 1 ≤ result }
+        ensures most { result ≤ 1048576 }
+    {
+        self.chunk as usize
+    }
+
+    /// How many reads of each input are made before it counts as endless.
+    pub fn max_reads(&self) -> u64
+        ensures reads { result ≡ self.now.max_reads }
+        ensures some { 1 ≤ result }
+        ensures most { result ≤ 2 ^ 40 }
+    {
+        self.max_reads
+    }
+
+    /// How often a gate is asked about one block.
+    pub fn gate_turns(&self) -> u64
+        ensures turns { result ≡ self.now.gate_turns }
+        ensures some { 1 ≤ result }
+        ensures most { result ≤ 2 ^ 40 }
+    {
+        self.gate_turns
+    }
+}
+
+// From 1 to the most.
+fn is_within(most: u64, number: u64) -> bool
+    ensures { result ≡ within most number }
+{
+    1 <= number && number <= most
+}

@@ -1,0 +1,100 @@
+//! A run on one thread, over two texts.
+
+ghost use Rattle.std.specs.Prelude.{◌≡◌, ◌≤◌, None, IsTrue, IsSome};
+ghost use Rattle.fq_serial.specs.Devices.{outlet_states, AreHealthy};
+ghost use Rattle.fq_pair.specs.Forms.{TwoTexts};
+ghost use Rattle.fq_serial.specs.Writing.{Runs, no_halt};
+ghost use Rattle.fq_serial.specs.Outcomes.{rank};
+ghost use Rattle.fq_serial.specs.Endings.{run_of, AreTold, ends_whole, IsTrimmed, EveryEnding};
+
+use crate::ending::Ending;
+use crate::halt::Halt;
+use crate::occurred::Occurred;
+use crate::opening::open;
+use crate::outlets::Outlets;
+use crate::settings::Settings;
+use crate::writing::write_blocks;
+use crate::written::{Pass, Written};
+use fq_text::{Feed, Outlet};
+use std::alloc::Global;
+
+/// Trims the pairs of two inputs on this thread, one after the other, and writes them.
+///
+/// Record k of the forward input and record k of the reverse input are a pair. Pairs are read, trimmed and written in blocks of
+/// `settings.block_pairs()`; a block that the end of the input leaves part-filled is written too. The texts of a block go to
+/// their outlets in the order of [`Out`]. The pairs before a fault of the inputs are written, and the fault is answered.
+///
+/// Reading stops where memory is refused to a pair, which is lost with all later ones; the pairs in hand are still written. It stops
+/// at a failed write, and then nothing more goes to any outlet. Where no write failed each outlet is flushed once at the end, in
+/// the order of [`Out`], up to the first flush that fails.
+///
+/// Where more than one of these occurred the first in the order of [`Outcome`](crate::Outcome) is answered; `Spawn`, `Lane` and
+/// `Gate` don't arise. The counts are those of the pairs whose block was written whole. Both feeds are handed back as they stand.
+/// The settings for threads aren't used. No device may have failed before the run.
+pub fn run_serial<F: Feed, G: Feed, O: Outlet>(
+    alloc: Global,
+    settings: &Settings,
+    forward: F,
+    reverse: G,
+    outlets: &mut Outlets<O>,
+) -> Ending<F, G>
+    requires forward { (F.state forward).failures ≡ 0 }
+    requires reverse { (G.state reverse).failures ≡ 0 }
+    requires outlets { AreHealthy (outlet_states O.state outlets.old) }
+    ensures forward { IsSome result.forward }
+    ensures reverse { IsSome result.reverse }
+    ensures serial { 4 ≤ rank result.outcome }
+    ensures unended { result.unended ≡ None }
+    // Where the run ends whole, it has trimmed all pairs up to the end of the input or its fault.
+    ensures whole { let run = run_of F.state G.state (outlet_states O.state) forward reverse outlets.old outlets.new result in
+        IsTrue (ends_whole run.outcome) → AreTold run → IsTrimmed settings.now run }
+    // At every ending the outlets have the texts of the first pairs, but for a part of the block in which a write failed.
+    ensures every { EveryEnding settings.now
+        (run_of F.state G.state (outlet_states O.state) forward reverse outlets.old outlets.new result) }
+{
+    let Pass {
+        written,
+        feeds: (forward, reverse),
+    } = pass(alloc, settings, forward, reverse, outlets);
+    let Written {
+        counts,
+        why,
+        failed,
+    } = written;
+    let failed = outlets.flush_after(failed);
+    Ending {
+        outcome: Occurred::new(Halt::NONE, why, failed).outcome(),
+        counts,
+        forward: Some(forward),
+        reverse: Some(reverse),
+        unended: None,
+    }
+}
+
+// Reads and writes all pairs of two texts.
+fn pass<F: Feed, G: Feed, O: Outlet>(
+    alloc: Global,
+    settings: &Settings,
+    forward: F,
+    reverse: G,
+    outlets: &mut Outlets<O>,
+) -> Pass<(F, G)>
+    requires forward { (F.state forward).failures ≡ 0 }
+    requires reverse { (G.state reverse).failures ≡ 0 }
+    requires outlets { AreHealthy (outlet_states O.state outlets.old) }
+    ensures { Runs TwoTexts settings.now (F.state forward) (G.state reverse)
+        (F.state result.feeds.0) (G.state result.feeds.1)
+        (outlet_states O.state outlets.old) (outlet_states O.state outlets.new)
+        result.written.counts no_halt result.written.why result.written.failed }
+{
+    match open(alloc, settings, forward, reverse) {
+        Ok(mut source) => Pass {
+            written: write_blocks(alloc, settings, &mut source, outlets),
+            feeds: source.into_feeds(),
+        },
+        Err(feeds) => Pass {
+            written: Written::nothing(),
+            feeds,
+        },
+    }
+}

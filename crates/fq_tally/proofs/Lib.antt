@@ -1,0 +1,6 @@
+pub mod RowLemmas
+pub mod CourseLemmas
+pub mod PlusLaws
+pub mod WorkedExamples
+pub mod LeftLaws
+pub mod ListLemmas

@@ -1,0 +1,267 @@
+-- Pairs that are tallied apart and added up give the tally of all.
+use Rattle.std.proofs.Common.{◌≡◌, ℕ, zero, suc, ◌-◌, ◌≤◌, Bool, true, false, not, ◌&&◌, cond, List, [], ◌∷◌, ◌++◌, length, min, max, fold, refl, ap, sym, ◌∙◌, arith}
+use Rattle.std.proofs.lemmas.List.Sums.{fold-append}
+use Rattle.fq_text.specs.Grammar.{Read}
+use Rattle.fq_trim.specs.declared.step.Step.{Step}
+use Rattle.fq_pair.specs.Mates.{Mates}
+use Rattle.fq_pair.specs.Summaries.{capped_sum}
+use Rattle.fq_tally.specs.declared.bases.BaseTally.{BaseTally}
+use Rattle.fq_tally.specs.declared.reads.ReadsTally.{ReadsTally}
+use Rattle.fq_tally.specs.declared.side.SideTally.{SideTally}
+use Rattle.fq_tally.specs.declared.tally.Tally.{Tally}
+use Rattle.fq_tally.specs.Rows.{with_one, row_of, counted, counted_all, rows_plus}
+use Rattle.fq_tally.specs.Courses.{Part, whole, Course, course, survives}
+use Rattle.fq_tally.specs.Tallies.{no_bases, bases_plus, bases_of, no_reads, with_part, reads_plus, no_side, with_read, side_plus, no_tally, with_pair, tally_of, plus}
+use Rattle.fq_tally.proofs.RowLemmas.{plus_none}
+
+-- a count that a u64 can hold
+abbrev Small : ℕ → Type 0
+Small n = n ≤ 18446744073709551615
+
+capped_small : (a b : ℕ) → Small (capped_sum a b)
+capped_small a b = omega arith
+
+capped_assoc : (a b c : ℕ) → capped_sum (capped_sum a b) c ≡ capped_sum a (capped_sum b c)
+capped_assoc a b c = omega arith
+
+capped_none : (a : ℕ) → Small a → capped_sum a 0 ≡ a
+capped_none a small = omega arith
+
+-- Rows.
+
+SmallRows : List ℕ → Type 0
+SmallRows [] = Unit {0}
+SmallRows (n ∷ ns) = Small n × SmallRows ns
+
+one_small : (row : ℕ) (xs : List ℕ) → SmallRows xs → SmallRows (with_one row xs)
+unfolding SmallRows
+one_small zero [] small = (omega arith, tt)
+one_small zero (x ∷ xs) small = (capped_small x 1, small.1)
+one_small (suc row) [] small = (omega arith, one_small row [] tt)
+one_small (suc row) (x ∷ xs) small = (small.0, one_small row xs small.1)
+
+all_small : (ns xs : List ℕ) → SmallRows xs → SmallRows (counted_all ns xs)
+all_small [] xs small = small
+all_small (n ∷ ns) xs small = all_small ns (counted n xs) (one_small (row_of n) xs small)
+
+rows_one : (row : ℕ) (xs ys : List ℕ) → SmallRows xs → with_one row (rows_plus xs ys) ≡ rows_plus xs (with_one row ys)
+unfolding SmallRows
+rows_one row [] ys small = refl
+rows_one zero (x ∷ xs) [] small = ap (λ ns. capped_sum x 1 ∷ ns) (sym (plus_none xs))
+rows_one (suc row) (x ∷ xs) [] small =
+    let head = capped_none x small.0 in
+    let tail = rows_one row xs [] small.1 in
+    let none = plus_none xs in cc
+rows_one zero (x ∷ xs) (y ∷ ys) small = ap (λ n. n ∷ rows_plus xs ys) (capped_assoc x y 1)
+rows_one (suc row) (x ∷ xs) (y ∷ ys) small = ap (λ ns. capped_sum x y ∷ ns) (rows_one row xs ys small.1)
+
+rows_all : (ns xs ys : List ℕ) → SmallRows xs → counted_all ns (rows_plus xs ys) ≡ rows_plus xs (counted_all ns ys)
+rows_all [] xs ys small = refl
+rows_all (n ∷ ns) xs ys small = ap (counted_all ns) (rows_one (row_of n) xs ys small) ∙ rows_all ns xs (counted n ys) small
+
+-- Bases.
+
+record SmallBases (t : BaseTally) : Type 0 where
+  bases : Small t.bases
+  at_least_20 : Small t.at_least_20
+  at_least_30 : Small t.at_least_30
+  score_sum : Small t.score_sum
+  gc : Small t.gc
+  n : Small t.n
+
+bases_small : (a b : BaseTally) → SmallBases (bases_plus a b)
+bases_small a b = record {
+  bases = capped_small a.bases b.bases;
+  at_least_20 = capped_small a.at_least_20 b.at_least_20;
+  at_least_30 = capped_small a.at_least_30 b.at_least_30;
+  score_sum = capped_small a.score_sum b.score_sum;
+  gc = capped_small a.gc b.gc;
+  n = capped_small a.n b.n;
+}
+
+bases_assoc : (a b c : BaseTally) → bases_plus (bases_plus a b) c ≡ bases_plus a (bases_plus b c)
+bases_assoc a b c =
+    let p = capped_assoc a.bases b.bases c.bases in
+    let q = capped_assoc a.at_least_20 b.at_least_20 c.at_least_20 in
+    let r = capped_assoc a.at_least_30 b.at_least_30 c.at_least_30 in
+    let s = capped_assoc a.score_sum b.score_sum c.score_sum in
+    let t = capped_assoc a.gc b.gc c.gc in
+    let u = capped_assoc a.n b.n c.n in cc
+
+abbrev bases_parts : BaseTally → BaseTally
+bases_parts t = record { bases = t.bases; at_least_20 = t.at_least_20; at_least_30 = t.at_least_30; score_sum = t.score_sum; gc = t.gc; n = t.n }
+
+bases_none : (t : BaseTally) → SmallBases t → bases_plus t no_bases ≡ t
+bases_none t small =
+    let p = capped_none t.bases small.bases in
+    let q = capped_none t.at_least_20 small.at_least_20 in
+    let r = capped_none t.at_least_30 small.at_least_30 in
+    let s = capped_none t.score_sum small.score_sum in
+    let u = capped_none t.gc small.gc in
+    let v = capped_none t.n small.n in
+    let same : bases_plus t no_bases ≡ bases_parts t = cc in same
+
+-- Reads.
+
+record SmallReads (t : ReadsTally) : Type 0 where
+  reads : Small t.reads
+  bases : SmallBases t.bases
+  shortest : Small t.shortest
+  lengths : SmallRows t.lengths
+
+part_small : (p : Part) (t : ReadsTally) → SmallReads t → SmallReads (with_part p t)
+part_small p t small = let short = small.shortest in record {
+  reads = capped_small t.reads 1;
+  bases = bases_small t.bases (bases_of p);
+  shortest = omega arith;
+  lengths = one_small _ t.lengths small.lengths;
+}
+
+none_small : SmallReads no_reads
+unfolding SmallRows
+none_small = record { reads = omega arith; bases = record { bases = omega arith; at_least_20 = omega arith; at_least_30 = omega arith; score_sum = omega arith; gc = omega arith; n = omega arith }; shortest = omega arith; lengths = tt }
+
+min_assoc : (a b c : ℕ) → min (min a b) c ≡ min a (min b c)
+min_assoc a b c = omega arith
+
+max_assoc : (a b c : ℕ) → max (max a b) c ≡ max a (max b c)
+max_assoc a b c = omega arith
+
+min_none : (a : ℕ) → Small a → min a 18446744073709551615 ≡ a
+min_none a small = omega arith
+
+max_none : (a : ℕ) → max a 0 ≡ a
+max_none a = omega arith
+
+reads_part : (p : Part) (a b : ReadsTally) → SmallReads a → with_part p (reads_plus a b) ≡ reads_plus a (with_part p b)
+reads_part p a b small =
+    let r = capped_assoc a.reads b.reads 1 in
+    let s = bases_assoc a.bases b.bases (bases_of p) in
+    let t = min_assoc a.shortest b.shortest (length p.seq) in
+    let u = max_assoc a.longest b.longest (length p.seq) in
+    let v = rows_one (row_of (length p.seq)) a.lengths b.lengths small.lengths in cc
+
+abbrev reads_parts : ReadsTally → ReadsTally
+reads_parts t = record { reads = t.reads; bases = t.bases; shortest = t.shortest; longest = t.longest; lengths = t.lengths }
+
+reads_none : (t : ReadsTally) → SmallReads t → reads_plus t no_reads ≡ t
+reads_none t small =
+    let r = capped_none t.reads small.reads in
+    let s = bases_none t.bases small.bases in
+    let u = min_none t.shortest small.shortest in
+    let v = max_none t.longest in
+    let w = plus_none t.lengths in
+    let same : reads_plus t no_reads ≡ reads_parts t = cc in same
+
+-- Sides.
+
+record SmallSide (t : SideTally) : Type 0 where
+  before : SmallReads t.before
+  paired : SmallReads t.paired
+  unpaired : SmallReads t.unpaired
+  front : Small t.front
+  behind : Small t.behind
+  shortened : SmallRows t.steps.shortened
+  dropped : SmallRows t.steps.dropped
+
+part_if_small : (b : Bool) (p : Part) (t : ReadsTally) → SmallReads t → SmallReads (cond b (with_part p t) t)
+part_if_small true p t small = part_small p t small
+part_if_small false p t small = small
+
+sum_if_small : (b : Bool) (n t : ℕ) → Small t → Small (cond b (capped_sum t n) t)
+sum_if_small true n t small = capped_small t n
+sum_if_small false n t small = small
+
+part_if : (b : Bool) (p : Part) (s t : ReadsTally) → SmallReads s → cond b (with_part p (reads_plus s t)) (reads_plus s t) ≡ reads_plus s (cond b (with_part p t) t)
+part_if true p s t small = reads_part p s t small
+part_if false p s t small = refl
+
+sum_if : (b : Bool) (n s t : ℕ) → cond b (capped_sum (capped_sum s t) n) (capped_sum s t) ≡ capped_sum s (cond b (capped_sum t n) t)
+sum_if true n s t = capped_assoc s t n
+sum_if false n s t = refl
+
+no_side_small : SmallSide no_side
+unfolding SmallRows
+no_side_small = record { before = none_small; paired = none_small; unpaired = none_small; front = omega arith; behind = omega arith; shortened = tt; dropped = tt }
+
+read_small : (read : Read) (c : Course) (mate : Bool) (t : SideTally) → SmallSide t → SmallSide (with_read read c mate t)
+read_small read c mate t small = record {
+  before = part_small (whole read) t.before small.before;
+  paired = part_if_small _ c.left t.paired small.paired;
+  unpaired = part_if_small _ c.left t.unpaired small.unpaired;
+  front = sum_if_small _ c.front t.front small.front;
+  behind = sum_if_small _ _ t.behind small.behind;
+  shortened = all_small c.shortened t.steps.shortened small.shortened;
+  dropped = all_small c.dropped t.steps.dropped small.dropped;
+}
+
+side_read : (read : Read) (c : Course) (mate : Bool) (s t : SideTally) → SmallSide s → with_read read c mate (side_plus s t) ≡ side_plus s (with_read read c mate t)
+side_read read c mate s t small =
+    let before = reads_part (whole read) s.before t.before small.before in
+    let paired = part_if (survives c.left && mate) c.left s.paired t.paired small.paired in
+    let unpaired = part_if (survives c.left && not mate) c.left s.unpaired t.unpaired small.unpaired in
+    let front = sum_if (survives c.left) c.front s.front t.front in
+    let behind = sum_if (survives c.left) (length read.seq - c.front - length c.left.seq) s.behind t.behind in
+    let shortened = rows_all c.shortened s.steps.shortened t.steps.shortened small.shortened in
+    let dropped = rows_all c.dropped s.steps.dropped t.steps.dropped small.dropped in cc
+
+abbrev side_parts : SideTally → SideTally
+side_parts t = record {
+  before = t.before;
+  paired = t.paired;
+  unpaired = t.unpaired;
+  front = t.front;
+  behind = t.behind;
+  steps = record { shortened = t.steps.shortened; dropped = t.steps.dropped };
+}
+
+side_none : (t : SideTally) → SmallSide t → side_plus t no_side ≡ t
+side_none t small =
+    let before = reads_none t.before small.before in
+    let paired = reads_none t.paired small.paired in
+    let unpaired = reads_none t.unpaired small.unpaired in
+    let front = capped_none t.front small.front in
+    let behind = capped_none t.behind small.behind in
+    let shortened = plus_none t.steps.shortened in
+    let dropped = plus_none t.steps.dropped in
+    let same : side_plus t no_side ≡ side_parts t = cc in same
+
+-- Pairs.
+
+record SmallTally (t : Tally) : Type 0 where
+  forward : SmallSide t.forward
+  reverse : SmallSide t.reverse
+
+module _ (lists : List (List Step)) where
+  pair_small : (t : Tally) (m : Mates) → SmallTally t → SmallTally (with_pair lists t m)
+  pair_small t m small = record {
+    forward = read_small m.forward (course lists m.forward) _ t.forward small.forward;
+    reverse = read_small m.reverse (course lists m.reverse) _ t.reverse small.reverse;
+  }
+
+  pairs_small : (t : Tally) (ms : List Mates) → SmallTally t → SmallTally (fold (with_pair lists) t ms)
+  pairs_small t [] small = small
+  pairs_small t (m ∷ ms) small = pairs_small (with_pair lists t m) ms (pair_small t m small)
+
+  plus_pair : (s t : Tally) (m : Mates) → SmallTally s → with_pair lists (plus s t) m ≡ plus s (with_pair lists t m)
+  plus_pair s t m small =
+      let forward = side_read m.forward (course lists m.forward) (survives (course lists m.reverse).left) s.forward t.forward small.forward in
+      let reverse = side_read m.reverse (course lists m.reverse) (survives (course lists m.forward).left) s.reverse t.reverse small.reverse in
+      let two : SideTally → SideTally → Tally = λ f r. record { forward = f; reverse = r } in
+      ap (λ (f : SideTally). two f (with_read m.reverse (course lists m.reverse) (survives (course lists m.forward).left) (side_plus s.reverse t.reverse))) forward
+      ∙ ap (two (side_plus s.forward (with_read m.forward (course lists m.forward) (survives (course lists m.reverse).left) t.forward))) reverse
+
+  plus_pairs : (s t : Tally) (ms : List Mates) → SmallTally s → fold (with_pair lists) (plus s t) ms ≡ plus s (fold (with_pair lists) t ms)
+  plus_pairs s t [] small = refl
+  plus_pairs s t (m ∷ ms) small = ap (λ (u : Tally). fold (with_pair lists) u ms) (plus_pair s t m small) ∙ plus_pairs s (with_pair lists t m) ms small
+
+  -- the tally of pairs, and of others behind them
+  pub tally_of-append : (front behind : List Mates) → tally_of lists (front ++ behind) ≡ plus (tally_of lists front) (tally_of lists behind)
+  tally_of-append front behind =
+      let s = tally_of lists front in
+      let small : SmallTally s = pairs_small no_tally front (record { forward = no_side_small; reverse = no_side_small }) in
+      let two : SideTally → SideTally → Tally = λ f r. record { forward = f; reverse = r } in
+      let none : plus s no_tally ≡ s = ap (λ (f : SideTally). two f (side_plus s.reverse no_side)) (side_none s.forward small.forward) ∙ ap (two s.forward) (side_none s.reverse small.reverse) in
+      fold-append (with_pair lists) no_tally front behind
+      ∙ ap (λ (u : Tally). fold (with_pair lists) u behind) (sym none)
+      ∙ plus_pairs s no_tally behind small

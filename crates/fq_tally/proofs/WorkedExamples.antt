@@ -1,0 +1,109 @@
+-- Worked pairs, computed from the definitions alone.
+use Rattle.std.proofs.Common.{◌≡◌, ℕ, true, false, List, [], ◌∷◌, codes, refl}
+use Rattle.fq_text.specs.declared.encoding.Encoding.TheVariants.{Sanger}
+use Rattle.fq_text.specs.Grammar.{Read}
+use Rattle.fq_trim.specs.declared.step.Step.{Step}
+use Rattle.fq_trim.specs.declared.step.Step.TheVariants.{Leading, Trailing, Crop, MinLen}
+use Rattle.fq_pair.specs.Mates.{Mates, mates_in}
+use Rattle.fq_tally.specs.declared.reads.ReadsTally.{ReadsTally}
+use Rattle.fq_tally.specs.Rows.{row_of, counted, rows_plus}
+use Rattle.fq_tally.specs.Courses.{course}
+use Rattle.fq_tally.specs.Tallies.{is_gc, is_n, no_reads, no_tally, bases_of, tally_of, plus}
+
+-- Rows.
+
+row_of_longest : row_of 10000 ≡ 10000
+row_of_longest = refl
+
+row_of_longer : row_of 1048576 ≡ 10001
+row_of_longer = refl
+
+counted_behind : counted 2 (5 ∷ []) ≡ 5 ∷ 0 ∷ 1 ∷ []
+counted_behind = refl
+
+counted_there : counted 0 (5 ∷ 7 ∷ []) ≡ 6 ∷ 7 ∷ []
+counted_there = refl
+
+counted_most : counted 0 (18446744073709551615 ∷ []) ≡ 18446744073709551615 ∷ []
+counted_most = refl
+
+rows_of_both : rows_plus (1 ∷ 2 ∷ []) (10 ∷ 0 ∷ 30 ∷ []) ≡ 11 ∷ 2 ∷ 30 ∷ []
+rows_of_both = refl
+
+-- Bases.
+
+lower_c : is_gc 99 ≡ true
+lower_c = refl
+
+no_s : is_gc 83 ≡ false
+no_s = refl
+
+lower_n : is_n 110 ≡ true
+lower_n = refl
+
+-- The scores 2, 20, 30, 29 and 40.
+some_bases : bases_of (record { encoding = Sanger; seq = codes "GcANn"; qual = codes "#5?>I" }) ≡ record { bases = 5; at_least_20 = 4; at_least_30 = 2; score_sum = 121; gc = 2; n = 2 }
+some_bases = refl
+
+-- What steps do.
+
+abbrev read_of : List ℕ → List ℕ → Read
+read_of seq qual = record { encoding = Sanger; title = codes "r"; seq = seq; qual = qual }
+
+abbrev ends : List (List Step)
+ends = (Leading 3 ∷ []) ∷ (Trailing 3 ∷ []) ∷ (MinLen 2 ∷ []) ∷ []
+
+both_ends : course ends (read_of (codes "ACGT") (codes "#II#")) ≡ record { left = record { encoding = Sanger; seq = codes "CG"; qual = codes "II" }; front = 1; shortened = 0 ∷ 1 ∷ []; dropped = [] }
+both_ends = refl
+
+too_short : (course ends (read_of (codes "ACGT") (codes "##I#"))).dropped ≡ 2 ∷ []
+too_short = refl
+
+low_throughout : (course ends (read_of (codes "ACGT") (codes "####"))).dropped ≡ 0 ∷ []
+low_throughout = refl
+
+no_bases_to_drop : (course ends (read_of [] [])).dropped ≡ 0 ∷ []
+no_bases_to_drop = refl
+
+untouched : course ends (read_of (codes "AC") (codes "II")) ≡ record { left = record { encoding = Sanger; seq = codes "AC"; qual = codes "II" }; front = 0; shortened = []; dropped = [] }
+untouched = refl
+
+-- Pairs.
+
+abbrev crop : List (List Step)
+crop = (Crop 2 ∷ []) ∷ []
+
+abbrev first : Mates
+first = mates_in (read_of (codes "ACG") (codes "III")) (read_of (codes "T") (codes "5"))
+
+abbrev second : Mates
+second = mates_in (read_of (codes "GG") (codes "II")) (read_of [] [])
+
+abbrev before : ReadsTally
+before = record { reads = 2; bases = record { bases = 5; at_least_20 = 5; at_least_30 = 5; score_sum = 200; gc = 4; n = 0 }; shortest = 2; longest = 3; lengths = 0 ∷ 0 ∷ 1 ∷ 1 ∷ [] }
+
+two_pairs : tally_of crop (first ∷ second ∷ []) ≡ record {
+  forward = record {
+    before = before;
+    paired = record { reads = 1; bases = record { bases = 2; at_least_20 = 2; at_least_30 = 2; score_sum = 80; gc = 1; n = 0 }; shortest = 2; longest = 2; lengths = 0 ∷ 0 ∷ 1 ∷ [] };
+    unpaired = record { reads = 1; bases = record { bases = 2; at_least_20 = 2; at_least_30 = 2; score_sum = 80; gc = 2; n = 0 }; shortest = 2; longest = 2; lengths = 0 ∷ 0 ∷ 1 ∷ [] };
+    front = 0;
+    behind = 1;
+    steps = record { shortened = 1 ∷ []; dropped = [] };
+  };
+  reverse = record {
+    before = record { reads = 2; bases = record { bases = 1; at_least_20 = 1; at_least_30 = 0; score_sum = 20; gc = 0; n = 0 }; shortest = 0; longest = 1; lengths = 1 ∷ 1 ∷ [] };
+    paired = record { reads = 1; bases = record { bases = 1; at_least_20 = 1; at_least_30 = 0; score_sum = 20; gc = 0; n = 0 }; shortest = 1; longest = 1; lengths = 0 ∷ 1 ∷ [] };
+    unpaired = no_reads;
+    front = 0;
+    behind = 0;
+    steps = record { shortened = []; dropped = 1 ∷ [] };
+  };
+}
+two_pairs = refl
+
+added_up : plus (tally_of crop (first ∷ [])) (tally_of crop (second ∷ [])) ≡ tally_of crop (first ∷ second ∷ [])
+added_up = refl
+
+of_none : tally_of crop [] ≡ no_tally
+of_none = refl

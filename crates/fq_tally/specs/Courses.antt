@@ -1,0 +1,65 @@
+-- What becomes of a read when lists of steps are taken in turn, each on what the one before left.
+use Rattle.std.specs.Prelude.{◌≡◌, ℕ, suc, ◌+◌, ◌≤◌, Bool, true, not, nat_lt, List, [], ◌∷◌, length, if◌then◌else◌}
+use Rattle.std.specs.List.{list_all}
+use Rattle.fq_text.specs.Scores.{is_scored}
+use Rattle.fq_text.specs.declared.encoding.Encoding.{Encoding}
+use Rattle.fq_text.specs.Grammar.{Read}
+use Rattle.fq_trim.specs.declared.step.Step.{Step}
+use Rattle.fq_trim.specs.Keeping.{kept, scores}
+use Rattle.fq_pair.specs.Outputs.{bytes_at, is_empty}
+
+-- bases of a read and their quality bytes
+pub record Part : Type 0 where
+  pub encoding : Encoding
+  pub seq : List ℕ
+  pub qual : List ℕ
+
+-- all of a read
+abbrev pub whole : Read → Part
+whole read = record { encoding = read.encoding; seq = read.seq; qual = read.qual }
+
+-- the bases at these places
+abbrev pub part_at : List ℕ → Part → Part
+part_at at part = record { encoding = part.encoding; seq = bytes_at at part.seq; qual = bytes_at at part.qual }
+
+-- what became of a read: what is left of it, how many bases were removed in front of that, the numbers of the lists of steps that
+-- shortened it, and the number of the one that dropped it
+pub record Course : Type 0 where
+  pub left : Part
+  pub front : ℕ
+  pub shortened : List ℕ
+  pub dropped : List ℕ
+
+-- list n keeps these places of a part, and what is left of it takes this course. It drops a part of which it keeps none, and shortens
+-- one of which it keeps some but not all.
+abbrev pub after : ℕ → List ℕ → Part → Course → Course
+after n [] part course = record { left = part_at [] part; front = 0; shortened = []; dropped = n ∷ [] }
+after n (start ∷ others) part course = record {
+  left = course.left;
+  front = start + course.front;
+  shortened = if nat_lt (length (start ∷ others)) (length part.qual) then n ∷ course.shortened else course.shortened;
+  dropped = course.dropped;
+}
+
+-- the course of a part by lists of steps, of which the first has number n
+abbrev pub course_of : ℕ → List (List Step) → Part → Course
+course_of n [] part = record { left = part; front = 0; shortened = []; dropped = [] }
+course_of n (steps ∷ others) part =
+    let at = kept steps (scores part.encoding part.qual) in
+    after n at part (course_of (suc n) others (part_at at part))
+
+-- the course of a read, by lists of steps that are counted from 0
+abbrev pub course : List (List Step) → Read → Course
+course lists read = course_of 0 lists (whole read)
+
+-- a base is left
+abbrev pub survives : Part → Bool
+survives left = not (is_empty left.seq)
+
+-- of a read that takes a course this is left
+pub record HasLeft (read : Read) (course : Course) (seq qual : List ℕ) (front : ℕ) : Type 0 where
+  pub left : course.left ≡ record { encoding = read.encoding; seq = seq; qual = qual }
+  pub front_is : course.front ≡ front
+  pub within : front + length qual ≤ length read.qual
+  pub same : length qual ≡ length seq
+  pub scored : list_all (is_scored read.encoding) qual ≡ true

@@ -1,0 +1,22 @@
+-- What ties a tally to what is written of the same pairs.
+use Rattle.std.specs.Prelude.{◌≡◌, List, [], ◌∷◌, ◌++◌, length}
+use Rattle.fq_text.specs.Grammar.{Read}
+use Rattle.fq_trim.specs.declared.step.Step.{Step}
+use Rattle.fq_pair.specs.Outputs as outputs
+use Rattle.fq_pair.specs.Outputs.{kept_places}
+use Rattle.fq_tally.specs.Courses.{part_at, whole, course, survives}
+
+-- lists of steps, one behind the other
+abbrev pub one_list : List (List Step) → List Step
+one_list [] = []
+one_list (steps ∷ others) = steps ++ one_list others
+
+-- what lists of steps leave in turn is what they leave as one list
+abbrev pub LeavesTheSame : Type 0
+LeavesTheSame = (lists : List (List Step)) (read : Read) → length read.qual ≡ length read.seq →
+    (course lists read).left ≡ part_at (kept_places (one_list lists) read) (whole read)
+
+-- and a read survives them in turn where it survives them as one list
+abbrev pub SurvivesTheSame : Type 0
+SurvivesTheSame = (lists : List (List Step)) (read : Read) → length read.qual ≡ length read.seq →
+    survives (course lists read).left ≡ outputs.survives (one_list lists) read

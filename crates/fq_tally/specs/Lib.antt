@@ -1,0 +1,4 @@
+pub mod Rows
+pub mod Courses
+pub mod Tallies
+pub mod Laws

@@ -1,0 +1,34 @@
+-- How many reads have each number: row n has how many have n.
+use Rattle.std.specs.Prelude.{ℕ, zero, suc, ◌≤◌, List, [], ◌∷◌, length, min}
+use Rattle.fq_pair.specs.Summaries.{capped_sum}
+
+-- one more in a row
+abbrev pub with_one : ℕ → List ℕ → List ℕ
+with_one zero [] = 1 ∷ []
+with_one zero (n ∷ ns) = capped_sum n 1 ∷ ns
+with_one (suc row) [] = 0 ∷ with_one row []
+with_one (suc row) (n ∷ ns) = n ∷ with_one row ns
+
+-- the row of a number: those above 10,000 share one
+abbrev pub row_of : ℕ → ℕ
+row_of number = min number 10001
+
+-- one more of a number
+abbrev pub counted : ℕ → List ℕ → List ℕ
+counted number rows = with_one (row_of number) rows
+
+-- one more of each of these numbers
+abbrev pub counted_all : List ℕ → List ℕ → List ℕ
+counted_all [] rows = rows
+counted_all (n ∷ ns) rows = counted_all ns (counted n rows)
+
+-- the rows of both together
+abbrev pub rows_plus : List ℕ → List ℕ → List ℕ
+rows_plus [] ns = ns
+rows_plus (m ∷ ms) [] = m ∷ ms
+rows_plus (m ∷ ms) (n ∷ ns) = capped_sum m n ∷ rows_plus ms ns
+
+-- there is room for each row
+pub record HasRoom (rows : List ℕ) (most : ℕ) : Type 0 where
+  pub few : length rows ≤ 10002
+  pub room : 10002 ≤ most

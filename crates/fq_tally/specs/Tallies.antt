@@ -1,0 +1,146 @@
+-- What is counted of pairs and of what steps leave of them. A sum that is larger than the largest u64 is kept at that.
+use Rattle.std.specs.Prelude.{ℕ, ◌-◌, Bool, not, ◌||◌, ◌&&◌, ◌==◌, nat_le, List, [], length, sum, count_by, fold, min, max, if◌then◌else◌}
+use Rattle.fq_text.specs.Grammar.{Read}
+use Rattle.fq_trim.specs.declared.step.Step.{Step}
+use Rattle.fq_trim.specs.Keeping.{scores}
+use Rattle.fq_pair.specs.Mates.{Mates}
+use Rattle.fq_pair.specs.Summaries.{capped_sum}
+use Rattle.fq_tally.specs.declared.bases.BaseTally.{BaseTally}
+use Rattle.fq_tally.specs.declared.reads.ReadsTally.{ReadsTally}
+use Rattle.fq_tally.specs.declared.steps.StepsTally.{StepsTally}
+use Rattle.fq_tally.specs.declared.side.SideTally.{SideTally}
+use Rattle.fq_tally.specs.declared.tally.Tally.{Tally}
+use Rattle.fq_tally.specs.Rows.{counted, counted_all, rows_plus}
+use Rattle.fq_tally.specs.Courses.{Part, whole, Course, course, survives}
+
+-- Of bases.
+
+-- G or C, in either case
+abbrev pub is_gc : ℕ → Bool
+is_gc base = (base == 71 || base == 67) || (base == 103 || base == 99)
+
+-- N, in either case
+abbrev pub is_n : ℕ → Bool
+is_n base = base == 78 || base == 110
+
+abbrev pub no_bases : BaseTally
+no_bases = record { bases = 0; at_least_20 = 0; at_least_30 = 0; score_sum = 0; gc = 0; n = 0 }
+
+abbrev pub bases_of : Part → BaseTally
+bases_of part = record {
+  bases = length part.seq;
+  at_least_20 = count_by (nat_le 20) (scores part.encoding part.qual);
+  at_least_30 = count_by (nat_le 30) (scores part.encoding part.qual);
+  score_sum = sum (scores part.encoding part.qual);
+  gc = count_by is_gc part.seq;
+  n = count_by is_n part.seq;
+}
+
+abbrev pub bases_plus : BaseTally → BaseTally → BaseTally
+bases_plus a b = record {
+  bases = capped_sum a.bases b.bases;
+  at_least_20 = capped_sum a.at_least_20 b.at_least_20;
+  at_least_30 = capped_sum a.at_least_30 b.at_least_30;
+  score_sum = capped_sum a.score_sum b.score_sum;
+  gc = capped_sum a.gc b.gc;
+  n = capped_sum a.n b.n;
+}
+
+-- Of reads.
+
+abbrev pub no_reads : ReadsTally
+no_reads = record { reads = 0; bases = no_bases; shortest = 18446744073709551615; longest = 0; lengths = [] }
+
+abbrev pub with_part : Part → ReadsTally → ReadsTally
+with_part part t = record {
+  reads = capped_sum t.reads 1;
+  bases = bases_plus t.bases (bases_of part);
+  shortest = min t.shortest (length part.seq);
+  longest = max t.longest (length part.seq);
+  lengths = counted (length part.seq) t.lengths;
+}
+
+abbrev pub reads_plus : ReadsTally → ReadsTally → ReadsTally
+reads_plus a b = record {
+  reads = capped_sum a.reads b.reads;
+  bases = bases_plus a.bases b.bases;
+  shortest = min a.shortest b.shortest;
+  longest = max a.longest b.longest;
+  lengths = rows_plus a.lengths b.lengths;
+}
+
+-- Of steps: how many reads each list of steps shortened, and how many it dropped.
+
+abbrev pub no_steps : StepsTally
+no_steps = record { shortened = []; dropped = [] }
+
+abbrev pub with_course : Course → StepsTally → StepsTally
+with_course course t = record {
+  shortened = counted_all course.shortened t.shortened;
+  dropped = counted_all course.dropped t.dropped;
+}
+
+abbrev pub steps_plus : StepsTally → StepsTally → StepsTally
+steps_plus a b = record {
+  shortened = rows_plus a.shortened b.shortened;
+  dropped = rows_plus a.dropped b.dropped;
+}
+
+-- Of a side.
+
+abbrev pub no_side : SideTally
+no_side = record { before = no_reads; paired = no_reads; unpaired = no_reads; front = 0; behind = 0; steps = no_steps }
+
+-- A read, what is left of it, how many bases were removed in front of that, and whether its mate survives. Bases that are removed in
+-- front and behind are those of the reads that survive.
+abbrev pub with_left : Read → Part → ℕ → Bool → SideTally → SideTally
+with_left read left front mate t = record {
+  before = with_part (whole read) t.before;
+  paired = if survives left && mate then with_part left t.paired else t.paired;
+  unpaired = if survives left && not mate then with_part left t.unpaired else t.unpaired;
+  front = if survives left then capped_sum t.front front else t.front;
+  behind = if survives left then capped_sum t.behind (length read.seq - front - length left.seq) else t.behind;
+  steps = t.steps;
+}
+
+-- the steps that did something to a read
+abbrev pub with_steps : Course → SideTally → SideTally
+with_steps course t = record {
+  before = t.before;
+  paired = t.paired;
+  unpaired = t.unpaired;
+  front = t.front;
+  behind = t.behind;
+  steps = with_course course t.steps;
+}
+
+-- a read, its course, and whether its mate survives
+abbrev pub with_read : Read → Course → Bool → SideTally → SideTally
+with_read read course mate t = with_left read course.left course.front mate (with_steps course t)
+
+abbrev pub side_plus : SideTally → SideTally → SideTally
+side_plus a b = record {
+  before = reads_plus a.before b.before;
+  paired = reads_plus a.paired b.paired;
+  unpaired = reads_plus a.unpaired b.unpaired;
+  front = capped_sum a.front b.front;
+  behind = capped_sum a.behind b.behind;
+  steps = steps_plus a.steps b.steps;
+}
+
+-- Of pairs.
+
+abbrev pub no_tally : Tally
+no_tally = record { forward = no_side; reverse = no_side }
+
+abbrev pub with_pair : List (List Step) → Tally → Mates → Tally
+with_pair lists t m = record {
+  forward = with_read m.forward (course lists m.forward) (survives (course lists m.reverse).left) t.forward;
+  reverse = with_read m.reverse (course lists m.reverse) (survives (course lists m.forward).left) t.reverse;
+}
+
+abbrev pub tally_of : List (List Step) → List Mates → Tally
+tally_of lists pairs = fold (with_pair lists) no_tally pairs
+
+abbrev pub plus : Tally → Tally → Tally
+plus a b = record { forward = side_plus a.forward b.forward; reverse = side_plus a.reverse b.reverse }

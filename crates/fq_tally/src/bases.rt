@@ -1,0 +1,155 @@
+//! Counts of bases and of their scores.
+
+ghost use Rattle.std.specs.Prelude.{◌≡◌, ◌≤◌, true, length, sum, count_by, nat_le};
+ghost use Rattle.std.specs.List.{list_all};
+ghost use Rattle.fq_text.specs.Scores.{is_scored, value_of};
+ghost use Rattle.fq_trim.specs.Keeping.{scores};
+ghost use Rattle.fq_tally.specs.Tallies.{is_gc, is_n};
+
+use fq_text::{Encoding, phred_of_solexa};
+
+/// Counts of bases and of their scores. A sum that is larger than `u64::MAX` is kept at that.
+#[derive(Clone, Copy, Debug, PartialEq, Eq)]
+pub struct BaseTally {
+    /// All bases.
+    pub bases: u64,
+    /// Those with a Phred score of at least 20.
+    pub at_least_20: u64,
+    /// Those with a Phred score of at least 30.
+    pub at_least_30: u64,
+    /// The sum of their Phred scores.
+    pub score_sum: u64,
+    /// Those that are G or C, in either case.
+    pub gc: u64,
+    /// Those that are N, in either case.
+    pub n: u64,
+}
+
+impl BaseTally {
+    ghost use Rattle.fq_tally.specs.Tallies.{no_bases, bases_of, bases_plus};
+
+    // No bases.
+    pub(crate) fn zero() -> BaseTally
+        ensures { result ≡ no_bases }
+    {
+        BaseTally {
+            bases: 0,
+            at_least_20: 0,
+            at_least_30: 0,
+            score_sum: 0,
+            gc: 0,
+            n: 0,
+        }
+    }
+
+    // The counts of bases and their quality bytes.
+    pub(crate) fn of(encoding: Encoding, seq: &[u8], qual: &[u8]) -> BaseTally
+        requires few { length qual.now ≤ 1048576 }
+        requires scored { list_all (is_scored encoding) qual.now ≡ true }
+        ensures { result ≡ bases_of (record { encoding = encoding; seq = seq.now; qual = qual.now }) }
+    {
+        let letters = letters_of(seq);
+        let scores = scores_of(encoding, qual);
+        BaseTally {
+            bases: seq.len() as u64,
+            at_least_20: scores.at_least_20,
+            at_least_30: scores.at_least_30,
+            score_sum: scores.sum,
+            gc: letters.gc,
+            n: letters.n,
+        }
+    }
+
+    // The counts of both together.
+    pub(crate) fn plus(self, other: BaseTally) -> BaseTally
+        ensures { result ≡ bases_plus self other }
+    {
+        BaseTally {
+            bases: self.bases.saturating_add(other.bases),
+            at_least_20: self.at_least_20.saturating_add(other.at_least_20),
+            at_least_30: self.at_least_30.saturating_add(other.at_least_30),
+            score_sum: self.score_sum.saturating_add(other.score_sum),
+            gc: self.gc.saturating_add(other.gc),
+            n: self.n.saturating_add(other.n),
+        }
+    }
+}
+
+// How many bases are G or C, and how many are N.
+#[derive(Drop)]
+struct Letters {
+    gc: u64,
+    n: u64,
+}
+
+// Those of a sequence.
+fn letters_of(seq: &[u8]) -> Letters
+    ensures gc { result.gc ≡ count_by is_gc seq.now }
+    ensures n { result.n ≡ count_by is_n seq.now }
+{
+    let mut gc = 0;
+    let mut n = 0;
+    for base in seq {
+        gc += u64::from(is_gc(*base));
+        n += u64::from(is_n(*base));
+    }
+    Letters { gc, n }
+}
+
+// Whether a base is G or C.
+fn is_gc(base: u8) -> bool
+    ensures { result ≡ is_gc base }
+{
+    (base == b'G' || base == b'C') || (base == b'g' || base == b'c')
+}
+
+// Whether a base is N.
+fn is_n(base: u8) -> bool
+    ensures { result ≡ is_n base }
+{
+    base == b'N' || base == b'n'
+}
+
+// How many scores are at least 20 and 30, and their sum.
+#[derive(Drop)]
+struct Scores {
+    at_least_20: u64,
+    at_least_30: u64,
+    sum: u64,
+}
+
+// Those of quality bytes.
+fn scores_of(encoding: Encoding, qual: &[u8]) -> Scores
+    requires few { length qual.now ≤ 1048576 }
+    requires scored { list_all (is_scored encoding) qual.now ≡ true }
+    ensures at_least_20 { result.at_least_20 ≡ count_by (nat_le 20) (scores encoding qual.now) }
+    ensures at_least_30 { result.at_least_30 ≡ count_by (nat_le 30) (scores encoding qual.now) }
+    ensures sum { result.sum ≡ sum (scores encoding qual.now) }
+{
+    let mut at_least_20 = 0;
+    let mut at_least_30 = 0;
+    let mut sum = 0;
+    for byte in qual {
+        let score = score_of(encoding, *byte);
+        at_least_20 += u64::from(20 <= score);
+        at_least_30 += u64::from(30 <= score);
+        sum += score;
+    }
+    Scores {
+        at_least_20,
+        at_least_30,
+        sum,
+    }
+}
+
+// The score of a byte that has one.
+fn score_of(encoding: Encoding, byte: u8) -> u64
+    requires { is_scored encoding byte ≡ true }
+    ensures { result ≡ value_of encoding byte }
+{
+    match encoding {
+        Encoding::Sanger => u64::from(byte) - 33,
+        Encoding::Illumina13 => u64::from(byte) - 64,
+        Encoding::Solexa => u64::from(phred_of_solexa(byte)),
+    }
+}

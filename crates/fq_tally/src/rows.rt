@@ -1,0 +1,83 @@
+//! How many reads have each number.
+
+use fq_text::OutOfMemory;
+use std::alloc::Global;
+use std::marker::Model;
+
+/// The last row: all numbers above 10,000 are counted there.
+pub const LAST_ROW: usize = 10_001;
+
+// How many rows there can be.
+const ROWS: usize = LAST_ROW + 1;
+
+/// How many reads have each number, as a length: row n has how many have n, up to [`LAST_ROW`]. There are as many rows as the
+/// largest number needs, and none where nothing was counted.
+///
+/// Memory for all rows is taken when they are made, so counting takes none.
+#[derive(Drop)]
+pub struct Rows {
+    counts: Vec<u64>,
+}
+
+impl Model for Rows {
+    ghost use Rattle.std.specs.Prelude.{List, ℕ, vec_capacity};
+
+    ghost Value = { List ℕ };
+
+    ghost use Rattle.fq_tally.specs.Rows.{HasRoom};
+
+    ghost view = { λ r. r.counts.items };
+
+    ghost invariant = { λ r. HasRoom r.counts.items (vec_capacity r.counts) };
+}
+
+impl Rows {
+    ghost use Rattle.std.specs.Prelude.{◌≡◌, [], IfOk};
+    ghost use Rattle.fq_tally.specs.Rows.{counted, rows_plus};
+
+    /// No rows.
+    pub(crate) fn new(alloc: Global) -> Result<Rows, OutOfMemory>
+        ensures { IfOk result (λ rows. rows ≡ []) }
+    {
+        let counts = Vec::with_capacity(alloc, ROWS)?;
+        Ok(Rows { counts })
+    }
+
+    /// The rows in their order.
+    pub fn as_slice(&self) -> &[u64]
+        ensures { result.now ≡ self.now }
+    {
+        &self.counts
+    }
+
+    /// One more read of a number.
+    pub(crate) fn count(&mut self, number: usize)
+        ensures { self.new ≡ counted number self.old }
+    {
+        let row = number.min(LAST_ROW);
+        if self.counts.len() <= row {
+            self.counts.resize(row + 1, 0).unwrap();
+        }
+        self.counts[row] = self.counts[row].saturating_add(1);
+    }
+
+    /// The counts of both together.
+    pub(crate) fn add_all(&mut self, other: &Rows)
+        ensures { self.new ≡ rows_plus self.old other.now }
+    {
+        let shared = self.counts.len().min(other.counts.len());
+        for i in 0..shared {
+            self.counts[i] = self.counts[i].saturating_add(other.counts[i]);
+        }
+        self.counts
+            .extend_from_slice(&other.counts[shared..])
+            .unwrap();
+    }
+
+    /// Takes all rows away. They keep their memory.
+    pub(crate) fn clear(&mut self)
+        ensures { self.new ≡ [] }
+    {
+        self.counts.clear();
+    }
+}

@@ -1,0 +1,14 @@
+//! The words of a command line: the program's commands with their help, and what a call asks for.
+//!
+//! [`read_words`] reads the words by `clap` and gives a [`Request`], in which no number and no word is judged yet.
+#![tactic(auto)]
+
+mod help;
+mod request;
+mod words;
+
+pub use request::{Inputs, Request, encoding_of, same_name};
+pub use words::{Asked, read_words};
+
+#[cfg(test)]
+mod tests;

@@ -1,0 +1,119 @@
+//! What is to be trimmed, from where and to where.
+
+ghost use Rattle.std.specs.Prelude.{◌≡◌, [], unwrap_or};
+ghost use Rattle.fq_words.specs.Requests.{asking_of, encoding_of, same_name, output_name, input_name, is_input};
+
+use fq_pair::{Out, Side};
+use fq_text::Encoding;
+
+/// Where the pairs come from, by the names of files.
+#[derive(Clone, Copy)]
+pub enum Inputs<'a> {
+    /// Forward and reverse reads, each in a file.
+    Apart { forward: &'a str, reverse: &'a str },
+    /// One interleaved file: a forward read, then its reverse mate, and so on.
+    Interleaved(&'a str),
+}
+
+/// What is to be trimmed, as the words give it: no number is in its range yet, and no word is judged.
+#[derive(Drop)]
+pub struct Request<'a> {
+    /// The name of the encoding.
+    pub encoding: &'a str,
+    /// How many threads trim.
+    pub threads: u64,
+    /// Pairs that are trimmed and written at a time.
+    pub block: u64,
+    /// Items that a lane between threads holds.
+    pub depth: u64,
+    /// Bytes that are read at a time.
+    pub chunk: u64,
+    /// Whether the names of mates have to match.
+    pub check_names: bool,
+    /// Whether the end waits until the outputs are on their disk, whatever disk it is.
+    pub sync: bool,
+    /// Where the pairs come from.
+    pub inputs: Inputs<'a>,
+    /// The names of the four outputs.
+    pub forward_paired: &'a str,
+    pub forward_unpaired: &'a str,
+    pub reverse_paired: &'a str,
+    pub reverse_unpaired: &'a str,
+    /// The name of the log, if one is wanted.
+    pub log: Option<&'a str>,
+    /// The words of the steps.
+    pub steps: Vec<&'a str>,
+}
+
+/// The encoding of this name, as `--encoding` has it: `sanger`, `illumina13` or `solexa`.
+pub fn encoding_of(name: &str) -> Option<Encoding>
+    ensures { result ≡ encoding_of name.now }
+{
+    match name {
+        "sanger" => Some(Encoding::Sanger),
+        "illumina13" => Some(Encoding::Illumina13),
+        "solexa" => Some(Encoding::Solexa),
+        _ => None,
+    }
+}
+
+/// The first output whose name is that of an input, in the order of [`Out`].
+pub fn same_name(request: &Request<'_>) -> Option<Out>
+    ensures { result ≡ same_name (asking_of request.now) }
+{
+    if is_input(request, request.forward_paired) {
+        return Some(Out::ForwardPaired);
+    }
+    if is_input(request, request.forward_unpaired) {
+        return Some(Out::ForwardUnpaired);
+    }
+    if is_input(request, request.reverse_paired) {
+        return Some(Out::ReversePaired);
+    }
+    if is_input(request, request.reverse_unpaired) {
+        return Some(Out::ReverseUnpaired);
+    }
+    match request.log {
+        Some(log) if is_input(request, log) => Some(Out::Log),
+        _ => None,
+    }
+}
+
+// Whether a name is that of an input.
+fn is_input(request: &Request<'_>, name: &str) -> bool
+    ensures { result ≡ is_input (asking_of request.now).inputs name.now }
+{
+    match request.inputs {
+        Inputs::Apart { forward, reverse } => name == forward || name == reverse,
+        Inputs::Interleaved(both) => name == both,
+    }
+}
+
+impl Request<'_> {
+    /// The name of an output, or nothing for a log that isn't wanted.
+    pub fn output_name(&self, out: Out) -> &str
+        ensures { result.now ≡ unwrap_or (output_name (asking_of self.now) out) [] }
+    {
+        match out {
+            Out::ForwardPaired => self.forward_paired,
+            Out::ForwardUnpaired => self.forward_unpaired,
+            Out::ReversePaired => self.reverse_paired,
+            Out::ReverseUnpaired => self.reverse_unpaired,
+            Out::Log => match self.log {
+                Some(name) => name,
+                None => "",
+            },
+        }
+    }
+
+    /// The name of the file in which the reads of a side are.
+    pub fn input_name(&self, side: Side) -> &str
+        ensures { result.now ≡ input_name (asking_of self.now).inputs side }
+    {
+        match (self.inputs, side) {
+            (Inputs::Apart { forward, .. }, Side::Forward) => forward,
+            (Inputs::Apart { reverse, .. }, Side::Reverse) => reverse,
+            (Inputs::Interleaved(both), _) => both,
+        }
+    }
+}
