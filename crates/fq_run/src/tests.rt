@@ -148,7 +148,7 @@ fn settings_with(
 }
 
 fn outlets(rt: &impl Abort, alloc: Global, given: &Given<'_>) -> Outlets<ScriptOutlet>
-    ensures { AreHealthy (outlet_states (λ o. true) (λ o. o.bytes) (λ o. o.failures) result) }
+    ensures { AreHealthy (outlet_states (λ o. record { tells = true; taken = o.bytes; failures = o.failures }) result) }
 {
     Outlets {
         forward_paired: outlet(rt, alloc, given, Out::ForwardPaired),

@@ -35,7 +35,7 @@ fn serial_mixed(
     outlets: &mut Outlets<ScriptOutlet>,
 ) -> MixedEnding<ScriptFeed>
     requires text { text.failures ≡ 0 }
-    requires outlets { AreHealthy (outlet_states (λ o. true) (λ o. o.bytes) (λ o. o.failures) outlets.old) }
+    requires outlets { AreHealthy (outlet_states (λ o. record { tells = true; taken = o.bytes; failures = o.failures }) outlets.old) }
 {
     run_serial_mixed(alloc, settings, text, outlets)
 }
@@ -48,7 +48,7 @@ fn threaded_mixed<R: Threads + Wait + Copy + Send + 'static>(
     outlets: &mut Outlets<ScriptOutlet>,
 ) -> Result<MixedEnding<ScriptFeed>, Fail>
     requires text { text.failures ≡ 0 }
-    requires outlets { AreHealthy (outlet_states (λ o. true) (λ o. o.bytes) (λ o. o.failures) outlets.old) }
+    requires outlets { AreHealthy (outlet_states (λ o. record { tells = true; taken = o.bytes; failures = o.failures }) outlets.old) }
 {
     let gate = Arc::new(alloc, OpenGate)?;
     Ok(run_threads_mixed(alloc, rt, settings, gate, text, outlets))

@@ -36,7 +36,7 @@ fn outlet(alloc: Global) -> ScriptOutlet
 }
 
 fn outlets(alloc: Global) -> Outlets<ScriptOutlet>
-    ensures { AreHealthy (outlet_states (λ o. true) (λ o. o.bytes) (λ o. o.failures) result) }
+    ensures { AreHealthy (outlet_states (λ o. record { tells = true; taken = o.bytes; failures = o.failures }) result) }
 {
     Outlets {
         forward_paired: outlet(alloc),
