@@ -2,22 +2,38 @@
 # `make static` and `make dist` also need a C compiler as linker and the C library's static form (Debian: gcc, libc6-dev).
 PREFIX ?= /usr/local
 PROGRAM = crates/fq_prog/out/fq_prog
-VERSION := $(shell sed -n 's/.*\.version("\([0-9.]*\)").*/\1/p' crates/*/src/*.rt)
+JUDGE = crates/fq_judge/out/fq_judge
+LANE_TESTS = crates/fq_lane/out/fq_lane_tests
+SOURCES := HANDLES crates.txt $(shell find crates -name out -prune -o '(' -name '*.rt' -o -name '*.antt' ')' -print)
+VERSION := $(shell sed -n 's/^pub const VERSION: &str = "\([0-9.]*\)";/\1/p' crates/fq_words/src/words.rt)
 BIN = $(DESTDIR)$(PREFIX)/bin
 MAN = $(DESTDIR)$(PREFIX)/share/man/man1
 COMPLETIONS = $(DESTDIR)$(PREFIX)/share/bash-completion/completions
 SHOW = bash packaging/progress.sh
 .DEFAULT_GOAL := build
 
-.PHONY: help build example try check test static dist install uninstall clean bench bench-reading bench-lane
+.PHONY: help build example try check test static dist install uninstall clean bench bench-reading bench-lane bench-waiting
 
 # Lists the targets, each with the comment above it.
 help:
 	@awk '/^# /{ said = said " " substr($$0, 3); next } /^[a-z-]+:/{ sub(":.*", ""); printf "make %-14s%s\n", $$0, said } { said = "" }' Makefile
 
-# Proves the program and all below it, says which crate is done, and leaves the program at crates/fq_prog/out/fq_prog.
-build:
+# Proves the program and all below it, says which crate is done, and leaves the program at crates/fq_prog/out/fq_prog. Does nothing
+# where that is newer than all sources.
+build: $(PROGRAM)
+
+$(PROGRAM): $(SOURCES)
 	@cd crates/fq_prog && bash ../../packaging/progress.sh rt run -- EXAMPLE
+	@touch $@
+
+# (what scripts of tests/ run: `rt ci` has proved and linked it before)
+$(JUDGE): $(SOURCES)
+	@cd crates/fq_judge && bash ../../packaging/progress.sh rt run
+	@touch $@
+
+$(LANE_TESTS): $(SOURCES)
+	@cd crates/fq_lane && rt test
+	@touch $@
 
 # Prints what becomes of two built-in pairs.
 example: build
@@ -75,3 +91,7 @@ bench-reading:
 # Measures a lane between two threads. No verdict.
 bench-lane:
 	@bash bench/lane/run.sh
+
+# Measures what the program uses of the processor while it waits. No verdict.
+bench-waiting: build
+	@bash bench/waiting/run.sh

@@ -32,7 +32,7 @@ _fq_prog() {
       mapfile -t COMPREPLY < <(compgen -W 'sanger illumina13 solexa' -- "$word")
       return
       ;;
-    --trimlog)
+    --trimlog | --report)
       compopt -o default
       return
       ;;
@@ -48,7 +48,7 @@ _fq_prog() {
       ;;
   esac
   if [[ $word == -* ]]; then
-    mapfile -t COMPREPLY < <(compgen -W '--threads --block --depth --chunk --encoding --trimlog --no-name-check --sync --help' -- "$word")
+    mapfile -t COMPREPLY < <(compgen -W '--threads --block --depth --chunk --encoding --trimlog --no-name-check --sync --report --help' -- "$word")
   elif [ "$place" -lt "$files" ]; then
     compopt -o default
   else

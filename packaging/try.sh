@@ -10,9 +10,13 @@ Runs 'rt try --test' in each crate (all of crates/ where none is named)."
 fi
 
 if [ $# -eq 0 ]; then
-  # In the order of crates.txt, in which a crate stands behind those that it uses.
+  # Those that have tests, in the order of crates.txt, in which a crate stands behind those that it uses.
   mapfile -t crates < <(sed -n 's/^\([a-z_0-9]*\)[^#]*:.*/\1/p' crates.txt)
-  set -- "${crates[@]}"
+  for crate in "${crates[@]}"; do
+    if grep -rqF '#[test]' "crates/$crate/src"; then
+      set -- "$@" "$crate"
+    fi
+  done
 fi
 
 # A test may take long where the machine has other work: each has so many seconds.

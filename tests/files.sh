@@ -147,6 +147,32 @@ if [ -w /dev/full ]; then
   same out ''
 fi
 
+row='a report'
+two_pairs
+printf '%10000s' 'old text' > report
+run 0 '' PE --report report f r fp fu rp ru LEADING:3
+expect_two_pairs
+grep -q '^{"command":"PE",.*"forward_only_surviving":1,"input":2,.*"version":"1.0.0"}$' report || fail "$row: it is not as expected"
+[ "$(wc -l < report)" -eq 1 ] || fail "$row: it is not one line"
+
+row='a report that is an input or another output'
+two_pairs
+run 2 'same name: f\n' PE --trimlog log --report f f r fp fu rp ru LEADING:3
+for name in ./f fp ./fp log link; do
+  two_pairs
+  ln -s r link
+  run 4 "cannot write $name\n" PE --trimlog log --report "$name" f r fp fu rp ru LEADING:3
+  same r '@p1/2\nTTTT\n+\nIIII\n@p2/2\nAAAA\n+\n!!!"\n'
+done
+
+if [ -w /dev/full ]; then
+  row='a report on a full device'
+  two_pairs
+  run 4 'write failed: report\n' PE --report /dev/full f r fp fu rp ru LEADING:3
+  same fp '@p1/1\nGT\n+\nII\n'
+  same out ''
+fi
+
 row='a truncated input'
 two_pairs
 head -c 16 f > g && mv g f

@@ -14,7 +14,7 @@ if [ ! -d crates/fq_lane ]; then
 fi
 room=$(mktemp -d)
 trap 'rm -rf "$room"' EXIT
-if ! (cd crates/fq_lane && rt test) >"$room/log" 2>&1; then
+if ! make -s crates/fq_lane/out/fq_lane_tests >"$room/log" 2>&1; then
     tail -n 20 "$room/log"
     echo "lane_processors: FAILED: the tests of fq_lane do not pass"
     exit 1

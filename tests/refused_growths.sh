@@ -1,8 +1,8 @@
 #!/usr/bin/env bash
 # Refuses each growth of memory in turn of a run on one thread, and then of a run with two workers, until a run meets no refusal; and
-# the same of runs over one text in which mates take turns.
+# the same of runs over an interleaved text.
 # A run may then end by want of memory, by a failed write (a growth of an outlet) or by a refused thread, but never as if nothing
-# had been refused, and its outputs have to be those of the first pairs: refused_growths/main.rt.in judges that.
+# had been refused, and its outputs have to be those of the first pairs: the program fq_judge runs and judges that.
 #
 # Then each thread of the runs with two workers is refused in turn: the run has to say so and to write nothing, and its feeds are lost
 # where the reading thread was refused, and else come back unread.
@@ -17,31 +17,12 @@ rounds=${ROUNDS:-3}
 room=$(mktemp -d)
 trap 'rm -rf "$room"' EXIT
 
-if ! (cd crates/fq_run && rt lib) >"$room/log" 2>&1; then
-    tail -n 20 "$room/log"
-    echo "refused_growths: FAILED: fq_run is not proved"
-    exit 1
-fi
-
-# A scratch repository of the run's crates as they are built, and a program over them.
-grep -E '^fq_(text|samples|trim|pair|lane|block|work|serial|run)[ :]' crates.txt >"$room/crates.txt"
-mapfile -t crates < <(grep -oE '^fq_[a-z]+' "$room/crates.txt")
-for crate in "${crates[@]}"; do
-    mkdir -p "$room/crates/$crate/out"
-    find "crates/$crate" -maxdepth 1 '(' -name src -o -name specs -o -name proofs ')' -exec cp -r -t "$room/crates/$crate" {} +
-    cp -r "crates/$crate/out/rlib" "$room/crates/$crate/out/"
-done
-echo "judging: fq_text fq_trim fq_pair fq_work fq_run anyhow" >>"$room/crates.txt"
-mkdir -p "$room/crates/judging/src"
-cp HANDLES "$room/"
-cp "$here/main.rt.in" "$room/crates/judging/src/main.rt"
-cp crates/fq_run/src/tests/fronts.rt "$room/crates/judging/src/"
-if ! (cd "$room/crates/judging" && rt run) >"$room/log" 2>&1; then
+program=$PWD/crates/fq_judge/out/fq_judge
+if ! make -s crates/fq_judge/out/fq_judge >"$room/log" 2>&1; then
     tail -n 40 "$room/log"
-    echo "refused_growths: FAILED: the program is not proved, or doesn't run"
+    echo "refused_growths: FAILED: fq_judge is not proved, or doesn't run"
     exit 1
 fi
-program=$room/crates/judging/out/judging
 
 compiler=${CC:-cc}
 command -v "$compiler" >"$room/log" || compiler=$(dirname "$(rt doc)")/toolchain/bin/clang
@@ -100,13 +81,13 @@ refuse_threads() {
 
 failed=0
 sweep ''
-sweep mixed
+sweep interleaved
 for _ in $(seq "$rounds"); do
     sweep threads
-    sweep 'threads mixed'
+    sweep 'threads interleaved'
 done
 refuse_threads threads
-refuse_threads 'threads mixed'
+refuse_threads 'threads interleaved'
 if [ $failed -ne 0 ]; then
     echo "refused_growths: FAILED"
     exit 1

@@ -1,7 +1,10 @@
 #!/usr/bin/env bash
-# Refuses each growth of memory of the built program in turn, until a run meets no refusal: of PE, of IL, of EXAMPLE and of --help. A run that met
+# Refuses each growth of memory of the built program in turn, until a run meets no refusal: of PE, also with a report, of IL, of EXAMPLE and of --help. A run that met
 # one has to say that memory was wanted (status 5), or that a thread was refused for it (status 6), and print nothing. A growth that can be
 # done without may be refused unseen: one in each call, at the most.
+#
+# Then it is counted how often a run over many pairs asks for memory: once its buffers have grown no pair does, whether its reads are lent
+# as they lie in the buffer or their lines are joined.
 set -uo pipefail
 
 cd "$(dirname "$0")/.." || exit 2
@@ -45,11 +48,41 @@ wrong() {
     failed=1
 }
 
+# draw LINES..: these lines, 50,000 times.
+draw() {
+    local record
+    record=$(printf '%s\n' "$@")
+    yes "$record" | head -n "$((50000 * $#))"
+}
+
+# grow_seldom WORDS..: this call, over 50,000 pairs, asks for memory fewer than 5,000 times.
+grow_seldom() {
+    local status
+    timeout 60 env REFUSED_GROWTH=5000 LD_PRELOAD="$room/refuse.so" "$program" "$@" 9>refused >summary 2>err
+    status=$?
+    if [ "$status" -ne 0 ] || [ -s refused ] || ! grep -q 50000 summary; then
+        wrong 5000 "$1" "status $status, '$(cat err)', $(cat refused)"
+    fi
+}
+
 failed=0
 sweep PE --threads 2 --block 1 --trimlog log f r fp fu rp ru LEADING:3
+sweep PE --threads 2 --block 1 --report report f r fp fu rp ru LEADING:3 MINLEN:2
 sweep IL --threads 2 --block 1 --trimlog log i fp fu rp ru LEADING:3
 sweep EXAMPLE
 sweep --help
+
+for side in 1 2; do
+    draw "@p/$side" ACGT + IIII >"plain$side"
+    draw "@p/$side" AC GT + IIII >"joined$side"
+done
+draw @p/1 ACGT + IIII @p/2 ACGT + IIII >interleaved
+steps=(LEADING:3 MINLEN:2)
+grow_seldom PE --threads 1 --block 100 --depth 1 --trimlog log plain1 plain2 fp fu rp ru "${steps[@]}"
+grow_seldom PE --threads 1 --block 100 --depth 1 --trimlog log joined1 joined2 fp fu rp ru "${steps[@]}"
+grow_seldom PE --threads 1 --block 100 --depth 1 --report report plain1 plain2 fp fu rp ru "${steps[@]}"
+grow_seldom IL --threads 1 --block 100 --depth 1 --trimlog log interleaved fp fu rp ru "${steps[@]}"
+echo "50,000 pairs: fewer than 5,000 growths"
 if [ $failed -ne 0 ]; then
     echo "refused_program: FAILED"
     exit 1

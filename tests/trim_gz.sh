@@ -110,6 +110,14 @@ as_plain() {
   cmp -s "$work/printed" "$work/plain/summary" || fail 'the summary is not as over plain files'
 }
 
+# same_report FILE: it is that of the program over plain files, but for the names of the files
+same_report() {
+  diff <(nameless "$1") <(nameless "$work/plain/report") > /dev/null || fail 'the report is not as over plain files'
+}
+
+# nameless FILE: a report without the names of its files
+nameless() { sed 's/"inputs":{[^}]*}//; s/"outputs":{[^}]*}//' "$1"; }
+
 draw 1 1500 1 > a1
 draw 1 1500 2 > a2
 draw 1501 4000 1 > b1
@@ -118,9 +126,9 @@ cat a1 b1 > f
 cat a2 b2 > r
 paste -d '\n' <(paste - - - - < f) <(paste - - - - < r) | tr '\t' '\n' > i
 for name in a1 a2 b1 b2 f r i; do gzip -1 < "$name" > "$name.gz"; done
-"$program" PE --trimlog "$work/plain/log" f r "$work/plain/p1.fq" "$work/plain/u1.fq" "$work/plain/p2.fq" "$work/plain/u2.fq" \
+"$program" PE --trimlog "$work/plain/log" --report "$work/plain/report" f r "$work/plain/p1.fq" "$work/plain/u1.fq" "$work/plain/p2.fq" "$work/plain/u2.fq" \
   "${steps[@]}" > "$work/plain/summary"
-for name in p1.fq u1.fq p2.fq u2.fq log; do
+for name in p1.fq u1.fq p2.fq u2.fq log report; do
   row='the drawn pairs'
   [ -s "$work/plain/$name" ] || fail "$name is empty"
 done
@@ -137,6 +145,14 @@ good_runs() {
   row="two lanes a side, log and summary, $1"
   made -1 data/a1.gz -1 data/b1.gz -2 data/a2.gz -2 data/b2.gz "${outputs[@]}" --trimlog out/log.gz --summary out/summary --block=7 "${last[@]}"
   as_plain p1.fq u1.fq p2.fq u2.fq log summary
+  row="two lanes a side and a report, $1"
+  made -1 data/a1.gz -1 data/b1.gz -2 data/a2.gz -2 data/b2.gz "${outputs[@]}" --report out/report --trimlog=out/log "${last[@]}"
+  as_plain p1.fq u1.fq p2.fq u2.fq log
+  same_report "$work/out/report"
+  made "${both[@]}" "${outputs[@]}" --report=out/report.gz --trimlog=out/log "${last[@]}"
+  as_plain p1.fq u1.fq p2.fq u2.fq log
+  gzip -dc "$work/out/report.gz" > "$work/out/report"
+  same_report "$work/out/report"
   row="one interleaved file, $1"
   made -i data/i.gz "${outputs[@]}" --trimlog out/log --compress-threads 1 --level 1 "${last[@]}"
   as_plain p1.fq u1.fq p2.fq u2.fq log
@@ -267,6 +283,7 @@ refused 4 'trim_gz: cannot read data/f.member.gz: decompression OK, trailing gar
 
 row='mates that are missing'
 refused 3 'trim_gz: input: reverse record 1501: MateMissing (data/a2.gz)' -1 data/f.gz -2 data/a2.gz "${rest[@]}"
+refused 3 'trim_gz: input: reverse record 1501: MateMissing (data/a2.gz)' -1 data/f.gz -2 data/a2.gz --report out/report "${rest[@]}"
 
 row='files that are no mates'
 refused 3 'trim_gz: input: record 1: NamesDiffer (data/f.gz, data/b2.gz)' -1 data/f.gz -2 data/b2.gz "${rest[@]}"
@@ -307,11 +324,14 @@ row='names that are given twice'
 refused 2 'trim_gz: data/f.gz is given twice' -1 data/f.gz -2 data/f.gz "${rest[@]}"
 refused 2 'trim_gz: data/../data/r.gz is an input and an output' "${both[@]}" "${outputs[@]}" --trimlog data/../data/r.gz "${last[@]}"
 refused 2 'trim_gz: ./out/u1.fq.gz is given for two outputs' "${both[@]}" "${outputs[@]}" --trimlog ./out/u1.fq.gz "${last[@]}"
+refused 2 'trim_gz: ./out/../out/log is given for two outputs' "${both[@]}" "${outputs[@]}" --trimlog out/log --report ./out/../out/log "${last[@]}"
+refused 1 'trim_gz: --report is given twice' "${both[@]}" "${outputs[@]}" --report out/report --report out/log "${last[@]}"
 gzip -dc f.gz | cmp -s - f || fail 'an input was touched'
 gzip -dc r.gz | cmp -s - r || fail 'an input was touched'
 
 row='an output in a folder that is not there'
 refused 4 'trim_gz: cannot write no/log' "${both[@]}" "${outputs[@]}" --trimlog no/log "${last[@]}"
+refused 4 'trim_gz: cannot write no/report' "${both[@]}" "${outputs[@]}" --report no/report "${last[@]}"
 
 row='no place for the pipes'
 earlier
@@ -345,6 +365,8 @@ if [ -w /dev/full ]; then
   refused 4 'trim_gz: write failed: forward paired (/dev/full)' "${both[@]}" --paired1 /dev/full "${outputs[@]:2}" "${last[@]}"
   row='a full device as the log'
   refused 4 'trim_gz: write failed: trim log (/dev/full)' "${both[@]}" "${outputs[@]}" --trimlog /dev/full "${last[@]}"
+  row='a full device as the report'
+  refused 4 'trim_gz: write failed: report (/dev/full)' "${both[@]}" "${outputs[@]}" --report /dev/full "${last[@]}"
   row='a full device behind a compressor'
   ln -s /dev/full full.gz
   full() {

@@ -119,7 +119,7 @@ trim_directly() {
   for side in 1 2; do
     for lane in "$@"; do gzip -dc "$work/reads/${sample}_${lane}_R$side.fq.gz"; done > "$to.in$side"
   done
-  "$program" PE --trimlog "$to.log" "$to.in1" "$to.in2" "$to.r1.paired" "$to.r1.unpaired" "$to.r2.paired" "$to.r2.unpaired" \
+  "$program" PE --trimlog "$to.log" --report "$to.json" "$to.in1" "$to.in2" "$to.r1.paired" "$to.r1.unpaired" "$to.r2.paired" "$to.r2.unpaired" \
     "${steps[@]}" > "$to.summary" || fail "the program on $sample"
 }
 
@@ -168,48 +168,55 @@ same_as_direct() {
     for part in r1.paired r1.unpaired r2.paired r2.unpaired; do
       gzip -dc "results/trimmed/$sample.$part.fastq.gz" | cmp - "$work/direct/$sample.$part" || fail "$sample: $part differs"
     done
-    gzip -dc "results/trim_logs/$sample.log.gz" | cmp - "$work/direct/$sample.log" || fail "$sample: the log differs"
     cmp "results/summaries/$sample.summary" "$work/direct/$sample.summary" || fail "$sample: the summary differs"
+    cmp <(counted "results/reports/$sample.json") <(counted "$work/direct/$sample.json") || fail "$sample: the report differs"
+  done
+}
+
+# counted REPORT: a report without the names of its files
+counted() { sed 's/"inputs":{[^}]*}//; s/"outputs":{[^}]*}//' "$1"; }
+
+# same_logs SAMPLES..: their trim logs are those of direct calls
+same_logs() {
+  local sample
+  for sample in "$@"; do
+    gzip -dc "results/trim_logs/$sample.log.gz" | cmp - "$work/direct/$sample.log" || fail "$sample: the log differs"
   done
 }
 
 # page_tells SAMPLES..: the page's data are those of the direct calls, for these samples and no others
 page_tells() {
-  local data=results/report_data sample
+  local data=results/report_data sample text
   for sample in "$@"; do
     sed 's/.*: //' "$work/direct/$sample.summary" | paste -sd' ' | awk -v s="$sample" '{ print s, $2, $3, $4, $5 }'
   done | cmp - <(sed 1d $data/multiqc_tibzharuk_pairs_plot.txt | awk '{ print $1, $2 + 0, $3 + 0, $4 + 0, $5 + 0 }') \
     || fail 'the bars differ'
-  for sample in "$@"; do
-    sed 's/.*: //' "$work/direct/$sample.summary" | paste -sd' ' | awk -v s="$sample" '{ printf "%s %.3f\n", s, 100 * $2 / $1 }'
-  done | cmp - <(sed 1d $data/multiqc_general_stats.txt | awk '{ printf "%s %.3f\n", $1, $2 }') || fail 'the per cents differ'
-  line_graphs "$@" || fail 'the line graphs differ'
+  python3 "$tree/tests/workflow/page_tells.py" "$work/direct" $data "$@" || fail 'the table, the dropped reads or the lengths differ'
   for text in "$("$program" --version)" "${steps[*]}"; do
     grep -qF "$text" results/report.html || fail "the page lacks $text"
   done
 }
 
-# line_graphs SAMPLES..: the page's lines are those of the logs, at each place
-line_graphs() {
-  python3 - "$work/direct" results/report_data "$@" << 'END'
-import collections, json, sys
-direct, data, *samples = sys.argv[1:]
-plots = {}
-for graph in "lengths", "front", "behind":
-    with open(f"{data}/multiqc_tibzharuk_{graph}_plot.txt") as file:
-        header, *rows = [line.rstrip("\n").split("\t") for line in file]
-    plots[graph] = {row[0]: {int(float(x)): float(y) for x, y in zip(header[1:], row[1:]) if y} for row in rows}
-    assert len(rows) == 2 * len(samples), rows
-for sample in samples:
-    with open(f"{direct}/{sample}.log") as file:
-        lines = [[int(word) for word in line.split()[1:]] for line in file]
-    for place, side in enumerate(("forward", "reverse")):
-        kept = [line for line in lines[place::2] if line[0]]
-        for field, graph in (0, "lengths"), (1, "front"), (3, "behind"):
-            counts = collections.Counter(line[field] for line in kept if line[field])
-            drawn = {x: y for x, y in plots[graph][f"{sample} {side}"].items() if y}
-            assert drawn == {x: round(100 * n / len(kept), 4) for x, n in counts.items()}, (sample, side, graph)
-END
+# removed_bases SAMPLES..: the page's lines of removed bases are those of the logs, at each place
+removed_bases() {
+  python3 "$tree/tests/workflow/page_tells.py" "$work/direct" results/report_data --removed "$@" || fail 'the line graphs of removed bases differ'
+}
+
+# no_logs: there is no trim log, and the page has no graph of one
+no_logs() {
+  if [ -e results/trim_logs ] || [ -e results/graphs ]; then fail 'there is a trim log or a graph of one'; fi
+  no_lines
+}
+
+# no_lines: the page has no graph of removed bases
+no_lines() {
+  ! grep -q 'Bases removed' results/report.html || fail 'the page has removed bases'
+  [ -z "$(find results/report_data -name '*_front_*' -o -name '*_behind_*')" ] || fail 'the data of the page have removed bases'
+}
+
+# made: all that was made of samples, with its time
+made() {
+  find results/trimmed results/trim_logs results/summaries results/reports results/graphs -type f -printf '%p %T@\n' | sort
 }
 
 # a_whole_life PROFILE: a call with a damaged sample, a second one, and one behind its repair
@@ -218,11 +225,13 @@ a_whole_life() {
   call 1 --profile "profiles/$1"
   ran 4 3
   same_as_direct s1 s2 s3
+  same_logs s1 s2 s3
   page_tells s1 s2 s3
+  removed_bases s1 s2 s3
   grep -q '^failed: s4: .*reads/s4_L001_R2.fq.gz' said || fail 's4 and its file are not named at the end'
   grep -q '<strong>s4</strong>: <samp>[^<]*reads/s4_L001_R2.fq.gz' results/report.html || fail 'the page does not name s4 and its file'
   [ -z "$(find results -name 's4*')" ] || fail "of s4 there is $(find results -name 's4*' | paste -sd' ')"
-  find results/trimmed results/trim_logs results/summaries results/graphs -type f -printf '%p %T@\n' | sort > before
+  made > before
   row="$1: a second call"
   call 1 --profile "profiles/$1"
   ran 1 0
@@ -232,10 +241,11 @@ a_whole_life() {
   call 0 --profile "profiles/$1"
   ran 1 1
   same_as_direct s1 s2 s3 s4
+  same_logs s1 s2 s3 s4
   page_tells s1 s2 s3 s4
+  removed_bases s1 s2 s3 s4
   ! grep -q 'Failed' results/report.html || fail 'the page still names a failed sample'
-  find results/trimmed results/trim_logs results/summaries results/graphs -type f -printf '%p %T@\n' | grep -v /s4 | sort \
-    | cmp - before || fail 'a sample that was trimmed was touched again'
+  made | grep -v /s4 | cmp - before || fail 'a sample that was trimmed was touched again'
 }
 
 # refused LINE: the settings or the table as they stand are refused with that line, and nothing is made
@@ -296,8 +306,8 @@ refuses() {
 }
 
 bad_files() {
-  local log=$work/direct/s2.log summary=$work/direct/s2.summary file
-  row='files that are no summary or log'
+  local log=$work/direct/s2.log summary=$work/direct/s2.summary report=$work/direct/s2.json file
+  row='files that are no summary, log or report'
   sed '$d' "$summary" > "$work/short"
   sed 's/^Dropped: /&1/' "$summary" > "$work/sum"
   { cat "$summary" && echo more; } > "$work/long"
@@ -310,6 +320,17 @@ bad_files() {
   gzip -c "$log" | head -c -30 > "$work/cut.gz"
   for file in "$summary" "$work/odd" "$work/torn" "$work/letter" "$work/cut.gz" "$program" /dev/zero "$work" "$work/not there"; do
     refuses log_to_mqc "$file"
+  done
+  head -c -3 "$report" > "$work/torn.json"
+  sed 's/"q30_bases":[0-9]*,//' "$report" > "$work/less.json"
+  sed 's/"input":/&-/' "$report" > "$work/below.json"
+  sed 's/"input":/&1/' "$report" > "$work/sum.json"
+  sed 's/"bases":\([0-9]*\)/"bases":"\1"/' "$report" > "$work/text.json"
+  sed 's/"lengths":\[\[/"lengths":[[1,1],[/' "$report" > "$work/lengths.json"
+  sed 's/"outcome":"finished"/"outcome":"fault"/; s/"fault":null/"fault":"input: record 1: NamesDiffer"/' "$report" > "$work/fault.json"
+  sed 's/^/[/; s/$/]/' "$report" > "$work/list.json"
+  for file in "$log" "$summary" "$work"/{torn,less,below,sum,text,lengths,fault,list}.json "$program" /dev/zero /dev/null "$work" "$work/not there"; do
+    refuses report_to_mqc "$file"
   done
 }
 
@@ -436,6 +457,17 @@ grep -q 'Nothing to be done' said || fail 'something was done'
 row='fewer processors, and no line graphs'
 call 0 --profile profiles/local --cores 1 --config line_graphs=False
 ran 0 0
+page_tells s1 s2 s3 s4
+no_lines
+
+new_lab plain
+row='no line graphs from the start'
+cp reads/s4_L001_R2.fq.gz.whole reads/s4_L001_R2.fq.gz
+call 0 --profile profiles/local --config line_graphs=False
+ran 4 0
+same_as_direct s1 s2 s3 s4
+page_tells s1 s2 s3 s4
+no_logs
 
 new_lab cluster
 row='slurm'

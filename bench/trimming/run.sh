@@ -9,6 +9,7 @@
 #     --threads-time   the processor seconds of each of the program's threads
 #     --memory         the program's peak memory at 50,000, 250,000 and 1,000,000 pairs
 #     --block-time     the program's time with --block 1 beside its time with the default
+#     --report-time    the program's time with --report beside its time without
 #
 # Options:
 #     --pairs N        pairs of reads (1000000)
@@ -49,7 +50,7 @@ print_help() {
 
 while [ $# -gt 0 ]; do
     case $1 in
-        --sets | --threads-time | --memory | --block-time) mode=${1#--}; shift ;;
+        --sets | --threads-time | --memory | --block-time | --report-time) mode=${1#--}; shift ;;
         --pairs) count=${2:?}; shift 2 ;;
         --rounds) rounds=${2:?}; shift 2 ;;
         --in) place=${2:?}; shift 2 ;;
@@ -323,23 +324,24 @@ measure_memory() {
     done
 }
 
-measure_blocks() {
+# measure_beside OPTION..: runs with these options beside runs without them
+measure_beside() {
     local threads round
     enter "${place:-disk}"
     draw "${form[@]}"
     echo "$count pairs, $((size / 1000000)) MB, $kind; median of $rounds; $(print_machine)"
-    echo '| Threads | Seconds | with --block 1 | by each other | Processor seconds | with --block 1 | by each other |'
+    echo "| Threads | Seconds | with $* | by each other | Processor seconds | with $* | by each other |"
     echo '|---|---|---|---|---|---|---|'
     for threads in 1 2 4; do
         for ((round = 0; round < rounds; round++)); do
             run_ours_log "$threads"
             echo "$spent" >>"$room/row.$threads.default"
-            run_ours_log "$threads" --block 1
-            echo "$spent" >>"$room/row.$threads.1"
+            run_ours_log "$threads" "$@"
+            echo "$spent" >>"$room/row.$threads.beside"
         done
-        awk -v threads="$threads" -v seconds="$(medians 1 "$threads.default" "$threads.1")" -v spent="$(medians 2 "$threads.default" "$threads.1")" \
+        awk -v threads="$threads" -v seconds="$(medians 1 "$threads.default" "$threads.beside")" -v spent="$(medians 2 "$threads.default" "$threads.beside")" \
             'BEGIN { split(seconds, s, " "); split(spent, p, " ")
-                printf "| %d | %.3f | %.3f | %.1f | %.2f | %.2f | %.1f |\n", threads, s[1], s[2], s[2] / s[1], p[1], p[2], p[2] / p[1] }'
+                printf "| %d | %.3f | %.3f | %.2f | %.2f | %.2f | %.2f |\n", threads, s[1], s[2], s[2] / s[1], p[1], p[2], p[2] / p[1] }'
     done
 }
 
@@ -348,5 +350,6 @@ case $mode in
     sets) measure_all_sets ;;
     threads-time) measure_threads ;;
     memory) measure_memory ;;
-    block-time) measure_blocks ;;
+    block-time) measure_beside --block 1 ;;
+    report-time) measure_beside --report report.json ;;
 esac

@@ -10,9 +10,9 @@ scratch=$(mktemp -d)
 trap 'rm -rf "$scratch"' EXIT
 mkdir -p "$scratch/crates/serial/src"
 cp "$top/HANDLES" "$scratch/"
-grep -v '^fq_prog' "$top/crates.txt" > "$scratch/crates.txt"
-echo 'serial: fq_files fq_run fq_pair fq_trim fq_text anyhow' >> "$scratch/crates.txt"
-for crate in fq_text fq_samples fq_trim fq_pair fq_lane fq_block fq_work fq_serial fq_run fq_files; do
+echo 'serial: fq_files fq_run fq_pair fq_trim fq_text anyhow' > "$scratch/crates.txt"
+for crate in fq_text fq_samples fq_trim fq_pair fq_tally fq_lane fq_block fq_work fq_serial fq_run fq_files; do
+  grep -E "^${crate}[ :]" "$top/crates.txt" >> "$scratch/crates.txt"
   cp -a "$top/crates/$crate" "$scratch/crates/"
 done
 cp "$here/serial.rt.in" "$scratch/crates/serial/src/main.rt"

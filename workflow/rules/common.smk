@@ -21,9 +21,10 @@ except ValueError as why:
 TRIM_GZ = str(HERE.parent / "contrib" / "trim_gz")
 LOG_TO_MQC = str(HERE.parent / "contrib" / "log_to_mqc")
 RESULTS = config["results"]
-GRAPHS = ["lengths", "front", "behind"]
+GRAPHS = ["front", "behind"]
 TRIMMED = f"{RESULTS}/trimmed/{{sample}}.{{read}}.{{kind}}.fastq.gz"
 SUMMARY = f"{RESULTS}/summaries/{{sample}}.summary"
+REPORT = f"{RESULTS}/reports/{{sample}}.json"
 SETTINGS = f"{RESULTS}/summaries/{{sample}}.settings"
 TRIM_LOG = f"{RESULTS}/trim_logs/{{sample}}.log.gz"
 GRAPH = f"{RESULTS}/graphs/{{sample}}_{{graph}}_mqc.json"

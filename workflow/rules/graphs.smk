@@ -1,4 +1,4 @@
-# Counts one sample's trim log for the line graphs.
+# Counts the removed bases in one sample's trim log, for their line graphs.
 
 
 rule graphs:
@@ -15,4 +15,4 @@ rule graphs:
         mem_mb=config["graphs"]["memory_mb"],
         runtime=config["graphs"]["minutes"],
     shell:
-        "{LOG_TO_MQC:q} --sample {wildcards.sample:q} --out {params.folder:q} {input:q} 2> {log:q}"
+        "{LOG_TO_MQC:q} --removed --sample {wildcards.sample:q} --out {params.folder:q} {input:q} 2> {log:q}"

@@ -11,6 +11,7 @@ rule trim:
         paired2=TRIMMED.format(sample="{sample}", read="r2", kind="paired"),
         unpaired2=TRIMMED.format(sample="{sample}", read="r2", kind="unpaired"),
         summary=SUMMARY,
+        report=REPORT,
         settings=SETTINGS,
         **({"trimlog": TRIM_LOG} if config["line_graphs"] else {}),
     log:
@@ -34,6 +35,6 @@ rule trim:
         {TRIM_GZ:q} {params.inputs} \\
             --paired1 {output.paired1:q} --unpaired1 {output.unpaired1:q} \\
             --paired2 {output.paired2:q} --unpaired2 {output.unpaired2:q} \\
-            --summary {output.summary:q} "${{trimlog[@]}}" --program {config[program]:q} \\
+            --summary {output.summary:q} --report {output.report:q} "${{trimlog[@]}}" --program {config[program]:q} \\
             --threads "$half" --compress-threads "$half" {params.options} -- {params.steps} > /dev/null 2>> {log:q}
         """

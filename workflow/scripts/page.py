@@ -14,8 +14,8 @@ import tempfile
 from pathlib import Path
 
 HERE = Path(__file__).resolve().parent
-SUMMARY_TO_MQC = HERE.parent.parent / "contrib" / "summary_to_mqc"
-GRAPHS = ["lengths", "front", "behind"]
+REPORT_TO_MQC = HERE.parent.parent / "contrib" / "report_to_mqc"
+GRAPHS = ["front", "behind"]
 SECTION = """<!--
 id: 'tibzharuk_run'
 parent_id: 'tibzharuk'
@@ -71,7 +71,7 @@ def missing_samples(failed, not_begun, without_graphs):
         parts.append(f'<div class="alert alert-danger"><strong>Failed: {len(failed)}.</strong> No reads of these were kept:<ul>')
         parts += [f"<li><strong>{html.escape(name)}</strong>: <samp>{html.escape(why)}</samp></li>" for name, why in failed.items()]
         parts.append("</ul></div>")
-    for what, names in ("Not begun", not_begun), ("Missing in the line graphs", without_graphs):
+    for what, names in ("Not begun", not_begun), ("Missing in the graphs of removed bases", without_graphs):
         if names:
             parts.append(f'<div class="alert alert-warning"><strong>{what}:</strong> {html.escape(", ".join(names))}</div>')
     return parts
@@ -106,14 +106,14 @@ def call(command):
 
 
 def gather(results, trimmed, line_graphs, folder):
-    """Puts what MultiQC reads into a folder. Gives the samples whose line graphs are missing."""
-    summaries = [str(results / "summaries" / f"{sample}.summary") for sample in trimmed]
-    for first in range(0, len(summaries), 500):
-        call([str(SUMMARY_TO_MQC), "--out", str(folder), *summaries[first : first + 500]])
+    """Puts what MultiQC reads into a folder. Gives the samples whose graphs of removed bases are missing."""
+    reports = [str(results / "reports" / f"{sample}.json") for sample in trimmed]
+    for first in range(0, len(reports), 500):
+        call([str(REPORT_TO_MQC), "--out", str(folder), *reports[first : first + 500]])
     without_graphs = []
     for sample in trimmed if line_graphs else []:
         files = [results / "graphs" / f"{sample}_{graph}_mqc.json" for graph in GRAPHS]
-        made = (results / "summaries" / f"{sample}.summary").stat().st_mtime
+        made = (results / "reports" / f"{sample}.json").stat().st_mtime
         if all(name.is_file() and name.stat().st_mtime >= made for name in files):
             for name in files:
                 shutil.copy(name, folder)
@@ -147,11 +147,11 @@ def main():
     parser = argparse.ArgumentParser(description=__doc__, formatter_class=argparse.RawDescriptionHelpFormatter)
     parser.add_argument("--results", type=Path, required=True, help="the folder of the workflow's results")
     parser.add_argument("--logs", type=Path, required=True, help="the folder of the workflow's logs")
-    parser.add_argument("--line-graphs", action="store_true", help="draw the line graphs of the trim logs")
+    parser.add_argument("--line-graphs", action="store_true", help="draw the graphs of removed bases, from the trim logs")
     words = parser.parse_args()
     samples = sys.stdin.read().split("\n")[:-1]
-    parts = ("summary", "settings")
-    trimmed = [name for name in samples if all((words.results / "summaries" / f"{name}.{part}").is_file() for part in parts)]
+    parts = ("summaries/{}.summary", "summaries/{}.settings", "reports/{}.json")
+    trimmed = [name for name in samples if all((words.results / part.format(name)).is_file() for part in parts)]
     reasons = {name: why_failed(words.logs, name) for name in samples if name not in trimmed}
     failed = {name: why for name, why in reasons.items() if why is not None}
     not_begun = [name for name, why in reasons.items() if why is None]

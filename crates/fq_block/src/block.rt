@@ -62,7 +62,21 @@ impl Block {
         ensures ok { OnOk result (self.new ≡ record self.old { pairs = self.old.pairs ++ pair.now ∷ [] }) }
         ensures err { OnErr result (self.new ≡ self.old) }
     {
-        append(&mut self.bytes, &mut self.starts, &pair.view())?;
+        let lent = pair.view();
+        self.push_view(&lent)
+    }
+
+    /// Appends a copy of a pair that is lent, as [`push`](Block::push) does. Where the block has grown before, and has room for
+    /// the pair, no memory is asked for.
+    ///
+    /// The conditions are that both reads are in the block's encoding, and that the block has fewer than 65,536 pairs.
+    pub fn push_view(&mut self, pair: &PairView<'_>) -> Result<(), OutOfMemory>
+        requires encoding { IsOf self.old.encoding (mates_in pair.now.forward pair.now.reverse) }
+        requires room { length self.old.pairs < 65536 }
+        ensures ok { OnOk result (self.new ≡ record self.old { pairs = self.old.pairs ++ mates_in pair.now.forward pair.now.reverse ∷ [] }) }
+        ensures err { OnErr result (self.new ≡ self.old) }
+    {
+        append(&mut self.bytes, &mut self.starts, pair)?;
         Ok(())
     }
 

@@ -80,6 +80,21 @@ fn a_block_that_is_reset_has_its_new_number_and_no_pairs(rt: HostRuntime) -> Res
 }
 
 #[test]
+fn a_pair_lent_by_one_block_goes_to_another(rt: HostRuntime) -> Result<(), Fail> {
+    let mut block = Block::new(rt.alloc(), 4, Encoding::Sanger);
+    push_pairs(&rt, rt.alloc(), &mut block, TWO_FORWARD, TWO_REVERSE, 2)?;
+    assert_eq!(rt; block.len(), 2);
+    let first = block.pair(0);
+    let mut other = Block::new(rt.alloc(), 5, Encoding::Sanger);
+    assert!(rt; first.forward.encoding() == Encoding::Sanger);
+    assert!(rt; first.reverse.encoding() == Encoding::Sanger);
+    other.push_view(&first)?;
+    assert_eq!(rt; other.len(), 1);
+    assert!(rt; other.packed() == FIRST_PACKED);
+    Ok(())
+}
+
+#[test]
 fn a_pair_of_four_bases_is_packed_into_forty_bytes(rt: HostRuntime) -> Result<(), Fail> {
     let mut block = Block::new(rt.alloc(), 0, Encoding::Sanger);
     push_pairs(&rt, rt.alloc(), &mut block, TWO_FORWARD, TWO_REVERSE, 1)?;

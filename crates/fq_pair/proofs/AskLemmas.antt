@@ -1,6 +1,6 @@
 -- What a call of a source of pairs answers, of its state.
-use Rattle.std.proofs.Common.{◌≡◌, ◌+◌, ◌*◌, Option, Some, None, Result, Ok, Err, IfOk, IfErr, refl, ap, ◌∙◌}
-use Rattle.std.specs.Option.{IfSome}
+use Rattle.std.proofs.Common.{◌≡◌, ◌+◌, ◌*◌, Bool, true, false, [], ◌∷◌, Option, Some, None, Result, Ok, Err, IfOk, IfErr, refl, ap, sym, subst, ◌∙◌}
+use Rattle.std.specs.Option.{IfSome, IsSomeAnd}
 use Rattle.fq_text.specs.Devices.{FeedState}
 use Rattle.fq_text.specs.Lines.{lines}
 use Rattle.fq_text.specs.Sources.{rest_in}
@@ -8,8 +8,22 @@ use Rattle.fq_pair.specs.declared.side.Side.TheVariants.{Forward, Reverse}
 use Rattle.fq_pair.specs.declared.fault.InputFault.{InputFault}
 use Rattle.fq_pair.specs.Mates.{Mates}
 use Rattle.fq_pair.specs.PairSources.{PairSourced, KeepsCounts, GivesPair, EndsPairs, StopsPairs, failed_on}
-use Rattle.fq_pair.specs.Walks.{source_state, KeepsSettings, Asks}
+use Rattle.fq_pair.specs.MixedSources.{MixedSourced}
+use Rattle.fq_pair.specs.MixedSources as one
+use Rattle.fq_pair.specs.Walks.{source_state, interleaved_state, KeepsSettings, side_state, Draws, Walks, Asks, Advances}
 use Rattle.fq_pair.proofs.SideLemmas.{drawn, used}
+
+-- what holds of a value that is there
+some_and : {A : Type 0} (o : Option A) (P Q : A → Type 0) → ((x : A) → P x → Q x) → IsSomeAnd o P → IsSomeAnd o Q
+some_and None P Q then held = held
+some_and (Some x) P Q then held = then x held
+
+if_some : {A : Type 0} (o : Option A) (P Q : A → Type 0) → ((x : A) → P x → Q x) → IsSomeAnd o P → IfSome o Q
+if_some None P Q then held = tt
+if_some (Some x) P Q then held = then x held
+
+if_none : {A : Type 0} (o : Option A) (Q : A → Type 0) → o ≡ None → IfSome o Q
+if_none o Q is = subst (λ p. IfSome p Q) (sym is) tt
 
 module _ {F G : Type 0} (state : F → FeedState) (state' : G → FeedState) where
   same_settings : (old new : PairSourced F G) → KeepsCounts state state' old new →
@@ -61,3 +75,92 @@ module _ {F G : Type 0} (state : F → FeedState) (state' : G → FeedState) whe
         lacks = fault.lacks;
         endless = fault.endless;
       }
+
+  -- the same, where the pair is left in hand
+  pub advances : (old new : PairSourced F G) (r : Result Bool InputFault) →
+      (r ≡ Ok true → IsSomeAnd new.current (GivesPair state state' old new)) →
+      (r ≡ Ok false → EndsPairs state state' old new) →
+      IfErr r (StopsPairs state state' old new) →
+      (state new.forward.feed).failures ≡ (state old.forward.feed).failures + failed_on Forward r →
+      (state' new.reverse.feed).failures ≡ (state' old.reverse.feed).failures + failed_on Reverse r →
+      KeepsCounts state state' old new →
+      Advances (source_state state state' old) (source_state state state' new) r
+  advances old new (Ok true) found end fault ff fr k =
+      some_and new.current (GivesPair state state' old new) (λ m. Walks (source_state state state' old) (source_state state state' new) (m ∷ []))
+      (λ m given. asks old new (Ok (Some m)) given (λ is. absurd cc) tt ff fr k) (found refl)
+  advances old new (Ok false) found end fault ff fr k =
+      let e = end refl in (asks old new (Ok None) tt (λ is. e) tt ff fr k, e.current)
+  advances old new (Err why) found end fault ff fr k = (asks old new (Err why) tt (λ is. absurd cc) fault ff fr k, fault.current)
+
+  -- the pair in hand is in the encoding of the sources
+  pub encoded : (old new : PairSourced F G) (r : Result Bool InputFault) → old.forward.encoding ≡ old.reverse.encoding →
+      (r ≡ Ok true → IsSomeAnd new.current (GivesPair state state' old new)) →
+      (r ≡ Ok false → EndsPairs state state' old new) →
+      IfErr r (StopsPairs state state' old new) →
+      IfSome new.current (λ m. (m.forward.encoding ≡ old.forward.encoding) × (m.reverse.encoding ≡ old.forward.encoding))
+  encoded old new (Ok true) is found end fault =
+      if_some new.current (GivesPair state state' old new) (λ m. (m.forward.encoding ≡ old.forward.encoding) × (m.reverse.encoding ≡ old.forward.encoding))
+      (λ m given. let f = given.forward in let r = given.reverse in (f.encoding, r.encoding ∙ sym is)) (found refl)
+  encoded old new (Ok false) is found end fault = let e = end refl in if_none new.current _ e.current
+  encoded old new (Err why) is found end fault = if_none new.current _ fault.current
+
+-- The same of one text.
+module _ {F : Type 0} (state : F → FeedState) where
+  same_in_one : (old new : MixedSourced F) → one.KeepsCounts state old new → KeepsSettings (interleaved_state state old) (interleaved_state state new)
+  same_in_one old new k =
+      let s = k.source in
+      record {
+        form = refl;
+        encoding = s.encoding;
+        check_names = k.check_names;
+        most_bytes = ap (λ n. n * new.source.chunk) s.max_reads ∙ ap (λ n. old.source.max_reads * n) s.chunk;
+      }
+
+  pub advances_in_one : (old new : MixedSourced F) (r : Result Bool InputFault) →
+      (r ≡ Ok true → IsSomeAnd new.current (one.GivesPair state old new)) →
+      (r ≡ Ok false → one.EndsPairs state old new) →
+      IfErr r (one.StopsPairs state old new) →
+      (state new.source.feed).failures ≡ (state old.source.feed).failures + one.failed_in r →
+      one.KeepsCounts state old new →
+      Advances (interleaved_state state old) (interleaved_state state new) r
+  advances_in_one old new (Ok true) found end fault failed k =
+      let at : Draws (side_state state old.source) (side_state state new.source) 0 = drawn state old.source new.source 0 k.source failed in
+      let ls = lines (rest_in state new.source) in
+      some_and new.current (one.GivesPair state old new) (λ m. Walks (interleaved_state state old) (interleaved_state state new) (m ∷ []))
+      (λ m given. let two = given.records in record {
+        same = same_in_one old new k;
+        given = given.given;
+        forward_records = two.given;
+        reverse_records = two.given;
+        last = given.last;
+        forward = at;
+        reverse = at;
+        forward_used = λ told. used state old.source new.source (two.tail told);
+        reverse_used = λ told. used state old.source new.source (two.tail told);
+        leads = λ told same. (ls, ls, given.pair_is told, (refl, refl));
+      }) (found refl)
+  advances_in_one old new (Ok false) found end fault failed k =
+      let e = end refl in
+      let at : Draws (side_state state old.source) (side_state state new.source) 0 = drawn state old.source new.source 0 k.source failed in
+      (record { forward = at; reverse = at; end_is = λ told same. e.end_is told }, e.current)
+  advances_in_one old new (Err why) found end fault failed k = (
+    record {
+      forward = drawn state old.source new.source _ k.source failed;
+      reverse = drawn state old.source new.source _ k.source failed;
+      fault_is = λ told same. fault.fault_is told;
+      lacks = λ cut told same. fault.lacks cut told;
+      endless = fault.endless;
+    },
+    fault.current,
+  )
+
+  pub encoded_in_one : (old new : MixedSourced F) (r : Result Bool InputFault) →
+      (r ≡ Ok true → IsSomeAnd new.current (one.GivesPair state old new)) →
+      (r ≡ Ok false → one.EndsPairs state old new) →
+      IfErr r (one.StopsPairs state old new) →
+      IfSome new.current (λ m. (m.forward.encoding ≡ old.source.encoding) × (m.reverse.encoding ≡ old.source.encoding))
+  encoded_in_one old new (Ok true) found end fault =
+      if_some new.current (one.GivesPair state old new) (λ m. (m.forward.encoding ≡ old.source.encoding) × (m.reverse.encoding ≡ old.source.encoding))
+      (λ m given. let two = given.records in (two.forward_encoding, two.reverse_encoding)) (found refl)
+  encoded_in_one old new (Ok false) found end fault = let e = end refl in if_none new.current _ e.current
+  encoded_in_one old new (Err why) found end fault = if_none new.current _ fault.current

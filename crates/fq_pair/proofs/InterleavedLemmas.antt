@@ -1,5 +1,5 @@
 -- Two records of one source, one after the other.
-use Rattle.std.proofs.Common.{◌≡◌, ℕ, suc, ◌+◌, ◌*◌, ◌⊎◌, ⊎_elim, Bool, true, false, IsTrue, Err, List, [], ◌++◌, refl, ap, sym, subst, ◌∙◌, add-one, arith}
+use Rattle.std.proofs.Common.{◌≡◌, ℕ, suc, ◌+◌, ◌*◌, ◌⊎◌, ⊎_elim, Bool, true, false, IsTrue, None, Err, List, [], ◌++◌, refl, ap, sym, subst, ◌∙◌, add-one, arith}
 use Rattle.std.proofs.lemmas.Bool.{cond-true, cond-false}
 use Rattle.std.proofs.lemmas.List.{length-append}
 use Rattle.fq_text.specs.Devices.{FeedState}
@@ -16,7 +16,7 @@ use Rattle.fq_pair.specs.Mates.{Mates, mates_in}
 use Rattle.fq_pair.specs.Pairing.{Pairs, belong, Stopped, Met}
 use Rattle.fq_pair.specs.Interleaved.{interleaved_pairs, meeting_behind, interleaved_meeting}
 use Rattle.fq_pair.specs.PairSources.{is_outside, is_cut, if_endless}
-use Rattle.fq_pair.specs.MixedSources.{front_of, GivesPair, StopsPairs, asked, stopped}
+use Rattle.fq_pair.specs.MixedSources.{front_of, GivesPair, StopsPairs, IsReady, asked, stopped}
 use Rattle.fq_pair.proofs.FrontLemmas.{front_more}
 use Rattle.fq_pair.specs.Walks.{SideState, side_state, Draws, Uses}
 use Rattle.fq_pair.proofs.SideLemmas.{draws_then, uses_then, more_lines, lines_before, lines_left}
@@ -55,21 +55,21 @@ module _ {F : Type 0} (state : F → FeedState) (a b c : Sourced F) (p : KeepsCo
       record { before = t.before ++ u.before; some = omega (arith, length-append t.before u.before); split = both.split; at_line = both.at_line }
 
   -- two records that were given make a pair, where their names allow it
-  pub two_given : (check : Bool) (given : ℕ) (f r : Read) (m : Mates) → m ≡ mates_in f r → GivesRecord state a b f → GivesRecord state b c r → belong check (mates_in f r) ≡ true →
-      GivesPair state (asked a check given) (asked c check (given + 1)) m
-  two_given check given f r m is first second together =
-      let P : Mates → Type 0 = GivesPair state (asked a check given) (asked c check (given + 1)) in
+  pub two_given : (kept now_kept : Read) (check : Bool) (given : ℕ) (before now : Bool) (f r : Read) (m : Mates) → m ≡ mates_in f r → GivesRecord state a b f → GivesRecord state b c r → belong check (mates_in f r) ≡ true →
+      GivesPair state (asked a kept check given before) (asked c now_kept check (given + 1) now) m
+  two_given kept now_kept check given before now f r m is first second together =
+      let P : Mates → Type 0 = GivesPair state (asked a kept check given before) (asked c now_kept check (given + 1) now) in
       let one = first.given in let two = second.given in
       let ls = lines (rest_in state c) in
       let n = suc given in
-      let pair_is : IsTrue (state a.feed).tells → front_of state (asked a check given) ≡ Met (mates_in f r) ls ls = λ told.
+      let pair_is : IsTrue (state a.feed).tells → front_of state (asked a kept check given before) ≡ Met (mates_in f r) ls ls = λ told.
       ap (interleaved_meeting check a.encoding n) (first.record_is told)
       ∙ ap (λ (e : Encoding). meeting_behind check n f (front e (lines (rest_in state b)))) (sym p.encoding)
       ∙ ap (meeting_behind check n f) (second.record_is (p.told ∙ told))
       ∙ cond-true (belong check (mates_in f r)) (Met (mates_in f r) ls ls) (Stopped (NamesDiffer n)) together in
       subst P (sym is) (record {
         pair_is = pair_is;
-        left = λ told. interleaved_left_met state (asked a check given) (asked c check (given + 1)) (mates_in f r) (q.encoding ∙ p.encoding) refl refl (pair_is told);
+        left = λ told. interleaved_left_met state (asked a kept check given before) (asked c now_kept check (given + 1) now) (mates_in f r) (q.encoding ∙ p.encoding) refl refl (pair_is told);
         records = record {
           forward = first.lawful;
           reverse = second.lawful;
@@ -172,56 +172,58 @@ endless_behind P (text.QualityLong n) p = tt
 endless_behind P (text.QualityShort n) p = tt
 endless_behind P (text.TooLong n) p = tt
 
-module _ {F : Type 0} (state : F → FeedState) (a b c : Sourced F) (p : KeepsCount state a b) (q : KeepsCount state b c) (check : Bool) (given : ℕ) (f : Read) (first : GivesRecord state a b f) where
+module _ {F : Type 0} (state : F → FeedState) (a b c : Sourced F) (p : KeepsCount state a b) (q : KeepsCount state b c) (kept : Read) (check : Bool) (given : ℕ) (before : Bool) (f : Read) (first : GivesRecord state a b f) where
   -- a fault behind a forward mate
-  pub second_stops : (why : TextFault) → a.given ≡ 2 * given → StopsText state b c why →
-      StopsPairs state (asked a check given) (stopped c check given (Err (Text Reverse why))) (Text Reverse why)
+  second_stops : (why : TextFault) → a.given ≡ 2 * given → StopsText state b c why →
+      StopsPairs state (asked a kept check given before) (stopped c check given (Err (Text Reverse why))) (Text Reverse why)
   second_stops why records stops =
       let one = first.given in
       let n = suc given in
       let number : b.given + 1 ≡ 2 * n = omega arith in
-      let fault_is : IsTrue (state a.feed).tells → is_outside why ≡ false → front_of state (asked a check given) ≡ Stopped (Text Reverse why) = λ told inside.
+      let fault_is : IsTrue (state a.feed).tells → is_outside why ≡ false → front_of state (asked a kept check given before) ≡ Stopped (Text Reverse why) = λ told inside.
       ap (interleaved_meeting check a.encoding n) (first.record_is told)
       ∙ ap (λ (e : Encoding). meeting_behind check n f (front e (lines (rest_in state b)))) (sym p.encoding)
       ∙ stops_behind check n f (front b.encoding (lines (rest_in state b))) (b.given + 1) why number inside (stops.fault_is (p.told ∙ told)) in
       record {
         fault_is = fault_is;
-        left = λ told inside. interleaved_left_stopped state (asked a check given) (Text Reverse why) (fault_is told inside);
+        left = λ told inside. interleaved_left_stopped state (asked a kept check given before) (Text Reverse why) (fault_is told inside);
         lacks = λ cut told. no_pair state a b c p q told (first.tail told) check given f (first.record_is told) (cut_lacks _ why cut stops.lacks);
         endless = endless_behind _ why stops.endless;
         reading = (stops.last, stops.given ∙ first.given);
         given = refl;
         last = refl;
+        current = refl;
       }
 
   -- where the text ends behind a forward mate the reverse one is missing
   pub mate_missing : EndsText state b c →
-      (let why = MateMissing Reverse (given + 1) in StopsPairs state (asked a check given) (stopped c check given (Err why)) why)
+      (let why = MateMissing Reverse (given + 1) in StopsPairs state (asked a kept check given before) (stopped c check given (Err why)) why)
   mate_missing ends =
       let n = suc given in
-      let fault_is : IsTrue (state a.feed).tells → false ≡ false → front_of state (asked a check given) ≡ Stopped (MateMissing Reverse (given + 1)) = λ told inside.
+      let fault_is : IsTrue (state a.feed).tells → false ≡ false → front_of state (asked a kept check given before) ≡ Stopped (MateMissing Reverse (given + 1)) = λ told inside.
       ap (interleaved_meeting check a.encoding n) (first.record_is told)
       ∙ ap (λ (e : Encoding). meeting_behind check n f (front e (lines (rest_in state b)))) (sym p.encoding)
       ∙ ap (meeting_behind check n f) (ends.end_is (p.told ∙ told))
       ∙ ap (λ k. Stopped (MateMissing Reverse k)) (sym (add-one given)) in
       record {
         fault_is = fault_is;
-        left = λ told inside. interleaved_left_stopped state (asked a check given) (MateMissing Reverse (given + 1)) (fault_is told inside);
+        left = λ told inside. interleaved_left_stopped state (asked a kept check given before) (MateMissing Reverse (given + 1)) (fault_is told inside);
         lacks = λ cut. absurd cc;
         endless = tt;
         reading = tt;
         given = refl;
         last = refl;
+        current = refl;
       }
 
   -- two records that were given make no pair where their names differ
   pub names_differ : (r : Read) (why : InputFault) → why ≡ NamesDiffer (given + 1) → GivesRecord state b c r → belong check (mates_in f r) ≡ false →
-      StopsPairs state (asked a check given) (stopped c check given (Err why)) why
+      StopsPairs state (asked a kept check given before) (stopped c check given (Err why)) why
   names_differ r why is second apart =
       let n = suc given in
-      let P : InputFault → Type 0 = λ y. StopsPairs state (asked a check given) (stopped c check given (Err y)) y in
+      let P : InputFault → Type 0 = λ y. StopsPairs state (asked a kept check given before) (stopped c check given (Err y)) y in
       let ls = lines (rest_in state c) in
-      let fault_is : IsTrue (state a.feed).tells → false ≡ false → front_of state (asked a check given) ≡ Stopped (NamesDiffer (given + 1)) = λ told inside.
+      let fault_is : IsTrue (state a.feed).tells → false ≡ false → front_of state (asked a kept check given before) ≡ Stopped (NamesDiffer (given + 1)) = λ told inside.
       ap (interleaved_meeting check a.encoding n) (first.record_is told)
       ∙ ap (λ (e : Encoding). meeting_behind check n f (front e (lines (rest_in state b)))) (sym p.encoding)
       ∙ ap (meeting_behind check n f) (second.record_is (p.told ∙ told))
@@ -229,10 +231,19 @@ module _ {F : Type 0} (state : F → FeedState) (a b c : Sourced F) (p : KeepsCo
       ∙ ap (λ k. Stopped (NamesDiffer k)) (sym (add-one given)) in
       subst P (sym is) (record {
         fault_is = fault_is;
-        left = λ told inside. interleaved_left_stopped state (asked a check given) (NamesDiffer (given + 1)) (fault_is told inside);
+        left = λ told inside. interleaved_left_stopped state (asked a kept check given before) (NamesDiffer (given + 1)) (fault_is told inside);
         lacks = λ cut. absurd cc;
         endless = tt;
         reading = tt;
         given = refl;
         last = refl;
+        current = refl;
       })
+
+-- a source that was ready gave the forward mate, and failed behind it
+pub second_fails : {F : Type 0} (state : F → FeedState) (a b c : Sourced F) → KeepsCount state a b → KeepsCount state b c → (kept : Read) (check : Bool) (given : ℕ) (before : Bool) (f : Read) →
+    IsReady a given → (a.last ≡ None → GivesRecord state a b f) → (why : TextFault) → (b.last ≡ None → StopsText state b c why) →
+    StopsPairs state (asked a kept check given before) (stopped c check given (Err (Text Reverse why))) (Text Reverse why)
+second_fails state a b c p q kept check given before f ready gives why stops =
+    let first = gives ready.last in
+    second_stops state a b c p q kept check given before f first why ready.records (stops first.last)

@@ -1,11 +1,12 @@
 -- Where the name of a mate ends.
-use Rattle.std.proofs.Common.{◌≡◌, ℕ, ◌+◌, ◌-◌, ◌≤◌, true, false, eqb, nat_eq, Option, Some, None, unwrap_or, MatchOption, List, [], ◌∷◌, length, take, drop, get_or, zero-le, refl, ap, sym, ◌∙◌, arith, ⊎_elim}
+use Rattle.std.proofs.Common.{◌≡◌, ℕ, ◌+◌, ◌-◌, ◌<◌, ◌≤◌, true, false, eqb, nat_eq, Option, Some, None, unwrap_or, MatchOption, List, [], ◌∷◌, length, take, drop, get_or, zero-le, refl, ap, sym, ◌∙◌, arith, inl, inr, ⊎_elim}
 use Rattle.std.specs.Borrow.{Bor}
 use Rattle.std.specs.List.{before_first, position_or_len, ends_with}
 use Rattle.std.specs.Cmp.Lexicographic.{pointwise}
-use Rattle.std.proofs.lemmas.Bool.{cond-true, cond-false, cond_both, cases_Bool, eqb-true, eq-eqb, false_from_ne_true}
-use Rattle.std.proofs.lemmas.List.{length-take}
-use Rattle.std.proofs.lemmas.List.Sums.{position_or_len_is}
+use Rattle.std.proofs.lemmas.Bool.{cond-true, cond-false, cond_both, cases_Bool, cases_lt, eqb-true, eq-eqb, false_from_ne_true}
+use Rattle.std.proofs.lemmas.List.{length-take, get_or-take}
+use Rattle.std.proofs.Math.Seq.{take-length}
+use Rattle.std.proofs.lemmas.List.Sums.{position_or_len_is, fails_before_first}
 use Rattle.memchr.specs.Find.{IsFirstByte, is_byte2}
 use Rattle.fq_pair.specs.declared.side.Side.{Side}
 use Rattle.fq_pair.specs.Mates.{is_gap, mark_of, without_end, name_of}
@@ -22,6 +23,41 @@ word_end title (Some end) is =
 
 pub word_is : (title : List ℕ) (r : Option ℕ) (end : ℕ) → IsFirstByte (is_byte2 32 9) title r → end ≡ unwrap_or r (length title) → take end title ≡ before_first is_gap title
 word_is title r end first is = ap (λ n. take n title) (is ∙ sym (word_end title r first))
+
+-- the first word of a word is all of it
+pub word_of_word : (title : List ℕ) → before_first is_gap (before_first is_gap title) ≡ before_first is_gap title
+word_of_word title =
+    let n = position_or_len is_gap title in
+    let word = take n title in
+    let long = length-take n title in
+    let all : position_or_len is_gap word ≡ length word =
+    position_or_len_is is_gap word (length word) 0 (omega arith)
+    (λ k lt.
+    let within : k < n = omega arith in
+    ap is_gap (get_or-take n title k 0 within) ∙ fails_before_first is_gap title k 0 within)
+    (λ lt. absurd (omega arith)) in
+    ap (λ (m : ℕ). take m word) all ∙ take-length word
+
+-- No byte of a word is a gap.
+no_gap : (word : List ℕ) → before_first is_gap word ≡ word → (k : ℕ) → k < length word → is_gap (get_or word k 0) ≡ false
+no_gap word is k lt =
+    let long = length-take (position_or_len is_gap word) word in
+    let same = ap length is in
+    fails_before_first is_gap word k 0 (omega arith)
+
+-- A title that begins like a word, and goes on like one, begins with a word of its length.
+pub word_beside : (title word : List ℕ) → before_first is_gap word ≡ word → 0 < length word → length word ≤ length title
+    → take (length word - 1) title ≡ take (length word - 1) word → is_gap (get_or title (length word - 1) 0) ≡ false
+    → (length word < length title → is_gap (get_or title (length word) 0) ≡ true)
+    → take (length word) title ≡ before_first is_gap title
+word_beside title word is some within like last end =
+    let n = length word in
+    ap (λ (m : ℕ). take m title) (sym (position_or_len_is is_gap title n 0 within
+    (λ k lt. elim (cases_lt k (n - 1)) [
+      | inl front ↦ ap is_gap (sym (get_or-take (n - 1) title k 0 front) ∙ ap (λ (bytes : List ℕ). get_or bytes k 0) like ∙ get_or-take (n - 1) word k 0 front) ∙ no_gap word is k lt
+      | inr past ↦ ap (λ (j : ℕ). is_gap (get_or title j 0)) (let same : k ≡ n - 1 = omega arith in same) ∙ last
+    ])
+    end))
 
 eqb_sym : (a b : ℕ) → eqb a b ≡ eqb b a
 eqb_sym a b = ⊎_elim

@@ -1,5 +1,6 @@
 -- The pairs that are left to a source of two texts, by what stands in front of them.
-use Rattle.std.proofs.Common.{◌≡◌, ℕ, suc, ◌+◌, Bool, true, IsTrue, Some, None, List, [], refl, ap, sym, subst, ◌∙◌, add-one}
+use Rattle.std.proofs.Common.{◌≡◌, ℕ, suc, ◌+◌, Bool, not, ◌||◌, true, IsTrue, Option, Some, None, MatchOption, List, [], refl, ap, sym, subst, ◌∙◌, add-one}
+use Rattle.std.specs.Option.{IsSome, IsSomeAnd}
 use Rattle.std.proofs.lemmas.Bool.{cond-true}
 use Rattle.fq_text.specs.Devices.{FeedState}
 use Rattle.fq_text.specs.declared.encoding.Encoding.{Encoding}
@@ -8,9 +9,9 @@ use Rattle.fq_text.specs.Grammar.{Read, Front, Found, front}
 use Rattle.fq_text.specs.Sources.{Sourced, rest_in, GivesRecord}
 use Rattle.fq_pair.specs.declared.fault.InputFault.{InputFault}
 use Rattle.fq_pair.specs.declared.fault.InputFault.TheVariants.{NamesDiffer}
-use Rattle.fq_pair.specs.Mates.{Mates, mates_in}
+use Rattle.fq_pair.specs.Mates.{Mates, mates_in, names_match}
 use Rattle.fq_pair.specs.Pairing.{Pairs, Ended, Stopped, Met, belong, meeting, pairs_of, records_of, with_pair}
-use Rattle.fq_pair.specs.PairSources.{PairSourced, front_of, pairs_left, GivesPair, asked}
+use Rattle.fq_pair.specs.PairSources.{PairSourced, front_of, pairs_left, GivesPair, pair_of, asked}
 use Rattle.fq_pair.proofs.PairLaws.{pairs_of-met, pairs_of-stopped, pairs_of-ended}
 
 module _ {F G : Type 0} (state : F → FeedState) (state' : G → FeedState) (old : PairSourced F G) where
@@ -43,24 +44,45 @@ module _ {F G : Type 0} (state : F → FeedState) (state' : G → FeedState) (ol
 
 -- two records that were given make a pair, where their names allow it
 pub two_given : {F G : Type 0} (state : F → FeedState) (state' : G → FeedState) (a b : Sourced F) (a' b' : Sourced G) (check : Bool) (given : ℕ)
-    (f r : Read) (m : Mates) → m ≡ mates_in f r → a.encoding ≡ a'.encoding → b.encoding ≡ a.encoding → GivesRecord state a b f → GivesRecord state' a' b' r →
-    belong check (mates_in f r) ≡ true → GivesPair state state' (asked a a' check given) (asked b b' check (given + 1)) m
-two_given state state' a b a' b' check given f r m is encoding kept first second together =
-    let P : Mates → Type 0 = GivesPair state state' (asked a a' check given) (asked b b' check (given + 1)) in
+    (before now : Bool) (f r : Read) (m : Mates) → m ≡ mates_in f r → a.encoding ≡ a'.encoding → b.encoding ≡ a.encoding → GivesRecord state a b f → GivesRecord state' a' b' r →
+    belong check (mates_in f r) ≡ true → GivesPair state state' (asked a a' check given before) (asked b b' check (given + 1) now) m
+two_given state state' a b a' b' check given before now f r m is encoding kept first second together =
+    let P : Mates → Type 0 = GivesPair state state' (asked a a' check given before) (asked b b' check (given + 1) now) in
     let fs = lines (rest_in state b) in
     let rs = lines (rest_in state' b') in
     let n = suc given in
-    let pair_is : IsTrue (state a.feed).tells → IsTrue (state' a'.feed).tells → front_of state state' (asked a a' check given) ≡ Met (mates_in f r) fs rs = λ told told'.
+    let pair_is : IsTrue (state a.feed).tells → IsTrue (state' a'.feed).tells → front_of state state' (asked a a' check given before) ≡ Met (mates_in f r) fs rs = λ told told'.
     ap (λ (x : Front). meeting check n x (front a.encoding (lines (rest_in state' a')))) (first.record_is told)
     ∙ ap (λ (e : Encoding). meeting check n (Found f fs) (front e (lines (rest_in state' a')))) encoding
     ∙ ap (meeting check n (Found f fs)) (second.record_is told')
     ∙ cond-true (belong check (mates_in f r)) (Met (mates_in f r) fs rs) (Stopped (NamesDiffer n)) together in
     subst P (sym is) (record {
       pair_is = pair_is;
-      left = λ told told'. pairs_left_met state state' (asked a a' check given) (asked b b' check (given + 1)) (mates_in f r) kept refl refl (pair_is told told');
+      left = λ told told'. pairs_left_met state state' (asked a a' check given before) (asked b b' check (given + 1) now) (mates_in f r) kept refl refl (pair_is told told');
       forward = first;
       reverse = second;
       names = together;
       given = refl;
       last = refl;
     })
+
+-- what holds of the record in hand
+pub of_current : (o : Option Read) (x : Read) (P : Read → Type 0) → o ≡ Some x → MatchOption o ⊥ P → P x
+of_current o x P is held = subst (λ p. MatchOption p ⊥ P) is held
+
+-- what holds of two records in hand, as the pair that they are
+pub of_pair : (o p : Option Read) (x y : Read) (P : Mates → Type 0) → o ≡ Some x → p ≡ Some y → P (mates_in x y) → IsSomeAnd (pair_of true o p) P
+of_pair o p x y P first second held =
+    subst (λ q. IsSomeAnd (pair_of true q p) P) (sym first) (subst (λ q. IsSomeAnd (pair_of true (Some x) q) P) (sym second) held)
+
+-- two records in hand that are a pair of which something holds
+pub is_pair : (has_pair : Bool) (o p : Option Read) (P : Mates → Type 0) → has_pair ≡ true → IsSomeAnd (pair_of true o p) P → IsSome (pair_of has_pair o p)
+is_pair has_pair None p P is held = absurd held
+is_pair has_pair (Some f) None P is held = absurd held
+is_pair has_pair (Some f) (Some r) P is held = subst (λ h. IsSome (pair_of h (Some f) (Some r))) (sym is) refl
+
+-- two reads belong together where their titles are found to
+pub of_titles : (check b : Bool) (f r : Read) (title title' : List ℕ) → title ≡ f.title → title' ≡ r.title → b ≡ (not check || names_match title title') →
+    belong check (mates_in f r) ≡ b
+of_titles check b f r title title' first second found =
+    ap (λ t. not check || names_match t r.title) (sym first) ∙ ap (λ t. not check || names_match title t) (sym second) ∙ sym found

@@ -3,7 +3,7 @@ use Rattle.std.specs.Prelude.{◌≡◌, ℕ, ◌+◌, ◌*◌, ◌<◌, ◌≤�
 use Rattle.std.specs.declared.result.Result.TheVariants as res
 use Rattle.fq_text.specs.Devices.{FeedState}
 use Rattle.fq_text.specs.Lines.{lines, whole_part}
-use Rattle.fq_text.specs.Grammar.{IsLawful}
+use Rattle.fq_text.specs.Grammar.{Read, IsLawful}
 use Rattle.fq_text.specs.Sources.{Sourced, rest_in, held, IsTail, KeepsCount, EndsText}
 use Rattle.fq_pair.specs.declared.side.Side.TheVariants.{Forward, Reverse}
 use Rattle.fq_pair.specs.declared.fault.InputFault.{InputFault}
@@ -11,15 +11,16 @@ use Rattle.fq_pair.specs.declared.fault.InputFault.TheVariants.{Text}
 use Rattle.fq_pair.specs.Mates.{Mates}
 use Rattle.fq_pair.specs.Pairing.{Pairs, PairFront, Ended, Stopped, Met, belong, with_pair}
 use Rattle.fq_pair.specs.Interleaved.{interleaved_pairs, interleaved_front}
-use Rattle.fq_pair.specs.PairSources.{is_from_outside, is_cut_short, if_endless, failed_on}
+use Rattle.fq_pair.specs.PairSources.{is_from_outside, is_cut_short, if_endless, failed_on, pair_of}
 
--- A source of pairs: the source of both mates, whether names are checked, how many pairs were given,
--- and once that is a fault or the end, its last answer.
+-- A source of pairs: the source of both mates, whether names are checked, how many pairs were given, once that is a fault or
+-- the end its last answer, and the pair in hand.
 pub record MixedSourced (F : Type 0) : Type 0 where
   pub source : Sourced F
   pub check_names : Bool
   pub given : ℕ
   pub last : Option (Result (Unit {0}) InputFault)
+  pub current : Option Mates
 
 -- what stands next
 abbrev pub front_of : {F : Type 0} → (F → FeedState) → MixedSourced F → PairFront
@@ -62,6 +63,7 @@ pub record EndsPairs {F : Type 0} (state : F → FeedState) (old new : MixedSour
   pub source : EndsText state old.source new.source
   pub given : new.given ≡ old.given
   pub last : new.last ≡ Some (res.Ok tt)
+  pub current : new.current ≡ None
 
 -- the whole lines of the bytes in hand before a call and those that the feed gave in it make no pair
 abbrev pub LacksPair : {F : Type 0} → (F → FeedState) → MixedSourced F → MixedSourced F → Type 0
@@ -84,6 +86,7 @@ pub record StopsPairs {F : Type 0} (state : F → FeedState) (old new : MixedSou
   pub reading : WasReading old.source new.source why
   pub given : new.given ≡ old.given
   pub last : new.last ≡ Some (res.Err why)
+  pub current : new.current ≡ None
 
 -- how often the feed failed in a call
 abbrev pub failed_in : {T : Type 0} → Result T InputFault → ℕ
@@ -94,9 +97,15 @@ pub record IsReady {F : Type 0} (source : Sourced F) (given : ℕ) : Type 0 wher
   pub last : source.last ≡ None
   pub records : source.given ≡ 2 * given
 
--- a source of pairs that may be asked on, and one that may not
-abbrev pub asked : {F : Type 0} → Sourced F → Bool → ℕ → MixedSourced F
-asked source check given = record { source = source; check_names = check; given = given; last = None }
+-- a source of pairs that may be asked on, with the forward mate that was kept, and one that may not
+abbrev pub asked : {F : Type 0} → Sourced F → Read → Bool → ℕ → Bool → MixedSourced F
+asked source forward check given has_pair = record {
+  source = source;
+  check_names = check;
+  given = given;
+  last = None;
+  current = pair_of has_pair (Some forward) source.current;
+}
 
 abbrev pub stopped : {F : Type 0} → Sourced F → Bool → ℕ → Result (Unit {0}) InputFault → MixedSourced F
-stopped source check given last = record { source = source; check_names = check; given = given; last = Some last }
+stopped source check given last = record { source = source; check_names = check; given = given; last = Some last; current = None }

@@ -5,22 +5,24 @@ use Rattle.fq_text.specs.Devices.{FeedState}
 use Rattle.fq_text.specs.declared.fault.TextFault.{TextFault}
 use Rattle.fq_text.specs.declared.fault.TextFault.TheVariants as text
 use Rattle.fq_text.specs.Lines.{lines, whole_part}
+use Rattle.fq_text.specs.Grammar.{Read}
 use Rattle.fq_text.specs.Sources.{Sourced, rest_in, held, KeepsCount, GivesRecord, EndsText}
 use Rattle.fq_pair.specs.declared.side.Side.{Side}
 use Rattle.fq_pair.specs.declared.side.Side.TheVariants.{Forward, Reverse}
 use Rattle.fq_pair.specs.declared.fault.InputFault.{InputFault}
 use Rattle.fq_pair.specs.declared.fault.InputFault.TheVariants.{Text}
-use Rattle.fq_pair.specs.Mates.{Mates}
+use Rattle.fq_pair.specs.Mates.{Mates, mates_in}
 use Rattle.fq_pair.specs.Pairing.{Pairs, PairFront, Ended, Stopped, Met, belong, pair_front, pairs, with_pair}
 
--- A source of pairs: the sources of its mates, whether names are checked, how many pairs were given,
--- and once that is a fault or the end, its last answer.
+-- A source of pairs: the sources of its mates, whether names are checked, how many pairs were given, once that is a fault or
+-- the end its last answer, and the pair in hand.
 pub record PairSourced (F G : Type 0) : Type 0 where
   pub forward : Sourced F
   pub reverse : Sourced G
   pub check_names : Bool
   pub given : ℕ
   pub last : Option (Result (Unit {0}) InputFault)
+  pub current : Option Mates
 
 -- nothing has been read from a source
 pub record IsUnasked {F : Type 0} (s : Sourced F) : Type 0 where
@@ -33,6 +35,11 @@ pub record IsUnasked {F : Type 0} (s : Sourced F) : Type 0 where
 abbrev pub answer_of : Result (Unit {0}) InputFault → Result (Option Mates) InputFault
 answer_of (res.Ok x) = res.Ok None
 answer_of (res.Err fault) = res.Err fault
+
+-- the same, as whether there was a further pair
+abbrev pub more_of : Result (Unit {0}) InputFault → Result Bool InputFault
+more_of (res.Ok x) = res.Ok false
+more_of (res.Err fault) = res.Err fault
 
 -- what stands next
 abbrev pub front_of : {F G : Type 0} → (F → FeedState) → (G → FeedState) → PairSourced F G → PairFront
@@ -71,6 +78,7 @@ pub record EndsPairs {F G : Type 0} (state : F → FeedState) (state' : G → Fe
   pub reverse : EndsText state' old.reverse new.reverse
   pub given : new.given ≡ old.given
   pub last : new.last ≡ Some (res.Ok tt)
+  pub current : new.current ≡ None
 
 -- a fault of a device or of memory, of which the texts say nothing
 abbrev pub is_outside : TextFault → Bool
@@ -125,6 +133,7 @@ pub record StopsPairs {F G : Type 0} (state : F → FeedState) (state' : G → F
   pub reading : WasReading old new why
   pub given : new.given ≡ old.given
   pub last : new.last ≡ Some (res.Err why)
+  pub current : new.current ≡ None
 
 -- how often the feed of a side failed in a call
 abbrev pub failed_on : {T : Type 0} → Side → Result T InputFault → ℕ
@@ -139,12 +148,27 @@ pub record IsReady {F G : Type 0} (forward : Sourced F) (reverse : Sourced G) (g
   pub forward_given : forward.given ≡ given
   pub reverse_given : reverse.given ≡ given
 
+-- the pair of two records in hand, where they are one
+abbrev pub pair_of : Bool → Option Read → Option Read → Option Mates
+pair_of false forward reverse = None
+pair_of true None reverse = None
+pair_of true (Some forward) None = None
+pair_of true (Some forward) (Some reverse) = Some (mates_in forward reverse)
+
 -- a source of pairs that may be asked on, and one that may not
-abbrev pub asked : {F G : Type 0} → Sourced F → Sourced G → Bool → ℕ → PairSourced F G
-asked forward reverse check given = record { forward = forward; reverse = reverse; check_names = check; given = given; last = None }
+abbrev pub asked : {F G : Type 0} → Sourced F → Sourced G → Bool → ℕ → Bool → PairSourced F G
+asked forward reverse check given has_pair = record {
+  forward = forward;
+  reverse = reverse;
+  check_names = check;
+  given = given;
+  last = None;
+  current = pair_of has_pair forward.current reverse.current;
+}
 
 abbrev pub stopped : {F G : Type 0} → Sourced F → Sourced G → Bool → ℕ → Result (Unit {0}) InputFault → PairSourced F G
-stopped forward reverse check given last = record { forward = forward; reverse = reverse; check_names = check; given = given; last = Some last }
+stopped forward reverse check given last =
+    record { forward = forward; reverse = reverse; check_names = check; given = given; last = Some last; current = None }
 
 -- no number of a source passes what its feed may give
 pub record IsBounded {F : Type 0} (s : Sourced F) : Type 0 where

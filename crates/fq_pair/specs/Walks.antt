@@ -1,5 +1,6 @@
 -- Reading pairs, one after the other.
 use Rattle.std.specs.Prelude.{◌≡◌, ℕ, suc, ◌+◌, ◌-◌, ◌*◌, ◌≤◌, ◌⊎◌, Bool, true, false, IsTrue, Option, Some, None, Result, List, [], ◌∷◌, ◌++◌, length, take}
+use Rattle.std.specs.Option.{IsSomeAnd}
 use Rattle.std.specs.declared.result.Result.TheVariants as res
 use Rattle.fq_text.specs.Devices.{FeedState}
 use Rattle.fq_text.specs.declared.encoding.Encoding.{Encoding}
@@ -34,8 +35,8 @@ side_state state s = record {
   max_reads = s.max_reads;
 }
 
--- A source of pairs: its form, its two sides, what it was set to, how many pairs it gave, and whether it goes on. Of an interleaved text
--- both sides are its own.
+-- A source of pairs: its form, its two sides, what it was set to, how many pairs it gave, whether it goes on, and the pair in hand. Of an
+-- interleaved text both sides are its own.
 pub record SourceState : Type 0 where
   pub form : Form
   pub forward : SideState
@@ -45,6 +46,7 @@ pub record SourceState : Type 0 where
   pub most_bytes : ℕ
   pub given : ℕ
   pub last : Option (Result (Unit {0}) InputFault)
+  pub current : Option Mates
 
 abbrev pub source_state : {F G : Type 0} → (F → FeedState) → (G → FeedState) → PairSourced F G → SourceState
 source_state state state' s = record {
@@ -56,6 +58,7 @@ source_state state state' s = record {
   most_bytes = s.forward.max_reads * s.forward.chunk;
   given = s.given;
   last = s.last;
+  current = s.current;
 }
 
 abbrev pub interleaved_state : {F : Type 0} → (F → FeedState) → MixedSourced F → SourceState
@@ -68,6 +71,7 @@ interleaved_state state s = record {
   most_bytes = s.source.max_reads * s.source.chunk;
   given = s.given;
   last = s.last;
+  current = s.current;
 }
 
 -- the bytes that a side still has to read records from
@@ -152,6 +156,13 @@ abbrev pub Asks : SourceState → SourceState → Result (Option Mates) InputFau
 Asks old new (res.Ok (Some m)) = Walks old new (m ∷ [])
 Asks old new (res.Ok None) = MeetsEnd old new
 Asks old new (res.Err why) = MeetsFault old new why
+
+-- What a call answers of a source that goes on, where the pair is left in hand: it is the one that was read. Behind the end and behind a
+-- fault none is.
+abbrev pub Advances : SourceState → SourceState → Result Bool InputFault → Type 0
+Advances old new (res.Ok true) = IsSomeAnd new.current (λ m. Walks old new (m ∷ []))
+Advances old new (res.Ok false) = MeetsEnd old new × (new.current ≡ None)
+Advances old new (res.Err why) = MeetsFault old new why × (new.current ≡ None)
 
 -- a source that goes on, and has not given more records than bytes may come
 pub record GoesOn (s : SourceState) : Type 0 where

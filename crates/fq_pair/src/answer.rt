@@ -1,6 +1,6 @@
 //! What a source of pairs keeps of its answers.
 
-ghost use Rattle.std.specs.Prelude.{◌≡◌, ◌+◌, ◌≤◌, ◌^◌, Some, None, Ok, Err, IfOk, IfErr, IfSome};
+ghost use Rattle.std.specs.Prelude.{◌≡◌, ◌+◌, ◌≤◌, ◌^◌, true, false, Some, None, Ok, Err, IfOk, IfErr, IfSome};
 
 use crate::fault::InputFault;
 use crate::pair::Pair;
@@ -21,6 +21,26 @@ pub(crate) fn keep(
         Ok(Some(_)) => *given += 1,
         Ok(None) => *last = Some(Ok(())),
         Err(fault) => *last = Some(Err(*fault)),
+    }
+    answer
+}
+
+/// Keeps whether there is a further pair, and hands it on: a pair is counted, and the end or a fault is the last answer from then on.
+pub(crate) fn keep_more(
+    answer: Result<bool, InputFault>,
+    given: &mut u64,
+    last: &mut Option<Result<(), InputFault>>,
+) -> Result<bool, InputFault>
+    requires { answer ≡ Ok true → given.old + 1 ≤ 2 ^ 60 }
+    ensures same { result ≡ answer }
+    ensures pair { answer ≡ Ok true → (given.new ≡ given.old + 1) × (last.new ≡ last.old) }
+    ensures end { answer ≡ Ok false → (given.new ≡ given.old) × (last.new ≡ Some (Ok tt)) }
+    ensures fault { IfErr answer (λ why. (given.new ≡ given.old) × (last.new ≡ Some (Err why))) }
+{
+    match &answer {
+        Ok(true) => *given += 1,
+        Ok(false) => *last = Some(Ok(())),
+        Err(why) => *last = Some(Err(*why)),
     }
     answer
 }

@@ -28,6 +28,3 @@ pub use pair_source::PairSource;
 pub use reader::PairReader;
 pub use side::Side;
 pub use texts::Texts;
-
-#[cfg(test)]
-mod tests;

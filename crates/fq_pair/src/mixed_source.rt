@@ -1,16 +1,18 @@
 //! Pairs out of one feed, which is interleaved: mates take turns.
 
-ghost use Rattle.std.specs.Prelude.{◌≡◌, ℕ, ◌+◌, ◌*◌, ◌≤◌, ◌^◌, Some, None, Ok, IfOk, IfErr, IfSome, MatchOption};
+ghost use Rattle.std.specs.Prelude.{◌≡◌, ◌↔◌, ℕ, ◌+◌, ◌*◌, ◌≤◌, ◌^◌, true, false, Some, None, Ok, IfOk, IfErr, IfSome, IsSome, IsTrue, MatchOption};
+ghost use Rattle.std.specs.Option.{IsSomeAnd};
 ghost use Rattle.fq_text.specs.Sources.{KeepsCount};
-ghost use Rattle.fq_pair.specs.PairSources.{IsBounded};
+ghost use Rattle.fq_pair.specs.PairSources.{IsBounded, pair_of};
 ghost use Rattle.fq_pair.specs.MixedSources.{asked, stopped, GivesPair, EndsPairs, StopsPairs, failed_in, IsReady};
 
-use crate::answer::keep;
+use crate::answer::{keep, keep_more};
 use crate::fault::InputFault;
-use crate::pair::Pair;
+use crate::pair::{Pair, PairView, check_mates};
 use crate::side::Side;
-use fq_text::{Feed, Source};
+use fq_text::{FastqRecord, Feed, Source};
 use std::marker::Model;
+use std::mem;
 
 /// The pairs of one interleaved text, one after the other: pair n is record 2n - 1, the forward mate, with record 2n, the
 /// reverse mate. Records and pairs are numbered from 1.
@@ -24,11 +26,15 @@ pub struct MixedSource<F: Feed> {
     given: u64,
     // The end or the fault that was answered.
     last: Option<Result<(), InputFault>>,
+    // The forward mate that was read last. Its memory is used again.
+    forward: FastqRecord,
+    // Whether it makes a pair with the record in hand.
+    has_pair: bool,
 }
 
 impl<F: Feed> Model for MixedSource<F> {
-    ghost use Rattle.std.specs.Prelude.{◌≡◌, ◌*◌, ◌≤◌, ◌^◌, None};
-    ghost use Rattle.fq_pair.specs.PairSources.{IsBounded};
+    ghost use Rattle.std.specs.Prelude.{◌≡◌, ◌*◌, ◌≤◌, ◌^◌, Some, None};
+    ghost use Rattle.fq_pair.specs.PairSources.{IsBounded, pair_of};
     ghost use Rattle.fq_pair.specs.MixedSources.{MixedSourced, IsReady};
 
     ghost Value = { MixedSourced F };
@@ -38,6 +44,7 @@ impl<F: Feed> Model for MixedSource<F> {
       check_names = s.check_names;
       given = s.given;
       last = s.last;
+      current = pair_of s.has_pair (Some s.forward) s.source.current;
     } };
 
     ghost invariant = { λ s. IsBounded s.source
@@ -47,19 +54,72 @@ impl<F: Feed> Model for MixedSource<F> {
 }
 
 impl<F: Feed> MixedSource<F> {
-    ghost use Rattle.fq_pair.specs.PairSources.{IsUnasked, answer_of};
+    ghost use Rattle.fq_pair.specs.Mates.{mates_in};
+    ghost use Rattle.fq_pair.specs.PairSources.{IsUnasked, answer_of, more_of};
     ghost use Rattle.fq_pair.specs.MixedSources.{MixedSourced, KeepsCounts};
 
     /// The pairs of this source, which has not been asked yet.
     pub fn new(source: Source<F>, check_names: bool) -> MixedSource<F>
         requires { IsUnasked source }
-        ensures { result ≡ record { source = source; check_names = check_names; given = 0; last = None } }
+        ensures { result ≡ record { source = source; check_names = check_names; given = 0; last = None; current = None } }
     {
+        let forward = source.empty_record();
         MixedSource {
             source,
             check_names,
             given: 0,
             last: None,
+            forward,
+            has_pair: false,
+        }
+    }
+
+    /// Goes on to the next pair and leaves it in hand, to be lent by [`pair`](MixedSource::pair); `false` at the end of the text. A
+    /// fault, or the end, is the answer from then on, and no pair is in hand.
+    ///
+    /// What is read, and what is answered, is as at [`next`](MixedSource::next). No pair is in hand where a mate is missing, where
+    /// names differ and where the text is at fault.
+    pub fn advance(&mut self) -> Result<bool, InputFault>
+        // A last answer stays, and nothing more is read.
+        ensures again { MatchOption self.old.last (Unit {0}) (λ last. (result ≡ more_of last) × (self.new ≡ self.old)) }
+
+        // Otherwise the answer is what stands in front of the rest, and a pair is in hand.
+        ensures found { self.old.last ≡ None → result ≡ Ok true → IsSomeAnd self.new.current (GivesPair F.state self.old self.new) }
+        ensures in_hand { result ≡ Ok true → IsSome self.new.current }
+        ensures end { self.old.last ≡ None → result ≡ Ok false → EndsPairs F.state self.old self.new }
+        ensures fault { self.old.last ≡ None → IfErr result (StopsPairs F.state self.old self.new) }
+
+        // The feed fails where the answer says so, and what it gives is counted.
+        ensures failures { self.old.last ≡ None → (F.state self.new.source.feed).failures ≡ (F.state self.old.source.feed).failures + failed_in result }
+        ensures count { KeepsCounts F.state self.old self.new }
+        ensures bound { IsBounded self.new.source }
+        ensures pairs_bound { 2 * self.new.given ≤ self.new.source.given }
+    {
+        match self.last {
+            Some(Ok(())) => Ok(false),
+            Some(Err(fault)) => Err(fault),
+            None => {
+                let answer = advance_mates(
+                    &mut self.source,
+                    &mut self.forward,
+                    self.check_names,
+                    self.given,
+                    &mut self.has_pair,
+                );
+                keep_more(answer, &mut self.given, &mut self.last)
+            }
+        }
+    }
+
+    /// The pair in hand, lent: [`advance`](MixedSource::advance) has just answered `true`. A pair that [`next`](MixedSource::next) gave
+    /// is in hand no more.
+    pub fn pair(&self) -> PairView<'_>
+        requires { IsSome self.now.current }
+        ensures { self.now.current ≡ Some (mates_in result.forward result.reverse) }
+    {
+        PairView {
+            forward: self.forward.view(),
+            reverse: self.source.record(),
         }
     }
 
@@ -77,6 +137,7 @@ impl<F: Feed> MixedSource<F> {
         ensures found { self.old.last ≡ None → IfOk result (λ o. IfSome o (GivesPair F.state self.old self.new)) }
         ensures end { self.old.last ≡ None → result ≡ Ok None → EndsPairs F.state self.old self.new }
         ensures fault { self.old.last ≡ None → IfErr result (StopsPairs F.state self.old self.new) }
+        ensures in_hand { self.old.last ≡ None → self.new.current ≡ None }
 
         // The feed fails where the answer says so, and what it gives is counted.
         ensures failures { self.old.last ≡ None → (F.state self.new.source.feed).failures ≡ (F.state self.old.source.feed).failures + failed_in result }
@@ -88,7 +149,13 @@ impl<F: Feed> MixedSource<F> {
             Some(Ok(())) => Ok(None),
             Some(Err(fault)) => Err(fault),
             None => {
-                let answer = read_mates(&mut self.source, self.check_names, self.given);
+                let answer = read_mates(
+                    &mut self.source,
+                    &mut self.forward,
+                    self.check_names,
+                    self.given,
+                    &mut self.has_pair,
+                );
                 keep(answer, &mut self.given, &mut self.last)
             }
         }
@@ -105,32 +172,80 @@ impl<F: Feed> MixedSource<F> {
 // Reads the mates of the next pair, the forward one first.
 fn read_mates<F: Feed>(
     source: &mut Source<F>,
+    forward: &mut FastqRecord,
     check_names: bool,
     given: u64,
+    has_pair: &mut bool,
 ) -> Result<Option<Pair>, InputFault>
     requires ready { IsReady source.old given }
     requires bound { IsBounded source.old }
     requires fits { given ≤ 2 ^ 60 }
     ensures found { IfOk result (λ o. IfSome o
-        (GivesPair F.state (asked source.old check_names given) (asked source.new check_names (given + 1)))) }
+        (GivesPair F.state (asked source.old forward.old check_names given has_pair.old) (asked source.new forward.new check_names (given + 1) false))) }
     ensures end { result ≡ Ok None →
-        EndsPairs F.state (asked source.old check_names given) (stopped source.new check_names given (Ok tt)) }
+        EndsPairs F.state (asked source.old forward.old check_names given has_pair.old) (stopped source.new check_names given (Ok tt)) }
     ensures fault { IfErr result (λ why.
-        StopsPairs F.state (asked source.old check_names given) (stopped source.new check_names given (Err why)) why) }
+        StopsPairs F.state (asked source.old forward.old check_names given has_pair.old) (stopped source.new check_names given (Err why)) why) }
+    ensures in_hand { has_pair.new ≡ false }
     ensures failures { (F.state source.new.feed).failures ≡ (F.state source.old.feed).failures + failed_in result }
     ensures count { KeepsCount F.state source.old source.new }
     ensures bounded { IsBounded source.new }
     ensures pairs_bound { 2 * given ≤ source.new.given }
     ensures few { IfOk result (λ o. IfSome o (λ pair. (given + 1 ≤ 2 ^ 60) × (2 * (given + 1) ≤ source.new.given))) }
 {
+    *has_pair = false;
     let number = given + 1;
-    match source.next() {
+    match source.next_into(forward) {
         Err(fault) => Err(InputFault::Text(Side::Forward, fault)),
-        Ok(None) => Ok(None),
-        Ok(Some(first)) => match source.next() {
+        Ok(false) => Ok(None),
+        Ok(true) => match source.next() {
             Err(fault) => Err(InputFault::Text(Side::Reverse, fault)),
             Ok(None) => Err(InputFault::MateMissing(Side::Reverse, number)),
-            Ok(Some(second)) => Ok(Some(Pair::matched(first, second, check_names, number)?)),
+            Ok(Some(second)) => {
+                let first = mem::replace(forward, source.empty_record());
+                Ok(Some(Pair::matched(first, second, check_names, number)?))
+            }
+        },
+    }
+}
+
+// Goes on to the mates of the next pair: the forward one is copied before the other is read, which is left in hand.
+fn advance_mates<F: Feed>(
+    source: &mut Source<F>,
+    forward: &mut FastqRecord,
+    check_names: bool,
+    given: u64,
+    has_pair: &mut bool,
+) -> Result<bool, InputFault>
+    requires ready { IsReady source.old given }
+    requires bound { IsBounded source.old }
+    requires fits { given ≤ 2 ^ 60 }
+    ensures found { result ≡ Ok true → IsSomeAnd (pair_of true (Some forward.new) source.new.current)
+        (GivesPair F.state (asked source.old forward.old check_names given has_pair.old) (asked source.new forward.new check_names (given + 1) true)) }
+    ensures end { result ≡ Ok false →
+        EndsPairs F.state (asked source.old forward.old check_names given has_pair.old) (stopped source.new check_names given (Ok tt)) }
+    ensures fault { IfErr result (λ why.
+        StopsPairs F.state (asked source.old forward.old check_names given has_pair.old) (stopped source.new check_names given (Err why)) why) }
+    ensures in_hand { IsTrue has_pair.new ↔ result ≡ Ok true }
+    ensures failures { (F.state source.new.feed).failures ≡ (F.state source.old.feed).failures + failed_in result }
+    ensures count { KeepsCount F.state source.old source.new }
+    ensures bounded { IsBounded source.new }
+    ensures pairs_bound { 2 * given ≤ source.new.given }
+    ensures few { result ≡ Ok true → (given + 1 ≤ 2 ^ 60) × (2 * (given + 1) ≤ source.new.given) }
+{
+    *has_pair = false;
+    match source.next_into(forward) {
+        Err(why) => Err(InputFault::Text(Side::Forward, why)),
+        Ok(false) => Ok(false),
+        Ok(true) => match source.advance() {
+            Err(why) => Err(InputFault::Text(Side::Reverse, why)),
+            Ok(false) => Err(InputFault::MateMissing(Side::Reverse, given + 1)),
+            Ok(true) => {
+                let second = source.record();
+                check_mates(check_names, forward.title(), second.title(), given + 1)?;
+                *has_pair = true;
+                Ok(true)
+            }
         },
     }
 }

@@ -1,10 +1,61 @@
 //! The names of mates.
 
-ghost use Rattle.std.specs.Prelude.{◌≡◌, ◌≤◌, length};
-ghost use Rattle.fq_pair.specs.Mates.{mark_of as mark, name_of as name, names_match as same_names};
+ghost use Rattle.std.specs.Prelude.{◌≡◌, ◌-◌, ◌<◌, ◌≤◌, true, false, IsTrue, length, take, get_or};
+ghost use Rattle.std.specs.List.{before_first};
+ghost use Rattle.fq_pair.specs.declared.side.Side.TheVariants.{Forward, Reverse};
+ghost use Rattle.fq_pair.specs.Mates.{is_gap as gap, mark_of as mark, without_end, name_of as name, names_match as same_names};
 
 use crate::side::Side;
 use memchr::memchr2;
+
+// Whether a byte is a blank or a tab.
+fn is_gap(byte: u8) -> bool
+    ensures { result ≡ gap byte }
+{
+    byte == b' ' || byte == b'\t'
+}
+
+// A title up to its first blank or tab.
+fn first_word(title: &[u8]) -> &[u8]
+    ensures { result.now ≡ before_first gap title.now }
+{
+    let end = memchr2(b' ', b'\t', title).unwrap_or(title.len());
+    &title[..end]
+}
+
+// Whether a word stands at the front of a title, but for its last byte, and ends there.
+fn begins_like(title: &[u8], word: &[u8]) -> bool
+    ensures some { IsTrue result → 0 < length word.now }
+    ensures within { IsTrue result → length word.now ≤ length title.now }
+    ensures like { IsTrue result → take (length word.now - 1) title.now ≡ take (length word.now - 1) word.now }
+    ensures last { IsTrue result → gap (get_or title.now (length word.now - 1) 0) ≡ false }
+    ensures end { IsTrue result → length word.now < length title.now → gap (get_or title.now (length word.now) 0) ≡ true }
+{
+    let len = word.len();
+    if len == 0 || len > title.len() || title[..len - 1] != word[..len - 1] {
+        return false;
+    }
+    !is_gap(title[len - 1]) && (len == title.len() || is_gap(title[len]))
+}
+
+// The first word of a title. It is searched for, but where it is like the first word of its mate's title.
+fn word_beside<'a>(title: &'a [u8], mate: &[u8]) -> &'a [u8]
+    requires { before_first gap mate.now ≡ mate.now }
+    ensures { result.now ≡ before_first gap title.now }
+{
+    if begins_like(title, mate) {
+        &title[..mate.len()]
+    } else {
+        first_word(title)
+    }
+}
+
+// A word without the mark of its side.
+fn without_mark(word: &[u8], side: Side) -> &[u8]
+    ensures { result.now ≡ without_end (mark side) word.now }
+{
+    word.strip_suffix(mark_of(side)).unwrap_or(word)
+}
 
 /// The name of a mate, by which the mates of a pair are told: its title up to the first blank or tab, without a final
 /// `/1` on the forward side or `/2` on the reverse side.
@@ -14,9 +65,22 @@ pub fn name_of(title: &[u8], side: Side) -> &[u8]
     ensures name { result.now ≡ name side title.now }
     ensures short { length result.now ≤ length title.now }
 {
-    let end = memchr2(b' ', b'\t', title).unwrap_or(title.len());
-    let word = &title[..end];
-    word.strip_suffix(mark_of(side)).unwrap_or(word)
+    without_mark(first_word(title), side)
+}
+
+/// The names of two mates, by their titles. Where the titles begin alike, one of them alone is searched.
+pub(crate) fn names_of<'a>(forward: &'a [u8], reverse: &'a [u8]) -> (&'a [u8], &'a [u8])
+    ensures forward { result.0.now ≡ name Forward forward.now }
+    ensures reverse { result.1.now ≡ name Reverse reverse.now }
+    ensures short_forward { length result.0.now ≤ length forward.now }
+    ensures short_reverse { length result.1.now ≤ length reverse.now }
+{
+    let word = first_word(forward);
+    let mate = word_beside(reverse, word);
+    (
+        without_mark(word, Side::Forward),
+        without_mark(mate, Side::Reverse),
+    )
 }
 
 fn mark_of(side: Side) -> &'static [u8]
@@ -32,5 +96,6 @@ fn mark_of(side: Side) -> &'static [u8]
 pub fn names_match(forward: &[u8], reverse: &[u8]) -> bool
     ensures { result ≡ same_names forward.now reverse.now }
 {
-    name_of(forward, Side::Forward) == name_of(reverse, Side::Reverse)
+    let (forward_name, reverse_name) = names_of(forward, reverse);
+    forward_name == reverse_name
 }

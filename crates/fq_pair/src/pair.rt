@@ -1,6 +1,7 @@
 //! Two mates.
 
-ghost use Rattle.std.specs.Prelude.{◌≡◌, IfOk, IfErr, is_ok};
+ghost use Rattle.std.specs.Prelude.{◌≡◌, ◌||◌, not, IfOk, IfErr, is_ok};
+ghost use Rattle.fq_pair.specs.Mates.{names_match as same_names};
 
 use crate::fault::InputFault;
 use crate::name::names_match;
@@ -49,9 +50,7 @@ impl Pair {
         ensures err { IfErr result (λ why. why ≡ InputFault.NamesDiffer number) }
         ensures names { is_ok result ≡ belong check_names (mates_in forward reverse) }
     {
-        if check_names && !names_match(forward.title(), reverse.title()) {
-            return Err(InputFault::NamesDiffer(number));
-        }
+        check_mates(check_names, forward.title(), reverse.title(), number)?;
         Ok(Pair::new(forward, reverse))
     }
 
@@ -82,4 +81,21 @@ pub struct PairView<'a> {
     pub forward: ReadView<'a>,
     /// The mate of the reverse input.
     pub reverse: ReadView<'a>,
+}
+
+/// Nothing where two titles, of a forward and of a reverse mate, have one name or names aren't checked; the fault of pair `number`
+/// otherwise.
+pub(crate) fn check_mates(
+    check_names: bool,
+    forward: &[u8],
+    reverse: &[u8],
+    number: u64,
+) -> Result<(), InputFault>
+    ensures err { IfErr result (λ why. why ≡ InputFault.NamesDiffer number) }
+    ensures names { is_ok result ≡ (not check_names || same_names forward.now reverse.now) }
+{
+    if check_names && !names_match(forward, reverse) {
+        return Err(InputFault::NamesDiffer(number));
+    }
+    Ok(())
 }

@@ -1,13 +1,14 @@
 //! Pairs out of two feeds.
 
-ghost use Rattle.std.specs.Prelude.{◌≡◌, ℕ, suc, ◌+◌, ◌*◌, ◌≤◌, ◌^◌, Some, None, Ok, IfOk, IfErr, IfSome, MatchOption};
+ghost use Rattle.std.specs.Prelude.{◌≡◌, ◌↔◌, ℕ, suc, ◌+◌, ◌*◌, ◌≤◌, ◌^◌, true, false, Some, None, Ok, IfOk, IfErr, IfSome, IsSome, IsTrue, MatchOption};
+ghost use Rattle.std.specs.Option.{IsSomeAnd};
 ghost use Rattle.fq_text.specs.Sources.{KeepsCount};
-ghost use Rattle.fq_pair.specs.PairSources.{asked, stopped, GivesPair, EndsPairs, StopsPairs, failed_on, IsBounded, IsReady};
+ghost use Rattle.fq_pair.specs.PairSources.{pair_of, asked, stopped, GivesPair, EndsPairs, StopsPairs, failed_on, IsBounded, IsReady};
 ghost use Rattle.fq_pair.specs.declared.side.Side.TheVariants.{Forward, Reverse};
 
-use crate::answer::keep;
+use crate::answer::{keep, keep_more};
 use crate::fault::InputFault;
-use crate::pair::Pair;
+use crate::pair::{Pair, PairView, check_mates};
 use crate::side::Side;
 use fq_text::{Feed, Source};
 use std::marker::Model;
@@ -24,11 +25,13 @@ pub struct PairSource<F: Feed, G: Feed> {
     given: u64,
     // The end or the fault that was answered.
     last: Option<Result<(), InputFault>>,
+    // Whether the records in hand of both sources are a pair.
+    has_pair: bool,
 }
 
 impl<F: Feed, G: Feed> Model for PairSource<F, G> {
     ghost use Rattle.std.specs.Prelude.{◌≡◌, ◌≤◌, ◌^◌, None};
-    ghost use Rattle.fq_pair.specs.PairSources.{PairSourced, IsBounded, IsReady};
+    ghost use Rattle.fq_pair.specs.PairSources.{PairSourced, pair_of, IsBounded, IsReady};
 
     ghost Value = { PairSourced F G };
 
@@ -38,6 +41,7 @@ impl<F: Feed, G: Feed> Model for PairSource<F, G> {
       check_names = s.check_names;
       given = s.given;
       last = s.last;
+      current = pair_of s.has_pair s.forward.current s.reverse.current;
     } };
 
     ghost invariant = { λ s. (s.forward.encoding ≡ s.reverse.encoding)
@@ -50,14 +54,15 @@ impl<F: Feed, G: Feed> Model for PairSource<F, G> {
 }
 
 impl<F: Feed, G: Feed> PairSource<F, G> {
-    ghost use Rattle.fq_pair.specs.PairSources.{PairSourced, IsUnasked, answer_of, KeepsCounts};
+    ghost use Rattle.fq_pair.specs.Mates.{mates_in};
+    ghost use Rattle.fq_pair.specs.PairSources.{PairSourced, IsUnasked, answer_of, more_of, KeepsCounts};
 
     /// The pairs of these sources, of which neither has been asked yet. Both have one encoding.
     pub fn new(forward: Source<F>, reverse: Source<G>, check_names: bool) -> PairSource<F, G>
         requires forward { IsUnasked forward }
         requires reverse { IsUnasked reverse }
         requires encoding { forward.encoding ≡ reverse.encoding }
-        ensures { result ≡ record { forward = forward; reverse = reverse; check_names = check_names; given = 0; last = None } }
+        ensures { result ≡ record { forward = forward; reverse = reverse; check_names = check_names; given = 0; last = None; current = None } }
     {
         PairSource {
             forward,
@@ -65,6 +70,61 @@ impl<F: Feed, G: Feed> PairSource<F, G> {
             check_names,
             given: 0,
             last: None,
+            has_pair: false,
+        }
+    }
+
+    /// Goes on to the next pair and leaves it in hand, to be lent by [`pair`](PairSource::pair); `false` at the end of both texts. A
+    /// fault, or the end, is the answer from then on, and no pair is in hand.
+    ///
+    /// What is read, in which order, and what is answered, is as at [`next`](PairSource::next). No pair is in hand where a mate is
+    /// missing, where names differ and where a text is at fault.
+    pub fn advance(&mut self) -> Result<bool, InputFault>
+        // A last answer stays, and nothing more is read.
+        ensures again { MatchOption self.old.last (Unit {0}) (λ last. (result ≡ more_of last) × (self.new ≡ self.old)) }
+
+        // Otherwise the answer is what stands in front of the two rests, and a pair is in hand.
+        ensures found { self.old.last ≡ None → result ≡ Ok true → IsSomeAnd self.new.current (GivesPair F.state G.state self.old self.new) }
+        ensures in_hand { result ≡ Ok true → IsSome self.new.current }
+        ensures end { self.old.last ≡ None → result ≡ Ok false → EndsPairs F.state G.state self.old self.new }
+        ensures fault { self.old.last ≡ None → IfErr result (StopsPairs F.state G.state self.old self.new) }
+
+        // Both mates are in the one encoding of the sources.
+        ensures encoding { self.old.forward.encoding ≡ self.old.reverse.encoding }
+
+        // A feed fails where the answer says so, and what the feeds give is counted.
+        ensures forward_failures { self.old.last ≡ None → (F.state self.new.forward.feed).failures ≡ (F.state self.old.forward.feed).failures + failed_on Forward result }
+        ensures reverse_failures { self.old.last ≡ None → (G.state self.new.reverse.feed).failures ≡ (G.state self.old.reverse.feed).failures + failed_on Reverse result }
+        ensures count { KeepsCounts F.state G.state self.old self.new }
+        ensures forward_bound { IsBounded self.new.forward }
+        ensures reverse_bound { IsBounded self.new.reverse }
+        ensures pairs_bound { (self.new.given ≤ self.new.forward.given) × (self.new.given ≤ self.new.reverse.given) }
+    {
+        match self.last {
+            Some(Ok(())) => Ok(false),
+            Some(Err(fault)) => Err(fault),
+            None => {
+                let answer = advance_mates(
+                    &mut self.forward,
+                    &mut self.reverse,
+                    self.check_names,
+                    self.given,
+                    &mut self.has_pair,
+                );
+                keep_more(answer, &mut self.given, &mut self.last)
+            }
+        }
+    }
+
+    /// The pair in hand, lent: [`advance`](PairSource::advance) has just answered `true`. A pair that [`next`](PairSource::next) gave is
+    /// in hand no more.
+    pub fn pair(&self) -> PairView<'_>
+        requires { IsSome self.now.current }
+        ensures { self.now.current ≡ Some (mates_in result.forward result.reverse) }
+    {
+        PairView {
+            forward: self.forward.record(),
+            reverse: self.reverse.record(),
         }
     }
 
@@ -81,6 +141,7 @@ impl<F: Feed, G: Feed> PairSource<F, G> {
         ensures found { self.old.last ≡ None → IfOk result (λ o. IfSome o (GivesPair F.state G.state self.old self.new)) }
         ensures end { self.old.last ≡ None → result ≡ Ok None → EndsPairs F.state G.state self.old self.new }
         ensures fault { self.old.last ≡ None → IfErr result (StopsPairs F.state G.state self.old self.new) }
+        ensures in_hand { self.old.last ≡ None → self.new.current ≡ None }
 
         // A feed fails where the answer says so, and what the feeds give is counted.
         ensures forward_failures { self.old.last ≡ None → (F.state self.new.forward.feed).failures ≡ (F.state self.old.forward.feed).failures + failed_on Forward result }
@@ -99,6 +160,7 @@ impl<F: Feed, G: Feed> PairSource<F, G> {
                     &mut self.reverse,
                     self.check_names,
                     self.given,
+                    &mut self.has_pair,
                 );
                 keep(answer, &mut self.given, &mut self.last)
             }
@@ -125,6 +187,7 @@ fn read_mates<F: Feed, G: Feed>(
     reverse: &mut Source<G>,
     check_names: bool,
     given: u64,
+    has_pair: &mut bool,
 ) -> Result<Option<Pair>, InputFault>
     requires encoding { forward.old.encoding ≡ reverse.old.encoding }
     requires ready { IsReady forward.old reverse.old given }
@@ -132,11 +195,12 @@ fn read_mates<F: Feed, G: Feed>(
     requires reverse_bound { IsBounded reverse.old }
     requires fits { given ≤ 2 ^ 60 }
     ensures found { IfOk result (λ o. IfSome o
-        (GivesPair F.state G.state (asked forward.old reverse.old check_names given) (asked forward.new reverse.new check_names (given + 1)))) }
+        (GivesPair F.state G.state (asked forward.old reverse.old check_names given has_pair.old) (asked forward.new reverse.new check_names (given + 1) false))) }
     ensures end { result ≡ Ok None →
-        EndsPairs F.state G.state (asked forward.old reverse.old check_names given) (stopped forward.new reverse.new check_names given (Ok tt)) }
+        EndsPairs F.state G.state (asked forward.old reverse.old check_names given has_pair.old) (stopped forward.new reverse.new check_names given (Ok tt)) }
     ensures fault { IfErr result (λ why.
-        StopsPairs F.state G.state (asked forward.old reverse.old check_names given) (stopped forward.new reverse.new check_names given (Err why)) why) }
+        StopsPairs F.state G.state (asked forward.old reverse.old check_names given has_pair.old) (stopped forward.new reverse.new check_names given (Err why)) why) }
+    ensures in_hand { has_pair.new ≡ false }
     ensures forward_failures { (F.state forward.new.feed).failures ≡ (F.state forward.old.feed).failures + failed_on Forward result }
     ensures reverse_failures { (G.state reverse.new.feed).failures ≡ (G.state reverse.old.feed).failures + failed_on Reverse result }
     ensures forward_count { KeepsCount F.state forward.old forward.new }
@@ -146,6 +210,7 @@ fn read_mates<F: Feed, G: Feed>(
     ensures pairs_bound { (given ≤ forward.new.given) × (given ≤ reverse.new.given) }
     ensures few { IfOk result (λ o. IfSome o (λ pair. given + 1 ≤ 2 ^ 60)) }
 {
+    *has_pair = false;
     let number = given + 1;
     match forward.next() {
         Err(fault) => Err(InputFault::Text(Side::Forward, fault)),
@@ -158,6 +223,57 @@ fn read_mates<F: Feed, G: Feed>(
             Err(fault) => Err(InputFault::Text(Side::Reverse, fault)),
             Ok(None) => Ok(None),
             Ok(Some(_)) => Err(InputFault::MateMissing(Side::Forward, number)),
+        },
+    }
+}
+
+// Goes on to the mates of the next pair, and leaves both in hand.
+fn advance_mates<F: Feed, G: Feed>(
+    forward: &mut Source<F>,
+    reverse: &mut Source<G>,
+    check_names: bool,
+    given: u64,
+    has_pair: &mut bool,
+) -> Result<bool, InputFault>
+    requires encoding { forward.old.encoding ≡ reverse.old.encoding }
+    requires ready { IsReady forward.old reverse.old given }
+    requires forward_bound { IsBounded forward.old }
+    requires reverse_bound { IsBounded reverse.old }
+    requires fits { given ≤ 2 ^ 60 }
+    ensures found { result ≡ Ok true → IsSomeAnd (pair_of true forward.new.current reverse.new.current)
+        (GivesPair F.state G.state (asked forward.old reverse.old check_names given has_pair.old) (asked forward.new reverse.new check_names (given + 1) true)) }
+    ensures end { result ≡ Ok false →
+        EndsPairs F.state G.state (asked forward.old reverse.old check_names given has_pair.old) (stopped forward.new reverse.new check_names given (Ok tt)) }
+    ensures fault { IfErr result (λ why.
+        StopsPairs F.state G.state (asked forward.old reverse.old check_names given has_pair.old) (stopped forward.new reverse.new check_names given (Err why)) why) }
+    ensures in_hand { IsTrue has_pair.new ↔ result ≡ Ok true }
+    ensures forward_failures { (F.state forward.new.feed).failures ≡ (F.state forward.old.feed).failures + failed_on Forward result }
+    ensures reverse_failures { (G.state reverse.new.feed).failures ≡ (G.state reverse.old.feed).failures + failed_on Reverse result }
+    ensures forward_count { KeepsCount F.state forward.old forward.new }
+    ensures reverse_count { KeepsCount G.state reverse.old reverse.new }
+    ensures forward_bounded { IsBounded forward.new }
+    ensures reverse_bounded { IsBounded reverse.new }
+    ensures pairs_bound { (given ≤ forward.new.given) × (given ≤ reverse.new.given) }
+    ensures few { result ≡ Ok true → given + 1 ≤ 2 ^ 60 }
+{
+    *has_pair = false;
+    match forward.advance() {
+        Err(why) => Err(InputFault::Text(Side::Forward, why)),
+        Ok(true) => match reverse.advance() {
+            Err(why) => Err(InputFault::Text(Side::Reverse, why)),
+            Ok(false) => Err(InputFault::MateMissing(Side::Reverse, given + 1)),
+            Ok(true) => {
+                let first = forward.record();
+                let second = reverse.record();
+                check_mates(check_names, first.title(), second.title(), given + 1)?;
+                *has_pair = true;
+                Ok(true)
+            }
+        },
+        Ok(false) => match reverse.advance() {
+            Err(why) => Err(InputFault::Text(Side::Reverse, why)),
+            Ok(false) => Ok(false),
+            Ok(true) => Err(InputFault::MateMissing(Side::Forward, given + 1)),
         },
     }
 }

@@ -1,12 +1,13 @@
 //! Sources of pairs, whatever they read.
 
-ghost use Rattle.std.specs.Prelude.{◌≡◌, ◌≤◌, None, IfOk, IfSome, MatchOption};
-ghost use Rattle.fq_pair.specs.PairSources.{answer_of};
-ghost use Rattle.fq_pair.specs.Walks.{SourceState, Asks};
+ghost use Rattle.std.specs.Prelude.{◌≡◌, ◌≤◌, true, Some, None, Ok, IfOk, IfSome, IsSome, MatchOption};
+ghost use Rattle.fq_pair.specs.Mates.{mates_in};
+ghost use Rattle.fq_pair.specs.PairSources.{answer_of, more_of};
+ghost use Rattle.fq_pair.specs.Walks.{SourceState, Asks, Advances};
 
 use crate::fault::InputFault;
 use crate::mixed_source::MixedSource;
-use crate::pair::Pair;
+use crate::pair::{Pair, PairView};
 use crate::pair_source::PairSource;
 use fq_text::Feed;
 
@@ -15,13 +16,34 @@ pub trait PairReader {
     /// What contracts see of the source: its form, the bytes in hand and to come of each side, and what was counted so far.
     ghost state: { Self → SourceState };
 
-    /// The next pair, or `None` at the end. A fault, or the end, is the answer from then on.
+    /// Goes on to the next pair and leaves it in hand, to be lent by [`pair_in_hand`](PairReader::pair_in_hand); `false` at the end. A
+    /// fault, or the end, is the answer from then on, and no pair is in hand.
+    fn advance_pair(&mut self) -> Result<bool, InputFault>
+        // A last answer stays, and nothing more is read.
+        ensures again { MatchOption (state self.old).last (Unit {0}) (λ last. (result ≡ more_of last) × (state self.new ≡ state self.old)) }
+
+        // Otherwise the answer is what stands in front of the sides.
+        ensures advances { (state self.old).last ≡ None → Advances (state self.old) (state self.new) result }
+        ensures in_hand { result ≡ Ok true → IsSome (state self.new).current }
+
+        // No more records are given than bytes may come, and both mates are in the source's encoding.
+        ensures within { (state self.new).forward.given ≤ (state self.new).most_bytes }
+        ensures encoding { (state self.old).last ≡ None → IfSome (state self.new).current (λ m.
+            (m.forward.encoding ≡ (state self.old).encoding) × (m.reverse.encoding ≡ (state self.old).encoding)) };
+
+    /// The pair in hand, lent: [`advance_pair`](PairReader::advance_pair) has just answered `true`.
+    fn pair_in_hand(&self) -> PairView<'_>
+        requires { IsSome (state self.now).current }
+        ensures { (state self.now).current ≡ Some (mates_in result.forward result.reverse) };
+
+    /// The next pair, or `None` at the end. A fault, or the end, is the answer from then on. The pair is in hand no more.
     fn next_pair(&mut self) -> Result<Option<Pair>, InputFault>
         // A last answer stays, and nothing more is read.
         ensures again { MatchOption (state self.old).last (Unit {0}) (λ last. (result ≡ answer_of last) × (state self.new ≡ state self.old)) }
 
         // Otherwise the answer is what stands in front of the sides.
         ensures asks { (state self.old).last ≡ None → Asks (state self.old) (state self.new) result }
+        ensures in_hand { (state self.old).last ≡ None → (state self.new).current ≡ None }
 
         // No more records are given than bytes may come, and both mates are in the source's encoding.
         ensures within { (state self.new).forward.given ≤ (state self.new).most_bytes }
@@ -33,6 +55,14 @@ impl<F: Feed, G: Feed> PairReader for PairSource<F, G> {
 
     ghost state = { λ s. source_state F.state G.state s };
 
+    fn advance_pair(&mut self) -> Result<bool, InputFault> {
+        self.advance()
+    }
+
+    fn pair_in_hand(&self) -> PairView<'_> {
+        self.pair()
+    }
+
     fn next_pair(&mut self) -> Result<Option<Pair>, InputFault> {
         self.next()
     }
@@ -42,6 +72,14 @@ impl<F: Feed> PairReader for MixedSource<F> {
     ghost use Rattle.fq_pair.specs.Walks.{interleaved_state};
 
     ghost state = { λ s. interleaved_state F.state s };
+
+    fn advance_pair(&mut self) -> Result<bool, InputFault> {
+        self.advance()
+    }
+
+    fn pair_in_hand(&self) -> PairView<'_> {
+        self.pair()
+    }
 
     fn next_pair(&mut self) -> Result<Option<Pair>, InputFault> {
         self.next()

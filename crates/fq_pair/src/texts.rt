@@ -7,10 +7,9 @@ ghost use Rattle.fq_pair.specs.Outputs.{kept_places, places_of, IsWithin, record
 
 use crate::counts::Counts;
 use crate::log_line::{line_room, put_line};
-use crate::name::name_of;
+use crate::name::names_of;
 use crate::out::Out;
 use crate::pair::PairView;
-use crate::side::Side;
 use fq_text::{OutOfMemory, ReadView, put_record};
 use fq_trim::{Kept, Steps};
 use std::alloc::Global;
@@ -78,8 +77,7 @@ impl Texts {
         ensures ok { OnOk result (self.new ≡ joined self.old (texts_of steps.now (mates_in pair.entry.forward pair.entry.reverse ∷ []))) }
         ensures err { OnErr result (self.new ≡ self.old) }
     {
-        let forward_name = name_of(pair.forward.title(), Side::Forward);
-        let reverse_name = name_of(pair.reverse.title(), Side::Reverse);
+        let (forward_name, reverse_name) = names_of(pair.forward.title(), pair.reverse.title());
         let forward = trimmed(&pair.forward, steps);
         let reverse = trimmed(&pair.reverse, steps);
         let recode = steps.reencodes();

@@ -1,5 +1,5 @@
 -- What the files of the outputs hold where the program ends otherwise than whole.
-use Rattle.std.proofs.Common.{◌≡◌, ◌≢◌, ℕ, IsTrue, Option, Some, None, Result, Ok, Err, List, [], ◌++◌, refl, sym, ap, subst, ◌∙◌, inl, inr, ◌⊎◌}
+use Rattle.std.proofs.Common.{◌≡◌, ◌≢◌, ℕ, IsTrue, Option, Some, None, Result, Ok, Err, List, [], ◌++◌, refl, sym, ap, subst, ◌∙◌, inl, inr, ◌⊎◌, ⊎_elim}
 use Rattle.std.proofs.lemmas.List.{append-nil}
 use Rattle.fq_files.specs.Holding.{Holding, IsUnchanged}
 use Rattle.fq_trim.specs.declared.step.Step.{Step}
@@ -21,7 +21,7 @@ use Rattle.fq_prog.specs.declared.refusal.Refusal.TheVariants as why
 use Rattle.fq_words.specs.Requests.{Asking, encoding_of}
 use Rattle.fq_prog.specs.Judging.{judged, with_steps, with_encoding, settings_of, choices_of}
 use Rattle.fq_prog.specs.Trimming.{TrimsFiles, pairs_of}
-use Rattle.fq_prog.specs.Leaving.{AreUntrimmed, RefusalLeaves, is_early, TrimsFirst, HoldFirstPairs}
+use Rattle.fq_prog.specs.Leaving.{AreUntrimmed, RefusalLeaves, ReportLeft, is_early, TrimsFirst, HoldFirstPairs}
 use Rattle.fq_prog.proofs.MakingLemmas.{stops_untrimmed}
 
 -- what a run promises of every ending, of its outlets
@@ -38,12 +38,13 @@ first_of c run every told = record {
 -- ---- refusals
 
 -- settings that are wrong are told before an output is made
-judged_early : (r : Result Choices BadSetting) (refusal : Refusal) → judged r ≡ Err refusal → IsTrue (is_early refusal)
-judged_early (Ok c) refusal e = absurd cc
-judged_early (Err bad) refusal e = let is : why.Setting bad ≡ refusal = cc in subst (λ (r : Refusal). IsTrue (is_early r)) is refl
+judged_early : (r : Result Choices BadSetting) (report : Option (List ℕ)) (refusal : Refusal) → judged r report ≡ Err refusal → IsTrue (is_early refusal)
+judged_early (Ok c) None refusal e = absurd cc
+judged_early (Ok c) (Some report) refusal e = absurd cc
+judged_early (Err bad) report refusal e = let is : why.Setting bad ≡ refusal = cc in subst (λ (r : Refusal). IsTrue (is_early r)) is refl
 
 steps_early : (a : Asking) (encoding : Encoding) (r : Result (List Step) StepFault) (refusal : Refusal) → with_steps a encoding r ≡ Err refusal → IsTrue (is_early refusal)
-steps_early a encoding (Ok steps) refusal e = judged_early (checked (choices_of a encoding steps)) refusal e
+steps_early a encoding (Ok steps) refusal e = judged_early (checked (choices_of a encoding steps)) a.report refusal e
 steps_early a encoding (Err fault) refusal e = let is : why.Step fault ≡ refusal = cc in subst (λ (r : Refusal). IsTrue (is_early r)) is refl
 
 encoding_early : (a : Asking) (o : Option Encoding) (refusal : Refusal) → with_encoding a o ≡ Err refusal → IsTrue (is_early refusal)
@@ -61,6 +62,8 @@ leaves_unchanged a (why.Setting bad) old new early same = same
 leaves_unchanged a (why.SameName out) old new early same = same
 leaves_unchanged a (why.Source side) old new early same = same
 leaves_unchanged a (why.Target out) old new early same = absurd (cc early)
+leaves_unchanged a why.SameReport old new early same = same
+leaves_unchanged a why.Report old new early same = absurd (cc early)
 leaves_unchanged a why.Memory old new early same = λ out name named. inl (same name)
 
 -- nothing was trimmed where something was refused
@@ -71,10 +74,12 @@ refusal_untrimmed a (why.Setting bad) old new left = λ out name named. inl (lef
 refusal_untrimmed a (why.SameName out) old new left = λ o name named. inl (left name)
 refusal_untrimmed a (why.Source side) old new left = λ out name named. inl (left name)
 refusal_untrimmed a (why.Target out) old new left = stops_untrimmed a out old new left
+refusal_untrimmed a why.SameReport old new left = λ out name named. inl (left name)
+refusal_untrimmed a why.Report old new left = λ out name named. inr (left out name named)
 refusal_untrimmed a why.Memory old new left = left
 
 -- what was left behind calls that changed nothing
-unchanged_or_nothing : (old mid new : Option (List ℕ)) → mid ≡ old → (new ≡ mid) ⊎ (new ≡ Some []) → (new ≡ old) ⊎ (new ≡ Some [])
+pub unchanged_or_nothing : (old mid new : Option (List ℕ)) → mid ≡ old → (new ≡ mid) ⊎ (new ≡ Some []) → (new ≡ old) ⊎ (new ≡ Some [])
 unchanged_or_nothing old mid new same (inl kept) = inl (kept ∙ same)
 unchanged_or_nothing old mid new same (inr nothing) = inr nothing
 
@@ -89,6 +94,8 @@ leaves_since a (why.Target out) old mid new same left = record {
   there = λ name named. unchanged_or_nothing (old name) (mid name) (new name) (same name) (left.there name named);
   behind = λ other name named behind. left.behind other name named behind ∙ same name;
 }
+leaves_since a why.SameReport old mid new same left = λ name. left name ∙ same name
+leaves_since a why.Report old mid new same left = left
 leaves_since a why.Memory old mid new same left = λ out name named. unchanged_or_nothing (old name) (mid name) (new name) (same name) (left out name named)
 
 -- ---- whole runs
@@ -123,3 +130,35 @@ whole_first a old new outcome counts trims =
         outlet_failed = λ out failed. absurd (cc failed);
       };
     }
+
+-- ---- the report
+
+-- a refusal before the report leaves it as it was
+pub report_behind : (refusal : Refusal) (old new : Option (List ℕ)) → new ≡ old → ReportLeft refusal old new
+report_behind why.Encoding old new same = same
+report_behind (why.Step fault) old new same = same
+report_behind (why.Setting bad) old new same = same
+report_behind (why.SameName out) old new same = same
+report_behind (why.Source side) old new same = same
+report_behind (why.Target out) old new same = same
+report_behind why.SameReport old new same = same
+report_behind why.Report old new same = inl same
+report_behind why.Memory old new same = inl same
+
+-- a refusal of the report itself, or want of memory for it
+pub report_refused : (refusal : Refusal) (old new : Option (List ℕ)) → (refusal ≡ why.Report) ⊎ (refusal ≡ why.Memory) → (new ≡ old) ⊎ (new ≡ Some []) → ReportLeft refusal old new
+report_refused refusal old new is left =
+    let P : Refusal → Type 0 = λ r. ReportLeft r old new in
+    ⊎_elim (λ report. subst P (sym report) left) (λ memory. subst P (sym memory) left) is
+
+-- what each refusal leaves of the report
+pub left_or_nothing : (refusal : Refusal) (old new : Option (List ℕ)) → ReportLeft refusal old new → (new ≡ old) ⊎ (new ≡ Some [])
+left_or_nothing why.Encoding old new left = inl left
+left_or_nothing (why.Step fault) old new left = inl left
+left_or_nothing (why.Setting bad) old new left = inl left
+left_or_nothing (why.SameName out) old new left = inl left
+left_or_nothing (why.Source side) old new left = inl left
+left_or_nothing (why.Target out) old new left = inl left
+left_or_nothing why.SameReport old new left = inl left
+left_or_nothing why.Report old new left = left
+left_or_nothing why.Memory old new left = left

@@ -5,3 +5,4 @@ mod MakingLemmas
 mod LeavingLemmas
 mod TextLemmas
 mod ExampleLemmas
+mod ReportingLemmas

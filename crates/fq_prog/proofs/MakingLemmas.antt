@@ -155,3 +155,17 @@ five_held a start files made ForwardUnpaired name named = made.held ForwardUnpai
 five_held a start files made ReversePaired name named = made.held ReversePaired name named (omega arith)
 five_held a start files made ReverseUnpaired name named = made.held ReverseUnpaired name named (omega arith)
 five_held a start files made Log name named = made.held Log name named (omega arith)
+
+pub five_empty : (a : Asking) (start files : Holding) → HasDistinctOutputs a → AreMade a start 5 files → (out : Out) (name : List ℕ) → output_name a out ≡ Some name → files name ≡ Some []
+five_empty a start files distinct made ForwardPaired name named = made.empty distinct ForwardPaired name named (omega arith)
+five_empty a start files distinct made ForwardUnpaired name named = made.empty distinct ForwardUnpaired name named (omega arith)
+five_empty a start files distinct made ReversePaired name named = made.empty distinct ReversePaired name named (omega arith)
+five_empty a start files distinct made ReverseUnpaired name named = made.empty distinct ReverseUnpaired name named (omega arith)
+five_empty a start files distinct made Log name named = made.empty distinct Log name named (omega arith)
+
+-- where the report is not made behind them they stay empty
+pub report_unmade : (a : Asking) (refusal : Refusal) (old new : Holding) → (refusal ≡ why.Report) ⊎ (refusal ≡ why.Memory)
+    → ((out : Out) (name : List ℕ) → output_name a out ≡ Some name → new name ≡ Some []) → RefusalLeaves a refusal old new
+report_unmade a refusal old new is empty =
+    let P : Refusal → Type 0 = λ r. RefusalLeaves a r old new in
+    ⊎_elim (λ report. subst P (sym report) empty) (λ memory. subst P (sym memory) (λ out name named. inr (empty out name named))) is

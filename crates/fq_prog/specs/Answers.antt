@@ -17,8 +17,11 @@ use Rattle.fq_words.specs.Requests.{Asking, input_name}
 use Rattle.fq_prog.specs.Judging.{wrong_with}
 use Rattle.fq_prog.specs.Refusals.{status_of, line_of}
 use Rattle.fq_prog.specs.Faults.{outcome_status, outcome_line}
-use Rattle.fq_prog.specs.Trimming.{HasDistinctOutputs, TrimsFiles}
-use Rattle.fq_prog.specs.Leaving.{RefusalLeaves, HoldFirstPairs, AreLeft}
+use Rattle.fq_prog.specs.Trimming.{HasDistinctFiles, TrimsFiles}
+use Rattle.fq_prog.specs.Leaving.{RefusalLeaves, ReportLeft, HoldFirstPairs, AreLeft}
+use Rattle.fq_prog.specs.Reporting.{HoldsReport, BeginsReport}
+use Rattle.fq_prog.specs.declared.reporting.Reported.{Reported}
+use Rattle.fq_prog.specs.declared.reporting.Reported.TheVariants as report
 
 -- A device in a call: whether it tells its bytes, those that it had taken before the call and has taken after it, and how
 -- often it has failed.
@@ -56,6 +59,9 @@ memory_line = line (codes "out of memory")
 abbrev pub print_line : List ℕ
 print_line = line (codes "cannot print")
 
+abbrev pub report_line : List ℕ
+report_line = line (codes "write failed: report")
+
 -- memory was refused, and standard error took that line
 pub record LacksMemory (err : Device) (status : ℕ) : Type 0 where
   pub status_is : status ≡ 5
@@ -68,32 +74,42 @@ pub record IsRefusal (a : Asking) (tells : Bool) (old new : Holding) (status : �
   pub why : Refusal
   pub status_is : status_of why ≡ status
   pub text_is : line_of a why ≡ text
-  pub left : IsTrue tells → HasDistinctOutputs a → RefusalLeaves a why old new
+  pub left : IsTrue tells → HasDistinctFiles a → RefusalLeaves a why old new
+  pub report_left : IsTrue tells → HasDistinctFiles a → (name : List ℕ) → a.report ≡ Some name → ReportLeft why (old name) (new name)
 
 -- an outcome of the run has this status and this line
 pub record IsEnding (a : Asking) (tells : Bool) (old new : Holding) (status : ℕ) (text : List ℕ) : Type 0 where
   pub outcome : Outcome
   pub status_is : outcome_status outcome ≡ status
   pub text_is : outcome_line outcome ≡ text
-  pub left : IsTrue tells → HasDistinctOutputs a → outcome ≢ Lane → HoldFirstPairs a old new outcome
+  pub left : IsTrue tells → HasDistinctFiles a → outcome ≢ Lane → HoldFirstPairs a old new outcome
+  pub unreported : IsTrue tells → outcome_status outcome ≢ 0 → outcome_status outcome ≢ 3 → (name : List ℕ) → a.report ≡ Some name → new name ≡ Some []
 
 -- all pairs were trimmed, and the summary could not be printed
 pub record IsUnprinted (a : Asking) (tells : Bool) (old new : Holding) (status : ℕ) (text : List ℕ) : Type 0 where
   pub status_is : status ≡ 4
   pub text_is : text ≡ print_line
-  pub left : IsTrue tells → HasDistinctOutputs a → (outcome : Outcome) × (counts : Counts) × (outcome_status outcome ≡ 0) × TrimsFiles a old new outcome counts
+  pub left : IsTrue tells → HasDistinctFiles a → (outcome : Outcome) × (counts : Counts) × (outcome_status outcome ≡ 0) × TrimsFiles a old new outcome counts
+  pub reported : IsTrue tells → (name : List ℕ) → a.report ≡ Some name → HoldsReport a old new name
+
+-- all pairs were trimmed, up to the end or to a fault of the inputs, and the report could not be written
+pub record IsUnreported (a : Asking) (tells : Bool) (old new : Holding) (status : ℕ) (text : List ℕ) : Type 0 where
+  pub status_is : status ≡ 4
+  pub text_is : text ≡ report_line
+  pub left : IsTrue tells → HasDistinctFiles a → (outcome : Outcome) × (counts : Counts) × TrimsFiles a old new outcome counts
+  pub begun : IsTrue tells → (name : List ℕ) → a.report ≡ Some name → BeginsReport a old new name
 
 -- memory was refused for what was to be told
 pub record IsUntold (a : Asking) (tells : Bool) (old new : Holding) (status : ℕ) (text : List ℕ) : Type 0 where
   pub status_is : status ≡ 5
   pub text_is : text ≡ memory_line
-  pub left : IsTrue tells → HasDistinctOutputs a → AreLeft a old new
+  pub left : IsTrue tells → HasDistinctFiles a → AreLeft a old new
 
 -- standard error took the line of one of these, which has this status, and nothing else
 pub record TookLine (a : Asking) (tells : Bool) (old new : Holding) (err : Device) (status : ℕ) : Type 0 where
   pub text : List ℕ
   pub fits : (IsRefusal a tells old new status text ⊎ IsEnding a tells old new status text)
-      ⊎ (IsUnprinted a tells old new status text ⊎ IsUntold a tells old new status text)
+      ⊎ (IsUnprinted a tells old new status text ⊎ (IsUntold a tells old new status text ⊎ IsUnreported a tells old new status text))
   pub took : TookText err text
 
 -- an outcome was told, or that the summary of pairs that were all trimmed was not printed, or memory was refused for either
@@ -103,18 +119,31 @@ Reports outcome err status =
     ⊎ (((outcome_status outcome ≡ 0) × (status ≡ 4) × TookText err print_line)
     ⊎ ((outcome ≢ Lane) × LacksMemory err status))
 
+-- the same of a run with a report, where that was written or none was due; else that it was not written, or that memory was refused for it
+abbrev pub Tells : Outcome → Reported → Device → ℕ → Type 0
+Tells outcome reported err status =
+    (((reported ≡ report.NotDue) ⊎ (reported ≡ report.Written)) × Reports outcome err status)
+    ⊎ (((reported ≡ report.Failed) × (status ≡ 4) × TookText err report_line)
+    ⊎ ((reported ≡ report.OutOfMemory) × LacksMemory err status))
+
 -- a refusal was told, or memory was refused for its line
 abbrev pub Refuses : Asking → Refusal → Device → ℕ → Type 0
 Refuses a why err status = ((status ≡ status_of why) × TookText err (line_of a why)) ⊎ LacksMemory err status
 
+-- the file of the report holds what it held, or nothing, or a first part of the report that is defined
+abbrev pub IsReportLeft : Asking → Holding → Holding → List ℕ → Type 0
+IsReportLeft a old new name = ((new name ≡ old name) ⊎ (new name ≡ Some [])) ⊎ BeginsReport a old new name
+
 -- How pairs that were asked for are answered: trimmed, or refused.
 pub record PairsAnswered (a : Asking) (told : Bool) (old new : Holding) (out err : Device) (status : ℕ) : Type 0 where
-  pub whole : (status ≡ 0) ⊎ (status ≡ 3) → IsTrue told → HasDistinctOutputs a → EndsWhole a old new out err status
+  pub whole : (status ≡ 0) ⊎ (status ≡ 3) → IsTrue told → HasDistinctFiles a → EndsWhole a old new out err status
   pub wrong : (why : Refusal) → wrong_with a ≡ Some why → Refuses a why err status
   pub right : status ≡ 2 → IsSome (wrong_with a)
   pub line : status ≢ 0 → TookLine a told old new err status
   pub known : status ≢ 1
-  pub left : status ≢ 6 → IsTrue told → HasDistinctOutputs a → AreLeft a old new
+  pub left : status ≢ 6 → IsTrue told → HasDistinctFiles a → AreLeft a old new
+  pub reported : (status ≡ 0) ⊎ (status ≡ 3) → IsTrue told → (name : List ℕ) → a.report ≡ Some name → HoldsReport a old new name
+  pub report_left : IsTrue told → HasDistinctFiles a → (name : List ℕ) → a.report ≡ Some name → IsReportLeft a old new name
   pub unopened : IsTrue told → (side : Side) → old (input_name a.inputs side) ≡ None → IsUnchanged old new
 
 -- a call for help or for the version

@@ -1,5 +1,5 @@
 -- What the example prints.
-use Rattle.std.specs.Prelude.{ℕ, ◌^◌, true, List, [], ◌∷◌, ◌++◌, codes}
+use Rattle.std.specs.Prelude.{ℕ, ◌^◌, true, false, List, [], ◌∷◌, ◌++◌, codes}
 use Rattle.fq_text.specs.Written.{line}
 use Rattle.fq_text.specs.declared.encoding.Encoding.TheVariants.{Sanger}
 use Rattle.fq_trim.specs.declared.step.Step.TheVariants.{Leading}
@@ -29,6 +29,7 @@ example_choices = record {
   chunk = 65536;
   max_reads = 2 ^ 40;
   gate_turns = 2 ^ 40;
+  tallied = false;
 }
 
 -- the pairs of the inputs

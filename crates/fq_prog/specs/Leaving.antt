@@ -1,5 +1,5 @@
 -- What the files of the outputs hold where the program ends otherwise than whole.
-use Rattle.std.specs.Prelude.{◌≡◌, ◌<◌, ◌≤◌, ◌⊎◌, ℕ, Bool, true, false, Some, Ok, List, [], ◌++◌}
+use Rattle.std.specs.Prelude.{◌≡◌, ◌<◌, ◌≤◌, ◌⊎◌, ℕ, Bool, true, false, Option, Some, Ok, List, [], ◌++◌}
 use Rattle.fq_files.specs.Holding.{Holding, IsUnchanged}
 use Rattle.fq_pair.specs.declared.out.Out.{Out}
 use Rattle.fq_pair.specs.Mates.{Mates}
@@ -65,15 +65,23 @@ pub record StopsAt (a : Asking) (out : Out) (old new : Holding) : Type 0 where
   pub there : (name : List ℕ) → output_name a out ≡ Some name → (new name ≡ old name) ⊎ (new name ≡ Some [])
   pub behind : (other : Out) (name : List ℕ) → output_name a other ≡ Some name → place out < place other → new name ≡ old name
 
--- what a refusal leaves
+-- what a refusal leaves of the outputs; where the report could not be made, they are empty
 abbrev pub RefusalLeaves : Asking → Refusal → Holding → Holding → Type 0
 RefusalLeaves a (why.Target out) old new = StopsAt a out old new
+RefusalLeaves a why.Report old new = (out : Out) (name : List ℕ) → output_name a out ≡ Some name → new name ≡ Some []
 RefusalLeaves a why.Memory old new = AreUntrimmed a old new
 RefusalLeaves a _ old new = IsUnchanged old new
+
+-- what a refusal leaves of the report: what was there, or nothing where it was the report that was refused, or memory
+abbrev pub ReportLeft : Refusal → Option (List ℕ) → Option (List ℕ) → Type 0
+ReportLeft why.Report old new = (new ≡ old) ⊎ (new ≡ Some [])
+ReportLeft why.Memory old new = (new ≡ old) ⊎ (new ≡ Some [])
+ReportLeft _ old new = new ≡ old
 
 -- a refusal that may come before the first output is made
 abbrev pub is_early : Refusal → Bool
 is_early (why.Target out) = false
+is_early why.Report = false
 is_early _ = true
 
 -- Both.

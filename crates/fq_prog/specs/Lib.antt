@@ -5,4 +5,5 @@ pub mod Leaving
 pub mod Making
 pub mod Answers
 pub mod Faults
+pub mod Reporting
 pub mod Example

@@ -6,7 +6,7 @@ use Rattle.fq_trim.specs.declared.fault.StepFaultKind.TheVariants as step
 use Rattle.fq_run.specs.BadSetting.{BadSetting}
 use Rattle.fq_run.specs.BadSetting.TheVariants as setting
 use Rattle.fq_prog.specs.declared.refusal.Refusal.{Refusal}
-use Rattle.fq_prog.specs.declared.refusal.Refusal.TheVariants.{Encoding, Step, Setting, SameName, Source, Target, Memory}
+use Rattle.fq_prog.specs.declared.refusal.Refusal.TheVariants.{Encoding, Step, Setting, SameName, Source, Target, SameReport, Report, Memory}
 use Rattle.fq_words.specs.Requests.{Asking, input_name, output_name}
 
 -- the exit status
@@ -17,6 +17,8 @@ status_of (Setting bad) = 2
 status_of (SameName out) = 2
 status_of (Source side) = 4
 status_of (Target out) = 4
+status_of SameReport = 2
+status_of Report = 4
 status_of Memory = 5
 
 abbrev pub step_fault_name : StepFaultKind → List ℕ
@@ -43,6 +45,8 @@ words_of a (Setting bad) = codes "bad setting: " ++ setting_name bad
 words_of a (SameName out) = codes "same name: " ++ unwrap_or (output_name a out) []
 words_of a (Source side) = codes "cannot read " ++ input_name a.inputs side
 words_of a (Target out) = codes "cannot write " ++ unwrap_or (output_name a out) []
+words_of a SameReport = codes "same name: " ++ unwrap_or a.report []
+words_of a Report = codes "cannot write " ++ unwrap_or a.report []
 words_of a Memory = codes "out of memory"
 
 abbrev pub line_of : Asking → Refusal → List ℕ

@@ -20,9 +20,18 @@ use Rattle.fq_prog.specs.declared.trimming.Feeds.TheVariants.{Apart, Interleaved
 abbrev pub HasDistinctOutputs : Asking → Type 0
 HasDistinctOutputs a = (one other : Out) (name : List ℕ) → output_name a one ≡ Some name → output_name a other ≡ Some name → one ≡ other
 
+-- no two files that are made have one name
+pub record HasDistinctFiles (a : Asking) : Type 0 where
+  pub outputs : HasDistinctOutputs a
+  pub report : (out : Out) (name : List ℕ) → output_name a out ≡ Some name → a.report ≢ Some name
+
 -- every name that is no output's has what it had
 abbrev pub KeepsRest : Asking → Holding → Holding → Type 0
 KeepsRest a old new = (name : List ℕ) → ((out : Out) → output_name a out ≢ Some name) → new name ≡ old name
+
+-- every name that is neither an output's nor that of the report has what it had
+abbrev pub KeepsUnnamed : Asking → Holding → Holding → Type 0
+KeepsUnnamed a old new = (name : List ℕ) → ((out : Out) → output_name a out ≢ Some name) → a.report ≢ Some name → new name ≡ old name
 
 -- each output has a name that is held
 abbrev pub AreHeld : Asking → Holding → Type 0

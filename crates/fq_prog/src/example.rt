@@ -80,6 +80,7 @@ pub(crate) fn example<R: Threads + Wait + Copy + Send + 'static>(
         (Outcome::Spawn | Outcome::Lane, _) => Err(Unshown::Unrun(Account {
             outcome: ending.outcome,
             counts: ending.counts,
+            tally: ending.tally,
         })),
         // Outlets in memory fail for want of memory alone.
         _ => Err(Unshown::Memory),

@@ -24,7 +24,7 @@ pub(crate) fn settings_of(request: &Request<'_>) -> Result<Settings, Refusal>
         Ok(steps) => steps,
         Err(fault) => return Err(Refusal::Step(fault)),
     };
-    match Settings::new(
+    let settings = match Settings::new(
         encoding,
         steps,
         request.check_names,
@@ -35,7 +35,11 @@ pub(crate) fn settings_of(request: &Request<'_>) -> Result<Settings, Refusal>
         MOST,
         MOST,
     ) {
-        Ok(settings) => Ok(settings),
-        Err(bad) => Err(Refusal::Setting(bad)),
+        Ok(settings) => settings,
+        Err(bad) => return Err(Refusal::Setting(bad)),
+    };
+    match request.report {
+        Some(_) => Ok(settings.with_tally()),
+        None => Ok(settings),
     }
 }

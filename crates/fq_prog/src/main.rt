@@ -12,6 +12,7 @@ mod program;
 mod refusal;
 mod refusal_line;
 mod report;
+mod reporting;
 mod trimming;
 mod unshown;
 

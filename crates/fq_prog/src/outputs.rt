@@ -1,7 +1,7 @@
 //! The files of the outputs: they are made, and then done with.
 
 ghost use Rattle.std.specs.Prelude.{◌≡◌, ◌≢◌, ◌⊎◌, [], suc, IsTrue, IsSome, IfOk, IfErr, OnOk, is_some};
-ghost use Rattle.fq_files.specs.Holding.{Holding};
+ghost use Rattle.fq_files.specs.Holding.{Holding, KeepsNames};
 ghost use Rattle.fq_run.specs.Devices.{OutletStates, outlet_at, outlet_states, place, AreHealthy};
 ghost use Rattle.fq_words.specs.Requests.{asking_of, output_name};
 ghost use Rattle.fq_prog.specs.declared.refusal.Refusal.{Refusal as Refused};
@@ -70,6 +70,7 @@ pub(crate) fn store<T: Files>(request: &Request<'_>, files: &mut T, outlets: Out
     requires { IsTrue (T.tells_bytes files.old) → AreHeld (asking_of request.now) (T.bytes_of files.old) }
     ensures stored { Stored (asking_of request.now) (T.bytes_of files.old) (outlet_states T.Target.state outlets) 5
         (T.tells_bytes files.new) (T.bytes_of files.new) }
+    ensures names { IsTrue (T.tells_bytes files.old) → KeepsNames (T.bytes_of files.old) (T.bytes_of files.new) }
     ensures told { T.tells_bytes files.new ≡ T.tells_bytes files.old }
 {
     let Outlets {
@@ -96,6 +97,7 @@ fn store_one<T: Files>(request: &Request<'_>, files: &mut T, out: Out, outlet: T
     ensures stored { (start : Holding) (states : OutletStates) → outlet_at out states ≡ Some (T.Target.state outlet)
         → Stored (asking_of request.now) start states (place out) (T.tells_bytes files.old) (T.bytes_of files.old)
         → Stored (asking_of request.now) start states (suc (place out)) (T.tells_bytes files.new) (T.bytes_of files.new) }
+    ensures names { IsTrue (T.tells_bytes files.old) → KeepsNames (T.bytes_of files.old) (T.bytes_of files.new) }
     ensures told { T.tells_bytes files.new ≡ T.tells_bytes files.old }
 {
     files.done(request.output_name(out), outlet);

@@ -3,18 +3,21 @@
 ghost use Rattle.std.specs.Prelude.{◌≡◌, ◌≢◌, ◌⊎◌, ◌++◌, Some, None, [], IsSome, IsTrue, map};
 ghost use Rattle.fq_words.specs.Requests.{Asking, asking_of};
 ghost use Rattle.fq_prog.specs.Judging.{wrong_with};
-ghost use Rattle.fq_prog.specs.Trimming.{KeepsRest};
+ghost use Rattle.fq_prog.specs.Trimming.{KeepsUnnamed};
 ghost use Rattle.fq_words.specs.Words.{AskedFor, words_fault};
-ghost use Rattle.fq_prog.specs.Answers.{device_of, TookText, LacksMemory, Refuses, PairsAnswered, AreRefused, IsCall, AreCalls, print_line};
+ghost use Rattle.fq_prog.specs.Answers.{device_of, TookText, TookPart, LacksMemory, Refuses, Tells, PairsAnswered, AreRefused, IsCall, AreCalls, print_line};
 ghost use Rattle.fq_prog.specs.Example.{example_text};
+ghost use Rattle.fq_prog.specs.Faults.{outcome_status, outcome_line};
+ghost use Rattle.fq_pair.specs.Summaries.{summary_of};
 ghost use Rattle.clap.specs.Words.{kind_of};
 ghost use Rattle.clap.specs.declared.error.kind.ErrorKind.TheVariants.{DisplayHelp, DisplayVersion, OutOfMemory};
 
 use crate::example::example;
 use crate::refusal::Refusal;
 use crate::refusal_line::{refusal_line, refusal_status};
-use crate::report::{cannot_print, out_of_memory, report};
-use crate::trimming::trim_files;
+use crate::report::{cannot_print, cannot_report, out_of_memory, report};
+use crate::reporting::Reported;
+use crate::trimming::{Trimmed, trim_files};
 use crate::unshown::Unshown;
 use clap::Error;
 use clap::error::ErrorKind;
@@ -29,7 +32,7 @@ use std::thread::Threads;
 ///
 /// `PE [options] F R FP FU RP RU STEPS..` trims the pairs of the files F and R by these steps. The pairs of which both mates survive go
 /// to FP and RP, and a mate that survives alone goes to FU or RU. Where the run ends whole, at the end of the inputs or at a fault of theirs,
-/// the summary goes to `out`. Each refusal and each fault sends one line to `err`; whether that fails changes nothing.
+/// the summary goes to `out`, and the report to its file, if one is asked for. Each refusal and each fault sends one line to `err`; whether that fails changes nothing.
 ///
 /// `IL [options] I FP FU RP RU STEPS..` does the same with the pairs of one interleaved file I: a forward record, then its
 /// reverse mate, and so on.
@@ -56,8 +59,8 @@ pub fn program<'a, R: Threads + Wait + Copy + Send + 'static, T: Files, O: Outle
         → PairsAnswered a (T.tells_bytes files.old) (T.bytes_of files.old) (T.bytes_of files.new) (device_of O.state out.old out.new) (device_of E.state err.old err.new) result }
     ensures wrong { (a : Asking) → AskedFor (map (λ word. word.now) words.entry.now) (Some a) → IsSome (wrong_with a) → files.new ≡ files.old }
 
-    // No file is touched but those of the outputs.
-    ensures rest { (a : Asking) → AskedFor (map (λ word. word.now) words.entry.now) (Some a) → IsTrue (T.tells_bytes files.old) → KeepsRest a (T.bytes_of files.old) (T.bytes_of files.new) }
+    // No file is touched but those of the outputs and of the report.
+    ensures rest { (a : Asking) → AskedFor (map (λ word. word.now) words.entry.now) (Some a) → IsTrue (T.tells_bytes files.old) → KeepsUnnamed a (T.bytes_of files.old) (T.bytes_of files.new) }
 
     // Other words touch no file. `EXAMPLE` is printed, but where `out`, memory or a thread fails; words that don't parse are refused, but
     // calls for help or for the version are not.
@@ -95,15 +98,37 @@ fn trim_pairs<R: Threads + Wait + Copy + Send + 'static, T: Files, O: Outlet, E:
     requires err { (E.state err.old).failures ≡ 0 }
     ensures pairs { PairsAnswered (asking_of request.now) (T.tells_bytes files.old) (T.bytes_of files.old) (T.bytes_of files.new) (device_of O.state out.old out.new) (device_of E.state err.old err.new) result }
     ensures wrong { IsSome (wrong_with (asking_of request.now)) → files.new ≡ files.old }
-    ensures rest { IsTrue (T.tells_bytes files.old) → KeepsRest (asking_of request.now) (T.bytes_of files.old) (T.bytes_of files.new) }
+    ensures rest { IsTrue (T.tells_bytes files.old) → KeepsUnnamed (asking_of request.now) (T.bytes_of files.old) (T.bytes_of files.new) }
     ensures finished { result ≡ 0 → ((O.state out.new).failures ≡ 0) × (err.new ≡ err.old) }
     ensures quiet { result ≢ 0 → result ≢ 3 → (O.state out.new).failures ≡ 0 → out.new ≡ out.old }
     ensures failed { (O.state out.new).failures ≢ 0 → (result ≡ 3) ⊎ ((result ≡ 4) × TookText (device_of E.state err.old err.new) print_line) }
     ensures memory { result ≡ 5 → (out.new ≡ out.old) × LacksMemory (device_of E.state err.old err.new) result }
 {
     match trim_files(alloc, rt, request, files) {
-        Ok(account) => report(alloc, &account, out, err),
+        Ok(trimmed) => tell(alloc, &trimmed, out, err),
         Err(refusal) => refuse(alloc, request, refusal, err),
+    }
+}
+
+// Says how a run ended, or that its report was not written, and answers the exit status.
+fn tell<O: Outlet, E: Outlet>(alloc: Global, trimmed: &Trimmed, out: &mut O, err: &mut E) -> u8
+    requires out { (O.state out.old).failures ≡ 0 }
+    requires err { (E.state err.old).failures ≡ 0 }
+    ensures whole { (result ≡ 0) ⊎ (result ≡ 3) → outcome_status trimmed.now.account.outcome ≡ result }
+    ensures reported { (result ≡ 0) ⊎ (result ≡ 3) → (trimmed.now.reported ≡ Reported.NotDue) ⊎ (trimmed.now.reported ≡ Reported.Written) }
+    ensures printed { (result ≡ 0) ⊎ (result ≡ 3) → TookPart (device_of O.state out.old out.new) (summary_of trimmed.now.account.counts) }
+    ensures finished { result ≡ 0 → ((O.state out.new).failures ≡ 0) × (err.new ≡ err.old) }
+    ensures told { (result ≡ 0) ⊎ (result ≡ 3) → TookText (device_of E.state err.old err.new) (outcome_line trimmed.now.account.outcome) }
+    ensures line { result ≢ 0 → Tells trimmed.now.account.outcome trimmed.now.reported (device_of E.state err.old err.new) result }
+    ensures memory { result ≡ 5 → (out.new ≡ out.old) × LacksMemory (device_of E.state err.old err.new) result }
+    ensures quiet { result ≢ 0 → result ≢ 3 → (O.state out.new).failures ≡ 0 → out.new ≡ out.old }
+    ensures failed { (O.state out.new).failures ≢ 0 → (result ≡ 3) ⊎ ((result ≡ 4) × TookText (device_of E.state err.old err.new) print_line) }
+    ensures known { (result ≢ 1) × (result ≢ 2) }
+{
+    match trimmed.reported {
+        Reported::NotDue | Reported::Written => report(alloc, &trimmed.account, out, err),
+        Reported::Failed => cannot_report(err),
+        Reported::OutOfMemory => out_of_memory(err),
     }
 }
 

@@ -24,6 +24,10 @@ pub(crate) enum Refusal {
     Source(Side),
     /// This output can't be written.
     Target(Out),
+    /// The report has the name of an input.
+    SameReport,
+    /// The report can't be written.
+    Report,
     /// Memory was refused.
     Memory,
 }

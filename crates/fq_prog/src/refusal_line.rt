@@ -1,6 +1,6 @@
 //! What the program says where it refuses.
 
-ghost use Rattle.std.specs.Prelude.{◌≡◌, ◌++◌, IfOk, codes, decimal};
+ghost use Rattle.std.specs.Prelude.{◌≡◌, ◌++◌, [], IfOk, codes, decimal, unwrap_or};
 ghost use Rattle.fq_text.specs.Written.{line};
 ghost use Rattle.std.specs.String.{string_bytes};
 ghost use Rattle.fq_words.specs.Requests.{asking_of};
@@ -19,7 +19,8 @@ pub(crate) fn refusal_status(refusal: Refusal) -> u8
 {
     match refusal {
         Refusal::Encoding | Refusal::Step(_) | Refusal::Setting(_) | Refusal::SameName(_) => 2,
-        Refusal::Source(_) | Refusal::Target(_) => 4,
+        Refusal::SameReport => 2,
+        Refusal::Source(_) | Refusal::Target(_) | Refusal::Report => 4,
         Refusal::Memory => 5,
     }
 }
@@ -42,20 +43,40 @@ pub(crate) fn refusal_line(
             let name = setting_name(bad);
             format!(in alloc; "bad setting: {name}\n")
         }
-        Refusal::SameName(out) => {
-            let name = request.output_name(out);
-            format!(in alloc; "same name: {name}\n")
-        }
+        Refusal::SameName(out) => same_name_line(alloc, request.output_name(out)),
         Refusal::Source(side) => {
             let name = request.input_name(side);
             format!(in alloc; "cannot read {name}\n")
         }
-        Refusal::Target(out) => {
-            let name = request.output_name(out);
-            format!(in alloc; "cannot write {name}\n")
-        }
+        Refusal::Target(out) => unwritten_line(alloc, request.output_name(out)),
+        Refusal::SameReport => same_name_line(alloc, report_name(request)),
+        Refusal::Report => unwritten_line(alloc, report_name(request)),
         Refusal::Memory => String::from_str(alloc, "out of memory\n"),
     }
+}
+
+// The name of the report, or nothing where none is wanted.
+fn report_name<'a>(request: &Request<'a>) -> &'a str
+    ensures { result.now ≡ unwrap_or (asking_of request.now).report [] }
+{
+    match request.report {
+        Some(name) => name,
+        None => "",
+    }
+}
+
+// The line of a name that is that of an input.
+fn same_name_line(alloc: Global, name: &str) -> Result<String, OutOfMemory>
+    ensures { IfOk result (λ text. string_bytes text ≡ line (codes "same name: " ++ name.now)) }
+{
+    format!(in alloc; "same name: {name}\n")
+}
+
+// The line of a file that can't be made.
+fn unwritten_line(alloc: Global, name: &str) -> Result<String, OutOfMemory>
+    ensures { IfOk result (λ text. string_bytes text ≡ line (codes "cannot write " ++ name.now)) }
+{
+    format!(in alloc; "cannot write {name}\n")
 }
 
 // The line of a fault in the words of the steps.

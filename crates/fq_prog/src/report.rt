@@ -2,7 +2,7 @@
 
 ghost use Rattle.std.specs.Prelude.{◌≡◌, ◌≢◌, ◌⊎◌, true, false, IfOk, OnErr};
 ghost use Rattle.fq_pair.specs.Summaries.{summary_of};
-ghost use Rattle.fq_prog.specs.Answers.{device_of, TookText, TookPart, Reports, LacksMemory, memory_line, print_line};
+ghost use Rattle.fq_prog.specs.Answers.{device_of, TookText, TookPart, Reports, LacksMemory, memory_line, print_line, report_line};
 ghost use Rattle.fq_prog.specs.Faults.{outcome_status, outcome_line};
 
 use crate::fault_line::{fault_line, status_of};
@@ -99,5 +99,15 @@ pub(crate) fn cannot_print<E: Outlet>(err: &mut E) -> u8
     ensures told { TookText (device_of E.state err.old err.new) print_line }
 {
     let _ = send(err, b"cannot print\n");
+    4
+}
+
+/// The report was not written: says so on `err`, and answers the exit status.
+pub(crate) fn cannot_report<E: Outlet>(err: &mut E) -> u8
+    requires { (E.state err.old).failures ≡ 0 }
+    ensures status { result ≡ 4 }
+    ensures told { TookText (device_of E.state err.old err.new) report_line }
+{
+    let _ = send(err, b"write failed: report\n");
     4
 }

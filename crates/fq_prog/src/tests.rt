@@ -1,5 +1,6 @@
 mod devices;
 mod lines;
+mod reports;
 mod rows;
 mod words;
 
@@ -7,54 +8,18 @@ ghost use Rattle.std.specs.Prelude.{◌≡◌};
 
 use crate::program::program;
 use fq_files::{Files, MemoryFiles};
+use fq_samples::*;
 use fq_text::{OutOfMemory, ScriptOutlet};
 use std::alloc::Global;
 use std::sync::Wait;
 use std::test::Fail;
 use std::thread::Threads;
 
-const FORWARD: &[u8] = b"@p1/1\nACGT\n+\n#!II\n@p2/1\nGGCC\n+\nIIII\n";
-
-const REVERSE: &[u8] = b"@p1/2\nTTTT\n+\nIIII\n@p2/2\nAAAA\n+\n!!!\"\n";
-
-// The two pairs, interleaved.
-const INTERLEAVED: &[u8] =
-    b"@p1/1\nACGT\n+\n#!II\n@p1/2\nTTTT\n+\nIIII\n@p2/1\nGGCC\n+\nIIII\n@p2/2\nAAAA\n+\n!!!\"\n";
-
-// What becomes of the two pairs under LEADING:3.
-const TWO_TRIMMED: &[(&'static str, &'static [u8])] = &[
-    ("fp", b"@p1/1\nGT\n+\nII\n"),
-    ("fu", b"@p2/1\nGGCC\n+\nIIII\n"),
-    ("rp", b"@p1/2\nTTTT\n+\nIIII\n"),
-    ("ru", b""),
-    ("log", b"p1 2 2 4 0\np1 4 0 4 0\np2 4 0 4 0\np2 0 0 0 0\n"),
-];
-
 const TWO_COUNTED: &[u8] =
     b"Input Read Pairs: 2\nBoth Surviving: 1\nForward Only Surviving: 1\nReverse Only Surviving: 0\nDropped: 0\n";
 
-// Seven pairs.
-const SEVEN_FORWARD: &[u8] =
-    b"@n1/1\nACGT\n+\nIIII\n@n2/1\nACGT\n+\n##II\n@n3/1\nACGT\n+\nIIII\n@n4/1\nACGT\n+\n##II\n@n5/1\nACGT\n+\nIIII\n@n6/1\nACGT\n+\n##II\n@n7/1\nACGT\n+\nIIII\n";
-
-const SEVEN_REVERSE: &[u8] =
-    b"@n1/2\nTTTT\n+\nII##\n@n2/2\nTTTT\n+\nII##\n@n3/2\nTTTT\n+\n!!!!\n@n4/2\nTTTT\n+\nII##\n@n5/2\nTTTT\n+\nII##\n@n6/2\nTTTT\n+\n!!!!\n@n7/2\nTTTT\n+\nII##\n";
-
-// The forward reads of six of them, and the reverse reads of five.
-const SIX_FORWARD: &[u8] =
-    b"@n1/1\nACGT\n+\nIIII\n@n2/1\nACGT\n+\n##II\n@n3/1\nACGT\n+\nIIII\n@n4/1\nACGT\n+\n##II\n@n5/1\nACGT\n+\nIIII\n@n6/1\nACGT\n+\n##II\n";
-
-const FIVE_REVERSE: &[u8] =
-    b"@n1/2\nTTTT\n+\nII##\n@n2/2\nTTTT\n+\nII##\n@n3/2\nTTTT\n+\n!!!!\n@n4/2\nTTTT\n+\nII##\n@n5/2\nTTTT\n+\nII##\n";
-
-// The same, interleaved.
-const ELEVEN_INTERLEAVED: &[u8] =
-    b"@n1/1\nACGT\n+\nIIII\n@n1/2\nTTTT\n+\nII##\n@n2/1\nACGT\n+\n##II\n@n2/2\nTTTT\n+\nII##\n@n3/1\nACGT\n+\nIIII\n@n3/2\nTTTT\n+\n!!!!\n@n4/1\nACGT\n+\n##II\n@n4/2\nTTTT\n+\nII##\n@n5/1\nACGT\n+\nIIII\n@n5/2\nTTTT\n+\nII##\n@n6/1\nACGT\n+\n##II\n";
-
 // The first of the two forward reads, without the end of its quality.
 const FORWARD_SHORT: &[u8] = b"@p1/1\nACGT\n+\n#!I";
-
-const SEVEN_STEPS: &[&'static str] = &["LEADING:3", "TRAILING:3", "MINLEN:2"];
 
 // The options with which the two pairs are trimmed.
 const TWO_OPTIONS: &[&'static str] = &["--threads", "2", "--block", "1", "--trimlog", "log"];

@@ -1,24 +1,29 @@
 //! Trimming the pairs of files into others.
 
-ghost use Rattle.std.specs.Prelude.{◌≡◌, ◌≢◌, Some, None, Err, IsTrue, IfOk, IfErr};
+ghost use Rattle.std.specs.Prelude.{◌≡◌, ◌≢◌, ◌⊎◌, ℕ, List, false, Some, None, Err, IsTrue, IsSome, IfOk, IfErr};
 ghost use Rattle.fq_run.specs.Devices.{outlet_states, AreHealthy};
 ghost use Rattle.fq_run.specs.Endings.{ends_whole};
 ghost use Rattle.fq_prog.specs.declared.refusal.Refusal.{Refusal as Refused};
 ghost use Rattle.fq_prog.specs.Refusals.{status_of};
 ghost use Rattle.fq_words.specs.Requests.{asking_of, input_name};
 ghost use Rattle.fq_prog.specs.Judging.{wrong_with};
-ghost use Rattle.fq_prog.specs.Trimming.{HasDistinctOutputs, KeepsRest, IsFed, opened_of, AreFresh, AreFed, pairs_of, TrimsPairs, TrimsFiles};
-ghost use Rattle.fq_prog.specs.Leaving.{TrimsFirst, HoldFirstPairs, RefusalLeaves, is_early};
+ghost use Rattle.fq_prog.specs.Trimming.{HasDistinctFiles, KeepsUnnamed, IsFed, opened_of, AreFresh, AreFed, pairs_of, TrimsPairs, TrimsFiles};
+ghost use Rattle.fq_prog.specs.Leaving.{TrimsFirst, HoldFirstPairs, RefusalLeaves, ReportLeft, is_early};
 ghost use Rattle.fq_files.specs.Holding.{IsUnchanged};
+ghost use Rattle.fq_work.specs.Replies.{tally_if};
+ghost use Rattle.fq_prog.specs.Faults.{outcome_status};
+ghost use Rattle.fq_prog.specs.Reporting.{ReportHeld};
 
 use crate::judging::settings_of;
 use crate::outputs::{outputs, store};
 use crate::refusal::{Refusal, file_refused};
+use crate::reporting::{Reported, report_target, store_report};
 use fq_files::Files;
 use fq_pair::{Counts, Out, Side};
 use fq_run::{Outcome, Outlets, Settings, run_threads, run_threads_mixed};
+use fq_tally::Tally;
 use fq_text::{Feed, Outlet};
-use fq_words::{Inputs, Request, same_name};
+use fq_words::{Inputs, Request, report_is_input, same_name};
 use fq_work::OpenGate;
 use std::alloc::Global;
 use std::sync::{Arc, Wait};
@@ -31,6 +36,17 @@ pub(crate) struct Account {
     pub(crate) outcome: Outcome,
     /// The counts of the pairs whose block was written whole.
     pub(crate) counts: Counts,
+    /// The tally of these pairs, where one was asked for.
+    pub(crate) tally: Option<Tally>,
+}
+
+/// A run, and what became of its report.
+#[derive(Drop)]
+pub(crate) struct Trimmed {
+    /// The run.
+    pub(crate) account: Account,
+    /// Its report.
+    pub(crate) reported: Reported,
 }
 
 // The inputs, opened.
@@ -44,27 +60,36 @@ enum Feeds<F> {
 
 /// Trims the pairs of the inputs into the outputs. What is wrong with the request is found before a file is opened, the inputs
 /// are opened before an output is made, an output that is an input under another name is refused before one is made, and each
-/// output is done with, however the run ended.
+/// output is done with, however the run ended. The report is made last of all, and written behind all others.
 pub(crate) fn trim_files<R: Threads + Wait + Copy + Send + 'static, T: Files>(
     alloc: Global,
     rt: &R,
     request: &Request<'_>,
     files: &mut T,
-) -> Result<Account, Refusal>
-    ensures trims { IfOk result (λ account. IsTrue (T.tells_bytes files.old) → HasDistinctOutputs (asking_of request.now) → IsTrue (ends_whole account.outcome)
-        → TrimsFiles (asking_of request.now) (T.bytes_of files.old) (T.bytes_of files.new) account.outcome account.counts) }
+) -> Result<Trimmed, Refusal>
+    ensures trims { IfOk result (λ trimmed. IsTrue (T.tells_bytes files.old) → HasDistinctFiles (asking_of request.now) → IsTrue (ends_whole trimmed.account.outcome)
+        → TrimsFiles (asking_of request.now) (T.bytes_of files.old) (T.bytes_of files.new) trimmed.account.outcome trimmed.account.counts) }
 
-    ensures rest { IsTrue (T.tells_bytes files.old) → KeepsRest (asking_of request.now) (T.bytes_of files.old) (T.bytes_of files.new) }
+    ensures rest { IsTrue (T.tells_bytes files.old) → KeepsUnnamed (asking_of request.now) (T.bytes_of files.old) (T.bytes_of files.new) }
+
+    // The report is that of the pairs of the inputs, where the run ended whole; at other endings its file is empty.
+    ensures due { IfOk result (λ trimmed. trimmed.reported ≢ Reported.NotDue → (outcome_status trimmed.account.outcome ≡ 0) ⊎ (outcome_status trimmed.account.outcome ≡ 3)) }
+    ensures not_due { IfOk result (λ trimmed. trimmed.reported ≡ Reported.NotDue → IsSome (asking_of request.now).report
+        → (outcome_status trimmed.account.outcome ≢ 0) × (outcome_status trimmed.account.outcome ≢ 3)) }
+    ensures report { IfOk result (λ trimmed. IsTrue (T.tells_bytes files.old) → (name : List ℕ) → (asking_of request.now).report ≡ Some name
+        → ReportHeld trimmed.reported (asking_of request.now) (T.bytes_of files.old) (T.bytes_of files.new) name) }
 
     // What is wrong with the request comes first, and then no file is opened.
     ensures wrong { (why : Refused) → wrong_with (asking_of request.now) ≡ Some why → (result ≡ Err why) × (files.new ≡ files.old) }
     ensures right { wrong_with (asking_of request.now) ≡ None → IfErr result (λ why. status_of why ≢ 2) }
 
     // What the files of the outputs hold at every ending but that of an unconfirmed lane, and where the run was refused.
-    ensures ended { IfOk result (λ account. IsTrue (T.tells_bytes files.old) → HasDistinctOutputs (asking_of request.now) → account.outcome ≢ Outcome.Lane
-        → HoldFirstPairs (asking_of request.now) (T.bytes_of files.old) (T.bytes_of files.new) account.outcome) }
-    ensures refused { IfErr result (λ why. IsTrue (T.tells_bytes files.old) → HasDistinctOutputs (asking_of request.now)
+    ensures ended { IfOk result (λ trimmed. IsTrue (T.tells_bytes files.old) → HasDistinctFiles (asking_of request.now) → trimmed.account.outcome ≢ Outcome.Lane
+        → HoldFirstPairs (asking_of request.now) (T.bytes_of files.old) (T.bytes_of files.new) trimmed.account.outcome) }
+    ensures refused { IfErr result (λ why. IsTrue (T.tells_bytes files.old) → HasDistinctFiles (asking_of request.now)
         → RefusalLeaves (asking_of request.now) why (T.bytes_of files.old) (T.bytes_of files.new)) }
+    ensures report_left { IfErr result (λ why. IsTrue (T.tells_bytes files.old) → HasDistinctFiles (asking_of request.now)
+        → (name : List ℕ) → (asking_of request.now).report ≡ Some name → ReportLeft why (T.bytes_of files.old name) (T.bytes_of files.new name)) }
     // No output is made where an input is not there.
     ensures unopened { IsTrue (T.tells_bytes files.old) → (side : Side) → T.bytes_of files.old (input_name (asking_of request.now).inputs side) ≡ None
         → IsUnchanged (T.bytes_of files.old) (T.bytes_of files.new) }
@@ -73,6 +98,9 @@ pub(crate) fn trim_files<R: Threads + Wait + Copy + Send + 'static, T: Files>(
     if let Some(out) = same_name(request) {
         return Err(Refusal::SameName(out));
     }
+    if report_is_input(request) {
+        return Err(Refusal::SameReport);
+    }
     let Ok(gate) = Arc::new(alloc, OpenGate) else {
         return Err(Refusal::Memory);
     };
@@ -80,10 +108,15 @@ pub(crate) fn trim_files<R: Threads + Wait + Copy + Send + 'static, T: Files>(
     if let Some(out) = input_among_outputs(request, files) {
         return Err(Refusal::Target(out));
     }
+    if input_as_report(request, files) {
+        return Err(Refusal::Report);
+    }
     let mut outlets = outputs(request, files)?;
+    let target = report_target(request, files)?;
     let account = run(alloc, rt, &settings, gate, feeds, &mut outlets);
     store(request, files, outlets);
-    Ok(account)
+    let reported = store_report(alloc, request, files, settings.encoding(), &account, target);
+    Ok(Trimmed { account, reported })
 }
 
 // Trims the pairs of the inputs.
@@ -101,6 +134,9 @@ fn run<R: Threads + Wait + Copy + Send + 'static, F: Feed + Drop + Send + 'stati
         IsTrue (ends_whole result.outcome) → IsTrue inputs.forward.tells → IsTrue inputs.reverse.tells
         → TrimsPairs settings.now (pairs_of settings.now inputs.form inputs.forward.to_come inputs.reverse.to_come)
         (outlet_states O.state outlets.old) (outlet_states O.state outlets.new) result.outcome result.counts }
+    ensures tally { let inputs = opened_of F.state feeds in
+        IsTrue (ends_whole result.outcome) → IsTrue inputs.forward.tells → IsTrue inputs.reverse.tells
+        → result.tally ≡ tally_if settings.now.tallied settings.now.steps (pairs_of settings.now inputs.form inputs.forward.to_come inputs.reverse.to_come).mates }
     ensures first { let inputs = opened_of F.state feeds in
         result.outcome ≢ Outcome.Lane → IsTrue inputs.forward.tells → IsTrue inputs.reverse.tells
         → TrimsFirst settings.now (pairs_of settings.now inputs.form inputs.forward.to_come inputs.reverse.to_come)
@@ -112,6 +148,7 @@ fn run<R: Threads + Wait + Copy + Send + 'static, F: Feed + Drop + Send + 'stati
             Account {
                 outcome: ending.outcome,
                 counts: ending.counts,
+                tally: ending.tally,
             }
         }
         Feeds::Interleaved(both) => {
@@ -119,6 +156,7 @@ fn run<R: Threads + Wait + Copy + Send + 'static, F: Feed + Drop + Send + 'stati
             Account {
                 outcome: ending.outcome,
                 counts: ending.counts,
+                tally: ending.tally,
             }
         }
     }
@@ -143,6 +181,16 @@ fn input_among_outputs<T: Files>(request: &Request<'_>, files: &T) -> Option<Out
     match request.log {
         Some(log) if files.leads_to_input(log) => Some(Out::Log),
         _ => None,
+    }
+}
+
+// Whether the report is an input under another name.
+fn input_as_report<T: Files>(request: &Request<'_>, files: &T) -> bool
+    ensures { IsTrue (T.tells_bytes files.now) → result ≡ false }
+{
+    match request.report {
+        Some(report) => files.leads_to_input(report),
+        None => false,
     }
 }
 

@@ -1,14 +1,14 @@
 -- How a collector changes when it takes a reply.
-use Rattle.std.proofs.Common.{◌≡◌, ℕ, suc, ◌<◌, ◌%◌, Some, None, List, [], ◌∷◌, ◌++◌, length, map, refl, sym, ap, ◌∙◌, arith, subst, append_assoc}
+use Rattle.std.proofs.Common.{◌≡◌, ℕ, suc, ◌<◌, ◌%◌, Some, None, List, [], ◌∷◌, ◌++◌, length, map, refl, sym, ap, ◌∙◌, arith, subst, append_assoc, Bool}
 use Rattle.std.proofs.lemmas.Nat.{mod_below}
 use Rattle.std.proofs.lemmas.List.{append-nil, length-map, map-append}
 use Rattle.fq_lane.specs.History.{History}
 use Rattle.fq_lane.specs.declared.taken.Taken.{Taken}
 use Rattle.fq_lane.specs.declared.taken.Taken.TheVariants.{Item, Closed}
 use Rattle.fq_pair.specs.declared.out.Out.{Out}
-use Rattle.fq_pair.specs.declared.counts.Counts.{Counts}
-use Rattle.fq_pair.specs.Outputs.{text_of, no_counts}
-use Rattle.fq_pair.specs.Summaries.{capped}
+use Rattle.fq_serial.specs.declared.total.Total.{Total}
+use Rattle.fq_serial.specs.Totals.{no_total, total_plus}
+use Rattle.fq_pair.specs.Outputs.{text_of}
 use Rattle.fq_work.specs.declared.done.Done.{Done}
 use Rattle.fq_work.specs.declared.reply.Cause.{Cause}
 use Rattle.fq_work.specs.declared.reply.Cause.TheVariants as cause
@@ -37,12 +37,12 @@ pub written_more : (out : Out) (ds : List Done) (d : Done) → written_text out 
 written_more out [] d = append-nil (text_of out d.texts)
 written_more out (e ∷ ds) d = ap (λ xs. text_of out e.texts ++ xs) (written_more out ds d) ∙ sym (append_assoc (text_of out e.texts) (written_text out ds) (text_of out d.texts))
 
-counted_from_more : (counts : Counts) (ds : List Done) (d : Done) → counted_from counts (ds ++ d ∷ []) ≡ capped (counted_from counts ds) d.texts.counts
-counted_from_more counts [] d = refl
-counted_from_more counts (e ∷ ds) d = counted_from_more (capped counts e.texts.counts) ds d
+counted_from_more : (total : Total) (ds : List Done) (d : Done) → counted_from total (ds ++ d ∷ []) ≡ total_plus (counted_from total ds) d
+counted_from_more total [] d = refl
+counted_from_more total (e ∷ ds) d = counted_from_more (total_plus total e) ds d
 
-pub counted_more : (ds : List Done) (d : Done) → counted (ds ++ d ∷ []) ≡ capped (counted ds) d.texts.counts
-counted_more ds d = counted_from_more no_counts ds d
+pub counted_more : (tallied : Bool) (ds : List Done) (d : Done) → counted tallied (ds ++ d ∷ []) ≡ total_plus (counted tallied ds) d
+counted_more tallied ds d = counted_from_more (no_total tallied) ds d
 
 -- The replies before the first Stop.
 
@@ -94,18 +94,18 @@ begun_now w xs ls h = record {
 }
 
 -- whose turn it is, what came and what was written
-at_turn : (w : ℕ) (before now : OutletStates) (k : Collector) (h : Collects w before now k) → k.phase ≡ Writing →
+at_turn : (tallied : Bool) (w : ℕ) (before now : OutletStates) (k : Collector) (h : Collects tallied w before now k) → k.phase ≡ Writing →
     (k.turn ≡ length (map done h.written) % w) × IsDealt w (map done h.written) k.replies.items × TookAll before now h.written
-at_turn w before now k h at_k =
+at_turn tallied w before now k h at_k =
     let p : Writes Writing w before now h.written k = subst (λ p. Writes p w before now h.written k) at_k h.writes in
     (p.0 ∙ ap (λ n. n % w) (sym (length-map h.written done)), p.1, p.2)
 
-module _ (w : ℕ) (before old now : OutletStates) (k l : Collector) where
-  pub collects_written : (d : Done) → Collects w before old k → k.phase ≡ Writing → l.phase ≡ Writing → TakesAt (Item (done d)) k.replies.items l.replies.items k.turn →
-      OutletsTook old now (λ out. text_of out d.texts) None → l.counts ≡ capped k.counts d.texts.counts → length l.texts_back.items ≡ length k.texts_back.items → l.turn ≡ suc k.turn % w → Collects w before now l
-  collects_written d h at_k at_l t took counts backs turn =
+module _ (tallied : Bool) (w : ℕ) (before old now : OutletStates) (k l : Collector) where
+  pub collects_written : (d : Done) → Collects tallied w before old k → k.phase ≡ Writing → l.phase ≡ Writing → TakesAt (Item (done d)) k.replies.items l.replies.items k.turn →
+      OutletsTook old now (λ out. text_of out d.texts) None → l.total ≡ total_plus k.total d → length l.texts_back.items ≡ length k.texts_back.items → l.turn ≡ suc k.turn % w → Collects tallied w before now l
+  collects_written d h at_k at_l t took total backs turn =
       let ds = h.written in
-      let k_writes = at_turn w before old k h at_k in
+      let k_writes = at_turn tallied w before old k h at_k in
       let pos : 0 < w = omega (arith, h.turn) in
       let more : map done (ds ++ d ∷ []) ≡ map done ds ++ done d ∷ [] = map-append done ds (d ∷ []) in
       let longer : length (map done ds ++ done d ∷ []) ≡ length (ds ++ d ∷ []) = ap length (sym more) ∙ length-map (ds ++ d ∷ []) done in
@@ -114,7 +114,7 @@ module _ (w : ℕ) (before old now : OutletStates) (k l : Collector) where
         backs = backs ∙ h.backs;
         turn = subst (λ n. n < w) (sym turn) (mod_below (suc k.turn) w pos);
         written = ds ++ d ∷ [];
-        counts = counts ∙ ap (λ c. capped c d.texts.counts) h.counts ∙ sym (counted_more ds d);
+        total = total ∙ ap (λ (t : Total). total_plus t d) h.total ∙ sym (counted_more tallied ds d);
         writes = subst (λ p. Writes p w before now (ds ++ d ∷ []) l) (sym at_l) (
           turn_more (map done ds) (done d) k.turn l.turn w k_writes.0 turn ∙ ap (λ n. n % w) longer,
           subst (λ xs. IsDealt w xs l.replies.items) (sym more) (dealt_item w (map done ds) (done d) k.replies.items l.replies.items k.turn k_writes.1 t h.turn k_writes.0),
@@ -123,11 +123,11 @@ module _ (w : ℕ) (before old now : OutletStates) (k l : Collector) where
         );
       }
 
-  pub collects_broken : (d : Done) (failed : Out) → Collects w before old k → k.phase ≡ Writing → l.phase ≡ WriteFailed failed → TakesAt (Item (done d)) k.replies.items l.replies.items k.turn →
-      BreaksAt old now d.texts failed → l.counts ≡ k.counts → l.texts_back ≡ k.texts_back → l.turn ≡ k.turn → Collects w before now l
-  collects_broken d failed h at_k at_l t breaks counts backs turn =
+  pub collects_broken : (d : Done) (failed : Out) → Collects tallied w before old k → k.phase ≡ Writing → l.phase ≡ WriteFailed failed → TakesAt (Item (done d)) k.replies.items l.replies.items k.turn →
+      BreaksAt old now d.texts failed → l.total ≡ k.total → l.texts_back ≡ k.texts_back → l.turn ≡ k.turn → Collects tallied w before now l
+  collects_broken d failed h at_k at_l t breaks total backs turn =
       let ds = h.written in
-      let k_writes = at_turn w before old k h at_k in
+      let k_writes = at_turn tallied w before old k h at_k in
       let more : map done (ds ++ d ∷ []) ≡ map done ds ++ done d ∷ [] = map-append done ds (d ∷ []) in
       let dealt = dealt_item w (map done ds) (done d) k.replies.items l.replies.items k.turn k_writes.1 t h.turn k_writes.0 in
       let broken : HasBroken failed w before now ds l = record {
@@ -142,33 +142,33 @@ module _ (w : ℕ) (before old now : OutletStates) (k l : Collector) where
         backs = ap (λ b. length b.items) backs ∙ h.backs;
         turn = subst (λ n. n < w) (sym turn) h.turn;
         written = ds;
-        counts = counts ∙ h.counts;
+        total = total ∙ h.total;
         writes = subst (λ p. Writes p w before now ds l) (sym at_l) broken;
       }
 
-module _ (w : ℕ) (before now : OutletStates) (k l : Collector) where
+module _ (tallied : Bool) (w : ℕ) (before now : OutletStates) (k l : Collector) where
   -- the lane whose turn it is is closed
-  pub collects_ended : Collects w before now k → k.phase ≡ Writing → l.phase ≡ Ended → TakesAt Closed k.replies.items l.replies.items k.turn →
-      l.counts ≡ k.counts → l.texts_back ≡ k.texts_back → l.turn ≡ k.turn → Collects w before now l
-  collects_ended h at_k at_l t counts backs turn =
+  pub collects_ended : Collects tallied w before now k → k.phase ≡ Writing → l.phase ≡ Ended → TakesAt Closed k.replies.items l.replies.items k.turn →
+      l.total ≡ k.total → l.texts_back ≡ k.texts_back → l.turn ≡ k.turn → Collects tallied w before now l
+  collects_ended h at_k at_l t total backs turn =
       let ds = h.written in
-      let k_writes = at_turn w before now k h at_k in
+      let k_writes = at_turn tallied w before now k h at_k in
       record {
         lanes = takes_length Closed _ _ _ t ∙ h.lanes;
         backs = ap (λ b. length b.items) backs ∙ h.backs;
         turn = subst (λ n. n < w) (sym turn) h.turn;
         written = ds;
-        counts = counts ∙ h.counts;
+        total = total ∙ h.total;
         writes = subst (λ p. Writes p w before now ds l) (sym at_l)
             (ended_closed w (map done ds) k.replies.items l.replies.items k.turn k_writes.1 t h.turn k_writes.0, k_writes.2);
       }
 
   -- the reply in turn is a stop
-  pub collects_stopped : (why : Cause) → Collects w before now k → k.phase ≡ Writing → l.phase ≡ Stopped → TakesAt (Item (Stop why)) k.replies.items l.replies.items k.turn →
-      l.halt ≡ with_stop why k.halt → l.counts ≡ k.counts → l.texts_back ≡ k.texts_back → l.turn ≡ k.turn → Collects w before now l
-  collects_stopped why h at_k at_l t halt counts backs turn =
+  pub collects_stopped : (why : Cause) → Collects tallied w before now k → k.phase ≡ Writing → l.phase ≡ Stopped → TakesAt (Item (Stop why)) k.replies.items l.replies.items k.turn →
+      l.halt ≡ with_stop why k.halt → l.total ≡ k.total → l.texts_back ≡ k.texts_back → l.turn ≡ k.turn → Collects tallied w before now l
+  collects_stopped why h at_k at_l t halt total backs turn =
       let ds = h.written in
-      let k_writes = at_turn w before now k h at_k in
+      let k_writes = at_turn tallied w before now k h at_k in
       let stopped : HasStopped w before now ds l = record {
         why = why;
         begun = begun_now w _ _ (dealt_item w (map done ds) (Stop why) k.replies.items l.replies.items k.turn k_writes.1 t h.turn k_writes.0);
@@ -180,13 +180,13 @@ module _ (w : ℕ) (before now : OutletStates) (k l : Collector) where
         backs = ap (λ b. length b.items) backs ∙ h.backs;
         turn = subst (λ n. n < w) (sym turn) h.turn;
         written = ds;
-        counts = counts ∙ h.counts;
+        total = total ∙ h.total;
         writes = subst (λ p. Writes p w before now ds l) (sym at_l) stopped;
       }
 
 -- outlets that took whole texts have not failed
-pub still_writes : (w : ℕ) (before now : OutletStates) (k : Collector) → AreHealthy before → Collects w before now k → k.phase ≡ Writing → AreHealthy now
-still_writes w before now k sound h at_k = still_healthy before now _ sound (at_turn w before now k h at_k).2
+pub still_writes : (tallied : Bool) (w : ℕ) (before now : OutletStates) (k : Collector) → AreHealthy before → Collects tallied w before now k → k.phase ≡ Writing → AreHealthy now
+still_writes tallied w before now k sound h at_k = still_healthy before now _ sound (at_turn tallied w before now k h at_k).2
 
 -- Once nothing more is written.
 
@@ -208,22 +208,22 @@ passes w (WriteFailed failed) r before now ds k l j over lt h t halt = record {
   took = h.took;
 }
 
-collects_takes : (w : ℕ) (r : Taken Reply) (before now : OutletStates) (k l : Collector) (j : ℕ) → Collects w before now k → (k.phase ≡ Writing → ⊥) → l.phase ≡ k.phase → j < length k.replies.items →
-    TakesAt r k.replies.items l.replies.items j → l.halt ≡ heard_at r k.halt → l.counts ≡ k.counts → l.texts_back ≡ k.texts_back → l.turn ≡ k.turn → Collects w before now l
-collects_takes w r before now k l j h over at_l lt t halt counts backs turn = record {
+collects_takes : (tallied : Bool) (w : ℕ) (r : Taken Reply) (before now : OutletStates) (k l : Collector) (j : ℕ) → Collects tallied w before now k → (k.phase ≡ Writing → ⊥) → l.phase ≡ k.phase → j < length k.replies.items →
+    TakesAt r k.replies.items l.replies.items j → l.halt ≡ heard_at r k.halt → l.total ≡ k.total → l.texts_back ≡ k.texts_back → l.turn ≡ k.turn → Collects tallied w before now l
+collects_takes tallied w r before now k l j h over at_l lt t halt total backs turn = record {
   lanes = takes_length r _ _ _ t ∙ h.lanes;
   backs = ap (λ b. length b.items) backs ∙ h.backs;
   turn = subst (λ n. n < w) (sym turn) h.turn;
   written = h.written;
-  counts = counts ∙ h.counts;
+  total = total ∙ h.total;
   writes = subst (λ p. Writes p w before now h.written l) (sym at_l) (passes w k.phase r before now h.written k l j over (omega (arith, h.lanes)) h.writes t halt);
 }
 
 pub drains_take : (r : Taken Reply) (k l : Collector) (j : ℕ) → (k.phase ≡ Writing → ⊥) → l.phase ≡ k.phase → j < length k.replies.items → TakesAt r k.replies.items l.replies.items j →
-    l.halt ≡ heard_at r k.halt → l.counts ≡ k.counts → l.texts_back ≡ k.texts_back → l.turn ≡ k.turn → Drains k l
-drains_take r k l j over at_l lt t halt counts backs turn = record {
+    l.halt ≡ heard_at r k.halt → l.total ≡ k.total → l.texts_back ≡ k.texts_back → l.turn ≡ k.turn → Drains k l
+drains_take r k l j over at_l lt t halt total backs turn = record {
   phase = at_l;
   names = takes_names r _ _ _ t;
-  collects = λ w before now h. collects_takes w r before now k l j h over at_l lt t halt counts backs turn;
+  collects = λ tallied w before now h. collects_takes tallied w r before now k l j h over at_l lt t halt total backs turn;
   hears = hears_take r k l j lt t halt;
 }

@@ -1,5 +1,5 @@
 -- A run whose threads were not all started.
-use Rattle.std.proofs.Common.{◌≡◌, ◌↔◌, Option, Some, None, IfSome, false, IsTrue, Result, ℕ, ◌-◌, ◌<◌, List, [], ◌∷◌, ◌++◌, length, take, refl, sym, ap, ◌∙◌, subst, arith, ◌≤◌, ◌^◌, vec_len}
+use Rattle.std.proofs.Common.{◌≡◌, ◌↔◌, Option, Some, None, IfSome, false, IsTrue, Result, ℕ, ◌-◌, ◌<◌, List, [], ◌∷◌, ◌++◌, length, take, refl, sym, ap, ◌∙◌, subst, arith, ◌≤◌, ◌^◌, vec_len, inl}
 use Rattle.fq_lane.specs.History.{History}
 use Rattle.fq_lane.specs.declared.tx.NotEnded.{NotEnded}
 use Rattle.fq_block.specs.Blocks.{Numbered}
@@ -30,7 +30,10 @@ use Rattle.fq_serial.proofs.PassLemmas.{runs_refused}
 use Rattle.fq_serial.proofs.RunLemmas.{run_every}
 use Rattle.fq_serial.specs.declared.reading_end.ReadingEnd.TheVariants as reading
 use Rattle.fq_serial.specs.Writing.{FlushesAfter, no_halt}
-use Rattle.fq_pair.specs.declared.counts.Counts.{Counts}
+use Rattle.fq_work.specs.Replies.{tally_if}
+use Rattle.fq_serial.specs.declared.total.Total.{Total}
+use Rattle.fq_serial.proofs.TotalLemmas.{no_total_is}
+use Rattle.fq_serial.proofs.PassLemmas as passing
 
 -- two things of one source are there, or neither is
 pub of_one : {S A B : Type 0} (f : S → A) (h : S → B) (o : Option S) → (option_map f o ≡ None) ↔ (option_map h o ≡ None)
@@ -77,7 +80,7 @@ apart run e o other is = other (sym (ap rank is) ∙ ap rank e)
 partial : (run : Run) → run.outcome ≡ outcome.Spawn → IsTrue (ends_whole run.outcome) → ⊥
 partial run is whole = let e : IsTrue false = subst IsTrue (ap ends_whole is) whole in absurd cc
 
-module _ (c : Choices) (run : Run) (e : run.outcome ≡ outcome.Spawn) (none : run.counts ≡ no_counts) (same : IsUntouched run) (both : (run.forward_left ≡ None) ↔ (run.reverse_left ≡ None)) where
+module _ (c : Choices) (run : Run) (e : run.outcome ≡ outcome.Spawn) (none : run.counts ≡ no_counts) (empty : run.tally ≡ tally_if c.tallied [] []) (same : IsUntouched run) (both : (run.forward_left ≡ None) ↔ (run.reverse_left ≡ None)) where
   nothing : (out : Out) → text_of out (texts_of c.steps []) ++ [] ≡ []
   nothing out = let q = no_text c.steps out in rw q refl
 
@@ -91,6 +94,7 @@ module _ (c : Choices) (run : Run) (e : run.outcome ≡ outcome.Spawn) (none : r
     whole = [];
     fate = Unbroken;
     counts = none;
+    tally = inl (empty ∙ ap (λ (t : Total). t.tally) (no_total_is c.tallied c.steps));
     took = unwritten;
     cut_short = tt;
     first = λ told. ((all_pairs c run).mates, refl);
@@ -122,8 +126,8 @@ module _ (c : Choices) (run : Run) (e : run.outcome ≡ outcome.Spawn) (none : r
   }
 
 -- where memory was refused before the threads the outlets were flushed, and no more
-pub refused : (form : Form) (c : Choices) (f r f' r' : FeedState) (before after : OutletStates) (counted : Counts) (failed : Option Out) → f' ≡ f → r' ≡ r → counted ≡ no_counts → FlushesAfter None before after failed → f.failures ≡ 0 → r.failures ≡ 0 →
-    IsThreaded c (record { form = form; forward = f; reverse = r; outlets = before; forward_left = Some f'; reverse_left = Some r'; outlets_left = after; outcome = outcome.Memory; counts = counted }) None
+pub refused : (form : Form) (c : Choices) (f r f' r' : FeedState) (before after : OutletStates) (counted : Total) (failed : Option Out) → f' ≡ f → r' ≡ r → counted ≡ passing.nothing → FlushesAfter None before after failed → f.failures ≡ 0 → r.failures ≡ 0 →
+    IsThreaded c (record { form = form; forward = f; reverse = r; outlets = before; forward_left = Some f'; reverse_left = Some r'; outlets_left = after; outcome = outcome.Memory; counts = counted.counts; tally = counted.tally }) None
 refused form c f r f' r' before after counted failed same also none flushed sound sound' =
     let p = runs_refused form c f r f' r' before counted same also none in
     record {
@@ -146,18 +150,18 @@ left_as feed fs side same (Some x) a is = ap Some (sym (same x)) ∙ sym (ap (op
 pub closed : {S F G : Type 0} (state : S → SourceState) (fs : F → FeedState) (gs : G → FeedState) (forward_of : S → F) (reverse_of : S → G) →
     ((x : S) → fs (forward_of x) ≡ feed_in (state x).forward) → ((x : S) → gs (reverse_of x) ≡ feed_in (state x).reverse) →
     (form : Form) (c : Choices) (s : SourceState) (f : F) (r : G) → s ≡ fresh_source form c (fs f) (gs r) → (before after : OutletStates) (e : Conclusion S) →
-    (o : Outcome) (counted : Counts) (f' : Option F) (r' : Option G) (u : Option NotEnded) → o ≡ e.outcome → counted ≡ e.counts → u ≡ e.unended → f' ≡ option_map forward_of e.source → r' ≡ option_map reverse_of e.source →
+    (o : Outcome) (counted : Total) (f' : Option F) (r' : Option G) (u : Option NotEnded) → o ≡ e.outcome → counted ≡ e.total → u ≡ e.unended → f' ≡ option_map forward_of e.source → r' ≡ option_map reverse_of e.source →
     IsThreaded c (run_from state s before after e) e.unended →
-    IsThreaded c (record { form = form; forward = fs f; reverse = gs r; outlets = before; forward_left = option_map fs f'; reverse_left = option_map gs r'; outlets_left = after; outcome = o; counts = counted }) u
+    IsThreaded c (record { form = form; forward = fs f; reverse = gs r; outlets = before; forward_left = option_map fs f'; reverse_left = option_map gs r'; outlets_left = after; outcome = o; counts = counted.counts; tally = counted.tally }) u
 closed state fs gs forward_of reverse_of first second form c s f r is before after e o counted f' r' u outcome_is counts_are ended left right t =
-    let R : SourceState → Outcome → Counts → Option FeedState → Option FeedState → Run =
-    λ z x n p q. record { form = z.form; forward = feed_in z.forward; reverse = feed_in z.reverse; outlets = before; forward_left = p; reverse_left = q; outlets_left = after; outcome = x; counts = n } in
+    let R : SourceState → Outcome → Total → Option FeedState → Option FeedState → Run =
+    λ z x n p q. record { form = z.form; forward = feed_in z.forward; reverse = feed_in z.reverse; outlets = before; forward_left = p; reverse_left = q; outlets_left = after; outcome = x; counts = n.counts; tally = n.tally } in
     let p = option_map (λ x. feed_in (state x).forward) e.source in
     let q = option_map (λ x. feed_in (state x).reverse) e.source in
     let fresh = fresh_source form c (fs f) (gs r) in
-    let same : R s e.outcome e.counts p q ≡ R fresh o counted (option_map fs f') (option_map gs r') =
-    ap (λ z. R z e.outcome e.counts p q) is
-    ∙ ap (λ x. R fresh x e.counts p q) (sym outcome_is)
+    let same : R s e.outcome e.total p q ≡ R fresh o counted (option_map fs f') (option_map gs r') =
+    ap (λ z. R z e.outcome e.total p q) is
+    ∙ ap (λ x. R fresh x e.total p q) (sym outcome_is)
     ∙ ap (λ n. R fresh o n p q) (sym counts_are)
     ∙ ap (λ x. R fresh o counted x q) (left_as forward_of fs (λ x. feed_in (state x).forward) first e.source f' left)
     ∙ ap (λ x. R fresh o counted (option_map fs f') x) (left_as reverse_of gs (λ x. feed_in (state x).reverse) second e.source r' right) in

@@ -1,14 +1,14 @@
 -- What a collector does: it takes replies in turn, and writes their texts.
-use Rattle.std.specs.Prelude.{◌≡◌, ℕ, ◌<◌, ◌%◌, true, Option, Some, None, List, [], ◌∷◌, ◌++◌, map, length}
+use Rattle.std.specs.Prelude.{◌≡◌, ℕ, ◌<◌, ◌%◌, Bool, true, Option, Some, None, List, [], ◌∷◌, ◌++◌, map, length}
 use Rattle.fq_pair.specs.declared.out.Out.{Out}
-use Rattle.fq_pair.specs.declared.counts.Counts.{Counts}
-use Rattle.fq_pair.specs.Outputs.{text_of, no_counts}
-use Rattle.fq_pair.specs.Summaries.{capped}
+use Rattle.fq_pair.specs.Outputs.{text_of}
 use Rattle.fq_work.specs.declared.done.Done.{Done}
 use Rattle.fq_work.specs.declared.reply.Cause.{Cause}
 use Rattle.fq_work.specs.declared.reply.Cause.TheVariants as cause
 use Rattle.fq_work.specs.declared.reply.Reply.{Reply}
 use Rattle.fq_work.specs.declared.reply.Reply.TheVariants.{Done as done, Stop}
+use Rattle.fq_serial.specs.declared.total.Total.{Total}
+use Rattle.fq_serial.specs.Totals.{no_total, total_plus}
 use Rattle.fq_serial.specs.Devices.{OutletStates, OutletsTook, part_at}
 use Rattle.fq_run.specs.Lanes.{IsDealt, IsEnded, IsBegun}
 use Rattle.fq_run.specs.declared.collector.Collector.{Collector}
@@ -20,13 +20,14 @@ abbrev pub written_text : Out → List Done → List ℕ
 written_text out [] = []
 written_text out (d ∷ ds) = text_of out d.texts ++ written_text out ds
 
--- their counts, added to others
-abbrev pub counted_from : Counts → List Done → Counts
-counted_from counts [] = counts
-counted_from counts (d ∷ ds) = counted_from (capped counts d.texts.counts) ds
+-- what is counted of them, added to what was counted before
+abbrev pub counted_from : Total → List Done → Total
+counted_from total [] = total
+counted_from total (d ∷ ds) = counted_from (total_plus total d) ds
 
-abbrev pub counted : List Done → Counts
-counted ds = counted_from no_counts ds
+-- their counts, and their tally where one is asked for
+abbrev pub counted : Bool → List Done → Total
+counted tallied ds = counted_from (no_total tallied) ds
 
 -- the replies before the first Stop
 abbrev pub before_stop : List Reply → List Done
@@ -72,10 +73,10 @@ failed_in (WriteFailed failed) = Some failed
 failed_in _ = None
 
 -- a collector of w lanes, which has written the texts of some replies
-pub record Collects (w : ℕ) (before now : OutletStates) (k : Collector) : Type 0 where
+pub record Collects (tallied : Bool) (w : ℕ) (before now : OutletStates) (k : Collector) : Type 0 where
   pub lanes : length k.replies.items ≡ w
   pub backs : length k.texts_back.items ≡ w
   pub turn : k.turn < w
   pub written : List Done
-  pub counts : k.counts ≡ counted written
+  pub total : k.total ≡ counted tallied written
   pub writes : Writes k.phase w before now written k

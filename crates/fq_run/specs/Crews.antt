@@ -1,5 +1,5 @@
 -- The lanes of a run, the threads that hold their other ends, and what these hand back, worker for worker.
-use Rattle.std.specs.Prelude.{◌≡◌, ◌≤◌, ℕ, true, false, Option, Result, IfOk, IsOkAnd, List, [], vec_len, vec_capacity}
+use Rattle.std.specs.Prelude.{◌≡◌, ◌≤◌, ℕ, Bool, true, false, Option, Result, IfOk, IsOkAnd, List, [], vec_len, vec_capacity}
 use Rattle.std.specs.declared.thread.PromisedHandle.{PromisedHandle}
 use Rattle.fq_trim.specs.declared.step.Step.{Step}
 use Rattle.fq_lane.specs.History.{History, Name}
@@ -51,15 +51,16 @@ KeepRoom old new =
 
 -- While they run.
 
--- the worker with these ends, under these steps
-pub record Seated (steps : List Step) (ends : WorkEnds) (h : PromisedHandle Worked Job) : Type 0 where
+-- the worker with these ends, under these steps, which tallies blocks or not
+pub record Seated (tallied : Bool) (steps : List Step) (ends : WorkEnds) (h : PromisedHandle Worked Job) : Type 0 where
   pub steps_are : h.promise.steps ≡ steps
+  pub tallied_is : h.promise.tallied ≡ tallied
   pub rx : h.promise.rx.value ≡ ends.rx
   pub tx : h.promise.tx.value ≡ ends.tx
 
 -- what a join gives
 abbrev pub Joined : PromisedHandle Worked Job → Worked → Type 0
-Joined h worked = IsWork h.promise.steps h.promise.rx.value h.promise.tx.value worked
+Joined h worked = IsWork h.promise.tallied h.promise.steps h.promise.rx.value h.promise.tx.value worked
 
 -- Behind the joins.
 
@@ -76,5 +77,5 @@ abbrev pub Confirmed : Result (History Numbered) NotEnded → Worked → History
 Confirmed closing worked replies = IsOkAnd closing (λ e. worked.rx ≡ e) × IsOkAnd worked.closing (λ e. replies ≡ e)
 
 -- the replies that came answer the blocks that were sent
-abbrev pub Matched : List Step → Result (History Numbered) NotEnded → History Reply → Type 0
-Matched steps closing replies = IsOkAnd closing (λ e. (cause : Option Cause) × Answers steps e.items replies.items cause)
+abbrev pub Matched : Bool → List Step → Result (History Numbered) NotEnded → History Reply → Type 0
+Matched tallied steps closing replies = IsOkAnd closing (λ e. (cause : Option Cause) × Answers tallied steps e.items replies.items cause)

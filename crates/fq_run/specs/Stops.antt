@@ -33,5 +33,5 @@ HearsAll k = k.halt ≡ stops_of k.replies.items
 pub record Drains (old new : Collector) : Type 0 where
   pub phase : new.phase ≡ old.phase
   pub names : names_of new.replies.items ≡ names_of old.replies.items
-  pub collects : (w : ℕ) (before now : OutletStates) → Collects w before now old → Collects w before now new
+  pub collects : (tallied : Bool) (w : ℕ) (before now : OutletStates) → Collects tallied w before now old → Collects tallied w before now new
   pub hears : HearsAll old → HearsAll new

@@ -63,14 +63,14 @@ pub record IsManned {S : Type 0} (crew : Crew S) (replies : List (History Reply)
   pub ends : List WorkEnds
   pub some : 0 < length replies
   pub laid : Each3 Laid crew.dealer.promise.to.value.items ends replies
-  pub seated : AllZip (Seated crew.dealer.promise.settings.steps) ends crew.hands.items
+  pub seated : AllZip (Seated crew.dealer.promise.settings.tallied crew.dealer.promise.settings.steps) ends crew.hands.items
   pub start : crew.dealer.promise.start.value ≡ fresh crew.starter.name
   pub starter : crew.starter ≡ fresh crew.starter.name
   pub worked : (crew.worked.items ≡ []) × (vec_len crew.hands ≤ vec_capacity crew.worked)
 
 -- Behind the joins the ends of all lanes are confirmed, or one is not; then the first that occurred is answered.
 pub record Concludes {S : Type 0} (started : Result (History (Unit {0})) NotEnded) (dealt : Dealt S) (worked : List Worked) (k : Collector) (failed : Option Out) (ending : Conclusion S) : Type 0 where
-  pub counts : ending.counts ≡ k.counts
+  pub total : ending.total ≡ k.total
   pub source : ending.source ≡ Some dealt.source
   pub lane : IfSome ending.unended (λ unended. ending.outcome ≡ outcome.Lane)
   pub outcome_is : ending.unended ≡ None → ending.outcome ≡ outcome_of (occurred k.halt dealt.why failed)
@@ -88,7 +88,8 @@ run_from state s before after ending = record {
   reverse_left = option_map (λ x. feed_in (state x).reverse) ending.source;
   outlets_left = after;
   outcome = ending.outcome;
-  counts = ending.counts;
+  counts = ending.total.counts;
+  tally = ending.total.tally;
 }
 
 -- What a run on several threads promises: a lane that could not be confirmed is answered, and nothing else as Lane; a feed is lost where a

@@ -1,8 +1,9 @@
 //! The end of a threaded run that writes.
 
-ghost use Rattle.std.specs.Prelude.{◌≡◌, ◌<◌, [], None, vec_len};
+ghost use Rattle.std.specs.Prelude.{◌≡◌, ◌<◌, [], None, Bool, is_some, vec_len};
 ghost use Rattle.fq_run.specs.Collecting.{Collects, TookAll, before_stop, failed_in};
 ghost use Rattle.fq_run.specs.Dealing.{gather};
+ghost use Rattle.fq_serial.specs.Totals.{no_total};
 ghost use Rattle.fq_serial.specs.Devices.{OutletStates, outlet_states, AreHealthy};
 ghost use Rattle.fq_run.specs.Lanes.{names_of, lists_of, AllClosed, IsDealt};
 ghost use Rattle.fq_run.specs.Stops.{HearsAll};
@@ -12,25 +13,24 @@ pub(crate) mod phase;
 
 use crate::lanes::places::{next_turn, take_wait_at};
 use fq_lane::{Rx, Tx};
-use fq_pair::{Counts, Texts};
 use fq_serial::Outlets;
-use fq_serial::shared::Halt;
+use fq_serial::shared::{Halt, Total};
 use fq_text::Outlet;
-use fq_work::Reply;
+use fq_work::{Done, Reply};
 use phase::Phase;
 use std::sync::Wait;
 
-/// Takes replies in turn, and writes their texts.
+/// Takes replies in turn, writes their texts, and counts what was written whole.
 #[derive(Drop)]
 pub(crate) struct Collector {
     /// The lanes of the replies, worker for worker.
     pub(crate) replies: Vec<Rx<Reply>>,
-    /// The lanes in which texts that were written go back to the workers.
-    pub(crate) texts_back: Vec<Tx<Texts>>,
+    /// The lanes in which texts that were written go back to the workers, with their tally.
+    pub(crate) texts_back: Vec<Tx<Done>>,
     /// The worker whose reply is next.
     pub(crate) turn: usize,
-    /// The counts of what was written whole.
-    pub(crate) counts: Counts,
+    /// What is counted of what was written whole.
+    pub(crate) total: Total,
     /// How far it is.
     pub(crate) phase: Phase,
     /// The stops that came.
@@ -43,15 +43,17 @@ pub(crate) struct Collector {
 /// Texts that were written go back to their worker where there is room for them.
 pub(crate) fn collect<R: Wait, O: Outlet>(
     rt: &R,
+    total: Total,
     replies: Vec<Rx<Reply>>,
-    texts_back: Vec<Tx<Texts>>,
+    texts_back: Vec<Tx<Done>>,
     outlets: &mut Outlets<O>,
 ) -> Collector
+    requires none { total ≡ no_total (is_some total.tally) }
     requires some { 0 < vec_len replies }
     requires fresh { IsDealt (vec_len replies) [] replies.items }
     requires backs { vec_len texts_back ≡ vec_len replies }
     requires outlets { AreHealthy (outlet_states O.state outlets.old) }
-    ensures collects { Collects (vec_len replies) (outlet_states O.state outlets.old) (outlet_states O.state outlets.new) result }
+    ensures collects { Collects (is_some total.tally) (vec_len replies) (outlet_states O.state outlets.old) (outlet_states O.state outlets.new) result }
     ensures names { names_of result.replies.items ≡ names_of replies.items }
     ensures over { (result.phase ≡ Phase.Writing → ⊥) × AllClosed result.replies.items }
     // Where no write failed, the outlets have the texts of what came, gathered in turn, before its first stop.
@@ -60,7 +62,7 @@ pub(crate) fn collect<R: Wait, O: Outlet>(
     // Each stop that came was noted, and no other.
     ensures hears { HearsAll result }
 {
-    let mut collector = Collector::new(replies, texts_back);
+    let mut collector = Collector::new(total, replies, texts_back);
     collector.write_all(rt, outlets);
     collector.drain(rt);
     collector
@@ -68,19 +70,21 @@ pub(crate) fn collect<R: Wait, O: Outlet>(
 
 impl Collector {
     // A collector that has taken nothing.
-    fn new(replies: Vec<Rx<Reply>>, texts_back: Vec<Tx<Texts>>) -> Collector
+    fn new(total: Total, replies: Vec<Rx<Reply>>, texts_back: Vec<Tx<Done>>) -> Collector
+        requires none { total ≡ no_total (is_some total.tally) }
         requires some { 0 < vec_len replies }
         requires fresh { IsDealt (vec_len replies) [] replies.items }
         requires backs { vec_len texts_back ≡ vec_len replies }
-        ensures collects { (outlets : OutletStates) → Collects (vec_len replies) outlets outlets result }
+        ensures collects { (outlets : OutletStates) → Collects (is_some total.tally) (vec_len replies) outlets outlets result }
         ensures hears { HearsAll result }
         ensures replies { result.replies ≡ replies }
+        ensures total { result.total ≡ total }
     {
         Collector {
             replies,
             texts_back,
             turn: 0,
-            counts: Counts::ZERO,
+            total,
             phase: Phase::Writing,
             halt: Halt::NONE,
         }
@@ -88,9 +92,9 @@ impl Collector {
 
     // Writes replies in turn, until nothing more is to be written.
     fn write_all<R: Wait, O: Outlet>(&mut self, rt: &R, outlets: &mut Outlets<O>)
-        requires collects { Collects (vec_len self.old.replies) (outlet_states O.state outlets.old) (outlet_states O.state outlets.old) self.old }
+        requires collects { Collects (is_some self.old.total.tally) (vec_len self.old.replies) (outlet_states O.state outlets.old) (outlet_states O.state outlets.old) self.old }
         requires outlets { AreHealthy (outlet_states O.state outlets.old) }
-        ensures collects { Collects (vec_len self.old.replies) (outlet_states O.state outlets.old) (outlet_states O.state outlets.new) self.new }
+        ensures collects { Collects (is_some self.old.total.tally) (vec_len self.old.replies) (outlet_states O.state outlets.old) (outlet_states O.state outlets.new) self.new }
         ensures names { names_of self.new.replies.items ≡ names_of self.old.replies.items }
         ensures over { self.new.phase ≡ Phase.Writing → ⊥ }
         ensures hears { HearsAll self.old → HearsAll self.new }
@@ -110,8 +114,8 @@ impl Collector {
         requires turn { self.old.turn < vec_len self.old.replies }
         requires backs { vec_len self.old.texts_back ≡ vec_len self.old.replies }
         requires outlets { AreHealthy (outlet_states O.state outlets.old) }
-        ensures collects { (before : OutletStates) → Collects (vec_len self.old.replies) before (outlet_states O.state outlets.old) self.old
-            → Collects (vec_len self.old.replies) before (outlet_states O.state outlets.new) self.new }
+        ensures collects { (tallied : Bool) (before : OutletStates) → Collects tallied (vec_len self.old.replies) before (outlet_states O.state outlets.old) self.old
+            → Collects tallied (vec_len self.old.replies) before (outlet_states O.state outlets.new) self.new }
         ensures names { names_of self.new.replies.items ≡ names_of self.old.replies.items }
         ensures hears { HearsAll self.old → HearsAll self.new }
     {
@@ -127,18 +131,18 @@ impl Collector {
                     self.phase = Phase::WriteFailed(out);
                     return;
                 }
-                self.counts = self.counts.plus(done.texts.counts());
-                give_back(&mut self.texts_back, self.turn, done.texts);
+                self.total.add(&done);
+                give_back(&mut self.texts_back, self.turn, done);
                 self.turn = next_turn(self.turn, lanes);
             }
         }
     }
 }
 
-// Sends texts back to a worker where there is room for them, and lets them go otherwise.
-fn give_back(texts_back: &mut Vec<Tx<Texts>>, at: usize, texts: Texts)
+// Sends texts with their tally back to a worker where there is room for them, and lets them go otherwise.
+fn give_back(texts_back: &mut Vec<Tx<Done>>, at: usize, done: Done)
     requires { at < vec_len texts_back.old }
     ensures { vec_len texts_back.new ≡ vec_len texts_back.old }
 {
-    let _ = texts_back[at].offer(texts);
+    let _ = texts_back[at].offer(done);
 }

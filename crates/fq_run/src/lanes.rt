@@ -9,13 +9,14 @@ use crate::ready::Ready;
 use fq_block::Block;
 use fq_lane::{End, NotEnded, Rx, Tx, lane};
 use fq_serial::Settings;
+use fq_serial::shared::Total;
 use fq_text::OutOfMemory;
 use fq_work::Worked;
 use seats::{Seats, lay};
 use std::alloc::Global;
 use std::thread::PromisedHandle;
 
-/// The lanes of a run, and room for what its threads hand back.
+/// The lanes of a run, room for what its threads hand back, and for what is counted.
 #[derive(Drop)]
 pub(crate) struct Lanes {
     pub(crate) starter: Tx<()>,
@@ -24,15 +25,18 @@ pub(crate) struct Lanes {
     pub(crate) closings: Vec<Result<End<Block>, NotEnded>>,
     pub(crate) hands: Vec<PromisedHandle<Worked, Job>>,
     pub(crate) worked: Vec<Worked>,
+    pub(crate) total: Total,
 }
 
 impl Lanes {
     ghost use Rattle.std.specs.Prelude.{◌≡◌, IfOk};
     ghost use Rattle.fq_run.specs.Threads.{AreLaidOut, IsReady};
+    ghost use Rattle.fq_serial.specs.Totals.{no_total};
 
-    /// Makes all lanes.
+    /// Makes all lanes, and takes memory for what is counted.
     pub(crate) fn new(alloc: Global, settings: &Settings) -> Result<Lanes, OutOfMemory>
-        ensures { IfOk result (AreLaidOut settings.now.workers) }
+        ensures lanes { IfOk result (AreLaidOut settings.now.workers) }
+        ensures total { IfOk result (λ lanes. lanes.total ≡ no_total settings.now.tallied) }
     {
         let workers = settings.workers() as usize;
         let (starter, start) = lane(alloc, 1)?;
@@ -43,6 +47,7 @@ impl Lanes {
             closings: Vec::with_capacity(alloc, workers)?,
             hands: Vec::with_capacity(alloc, workers)?,
             worked: Vec::with_capacity(alloc, workers)?,
+            total: Total::new(alloc, settings.tallied())?,
         })
     }
 
@@ -58,6 +63,7 @@ impl Lanes {
           ends = self.seats.ends;
           hands = self.hands;
           worked = self.worked;
+          total = self.total;
           replies = self.seats.replies;
           texts_back = self.seats.texts_back;
         } }
@@ -69,6 +75,7 @@ impl Lanes {
             closings,
             hands,
             worked,
+            total,
         } = self;
         let Seats {
             to,
@@ -89,6 +96,7 @@ impl Lanes {
             ends,
             hands,
             worked,
+            total,
             replies,
             texts_back,
         };

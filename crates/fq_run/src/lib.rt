@@ -26,6 +26,3 @@ pub use fq_serial::{
 };
 pub use one_text::run_threads_mixed;
 pub use two_texts::run_threads;
-
-#[cfg(test)]
-mod tests;

@@ -3,7 +3,7 @@
 ghost use Rattle.std.specs.Prelude.{◌≡◌, None, IsTrue, IsSome};
 ghost use Rattle.std.specs.Option.{option_map};
 ghost use Rattle.fq_serial.specs.Devices.{outlet_states, AreHealthy};
-ghost use Rattle.fq_serial.specs.Endings.{mixed_run_of, AreTold, ends_whole, IsTrimmed, IsUntouched, EveryEnding};
+ghost use Rattle.fq_serial.specs.Endings.{interleaved_run_of, AreTold, ends_whole, IsTrimmed, IsUntouched, EveryEnding};
 ghost use Rattle.fq_run.specs.Threads.{IsThreaded};
 
 use crate::conclusion::Conclusion;
@@ -41,14 +41,14 @@ pub fn run_threads_mixed<
     ensures feed { result.feed ≡ None → result.outcome ≡ Outcome.Spawn }
     // Where a thread was refused the outlets are as they were, and so is the feed where it comes back.
     ensures untouched { result.outcome ≡ Outcome.Spawn → IsUntouched
-        (mixed_run_of F.state (outlet_states O.state) feed outlets.old outlets.new result) }
+        (interleaved_run_of F.state (outlet_states O.state) feed outlets.old outlets.new result) }
     // Where the run ends whole, it has trimmed all pairs one after the other, up to the end of the input or its fault.
-    ensures whole { let run = mixed_run_of F.state (outlet_states O.state) feed outlets.old outlets.new result in
+    ensures whole { let run = interleaved_run_of F.state (outlet_states O.state) feed outlets.old outlets.new result in
         IsTrue (ends_whole run.outcome) → AreTold run → IsTrimmed settings.now run }
     // At every ending but that of an unconfirmed lane the outlets have the texts of the first pairs, but for a part of the block in
     // which a write failed.
     ensures every { (result.outcome ≡ Outcome.Lane → ⊥) → EveryEnding settings.now
-        (mixed_run_of F.state (outlet_states O.state) feed outlets.old outlets.new result) }
+        (interleaved_run_of F.state (outlet_states O.state) feed outlets.old outlets.new result) }
 {
     begin(alloc, rt, settings, &gate, feed, outlets)
 }
@@ -69,7 +69,7 @@ fn begin<
 ) -> MixedEnding<F>
     requires feed { (F.state feed).failures ≡ 0 }
     requires outlets { AreHealthy (outlet_states O.state outlets.old) }
-    ensures { IsThreaded settings.now (mixed_run_of F.state (outlet_states O.state) feed outlets.old outlets.new result) result.unended }
+    ensures { IsThreaded settings.now (interleaved_run_of F.state (outlet_states O.state) feed outlets.old outlets.new result) result.unended }
 {
     match prepare_mixed(alloc, settings, feed) {
         Ok((dealer, ready)) => ending_of(start(alloc, rt, settings, gate, dealer, ready, outlets)),
@@ -79,6 +79,7 @@ fn begin<
             MixedEnding {
                 outcome: Outcome::Memory,
                 counts: Counts::ZERO,
+                tally: None,
                 feed: Some(feed),
                 unended: None,
             }
@@ -89,19 +90,20 @@ fn begin<
 // The ending, with the feed.
 fn ending_of<F: Feed>(conclusion: Conclusion<MixedSource<F>>) -> MixedEnding<F>
     ensures outcome { result.outcome ≡ conclusion.outcome }
-    ensures counts { result.counts ≡ conclusion.counts }
+    ensures total { record { counts = result.counts; tally = result.tally } ≡ conclusion.total }
     ensures unended { result.unended ≡ conclusion.unended }
     ensures feed { result.feed ≡ option_map (λ s. s.source.feed) conclusion.source }
 {
     let Conclusion {
         outcome,
-        counts,
+        total,
         source,
         unended,
     } = conclusion;
     MixedEnding {
         outcome,
-        counts,
+        counts: total.counts,
+        tally: total.tally,
         feed: source.map(MixedSource::into_feed),
         unended,
     }

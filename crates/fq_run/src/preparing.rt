@@ -4,6 +4,7 @@ ghost use Rattle.std.specs.Prelude.{◌≡◌, ◌≤◌, ◌*◌, ◌^◌, IfOk
 ghost use Rattle.fq_pair.specs.Forms.{TwoTexts, InterleavedText};
 ghost use Rattle.fq_run.specs.Threads.{IsReady};
 ghost use Rattle.fq_pair.specs.Walks.{source_state, interleaved_state};
+ghost use Rattle.fq_serial.specs.Totals.{no_total};
 ghost use Rattle.fq_serial.specs.Walks.{fresh_source};
 
 use crate::dealer::Dealer;
@@ -25,6 +26,7 @@ pub(crate) fn prepare<F: Feed, G: Feed>(
     requires forward { (F.state forward).failures ≡ 0 }
     requires reverse { (G.state reverse).failures ≡ 0 }
     ensures ready { IfOk result (λ made. IsReady settings.now.workers made.0 made.1) }
+    ensures total { IfOk result (λ made. made.1.total ≡ no_total settings.now.tallied) }
     ensures source { IfOk result (λ made. source_state F.state G.state made.0.source
         ≡ fresh_source TwoTexts settings.now (F.state forward) (G.state reverse)) }
     ensures few { IfOk result (λ made. made.0.source.forward.max_reads * made.0.source.forward.chunk ≤ 2 ^ 60) }
@@ -47,6 +49,7 @@ pub(crate) fn prepare_mixed<F: Feed>(
 ) -> Result<(Dealer<MixedSource<F>>, Ready), F>
     requires { (F.state feed).failures ≡ 0 }
     ensures ready { IfOk result (λ made. IsReady settings.now.workers made.0 made.1) }
+    ensures total { IfOk result (λ made. made.1.total ≡ no_total settings.now.tallied) }
     ensures source { IfOk result (λ made. interleaved_state F.state made.0.source
         ≡ fresh_source InterleavedText settings.now (F.state feed) (F.state feed)) }
     ensures few { IfOk result (λ made. made.0.source.source.max_reads * made.0.source.source.chunk ≤ 2 ^ 60) }

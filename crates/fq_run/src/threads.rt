@@ -2,6 +2,7 @@
 
 ghost use Rattle.std.specs.Prelude.{◌≡◌, ◌≤◌, ◌^◌, true, IfOk, vec_len};
 ghost use Rattle.fq_run.specs.Crews.{CanConfirm};
+ghost use Rattle.fq_serial.specs.Totals.{no_total};
 ghost use Rattle.fq_serial.specs.Devices.{outlet_states, AreHealthy};
 ghost use Rattle.fq_run.specs.Each.{Each3};
 ghost use Rattle.fq_run.specs.Threads.{IsReady, IsFresh, IsManned, run_from, IsThreaded, Concludes};
@@ -16,11 +17,11 @@ use crate::dealer::dealing::start_dealer;
 use crate::dealer::dealt::Dealt;
 use crate::ready::Ready;
 use fq_lane::{End, NotEnded, Rx, Tx};
-use fq_pair::{Out, PairReader, Texts};
-use fq_serial::shared::Occurred;
+use fq_pair::{Out, PairReader};
+use fq_serial::shared::{Occurred, Total};
 use fq_serial::{Outcome, Outlets, Settings};
 use fq_text::Outlet;
-use fq_work::{Gate, Reply, Worked};
+use fq_work::{Done, Gate, Reply, Worked};
 use std::alloc::Global;
 use std::sync::{Arc, Wait};
 use std::thread::Threads;
@@ -41,29 +42,31 @@ pub(crate) fn start<
     outlets: &mut Outlets<O>,
 ) -> Conclusion<S>
     requires ready { IsReady settings.now.workers dealer ready }
+    requires total { ready.total ≡ no_total settings.now.tallied }
     requires fresh { IsFresh settings.now (S.state dealer.source) }
     requires few { (S.state dealer.source).most_bytes ≤ 2 ^ 60 }
     requires outlets { AreHealthy (outlet_states O.state outlets.old) }
     ensures { IsThreaded settings.now (run_from S.state (S.state dealer.source)
         (outlet_states O.state outlets.old) (outlet_states O.state outlets.new) result) result.unended }
 {
-    let Some(dealer) = start_dealer(alloc, rt, settings, dealer) else {
-        return Conclusion::unstarted(None);
-    };
     let Ready {
         starter,
         ends,
         mut hands,
         worked,
+        total,
         replies,
         texts_back,
     } = ready;
+    let Some(dealer) = start_dealer(alloc, rt, settings, dealer) else {
+        return Conclusion::unstarted(total, None);
+    };
     if !start_workers(alloc, rt, settings, gate, ends, &mut hands) {
         // Without an item in the start lane the dealer reads nothing, and closes the lanes of the workers that are there.
         let _ = starter.close();
         let source = dealer.join(rt).into_unread();
         let _ = join_workers(rt, hands, worked);
-        return Conclusion::unstarted(source);
+        return Conclusion::unstarted(total, source);
     }
     let crew = Crew {
         starter,
@@ -71,17 +74,19 @@ pub(crate) fn start<
         hands,
         worked,
     };
-    attend(rt, crew, replies, texts_back, outlets)
+    attend(rt, crew, total, replies, texts_back, outlets)
 }
 
 // Gives the start, collects, and waits for all threads.
 fn attend<R: Threads + Wait, S: PairReader, O: Outlet>(
     rt: &R,
     crew: Crew<S>,
+    total: Total,
     replies: Vec<Rx<Reply>>,
-    texts_back: Vec<Tx<Texts>>,
+    texts_back: Vec<Tx<Done>>,
     outlets: &mut Outlets<O>,
 ) -> Conclusion<S>
+    requires total { total ≡ no_total crew.dealer.promise.settings.tallied }
     requires manned { IsManned crew replies.items }
     requires backs { vec_len texts_back ≡ vec_len replies }
     requires fresh { IsFresh crew.dealer.promise.settings (S.state crew.dealer.promise.source.value) }
@@ -97,7 +102,7 @@ fn attend<R: Threads + Wait, S: PairReader, O: Outlet>(
     } = crew;
     starter.put(rt, ());
     let started = starter.close();
-    let collector = collect(rt, replies, texts_back, outlets);
+    let collector = collect(rt, total, replies, texts_back, outlets);
     let failed = outlets.flush_after(collector.phase.failed());
     let dealt = dealer.join(rt);
     let worked = join_workers(rt, hands, worked);
@@ -124,7 +129,7 @@ fn conclude<S>(
     } = dealt;
     let Collector {
         replies,
-        counts,
+        total,
         halt,
         ..
     } = collector;
@@ -134,7 +139,7 @@ fn conclude<S>(
     };
     Conclusion {
         outcome,
-        counts,
+        total,
         source: Some(source),
         unended,
     }

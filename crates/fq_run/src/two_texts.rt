@@ -32,7 +32,7 @@ use std::thread::Threads;
 /// In the end all threads are joined, and all lanes are confirmed: what came at one end is what left the other. Where more than one
 /// of the outcomes occurred the first in the order of [`Outcome`] is answered. At [`Outcome::Lane`] the ending has the lane's
 /// [`NotEnded`], and nothing is said of outputs and counts. At every other outcome the counts are those of the pairs whose block was
-/// written whole. Both feeds are handed back as they stand, but where the reading thread could not be started both are lost.
+/// written whole, and so is the tally, where the settings ask for one; where memory for it is refused nothing is read. Both feeds are handed back as they stand, but where the reading thread could not be started both are lost.
 /// Where memory was refused before the first thread nothing is read or written. Where a thread was refused nothing is read or written
 /// either: no outlet is called, and feeds that are handed back are as they were.
 ///
@@ -103,6 +103,7 @@ fn begin<
             Ending {
                 outcome: Outcome::Memory,
                 counts: Counts::ZERO,
+                tally: None,
                 forward: Some(forward),
                 reverse: Some(reverse),
                 unended: None,
@@ -114,14 +115,14 @@ fn begin<
 // The ending, with both feeds.
 fn ending_of<F: Feed, G: Feed>(conclusion: Conclusion<PairSource<F, G>>) -> Ending<F, G>
     ensures outcome { result.outcome ≡ conclusion.outcome }
-    ensures counts { result.counts ≡ conclusion.counts }
+    ensures total { record { counts = result.counts; tally = result.tally } ≡ conclusion.total }
     ensures unended { result.unended ≡ conclusion.unended }
     ensures forward { result.forward ≡ option_map (λ s. s.forward.feed) conclusion.source }
     ensures reverse { result.reverse ≡ option_map (λ s. s.reverse.feed) conclusion.source }
 {
     let Conclusion {
         outcome,
-        counts,
+        total,
         source,
         unended,
     } = conclusion;
@@ -134,7 +135,8 @@ fn ending_of<F: Feed, G: Feed>(conclusion: Conclusion<PairSource<F, G>>) -> Endi
     };
     Ending {
         outcome,
-        counts,
+        counts: total.counts,
+        tally: total.tally,
         forward,
         reverse,
         unended,

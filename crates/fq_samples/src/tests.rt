@@ -37,11 +37,34 @@ fn the_two_pairs_are_the_first_and_the_second(rt: HostRuntime) -> Result<(), Fai
 }
 
 #[test]
+fn the_first_of_the_seven_pairs(rt: HostRuntime) {
+    assert!(rt; SEVEN_FORWARD.starts_with(SIX_FORWARD));
+    assert!(rt; SEVEN_REVERSE.starts_with(FIVE_REVERSE));
+    for (first, all) in [
+        (FIVE_WRITTEN.forward_paired, SEVEN_WRITTEN.forward_paired),
+        (
+            FIVE_WRITTEN.forward_unpaired,
+            SEVEN_WRITTEN.forward_unpaired,
+        ),
+        (FIVE_WRITTEN.reverse_paired, SEVEN_WRITTEN.reverse_paired),
+        (
+            FIVE_WRITTEN.reverse_unpaired,
+            SEVEN_WRITTEN.reverse_unpaired,
+        ),
+        (FIVE_WRITTEN.log, SEVEN_WRITTEN.log),
+    ] {
+        assert!(rt; all.starts_with(first));
+    }
+}
+
+#[test]
 fn each_record_has_eighteen_bytes(rt: HostRuntime) {
     assert_eq!(rt; TWO_FORWARD.len(), 2 * RECORD);
     assert_eq!(rt; TWO_INTERLEAVED.len(), 4 * RECORD);
     assert_eq!(rt; SEVEN_FORWARD.len(), 7 * RECORD);
     assert_eq!(rt; SEVEN_REVERSE.len(), 7 * RECORD);
+    assert_eq!(rt; SIX_FORWARD.len(), 6 * RECORD);
+    assert_eq!(rt; FIVE_REVERSE.len(), 5 * RECORD);
     assert_eq!(rt; ELEVEN_INTERLEAVED.len(), 11 * RECORD);
 }
 

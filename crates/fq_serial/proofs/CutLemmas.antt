@@ -10,7 +10,7 @@ use Rattle.fq_pair.specs.Walks.{Leads}
 use Rattle.fq_pair.proofs.PairLaws.{pairs_of-met, pairs_of-stopped, pairs_of-ended}
 use Rattle.fq_pair.proofs.InterleavedLaws.{interleaved_pairs_of-met, interleaved_pairs_of-stopped, interleaved_pairs_of-ended}
 use Rattle.fq_serial.proofs.FormLemmas.{pairs_at}
-use Rattle.fq_serial.proofs.FrontLemmas.{met_more, mixed_met_more}
+use Rattle.fq_serial.proofs.FrontLemmas.{met_more, interleaved_met_more}
 
 module _ (check : Bool) (e : Encoding) where
   abbrev pub mates_at : ℕ → List (List ℕ) → List (List ℕ) → List Mates
@@ -70,40 +70,40 @@ module _ (check : Bool) (e : Encoding) where
 
 -- The same of one text in which mates take turns.
 module _ (check : Bool) (e : Encoding) where
-  abbrev pub mixed_at : ℕ → List (List ℕ) → List Mates
-  mixed_at n ls = (pairs_at InterleavedText check e n ls ls).mates
+  abbrev pub interleaved_at : ℕ → List (List ℕ) → List Mates
+  interleaved_at n ls = (pairs_at InterleavedText check e n ls ls).mates
 
-  pub no_mixed : (n : ℕ) → mixed_at n [] ≡ []
-  no_mixed n = ap (λ (p : Pairs). p.mates) (interleaved_pairs_of-ended check e n [] refl)
+  pub no_interleaved : (n : ℕ) → interleaved_at n [] ≡ []
+  no_interleaved n = ap (λ (p : Pairs). p.mates) (interleaved_pairs_of-ended check e n [] refl)
 
   module _ (more : List (List ℕ)) where
-    abbrev MixedNone : ℕ → List (List ℕ) → Type 0
-    MixedNone n ls = (fs : List (List ℕ)) → fs ++ more ≡ ls → length (mixed_at n fs) ≤ 0
+    abbrev InterleavedNone : ℕ → List (List ℕ) → Type 0
+    InterleavedNone n ls = (fs : List (List ℕ)) → fs ++ more ≡ ls → length (interleaved_at n fs) ≤ 0
 
-    mixed_one_more : (n : ℕ) (m : Mates) (ms : List Mates) (ls same ls' same' gs qs : List (List ℕ)) → interleaved_front check e n (ls ++ more) ≡ Met m gs qs →
-        Leads InterleavedText check e (suc n) ms gs qs ls' same' → MixedNone (n + length (m ∷ ms)) ls' →
-        ((fs rs : List (List ℕ)) → Leads InterleavedText check e (suc n) ms (fs ++ more) rs ls' same' → MixedNone (suc n + length ms) ls' → length (mixed_at (suc n) fs) ≤ length ms) →
-        (x : PairFront) → interleaved_front check e n ls ≡ x → length (mixed_at n ls) ≤ length (m ∷ ms)
-    mixed_one_more n m ms ls same ls' same' gs qs first p none then Ended is =
+    interleaved_one_more : (n : ℕ) (m : Mates) (ms : List Mates) (ls same ls' same' gs qs : List (List ℕ)) → interleaved_front check e n (ls ++ more) ≡ Met m gs qs →
+        Leads InterleavedText check e (suc n) ms gs qs ls' same' → InterleavedNone (n + length (m ∷ ms)) ls' →
+        ((fs rs : List (List ℕ)) → Leads InterleavedText check e (suc n) ms (fs ++ more) rs ls' same' → InterleavedNone (suc n + length ms) ls' → length (interleaved_at (suc n) fs) ≤ length ms) →
+        (x : PairFront) → interleaved_front check e n ls ≡ x → length (interleaved_at n ls) ≤ length (m ∷ ms)
+    interleaved_one_more n m ms ls same ls' same' gs qs first p none then Ended is =
         let h = ap (λ (q : Pairs). length q.mates) (interleaved_pairs_of-ended check e n ls is) in omega arith
-    mixed_one_more n m ms ls same ls' same' gs qs first p none then (Stopped w) is =
+    interleaved_one_more n m ms ls same ls' same' gs qs first p none then (Stopped w) is =
         let h = ap (λ (q : Pairs). length q.mates) (interleaved_pairs_of-stopped check e n ls w is) in omega arith
-    mixed_one_more n m ms ls same ls' same' gs qs first p none then (Met x fs rs) is =
-        let longer = mixed_met_more check e n x ls fs rs more is in
+    interleaved_one_more n m ms ls same ls' same' gs qs first p none then (Met x fs rs) is =
+        let longer = interleaved_met_more check e n x ls fs rs more is in
         let both : Met x (fs ++ more) (rs ++ more) ≡ Met m gs qs = sym longer ∙ first in
         let f : gs ≡ fs ++ more = cc in
         let F : List (List ℕ) → Type 0 = λ xs. Leads InterleavedText check e (suc n) ms xs qs ls' same' in
-        let N : ℕ → Type 0 = λ k. MixedNone k ls' in
+        let N : ℕ → Type 0 = λ k. InterleavedNone k ls' in
         let number : n + suc (length ms) ≡ suc n + length ms = omega arith in
         let rest = then fs qs (subst F f p) (subst N number none) in
         let h = ap (λ (q : Pairs). length q.mates) (interleaved_pairs_of-met check e n x ls fs rs is) in
         omega arith
 
-    pub mixed_at_most : (n : ℕ) (ms : List Mates) (ls same ls' same' : List (List ℕ)) → Leads InterleavedText check e n ms (ls ++ more) same ls' same' →
-        MixedNone (n + length ms) ls' → length (mixed_at n ls) ≤ length ms
-    mixed_at_most n [] ls same ls' same' p none =
+    pub interleaved_at_most : (n : ℕ) (ms : List Mates) (ls same ls' same' : List (List ℕ)) → Leads InterleavedText check e n ms (ls ++ more) same ls' same' →
+        InterleavedNone (n + length ms) ls' → length (interleaved_at n ls) ≤ length ms
+    interleaved_at_most n [] ls same ls' same' p none =
         let zero_more : n + 0 ≡ n = omega arith in
-        let P : ℕ → Type 0 = λ k. length (mixed_at k ls) ≤ 0 in
+        let P : ℕ → Type 0 = λ k. length (interleaved_at k ls) ≤ 0 in
         subst P zero_more (none ls p.0)
-    mixed_at_most n (m ∷ ms) ls same ls' same' p none =
-        mixed_one_more n m ms ls same ls' same' p.0 p.1 p.2 p.3 none (λ fs rs. mixed_at_most (suc n) ms fs rs ls' same') (interleaved_front check e n ls) refl
+    interleaved_at_most n (m ∷ ms) ls same ls' same' p none =
+        interleaved_one_more n m ms ls same ls' same' p.0 p.1 p.2 p.3 none (λ fs rs. interleaved_at_most (suc n) ms fs rs ls' same') (interleaved_front check e n ls) refl

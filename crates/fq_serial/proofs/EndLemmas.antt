@@ -1,12 +1,11 @@
 -- What a run promises, from what it read and wrote.
-use Rattle.std.proofs.Common.{◌≡◌, ◌≤◌, ◌⊎◌, inl, inr, true, false, IsTrue, Option, Some, None, List, [], ◌++◌, length, refl, sym, ap, subst, ◌∙◌, arith, append_assoc}
+use Rattle.std.proofs.Common.{◌≡◌, ◌≤◌, ◌⊎◌, inl, inr, true, false, IsTrue, Option, Some, None, List, [], ◌++◌, length, ⊎_elim, refl, sym, ap, subst, ◌∙◌, arith, append_assoc}
 use Rattle.std.proofs.lemmas.List.{append-nil}
 use Rattle.fq_text.specs.Lines.{whole_part}
 use Rattle.fq_text.specs.declared.fault.TextFault.TheVariants as text
 use Rattle.fq_pair.specs.declared.out.Out.{Out}
 use Rattle.fq_pair.specs.declared.side.Side.{Side}
 use Rattle.fq_pair.specs.declared.side.Side.TheVariants.{Forward, Reverse}
-use Rattle.fq_pair.specs.declared.counts.Counts.{Counts}
 use Rattle.fq_pair.specs.declared.fault.InputFault.{InputFault}
 use Rattle.fq_pair.specs.declared.fault.InputFault.TheVariants.{Text}
 use Rattle.fq_pair.specs.Mates.{Mates}
@@ -16,7 +15,9 @@ use Rattle.fq_pair.specs.PairSources.{is_cut_short}
 use Rattle.fq_pair.specs.Outputs.{texts_of, text_of, counts_of}
 use Rattle.fq_serial.specs.declared.outcome.Outcome.{Outcome}
 use Rattle.fq_serial.specs.declared.outcome.Outcome.TheVariants as outcome
+use Rattle.fq_work.specs.Replies.{tally_if}
 use Rattle.fq_serial.specs.declared.halt.Halt.{Halt}
+use Rattle.fq_serial.specs.declared.total.Total.{Total}
 use Rattle.fq_serial.specs.declared.reading_end.ReadingEnd.{ReadingEnd}
 use Rattle.fq_serial.specs.declared.reading_end.ReadingEnd.TheVariants as reading
 use Rattle.fq_serial.specs.Choices.{Choices}
@@ -25,18 +26,18 @@ use Rattle.fq_serial.specs.Devices.{gave, OutletStates, OutletsTook}
 use Rattle.fq_serial.specs.Fates.{Fate, Unbroken, FlushFailed, WriteFailed, failed_outlet, block_begun, part_begun, IsCutShort}
 use Rattle.fq_pair.specs.Walks.{SourceState, fed}
 use Rattle.fq_serial.specs.Walks.{Reads, fresh_side, fresh_source, feed_in}
-use Rattle.fq_serial.specs.Writing.{no_halt, Passes, FlushesAfter, is_flush}
+use Rattle.fq_serial.specs.Writing.{no_halt, IsCounted, Passes, FlushesAfter, is_flush}
 use Rattle.fq_serial.specs.Endings.{Run, AreTold, all_pairs, trimmed_outcome, IsTrimmed, ends_whole, feed_of, feed_left, gave_to, failures_in, IsCutOff, pairs_given, IsAllThatCame, AreFirst, IsJustified, EveryEnding}
 use Rattle.fq_serial.proofs.OutletLemmas.{all_took_then, all_took_same}
 use Rattle.fq_serial.proofs.ReadingLemmas.{failed_by, gave_is, gave_length, fed_back, reads_first, reads_end, reads_fault, reads_forward, reads_reverse, reads_cut}
-use Rattle.fq_serial.proofs.VerdictLemmas.{Kind, OfText, OfRead, OfEndless, OfMemory, kind, Verdict, IsRefused, WantsMemory, FailedAt, CannotRead, HasNoEnd, HasFault, IsOver, read_once, failed_once, not_spawn, at_write, at_read, at_endless, outlet_first, feed_first, lacks_memory}
+use Rattle.fq_serial.proofs.VerdictLemmas.{Kind, OfText, OfRead, OfEndless, OfMemory, kind, Verdict, IsRefused, WantsMemory, FailedAt, CannotRead, HasNoEnd, HasFault, IsOver, read_once, failed_once, not_spawn, at_write, at_read, at_endless, outlet_first, feed_first, lacks_memory, at_refusal}
 
 -- pairs were read and written, and the outlets flushed
-pub record Closes (c : Choices) (old new : SourceState) (before after : OutletStates) (counted : Counts) (halt : Halt) (why : Option ReadingEnd) (broken : Option Out) : Type 0 where
+pub record Closes (c : Choices) (old new : SourceState) (before after : OutletStates) (counted : Total) (halt : Halt) (why : Option ReadingEnd) (broken : Option Out) : Type 0 where
   pub whole : List Mates
   pub fate : Fate
   pub missed : List Mates
-  pub counts : counted ≡ counts_of c.steps whole
+  pub counts : IsCounted c whole halt why counted
   pub reads : Reads old new ((whole ++ block_begun fate) ++ missed) why
   pub took : OutletsTook before after (λ out. text_of out (texts_of c.steps whole) ++ part_begun c.steps fate out) (failed_outlet fate)
   pub failed : broken ≡ failed_outlet fate
@@ -45,9 +46,9 @@ pub record Closes (c : Choices) (old new : SourceState) (before after : OutletSt
   pub stopped : is_flush fate ≡ true → why ≡ None → ⊥
   pub missed_none : halt ≡ no_halt → block_begun fate ≡ [] → missed ≡ []
 
-module _ (c : Choices) (old new : SourceState) (before mid after : OutletStates) (counted : Counts) (halt : Halt) (why : Option ReadingEnd) where
+module _ (c : Choices) (old new : SourceState) (before mid after : OutletStates) (counted : Total) (halt : Halt) (why : Option ReadingEnd) where
   -- where no write failed
-  flushed : (whole missed : List Mates) → counted ≡ counts_of c.steps whole → Reads old new ((whole ++ []) ++ missed) why → OutletsTook before mid (λ out. text_of out (texts_of c.steps whole) ++ []) None →
+  flushed : (whole missed : List Mates) → IsCounted c whole halt why counted → Reads old new ((whole ++ []) ++ missed) why → OutletsTook before mid (λ out. text_of out (texts_of c.steps whole) ++ []) None →
       (why ≡ None → ⊥) → (halt ≡ no_halt → missed ≡ []) → (failed : Option Out) → OutletsTook mid after (λ out. []) failed → Closes c old new before after counted halt why failed
   flushed whole missed counts reads took over none None p = record {
     whole = whole;
@@ -78,7 +79,7 @@ module _ (c : Choices) (old new : SourceState) (before mid after : OutletStates)
     missed_none = λ sound empty. none sound;
   }
 
-  by_fate : (fate : Fate) (broken failed : Option Out) (whole missed : List Mates) → counted ≡ counts_of c.steps whole → Reads old new ((whole ++ block_begun fate) ++ missed) why →
+  by_fate : (fate : Fate) (broken failed : Option Out) (whole missed : List Mates) → IsCounted c whole halt why counted → Reads old new ((whole ++ block_begun fate) ++ missed) why →
       OutletsTook before mid (λ out. text_of out (texts_of c.steps whole) ++ part_begun c.steps fate out) (failed_outlet fate) → broken ≡ failed_outlet fate →
       IsCutShort c.block_pairs c.steps fate → (why ≡ None → broken ≡ None → ⊥) → is_flush fate ≡ false → (halt ≡ no_halt → broken ≡ None → missed ≡ []) →
       FlushesAfter broken mid after failed → Closes c old new before after counted halt why failed
@@ -116,11 +117,11 @@ unbroken (WriteFailed out sent block) is = absurd cc
 first_of : (ms ns all : List Mates) → AreFirst (ms ++ ns) all → AreFirst ms all
 first_of ms ns all p = (ns ++ p.0, p.1 ∙ append_assoc ms ns p.0)
 
-module _ (form : Form) (c : Choices) (f r : FeedState) (new : SourceState) (before after : OutletStates) (counted : Counts) (halt : Halt) (why : Option ReadingEnd) (failed : Option Out) (o : Outcome)
+module _ (form : Form) (c : Choices) (f r : FeedState) (new : SourceState) (before after : OutletStates) (counted : Total) (halt : Halt) (why : Option ReadingEnd) (failed : Option Out) (o : Outcome)
     (p : Closes c (fresh_source form c f r) new before after counted halt why failed) (v : Verdict halt why failed o) (sound : f.failures ≡ 0) (sound' : r.failures ≡ 0) where
   -- the run
   abbrev pub run : Run
-  run = record { form = form; forward = f; reverse = r; outlets = before; forward_left = Some (feed_in new.forward); reverse_left = Some (feed_in new.reverse); outlets_left = after; outcome = o; counts = counted }
+  run = record { form = form; forward = f; reverse = r; outlets = before; forward_left = Some (feed_in new.forward); reverse_left = Some (feed_in new.reverse); outlets_left = after; outcome = o; counts = counted.counts; tally = counted.tally }
 
   -- all pairs that were read
   abbrev all_read : List Mates
@@ -215,7 +216,8 @@ module _ (form : Form) (c : Choices) (f r : FeedState) (new : SourceState) (befo
   every = record {
     whole = p.whole;
     fate = p.fate;
-    counts = p.counts;
+    counts = p.counts.counts;
+    tally = ⊎_elim inl (λ none. inr (none.0, at_refusal halt why failed o none.1 none.2 v)) p.counts.tally;
     took = p.took;
     cut_short = p.cut_short;
     first = λ told. first_of (p.whole ++ block_begun p.fate) p.missed _ (reads_first form c f r new all_read why p.reads told.forward told.reverse);
@@ -225,8 +227,8 @@ module _ (form : Form) (c : Choices) (f r : FeedState) (new : SourceState) (befo
   }
 
   -- where all pairs were read and no outlet failed
-  trimmed_all : AreTold run → failed ≡ None → halt ≡ no_halt → (fault : Option InputFault) → all_pairs c run ≡ record { mates = all_read; fault = fault } → o ≡ trimmed_outcome fault → IsTrimmed c run
-  trimmed_all told none going fault all is =
+  trimmed_all : AreTold run → failed ≡ None → halt ≡ no_halt → (why ≡ Some reading.Memory → ⊥) → (fault : Option InputFault) → all_pairs c run ≡ record { mates = all_read; fault = fault } → o ≡ trimmed_outcome fault → IsTrimmed c run
+  trimmed_all told none going enough fault all is =
       let sound_is = sound_fate none in
       let whole = whole_is going Unbroken sound_is refl in
       let same : p.whole ≡ (all_pairs c run).mates = sym whole ∙ sym (ap (λ (q : Pairs). q.mates) all) in
@@ -234,7 +236,8 @@ module _ (form : Form) (c : Choices) (f r : FeedState) (new : SourceState) (befo
       record {
         took = all_took_same before after (λ out. text_of out (texts_of c.steps p.whole) ++ []) _ None
             (λ out. append-nil (text_of out (texts_of c.steps p.whole)) ∙ ap (λ ms. text_of out (texts_of c.steps ms)) same) (subst P sound_is p.took);
-        counts = p.counts ∙ ap (counts_of c.steps) same;
+        counts = p.counts.counts ∙ ap (counts_of c.steps) same;
+        tally = ⊎_elim (λ tally. tally ∙ ap (tally_if c.tallied c.steps) same) (λ lost. absurd (enough lost.2)) p.counts.tally;
         outcome = is ∙ ap trimmed_outcome (sym (ap (λ (q : Pairs). q.fault) all));
       }
 
@@ -246,9 +249,9 @@ module _ (form : Form) (c : Choices) (f r : FeedState) (new : SourceState) (befo
   trimmed_by (CannotRead x none going there is) ends told = absurd (let e = sym (ap ends_whole is) ∙ ends in cc)
   trimmed_by (HasNoEnd x none going there is) ends told = absurd (let e = sym (ap ends_whole is) ∙ ends in cc)
   trimmed_by (HasFault fault none going there inside is) ends told =
-      trimmed_all told none going (Some fault) (reads_fault form c f r new all_read fault (reads_at (reading.Fault fault) there) inside told.forward told.reverse) is
+      trimmed_all told none going (λ at. let e = sym there ∙ at in cc) (Some fault) (reads_fault form c f r new all_read fault (reads_at (reading.Fault fault) there) inside told.forward told.reverse) is
   trimmed_by (IsOver none going there is) ends told =
-      trimmed_all told none going None (reads_end form c f r new all_read (reads_at reading.End there) told.forward told.reverse) is
+      trimmed_all told none going (λ at. let e = sym there ∙ at in cc) None (reads_end form c f r new all_read (reads_at reading.End there) told.forward told.reverse) is
 
   pub trimmed : IsTrue (ends_whole o) → AreTold run → IsTrimmed c run
   trimmed ends told = trimmed_by v ends told

@@ -8,6 +8,7 @@ use Rattle.fq_serial.specs.declared.reading_end.ReadingEnd.{ReadingEnd}
 use Rattle.fq_serial.specs.declared.reading_end.ReadingEnd.TheVariants as reading
 use Rattle.fq_serial.specs.Filling.{Fills}
 use Rattle.fq_pair.specs.Walks.{SourceState, Walks, MeetsEnd, MeetsFault, GoesOn}
+use Rattle.fq_serial.specs.Walks.{Reads}
 use Rattle.fq_serial.proofs.WalkLemmas.{walks_none, walks_then}
 use Rattle.fq_pair.proofs.SideLemmas.{walked_records}
 
@@ -45,6 +46,10 @@ filled_more old now next empty block then n m f w within is =
       goes = record { last = w.last; within = within };
     })
 
+-- the block is in the encoding of the source that fills it
+pub filled_encoding : (old now : SourceState) (empty block : Numbered) (n : ℕ) → Filled old now empty block n → empty.encoding ≡ old.encoding → block.encoding ≡ now.encoding
+filled_encoding old now empty block n f is = let w = f.walks in let s = w.same in f.encoding ∙ is ∙ sym s.encoding
+
 -- the pairs of the block are no more than the bytes that may come
 filled_within : (old now : SourceState) (empty block : Numbered) (n : ℕ) → Filled old now empty block n → old.forward.given + length block.pairs ≤ old.most_bytes
 filled_within old now empty block n f =
@@ -63,46 +68,32 @@ module _ (old now : SourceState) (empty block : Numbered) (n most : ℕ) (f : Fi
     goes = λ going. f.goes;
   }
 
-  pub fills_end : (next : SourceState) → n < most → MeetsEnd now next → Fills old next most empty block (Some reading.End)
-  fills_end next room e = let len = f.len in record {
+  -- the reading stopped behind the block
+  fills_stopped : (next : SourceState) (stop : ReadingEnd) → n < most → Reads old next block.pairs (Some stop) → (stop ≡ reading.Memory → next.given ≡ old.given + length block.pairs + 1) →
+      Fills old next most empty block (Some stop)
+  fills_stopped next stop room reads lost = let len = f.len in record {
     number = f.number;
     encoding = f.encoding;
     few = omega arith;
     full = λ going. absurd cc;
-    reads = (now, f.walks, e);
-    lost = λ refused. absurd cc;
+    reads = reads;
+    lost = λ refused. lost cc;
     within = filled_within old now empty block n f;
     goes = λ going. absurd cc;
   }
 
+  pub fills_end : (next : SourceState) → n < most → MeetsEnd now next → Fills old next most empty block (Some reading.End)
+  fills_end next room e = fills_stopped next reading.End room (now, f.walks, e) (λ refused. absurd cc)
+
   pub fills_fault : (next : SourceState) (why : InputFault) → n < most → MeetsFault now next why → Fills old next most empty block (Some (reading.Fault why))
-  fills_fault next why room e = let len = f.len in record {
-    number = f.number;
-    encoding = f.encoding;
-    few = omega arith;
-    full = λ going. absurd cc;
-    reads = (now, f.walks, e);
-    lost = λ refused. absurd cc;
-    within = filled_within old now empty block n f;
-    goes = λ going. absurd cc;
-  }
+  fills_fault next why room e = fills_stopped next (reading.Fault why) room (now, f.walks, e) (λ refused. absurd cc)
 
   pub fills_refused : (next : SourceState) (then : Numbered) (m : Mates) → n < most → Walks now next (m ∷ []) → then ≡ block → Fills old next most empty then (Some reading.Memory)
   fills_refused next then m room w same =
-      let len = f.len in
       let walks = walks_then old now next block.pairs (m ∷ []) f.walks w in
       let given = walks.given in
       let P : Numbered → Type 0 = λ b. Fills old next most empty b (Some reading.Memory) in
-      subst P (sym same) (record {
-        number = f.number;
-        encoding = f.encoding;
-        few = omega arith;
-        full = λ going. absurd cc;
-        reads = (m ∷ [], walks);
-        lost = λ refused. omega (arith, length-append block.pairs (m ∷ []));
-        within = filled_within old now empty block n f;
-        goes = λ going. absurd cc;
-      })
+      subst P (sym same) (fills_stopped next reading.Memory room (m ∷ [], walks) (λ refused. omega (arith, length-append block.pairs (m ∷ []))))
 
 -- the same bound
 pub fills_as : (old new : SourceState) (most most' : ℕ) (empty block : Numbered) (why : Option ReadingEnd) → most' ≡ most → Fills old new most' empty block why → Fills old new most empty block why

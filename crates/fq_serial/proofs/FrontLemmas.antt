@@ -49,7 +49,7 @@ met_more check e n m forward reverse fs rs more more' is =
     ∙ ap (λ x. Met x (fs ++ more) (rs ++ more')) p.pair
 
 -- two records that make a pair, one behind the other
-record MeetsInTurn (check : Bool) (e : Encoding) (m : Mates) (fs rs : List (List ℕ)) (x : Front) : Type 0 where
+record MeetsInterleaved (check : Bool) (e : Encoding) (m : Mates) (fs rs : List (List ℕ)) (x : Front) : Type 0 where
   f : Read
   r : Read
   ls : List (List ℕ)
@@ -59,9 +59,9 @@ record MeetsInTurn (check : Bool) (e : Encoding) (m : Mates) (fs rs : List (List
   together : belong check (mates_in f r) ≡ true
   pair : mates_in f r ≡ m
 
-found_in_turn : (check : Bool) (e : Encoding) (n : ℕ) (m : Mates) (f r : Read) (ls qs fs rs : List (List ℕ)) → front e ls ≡ Found r qs → met check n (mates_in f r) qs qs ≡ Met m fs rs →
-    MeetsInTurn check e m fs rs (Found f ls)
-found_in_turn check e n m f r ls qs fs rs second is = ⊎_elim
+found_interleaved : (check : Bool) (e : Encoding) (n : ℕ) (m : Mates) (f r : Read) (ls qs fs rs : List (List ℕ)) → front e ls ≡ Found r qs → met check n (mates_in f r) qs qs ≡ Met m fs rs →
+    MeetsInterleaved check e m fs rs (Found f ls)
+found_interleaved check e n m f r ls qs fs rs second is = ⊎_elim
     (λ together.
     let same : Met (mates_in f r) qs qs ≡ Met m fs rs = sym (cond-true (belong check (mates_in f r)) (Met (mates_in f r) qs qs) (Stopped (NamesDiffer n)) together) ∙ is in
     let g : qs ≡ fs = cc in let q : qs ≡ rs = cc in let p : mates_in f r ≡ m = cc in
@@ -69,21 +69,21 @@ found_in_turn check e n m f r ls qs fs rs second is = ⊎_elim
     (λ apart. absurd (let h = sym (cond-false (belong check (mates_in f r)) (Met (mates_in f r) qs qs) (Stopped (NamesDiffer n)) apart) ∙ is in cc))
     (cases_Bool (belong check (mates_in f r)))
 
-meets_in_turn : (check : Bool) (e : Encoding) (n : ℕ) (m : Mates) (fs rs : List (List ℕ)) (x : Front) → interleaved_meeting check e n x ≡ Met m fs rs → MeetsInTurn check e m fs rs x
-meets_in_turn check e n m fs rs End is = absurd cc
-meets_in_turn check e n m fs rs (Faulty x) is = absurd cc
-meets_in_turn check e n m fs rs (Found f ls) is = behind (front e ls) refl is
+meets_interleaved : (check : Bool) (e : Encoding) (n : ℕ) (m : Mates) (fs rs : List (List ℕ)) (x : Front) → interleaved_meeting check e n x ≡ Met m fs rs → MeetsInterleaved check e m fs rs x
+meets_interleaved check e n m fs rs End is = absurd cc
+meets_interleaved check e n m fs rs (Faulty x) is = absurd cc
+meets_interleaved check e n m fs rs (Found f ls) is = behind (front e ls) refl is
   where
-    behind : (y : Front) → front e ls ≡ y → meeting_behind check n f y ≡ Met m fs rs → MeetsInTurn check e m fs rs (Found f ls)
+    behind : (y : Front) → front e ls ≡ y → meeting_behind check n f y ≡ Met m fs rs → MeetsInterleaved check e m fs rs (Found f ls)
     behind End at there = absurd cc
     behind (Faulty x) at there = absurd cc
-    behind (Found r qs) at there = found_in_turn check e n m f r ls qs fs rs at there
+    behind (Found r qs) at there = found_interleaved check e n m f r ls qs fs rs at there
 
 -- the same of one list of lines, in which mates take turns
-pub mixed_met_more : (check : Bool) (e : Encoding) (n : ℕ) (m : Mates) (ls fs rs more : List (List ℕ)) → interleaved_front check e n ls ≡ Met m fs rs →
+pub interleaved_met_more : (check : Bool) (e : Encoding) (n : ℕ) (m : Mates) (ls fs rs more : List (List ℕ)) → interleaved_front check e n ls ≡ Met m fs rs →
     interleaved_front check e n (ls ++ more) ≡ Met m (fs ++ more) (rs ++ more)
-mixed_met_more check e n m ls fs rs more is =
-    let p = meets_in_turn check e (suc n) m fs rs (front e ls) is in
+interleaved_met_more check e n m ls fs rs more is =
+    let p = meets_interleaved check e (suc n) m fs rs (front e ls) is in
     ap (interleaved_meeting check e (suc n)) (front_more more e p.f p.ls ls p.first)
     ∙ ap (meeting_behind check (suc n) p.f) (front_more more e p.r fs p.ls p.second)
     ∙ cond-true (belong check (mates_in p.f p.r)) (Met (mates_in p.f p.r) (fs ++ more) (fs ++ more)) (Stopped (NamesDiffer (suc n))) p.together

@@ -1,6 +1,7 @@
 pub mod OutletLemmas
 pub mod WalkLemmas
 pub mod TextLemmas
+pub mod TotalLemmas
 pub mod GatherLemmas
 pub mod FillLemmas
 pub mod BlockLemmas

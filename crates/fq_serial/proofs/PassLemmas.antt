@@ -1,9 +1,9 @@
 -- From the feeds to the outlets.
-use Rattle.std.proofs.Common.{◌≡◌, Option, Some, None, [], ◌++◌, refl, sym, subst}
+use Rattle.std.proofs.Common.{◌≡◌, inr, Option, Some, None, [], ◌++◌, refl, sym, ap, subst}
 use Rattle.fq_pair.specs.declared.out.Out.{Out}
-use Rattle.fq_pair.specs.declared.counts.Counts.{Counts}
 use Rattle.fq_pair.specs.Outputs.{text_of, texts_of, no_counts}
 use Rattle.fq_serial.specs.declared.halt.Halt.{Halt}
+use Rattle.fq_serial.specs.declared.total.Total.{Total}
 use Rattle.fq_serial.specs.declared.written.Written.{Written}
 use Rattle.fq_serial.specs.declared.reading_end.ReadingEnd.{ReadingEnd}
 use Rattle.fq_serial.specs.declared.reading_end.ReadingEnd.TheVariants as reading
@@ -19,38 +19,49 @@ use Rattle.fq_serial.proofs.OutletLemmas.{all_took_none, all_took_same}
 use Rattle.fq_serial.proofs.TextLemmas.{no_text}
 use Rattle.fq_serial.proofs.WalkLemmas.{walks_none}
 
+-- no counts and no tally
+abbrev pub nothing : Total
+nothing = record { counts = no_counts; tally = None }
+
 -- memory was refused before anything was read
-pub runs_refused : (form : Form) (c : Choices) (f r f' r' : FeedState) (o : OutletStates) (counted : Counts) → f' ≡ f → r' ≡ r → counted ≡ no_counts → Runs form c f r f' r' o o counted no_halt (Some reading.Memory) None
-runs_refused form c f r f' r' o counted same also none = record {
-  new = fresh_source form c f r;
-  passes = record {
-    whole = [];
-    fate = Unbroken;
-    missed = [];
-    counts = none;
-    reads = ([], walks_none (fresh_source form c f r) refl);
-    took = all_took_same o o (λ out. []) _ None (λ out. sym (nothing out)) (all_took_none o);
-    failed = refl;
-    cut_short = tt;
-    over = λ going sound. absurd cc;
-    unflushed = refl;
-    missed_none = λ sound none. refl;
-  };
-  forward = same;
-  reverse = also;
+pub passes_refused : (c : Choices) (old : SourceState) (o : OutletStates) (counted : Total) → old.last ≡ None → counted ≡ nothing → Passes c old old o o counted no_halt (Some reading.Memory) None
+passes_refused c old o counted goes none = record {
+  whole = [];
+  fate = Unbroken;
+  missed = [];
+  counts = record { counts = ap (λ (t : Total). t.counts) none; tally = inr (ap (λ (t : Total). t.tally) none, refl, refl) };
+  reads = ([], walks_none old goes);
+  took = all_took_same o o (λ out. []) _ None (λ out. sym (no_more out)) (all_took_none o);
+  failed = refl;
+  cut_short = tt;
+  over = λ going sound. absurd cc;
+  unflushed = refl;
+  missed_none = λ sound none. refl;
 }
   where
-    nothing : (out : Out) → text_of out (texts_of c.steps []) ++ [] ≡ []
-    nothing out = let e = no_text c.steps out in rw e refl
+    no_more : (out : Out) → text_of out (texts_of c.steps []) ++ [] ≡ []
+    no_more out = let e = no_text c.steps out in rw e refl
 
-pub runs_nothing : (form : Form) (c : Choices) (f r f' r' : FeedState) (o : OutletStates) (w : Written) → w ≡ record { counts = no_counts; why = Some reading.Memory; failed = None } → f' ≡ f → r' ≡ r →
-    Runs form c f r f' r' o o w.counts no_halt w.why w.failed
+pub runs_refused : (form : Form) (c : Choices) (f r f' r' : FeedState) (o : OutletStates) (counted : Total) → f' ≡ f → r' ≡ r → counted ≡ nothing → Runs form c f r f' r' o o counted no_halt (Some reading.Memory) None
+runs_refused form c f r f' r' o counted same also none =
+    record { new = fresh_source form c f r; passes = passes_refused c (fresh_source form c f r) o counted refl none; forward = same; reverse = also }
+
+abbrev pub written_nothing : Written
+written_nothing = record { total = nothing; why = Some reading.Memory; failed = None }
+
+pub passes_nothing : (c : Choices) (old : SourceState) (o : OutletStates) (w : Written) → old.last ≡ None → w ≡ written_nothing → Passes c old old o o w.total no_halt w.why w.failed
+passes_nothing c old o w goes is =
+    let P : Written → Type 0 = λ x. Passes c old old o o x.total no_halt x.why x.failed in
+    subst P (sym is) (passes_refused c old o nothing goes refl)
+
+pub runs_nothing : (form : Form) (c : Choices) (f r f' r' : FeedState) (o : OutletStates) (w : Written) → w ≡ written_nothing → f' ≡ f → r' ≡ r →
+    Runs form c f r f' r' o o w.total no_halt w.why w.failed
 runs_nothing form c f r f' r' o w is same also =
-    let P : Written → Type 0 = λ x. Runs form c f r f' r' o o x.counts no_halt x.why x.failed in
-    subst P (sym is) (runs_refused form c f r f' r' o no_counts same also refl)
+    let P : Written → Type 0 = λ x. Runs form c f r f' r' o o x.total no_halt x.why x.failed in
+    subst P (sym is) (runs_refused form c f r f' r' o nothing same also refl)
 
 -- what was passed from a fresh source on
-pub runs_passed : (form : Form) (c : Choices) (f r f' r' : FeedState) (old new : SourceState) (before after : OutletStates) (counted : Counts) (halt : Halt) (why : Option ReadingEnd) (failed : Option Out) →
+pub runs_passed : (form : Form) (c : Choices) (f r f' r' : FeedState) (old new : SourceState) (before after : OutletStates) (counted : Total) (halt : Halt) (why : Option ReadingEnd) (failed : Option Out) →
     old ≡ fresh_source form c f r → f' ≡ feed_in new.forward → r' ≡ feed_in new.reverse → Passes c old new before after counted halt why failed → Runs form c f r f' r' before after counted halt why failed
 runs_passed form c f r f' r' old new before after counted halt why failed is first second p =
     let P : SourceState → Type 0 = λ s. Passes c s new before after counted halt why failed in

@@ -21,7 +21,7 @@ use Rattle.fq_pair.specs.Walks.{SideState, SourceState, rest, fed, Draws, Leads,
 use Rattle.fq_serial.specs.Walks.{Reads, fresh_side, fresh_source, feed_in}
 use Rattle.fq_serial.specs.Endings.{AreFirst}
 use Rattle.fq_serial.proofs.FormLemmas.{pairs_at, pairs_in-lines, pairs_at-met, pairs_at-stopped, pairs_at-ended}
-use Rattle.fq_serial.proofs.CutLemmas.{mates_at, no_forward, no_reverse, at_most, mixed_at, no_mixed, mixed_at_most}
+use Rattle.fq_serial.proofs.CutLemmas.{mates_at, no_forward, no_reverse, at_most, interleaved_at, no_interleaved, interleaved_at_most}
 
 -- pairs before others
 abbrev pub put_before : List Mates → Pairs → Pairs
@@ -176,12 +176,12 @@ module _ (c : Choices) (f r : FeedState) where
       let F = lines_before (fresh_side c f) m.forward s.forward _ w.forward e.forward tf (w.forward_used tf) in
       let P : List (List ℕ) → Type 0 = λ ls. Leads InterleavedText c.check_names c.encoding 0 ms ls (lines (rest (fresh_side c r))) (lines (rest m.forward)) (lines (rest m.reverse)) in
       let lacks = lacks_as InterleavedText c f r m ms (m.forward.in_hand ++ fed m.forward s.forward) (m.reverse.in_hand ++ fed m.reverse s.reverse) w (e.lacks short (d.told ∙ tf) (d'.told ∙ tr)) in
-      mixed_at_most c.check_names c.encoding (lines (behind_whole (fed (fresh_side c f) s.forward) ++ s.forward.to_come)) 0 ms
+      interleaved_at_most c.check_names c.encoding (lines (behind_whole (fed (fresh_side c f) s.forward) ++ s.forward.to_come)) 0 ms
       (lines (whole_part (fed (fresh_side c f) s.forward))) (lines (rest (fresh_side c r))) (lines (rest m.forward)) (lines (rest m.reverse))
       (subst P F (w.leads tf tr))
       (λ fs first. ⊎_elim
-      (λ came. let none = ap (mixed_at c.check_names c.encoding (0 + length ms)) came ∙ lacks in let len = ap length none in omega arith)
-      (λ nothing_left. let none = ap (mixed_at c.check_names c.encoding (0 + length ms)) nothing_left ∙ no_mixed c.check_names c.encoding (0 + length ms) in let len = ap length none in omega arith)
+      (λ came. let none = ap (interleaved_at c.check_names c.encoding (0 + length ms)) came ∙ lacks in let len = ap length none in omega arith)
+      (λ nothing_left. let none = ap (interleaved_at c.check_names c.encoding (0 + length ms)) nothing_left ∙ no_interleaved c.check_names c.encoding (0 + length ms) in let len = ap length none in omega arith)
       (lines_left (fresh_side c f) m.forward s.forward _ w.forward e.forward tf (w.forward_used tf) fs first))
 
   pub reads_cut : (form : Form) (s : SourceState) (ms : List Mates) (why : InputFault) → Reads (fresh_source form c f r) s ms (Some (reading.Fault why)) → is_cut_short why ≡ true → IsTrue f.tells → IsTrue r.tells →

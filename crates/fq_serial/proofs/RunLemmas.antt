@@ -1,10 +1,10 @@
 -- What a run promises whose lanes are all confirmed, as those of a serial run are, which has none.
 use Rattle.std.proofs.Common.{◌≡◌, ◌≤◌, IsTrue, Option, Some, None, ◌++◌, sym, ◌∙◌, subst}
 use Rattle.fq_pair.specs.declared.out.Out.{Out}
-use Rattle.fq_pair.specs.declared.counts.Counts.{Counts}
 use Rattle.fq_pair.specs.Outputs.{texts_of, text_of}
 use Rattle.fq_serial.specs.declared.outcome.Outcome.{Outcome}
 use Rattle.fq_serial.specs.declared.halt.Halt.{Halt}
+use Rattle.fq_serial.specs.declared.total.Total.{Total}
 use Rattle.fq_serial.specs.declared.reading_end.ReadingEnd.{ReadingEnd}
 use Rattle.fq_serial.specs.Choices.{Choices}
 use Rattle.fq_serial.specs.Outcomes.{rank, outcome_of}
@@ -19,7 +19,7 @@ use Rattle.fq_serial.proofs.OutletLemmas.{still_healthy}
 use Rattle.fq_serial.proofs.VerdictLemmas.{Verdict, verdict, least, is_serial}
 use Rattle.fq_serial.proofs.EndLemmas.{Closes, closes, every, trimmed}
 
-module _ (form : Form) (c : Choices) (f r f' r' : FeedState) (before mid : OutletStates) (counted : Counts) (halt : Halt) (why : Option ReadingEnd) (broken : Option Out)
+module _ (form : Form) (c : Choices) (f r f' r' : FeedState) (before mid : OutletStates) (counted : Total) (halt : Halt) (why : Option ReadingEnd) (broken : Option Out)
     (p : Runs form c f r f' r' before mid counted halt why broken) where
   -- outlets of which none failed have no failures yet
   pub runs_healthy : AreHealthy before → broken ≡ None → AreHealthy mid
@@ -31,7 +31,7 @@ module _ (form : Form) (c : Choices) (f r f' r' : FeedState) (before mid : Outle
   module _ (after : OutletStates) (failed : Option Out) (o : Outcome) (q : FlushesAfter broken mid after failed) (is : o ≡ outcome_of (occurred halt why failed)) (sound : f.failures ≡ 0) (sound' : r.failures ≡ 0) where
     -- the run
     abbrev pub run_with : FeedState → FeedState → Run
-    run_with x y = record { form = form; forward = f; reverse = r; outlets = before; forward_left = Some x; reverse_left = Some y; outlets_left = after; outcome = o; counts = counted }
+    run_with x y = record { form = form; forward = f; reverse = r; outlets = before; forward_left = Some x; reverse_left = Some y; outlets_left = after; outcome = o; counts = counted.counts; tally = counted.tally }
 
     closed : Closes c (fresh_source form c f r) p.new before after counted halt why failed
     closed = closes c (fresh_source form c f r) p.new before mid after counted halt why broken failed p.passes q

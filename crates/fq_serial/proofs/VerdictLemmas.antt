@@ -171,6 +171,16 @@ module _ (halt : Halt) (why : Option ReadingEnd) (failed : Option Out) (o : Outc
   at_endless (HasFault fault none going there inside is) side at = absurd (let e = sym is ∙ at in cc)
   at_endless (IsOver none going there is) side at = absurd (let e = sym is ∙ at in cc)
 
+  -- where no worker stopped, memory that is refused to the reading is answered
+  pub at_refusal : halt ≡ no_halt → why ≡ Some reading.Memory → Verdict halt why failed o → o ≡ Memory
+  at_refusal sound at (IsRefused there is) = absurd (let e = sym there ∙ ap (λ (h : Halt). h.gate) sound in cc)
+  at_refusal sound at (WantsMemory is) = is
+  at_refusal sound at (FailedAt x there going enough is) = absurd (let e = sym enough ∙ ap lacks_memory at in cc)
+  at_refusal sound at (CannotRead x none going there is) = absurd (let e = sym there ∙ at in cc)
+  at_refusal sound at (HasNoEnd x none going there is) = absurd (let e = sym there ∙ at in cc)
+  at_refusal sound at (HasFault fault none going there inside is) = absurd (let e = sym there ∙ at in cc)
+  at_refusal sound at (IsOver none going there is) = absurd (let e = sym there ∙ at in cc)
+
   pub outlet_first : Verdict halt why failed o → (out : Out) → failed ≡ Some out → rank o ≤ 5
   outlet_first (IsRefused there is) out at = let e = ap rank is in omega arith
   outlet_first (WantsMemory is) out at = let e = ap rank is in omega arith

@@ -1,5 +1,6 @@
 -- Reading pairs, one list of them behind another.
 use Rattle.std.proofs.Common.{◌≡◌, ℕ, suc, ◌+◌, ◌-◌, inl, Bool, Option, Some, None, List, [], ◌∷◌, ◌++◌, length, take, refl, sym, ap, subst, ◌∙◌, arith, append_assoc}
+use Rattle.std.specs.Option.{IfSome, IsSome, IsSomeAnd}
 use Rattle.std.proofs.lemmas.List.{length-append}
 use Rattle.fq_text.specs.declared.encoding.Encoding.{Encoding}
 use Rattle.fq_text.specs.Lines.{lines}
@@ -95,3 +96,17 @@ reads_then a b c ms ns (Some reading.End) p q = (q.0, walks_then a b q.0 ms ns p
 reads_then a b c ms ns (Some (reading.Fault fault)) p q = (q.0, walks_then a b q.0 ms ns p q.1, q.2)
 reads_then a b c ms ns (Some reading.Memory) p q =
     let P : List Mates → Type 0 = λ xs. Walks a c xs in (q.0, subst P (sym (append_assoc ms ns q.0)) (walks_then a b c ms (ns ++ q.0) p q.1))
+
+-- The pair in hand.
+
+-- there is one, where something holds of it
+pub is_in_hand : (o : Option Mates) (P : Mates → Type 0) → IsSomeAnd o P → IsSome o
+is_in_hand None P held = absurd held
+is_in_hand (Some m) P held = refl
+
+-- what holds of it
+pub of_in_hand : (o : Option Mates) (m : Mates) (P : Mates → Type 0) → o ≡ Some m → IsSomeAnd o P → P m
+of_in_hand o m P is held = subst (λ p. IsSomeAnd p P) is held
+
+pub if_in_hand : (o : Option Mates) (m : Mates) (P : Mates → Type 0) → o ≡ Some m → IfSome o P → P m
+if_in_hand o m P is held = subst (λ p. IfSome p P) is held

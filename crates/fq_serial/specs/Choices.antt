@@ -1,5 +1,5 @@
 -- What a run is set to.
-use Rattle.std.specs.Prelude.{ℕ, ◌≤◌, ◌^◌, Bool, not, Option, Some, None, Result, Ok, Err, List, if◌then◌else◌}
+use Rattle.std.specs.Prelude.{ℕ, ◌≤◌, ◌^◌, Bool, true, not, Option, Some, None, Result, Ok, Err, List, if◌then◌else◌}
 use Rattle.fq_text.specs.declared.encoding.Encoding.{Encoding}
 use Rattle.fq_trim.specs.declared.step.Step.{Step}
 use Rattle.fq_serial.specs.Ranges.{within}
@@ -7,7 +7,7 @@ use Rattle.fq_serial.specs.declared.settings.BadSetting.{BadSetting}
 use Rattle.fq_serial.specs.declared.settings.BadSetting.TheVariants.{Workers, BlockPairs, Depth, Chunk, MaxReads, GateTurns}
 
 -- What a run is set to: how scores are written, the steps, whether names are checked, the threads, the pairs of a block,
--- the items of a lane, the bytes and the number of reads, and how often a gate is asked.
+-- the items of a lane, the bytes and the number of reads, how often a gate is asked, and whether pairs are tallied.
 pub record Choices : Type 0 where
   pub encoding : Encoding
   pub steps : List Step
@@ -18,6 +18,11 @@ pub record Choices : Type 0 where
   pub chunk : ℕ
   pub max_reads : ℕ
   pub gate_turns : ℕ
+  pub tallied : Bool
+
+-- the same, and a tally of the pairs is asked for
+abbrev pub tallying : Choices → Choices
+tallying c = record c { tallied = true }
 
 -- the first number that is out of its range
 abbrev pub first_bad : Choices → Option BadSetting

@@ -11,6 +11,8 @@ use Rattle.fq_pair.specs.Mates.{Mates}
 use Rattle.fq_pair.specs.Pairing.{Pairs}
 use Rattle.fq_pair.specs.Forms.{Form, TwoTexts, InterleavedText, pairs_in}
 use Rattle.fq_pair.specs.Outputs.{texts_of, text_of, counts_of}
+use Rattle.fq_tally.specs.declared.tally.Tally.{Tally}
+use Rattle.fq_work.specs.Replies.{tally_if}
 use Rattle.fq_serial.specs.declared.outcome.Outcome.{Outcome}
 use Rattle.fq_serial.specs.declared.outcome.Outcome.TheVariants as outcome
 use Rattle.fq_serial.specs.declared.ending.Ending.{Ending}
@@ -22,7 +24,7 @@ use Rattle.fq_text.specs.Devices.{FeedState}
 use Rattle.fq_serial.specs.Devices.{gave, Fed, OutletStates, OutletsTook}
 use Rattle.fq_serial.specs.Fates.{Fate, FlushFailed, failed_outlet, block_begun, part_begun, IsCutShort}
 
--- A run: the form of its input, its feeds and outlets before and after it, its outcome and its counts. Where there is one text its feed
+-- A run: the form of its input, its feeds and outlets before and after it, its outcome, its counts and its tally. Where there is one text its feed
 -- stands for both sides.
 pub record Run : Type 0 where
   pub form : Form
@@ -34,6 +36,7 @@ pub record Run : Type 0 where
   pub outlets_left : OutletStates
   pub outcome : Outcome
   pub counts : Counts
+  pub tally : Option Tally
 
 abbrev pub run_of : {F G O : Type 0} → (F → FeedState) → (G → FeedState) → (Outlets O → OutletStates) → F → G → Outlets O → Outlets O → Ending F G → Run
 run_of forward_state reverse_state states forward reverse outlets outlets_left ending = record {
@@ -46,10 +49,11 @@ run_of forward_state reverse_state states forward reverse outlets outlets_left e
   outlets_left = states outlets_left;
   outcome = ending.outcome;
   counts = ending.counts;
+  tally = ending.tally;
 }
 
-abbrev pub mixed_run_of : {F O : Type 0} → (F → FeedState) → (Outlets O → OutletStates) → F → Outlets O → Outlets O → MixedEnding F → Run
-mixed_run_of feed_state states feed outlets outlets_left ending = record {
+abbrev pub interleaved_run_of : {F O : Type 0} → (F → FeedState) → (Outlets O → OutletStates) → F → Outlets O → Outlets O → MixedEnding F → Run
+interleaved_run_of feed_state states feed outlets outlets_left ending = record {
   form = InterleavedText;
   forward = feed_state feed;
   reverse = feed_state feed;
@@ -59,6 +63,7 @@ mixed_run_of feed_state states feed outlets outlets_left ending = record {
   outlets_left = states outlets_left;
   outcome = ending.outcome;
   counts = ending.counts;
+  tally = ending.tally;
 }
 
 -- the feeds tell their bytes
@@ -81,6 +86,7 @@ trimmed_outcome (Some fault) = outcome.Input fault
 pub record IsTrimmed (c : Choices) (run : Run) : Type 0 where
   pub took : OutletsTook run.outlets run.outlets_left (λ out. text_of out (texts_of c.steps (all_pairs c run).mates)) None
   pub counts : run.counts ≡ counts_of c.steps (all_pairs c run).mates
+  pub tally : run.tally ≡ tally_if c.tallied c.steps (all_pairs c run).mates
   pub outcome : run.outcome ≡ trimmed_outcome (all_pairs c run).fault
 
 -- a run has ended whole
@@ -135,6 +141,10 @@ IsAllThatCame c run whole =
     (whole ≡ (all_pairs c run).mates)
     ⊎ ((IsCutOff c run.forward run.forward_left ⊎ IsCutOff c run.reverse run.reverse_left) × (length (pairs_given c run) ≤ length whole))
 
+-- the tally is that of these pairs, where one is asked for, but where memory was refused there may be none
+abbrev pub IsTallied : Choices → List Mates → Run → Type 0
+IsTallied c whole run = (run.tally ≡ tally_if c.tallied c.steps whole) ⊎ ((run.tally ≡ None) × (run.outcome ≡ outcome.Memory))
+
 -- these pairs are the first of others
 abbrev pub AreFirst : List Mates → List Mates → Type 0
 AreFirst ms all = (others : List Mates) × (all ≡ ms ++ others)
@@ -152,13 +162,14 @@ pub record IsJustified (c : Choices) (run : Run) (whole : List Mates) (fate : Fa
   pub flushed : AreTold run → (out : Out) → fate ≡ FlushFailed out → run.outcome ≡ outcome.Write out → IsAllThatCame c run whole
 
 -- Where a run ends otherwise than by an unconfirmed lane, there are pairs whose block was written whole, the first of all,
--- and the counts are theirs. Each outlet has taken their texts, and of the block in which a write failed, if one did, those
+-- and the counts and the tally are theirs. Each outlet has taken their texts, and of the block in which a write failed, if one did, those
 -- before the failed outlet have their texts, that one has a first part of its own, and those behind it nothing. No outlet
 -- fails twice, and no two fail.
 pub record EveryEnding (c : Choices) (run : Run) : Type 0 where
   pub whole : List Mates
   pub fate : Fate
   pub counts : run.counts ≡ counts_of c.steps whole
+  pub tally : IsTallied c whole run
   pub took : OutletsTook run.outlets run.outlets_left (λ out. text_of out (texts_of c.steps whole) ++ part_begun c.steps fate out) (failed_outlet fate)
   pub cut_short : IsCutShort c.block_pairs c.steps fate
   pub first : AreTold run → AreFirst (whole ++ block_begun fate) (all_pairs c run).mates

@@ -1,16 +1,19 @@
--- A block of pairs that was read, as its texts.
-use Rattle.std.specs.Prelude.{◌≡◌, ℕ, ◌≤◌, Option, None, List, length}
+-- A block of pairs that was read, as its texts and its tally.
+use Rattle.std.specs.Prelude.{◌≡◌, ℕ, ◌≤◌, Bool, Option, None, List, length}
 use Rattle.fq_trim.specs.declared.step.Step.{Step}
 use Rattle.fq_pair.specs.Mates.{Mates}
-use Rattle.fq_pair.specs.Outputs.{Outputs, texts_of}
+use Rattle.fq_pair.specs.Outputs.{texts_of}
 use Rattle.fq_pair.specs.Walks.{SourceState, GoesOn}
+use Rattle.fq_work.specs.declared.done.Done.{Done}
+use Rattle.fq_work.specs.Replies.{tally_if}
 use Rattle.fq_serial.specs.Walks.{Reads}
 use Rattle.fq_serial.specs.declared.reading_end.ReadingEnd.{ReadingEnd}
 
--- up to so many pairs were read, and are trimmed
-pub record Gathers (old new : SourceState) (steps : List Step) (most : ℕ) (gathered : Outputs) (why : Option ReadingEnd) : Type 0 where
+-- up to so many pairs were read, and are trimmed, and tallied where a tally is asked for
+pub record Gathers (old new : SourceState) (tallied : Bool) (steps : List Step) (most : ℕ) (gathered : Done) (why : Option ReadingEnd) : Type 0 where
   pub block : List Mates
-  pub texts : gathered ≡ texts_of steps block
+  pub texts : gathered.texts ≡ texts_of steps block
+  pub tally : gathered.tally ≡ tally_if tallied steps block
   pub few : length block ≤ most
   pub full : why ≡ None → length block ≡ most
   pub reads : Reads old new block why

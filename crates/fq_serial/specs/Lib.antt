@@ -5,6 +5,7 @@ pub mod Devices
 pub mod Sending
 pub mod Walks
 pub mod Gathering
+pub mod Totals
 pub mod Filling
 pub mod Fates
 pub mod Writing

@@ -29,6 +29,7 @@ fresh_source form c forward reverse = record {
   most_bytes = c.max_reads * c.chunk;
   given = 0;
   last = None;
+  current = None;
 }
 
 -- the feed of a side as it stands

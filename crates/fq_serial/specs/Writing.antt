@@ -1,14 +1,15 @@
 -- The blocks of a run, read and written.
-use Rattle.std.specs.Prelude.{◌≡◌, Bool, true, false, ◌||◌, Option, Some, None, List, [], ◌++◌}
+use Rattle.std.specs.Prelude.{◌≡◌, ◌⊎◌, Bool, true, false, ◌||◌, Option, Some, None, List, [], ◌++◌}
 use Rattle.fq_pair.specs.declared.out.Out.{Out}
-use Rattle.fq_pair.specs.declared.counts.Counts.{Counts}
 use Rattle.fq_pair.specs.declared.fault.InputFault.{InputFault}
 use Rattle.fq_pair.specs.Mates.{Mates}
 use Rattle.fq_pair.specs.Outputs.{texts_of, text_of, counts_of}
+use Rattle.fq_work.specs.Replies.{tally_if}
 use Rattle.fq_work.specs.declared.reply.Cause.{Cause}
 use Rattle.fq_work.specs.declared.reply.Cause.TheVariants.{Gate, Memory}
 use Rattle.fq_serial.specs.declared.halt.Halt.{Halt}
 use Rattle.fq_serial.specs.declared.occurred.Occurred.{Occurred}
+use Rattle.fq_serial.specs.declared.total.Total.{Total}
 use Rattle.fq_serial.specs.declared.reading_end.ReadingEnd.{ReadingEnd}
 use Rattle.fq_serial.specs.declared.reading_end.ReadingEnd.TheVariants as reading
 use Rattle.fq_serial.specs.Choices.{Choices}
@@ -33,12 +34,17 @@ abbrev pub with_stop : Cause → Halt → Halt
 with_stop Gate halt = record { gate = true; memory = halt.memory }
 with_stop Memory halt = record { gate = halt.gate; memory = true }
 
+-- a total is that of these pairs; where memory was refused before the first pair there is no tally
+pub record IsCounted (c : Choices) (whole : List Mates) (halt : Halt) (why : Option ReadingEnd) (total : Total) : Type 0 where
+  pub counts : total.counts ≡ counts_of c.steps whole
+  pub tally : (total.tally ≡ tally_if c.tallied c.steps whole) ⊎ ((total.tally ≡ None) × (halt ≡ no_halt) × (why ≡ Some reading.Memory))
+
 -- Pairs were read, up to where the reading stopped, and written, up to where a write failed or a worker stopped: those behind these were missed.
-pub record Passes (c : Choices) (old new : SourceState) (before after : OutletStates) (counted : Counts) (halt : Halt) (why : Option ReadingEnd) (broken : Option Out) : Type 0 where
+pub record Passes (c : Choices) (old new : SourceState) (before after : OutletStates) (counted : Total) (halt : Halt) (why : Option ReadingEnd) (broken : Option Out) : Type 0 where
   pub whole : List Mates
   pub fate : Fate
   pub missed : List Mates
-  pub counts : counted ≡ counts_of c.steps whole
+  pub counts : IsCounted c whole halt why counted
   pub reads : Reads old new ((whole ++ block_begun fate) ++ missed) why
   pub took : OutletsTook before after (λ out. text_of out (texts_of c.steps whole) ++ part_begun c.steps fate out) (failed_outlet fate)
   pub failed : broken ≡ failed_outlet fate
@@ -48,7 +54,7 @@ pub record Passes (c : Choices) (old new : SourceState) (before after : OutletSt
   pub missed_none : halt ≡ no_halt → broken ≡ None → missed ≡ []
 
 -- the same from the feeds on
-pub record Runs (form : Form) (c : Choices) (f r f' r' : FeedState) (before after : OutletStates) (counted : Counts) (halt : Halt) (why : Option ReadingEnd) (broken : Option Out) : Type 0 where
+pub record Runs (form : Form) (c : Choices) (f r f' r' : FeedState) (before after : OutletStates) (counted : Total) (halt : Halt) (why : Option ReadingEnd) (broken : Option Out) : Type 0 where
   pub new : SourceState
   pub passes : Passes c (fresh_source form c f r) new before after counted halt why broken
   pub forward : f' ≡ feed_in new.forward

@@ -20,14 +20,14 @@ pub fn fill<S: PairReader>(source: &mut S, most: u64, block: &mut Block) -> Opti
         (S.state source.new) most block.old block.new result }
 {
     for _ in 0..most {
-        match source.next_pair() {
-            Ok(Some(pair)) => {
-                prove_eq!(pair.encoding(), block.encoding());
-                if block.push(&pair).is_err() {
+        match source.advance_pair() {
+            Ok(true) => {
+                let pair = source.pair_in_hand();
+                if block.push_view(&pair).is_err() {
                     return Some(ReadingEnd::Memory);
                 }
             }
-            Ok(None) => return Some(ReadingEnd::End),
+            Ok(false) => return Some(ReadingEnd::End),
             Err(fault) => return Some(ReadingEnd::Fault(fault)),
         }
     }

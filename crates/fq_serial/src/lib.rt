@@ -13,6 +13,7 @@ mod outlets;
 mod reading_end;
 mod settings;
 pub mod shared;
+mod total;
 mod two_texts;
 mod writing;
 mod written;

@@ -5,7 +5,7 @@ ghost use Rattle.fq_pair.specs.Forms.{InterleavedText};
 ghost use Rattle.fq_serial.specs.Devices.{outlet_states, AreHealthy};
 ghost use Rattle.fq_serial.specs.Writing.{Runs, no_halt};
 ghost use Rattle.fq_serial.specs.Outcomes.{rank};
-ghost use Rattle.fq_serial.specs.Endings.{mixed_run_of, AreTold, ends_whole, IsTrimmed, EveryEnding};
+ghost use Rattle.fq_serial.specs.Endings.{interleaved_run_of, AreTold, ends_whole, IsTrimmed, EveryEnding};
 
 use crate::ending::MixedEnding;
 use crate::halt::Halt;
@@ -35,25 +35,22 @@ pub fn run_serial_mixed<F: Feed, O: Outlet>(
     ensures serial { 4 ≤ rank result.outcome }
     ensures unended { result.unended ≡ None }
     // Where the run ends whole, it has trimmed all pairs up to the end of the input or its fault.
-    ensures whole { let run = mixed_run_of F.state (outlet_states O.state) feed outlets.old outlets.new result in
+    ensures whole { let run = interleaved_run_of F.state (outlet_states O.state) feed outlets.old outlets.new result in
         IsTrue (ends_whole run.outcome) → AreTold run → IsTrimmed settings.now run }
     // At every ending the outlets have the texts of the first pairs, but for a part of the block in which a write failed.
     ensures every { EveryEnding settings.now
-        (mixed_run_of F.state (outlet_states O.state) feed outlets.old outlets.new result) }
+        (interleaved_run_of F.state (outlet_states O.state) feed outlets.old outlets.new result) }
 {
     let Pass {
         written,
         feeds: feed,
     } = pass(alloc, settings, feed, outlets);
-    let Written {
-        counts,
-        why,
-        failed,
-    } = written;
+    let Written { total, why, failed } = written;
     let failed = outlets.flush_after(failed);
     MixedEnding {
         outcome: Occurred::new(Halt::NONE, why, failed).outcome(),
-        counts,
+        counts: total.counts,
+        tally: total.tally,
         feed: Some(feed),
         unended: None,
     }
@@ -71,7 +68,7 @@ fn pass<F: Feed, O: Outlet>(
     ensures { Runs InterleavedText settings.now (F.state feed) (F.state feed)
         (F.state result.feeds) (F.state result.feeds)
         (outlet_states O.state outlets.old) (outlet_states O.state outlets.new)
-        result.written.counts no_halt result.written.why result.written.failed }
+        result.written.total no_halt result.written.why result.written.failed }
 {
     match open_mixed(alloc, settings, feed) {
         Ok(mut source) => Pass {

@@ -1,14 +1,37 @@
 //! The sources of the pairs of a run.
 
-ghost use Rattle.std.specs.Prelude.{◌≡◌, ◌≤◌, ◌*◌, ◌^◌, IfOk, IfErr};
+ghost use Rattle.std.specs.Prelude.{◌≡◌, ◌≤◌, ◌*◌, ◌^◌, [], None, IfOk, IfErr};
 ghost use Rattle.fq_pair.specs.Forms.{TwoTexts, InterleavedText};
 ghost use Rattle.fq_pair.specs.Walks.{source_state, interleaved_state};
 ghost use Rattle.fq_serial.specs.Walks.{fresh_source};
 
 use crate::settings::Settings;
 use fq_pair::{MixedSource, PairSource};
-use fq_text::{Feed, NoSource, Source};
+use fq_text::{Feed, Source};
 use std::alloc::Global;
+
+// The source of the records of a feed, or the feed where memory was refused.
+fn source_of<F: Feed>(alloc: Global, settings: &Settings, feed: F) -> Result<Source<F>, F>
+    requires { (F.state feed).failures ≡ 0 }
+    ensures ok { IfOk result (λ source. source ≡ record {
+      feed = feed;
+      encoding = settings.now.encoding;
+      chunk = settings.now.chunk;
+      max_reads = settings.now.max_reads;
+      in_hand = [];
+      taken = 0;
+      given = 0;
+      last = None;
+      current = None;
+    }) }
+    ensures few { IfOk result (λ source. source.max_reads * source.chunk ≤ 2 ^ 60) }
+    ensures err { IfErr result (λ back. back ≡ feed) }
+{
+    let encoding = settings.encoding();
+    let chunk = settings.chunk();
+    let max_reads = settings.max_reads();
+    Source::new(alloc, feed, encoding, chunk, max_reads).map_err(|refused| refused.feed)
+}
 
 /// The source of the pairs of two feeds, or the feeds where memory was refused.
 pub fn open<F: Feed, G: Feed>(
@@ -24,16 +47,13 @@ pub fn open<F: Feed, G: Feed>(
     ensures few { IfOk result (λ source. source.forward.max_reads * source.forward.chunk ≤ 2 ^ 60) }
     ensures err { IfErr result (λ feeds. (feeds.0 ≡ forward) × (feeds.1 ≡ reverse)) }
 {
-    let encoding = settings.encoding();
-    let chunk = settings.chunk();
-    let max_reads = settings.max_reads();
-    let forward = match Source::new(alloc, forward, encoding, chunk, max_reads) {
+    let forward = match source_of(alloc, settings, forward) {
         Ok(source) => source,
-        Err(NoSource { feed }) => return Err((feed, reverse)),
+        Err(forward) => return Err((forward, reverse)),
     };
-    match Source::new(alloc, reverse, encoding, chunk, max_reads) {
+    match source_of(alloc, settings, reverse) {
         Ok(reverse) => Ok(PairSource::new(forward, reverse, settings.check_names())),
-        Err(NoSource { feed }) => Err((forward.into_feed(), feed)),
+        Err(reverse) => Err((forward.into_feed(), reverse)),
     }
 }
 
@@ -45,14 +65,8 @@ pub fn open_mixed<F: Feed>(alloc: Global, settings: &Settings, feed: F) -> Resul
     ensures few { IfOk result (λ source. source.source.max_reads * source.source.chunk ≤ 2 ^ 60) }
     ensures err { IfErr result (λ back. back ≡ feed) }
 {
-    match Source::new(
-        alloc,
-        feed,
-        settings.encoding(),
-        settings.chunk(),
-        settings.max_reads(),
-    ) {
+    match source_of(alloc, settings, feed) {
         Ok(source) => Ok(MixedSource::new(source, settings.check_names())),
-        Err(NoSource { feed }) => Err(feed),
+        Err(feed) => Err(feed),
     }
 }

@@ -1,6 +1,6 @@
 //! The settings of a run.
 
-ghost use Rattle.std.specs.Prelude.{◌≡◌, ◌≤◌, ◌^◌};
+ghost use Rattle.std.specs.Prelude.{◌≡◌, ◌≤◌, ◌^◌, false};
 ghost use Rattle.fq_serial.specs.Ranges.{within};
 
 use fq_text::Encoding;
@@ -54,6 +54,7 @@ pub struct Settings {
     chunk: u64,
     max_reads: u64,
     gate_turns: u64,
+    tallied: bool,
 }
 
 impl Model for Settings {
@@ -72,6 +73,7 @@ impl Model for Settings {
       chunk = s.chunk;
       max_reads = s.max_reads;
       gate_turns = s.gate_turns;
+      tallied = s.tallied;
     } };
 
     ghost invariant = { λ s. AreInRange s.workers s.block_pairs s.depth s.chunk s.max_reads s.gate_turns };
@@ -86,13 +88,14 @@ impl Model for Settings {
       chunk = c.chunk;
       max_reads = c.max_reads;
       gate_turns = c.gate_turns;
+      tallied = c.tallied;
     } };
 }
 
 impl Settings {
-    ghost use Rattle.fq_serial.specs.Choices.{Choices, AreInRange, checked};
+    ghost use Rattle.fq_serial.specs.Choices.{Choices, AreInRange, checked, tallying};
 
-    /// The settings of a run.
+    /// The settings of a run, without a tally.
     ///
     /// - `encoding`: how the quality bytes of both inputs stand for Phred scores.
     /// - `steps`: what is trimmed.
@@ -128,6 +131,7 @@ impl Settings {
           chunk = chunk;
           max_reads = max_reads;
           gate_turns = gate_turns;
+          tallied = false;
         }) }
     {
         if !is_within(MOST_WORKERS, workers) {
@@ -158,7 +162,18 @@ impl Settings {
             chunk,
             max_reads,
             gate_turns,
+            tallied: false,
         })
+    }
+
+    /// The same settings, by which a run makes a tally of its pairs too.
+    pub fn with_tally(self) -> Settings
+        ensures { result ≡ tallying self }
+    {
+        Settings {
+            tallied: true,
+            ..self
+        }
     }
 
     /// How the quality bytes of both inputs stand for scores.
@@ -180,6 +195,13 @@ impl Settings {
         ensures { result ≡ self.now.check_names }
     {
         self.check_names
+    }
+
+    /// Whether a run makes a tally of its pairs.
+    pub fn tallied(&self) -> bool
+        ensures { result ≡ self.now.tallied }
+    {
+        self.tallied
     }
 
     /// How many threads trim in a threaded run.

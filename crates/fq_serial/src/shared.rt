@@ -5,3 +5,4 @@ pub use crate::halt::Halt;
 pub use crate::occurred::Occurred;
 pub use crate::opening::{open, open_mixed};
 pub use crate::reading_end::ReadingEnd;
+pub use crate::total::Total;

@@ -29,7 +29,8 @@ use std::alloc::Global;
 /// the order of [`Out`], up to the first flush that fails.
 ///
 /// Where more than one of these occurred the first in the order of [`Outcome`](crate::Outcome) is answered; `Spawn`, `Lane` and
-/// `Gate` don't arise. The counts are those of the pairs whose block was written whole. Both feeds are handed back as they stand.
+/// `Gate` don't arise. The counts are those of the pairs whose block was written whole, and so is the tally, where the settings ask for
+/// one; where memory for it is refused nothing is read. Both feeds are handed back as they stand.
 /// The settings for threads aren't used. No device may have failed before the run.
 pub fn run_serial<F: Feed, G: Feed, O: Outlet>(
     alloc: Global,
@@ -56,15 +57,12 @@ pub fn run_serial<F: Feed, G: Feed, O: Outlet>(
         written,
         feeds: (forward, reverse),
     } = pass(alloc, settings, forward, reverse, outlets);
-    let Written {
-        counts,
-        why,
-        failed,
-    } = written;
+    let Written { total, why, failed } = written;
     let failed = outlets.flush_after(failed);
     Ending {
         outcome: Occurred::new(Halt::NONE, why, failed).outcome(),
-        counts,
+        counts: total.counts,
+        tally: total.tally,
         forward: Some(forward),
         reverse: Some(reverse),
         unended: None,
@@ -85,7 +83,7 @@ fn pass<F: Feed, G: Feed, O: Outlet>(
     ensures { Runs TwoTexts settings.now (F.state forward) (G.state reverse)
         (F.state result.feeds.0) (G.state result.feeds.1)
         (outlet_states O.state outlets.old) (outlet_states O.state outlets.new)
-        result.written.counts no_halt result.written.why result.written.failed }
+        result.written.total no_halt result.written.why result.written.failed }
 {
     match open(alloc, settings, forward, reverse) {
         Ok(mut source) => Pass {

@@ -8,12 +8,14 @@ ghost use Rattle.fq_serial.specs.Writing.{Passes, no_halt};
 use crate::gathering::gather;
 use crate::outlets::Outlets;
 use crate::settings::Settings;
+use crate::total::Total;
 use crate::written::Written;
-use fq_pair::{PairReader, Texts};
+use fq_pair::PairReader;
 use fq_text::Outlet;
+use fq_work::Done;
 use std::alloc::Global;
 
-/// Reads and writes block for block, until the reading stops or a write fails.
+/// Reads and writes block for block, until the reading stops or a write fails. Where memory for a tally is refused nothing is read.
 pub(crate) fn write_blocks<S: PairReader, O: Outlet>(
     alloc: Global,
     settings: &Settings,
@@ -27,24 +29,29 @@ pub(crate) fn write_blocks<S: PairReader, O: Outlet>(
     ensures { Passes settings.now (S.state source.old)
         (S.state source.new)
         (outlet_states O.state outlets.old) (outlet_states O.state outlets.new)
-        result.counts no_halt result.why result.failed }
+        result.total no_halt result.why result.failed }
 {
-    let mut texts = Texts::new(alloc);
-    let mut counts = texts.counts();
+    let Ok(mut total) = Total::new(alloc, settings.tallied()) else {
+        return Written::nothing();
+    };
+    let mut done = Done::new(alloc, 0);
+    if done.ask(alloc, settings.tallied()).is_err() {
+        return Written::nothing();
+    }
     'writing: loop {
-        texts.clear();
-        let why = gather(source, settings.steps(), settings.block_pairs(), &mut texts);
-        if let Err(out) = outlets.write(&texts) {
+        done.clear();
+        let why = gather(source, settings.steps(), settings.block_pairs(), &mut done);
+        if let Err(out) = outlets.write(&done.texts) {
             return Written {
-                counts,
+                total,
                 why,
                 failed: Some(out),
             };
         }
-        counts = counts.plus(texts.counts());
+        total.add(&done);
         if why.is_some() {
             return Written {
-                counts,
+                total,
                 why,
                 failed: None,
             };

@@ -3,12 +3,13 @@
 ghost use Rattle.std.specs.Prelude.{◌≡◌};
 
 use crate::reading_end::ReadingEnd;
-use fq_pair::{Counts, Out};
+use crate::total::Total;
+use fq_pair::Out;
 
 /// What became of the pairs of a run.
 pub(crate) struct Written {
-    /// The counts of the pairs whose block was written whole.
-    pub(crate) counts: Counts,
+    /// What is counted of the pairs whose block was written whole.
+    pub(crate) total: Total,
     /// Why no further pair was read, where that is the reason that the run is over.
     pub(crate) why: Option<ReadingEnd>,
     /// The outlet in which a write failed.
@@ -27,10 +28,10 @@ impl Written {
 
     /// Nothing, since memory was refused before the first pair.
     pub(crate) fn nothing() -> Written
-        ensures { result ≡ record { counts = no_counts; why = Some ReadingEnd.Memory; failed = None } }
+        ensures { result ≡ record { total = record { counts = no_counts; tally = None }; why = Some ReadingEnd.Memory; failed = None } }
     {
         Written {
-            counts: Counts::ZERO,
+            total: Total::without_tally(),
             why: Some(ReadingEnd::Memory),
             failed: None,
         }

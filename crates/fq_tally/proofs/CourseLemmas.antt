@@ -1,16 +1,16 @@
 -- One list of steps of several, on what is left of a read.
 use Rattle.std.proofs.Common.{◌≡◌, ℕ, zero, suc, ◌+◌, ◌-◌, ◌<◌, ◌≤◌, Bool, not, ◌==◌, cond, nat_lt, List, [], ◌∷◌, length, take, drop, get_or, refl, ap, sym, ◌∙◌, arith, add-one}
-use Rattle.std.proofs.lemmas.List.{drop_more}
+use Rattle.std.proofs.lemmas.List.{drop_more, drop_all}
 use Rattle.std.proofs.lemmas.Bool.{ne_eqb}
 use Rattle.fq_text.specs.declared.encoding.Encoding.{Encoding}
 use Rattle.fq_trim.specs.declared.step.Step.{Step}
 use Rattle.fq_trim.specs.declared.trimming.Kept.{Kept}
-use Rattle.fq_trim.specs.Keeping.{kept, scores, places}
+use Rattle.fq_trim.specs.Keeping.{kept, only, scores, places}
 use Rattle.fq_trim.proofs.PlaceLemmas.{length-places, scores_at}
 use Rattle.fq_text.specs.Grammar.{Read}
 use Rattle.fq_pair.specs.Outputs.{is_empty}
 use Rattle.fq_tally.specs.declared.side.SideTally.{SideTally}
-use Rattle.fq_tally.specs.Courses.{Part, part_at, Course, after, course_of, survives}
+use Rattle.fq_tally.specs.Courses.{Part, part_at, Course, alone, after, course_of, survives}
 use Rattle.fq_tally.specs.Tallies.{with_left, with_steps, with_read}
 
 abbrev pub part : Encoding → List ℕ → List ℕ → Part
@@ -69,6 +69,20 @@ pub next_dropped : (number : ℕ) (lists : List (List Step)) (encoding : Encodin
 next_dropped number lists encoding seq qual lt is =
     ap (λ (ls : List (List Step)). course_of number ls (part encoding seq qual)) (drop_more lists number [] lt)
     ∙ course_dropped number (get_or lists number []) (drop (number + 1) lists) (part encoding seq qual) is
+
+-- behind the last list
+pub none_next : (number : ℕ) (lists : List (List Step)) (p : Part) → length lists ≤ number → course_of number (drop number lists) p ≡ record { left = p; front = 0; shortened = []; dropped = [] }
+none_next number lists p all = ap (λ (ls : List (List Step)). course_of number ls p) (drop_all number lists all)
+
+-- steps, each in a list of its own
+pub alone_length : (steps : List Step) → length (alone steps) ≡ length steps
+alone_length [] = refl
+alone_length (step ∷ steps) = ap suc (alone_length steps)
+
+pub alone_at : (steps : List Step) (number : ℕ) → number < length steps → get_or (alone steps) number [] ≡ only number steps
+alone_at [] number lt = absurd (omega arith)
+alone_at (step ∷ steps) zero lt = refl
+alone_at (step ∷ steps) (suc n) lt = alone_at steps n (omega arith)
 
 -- a base is left
 pub survives_is : (xs : List ℕ) → not (length xs == 0) ≡ not (is_empty xs)

@@ -10,7 +10,11 @@ use Rattle.fq_trim.proofs.PlaceLemmas.{scores_at}
 use Rattle.fq_pair.specs.Outputs as outputs
 use Rattle.fq_pair.specs.Outputs.{is_empty, kept_places}
 use Rattle.fq_tally.specs.Laws.{one_list}
-use Rattle.fq_tally.specs.Courses.{Part, part_at, whole, Course, after, course_of, course, survives}
+use Rattle.fq_tally.specs.Courses.{Part, alone, part_at, whole, Course, after, course_of, course, survives}
+
+pub alone_are_all : (steps : List Step) → one_list (alone steps) ≡ steps
+alone_are_all [] = refl
+alone_are_all (step ∷ steps) = ap (λ ss. step ∷ ss) (alone_are_all steps)
 
 -- the member at a place
 abbrev at : List ℕ → ℕ → ℕ

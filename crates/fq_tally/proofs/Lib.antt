@@ -3,4 +3,3 @@ pub mod CourseLemmas
 pub mod PlusLaws
 pub mod WorkedExamples
 pub mod LeftLaws
-pub mod ListLemmas

@@ -48,6 +48,11 @@ course_of n (steps ∷ others) part =
     let at = kept steps (scores part.encoding part.qual) in
     after n at part (course_of (suc n) others (part_at at part))
 
+-- steps, each in a list of its own
+abbrev pub alone : List Step → List (List Step)
+alone [] = []
+alone (step ∷ steps) = (step ∷ []) ∷ alone steps
+
 -- the course of a read, by lists of steps that are counted from 0
 abbrev pub course : List (List Step) → Read → Course
 course lists read = course_of 0 lists (whole read)

@@ -4,12 +4,16 @@ use Rattle.fq_text.specs.Grammar.{Read}
 use Rattle.fq_trim.specs.declared.step.Step.{Step}
 use Rattle.fq_pair.specs.Outputs as outputs
 use Rattle.fq_pair.specs.Outputs.{kept_places}
-use Rattle.fq_tally.specs.Courses.{part_at, whole, course, survives}
+use Rattle.fq_tally.specs.Courses.{alone, part_at, whole, course, survives}
 
 -- lists of steps, one behind the other
 abbrev pub one_list : List (List Step) → List Step
 one_list [] = []
 one_list (steps ∷ others) = steps ++ one_list others
+
+-- steps, each in a list of its own, are these steps
+abbrev pub AloneAreAll : Type 0
+AloneAreAll = (steps : List Step) → one_list (alone steps) ≡ steps
 
 -- what lists of steps leave in turn is what they leave as one list
 abbrev pub LeavesTheSame : Type 0

@@ -2,11 +2,11 @@
 
 ghost use Rattle.std.specs.Prelude.{◌≡◌, ◌≤◌, true, length, sum, count_by, nat_le};
 ghost use Rattle.std.specs.List.{list_all};
-ghost use Rattle.fq_text.specs.Scores.{is_scored, value_of};
+ghost use Rattle.fq_text.specs.Scores.{is_scored};
 ghost use Rattle.fq_trim.specs.Keeping.{scores};
 ghost use Rattle.fq_tally.specs.Tallies.{is_gc, is_n};
 
-use fq_text::{Encoding, phred_of_solexa};
+use fq_text::Encoding;
 
 /// Counts of bases and of their scores. A sum that is larger than `u64::MAX` is kept at that.
 #[derive(Clone, Copy, Debug, PartialEq, Eq)]
@@ -75,6 +75,9 @@ impl BaseTally {
     }
 }
 
+// So many bases are counted at a time, since a count of so many fits into a byte: counts of bytes are kept side by side.
+const CHUNK: usize = 255;
+
 // How many bases are G or C, and how many are N.
 #[derive(Drop)]
 struct Letters {
@@ -89,11 +92,37 @@ fn letters_of(seq: &[u8]) -> Letters
 {
     let mut gc = 0;
     let mut n = 0;
-    for base in seq {
-        gc += u64::from(is_gc(*base));
-        n += u64::from(is_n(*base));
+    let mut rest = seq;
+    for _ in 0..seq.len() / CHUNK {
+        let (front, behind) = rest.split_at(CHUNK);
+        let some = few_letters(front);
+        gc += some.gc;
+        n += some.n;
+        rest = behind;
     }
-    Letters { gc, n }
+    let last = few_letters(rest);
+    Letters {
+        gc: gc + last.gc,
+        n: n + last.n,
+    }
+}
+
+// Those of at most so many bases as a byte counts.
+fn few_letters(seq: &[u8]) -> Letters
+    requires { length seq.now ≤ 255 }
+    ensures gc { result.gc ≡ count_by is_gc seq.now }
+    ensures n { result.n ≡ count_by is_n seq.now }
+{
+    let mut gc = 0u8;
+    let mut n = 0u8;
+    for base in seq {
+        gc += u8::from(is_gc(*base));
+        n += u8::from(is_n(*base));
+    }
+    Letters {
+        gc: u64::from(gc),
+        n: u64::from(n),
+    }
 }
 
 // Whether a base is G or C.
@@ -129,27 +158,43 @@ fn scores_of(encoding: Encoding, qual: &[u8]) -> Scores
     let mut at_least_20 = 0;
     let mut at_least_30 = 0;
     let mut sum = 0;
-    for byte in qual {
-        let score = score_of(encoding, *byte);
-        at_least_20 += u64::from(20 <= score);
-        at_least_30 += u64::from(30 <= score);
-        sum += score;
+    let mut rest = qual;
+    for _ in 0..qual.len() / CHUNK {
+        let (front, behind) = rest.split_at(CHUNK);
+        let some = few_scores(encoding, front);
+        at_least_20 += some.at_least_20;
+        at_least_30 += some.at_least_30;
+        sum += some.sum;
+        rest = behind;
     }
+    let last = few_scores(encoding, rest);
     Scores {
-        at_least_20,
-        at_least_30,
-        sum,
+        at_least_20: at_least_20 + last.at_least_20,
+        at_least_30: at_least_30 + last.at_least_30,
+        sum: sum + last.sum,
     }
 }
 
-// The score of a byte that has one.
-fn score_of(encoding: Encoding, byte: u8) -> u64
-    requires { is_scored encoding byte ≡ true }
-    ensures { result ≡ value_of encoding byte }
+// Those of at most so many quality bytes as a byte counts.
+fn few_scores(encoding: Encoding, qual: &[u8]) -> Scores
+    requires few { length qual.now ≤ 255 }
+    requires scored { list_all (is_scored encoding) qual.now ≡ true }
+    ensures at_least_20 { result.at_least_20 ≡ count_by (nat_le 20) (scores encoding qual.now) }
+    ensures at_least_30 { result.at_least_30 ≡ count_by (nat_le 30) (scores encoding qual.now) }
+    ensures sum { result.sum ≡ sum (scores encoding qual.now) }
 {
-    match encoding {
-        Encoding::Sanger => u64::from(byte) - 33,
-        Encoding::Illumina13 => u64::from(byte) - 64,
-        Encoding::Solexa => u64::from(phred_of_solexa(byte)),
+    let mut at_least_20 = 0u8;
+    let mut at_least_30 = 0u8;
+    let mut sum = 0u16;
+    for byte in qual {
+        let score = encoding.phred(*byte);
+        at_least_20 += u8::from(20 <= score);
+        at_least_30 += u8::from(30 <= score);
+        sum += u16::from(score);
+    }
+    Scores {
+        at_least_20: u64::from(at_least_20),
+        at_least_30: u64::from(at_least_30),
+        sum: u64::from(sum),
     }
 }

@@ -4,7 +4,7 @@ ghost use Rattle.std.specs.Prelude.{◌≡◌, ◌+◌, ◌≤◌, true, length,
 ghost use Rattle.std.specs.List.{list_all};
 ghost use Rattle.fq_text.specs.Scores.{is_scored};
 ghost use Rattle.fq_text.specs.Grammar.{IsLawful};
-ghost use Rattle.fq_tally.specs.Courses.{course, HasLeft};
+ghost use Rattle.fq_tally.specs.Courses.{alone, course, HasLeft};
 
 use crate::reads::ReadsTally;
 use crate::steps::{Left, StepsTally};
@@ -50,15 +50,15 @@ impl SideTally {
         })
     }
 
-    // Takes lists of steps in turn, counts what each does, and answers what is left.
-    pub(crate) fn take<'a>(&mut self, read: &ReadView<'a>, lists: &[Steps]) -> Left<'a>
-        ensures tally { self.new ≡ with_steps (course lists.now read.now) self.old }
-        ensures left { HasLeft read.now (course lists.now read.now) result.seq.now result.qual.now result.front }
+    // Takes steps in turn, counts what each does, and answers what is left.
+    pub(crate) fn take<'a>(&mut self, read: &ReadView<'a>, steps: &Steps) -> Left<'a>
+        ensures tally { self.new ≡ with_steps (course (alone steps.now) read.now) self.old }
+        ensures left { HasLeft read.now (course (alone steps.now) read.now) result.seq.now result.qual.now result.front }
         ensures lawful { IsLawful read.now }
     {
         let _ = read.title();
         self.steps
-            .take(lists, read.encoding(), read.seq(), read.qual())
+            .take(steps, read.encoding(), read.seq(), read.qual())
     }
 
     // One read more, and what is left of it.

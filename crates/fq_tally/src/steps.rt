@@ -3,7 +3,7 @@
 ghost use Rattle.std.specs.Prelude.{◌≡◌, ◌+◌, ◌≤◌, true, length, IfOk};
 ghost use Rattle.std.specs.List.{list_all};
 ghost use Rattle.fq_text.specs.Scores.{is_scored};
-ghost use Rattle.fq_tally.specs.Courses.{course_of};
+ghost use Rattle.fq_tally.specs.Courses.{alone, course_of};
 
 use crate::rows::Rows;
 use fq_text::{Encoding, OutOfMemory};
@@ -41,19 +41,19 @@ impl StepsTally {
         Ok(StepsTally { shortened, dropped })
     }
 
-    // Takes lists of steps in turn, counts what each does, and answers what is left.
+    // Takes steps in turn, counts what each does, and answers what is left.
     pub(crate) fn take<'a>(
         &mut self,
-        lists: &[Steps],
+        steps: &Steps,
         encoding: Encoding,
         seq: &'a [u8],
         qual: &'a [u8],
     ) -> Left<'a>
         requires same { length qual.now ≡ length seq.now }
         requires scored { list_all (is_scored encoding) qual.now ≡ true }
-        ensures tally { self.new ≡ with_course (course_of 0 lists.now (record { encoding = encoding; seq = seq.now; qual = qual.now })) self.old }
-        ensures left { (course_of 0 lists.now (record { encoding = encoding; seq = seq.now; qual = qual.now })).left ≡ record { encoding = encoding; seq = result.seq.now; qual = result.qual.now } }
-        ensures front { (course_of 0 lists.now (record { encoding = encoding; seq = seq.now; qual = qual.now })).front ≡ result.front }
+        ensures tally { self.new ≡ with_course (course_of 0 (alone steps.now) (record { encoding = encoding; seq = seq.now; qual = qual.now })) self.old }
+        ensures left { (course_of 0 (alone steps.now) (record { encoding = encoding; seq = seq.now; qual = qual.now })).left ≡ record { encoding = encoding; seq = result.seq.now; qual = result.qual.now } }
+        ensures front { (course_of 0 (alone steps.now) (record { encoding = encoding; seq = seq.now; qual = qual.now })).front ≡ result.front }
         ensures within { result.front + length result.qual.now ≤ length qual.now }
         ensures same { length result.qual.now ≡ length result.seq.now }
         ensures scored { list_all (is_scored encoding) result.qual.now ≡ true }
@@ -63,8 +63,8 @@ impl StepsTally {
             qual,
             front: 0,
         };
-        for (number, steps) in lists.iter().enumerate() {
-            match steps.trim(encoding, left.qual) {
+        for number in 0..steps.as_slice().len() {
+            match steps.trim_at(number, encoding, left.qual) {
                 Some(kept) => {
                     if kept.stop - kept.start < left.qual.len() {
                         self.shortened.count(number);

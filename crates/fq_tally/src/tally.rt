@@ -20,6 +20,7 @@ pub struct Tally {
 }
 
 impl Tally {
+    ghost use Rattle.fq_tally.specs.Courses.{alone};
     ghost use Rattle.fq_tally.specs.Tallies.{no_tally, with_pair, tally_of, plus};
 
     /// The counts of no pairs. Memory for all counts is taken here, and may be refused.
@@ -31,13 +32,12 @@ impl Tally {
         Ok(Tally { forward, reverse })
     }
 
-    /// Counts one pair, before and after these lists of steps are taken in turn, each on what the one before left. It takes no
-    /// memory.
-    pub fn add(&mut self, pair: PairView<'_>, lists: &[Steps])
-        ensures { self.new ≡ with_pair lists.now self.old (mates_in pair.entry.forward pair.entry.reverse) }
+    /// Counts one pair, before and after these steps are taken in turn, each on what the one before left. It takes no memory.
+    pub fn add(&mut self, pair: PairView<'_>, steps: &Steps)
+        ensures { self.new ≡ with_pair (alone steps.now) self.old (mates_in pair.entry.forward pair.entry.reverse) }
     {
-        let forward = self.forward.take(&pair.forward, lists);
-        let reverse = self.reverse.take(&pair.reverse, lists);
+        let forward = self.forward.take(&pair.forward, steps);
+        let reverse = self.reverse.take(&pair.reverse, steps);
         let forward_survives = !forward.seq.is_empty();
         let reverse_survives = !reverse.seq.is_empty();
         self.forward.add(&pair.forward, forward, reverse_survives);

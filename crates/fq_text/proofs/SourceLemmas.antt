@@ -12,7 +12,7 @@ use Rattle.fq_text.specs.declared.fault.ReadError.{ReadError}
 use Rattle.fq_text.specs.declared.fault.ReadError.TheVariants as error
 use Rattle.fq_text.specs.declared.fault.TextFault.{TextFault}
 use Rattle.fq_text.specs.Lines.{lines, is_whole, whole_part}
-use Rattle.fq_text.specs.Grammar.{Read, Front, End, Faulty, Found, front}
+use Rattle.fq_text.specs.Grammar.{Read, Front, End, Faulty, Found, front, IsLawful}
 use Rattle.fq_text.specs.Reading.{Lined, rest_of, IsSound, Reads, NoLf}
 use Rattle.fq_text.specs.Phases.{Goes, Waits, Stops}
 use Rattle.fq_text.specs.Sources.{Sourced, numbered, text_fault, GivesRecord, LacksRecord, FaultIs, if_read, if_endless, StopsText}
@@ -49,8 +49,18 @@ some_used e r (b ∷ bs) is = omega arith
 
 module _ {F : Type 0} (state : F → FeedState) (e : Encoding) where
   -- a reader of lines as a source
-  abbrev pub source_of : Lined F → ℕ → Option (Result (Unit {0}) TextFault) → Sourced F
-  source_of r k last = record { feed = r.feed; encoding = e; chunk = r.chunk; max_reads = r.max_reads; in_hand = r.in_hand; taken = r.taken; given = k; last = last }
+  abbrev pub source_of : Lined F → ℕ → Option (Result (Unit {0}) TextFault) → Option Read → Sourced F
+  source_of r k last current = record {
+    feed = r.feed;
+    encoding = e;
+    chunk = r.chunk;
+    max_reads = r.max_reads;
+    in_hand = r.in_hand;
+    taken = r.taken;
+    given = k;
+    last = last;
+    current = current;
+  }
 
   gave_is : (a b : Lined F) (used : List ℕ) (p : Reads state a b used) → IsTrue (state a.feed).tells → take (b.taken - a.taken) (state a.feed).to_come ≡ p.gave
   gave_is a b used p told =
@@ -62,10 +72,14 @@ module _ {F : Type 0} (state : F → FeedState) (e : Encoding) where
   counted a b used k p le =
       let taken = p.taken in let hand = ap length p.hand in omega (arith, length-append a.in_hand p.gave, length-append used b.in_hand)
 
-  pub gives_record : (a b : Lined F) (k : ℕ) (l : Option (Result (Unit {0}) TextFault)) (r : Read) → l ≡ None → Goes state a b (front e) (Found r) → IsSound state b → length a.in_hand < a.chunk →
-      GivesRecord state (source_of a k l) (source_of b (k + 1) l) r
-  gives_record a b k l r none p sound small = record {
-    lawful = front_is_lawful e p.used r [] (ap (front e) (sym (append-nil (lines p.used))) ∙ p.answer []);
+  -- what stands in front is lawful
+  pub found_lawful : (a b : Lined F) (r : Read) → Goes state a b (front e) (Found r) → IsLawful r
+  found_lawful a b r p = front_is_lawful e p.used r [] (ap (front e) (sym (append-nil (lines p.used))) ∙ p.answer [])
+
+  pub gives_record : (a b : Lined F) (k : ℕ) (l : Option (Result (Unit {0}) TextFault)) (before : Option Read) (r : Read) → l ≡ None → Goes state a b (front e) (Found r) → IsSound state b → length a.in_hand < a.chunk →
+      GivesRecord state (source_of a k l before) (source_of b (k + 1) l (Some r)) r
+  gives_record a b k l before r none p sound small = record {
+    lawful = found_lawful a b r p;
     encoding = front_encoding e (lines p.used) r [] (ap (front e) (sym (append-nil (lines p.used))) ∙ p.answer []);
     record_is = λ told. ap (front e) (lines_left state a b p.used p.reads p.closed sound told) ∙ p.answer (lines (rest_of state b));
     tail = λ told. record {
@@ -77,14 +91,16 @@ module _ {F : Type 0} (state : F → FeedState) (e : Encoding) where
     };
     given = refl;
     last = none;
+    current = refl;
     in_hand = p.small small;
   }
 
   pub record_used : (a b : Lined F) (r : Read) (p : Goes state a b (front e) (Found r)) → 0 < length p.used
   record_used a b r p = some_used e r p.used (p.answer [])
 
-  lacks_record : (a b : Lined F) (k m : ℕ) (l n : Option (Result (Unit {0}) TextFault)) → Waits state a b (front e) → LacksRecord state (source_of a k l) (source_of b m n)
-  lacks_record a b k m l n p = λ told read ls is. p.answer read ls
+  lacks_record : (a b : Lined F) (k m : ℕ) (l n : Option (Result (Unit {0}) TextFault)) (before after : Option Read) → Waits state a b (front e) →
+      LacksRecord state (source_of a k l before) (source_of b m n after)
+  lacks_record a b k m l n before after p = λ told read ls is. p.answer read ls
       (ap (λ xs. front e (lines xs)) (sym (ap whole_part (ap (λ xs. a.in_hand ++ xs) (gave_is a b p.used p.reads told) ∙ p.reads.hand) ∙ whole_part-append p.used b.in_hand p.whole p.no_line)) ∙ is)
 
   pub stops_used : (a b : Lined F) (why : ReadError) → Stops state a b (front e) why → (used : List ℕ) × Reads state a b used
@@ -113,15 +129,16 @@ module _ {F : Type 0} (state : F → FeedState) (e : Encoding) where
   no_device P k fault.QualityShort = (tt, tt)
   no_device P k fault.TooLong = (tt, tt)
 
-  pub stops_text : (a b : Lined F) (k : ℕ) (l : Option (Result (Unit {0}) TextFault)) (why : ReadError) → Stops state a b (front e) why →
-      StopsText state (source_of a k l) (source_of b k (Some (Err (text_fault why (k + 1))))) (text_fault why (k + 1))
-  stops_text a b k l (error.Fault f) p = record {
+  pub stops_text : (a b : Lined F) (k : ℕ) (l : Option (Result (Unit {0}) TextFault)) (before : Option Read) (why : ReadError) → Stops state a b (front e) why →
+      StopsText state (source_of a k l before) (source_of b k (Some (Err (text_fault why (k + 1)))) None) (text_fault why (k + 1))
+  stops_text a b k l before (error.Fault f) p = record {
     fault_is = λ told. fault_is _ (k + 1) f (p.answer told);
     given = refl;
     last = refl;
+    current = refl;
     lacks = (no_device _ (k + 1) f).0;
     endless = (no_device _ (k + 1) f).1;
   }
-  stops_text a b k l error.Read p = record { fault_is = λ told. tt; given = refl; last = refl; lacks = lacks_record a b k k l None p; endless = tt }
-  stops_text a b k l error.Endless p = record { fault_is = λ told. tt; given = refl; last = refl; lacks = lacks_record a b k k l None p.0; endless = p.1 }
-  stops_text a b k l error.OutOfMemory p = record { fault_is = λ told. tt; given = refl; last = refl; lacks = tt; endless = tt }
+  stops_text a b k l before error.Read p = record { fault_is = λ told. tt; given = refl; last = refl; current = refl; lacks = lacks_record a b k k l None before None p; endless = tt }
+  stops_text a b k l before error.Endless p = record { fault_is = λ told. tt; given = refl; last = refl; current = refl; lacks = lacks_record a b k k l None before None p.0; endless = p.1 }
+  stops_text a b k l before error.OutOfMemory p = record { fault_is = λ told. tt; given = refl; last = refl; current = refl; lacks = tt; endless = tt }

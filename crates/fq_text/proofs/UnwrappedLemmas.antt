@@ -1,5 +1,5 @@
 -- A record of four lines that stands first in some bytes.
-use Rattle.std.proofs.Common.{◌≡◌, ℕ, zero, suc, ◌+◌, ◌-◌, ◌*◌, ◌<◌, ◌≤◌, ◌⊎◌, Bool, true, false, not, eqb, Some, None, inl, inr, ⊎_elim, List, [], ◌∷◌, ◌++◌, length, take, drop, get_or, bytes_eq, refl, ap, sym, subst, ◌∙◌, arith, append_assoc}
+use Rattle.std.proofs.Common.{◌≡◌, ℕ, zero, suc, ◌+◌, ◌-◌, ◌*◌, ◌<◌, ◌≤◌, ◌⊎◌, Bool, true, false, not, eqb, None, inl, inr, ⊎_elim, List, [], ◌∷◌, ◌++◌, length, take, drop, get_or, bytes_eq, refl, ap, sym, subst, ◌∙◌, arith}
 use Rattle.std.proofs.Math.Seq.{take-add}
 use Rattle.std.specs.List.{list_all}
 use Rattle.std.proofs.lemmas.Bool.{cases_Bool, cases_lt, and_from, not_from_false, eqb-true, cond-false, le-ltb, or_right}
@@ -13,7 +13,7 @@ use Rattle.fq_text.specs.Lines.{without_cr, is_whole, lines}
 use Rattle.fq_text.specs.Grammar.{limit, Read, IsLawful, Found, front, is_base, plus_fault}
 use Rattle.fq_text.specs.Reading.{Lined, NoLf}
 use Rattle.fq_text.specs.Phases.{Goes}
-use Rattle.fq_text.specs.Unwrapped.{unwrapped, EndsAt, IsFirstLine, IsFourLines, IsShape, StandsFirst}
+use Rattle.fq_text.specs.Unwrapped.{unwrapped, lines_len, EndsAt, IsFirstLine, IsFourLines, StandsFirst}
 use Rattle.fq_text.proofs.LineLemmas.{whole_to, without_cr_yes, without_cr_no}
 use Rattle.fq_text.proofs.AdvanceLemmas.{behind_line, behind_reads, reads_none}
 use Rattle.fq_text.proofs.WrittenLemmas.{Ends, ends_in_lf, ends_in_cr_lf, four, AreItsLines, clean_bases, plain_bases, plain_behind, quals_are_bases, found_first}
@@ -194,13 +194,13 @@ unwrapped_front encoding bytes s k le =
 
 module _ {F : Type 0} (state : F → FeedState) where
   -- a reader that takes a record out of the bytes in hand has gone on behind it
-  pub goes_first : (a b : Lined F) (encoding : Encoding) (s : Shape) → b ≡ behind_line state a 0 (four_len s) → StandsFirst encoding a.in_hand s →
+  pub goes_first : (a b : Lined F) (encoding : Encoding) (s : Shape) (k : ℕ) → b ≡ behind_line state a k (four_len s) → StandsFirst encoding a.in_hand s →
       Goes state a b (front encoding) (Found (unwrapped encoding s (drop 1 a.in_hand)))
-  goes_first a b encoding s is p =
+  goes_first a b encoding s k is p =
       let len = four_len s in
       subst (λ (r : Lined F). Goes state a r (front encoding) (Found (unwrapped encoding s (drop 1 a.in_hand)))) (sym is) (record {
         used = take len a.in_hand;
-        reads = behind_reads state a a 0 len (reads_none state a);
+        reads = behind_reads state a a k len (reads_none state a);
         closed = inl (whole_first encoding a.in_hand s p.lines p.shape.end);
         answer = λ ls. found_in_hand encoding a.in_hand s ls p;
         small = λ lt. omega (arith, length-drop len a.in_hand);
@@ -208,10 +208,10 @@ module _ {F : Type 0} (state : F → FeedState) where
 
 -- Where the lines end.
 
--- no LF stands below place n, of which all bytes pass a test that LF doesn't
-no_lf_by : (test : ℕ → Bool) (n : ℕ) (xs : List ℕ) → test 10 ≡ false → n ≤ length xs → list_all test (take n xs) ≡ true → NoLf xs n
-no_lf_by test n xs fails within passes k lt is =
-    let here : get_or (take n xs) k 0 ≡ 10 = get_or-take n xs k 0 lt ∙ is in
+-- a byte that fails a test stands nowhere below place n, of which all bytes pass it
+not_at : (test : ℕ → Bool) (b n : ℕ) (xs : List ℕ) → test b ≡ false → n ≤ length xs → list_all test (take n xs) ≡ true → (k : ℕ) → k < n → get_or xs k 0 ≡ b → ⊥
+not_at test b n xs fails within passes k lt is =
+    let here : get_or (take n xs) k 0 ≡ b = get_or-take n xs k 0 lt ∙ is in
     let none : list_all test (take n xs) ≡ false = list_all_at test (take n xs) k 0 (omega (arith, length-take n xs)) (ap test here ∙ fails) in
     cc
 
@@ -302,6 +302,35 @@ first_line_ends xs k e p none =
     none (k + e - 1) (omega arith) p.ends.lf
 
 module _ (encoding : Encoding) (hand : List ℕ) (s : Shape) (p : StandsFirst encoding hand s) where
+  -- the last of these bytes has a score, so it is no CR
+  lines_plain : without_cr (take (lines_len s) hand) ≡ take (lines_len s) hand
+  lines_plain =
+      let fits = p.lines.fits in
+      let some = p.some in
+      let start = s.title + s.bases + s.again + 3 * s.end + 2 in
+      let behind : 1 + (s.title + s.bases + s.again + 3 * s.end + 1) ≡ start = omega arith in
+      let qual : drop (s.title + s.bases + s.again + 3 * s.end + 1) (drop 1 hand) ≡ drop start hand = drop-drop (s.title + s.bases + s.again + 3 * s.end + 1) 1 hand ∙ ap (λ m. drop m hand) behind in
+      let bases = subst (λ xs. list_all is_base (take s.bases xs) ≡ true) qual (quals_are_bases (unwrapped encoding s (drop 1 hand)) p.lawful) in
+      let last : start + (s.bases - 1) ≡ lines_len s - 1 = omega arith in
+      plain_to hand (lines_len s) (omega arith)
+      (λ _ cr. not_at is_base 13 s.bases (drop start hand) refl (omega (arith, length-drop start hand)) bases (s.bases - 1) (omega arith)
+      (get_or-drop start hand (s.bases - 1) 0 ∙ ap (λ m. get_or hand m 0) last ∙ cr))
+
+  -- what is taken up to the end of the last line holds the same record
+  pub taken_same : (taken : List ℕ) → taken ≡ without_cr (take (lines_len s) hand) → unwrapped encoding s (drop 1 taken) ≡ unwrapped encoding s (drop 1 hand)
+  taken_same taken is =
+      let len : 1 + (lines_len s - 1) ≡ lines_len s = omega arith in
+      ap (λ xs. unwrapped encoding s (drop 1 xs)) (is ∙ lines_plain ∙ ap (λ m. take m hand) (sym len))
+      ∙ ap (unwrapped encoding s) (drop-take 1 (lines_len s - 1) hand)
+      ∙ unwrapped_front encoding (drop 1 hand) s (lines_len s - 1) (omega arith)
+
+  -- and all of it
+  pub taken_whole : (taken : List ℕ) → taken ≡ without_cr (take (lines_len s) hand) → lines_len s ≤ length taken
+  taken_whole taken is =
+      let fits = p.lines.fits in
+      let len = ap length (is ∙ lines_plain) in
+      omega (arith, length-take (lines_len s) hand)
+
   end_of_shape : 1 ≤ s.end
   end_of_shape = ⊎_elim (λ one. omega arith) (λ two. omega arith) p.shape.end
 
@@ -314,7 +343,7 @@ module _ (encoding : Encoding) (hand : List ℕ) (s : Shape) (p : StandsFirst en
       record {
         end_is = p.shape.end;
         fits = omega (arith, length-drop 1 hand);
-        no_lf = no_lf_by (λ b. not (eqb b 10)) s.title (drop 1 hand) refl (omega (arith, length-drop 1 hand)) p.lawful.one_line;
+        no_lf = not_at (λ b. not (eqb b 10)) 10 s.title (drop 1 hand) refl (omega (arith, length-drop 1 hand)) p.lawful.one_line;
         ends = shifted 1 hand s.title s.end some (subst (λ (m : ℕ). EndsAt hand m s.end) place p.lines.ends.title);
         plain = p.plain;
       }
@@ -331,7 +360,7 @@ module _ (encoding : Encoding) (hand : List ℕ) (s : Shape) (p : StandsFirst en
       record {
         end_is = p.shape.end;
         fits = omega (arith, length-drop (s.title + s.end + 1) hand);
-        no_lf = no_lf_by is_base s.bases (drop (s.title + s.end + 1) hand) refl (omega (arith, length-drop (s.title + s.end + 1) hand)) bases;
+        no_lf = not_at is_base 10 s.bases (drop (s.title + s.end + 1) hand) refl (omega (arith, length-drop (s.title + s.end + 1) hand)) bases;
         ends = shifted (s.title + s.end + 1) hand s.bases s.end some (subst (λ (m : ℕ). EndsAt hand m s.end) place p.lines.ends.seq);
         plain = λ one. plain_bases (take s.bases (drop (s.title + s.end + 1) hand)) bases;
       }

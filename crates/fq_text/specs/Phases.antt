@@ -1,14 +1,18 @@
 -- What stands at the front of a list of lines, of which some have been read.
-use Rattle.std.specs.Prelude.{◌≡◌, ℕ, ◌-◌, ◌<◌, ◌≤◌, true, false, IsTrue, Option, Some, None, List, [], ◌∷◌, ◌++◌, length}
+use Rattle.std.specs.Prelude.{◌≡◌, ℕ, ◌-◌, ◌<◌, ◌≤◌, Bool, true, false, IsTrue, Option, Some, None, List, [], ◌∷◌, ◌++◌, length, drop}
 use Rattle.std.specs.List.{concat}
+use Rattle.std.specs.Option.{option_map}
 use Rattle.fq_text.specs.Devices.{FeedState}
 use Rattle.fq_text.specs.declared.encoding.Encoding.{Encoding}
 use Rattle.fq_text.specs.declared.fault.Fault.{Fault}
 use Rattle.fq_text.specs.declared.fault.ReadError.{ReadError}
 use Rattle.fq_text.specs.declared.fault.ReadError.TheVariants as error
+use Rattle.fq_text.specs.declared.parse.Place.{Place}
+use Rattle.fq_text.specs.declared.parse.Place.TheVariants.{Unwrapped, Joined}
 use Rattle.fq_text.specs.Lines.{lines, is_whole}
 use Rattle.fq_text.specs.Reading.{Lined, rest_of, Reads, Closed, NoLf}
 use Rattle.fq_text.specs.Grammar.{Read, Front, End, Faulty, Found, before_plus, from_plus, quality_lines, behind_quality, sequence_faults, quality_faults, unless_faulty, from_plus_line, completed, front, begins_with, limit}
+use Rattle.fq_text.specs.Unwrapped.{unwrapped, lines_len}
 
 -- where the bases so far have been read
 abbrev pub in_sequence : Encoding → List ℕ → List ℕ → List (List ℕ) → Front
@@ -69,9 +73,9 @@ Stops state old new S error.Endless = Waits state old new S × (new.max_reads �
 Stops state old new S error.OutOfMemory = Fails state old new
 
 -- A title has been found, or the end of the text.
-abbrev pub FindsTitle : {F : Type 0} → (F → FeedState) → Lined F → Lined F → Encoding → Option Read → Type 0
-FindsTitle state old new encoding None = Ends state old new (front encoding)
-FindsTitle state old new encoding (Some parts) = Goes state old new (front encoding) (in_sequence encoding parts.title [])
+abbrev pub FindsTitle : {F : Type 0} → (F → FeedState) → Lined F → Lined F → Encoding → Read → Bool → Type 0
+FindsTitle state old new encoding parts false = Ends state old new (front encoding)
+FindsTitle state old new encoding parts true = Goes state old new (front encoding) (in_sequence encoding parts.title [])
     × (parts ≡ record { encoding = encoding; title = parts.title; seq = []; qual = [] })
 
 -- the plus line has been found, behind the bases
@@ -83,6 +87,20 @@ FindsPlus state old new before after done = Goes state old new (in_sequence befo
 abbrev pub FindsRecord : {F : Type 0} → (F → FeedState) → Lined F → Lined F → Read → Read → Unit {0} → Type 0
 FindsRecord state old new before after done = Goes state old new (in_quality before.encoding before.title before.seq []) (Found after)
     × (after ≡ record before { qual = after.qual })
+
+-- the read at a place: in the four lines that were taken last, or in the parts
+abbrev pub read_at : Encoding → List ℕ → Read → Place → Read
+read_at encoding taken parts (Unwrapped shape) = unwrapped encoding shape (drop 1 taken)
+read_at encoding taken parts Joined = parts
+
+-- the same where there is a place
+abbrev pub current_at : Encoding → List ℕ → Read → Option Place → Option Read
+current_at encoding taken parts place = option_map (read_at encoding taken parts) place
+
+-- the lines at a place are as long as it says
+abbrev pub IsPlace : List ℕ → Place → Type 0
+IsPlace taken (Unwrapped shape) = lines_len shape ≤ length taken
+IsPlace taken Joined = Unit {0}
 
 -- the next record, or the end of the text
 abbrev pub FindsNext : {F : Type 0} → (F → FeedState) → Lined F → Lined F → Encoding → Option Read → Type 0

@@ -1,5 +1,5 @@
 -- What a source of records is, and what its calls answer.
-use Rattle.std.specs.Prelude.{◌≡◌, ℕ, ◌+◌, ◌-◌, ◌<◌, ◌≤◌, ◌⊎◌, true, IsTrue, Option, Some, None, Result, List, [], ◌++◌, length, take}
+use Rattle.std.specs.Prelude.{◌≡◌, ℕ, ◌+◌, ◌-◌, ◌<◌, ◌≤◌, ◌⊎◌, Bool, true, false, IsTrue, Option, Some, None, Result, List, [], ◌++◌, length, take}
 use Rattle.std.specs.declared.result.Result.TheVariants as res
 use Rattle.fq_text.specs.Devices.{FeedState}
 use Rattle.fq_text.specs.declared.encoding.Encoding.{Encoding}
@@ -12,8 +12,8 @@ use Rattle.fq_text.specs.declared.fault.TextFault.TheVariants as text
 use Rattle.fq_text.specs.Lines.{lines, is_whole, whole_part}
 use Rattle.fq_text.specs.Grammar.{Read, Front, End, Faulty, Found, front, IsLawful}
 
--- A source: its feed, the bytes in hand, how many bytes were taken and records given,
--- and once that is a fault or the end, its last answer.
+-- A source: its feed, the bytes in hand, how many bytes were taken and records given, once that is a fault or the end
+-- its last answer, and the record in hand.
 pub record Sourced (F : Type 0) : Type 0 where
   pub feed : F
   pub encoding : Encoding
@@ -23,6 +23,7 @@ pub record Sourced (F : Type 0) : Type 0 where
   pub taken : ℕ
   pub given : ℕ
   pub last : Option (Result (Unit {0}) TextFault)
+  pub current : Option Read
 
 -- a fault of a record with its number
 abbrev pub numbered : Fault → ℕ → TextFault
@@ -45,6 +46,11 @@ text_fault error.OutOfMemory k = text.OutOfMemory
 abbrev pub answer_of : Result (Unit {0}) TextFault → Result (Option Read) TextFault
 answer_of (res.Ok x) = res.Ok None
 answer_of (res.Err f) = res.Err f
+
+-- the same, as whether there was one more record
+abbrev pub more_of : Result (Unit {0}) TextFault → Result Bool TextFault
+more_of (res.Ok x) = res.Ok false
+more_of (res.Err f) = res.Err f
 
 -- the bytes that a source still has to read records from
 abbrev pub rest_in : {F : Type 0} → (F → FeedState) → Sourced F → List ℕ
@@ -75,7 +81,7 @@ pub record KeepsCount {F : Type 0} (state : F → FeedState) (old new : Sourced 
   pub fed : IsTrue (state old.feed).tells → (state old.feed).to_come ≡ take (new.taken - old.taken) (state old.feed).to_come ++ (state new.feed).to_come
   pub length : IsTrue (state old.feed).tells → new.taken - old.taken ≤ length (state old.feed).to_come
 
--- a record was answered
+-- a record was answered, and is in hand
 pub record GivesRecord {F : Type 0} (state : F → FeedState) (old new : Sourced F) (read : Read) : Type 0 where
   pub lawful : IsLawful read
   pub encoding : read.encoding ≡ old.encoding
@@ -83,6 +89,7 @@ pub record GivesRecord {F : Type 0} (state : F → FeedState) (old new : Sourced
   pub tail : IsTrue (state old.feed).tells → IsTail (rest_in state old) (rest_in state new)
   pub given : new.given ≡ old.given + 1
   pub last : new.last ≡ None
+  pub current : new.current ≡ Some read
   pub in_hand : length new.in_hand < new.chunk
 
 -- the end was answered
@@ -90,6 +97,7 @@ pub record EndsText {F : Type 0} (state : F → FeedState) (old new : Sourced F)
   pub end_is : IsTrue (state old.feed).tells → front_of state old ≡ End
   pub given : new.given ≡ old.given
   pub last : new.last ≡ Some (res.Ok tt)
+  pub current : new.current ≡ None
 
 -- no whole record was read
 abbrev pub LacksRecord : {F : Type 0} → (F → FeedState) → Sourced F → Sourced F → Type 0
@@ -123,6 +131,7 @@ pub record StopsText {F : Type 0} (state : F → FeedState) (old new : Sourced F
   pub fault_is : IsTrue (state old.feed).tells → FaultIs (front_of state old) (old.given + 1) why
   pub given : new.given ≡ old.given
   pub last : new.last ≡ Some (res.Err why)
+  pub current : new.current ≡ None
   pub lacks : if_read (LacksRecord state old new) why
   pub endless : if_endless (new.max_reads ≤ new.taken) why
 

@@ -16,6 +16,10 @@ unwrapped encoding s bytes = record {
   qual = take s.bases (drop (s.title + s.bases + s.again + 3 * s.end + 1) bytes);
 }
 
+-- how many bytes its four lines are, up to the end of the last
+abbrev pub lines_len : Shape → ℕ
+lines_len s = s.title + s.bases + s.bases + s.again + 3 * s.end + 2
+
 -- a line end of so many bytes stands at a place
 pub record EndsAt (hand : List ℕ) (place end : ℕ) : Type 0 where
   pub lf : slice_index hand (place + end - 1) ≡ 10

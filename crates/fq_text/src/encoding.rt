@@ -58,8 +58,8 @@ impl Encoding {
         }
     }
 
-    // The Phred score of a quality byte that has one.
-    fn phred(self, byte: u8) -> u8
+    /// The Phred score of a quality byte that has one: [`Encoding::score`] without its test, for reads that are known to have scores.
+    pub fn phred(self, byte: u8) -> u8
         requires { is_scored self byte ≡ true }
         ensures { result ≡ value_of self byte }
     {
@@ -94,9 +94,8 @@ impl Encoding {
     }
 }
 
-/// The Phred score of a quality byte in Solexa's encoding, 59 to 126: what the table at [`Encoding::Solexa`] has for the Solexa score
-/// byte - 64. It makes no test, so it serves where a read is known to have scores.
-pub fn phred_of_solexa(byte: u8) -> u8
+// What the table at [`Encoding::Solexa`] has for the Solexa score byte - 64.
+fn phred_of_solexa(byte: u8) -> u8
     requires { is_scored Solexa byte ≡ true }
     ensures { result ≡ value_of Solexa byte }
 {

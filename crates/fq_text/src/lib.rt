@@ -19,7 +19,7 @@ mod view;
 mod writing;
 
 pub use adapters::{FromRead, FromWrite};
-pub use encoding::{Encoding, from_score33, phred_of_solexa};
+pub use encoding::{Encoding, from_score33};
 pub use fault::TextFault;
 pub use feed::{Feed, FeedFailed, ScriptFeed};
 pub use memory::OutOfMemory;
@@ -28,6 +28,3 @@ pub use record::FastqRecord;
 pub use source::{NoSource, Source};
 pub use view::{ReadView, is_lawful};
 pub use writing::put_record;
-
-#[cfg(test)]
-mod tests;

@@ -1,32 +1,40 @@
 //! Reads a record line by line.
 
-ghost use Rattle.std.specs.Prelude.{◌≡◌, ◌+◌, ◌*◌, ◌<◌, ◌≤◌, ℕ, true, List, [], ◌∷◌, length, MatchResult, MatchOption, IfOk, IfErr, IfSome, Ok, None, OnOk};
+ghost use Rattle.std.specs.Prelude.{◌≡◌, ◌+◌, ◌*◌, ◌<◌, ◌≤◌, ℕ, true, List, [], ◌∷◌, length, drop, MatchResult, IfOk, IfSome, Ok, Some, None};
 ghost use Rattle.fq_text.specs.Grammar.{limit, begins_with, front, Read, Found};
 ghost use Rattle.fq_text.specs.Reading.{IsSound, fails};
-ghost use Rattle.fq_text.specs.Unwrapped.{StandsFirst};
+ghost use Rattle.fq_text.specs.Unwrapped.{unwrapped, lines_len, StandsFirst};
+ghost use Rattle.fq_text.specs.declared.parse.Place.TheVariants.{Joined};
 ghost use Rattle.fq_text.specs.declared.unwrapped.Shape.{Shape};
-ghost use Rattle.fq_text.specs.declared.fault.ReadError.TheVariants.{OutOfMemory};
-ghost use Rattle.fq_text.specs.Phases.{in_sequence, at_plus, in_quality, Goes, Ends, Stops, FindsTitle, FindsPlus, FindsRecord, FindsRest, FindsNext};
+ghost use Rattle.fq_text.specs.Phases.{in_sequence, at_plus, in_quality, Goes, Ends, Stops, FindsTitle, FindsPlus, FindsRecord, FindsRest};
+ghost use Rattle.fq_text.specs.Phases.{FindsNext, current_at, IsPlace};
 
 use crate::encoding::Encoding;
 use crate::fault::{Fault, ReadError};
 use crate::feed::Feed;
 use crate::judge::{begins_with, plus_fault, quality_fault, sequence_fault, title_fault};
 use crate::lines::LineReader;
-use crate::record::{FastqRecord, Parts};
-use crate::unwrapped::first_record;
-use std::alloc::Global;
+use crate::record::Parts;
+use crate::unwrapped::{Shape, first_record};
 
-// Reads to the first title, if there is one, and makes room for so many bytes of its record.
+/// Where a record lies that has been read.
+#[derive(Clone, Copy)]
+pub(crate) enum Place {
+    /// In the four lines of this shape that were taken last.
+    Unwrapped(Shape),
+    /// In the parts, their lines joined.
+    Joined,
+}
+
+// Reads to the first title, if there is one, and begins the parts of its record.
 fn read_title<F: Feed>(
-    alloc: Global,
     encoding: Encoding,
-    room: usize,
     lines: &mut LineReader<F>,
-) -> Result<Option<Parts>, ReadError>
+    parts: &mut Parts,
+) -> Result<bool, ReadError>
     requires failures { (F.state lines.old.feed).failures < u64.MAX }
     requires sound { IsSound F.state lines.old }
-    ensures step { MatchResult result (FindsTitle F.state lines.old lines.new encoding) (Stops F.state lines.old lines.new (front encoding)) }
+    ensures step { MatchResult result (FindsTitle F.state lines.old lines.new encoding parts.new) (Stops F.state lines.old lines.new (front encoding)) }
     ensures sound { IsSound F.state lines.new }
     ensures failures { (F.state lines.new.feed).failures ≡ (F.state lines.old.feed).failures + fails result }
 {
@@ -35,11 +43,14 @@ fn read_title<F: Feed>(
         if !line.is_empty() {
             return match title_fault(line) {
                 Some(fault) => Err(ReadError::Fault(fault)),
-                None => Ok(Some(Parts::new(alloc, encoding, &line[1..], room)?)),
+                None => {
+                    parts.begin(encoding, &line[1..])?;
+                    Ok(true)
+                }
             };
         }
     }
-    Ok(None)
+    Ok(false)
 }
 
 // Reads the sequence lines, and the plus line.
@@ -91,72 +102,55 @@ fn read_quality<F: Feed>(lines: &mut LineReader<F>, parts: &mut Parts) -> Result
     Ok(())
 }
 
-// Reads the next record at one stroke, where it stands whole in hand in four unwrapped lines. So many bases are a guess.
-fn read_in_hand<F: Feed>(
-    alloc: Global,
+// Takes the next record, where it stands whole in hand in four unwrapped lines. So many bases are a guess.
+fn take_in_hand<F: Feed>(
     encoding: Encoding,
-    bases: usize,
+    guess: usize,
     lines: &mut LineReader<F>,
-) -> Result<Option<FastqRecord>, ReadError>
+) -> Option<Shape>
     requires { IsSound F.state lines.old }
-    ensures found { IfOk result (λ o. IfSome o (λ r. Goes F.state lines.old lines.new (front encoding) (Found r))) }
-    ensures none { result ≡ Ok None → lines.new ≡ lines.old }
-    ensures passed_by { result ≡ Ok None → (shape : Shape) → StandsFirst encoding lines.old.in_hand shape → ⊥ }
-    ensures err { IfErr result (λ error. (error ≡ OutOfMemory) × (lines.new ≡ lines.old)) }
+    ensures found { IfSome result (λ shape. Goes F.state lines.old lines.new (front encoding) (Found (unwrapped encoding shape (drop 1 lines.new.line)))) }
+    ensures whole { IfSome result (λ shape. lines_len shape ≤ length lines.new.line) }
+    ensures none { result ≡ None → lines.new ≡ lines.old }
+    ensures passed_by { result ≡ None → (shape : Shape) → StandsFirst encoding lines.old.in_hand shape → ⊥ }
     ensures sound { IsSound F.state lines.new }
     ensures feed { lines.new.feed ≡ lines.old.feed }
 {
     let hand = lines.hand();
-    let shape = match first_record(encoding, hand, bases) {
+    let shape = match first_record(encoding, hand, guess) {
         Some(shape) => shape,
-        None => return Ok(None),
+        None => return None,
     };
-    let len = shape.title + shape.bases + shape.bases + shape.again + 4 * shape.end + 2;
-    let record = FastqRecord::of_lines(alloc, encoding, &hand[1..len - shape.end], shape)?;
-    lines.take_line(0, len);
-    Ok(Some(record))
+    let len = shape.title + shape.bases + shape.bases + shape.again + 3 * shape.end + 2;
+    lines.take_line(len, len + shape.end);
+    Some(shape)
 }
 
-// Reads the next record line by line, if there is one, into room for so many bytes.
-fn read_by_lines<F: Feed>(
-    alloc: Global,
-    encoding: Encoding,
-    room: usize,
-    lines: &mut LineReader<F>,
-) -> Result<Option<FastqRecord>, ReadError>
-    requires failures { (F.state lines.old.feed).failures < u64.MAX }
-    requires sound { IsSound F.state lines.old }
-    ensures step { MatchResult result (FindsNext F.state lines.old lines.new encoding) (Stops F.state lines.old lines.new (front encoding)) }
-    ensures sound { IsSound F.state lines.new }
-    ensures failures { (F.state lines.new.feed).failures ≡ (F.state lines.old.feed).failures + fails result }
-{
-    match read_title(alloc, encoding, room, lines)? {
-        None => Ok(None),
-        Some(mut parts) => {
-            read_rest(lines, &mut parts)?;
-            Ok(Some(FastqRecord::of_parts(parts)))
-        }
-    }
-}
-
-// Reads the next record, if there is one. Of one in four unwrapped lines so many bases are a guess, of any other so many bytes.
+// Reads the next record, if there is one, and answers where it lies. Of one in four unwrapped lines so many bases are a guess.
 pub(crate) fn read_record<F: Feed>(
-    alloc: Global,
     encoding: Encoding,
-    room: usize,
-    bases: usize,
+    guess: usize,
     lines: &mut LineReader<F>,
-) -> Result<Option<FastqRecord>, ReadError>
+    parts: &mut Parts,
+) -> Result<Option<Place>, ReadError>
     requires failures { (F.state lines.old.feed).failures < u64.MAX }
     requires sound { IsSound F.state lines.old }
-    ensures step { MatchResult result (FindsNext F.state lines.old lines.new encoding) (Stops F.state lines.old lines.new (front encoding)) }
+    ensures step { MatchResult result (λ o. FindsNext F.state lines.old lines.new encoding (current_at encoding lines.new.line parts.new o))
+        (Stops F.state lines.old lines.new (front encoding)) }
+    ensures place { IfOk result (λ o. IfSome o (IsPlace lines.new.line)) }
+    ensures lent { result ≡ Ok (Some Joined) → (shape : Shape) → StandsFirst encoding lines.old.in_hand shape → ⊥ }
     ensures sound { IsSound F.state lines.new }
     ensures failures { (F.state lines.new.feed).failures ≡ (F.state lines.old.feed).failures + fails result }
 {
-    match read_in_hand(alloc, encoding, bases, lines) {
-        Ok(Some(record)) => Ok(Some(record)),
-        Ok(None) => read_by_lines(alloc, encoding, room, lines),
-        Err(error) => Err(error),
+    match take_in_hand(encoding, guess, lines) {
+        Some(shape) => Ok(Some(Place::Unwrapped(shape))),
+        None => {
+            if !read_title(encoding, lines, parts)? {
+                return Ok(None);
+            }
+            read_rest(lines, parts)?;
+            Ok(Some(Place::Joined))
+        }
     }
 }
 

@@ -1,14 +1,14 @@
 //! What a record holds.
 
-ghost use Rattle.std.specs.Prelude.{◌≡◌, ◌++◌, [], IfOk, OnOk};
+ghost use Rattle.std.specs.Prelude.{◌≡◌, ◌++◌, [], IfOk, OnOk, OnErr};
 
 use crate::encoding::Encoding;
-use crate::unwrapped::Shape;
+use crate::memory::OutOfMemory;
 use crate::view::ReadView;
 use std::alloc::{AllocError, Global};
 use std::marker::Model;
 
-/// The parts of a record that is being read, in one buffer: title, sequence, quality.
+/// The parts of a record that is being read, in one buffer: title, sequence, quality. The buffer is used again for the next record.
 #[derive(Drop)]
 pub(crate) struct Parts {
     encoding: Encoding,
@@ -34,25 +34,53 @@ impl Model for Parts {
 }
 
 impl Parts {
-    ghost use Rattle.fq_text.specs.Grammar.{Read};
+    ghost use Rattle.fq_text.specs.Grammar.{Read, IsLawful};
 
-    /// A record of which the title is known, with room for so many bytes in all.
-    pub(crate) fn new(
-        alloc: Global,
-        encoding: Encoding,
-        title: &[u8],
-        room: usize,
-    ) -> Result<Parts, AllocError>
-        ensures { IfOk result (λ parts. parts ≡ record { encoding = encoding; title = title.now; seq = []; qual = [] }) }
+    /// Each part is empty.
+    pub(crate) fn new(alloc: Global, encoding: Encoding) -> Parts
+        ensures { result ≡ record { encoding = encoding; title = []; seq = []; qual = [] } }
     {
-        let mut bytes = Vec::with_capacity(alloc, room)?;
-        bytes.extend_from_slice(title)?;
-        Ok(Parts {
+        Parts {
             encoding,
-            title_len: bytes.len(),
+            bytes: Vec::new(alloc),
+            title_len: 0,
             seq_len: 0,
-            bytes,
-        })
+        }
+    }
+
+    /// Begins a record of which the title is known.
+    pub(crate) fn begin(&mut self, encoding: Encoding, title: &[u8]) -> Result<(), AllocError>
+        ensures { OnOk result (self.new ≡ record { encoding = encoding; title = title.now; seq = []; qual = [] }) }
+    {
+        self.encoding = encoding;
+        self.title_len = 0;
+        self.seq_len = 0;
+        let bytes = &mut self.bytes;
+        bytes.clear();
+        bytes.extend_from_slice(title)?;
+        self.title_len = title.len();
+        Ok(())
+    }
+
+    /// Copies a read. A refusal leaves what there was.
+    pub(crate) fn copy_from(&mut self, read: &ReadView<'_>) -> Result<(), AllocError>
+        ensures ok { OnOk result (self.new ≡ read.now) }
+        ensures err { OnErr result (self.new ≡ self.old) }
+        ensures lawful { IsLawful read.now }
+    {
+        let title = read.title();
+        let seq = read.seq();
+        let qual = read.qual();
+        let len = title.len() + seq.len() + qual.len();
+        self.bytes.reserve(len.saturating_sub(self.bytes.len()))?;
+        self.bytes.clear();
+        self.bytes.extend_from_slice(title).unwrap();
+        self.bytes.extend_from_slice(seq).unwrap();
+        self.bytes.extend_from_slice(qual).unwrap();
+        self.encoding = read.encoding();
+        self.title_len = title.len();
+        self.seq_len = seq.len();
+        Ok(())
     }
 
     pub(crate) fn push_bases(&mut self, line: &[u8]) -> Result<(), AllocError>
@@ -94,6 +122,14 @@ impl Parts {
     {
         &self.bytes[self.title_len + self.seq_len..]
     }
+
+    /// A whole record, lent.
+    pub(crate) fn view(&self) -> ReadView<'_>
+        requires { IsLawful self.now }
+        ensures { result ≡ self.now }
+    {
+        ReadView::new(self.encoding(), self.title(), self.seq(), self.qual())
+    }
 }
 
 /// One read of a FASTQ text: its title, its sequence and its quality, one line each.
@@ -103,87 +139,54 @@ impl Parts {
 /// with `+`, and the quality has one byte for each base, each with a score in the record's encoding.
 #[derive(Drop)]
 pub struct FastqRecord {
-    encoding: Encoding,
-    bytes: Vec<u8>,
-    title_len: usize,
-    // The places in `bytes` of the sequence and the quality.
-    seq_start: usize,
-    seq_len: usize,
-    qual_start: usize,
+    parts: Parts,
 }
 
 impl Model for FastqRecord {
-    ghost use Rattle.std.specs.Prelude.{◌+◌, ◌≤◌, take, drop, length};
     ghost use Rattle.fq_text.specs.Grammar.{Read, IsLawful};
 
     ghost Value = { Read };
 
-    ghost view = { λ r. record {
-      encoding = r.encoding;
-      title = take r.title_len r.bytes.items;
-      seq = take r.seq_len (drop r.seq_start r.bytes.items);
-      qual = drop r.qual_start r.bytes.items;
-    } };
+    ghost view = { λ r. r.parts };
 
-    ghost invariant = { λ r. IsLawful (record {
-      encoding = r.encoding;
-      title = take r.title_len r.bytes.items;
-      seq = take r.seq_len (drop r.seq_start r.bytes.items);
-      qual = drop r.qual_start r.bytes.items;
-    }) × (r.title_len ≤ r.seq_start) × (r.seq_start + r.seq_len ≤ r.qual_start) × (r.qual_start ≤ length r.bytes.items) };
+    ghost invariant = { λ r. IsLawful r.parts };
 }
 
 impl FastqRecord {
-    ghost use Rattle.std.specs.Prelude.{◌+◌, ◌*◌, ◌≤◌, length, IfOk};
     ghost use Rattle.fq_text.specs.Grammar.{Read, IsLawful};
-    ghost use Rattle.fq_text.specs.Unwrapped.{unwrapped};
 
-    pub(crate) fn of_parts(parts: Parts) -> FastqRecord
-        requires { IsLawful parts }
-        ensures { result ≡ parts }
+    /// A record of which each part is empty, to be [copied into](FastqRecord::copy_from). It asks for no memory.
+    pub fn empty(alloc: Global, encoding: Encoding) -> FastqRecord
+        ensures { result ≡ record { encoding = encoding; title = []; seq = []; qual = [] } }
     {
         FastqRecord {
-            encoding: parts.encoding,
-            title_len: parts.title_len,
-            seq_start: parts.title_len,
-            seq_len: parts.seq_len,
-            qual_start: parts.title_len + parts.seq_len,
-            bytes: parts.bytes,
+            parts: Parts::new(alloc, encoding),
         }
     }
 
-    /// A record of four lines, copied at one stroke from its title on up to its last quality byte.
-    pub(crate) fn of_lines(
-        alloc: Global,
-        encoding: Encoding,
-        lines: &[u8],
-        shape: Shape,
-    ) -> Result<FastqRecord, AllocError>
-        requires lawful { IsLawful (unwrapped encoding shape lines.now) }
-        requires whole { length lines.now ≡ shape.title + shape.bases + shape.bases + shape.again + 3 * shape.end + 1 }
-        ensures { IfOk result (λ r. r ≡ unwrapped encoding shape lines.now) }
+    /// A copy of a read, for one that is to be kept when its lender goes on. Want of memory is its one error.
+    pub fn copy_of(alloc: Global, read: &ReadView<'_>) -> Result<FastqRecord, OutOfMemory>
+        ensures { IfOk result (λ copy. copy ≡ read.now) }
     {
-        let bytes = Vec::from_slice(alloc, lines)?;
-        Ok(FastqRecord {
-            encoding,
-            bytes,
-            title_len: shape.title,
-            seq_start: shape.title + shape.end,
-            seq_len: shape.bases,
-            qual_start: shape.title + shape.bases + shape.again + 3 * shape.end + 1,
-        })
+        let mut copy = FastqRecord::empty(alloc, read.encoding());
+        copy.copy_from(read)?;
+        Ok(copy)
     }
 
-    /// How many bytes are kept for it.
-    pub(crate) fn len(&self) -> usize {
-        self.bytes.len()
+    /// Makes this record a copy of a read. Memory is asked for only where no record that it held before was as long; a refusal
+    /// leaves the record as it was.
+    pub fn copy_from(&mut self, read: &ReadView<'_>) -> Result<(), OutOfMemory>
+        ensures ok { OnOk result (self.new ≡ read.now) }
+        ensures err { OnErr result (self.new ≡ self.old) }
+    {
+        self.parts.copy_from(read)
     }
 
     /// How the quality bytes stand for scores.
     pub fn encoding(&self) -> Encoding
         ensures { result ≡ self.now.encoding }
     {
-        self.encoding
+        self.parts.encoding()
     }
 
     /// The title: what follows the `@` of the title line, without the line end.
@@ -191,27 +194,27 @@ impl FastqRecord {
         ensures title { result.now ≡ self.now.title }
         ensures lawful { IsLawful self.now }
     {
-        &self.bytes[..self.title_len]
+        self.parts.title()
     }
 
     /// The sequence, one byte a base, its lines joined.
     pub fn seq(&self) -> &[u8]
         ensures { result.now ≡ self.now.seq }
     {
-        &self.bytes[self.seq_start..self.seq_start + self.seq_len]
+        self.parts.seq()
     }
 
     /// The quality bytes, one a base, its lines joined.
     pub fn qual(&self) -> &[u8]
         ensures { result.now ≡ self.now.qual }
     {
-        &self.bytes[self.qual_start..]
+        self.parts.qual()
     }
 
     /// The record, lent.
     pub fn view(&self) -> ReadView<'_>
         ensures { result ≡ self.now }
     {
-        ReadView::new(self.encoding(), self.title(), self.seq(), self.qual())
+        self.parts.view()
     }
 }

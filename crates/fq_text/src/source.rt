@@ -1,14 +1,16 @@
 //! Records out of a feed.
 
-ghost use Rattle.std.specs.Prelude.{◌≡◌, ℕ, ◌+◌, ◌*◌, ◌<◌, ◌≤◌, ◌^◌, [], Some, None, Ok, IfOk, IfErr, IfSome, MatchOption};
+ghost use Rattle.std.specs.Prelude.{◌≡◌, ℕ, ◌+◌, ◌-◌, ◌*◌, ◌<◌, ◌≤◌, ◌^◌, [], true, false, Some, None, Ok, Err, IfOk, IfErr, IfSome, IsSome, MatchOption};
 
 use crate::buffer::Buffer;
 use crate::encoding::Encoding;
 use crate::fault::TextFault;
 use crate::feed::Feed;
 use crate::lines::LineReader;
-use crate::parse::read_record;
-use crate::record::FastqRecord;
+use crate::parse::{Place, read_record};
+use crate::record::{FastqRecord, Parts};
+use crate::unwrapped::view_of;
+use crate::view::ReadView;
 use std::alloc::Global;
 use std::fmt::Debug;
 use std::marker::Model;
@@ -29,18 +31,20 @@ pub struct Source<F: Feed> {
     alloc: Global,
     encoding: Encoding,
     lines: LineReader<F>,
+    parts: Parts,
+    // Where the record in hand lies.
+    place: Option<Place>,
     given: u64,
-    // The bytes that were kept of the last record, and its bases: guesses at those of the next.
-    room: usize,
-    bases: usize,
     // The end or the fault that was answered.
     last: Option<Result<(), TextFault>>,
 }
 
 impl<F: Feed> Model for Source<F> {
-    ghost use Rattle.std.specs.Prelude.{◌≡◌, ◌+◌, ◌*◌, ◌<◌, ◌≤◌, ◌^◌, length, None};
+    ghost use Rattle.std.specs.Prelude.{◌≡◌, ◌+◌, ◌*◌, ◌<◌, ◌≤◌, ◌^◌, length, None, IfSome};
     ghost use Rattle.fq_text.specs.Sources.{Sourced};
+    ghost use Rattle.fq_text.specs.Grammar.{IsLawful};
     ghost use Rattle.fq_text.specs.Reading.{IsSound};
+    ghost use Rattle.fq_text.specs.Phases.{current_at, IsPlace};
 
     ghost Value = { Sourced F };
 
@@ -53,17 +57,22 @@ impl<F: Feed> Model for Source<F> {
       taken = s.lines.taken;
       given = s.given;
       last = s.last;
+      current = current_at s.encoding s.lines.line s.parts s.place;
     } };
 
     ghost invariant = { λ s. IsSound F.state s.lines
         × (s.given + length s.lines.in_hand ≤ s.lines.taken)
         × (s.lines.chunk ≤ 1048576) × (s.lines.max_reads ≤ 2 ^ 40)
         × (s.last ≡ None → length s.lines.in_hand < s.lines.chunk)
-        × (s.last ≡ None → (F.state s.lines.feed).failures ≡ 0) };
+        × (s.last ≡ None → (F.state s.lines.feed).failures ≡ 0)
+        × IfSome s.place (IsPlace s.lines.line)
+        × IfSome (current_at s.encoding s.lines.line s.parts s.place) IsLawful };
 }
 
 impl<F: Feed> Source<F> {
-    ghost use Rattle.fq_text.specs.Sources.{Sourced, answer_of, KeepsCount, GivesRecord, EndsText, StopsText, failed_in};
+    ghost use Rattle.fq_text.specs.Grammar.{IsLawful};
+    ghost use Rattle.fq_text.specs.declared.fault.TextFault.TheVariants.{OutOfMemory};
+    ghost use Rattle.fq_text.specs.Sources.{Sourced, answer_of, more_of, KeepsCount, GivesRecord, EndsText, StopsText, failed_in};
 
     /// A source of the records of a feed's text: at most `max_reads` reads of at most `chunk` bytes each.
     pub fn new(
@@ -78,7 +87,17 @@ impl<F: Feed> Source<F> {
         requires reads { 0 < max_reads }
         requires few { max_reads ≤ 2 ^ 40 }
         requires healthy { (F.state feed).failures ≡ 0 }
-        ensures ok { IfOk result (λ source. source ≡ record { feed = feed; encoding = encoding; chunk = chunk; max_reads = max_reads; in_hand = []; taken = 0; given = 0; last = None }) }
+        ensures ok { IfOk result (λ source. source ≡ record {
+          feed = feed;
+          encoding = encoding;
+          chunk = chunk;
+          max_reads = max_reads;
+          in_hand = [];
+          taken = 0;
+          given = 0;
+          last = None;
+          current = None;
+        }) }
         ensures err { IfErr result (λ refused. refused.feed ≡ feed) }
     {
         match Buffer::new(alloc, chunk) {
@@ -86,9 +105,9 @@ impl<F: Feed> Source<F> {
                 alloc,
                 encoding,
                 lines: LineReader::new(feed, buffer, chunk, max_reads),
+                parts: Parts::new(alloc, encoding),
+                place: None,
                 given: 0,
-                room: 0,
-                bases: 0,
                 last: None,
             }),
             Err(_) => Err(NoSource { feed }),
@@ -109,7 +128,61 @@ impl<F: Feed> Source<F> {
         self.lines.feed()
     }
 
-    /// The next record. A fault, or the end, is the answer from then on.
+    /// A record in the source's encoding of which each part is empty, to be [copied into](Source::next_into). It asks for no memory.
+    pub fn empty_record(&self) -> FastqRecord
+        ensures { result ≡ record { encoding = self.now.encoding; title = []; seq = []; qual = [] } }
+    {
+        FastqRecord::empty(self.alloc, self.encoding)
+    }
+
+    /// Goes on to the next record and leaves it in hand, to be lent by [`record`](Source::record); `false` at the end. A fault, or the
+    /// end, is the answer from then on, and no record is in hand.
+    ///
+    /// No record is copied, but for one whose lines are joined, into memory that is used again.
+    ///
+    /// ```text
+    /// while source.advance()? {
+    ///     let read = source.record();
+    ///     bases += read.seq().len();
+    /// }
+    /// ```
+    pub fn advance(&mut self) -> Result<bool, TextFault>
+        // A last answer stays, and nothing more is read.
+        ensures again { MatchOption self.old.last (Unit {0}) (λ last. (result ≡ more_of last) × (self.new ≡ self.old)) }
+
+        // Otherwise the answer is what stands in front of the rest.
+        ensures found { self.old.last ≡ None → result ≡ Ok true → MatchOption self.new.current ⊥ (GivesRecord F.state self.old self.new) }
+        ensures in_hand { result ≡ Ok true → IsSome self.new.current }
+        ensures end { self.old.last ≡ None → result ≡ Ok false → EndsText F.state self.old self.new }
+        ensures fault { self.old.last ≡ None → IfErr result (StopsText F.state self.old self.new) }
+
+        // The feed fails where the answer says so, and what it gives is counted.
+        ensures failures { self.old.last ≡ None → (F.state self.new.feed).failures ≡ (F.state self.old.feed).failures + failed_in result }
+        ensures count { KeepsCount F.state self.old self.new }
+        ensures bound { self.new.given ≤ self.new.taken }
+        ensures limit { self.new.taken ≤ self.new.max_reads * self.new.chunk }
+        ensures fits { self.new.taken ≤ 2 ^ 60 }
+    {
+        match self.last {
+            Some(Ok(())) => Ok(false),
+            Some(Err(fault)) => Err(fault),
+            None => self.read_next(),
+        }
+    }
+
+    /// The record in hand, lent: [`advance`](Source::advance) has just answered `true`, or [`next`](Source::next) a record.
+    pub fn record(&self) -> ReadView<'_>
+        requires { IsSome self.now.current }
+        ensures record { self.now.current ≡ Some result }
+        ensures lawful { IsLawful result }
+    {
+        match self.place {
+            Some(Place::Unwrapped(shape)) => view_of(self.encoding, self.lines.line(), shape),
+            _ => self.parts.view(),
+        }
+    }
+
+    /// A copy of the next record, which is in hand too. A fault, or the end, is the answer from then on.
     pub fn next(&mut self) -> Result<Option<FastqRecord>, TextFault>
         // A last answer stays, and nothing more is read.
         ensures again { MatchOption self.old.last (Unit {0}) (λ last. (result ≡ answer_of last) × (self.new ≡ self.old)) }
@@ -126,17 +199,68 @@ impl<F: Feed> Source<F> {
         ensures limit { self.new.taken ≤ self.new.max_reads * self.new.chunk }
         ensures fits { self.new.taken ≤ 2 ^ 60 }
     {
-        match self.last {
-            Some(Ok(())) => Ok(None),
-            Some(Err(fault)) => Err(fault),
-            None => self.read_next(),
+        let mut copy = self.empty_record();
+        match self.next_into(&mut copy) {
+            Ok(true) => Ok(Some(copy)),
+            Ok(false) => Ok(None),
+            Err(fault) => Err(fault),
         }
     }
 
-    fn read_next(&mut self) -> Result<Option<FastqRecord>, TextFault>
+    /// A copy of the next record, put into `copy`, whose memory is used again; `false` at the end. It is in hand too. A fault, or the
+    /// end, is the answer from then on, and leaves `copy` as it was.
+    pub fn next_into(&mut self, copy: &mut FastqRecord) -> Result<bool, TextFault>
+        // A last answer stays, and nothing more is read.
+        ensures again { MatchOption self.old.last (Unit {0}) (λ last. (result ≡ more_of last) × (self.new ≡ self.old)) }
+
+        // Otherwise the answer is what stands in front of the rest.
+        ensures found { self.old.last ≡ None → result ≡ Ok true → GivesRecord F.state self.old self.new copy.new }
+        ensures end { self.old.last ≡ None → result ≡ Ok false → EndsText F.state self.old self.new }
+        ensures fault { self.old.last ≡ None → IfErr result (StopsText F.state self.old self.new) }
+
+        // Where no record is answered there is still what there was.
+        ensures kept_at_end { result ≡ Ok false → copy.new ≡ copy.old }
+        ensures kept_at_fault { IfErr result (λ why. copy.new ≡ copy.old) }
+
+        // The feed fails where the answer says so, and what it gives is counted.
+        ensures failures { self.old.last ≡ None → (F.state self.new.feed).failures ≡ (F.state self.old.feed).failures + failed_in result }
+        ensures count { KeepsCount F.state self.old self.new }
+        ensures bound { self.new.given ≤ self.new.taken }
+        ensures limit { self.new.taken ≤ self.new.max_reads * self.new.chunk }
+        ensures fits { self.new.taken ≤ 2 ^ 60 }
+    {
+        match self.advance() {
+            Ok(true) => self.copied_into(copy),
+            Ok(false) => Ok(false),
+            Err(fault) => Err(fault),
+        }
+    }
+
+    // Copies the record in hand. Where it is refused the record was not given.
+    fn copied_into(&mut self, copy: &mut FastqRecord) -> Result<bool, TextFault>
+        requires current { IsSome self.old.current }
+        requires given { 0 < self.old.given }
+        ensures ok { IfOk result (λ more. (more ≡ true) × (self.old.current ≡ Some copy.new) × (self.new ≡ self.old)) }
+        ensures err { IfErr result (λ why. (why ≡ OutOfMemory) × (copy.new ≡ copy.old)
+            × (self.new ≡ record self.old { given = self.old.given - 1; last = Some (Err OutOfMemory); current = None })) }
+    {
+        let copied = copy.copy_from(&self.record());
+        match copied {
+            Ok(()) => Ok(true),
+            Err(_) => {
+                self.given -= 1;
+                self.place = None;
+                self.last = Some(Err(TextFault::OutOfMemory));
+                Err(TextFault::OutOfMemory)
+            }
+        }
+    }
+
+    // Reads the next record, which comes into hand, or the last answer.
+    fn read_next(&mut self) -> Result<bool, TextFault>
         requires { self.old.last ≡ None }
-        ensures found { IfOk result (λ o. IfSome o (GivesRecord F.state self.old self.new)) }
-        ensures end { result ≡ Ok None → EndsText F.state self.old self.new }
+        ensures found { result ≡ Ok true → MatchOption self.new.current ⊥ (GivesRecord F.state self.old self.new) }
+        ensures end { result ≡ Ok false → EndsText F.state self.old self.new }
         ensures fault { IfErr result (StopsText F.state self.old self.new) }
         ensures failures { (F.state self.new.feed).failures ≡ (F.state self.old.feed).failures + failed_in result }
         ensures count { KeepsCount F.state self.old self.new }
@@ -144,22 +268,20 @@ impl<F: Feed> Source<F> {
         ensures limit { self.new.taken ≤ self.new.max_reads * self.new.chunk }
         ensures fits { self.new.taken ≤ 2 ^ 60 }
     {
-        match read_record(
-            self.alloc,
-            self.encoding,
-            self.room,
-            self.bases,
-            &mut self.lines,
-        ) {
-            Ok(Some(record)) => {
+        // No record is in hand while the next is read. It may have as many bases.
+        let guess = match self.place.take() {
+            Some(Place::Unwrapped(shape)) => shape.bases,
+            _ => self.parts.seq().len(),
+        };
+        match read_record(self.encoding, guess, &mut self.lines, &mut self.parts) {
+            Ok(Some(place)) => {
                 self.given += 1;
-                self.room = record.len();
-                self.bases = record.seq().len();
-                Ok(Some(record))
+                self.place = Some(place);
+                Ok(true)
             }
             Ok(None) => {
                 self.last = Some(Ok(()));
-                Ok(None)
+                Ok(false)
             }
             Err(error) => {
                 let fault = error.numbered(self.given + 1);

@@ -1,14 +1,14 @@
-//! A record of four unwrapped lines that is whole in hand: most files hold no other, and it is copied at one stroke.
+//! A record of four unwrapped lines that is whole in hand: most files hold no other, and it is lent as it stands there.
 
 ghost use Rattle.std.specs.Prelude.{◌≡◌, ◌↔◌, ◌+◌, ◌*◌, ◌-◌, ◌≤◌, ◌⊎◌, ℕ, None, take, drop, length, slice_index, IsTrue, IfSome};
-ghost use Rattle.fq_text.specs.Grammar.{limit};
+ghost use Rattle.fq_text.specs.Grammar.{limit, IsLawful};
 ghost use Rattle.fq_text.specs.Reading.{NoLf, IsLineEnd};
-ghost use Rattle.fq_text.specs.Unwrapped.{EndsAt, IsFirstLine, DoLinesEnd, IsFourLines, IsShape, StandsFirst};
+ghost use Rattle.fq_text.specs.Unwrapped.{unwrapped, lines_len, EndsAt, IsFirstLine, DoLinesEnd, IsFourLines, IsShape, StandsFirst};
 ghost use Rattle.fq_text.specs.declared.unwrapped.Shape.{Shape};
 
 use crate::encoding::Encoding;
 use crate::judge::{LIMIT, begins_with};
-use crate::view::is_lawful_line;
+use crate::view::{ReadView, is_lawful_line};
 use memchr::memchr;
 
 /// How long the parts of a record are: the title, the sequence, each line end (LF, or CR and LF), and what follows the mark of the third
@@ -191,4 +191,26 @@ pub(crate) fn first_record(encoding: Encoding, hand: &[u8], guess: usize) -> Opt
         Some(seq) if seq.end == title.end => shape_of(encoding, hand, title, seq.len),
         _ => None,
     }
+}
+
+/// The record of this shape in four lines, lent. The last line needs no end.
+pub(crate) fn view_of(encoding: Encoding, lines: &[u8], shape: Shape) -> ReadView<'_>
+    requires lawful { IsLawful (unwrapped encoding shape (drop 1 lines.now)) }
+    requires whole { lines_len shape ≤ length lines.now }
+    ensures { result ≡ unwrapped encoding shape (drop 1 lines.now) }
+{
+    let Shape {
+        title,
+        bases,
+        end,
+        again,
+    } = shape;
+    let seq = title + end + 1;
+    let qual = title + bases + again + 3 * end + 2;
+    ReadView::new(
+        encoding,
+        &lines[1..title + 1],
+        &lines[seq..seq + bases],
+        &lines[qual..qual + bases],
+    )
 }

@@ -235,12 +235,12 @@ window_moves (suc w) q s some lt =
     omega arith
 
 -- Tests of each member.
-pub all_taken : (p : ℕ → Bool) (xs : List ℕ) (n : ℕ) → list_all p xs ≡ true → list_all p (take n xs) ≡ true
+pub all_taken : {T : Type 0} (p : T → Bool) (xs : List T) (n : ℕ) → list_all p xs ≡ true → list_all p (take n xs) ≡ true
 all_taken p xs zero all = refl
 all_taken p [] (suc n) all = refl
 all_taken p (x ∷ xs) (suc n) all = let parts = and_parts (p x) (list_all p xs) all in and_from _ _ parts.0 (all_taken p xs n parts.1)
 
-pub all_dropped : (p : ℕ → Bool) (xs : List ℕ) (n : ℕ) → list_all p xs ≡ true → list_all p (drop n xs) ≡ true
+pub all_dropped : {T : Type 0} (p : T → Bool) (xs : List T) (n : ℕ) → list_all p xs ≡ true → list_all p (drop n xs) ≡ true
 all_dropped p xs zero all = all
 all_dropped p [] (suc n) all = refl
 all_dropped p (x ∷ xs) (suc n) all = all_dropped p xs n (and_parts (p x) (list_all p xs) all).1

@@ -49,6 +49,10 @@ kept_of (step ∷ steps) q ps = kept_of steps q (select (keeps step (map (slice_
 abbrev pub kept : List Step → List ℕ → List ℕ
 kept steps q = kept_of steps q (places 0 (length q))
 
+-- the one step of a list that is at a place
+abbrev pub only : ℕ → List Step → List Step
+only place steps = take 1 (drop place steps)
+
 -- of n places a test passes those from lo up to hi
 pub record IsBetween (test : ℕ → Bool) (n lo hi : ℕ) : Type 0 where
   pub order : lo ≤ hi

@@ -6,7 +6,7 @@ ghost use Rattle.fq_text.specs.Scores.{is_scored};
 ghost use Rattle.fq_trim.specs.Keeping.{scores, keeps, IsBetween, is_in_range};
 ghost use Rattle.fq_trim.specs.declared.step.Step.TheVariants.{Leading, Trailing, Crop, HeadCrop, SlidingWindow, AverageQuality, MinLen};
 
-use crate::scoring::{score_of, total_of};
+use crate::scoring::total_of;
 use crate::step::Step;
 use fq_text::Encoding;
 
@@ -70,7 +70,7 @@ fn leading(encoding: Encoding, score: u32, qual: &[u8]) -> Span
         (length qual.now) result.start result.stop }
 {
     for (i, byte) in qual.iter().enumerate() {
-        if score <= score_of(encoding, *byte) {
+        if score <= u32::from(encoding.phred(*byte)) {
             return start_at(i, qual);
         }
     }
@@ -160,7 +160,7 @@ fn behind_last(encoding: Encoding, score: u32, qual: &[u8]) -> usize
         → slice_index (scores encoding qual.now) k < score }
 {
     for i in (0..qual.len()).rev() {
-        if score <= score_of(encoding, qual[i]) {
+        if score <= u32::from(encoding.phred(qual[i])) {
             return i + 1;
         }
     }
@@ -191,7 +191,7 @@ fn are_high(encoding: Encoding, score: u32, qual: &[u8]) -> bool
 {
     let mut all = true;
     for byte in qual {
-        all = all & (score <= score_of(encoding, *byte));
+        all = all & (score <= u32::from(encoding.phred(*byte)));
     }
     all
 }
@@ -223,8 +223,8 @@ fn good_stop(
 {
     let mut sum = first;
     for end in from..qual.len() {
-        let entering = score_of(encoding, qual[end]);
-        let leaving = score_of(encoding, qual[end - width]);
+        let entering = encoding.phred(qual[end]);
+        let leaving = encoding.phred(qual[end - width]);
         sum = sum + u64::from(entering) - u64::from(leaving);
         if sum < least {
             return end;

@@ -1,11 +1,11 @@
-//! Scores and their sums.
+//! Sums of scores.
 
 ghost use Rattle.std.specs.Prelude.{true, ◌≡◌, ◌*◌, ◌≤◌, length, sum};
 ghost use Rattle.std.specs.List.{list_all};
-ghost use Rattle.fq_text.specs.Scores.{is_scored, value_of};
+ghost use Rattle.fq_text.specs.Scores.{is_scored};
 ghost use Rattle.fq_trim.specs.Keeping.{scores};
 
-use fq_text::{Encoding, phred_of_solexa};
+use fq_text::Encoding;
 
 // As many scores as surely sum to a u32: a read longer than this is summed in parts.
 const CHUNK: usize = 1 << 24;
@@ -31,19 +31,7 @@ fn sum_of(encoding: Encoding, qual: &[u8]) -> u32
 {
     let mut total = 0u32;
     for byte in qual {
-        total += score_of(encoding, *byte);
+        total += u32::from(encoding.phred(*byte));
     }
     total
-}
-
-/// The score of a byte that has one, without the test that [`Encoding::score`] makes.
-pub(crate) fn score_of(encoding: Encoding, byte: u8) -> u32
-    requires { is_scored encoding byte ≡ true }
-    ensures { result ≡ value_of encoding byte }
-{
-    match encoding {
-        Encoding::Sanger => u32::from(byte) - 33,
-        Encoding::Illumina13 => u32::from(byte) - 64,
-        Encoding::Solexa => u32::from(phred_of_solexa(byte)),
-    }
 }

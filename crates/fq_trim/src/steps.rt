@@ -46,7 +46,7 @@ impl Model for Steps {
 }
 
 impl Steps {
-    ghost use Rattle.fq_trim.specs.Keeping.{kept, scores, places, recodes, is_in_range};
+    ghost use Rattle.fq_trim.specs.Keeping.{kept, only, scores, places, recodes, is_in_range};
     ghost use Rattle.fq_trim.specs.Words.{step_of, steps_of, IsFault};
 
     /// Reads a list of steps, one word a step, in their order. It takes no memory.
@@ -118,6 +118,17 @@ impl Steps {
         ensures within { IfSome result (λ k. k.stop ≤ length qual.now) }
     {
         trim_by(self.as_slice(), encoding, qual)
+    }
+
+    /// The same by one step of the list alone, that at `place`, counted from 0.
+    pub fn trim_at(&self, place: usize, encoding: Encoding, qual: &[u8]) -> Option<Kept>
+        requires within { place < length self.now }
+        requires scored { list_all (is_scored encoding) qual.now ≡ true }
+        ensures kept { MatchOption result (kept (only place self.now) (scores encoding qual.now) ≡ [])
+            (λ k. kept (only place self.now) (scores encoding qual.now) ≡ places k.start (k.stop - k.start)) }
+        ensures within { IfSome result (λ k. k.stop ≤ length qual.now) }
+    {
+        trim_by(&self.as_slice()[place..place + 1], encoding, qual)
     }
 
     /// Whether TOPHRED33 is in the list, so that the quality is to be written as score + 33.

@@ -1,13 +1,13 @@
 -- What is asked in words that are written out.
-use Rattle.std.proofs.Common.{◌≡◌, ℕ, Bool, true, false, Some, List, [], ◌∷◌, refl, codes}
+use Rattle.std.proofs.Common.{◌≡◌, ℕ, Bool, true, false, Option, Some, None, List, [], ◌∷◌, refl, codes}
 use Rattle.clap.proofs.OnLiterals.{clap_on_literals}
 use Rattle.fq_words.specs.Requests.{Asking, InputNames, one_file, two_files}
 use Rattle.clap.specs.declared.error.kind.ErrorKind.TheVariants.{DisplayVersion, MissingRequiredArgument, MissingSubcommand}
 use Rattle.fq_words.specs.Words.{asking_in, interleaved_app, pairs_app, pairs_asked, program_app, words_fault}
 
 -- what is asked with a log and one step, but for what the examples differ in
-asked : ℕ → ℕ → Bool → Bool → InputNames → Asking
-asked threads block check_names sync inputs = record {
+asked : ℕ → ℕ → Bool → Bool → Option (List ℕ) → InputNames → Asking
+asked threads block check_names sync report inputs = record {
   encoding = codes "sanger";
   threads = threads;
   block = block;
@@ -21,19 +21,20 @@ asked threads block check_names sync inputs = record {
   reverse_paired = codes "rp";
   reverse_unpaired = codes "ru";
   log = Some (codes "log");
+  report = report;
   steps = codes "LEADING:3" ∷ [];
 }
 
--- `fq IL --trimlog log --no-name-check --sync i fp fu rp ru LEADING:3`
+-- `fq IL --trimlog log --no-name-check --sync --report json i fp fu rp ru LEADING:3`
 abbrev one_file_words : List (List ℕ)
-one_file_words = codes "fq" ∷ codes "IL" ∷ codes "--trimlog" ∷ codes "log" ∷ codes "--no-name-check" ∷ codes "--sync"
+one_file_words = codes "fq" ∷ codes "IL" ∷ codes "--trimlog" ∷ codes "log" ∷ codes "--no-name-check" ∷ codes "--sync" ∷ codes "--report" ∷ codes "json"
     ∷ codes "i" ∷ codes "fp" ∷ codes "fu" ∷ codes "rp" ∷ codes "ru" ∷ codes "LEADING:3" ∷ []
 
 one_file_parses : words_fault one_file_words ≡ []
 unfolding clap_on_literals program_app pairs_app interleaved_app words_fault
 one_file_parses = refl
 
-one_file_asked : pairs_asked one_file_words ≡ Some (asked 4 1024 false true (one_file (codes "i")))
+one_file_asked : pairs_asked one_file_words ≡ Some (asked 4 1024 false true (Some (codes "json")) (one_file (codes "i")))
 unfolding clap_on_literals program_app pairs_app interleaved_app asked pairs_asked asking_in
 one_file_asked = refl
 
@@ -46,7 +47,7 @@ two_files_parse : words_fault two_files_words ≡ []
 unfolding clap_on_literals program_app pairs_app interleaved_app words_fault
 two_files_parse = refl
 
-two_files_asked : pairs_asked two_files_words ≡ Some (asked 2 1 true false (two_files (codes "f") (codes "r")))
+two_files_asked : pairs_asked two_files_words ≡ Some (asked 2 1 true false None (two_files (codes "f") (codes "r")))
 unfolding clap_on_literals program_app pairs_app interleaved_app asked pairs_asked asking_in
 two_files_asked = refl
 

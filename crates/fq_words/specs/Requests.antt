@@ -1,5 +1,5 @@
 -- What is to be trimmed, from where and to where.
-use Rattle.std.specs.Prelude.{ℕ, Bool, ◌||◌, Option, Some, None, List, map, codes, if◌then◌else◌}
+use Rattle.std.specs.Prelude.{ℕ, Bool, false, unwrap_or, ◌||◌, Option, Some, None, List, map, codes, if◌then◌else◌}
 use Rattle.std.specs.Option.{option_map}
 use Rattle.std.specs.Str.{bytes_eq}
 use Rattle.fq_text.specs.declared.encoding.Encoding.{Encoding}
@@ -44,6 +44,7 @@ pub record Asking : Type 0 where
   pub reverse_paired : List ℕ
   pub reverse_unpaired : List ℕ
   pub log : Option (List ℕ)
+  pub report : Option (List ℕ)
   pub steps : List (List ℕ)
 
 abbrev pub asking_of : Request → Asking
@@ -61,6 +62,7 @@ asking_of r = record {
   reverse_paired = r.reverse_paired.now;
   reverse_unpaired = r.reverse_unpaired.now;
   log = option_map (λ name. name.now) r.log;
+  report = option_map (λ name. name.now) r.report;
   steps = map (λ word. word.now) r.steps.items;
 }
 
@@ -102,3 +104,7 @@ same_name a =
     else (if is_input a.inputs a.reverse_paired then Some ReversePaired
     else (if is_input a.inputs a.reverse_unpaired then Some ReverseUnpaired
     else same_log a a.log)))
+
+-- the report has the name of an input
+abbrev pub report_is_input : Asking → Bool
+report_is_input a = unwrap_or (option_map (is_input a.inputs) a.report) false

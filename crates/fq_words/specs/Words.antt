@@ -55,7 +55,8 @@ option_rules = number_rule (codes "threads") (codes "4")
     ∷ default_rule (codes "encoding") (codes "sanger")
     ∷ option_rule (codes "trimlog")
     ∷ flag_rule (codes "no-name-check")
-    ∷ flag_rule (codes "sync") ∷ []
+    ∷ flag_rule (codes "sync")
+    ∷ option_rule (codes "report") ∷ []
 
 -- the files that are made, and the steps
 abbrev pub output_rules : List Rule
@@ -143,6 +144,7 @@ asking_in inputs rows = record {
   reverse_paired = text_in rows (codes "RP");
   reverse_unpaired = text_in rows (codes "RU");
   log = first_of (codes "trimlog") rows;
+  report = first_of (codes "report") rows;
   steps = unwrap_or (all_of (codes "STEPS") rows) [];
 }
 

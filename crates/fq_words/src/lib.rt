@@ -7,8 +7,8 @@ mod help;
 mod request;
 mod words;
 
-pub use request::{Inputs, Request, encoding_of, same_name};
-pub use words::{Asked, read_words};
+pub use request::{Inputs, Request, encoding_of, report_is_input, same_name};
+pub use words::{Asked, VERSION, read_words};
 
 #[cfg(test)]
 mod tests;

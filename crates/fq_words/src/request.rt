@@ -1,7 +1,7 @@
 //! What is to be trimmed, from where and to where.
 
 ghost use Rattle.std.specs.Prelude.{◌≡◌, [], unwrap_or};
-ghost use Rattle.fq_words.specs.Requests.{asking_of, encoding_of, same_name, output_name, input_name, is_input};
+ghost use Rattle.fq_words.specs.Requests.{asking_of, encoding_of, same_name, output_name, input_name, is_input, report_is_input};
 
 use fq_pair::{Out, Side};
 use fq_text::Encoding;
@@ -41,6 +41,8 @@ pub struct Request<'a> {
     pub reverse_unpaired: &'a str,
     /// The name of the log, if one is wanted.
     pub log: Option<&'a str>,
+    /// The name of the report, if one is wanted.
+    pub report: Option<&'a str>,
     /// The words of the steps.
     pub steps: Vec<&'a str>,
 }
@@ -76,6 +78,16 @@ pub fn same_name(request: &Request<'_>) -> Option<Out>
     match request.log {
         Some(log) if is_input(request, log) => Some(Out::Log),
         _ => None,
+    }
+}
+
+/// Whether the name of the report is that of an input.
+pub fn report_is_input(request: &Request<'_>) -> bool
+    ensures { result ≡ report_is_input (asking_of request.now) }
+{
+    match request.report {
+        Some(report) => is_input(request, report),
+        None => false,
     }
 }
 

@@ -98,10 +98,27 @@ fn what_is_asked(rt: HostRuntime) -> Result<(), Fail> {
     assert!(rt; !request.check_names);
     assert!(rt; request.sync);
     assert_eq!(rt; request.log, None);
+    assert_eq!(rt; request.report, None);
     assert_eq!(rt;
         request.steps.as_slice(),
         ["LEADING:3", "MINLEN:2"].as_slice()
     );
     assert_eq!(rt; same_name(&request), None);
+    Ok(())
+}
+
+#[test]
+fn a_report_named_as_an_input(rt: HostRuntime) -> Result<(), Fail> {
+    for (name, is_input) in [("f", true), ("r", true), ("fp", false), ("report", false)] {
+        let words = [
+            "fq", "PE", "--report", name, "f", "r", "fp", "fu", "rp", "ru", "CROP:1",
+        ];
+        let Ok(Asked::Pairs(request)) = read_words(rt.alloc(), &words) else {
+            return Err("refused".into());
+        };
+        assert_eq!(rt; request.report, Some(name));
+        assert_eq!(rt; report_is_input(&request), is_input);
+        assert_eq!(rt; same_name(&request), None);
+    }
     Ok(())
 }

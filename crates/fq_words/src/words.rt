@@ -11,6 +11,9 @@ use crate::request::{Inputs, Request};
 use clap::{Arg, ArgAction, ArgMatches, Command, Error};
 use std::alloc::{AllocError, Global};
 
+/// The program's version.
+pub const VERSION: &str = "1.0.0";
+
 /// What the words ask for.
 #[derive(Drop)]
 pub enum Asked<'a> {
@@ -65,7 +68,7 @@ fn command<'a>(alloc: Global) -> Result<Command<'a>, AllocError>
         .about(help::ABOUT)
         .after_help(help::START)
         .subcommand_required(true)
-        .version("1.0.0")
+        .version(VERSION)
         .subcommand(pairs_command(alloc)?)?
         .subcommand(interleaved_command(alloc)?)?
         .subcommand(
@@ -149,8 +152,9 @@ fn options<'a>(alloc: Global) -> Result<Vec<Arg<'a>>, AllocError>
     let log = log(alloc);
     let unchecked = unchecked_names(alloc);
     let sync = sync(alloc);
+    let report = report(alloc);
     Ok(vec![in alloc;
-        threads, block, depth, chunk, encoding, log, unchecked, sync,
+        threads, block, depth, chunk, encoding, log, unchecked, sync, report,
     ]?)
 }
 
@@ -198,6 +202,18 @@ fn sync<'a>(alloc: Global) -> Arg<'a>
         .action(ArgAction::SetTrue)
         .help(
             "Waits at the end until the outputs are on their disk [default: only where an error may come late, as over a network]",
+        )
+}
+
+// The file of the report.
+fn report<'a>(alloc: Global) -> Arg<'a>
+    ensures { IsArg (option_rule (codes "report")) result }
+{
+    Arg::new(alloc, "report")
+        .long("report")
+        .value_name("FILE")
+        .help(
+            "Writes what was counted of pairs, reads, bases and steps, as JSON [default: no report]",
         )
 }
 
@@ -267,6 +283,7 @@ fn request<'a>(
     let reverse_paired = text_of(found, "RP");
     let reverse_unpaired = text_of(found, "RU");
     let log = found.get_str("trimlog");
+    let report = found.get_str("report");
     let steps = steps_of(alloc, found)?;
     Ok(Request {
         encoding,
@@ -282,6 +299,7 @@ fn request<'a>(
         reverse_paired,
         reverse_unpaired,
         log,
+        report,
         steps,
     })
 }

@@ -1,19 +1,53 @@
--- Replies to some blocks and one more, and histories with some items more.
-use Rattle.std.proofs.Common.{◌≡◌, Bool, true, false, List, [], ◌∷◌, ◌++◌, refl, sym, ap, ◌∙◌, append_assoc, Option, Some, None, is_some, Result, Ok, Err, IfOk}
+-- What is made of pairs and one more, replies to some blocks and one more, and histories with some items more.
+use Rattle.std.proofs.Common.{◌≡◌, ℕ, Bool, true, false, List, [], ◌∷◌, ◌++◌, refl, sym, ap, ◌∙◌, append_assoc, Option, Some, None, is_some, Result, Ok, Err, IfOk}
 use Rattle.std.proofs.lemmas.List.{append-nil}
+use Rattle.std.proofs.lemmas.List.Sums.{fold-append}
+use Rattle.std.specs.Option.{option_map}
 use Rattle.fq_trim.specs.declared.step.Step.{Step}
+use Rattle.fq_pair.specs.Mates.{Mates}
+use Rattle.fq_pair.specs.Outputs.{Outputs, texts_of}
+use Rattle.fq_pair.proofs.OutputLaws.{texts_of-append}
+use Rattle.fq_tally.specs.declared.tally.Tally.{Tally}
+use Rattle.fq_tally.specs.Courses.{alone}
+use Rattle.fq_tally.specs.Tallies.{no_tally, with_pair}
 use Rattle.fq_lane.specs.History.{History, with_item, with_mark}
 use Rattle.fq_block.specs.Blocks.{Numbered}
 use Rattle.fq_work.specs.declared.done.Done.{Done}
 use Rattle.fq_work.specs.declared.reply.Cause.{Cause}
 use Rattle.fq_work.specs.declared.reply.Reply.{Reply}
 use Rattle.fq_work.specs.declared.reply.Reply.TheVariants.{Done as done, Stop}
-use Rattle.fq_work.specs.Replies.{done_of, Answers}
+use Rattle.fq_work.specs.Replies.{tally_if, made_of, done_of, emptied, with_mates, Answers}
 use Rattle.fq_work.specs.Work.{with_items, HasAnswered, HasDrained}
 
-module _ (steps : List Step) where
+-- whether there is a tally
+pub is_asked : (tallied : Bool) (steps : List Step) (ms : List Mates) → is_some (tally_if tallied steps ms) ≡ tallied
+is_asked true steps ms = refl
+is_asked false steps ms = refl
+
+no_tally_is : (steps : List Step) (t : Option Tally) → option_map (λ (x : Tally). no_tally) t ≡ tally_if (is_some t) steps []
+no_tally_is steps None = refl
+no_tally_is steps (Some t) = refl
+
+-- what was emptied is what is made of no pairs
+pub emptied_is : (steps : List Step) (d : Done) → emptied d ≡ made_of (is_some d.tally) steps d.number []
+emptied_is steps d = ap (λ (t : Option Tally). let e : Done = record { number = d.number; texts = texts_of steps []; tally = t } in e) (no_tally_is steps d.tally)
+
+-- with one pair more
+tally_more : (tallied : Bool) (steps : List Step) (ms : List Mates) (m : Mates) →
+    option_map (λ (t : Tally). with_pair (alone steps) t m) (tally_if tallied steps ms) ≡ tally_if tallied steps (ms ++ m ∷ [])
+tally_more true steps ms m = ap (λ (t : Tally). let s : Option Tally = Some t in s) (sym (fold-append (with_pair (alone steps)) no_tally ms (m ∷ [])))
+tally_more false steps ms m = refl
+
+pub made_more : (tallied : Bool) (steps : List Step) (number : ℕ) (ms : List Mates) (m : Mates) →
+    with_mates steps (made_of tallied steps number ms) m ≡ made_of tallied steps number (ms ++ m ∷ [])
+made_more tallied steps number ms m =
+    let with : Outputs → Option Tally → Done = λ o t. record { number = number; texts = o; tally = t } in
+    ap (λ (o : Outputs). with o (option_map (λ (t : Tally). with_pair (alone steps) t m) (tally_if tallied steps ms))) (sym (texts_of-append steps ms (m ∷ [])))
+    ∙ ap (with (texts_of steps (ms ++ m ∷ []))) (tally_more tallied steps ms m)
+
+module _ (tallied : Bool) (steps : List Step) where
   -- with one block more, which is done
-  pub answers_done : (bs : List Numbered) (rs : List Reply) (b : Numbered) (d : Done) → d ≡ done_of steps b → Answers steps bs rs None → Answers steps (bs ++ b ∷ []) (rs ++ done d ∷ []) None
+  pub answers_done : (bs : List Numbered) (rs : List Reply) (b : Numbered) (d : Done) → d ≡ done_of tallied steps b → Answers tallied steps bs rs None → Answers tallied steps (bs ++ b ∷ []) (rs ++ done d ∷ []) None
   answers_done [] [] b d e h = (e, tt)
   answers_done [] (r ∷ rs) b d e h = absurd h
   answers_done (a ∷ bs) [] b d e h = absurd h
@@ -21,7 +55,7 @@ module _ (steps : List Step) where
   answers_done (a ∷ bs) (Stop c ∷ rs) b d e h = cc
 
   -- with one block more, which is refused
-  pub answers_stop : (bs : List Numbered) (rs : List Reply) (b : Numbered) (c : Cause) → Answers steps bs rs None → Answers steps (bs ++ b ∷ []) (rs ++ Stop c ∷ []) (Some c)
+  pub answers_stop : (bs : List Numbered) (rs : List Reply) (b : Numbered) (c : Cause) → Answers tallied steps bs rs None → Answers tallied steps (bs ++ b ∷ []) (rs ++ Stop c ∷ []) (Some c)
   answers_stop [] [] b c h = (refl, refl)
   answers_stop [] (r ∷ rs) b c h = absurd h
   answers_stop (a ∷ bs) [] b c h = absurd h
@@ -29,7 +63,7 @@ module _ (steps : List Step) where
   answers_stop (a ∷ bs) (Stop k ∷ rs) b c h = cc
 
   -- behind a Stop, blocks go unanswered
-  pub answers_more : (bs more : List Numbered) (rs : List Reply) (c : Cause) → Answers steps bs rs (Some c) → Answers steps (bs ++ more) rs (Some c)
+  pub answers_more : (bs more : List Numbered) (rs : List Reply) (c : Cause) → Answers tallied steps bs rs (Some c) → Answers tallied steps (bs ++ more) rs (Some c)
   answers_more [] more [] c h = absurd h
   answers_more [] more (r ∷ rs) c h = absurd h
   answers_more (a ∷ bs) more [] c h = absurd h
@@ -51,15 +85,15 @@ module _ {T : Type 0} where
       f ∙ ap (λ j. with_items j ys true) e ∙ ap (λ zs. let j : History T = record { name = l.name; items = zs; marked = true } in j) (append_assoc l.items xs ys)
 
 -- what was taken and answered in all: up to a mark, behind a Stop drained up to it
-module _ (steps : List Step) where
+module _ (tallied : Bool) (steps : List Step) where
   pub record HasWorked (cause : Option Cause) (rx rx_new : History Numbered) (tx tx_new : History Reply) : Type 0 where
     pub took : List Numbered
     pub replies : List Reply
     pub received : rx_new ≡ with_items rx took true
     pub sent : tx_new ≡ with_items tx replies tx.marked
-    pub answers : Answers steps took replies cause
+    pub answers : Answers tallied steps took replies cause
 
-  pub worked : (cause : Option Cause) (b : Bool) (rx rx1 rx2 : History Numbered) (tx tx1 tx2 : History Reply) → b ≡ is_some cause → HasAnswered steps cause rx rx1 tx tx1
+  pub worked : (cause : Option Cause) (b : Bool) (rx rx1 rx2 : History Numbered) (tx tx1 tx2 : History Reply) → b ≡ is_some cause → HasAnswered tallied steps cause rx rx1 tx tx1
       → (b ≡ true → HasDrained rx1 rx2 × (tx2 ≡ tx1)) → (b ≡ false → (rx2 ≡ rx1) × (tx2 ≡ tx1)) → HasWorked cause rx rx2 tx tx2
   worked None b rx rx1 rx2 tx tx1 tx2 is h more same =
       record { took = h.took; replies = h.replies; received = (same is).0 ∙ h.received; sent = (same is).1 ∙ h.sent; answers = h.answers }
@@ -69,7 +103,7 @@ module _ (steps : List Step) where
         replies = h.replies;
         received = with_both rx rx1 rx2 h.took d.0.took rx.marked h.received d.0.received;
         sent = d.1 ∙ h.sent;
-        answers = answers_more steps h.took d.0.took h.replies c h.answers;
+        answers = answers_more tallied steps h.took d.0.took h.replies c h.answers;
       }
 
 pub closed : {E : Type 0} (tx tx1 : History Reply) (replies : List Reply) (r : Result (History Reply) E) → tx1 ≡ with_items tx replies tx.marked → IfOk r (λ e. e ≡ with_mark tx1) → IfOk r (λ e. e ≡ with_items tx replies true)

@@ -1,7 +1,8 @@
 //! The worker of a threaded run: it takes blocks of pairs from one lane, and answers each through another, in order.
 //!
-//! [`work_block`] trims the pairs of one block. [`work`] does so block after block, asks a [`Gate`] before each, and stops at
-//! want of memory, or where the gate does not let a block pass. Its contract says what was sent for what was taken: one
+//! [`work_block`] trims the pairs of one block, and counts them for a report where a tally is asked for. [`work`] and
+//! [`work_tallied`] do so block after block, ask a [`Gate`] before each, and stop at want of memory, or where the gate does not
+//! let a block pass. Their contract says what was sent for what was taken: one
 //! [`Done`] for each block, in order, or for the first of them, and behind those one [`Reply::Stop`].
 #![tactic(auto)]
 
@@ -17,7 +18,4 @@ pub use ends::{WorkEnds, Worked};
 pub use gate::{Gate, OpenGate};
 pub use reply::{Cause, Reply};
 pub use trimming::work_block;
-pub use worker::work;
-
-#[cfg(test)]
-mod tests;
+pub use worker::{work, work_tallied};

@@ -1,39 +1,38 @@
 //! The work on one block.
 
-ghost use Rattle.std.specs.Prelude.{◌≡◌, OnOk, OnErr};
-ghost use Rattle.fq_pair.specs.Outputs.{no_texts, texts_of};
-ghost use Rattle.fq_work.specs.Replies.{done_of};
+ghost use Rattle.std.specs.Prelude.{◌≡◌, [], is_some, OnOk, OnErr};
+ghost use Rattle.fq_work.specs.Replies.{done_of, made_of};
 
 use crate::done::Done;
 use fq_block::Block;
-use fq_pair::Texts;
 use fq_text::OutOfMemory;
 use fq_trim::Steps;
 
 /// Trims the pairs of a block. Behind it `done` has the block's number and the texts, the log and the counts of its pairs, and
-/// nothing of what was there before. The texts keep their memory.
+/// nothing of what was there before. Where it had a tally it has the tally of its pairs. Texts and tally keep their memory.
 ///
-/// Where memory is refused, `done` has the block's number and empty texts.
+/// Where memory is refused, `done` has the block's number and empty texts, and an empty tally where it had one.
 pub fn work_block(block: &Block, steps: &Steps, done: &mut Done) -> Result<(), OutOfMemory>
-    ensures ok { OnOk result (done.new ≡ done_of steps.now block.now) }
-    ensures err { OnErr result (done.new ≡ record { number = block.now.number; texts = no_texts }) }
+    ensures ok { OnOk result (done.new ≡ done_of (is_some done.old.tally) steps.now block.now) }
+    ensures err { OnErr result (done.new ≡ made_of (is_some done.old.tally) steps.now block.now.number []) }
 {
     done.number = block.number();
-    done.texts.clear();
-    let added = add_pairs(block, steps, &mut done.texts);
+    done.clear();
+    let added = add_pairs(block, steps, done);
     if added.is_err() {
-        done.texts.clear();
+        done.clear();
     }
     added
 }
 
-// Adds what is to be written of each pair to texts that are empty.
-fn add_pairs(block: &Block, steps: &Steps, texts: &mut Texts) -> Result<(), OutOfMemory>
-    requires { texts.old ≡ no_texts }
-    ensures { OnOk result (texts.new ≡ texts_of steps.now block.now.pairs) }
+// Adds what is to be made of each pair to what has none.
+fn add_pairs(block: &Block, steps: &Steps, done: &mut Done) -> Result<(), OutOfMemory>
+    requires { done.old ≡ made_of (is_some done.old.tally) steps.now block.now.number [] }
+    ensures ok { OnOk result (done.new ≡ done_of (is_some done.old.tally) steps.now block.now) }
+    ensures err { OnErr result ((done.new.number ≡ block.now.number) × (is_some done.new.tally ≡ is_some done.old.tally)) }
 {
     for i in 0..block.len() {
-        texts.add(block.pair(i), steps)?;
+        done.add(block.pair(i), steps)?;
     }
     Ok(())
 }

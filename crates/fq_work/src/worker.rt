@@ -1,6 +1,6 @@
 //! The worker.
 
-ghost use Rattle.std.specs.Prelude.{◌≡◌, true, IfOk};
+ghost use Rattle.std.specs.Prelude.{◌≡◌, true, false, IfOk};
 ghost use Rattle.fq_lane.specs.History.{with_item};
 ghost use Rattle.fq_work.specs.Replies.{done_of, reply_to};
 ghost use Rattle.fq_work.specs.Work.{IsWork, HasAnswered, HasDrained};
@@ -12,7 +12,6 @@ use crate::reply::{Cause, Reply};
 use crate::trimming::work_block;
 use fq_block::Block;
 use fq_lane::{Rx, Taken, Tx};
-use fq_pair::Texts;
 use fq_trim::Steps;
 use std::alloc::Global;
 use std::sync::{Arc, Wait};
@@ -36,10 +35,30 @@ pub fn work<R: Wait, G: Gate>(
     gate: Arc<G>,
     gate_turns: u64,
 ) -> Worked
-    ensures { IsWork steps ends.rx ends.tx result }
+    ensures { IsWork false steps ends.rx ends.tx result }
+{
+    work_tallied(alloc, rt, ends, steps, false, gate, gate_turns)
+}
+
+/// The same, where the tally of each block may be asked for: with `tallied` each [`Done`] has one, without it none.
+pub fn work_tallied<R: Wait, G: Gate>(
+    alloc: Global,
+    rt: &R,
+    ends: WorkEnds,
+    steps: Steps,
+    tallied: bool,
+    gate: Arc<G>,
+    gate_turns: u64,
+) -> Worked
+    ensures { IsWork tallied steps ends.rx ends.tx result }
 {
     let mut ends = ends;
-    let cause = answer_blocks(alloc, rt, &mut ends, &steps, &*gate, gate_turns);
+    let making = Making {
+        steps,
+        tallied,
+        gate_turns,
+    };
+    let cause = answer_blocks(alloc, rt, &mut ends, &making, &*gate);
     if cause.is_some() {
         drain(rt, &mut ends);
     }
@@ -58,22 +77,29 @@ pub fn work<R: Wait, G: Gate>(
     }
 }
 
+// What is made of each block, and how often the gate is asked about one.
+#[derive(Clone, Copy)]
+struct Making {
+    steps: Steps,
+    tallied: bool,
+    gate_turns: u64,
+}
+
 // Answers blocks until the lane is closed, or one can't be done.
 fn answer_blocks<R: Wait, G: Gate>(
     alloc: Global,
     rt: &R,
     ends: &mut WorkEnds,
-    steps: &Steps,
+    making: &Making,
     gate: &G,
-    gate_turns: u64,
 ) -> Option<Cause>
-    ensures { HasAnswered steps.now result ends.old.rx ends.new.rx ends.old.tx ends.new.tx }
+    ensures { HasAnswered making.now.tallied making.now.steps result ends.old.rx ends.new.rx ends.old.tx ends.new.tx }
 {
     for _ in rt.forever() {
         let Some(block) = ends.rx.take_wait(rt) else {
             return None;
         };
-        if let Some(cause) = answer(alloc, rt, ends, block, steps, gate, gate_turns) {
+        if let Some(cause) = answer(alloc, rt, ends, block, making, gate) {
             return Some(cause);
         }
     }
@@ -86,14 +112,13 @@ fn answer<R: Wait, G: Gate>(
     rt: &R,
     ends: &mut WorkEnds,
     block: Block,
-    steps: &Steps,
+    making: &Making,
     gate: &G,
-    gate_turns: u64,
 ) -> Option<Cause>
-    ensures sent { ends.new.tx ≡ with_item ends.old.tx (reply_to steps.now block result) }
+    ensures sent { ends.new.tx ≡ with_item ends.old.tx (reply_to making.now.tallied making.now.steps block result) }
     ensures blocks { ends.new.rx ≡ ends.old.rx }
 {
-    let worked = work_on(alloc, &block, steps, gate, gate_turns, &mut ends.texts_back);
+    let worked = work_on(alloc, &block, making, gate, &mut ends.texts_back);
     give_back(&mut ends.blocks_back, block);
     match worked {
         Ok(done) => {
@@ -125,21 +150,20 @@ fn drain<R: Wait>(rt: &R, ends: &mut WorkEnds)
 fn work_on<G: Gate>(
     alloc: Global,
     block: &Block,
-    steps: &Steps,
+    making: &Making,
     gate: &G,
-    gate_turns: u64,
-    texts_back: &mut Rx<Texts>,
+    texts_back: &mut Rx<Done>,
 ) -> Result<Done, Cause>
-    ensures { IfOk result (λ done. done ≡ done_of steps.now block.now) }
+    ensures { IfOk result (λ done. done ≡ done_of making.now.tallied making.now.steps block.now) }
 {
-    if !passes(gate, block.number(), gate_turns) {
+    if !passes(gate, block.number(), making.gate_turns) {
         return Err(Cause::Gate);
     }
-    let mut done = Done {
-        number: block.number(),
-        texts: used_texts(alloc, texts_back),
-    };
-    match work_block(block, steps, &mut done) {
+    let mut done = used_texts(alloc, block.number(), texts_back);
+    if done.ask(alloc, making.tallied).is_err() {
+        return Err(Cause::Memory);
+    }
+    match work_block(block, &making.steps, &mut done) {
         Ok(()) => Ok(done),
         Err(_) => Err(Cause::Memory),
     }
@@ -155,11 +179,11 @@ fn passes<G: Gate>(gate: &G, number: u64, gate_turns: u64) -> bool {
     false
 }
 
-// Texts that came back, as they were written, or new ones.
-fn used_texts(alloc: Global, texts_back: &mut Rx<Texts>) -> Texts {
+// Texts that came back, as they were written and counted, or new ones.
+fn used_texts(alloc: Global, number: u64, texts_back: &mut Rx<Done>) -> Done {
     match texts_back.take() {
-        Taken::Item(texts) => texts,
-        Taken::Empty | Taken::Closed => Texts::new(alloc),
+        Taken::Item(done) => done,
+        Taken::Empty | Taken::Closed => Done::new(alloc, number),
     }
 }
 

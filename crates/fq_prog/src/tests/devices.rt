@@ -4,7 +4,7 @@ use fq_text::ScriptFeed;
 
 // What goes wrong with a file.
 #[derive(Clone, Copy)]
-enum Trouble {
+pub(super) enum Trouble {
     // A call for it is refused.
     Refused(FileFault),
     // This read or write of it fails.
@@ -15,15 +15,15 @@ enum Trouble {
 
 // Files in memory, one of which makes trouble.
 #[derive(Drop)]
-struct TroubledFiles {
-    held: MemoryFiles,
+pub(super) struct TroubledFiles {
+    pub(super) held: MemoryFiles,
     name: &'static str,
     trouble: Trouble,
     alloc: Global,
 }
 
 impl TroubledFiles {
-    fn new(
+    pub(super) fn new(
         alloc: Global,
         held: MemoryFiles,
         name: &'static str,
@@ -86,7 +86,7 @@ impl Files for TroubledFiles {
 }
 
 // Calls the program on files that make trouble.
-fn call_troubled<R: Threads + Wait + Copy + Send + 'static>(
+pub(super) fn call_troubled<R: Threads + Wait + Copy + Send + 'static>(
     rt: &R,
     alloc: Global,
     words: &[&str],
@@ -96,12 +96,17 @@ fn call_troubled<R: Threads + Wait + Copy + Send + 'static>(
     call_program(rt, alloc, words, files, out)
 }
 
-fn two_pairs_with(
+pub(super) fn two_pairs_with(
     alloc: Global,
     name: &'static str,
     trouble: Trouble,
 ) -> Result<TroubledFiles, Fail> {
-    Ok(TroubledFiles::new(alloc, files_of(alloc, FORWARD, REVERSE)?, name, trouble))
+    Ok(TroubledFiles::new(
+        alloc,
+        files_of(alloc, TWO_FORWARD, TWO_REVERSE)?,
+        name,
+        trouble,
+    ))
 }
 
 #[test]
@@ -144,7 +149,7 @@ fn each_output_is_done_with_after_a_failed_read(rt: HostRuntime) -> Result<(), F
         let words = pairs_words(
             rt.alloc(),
             &["--trimlog", "log", "--chunk", "18"],
-            &["LEADING:3"],
+            TWO_STEPS,
         )?;
         let called = call_troubled(&rt, rt.alloc(), &words, &mut files);
         assert_eq!(rt; called.status, 4);
@@ -166,9 +171,9 @@ fn a_failed_read_of_an_interleaved_file_has_the_side_of_its_record(
         (3, b"read failed: forward\n", b"@p1/1\nGT\n+\nII\n"),
     ];
     for (read, line, trimmed) in rows {
-        let held = interleaved_file(rt.alloc(), INTERLEAVED)?;
+        let held = interleaved_file(rt.alloc(), TWO_INTERLEAVED)?;
         let mut files = TroubledFiles::new(rt.alloc(), held, "i", Trouble::Call(read));
-        let words = command_words(rt.alloc(), "IL", &["--chunk", "18"], &["i"], &["LEADING:3"])?;
+        let words = command_words(rt.alloc(), "IL", &["--chunk", "18"], &["i"], TWO_STEPS)?;
         let called = call_troubled(&rt, rt.alloc(), &words, &mut files);
         assert_eq!(rt; called.status, 4);
         assert_eq!(rt; called.err.bytes(), line);
@@ -192,7 +197,7 @@ fn files_that_are_refused(rt: HostRuntime) -> Result<(), Fail> {
     ];
     for (name, fault, status, line) in rows {
         let mut files = two_pairs_with(rt.alloc(), name, Trouble::Refused(fault))?;
-        let words = pairs_words(rt.alloc(), TWO_OPTIONS, &["LEADING:3"])?;
+        let words = pairs_words(rt.alloc(), TWO_OPTIONS, TWO_STEPS)?;
         let called = call_troubled(&rt, rt.alloc(), &words, &mut files);
         assert_eq!(rt; called.status, status);
         assert_eq!(rt; called.err.bytes(), line);
@@ -220,7 +225,7 @@ fn an_output_that_is_an_input_under_another_name(rt: HostRuntime) -> Result<(), 
     ];
     for (name, line) in rows {
         let mut files = two_pairs_with(rt.alloc(), name, Trouble::Input)?;
-        let words = pairs_words(rt.alloc(), &["--trimlog", "log"], &["LEADING:3"])?;
+        let words = pairs_words(rt.alloc(), &["--trimlog", "log"], TWO_STEPS)?;
         let called = call_troubled(&rt, rt.alloc(), &words, &mut files);
         assert_eq!(rt; called.status, 4);
         assert_eq!(rt; called.err.bytes(), line);
@@ -233,13 +238,13 @@ fn an_output_that_is_an_input_under_another_name(rt: HostRuntime) -> Result<(), 
 
 #[test]
 fn a_standard_output_that_fails(rt: HostRuntime) -> Result<(), Fail> {
-    let words = pairs_words(rt.alloc(), TWO_OPTIONS, &["LEADING:3"])?;
+    let words = pairs_words(rt.alloc(), TWO_OPTIONS, TWO_STEPS)?;
     let rows: [(&[u8], u8, &[u8]); 2] = [
-        (FORWARD, 4, b"cannot print\n"),
+        (TWO_FORWARD, 4, b"cannot print\n"),
         (FORWARD_SHORT, 3, b"input: forward record 1: QualityShort\n"),
     ];
     for (forward, status, line) in rows {
-        let mut files = files_of(rt.alloc(), forward, REVERSE)?;
+        let mut files = files_of(rt.alloc(), forward, TWO_REVERSE)?;
         let out = ScriptOutlet::new(rt.alloc(), 1000, 1, false);
         let called = call_onto(&rt, rt.alloc(), &words, &mut files, out);
         assert_eq!(rt; called.status, status);

@@ -1,14 +1,23 @@
 use super::*;
 
-// What a call that trims is given, and what it leaves.
+// What calls that trim are given, and what each leaves: the inputs in one form or in both.
 struct Row {
-    inputs: Inputs,
+    inputs: &'static [Inputs],
     options: &'static [&'static str],
     steps: &'static [&'static str],
     status: u8,
     line: &'static [u8],
     counts: &'static [u8],
-    texts: &'static [(&'static str, &'static [u8])],
+    left: Left,
+}
+
+// What a call leaves in the outputs.
+#[derive(Clone, Copy)]
+enum Left {
+    // In all of them, the log too.
+    All(Written),
+    // In these files.
+    Files(&'static [(&'static str, &'static [u8])]),
 }
 
 // The inputs, in their form.
@@ -27,29 +36,6 @@ const ONE_COUNTED: &[u8] =
 const FIVE_COUNTED: &[u8] =
     b"Input Read Pairs: 5\nBoth Surviving: 4\nForward Only Surviving: 1\nReverse Only Surviving: 0\nDropped: 0\n";
 
-// What becomes of the first five of the seven pairs.
-const FIVE_TRIMMED: &[(&'static str, &'static [u8])] = &[
-    (
-        "fp",
-        b"@n1/1\nACGT\n+\nIIII\n@n2/1\nGT\n+\nII\n@n4/1\nGT\n+\nII\n@n5/1\nACGT\n+\nIIII\n",
-    ),
-    ("fu", b"@n3/1\nACGT\n+\nIIII\n"),
-    (
-        "rp",
-        b"@n1/2\nTT\n+\nII\n@n2/2\nTT\n+\nII\n@n4/2\nTT\n+\nII\n@n5/2\nTT\n+\nII\n",
-    ),
-    ("ru", b""),
-];
-
-// What becomes of the first of the two pairs.
-const ONE_TRIMMED: &[(&'static str, &'static [u8])] = &[
-    ("fp", b"@p1/1\nGT\n+\nII\n"),
-    ("fu", b""),
-    ("rp", b"@p1/2\nTTTT\n+\nIIII\n"),
-    ("ru", b""),
-    ("log", b"p1 2 2 4 0\np1 4 0 4 0\n"),
-];
-
 const NOTHING: &[(&'static str, &'static [u8])] = &[
     ("fp", b""),
     ("fu", b""),
@@ -60,142 +46,128 @@ const NOTHING: &[(&'static str, &'static [u8])] = &[
 
 const SOLEXA: &[&'static str] = &["--trimlog", "log", "--encoding", "solexa"];
 
-const MISSING: &[u8] = b"input: reverse record 6: MateMissing\n";
-
-const ROWS: [Row; 14] = [
+const ROWS: [Row; 12] = [
     // Two pairs.
     Row {
-        inputs: Inputs::Apart(FORWARD, REVERSE),
+        inputs: &[
+            Inputs::Apart(TWO_FORWARD, TWO_REVERSE),
+            Inputs::Interleaved(TWO_INTERLEAVED),
+        ],
         options: TWO_OPTIONS,
-        steps: &["LEADING:3"],
+        steps: TWO_STEPS,
         status: 0,
         line: b"",
         counts: TWO_COUNTED,
-        texts: TWO_TRIMMED,
-    },
-    Row {
-        inputs: Inputs::Interleaved(INTERLEAVED),
-        options: TWO_OPTIONS,
-        steps: &["LEADING:3"],
-        status: 0,
-        line: b"",
-        counts: TWO_COUNTED,
-        texts: TWO_TRIMMED,
+        left: Left::All(TWO_WRITTEN),
     },
     // A last record without its mate.
     Row {
-        inputs: Inputs::Apart(SIX_FORWARD, FIVE_REVERSE),
-        options: &[],
+        inputs: &[
+            Inputs::Apart(SIX_FORWARD, FIVE_REVERSE),
+            Inputs::Interleaved(ELEVEN_INTERLEAVED),
+        ],
+        options: &["--threads", "3", "--block", "2", "--trimlog", "log"],
         steps: SEVEN_STEPS,
         status: 3,
-        line: MISSING,
+        line: b"input: reverse record 6: MateMissing\n",
         counts: FIVE_COUNTED,
-        texts: FIVE_TRIMMED,
-    },
-    Row {
-        inputs: Inputs::Interleaved(ELEVEN_INTERLEAVED),
-        options: &["--threads", "3", "--block", "2"],
-        steps: SEVEN_STEPS,
-        status: 3,
-        line: MISSING,
-        counts: FIVE_COUNTED,
-        texts: FIVE_TRIMMED,
+        left: Left::All(FIVE_WRITTEN),
     },
     // A fault has the number of its record.
     Row {
-        inputs: Inputs::Apart(FORWARD_SHORT, REVERSE),
+        inputs: &[Inputs::Apart(FORWARD_SHORT, TWO_REVERSE)],
         options: TWO_OPTIONS,
-        steps: &["LEADING:3"],
+        steps: TWO_STEPS,
         status: 3,
         line: b"input: forward record 1: QualityShort\n",
         counts: NONE_COUNTED,
-        texts: NOTHING,
+        left: Left::Files(NOTHING),
     },
     Row {
-        inputs: Inputs::Apart(FORWARD, REVERSE),
+        inputs: &[Inputs::Apart(TWO_FORWARD, TWO_REVERSE)],
         options: SOLEXA,
-        steps: &["LEADING:3"],
+        steps: TWO_STEPS,
         status: 3,
         line: b"input: forward record 1: BadQuality\n",
         counts: NONE_COUNTED,
-        texts: NOTHING,
+        left: Left::Files(NOTHING),
     },
     Row {
-        inputs: Inputs::Interleaved(
+        inputs: &[Inputs::Interleaved(
             b"@p1/1\nACGT\n+\n#!II\n@p1/2\nTTTT\n+\nIIII\n@p2/1\nGGCC\n+\nIIII\n@p2/2\nAAAA\n+x\n!!!\"\n",
-        ),
+        )],
         options: &["--trimlog", "log"],
-        steps: &["LEADING:3"],
+        steps: TWO_STEPS,
         status: 3,
         line: b"input: reverse record 4: PlusDiffers\n",
         counts: ONE_COUNTED,
-        texts: ONE_TRIMMED,
+        left: Left::All(FIRST_WRITTEN),
     },
     // No records.
     Row {
-        inputs: Inputs::Interleaved(b""),
+        inputs: &[Inputs::Apart(b"", b""), Inputs::Interleaved(b"")],
         options: &["--trimlog", "log"],
         steps: &["LEADING:3"],
         status: 0,
         line: b"",
         counts: NONE_COUNTED,
-        texts: NOTHING,
+        left: Left::Files(NOTHING),
     },
     // Names.
     Row {
-        inputs: Inputs::Apart(FORWARD_A_B, REVERSE_A_C),
+        inputs: &[Inputs::Apart(FORWARD_A_B, REVERSE_A_C)],
         options: &["--trimlog", "log"],
         steps: &["LEADING:3"],
         status: 3,
         line: b"input: record 2: NamesDiffer\n",
         counts: ONE_COUNTED,
-        texts: &[("fp", b"@a/1\nGT\n+\nII\n")],
+        left: Left::Files(&[("fp", b"@a/1\nGT\n+\nII\n")]),
     },
     Row {
-        inputs: Inputs::Apart(FORWARD_A_B, REVERSE_A_C),
+        inputs: &[Inputs::Apart(FORWARD_A_B, REVERSE_A_C)],
         options: &["--no-name-check"],
         steps: &["LEADING:3"],
         status: 0,
         line: b"",
         counts: TWO_COUNTED,
-        texts: &[("fp", b"@a/1\nGT\n+\nII\n")],
+        left: Left::Files(&[("fp", b"@a/1\nGT\n+\nII\n")]),
     },
     Row {
-        inputs: Inputs::Interleaved(INTERLEAVED_A_B),
+        inputs: &[Inputs::Interleaved(INTERLEAVED_A_B)],
         options: &["--encoding", "illumina13"],
         steps: &["LEADING:3", "TOPHRED33"],
         status: 3,
         line: b"input: record 1: NamesDiffer\n",
         counts: NONE_COUNTED,
-        texts: &[("fp", b"")],
+        left: Left::Files(&[("fp", b"")]),
     },
     Row {
-        inputs: Inputs::Interleaved(INTERLEAVED_A_B),
+        inputs: &[Inputs::Interleaved(INTERLEAVED_A_B)],
         options: &["--encoding", "illumina13", "--no-name-check"],
         steps: &["LEADING:3", "TOPHRED33"],
         status: 0,
         line: b"",
         counts: ONE_COUNTED,
-        texts: &[("fp", b"@a/1\nC\n+\nI\n")],
+        left: Left::Files(&[("fp", b"@a/1\nC\n+\nI\n")]),
     },
     // Encodings.
     Row {
-        inputs: Inputs::Apart(b"@q/1\nAC\n+\n@h\n", b"@q/2\nAC\n+\nhh\n"),
+        inputs: &[Inputs::Apart(b"@q/1\nAC\n+\n@h\n", b"@q/2\nAC\n+\nhh\n")],
         options: &["--encoding", "illumina13"],
         steps: &["LEADING:3", "TOPHRED33"],
         status: 0,
         line: b"",
         counts: ONE_COUNTED,
-        texts: &[("fp", b"@q/1\nC\n+\nI\n"), ("rp", b"@q/2\nAC\n+\nII\n")],
+        left: Left::Files(&[("fp", b"@q/1\nC\n+\nI\n"), ("rp", b"@q/2\nAC\n+\nII\n")]),
     },
     Row {
-        inputs: Inputs::Apart(b"@q/1\nAC\n+\n;J\n", b"@q/2\nAC\n+\nhh\n"),
+        inputs: &[Inputs::Apart(b"@q/1\nAC\n+\n;J\n", b"@q/2\nAC\n+\nhh\n")],
         options: &["--encoding", "solexa"],
         steps: &["LEADING:3", "TOPHRED33"],
         status: 0,
         line: b"",
         counts: ONE_COUNTED,
-        texts: &[("fp", b"@q/1\nC\n+\n+\n"), ("rp", b"@q/2\nAC\n+\nII\n")],
+        left: Left::Files(&[("fp", b"@q/1\nC\n+\n+\n"), ("rp", b"@q/2\nAC\n+\nII\n")]),
     },
 ];
 
@@ -205,9 +177,13 @@ const REVERSE_A_C: &[u8] = b"@a/2 x\nTTTT\n+\nIIII\n@c/2\nAAAA\n+\n!!!\"\n";
 
 const INTERLEAVED_A_B: &[u8] = b"@a/1\nAC\n+\n@h\n@b/2\nAC\n+\nhh\n";
 
-// The files and the words of a row.
-fn given(alloc: Global, row: &Row) -> Result<(MemoryFiles, Vec<&'static str>), Fail> {
-    match row.inputs {
+// The files and the words of a call.
+fn given(
+    alloc: Global,
+    row: &Row,
+    inputs: Inputs,
+) -> Result<(MemoryFiles, Vec<&'static str>), Fail> {
+    match inputs {
         Inputs::Apart(forward, reverse) => Ok((
             files_of(alloc, forward, reverse)?,
             pairs_words(alloc, row.options, row.steps)?,
@@ -222,22 +198,52 @@ fn given(alloc: Global, row: &Row) -> Result<(MemoryFiles, Vec<&'static str>), F
 #[test]
 fn what_becomes_of_pairs(rt: HostRuntime) -> Result<(), Fail> {
     for row in &ROWS {
-        let (mut files, words) = given(rt.alloc(), row)?;
-        let called = call(&rt, rt.alloc(), &words, &mut files);
-        assert_eq!(rt; called.err.bytes(), row.line);
-        assert_eq!(rt; called.status, row.status);
-        assert_eq!(rt; called.out.bytes(), row.counts);
-        for (name, text) in row.texts {
-            assert!(rt; holds(&files, name, text), "{name}");
-        }
-        match row.inputs {
-            Inputs::Apart(forward, reverse) => {
-                assert!(rt; holds(&files, "f", forward) && holds(&files, "r", reverse));
-            }
-            Inputs::Interleaved(both) => assert!(rt; holds(&files, "i", both)),
+        for inputs in row.inputs {
+            let (mut files, words) = given(rt.alloc(), row, *inputs)?;
+            let called = call(&rt, rt.alloc(), &words, &mut files);
+            assert_eq!(rt; called.err.bytes(), row.line);
+            assert_eq!(rt; called.status, row.status);
+            assert_eq!(rt; called.out.bytes(), row.counts);
+            assert!(rt; hold_left(&files, &row.left));
+            assert!(rt; are_unchanged(&files, *inputs));
         }
     }
     Ok(())
+}
+
+// Whether the outputs hold what is left.
+fn hold_left(files: &MemoryFiles, left: &Left) -> bool {
+    match left {
+        Left::All(written) => hold_written(files, written),
+        Left::Files(texts) => hold_texts(files, texts),
+    }
+}
+
+// Whether files of these names hold these texts.
+fn hold_texts(files: &MemoryFiles, texts: &[(&str, &[u8])]) -> bool {
+    for (name, text) in texts {
+        if !holds(files, name, text) {
+            return false;
+        }
+    }
+    true
+}
+
+// Whether the outputs hold what is written.
+fn hold_written(files: &MemoryFiles, written: &Written) -> bool {
+    holds(files, "fp", written.forward_paired)
+        && holds(files, "fu", written.forward_unpaired)
+        && holds(files, "rp", written.reverse_paired)
+        && holds(files, "ru", written.reverse_unpaired)
+        && holds(files, "log", written.log)
+}
+
+// Whether the files of these inputs are as they were.
+fn are_unchanged(files: &MemoryFiles, inputs: Inputs) -> bool {
+    match inputs {
+        Inputs::Apart(forward, reverse) => holds(files, "f", forward) && holds(files, "r", reverse),
+        Inputs::Interleaved(both) => holds(files, "i", both),
+    }
 }
 
 #[test]

@@ -1,6 +1,6 @@
 //! The rest of the replies, once nothing more is written.
 
-ghost use Rattle.std.specs.Prelude.{◌≡◌, ◌<◌, IsTrue, vec_len};
+ghost use Rattle.std.specs.Prelude.{◌≡◌, ◌+◌, ◌<◌, IsTrue, min, if◌then◌else◌, vec_len};
 ghost use Rattle.fq_run.specs.Lanes.{AllClosed};
 ghost use Rattle.fq_run.specs.Stops.{Drains};
 ghost use Rattle.fq_run.specs.declared.collector.phase.Phase.{Phase};
@@ -13,8 +13,22 @@ use std::sync::Wait;
 use std::thread::Parker;
 use std::time::Duration;
 
-// How long a collector sleeps behind a round in which nothing had come.
-const REST_MICROS: u64 = 100;
+// How long a collector sleeps behind a round in which nothing had come, in microseconds: at first, and at most.
+const FIRST_REST: u64 = 100;
+
+const LONGEST_REST: u64 = 10_000;
+
+// How long it sleeps behind the next such round, where it slept so long behind the last one. Each is twice as long as the one
+// before, and the first one behind a round in which something came is short again.
+fn next_rest(found: bool, rest: u64) -> u64
+    ensures { result ≡ (if found then FIRST_REST else min (rest + rest) LONGEST_REST) }
+{
+    if found {
+        FIRST_REST
+    } else {
+        rest.saturating_mul(2).min(LONGEST_REST)
+    }
+}
 
 impl Collector {
     /// Takes from all lanes, round and round, until each is closed, and lets go of what comes.
@@ -28,14 +42,16 @@ impl Collector {
     {
         // Nobody unparks it, so each sleep lasts its time.
         let sleeper = Parker::new();
-        let rest = Duration::from_micros(REST_MICROS);
+        let mut rest = FIRST_REST;
         for _ in rt.forever() {
             if are_closed(&self.replies) {
                 return;
             }
-            if !self.drain_round() {
-                sleeper.park_timeout(rt, rest);
+            let found = self.drain_round();
+            if !found {
+                sleeper.park_timeout(rt, Duration::from_micros(rest));
             }
+            rest = next_rest(found, rest);
         }
         unreachable!()
     }

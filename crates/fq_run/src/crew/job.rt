@@ -7,10 +7,11 @@ use fq_work::{Reply, Worked};
 use std::snapshot::Snapshot;
 use std::thread::Promise;
 
-/// The steps and the two lanes that a worker is started with, which say what its join gives.
+/// The steps, whether blocks are tallied, and the two lanes that a worker is started with, which say what its join gives.
 #[derive(Drop)]
 pub(crate) struct Job {
     pub(crate) steps: Steps,
+    pub(crate) tallied: bool,
     pub(crate) rx: Snapshot<Rx<Block>>,
     pub(crate) tx: Snapshot<Tx<Reply>>,
 }
@@ -18,5 +19,5 @@ pub(crate) struct Job {
 impl Promise<Worked> for Job {
     ghost use Rattle.fq_work.specs.Work.{IsWork};
 
-    ghost kept_by = { λ job worked. IsWork job.steps job.rx.value job.tx.value worked };
+    ghost kept_by = { λ job worked. IsWork job.tallied job.steps job.rx.value job.tx.value worked };
 }

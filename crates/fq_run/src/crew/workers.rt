@@ -6,7 +6,7 @@ ghost use Rattle.fq_run.specs.Crews.{Seated, Joined};
 
 use crate::crew::job::Job;
 use fq_serial::Settings;
-use fq_work::{Gate, WorkEnds, Worked, work};
+use fq_work::{Gate, WorkEnds, Worked, work_tallied};
 use std::alloc::Global;
 use std::snapshot::Snapshot;
 use std::sync::{Arc, Wait};
@@ -23,7 +23,7 @@ pub(crate) fn start_workers<R: Threads + Wait + Copy + Send + 'static, H: Gate +
     hands: &mut Vec<PromisedHandle<Worked, Job>>,
 ) -> bool
     requires { (hands.old.items ≡ []) × (vec_len seats ≤ vec_capacity hands.old) }
-    ensures all { IsTrue result → AllZip (Seated settings.now.steps) seats.items hands.new.items }
+    ensures all { IsTrue result → AllZip (Seated settings.now.tallied settings.now.steps) seats.items hands.new.items }
     ensures few { vec_len hands.new ≤ vec_len seats }
 {
     for ends in seats {
@@ -46,18 +46,20 @@ fn start_worker<R: Threads + Wait + Copy + Send + 'static, H: Gate + 'static>(
     gate: Arc<H>,
     ends: WorkEnds,
 ) -> Option<PromisedHandle<Worked, Job>>
-    ensures { IfSome result (Seated settings.now.steps ends) }
+    ensures { IfSome result (Seated settings.now.tallied settings.now.steps ends) }
 {
     let job = Job {
         steps: *settings.steps(),
+        tallied: settings.tallied(),
         rx: Snapshot::of(&ends.rx),
         tx: Snapshot::of(&ends.tx),
     };
     let own = *rt;
     let steps = *settings.steps();
+    let tallied = settings.tallied();
     let gate_turns = settings.gate_turns();
     thread::spawn_with(rt, job, move || {
-        work(alloc, &own, ends, steps, gate, gate_turns)
+        work_tallied(alloc, &own, ends, steps, tallied, gate, gate_turns)
     })
     .ok()
 }

@@ -5,9 +5,8 @@ ghost use Rattle.fq_run.specs.Crews.{IsLaid, AreFor};
 
 use fq_block::Block;
 use fq_lane::{Rx, Tx, lane};
-use fq_pair::Texts;
 use fq_text::OutOfMemory;
-use fq_work::{Reply, WorkEnds};
+use fq_work::{Done, Reply, WorkEnds};
 use std::alloc::Global;
 
 /// The ends of the lanes of all workers, worker for worker: those of the dealer, of the workers and of the collector.
@@ -22,7 +21,7 @@ pub(crate) struct Seats {
     /// The receivers of replies, for the collector.
     pub(crate) replies: Vec<Rx<Reply>>,
     /// The senders of texts that were written, for the collector.
-    pub(crate) texts_back: Vec<Tx<Texts>>,
+    pub(crate) texts_back: Vec<Tx<Done>>,
 }
 
 /// The lanes of so many workers, each with room for `depth` items.

@@ -1,25 +1,20 @@
-//! One run over two texts, and one over the same reads in one text. `fq_run` tests all else, by both of its runs.
+//! One run over two texts, and one over the same reads interleaved. `fq_run` tests all else, by both of its runs.
 
 ghost use Rattle.std.specs.Prelude.{◌≡◌, true, IfOk, [], ◌<◌};
 ghost use Rattle.fq_serial.specs.Devices.{outlet_states, AreHealthy};
 
-use crate::{Outcome, Outlets, Settings, run_serial, run_serial_mixed};
+use crate::{Ending, MixedEnding, Outcome, Outlets, Settings, run_serial, run_serial_mixed};
 use fq_pair::Counts;
+use fq_samples::{TWO_FORWARD, TWO_INTERLEAVED, TWO_REVERSE, TWO_STEPS, TWO_WRITTEN};
+use fq_tally::{SideTally, Tally};
 use fq_text::{Encoding, ScriptFeed, ScriptOutlet};
 use fq_trim::Steps;
 use std::alloc::Global;
 use std::process::Abort;
 use std::test::Fail;
 
-const FORWARD: &[u8] = b"@p1/1\nACGT\n+\n#!II\n@p2/1\nGGCC\n+\nIIII\n";
-
-const REVERSE: &[u8] = b"@p1/2\nTTTT\n+\nIIII\n@p2/2\nAAAA\n+\n!!!\"\n";
-
-const IN_TURN: &[u8] =
-    b"@p1/1\nACGT\n+\n#!II\n@p1/2\nTTTT\n+\nIIII\n@p2/1\nGGCC\n+\nIIII\n@p2/2\nAAAA\n+\n!!!\"\n";
-
 fn settings() -> Result<Settings, Fail> {
-    let steps = Steps::parse(&["LEADING:3"])?;
+    let steps = Steps::parse(TWO_STEPS)?;
     Ok(Settings::new(Encoding::Sanger, steps, true, 1, 1, 1, 18, 1000, 1)?)
 }
 
@@ -57,12 +52,12 @@ fn assert_two_pairs(
     assert_eq!(rt; outcome, Outcome::Finished);
     assert_eq!(rt; (counts.pairs, counts.both, counts.forward_only), (2, 1, 1));
     let log = outlets.log.as_ref().ok_or("a log")?;
-    let rows: [(&ScriptOutlet, &[u8]); 5] = [
-        (&outlets.forward_paired, b"@p1/1\nGT\n+\nII\n"),
-        (&outlets.forward_unpaired, b"@p2/1\nGGCC\n+\nIIII\n"),
-        (&outlets.reverse_paired, b"@p1/2\nTTTT\n+\nIIII\n"),
-        (&outlets.reverse_unpaired, b""),
-        (log, b"p1 2 2 4 0\np1 4 0 4 0\np2 4 0 4 0\np2 0 0 0 0\n"),
+    let rows = [
+        (&outlets.forward_paired, TWO_WRITTEN.forward_paired),
+        (&outlets.forward_unpaired, TWO_WRITTEN.forward_unpaired),
+        (&outlets.reverse_paired, TWO_WRITTEN.reverse_paired),
+        (&outlets.reverse_unpaired, TWO_WRITTEN.reverse_unpaired),
+        (log, TWO_WRITTEN.log),
     ];
     for (outlet, text) in rows {
         assert_eq!(rt; outlet.bytes(), text);
@@ -70,20 +65,75 @@ fn assert_two_pairs(
     Ok(())
 }
 
+// The runs without their promise, which would stand in each proof.
+
+fn run_two(
+    alloc: Global,
+    settings: &Settings,
+    outlets: &mut Outlets<ScriptOutlet>,
+) -> Result<Ending<ScriptFeed, ScriptFeed>, Fail>
+    requires { AreHealthy (outlet_states (λ o. record { tells = true; taken = o.bytes; failures = o.failures }) outlets.old) }
+{
+    let forward = feed(alloc, TWO_FORWARD)?;
+    let reverse = feed(alloc, TWO_REVERSE)?;
+    Ok(run_serial(alloc, settings, forward, reverse, outlets))
+}
+
+fn run_interleaved(
+    alloc: Global,
+    settings: &Settings,
+    outlets: &mut Outlets<ScriptOutlet>,
+) -> Result<MixedEnding<ScriptFeed>, Fail>
+    requires { AreHealthy (outlet_states (λ o. record { tells = true; taken = o.bytes; failures = o.failures }) outlets.old) }
+{
+    let both = feed(alloc, TWO_INTERLEAVED)?;
+    Ok(run_serial_mixed(alloc, settings, both, outlets))
+}
+
+// The reads of a side before and behind the steps, in pairs and alone. `fq_run` looks at the other counts.
+fn reads_of(side: &SideTally) -> [u64; 3] {
+    [side.before.reads, side.paired.reads, side.unpaired.reads]
+}
+
+fn assert_two_tallied(rt: &impl Abort, tally: &Option<Tally>) -> Result<(), Fail> {
+    let tally = tally.as_ref().ok_or("a tally")?;
+    assert_eq!(rt; reads_of(&tally.forward), [2, 1, 1]);
+    assert_eq!(rt; reads_of(&tally.reverse), [2, 1, 0]);
+    Ok(())
+}
+
 #[test]
 fn two_pairs_of_two_texts(rt: HostRuntime) -> Result<(), Fail> {
-    let alloc = rt.alloc();
-    let mut outlets = outlets(alloc);
-    let forward = feed(alloc, FORWARD)?;
-    let reverse = feed(alloc, REVERSE)?;
-    let ending = run_serial(alloc, &settings()?, forward, reverse, &mut outlets);
+    let mut outlets = outlets(rt.alloc());
+    let ending = run_two(rt.alloc(), &settings()?, &mut outlets)?;
+    assert!(rt; ending.tally.is_none());
     assert_two_pairs(&rt, ending.outcome, ending.counts, &outlets)
 }
 
 #[test]
-fn two_pairs_of_one_text(rt: HostRuntime) -> Result<(), Fail> {
-    let alloc = rt.alloc();
-    let mut outlets = outlets(alloc);
-    let ending = run_serial_mixed(alloc, &settings()?, feed(alloc, IN_TURN)?, &mut outlets);
+fn two_interleaved_pairs(rt: HostRuntime) -> Result<(), Fail> {
+    let mut outlets = outlets(rt.alloc());
+    let ending = run_interleaved(rt.alloc(), &settings()?, &mut outlets)?;
+    assert!(rt; ending.tally.is_none());
+    assert_two_pairs(&rt, ending.outcome, ending.counts, &outlets)
+}
+
+#[test]
+fn pairs_of_two_texts_are_tallied_where_the_settings_ask_for_it(
+    rt: HostRuntime,
+) -> Result<(), Fail> {
+    let mut outlets = outlets(rt.alloc());
+    let ending = run_two(rt.alloc(), &settings()?.with_tally(), &mut outlets)?;
+    assert_two_tallied(&rt, &ending.tally)?;
+    assert_two_pairs(&rt, ending.outcome, ending.counts, &outlets)
+}
+
+#[test]
+fn interleaved_pairs_are_tallied_where_the_settings_ask_for_it(
+    rt: HostRuntime,
+) -> Result<(), Fail> {
+    let mut outlets = outlets(rt.alloc());
+    let ending = run_interleaved(rt.alloc(), &settings()?.with_tally(), &mut outlets)?;
+    assert_two_tallied(&rt, &ending.tally)?;
     assert_two_pairs(&rt, ending.outcome, ending.counts, &outlets)
 }

@@ -1,4 +1,4 @@
-use Rattle.std.proofs.Common.{◌≡◌, ◌∙◌, ◌^◌, true, List, [], ◌∷◌, Result, Ok, codes, ap, refl}
+use Rattle.std.proofs.Common.{◌≡◌, ◌∙◌, ◌^◌, true, false, List, [], ◌∷◌, Result, Ok, codes, ap, refl}
 use Rattle.fq_text.specs.declared.encoding.Encoding.TheVariants.{Sanger}
 use Rattle.fq_trim.specs.declared.step.Step.{Step}
 use Rattle.fq_trim.specs.declared.step.Step.TheVariants.{Leading}
@@ -20,6 +20,7 @@ choices_with steps = record {
   chunk = 65536;
   max_reads = 2 ^ 40;
   gate_turns = 2 ^ 40;
+  tallied = false;
 }
 
 one_step : steps_of (codes "LEADING:3" ∷ []) ≡ Ok (Leading 3 ∷ [])

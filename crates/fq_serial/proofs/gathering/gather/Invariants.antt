@@ -1,8 +1,9 @@
--- The texts are those of as many pairs as the loop has gone round.
+-- Texts and tally are those of as many pairs as the loop has gone round.
+use Rattle.std.proofs.Common.{is_some}
 use Rattle.fq_serial.proofs.GatherLemmas.{Gathered}
 use Rattle.fq_serial.proofs.gathering.gather.Given as goal
 
 abbrev pub invariant-loop : goal.invariant-loop
 invariant-loop g l =
     let s = g.S.PairReader in
-    Gathered (s.state l.fn.source) (s.state l.source) l.fn.steps l.texts l.counter
+    Gathered (s.state l.fn.source) (s.state l.source) (is_some l.fn.done.tally) l.fn.steps l.done l.counter

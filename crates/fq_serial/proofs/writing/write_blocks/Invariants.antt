@@ -1,5 +1,5 @@
--- All blocks so far are written whole. Each block that is full brings the end nearer, since it takes bytes.
-use Rattle.std.proofs.Common.{◌-◌}
+-- All blocks so far are written whole, and a tally is at hand where one is asked for. Each block that is full brings the end nearer, since it takes bytes.
+use Rattle.std.proofs.Common.{◌≡◌, ◌-◌, is_some}
 use Rattle.fq_serial.specs.Devices.{outlet_states}
 use Rattle.fq_serial.proofs.BlockLemmas.{Wrote}
 use Rattle.fq_serial.proofs.writing.write_blocks.Given as goal
@@ -8,7 +8,7 @@ abbrev pub invariant-writing : goal.invariant-writing
 invariant-writing g l =
     let s = g.S.PairReader in let o = g.O.Outlet in
     Wrote l.fn.settings (s.state l.fn.source) (outlet_states o.state l.fn.outlets)
-    (s.state l.source) (outlet_states o.state l.outlets) l.counts
+    (s.state l.source) (outlet_states o.state l.outlets) l.total × (is_some l.done.tally ≡ l.fn.settings.tallied)
 
 abbrev pub decreases-writing : goal.decreases-writing
 decreases-writing g l = let s = g.S.PairReader in (s.state l.fn.source).most_bytes - (s.state l.source).forward.given

@@ -1,41 +1,63 @@
-use Rattle.std.proofs.Common.{◌≡◌, ◌+◌, ◌<◌, ℕ, Bool, true, false, cond, nat_le, length, take, get_or, List, count_by, refl, ap, sym, ◌∙◌, arith}
-use Rattle.std.proofs.lemmas.List.Sums.{sum_by_more}
-use mir.Val.{bool_byte}
-use Rattle.fq_text.specs.Scores.{is_scored}
-use Rattle.fq_text.proofs.ScoreLemmas.{at_place, value_small}
+use Rattle.std.proofs.Common.{◌≡◌, ◌+◌, ℕ, cond, nat_le, take, drop, ◌++◌, List, ap, sym, ◌∙◌, arith}
+use Rattle.std.specs.List.{sum_by, list_all}
+use Rattle.std.proofs.lemmas.List.{map-append, take-append-drop}
+use Rattle.std.proofs.lemmas.List.Sums.{sum_by-append}
+use Rattle.fq_text.specs.declared.encoding.Encoding.{Encoding}
+use Rattle.fq_text.specs.Scores.{is_scored, value_of}
 use Rattle.fq_trim.specs.Keeping.{scores}
-use Rattle.fq_trim.proofs.PlaceLemmas.{length-scores, score_at}
+use Rattle.fq_trim.proofs.PlaceLemmas.{all_dropped, sum_small}
 use Rattle.fq_tally.proofs.bases.scores_of.Goals as goal
 
-byte_is : (b : Bool) → bool_byte b ≡ cond b 1 0
-byte_is true = refl
-byte_is false = refl
+-- a sum over scores is that over the first ones and that over those behind
+split : (f : ℕ → ℕ) (e : Encoding) (qual front back : List ℕ) (k : ℕ) → front ≡ take k qual → back ≡ drop k qual →
+    sum_by f (scores e front) + sum_by f (scores e back) ≡ sum_by f (scores e qual)
+split f e qual front back k first behind =
+    sym (sum_by-append f (scores e front) (scores e back))
+    ∙ ap (sum_by f) (sym (map-append (value_of e) front back))
+    ∙ ap (λ xs. sum_by f (scores e (xs ++ back))) first
+    ∙ ap (λ xs. sum_by f (scores e (take k qual ++ xs))) behind
+    ∙ ap (λ xs. sum_by f (scores e xs)) (take-append-drop k qual)
 
--- one score more
-counted_more : (least i n m v : ℕ) (q : List ℕ) → i < length q → n ≡ count_by (nat_le least) (take i q) → v ≡ get_or q i 0 → m ≡ bool_byte (nat_le least v) →
-    n + m ≡ count_by (nat_le least) (take (i + 1) q)
-counted_more least i n m v q within so_far value more =
-    let step = sum_by_more (λ (x : ℕ). cond (nat_le least x) 1 0) q i 0 within in
-    let one : m ≡ cond (nat_le least (get_or q i 0)) 1 0 = more ∙ byte_is (nat_le least v) ∙ ap (λ x. cond (nat_le least x) 1 0) value in
+pub overflow_add-sum : goal.overflow_add-sum
+overflow_add-sum c =
+    let e = c.args.encoding in
+    let small = sum_small e c.args.qual.now c.requires.scored in
+    let parts = split (λ (x : ℕ). x) e c.loop.rest.now _ _ 255 c.split_at.ensures.front c.split_at.ensures.back in
+    let some = c.few_scores-some.ensures.sum in
+    let total = c.loop.invariant.total in
     omega arith
 
-pub loop-byte-preserved : goal.loop-byte-preserved
-loop-byte-preserved c =
+pub loop-preserved : goal.loop-preserved
+loop-preserved c =
     let e = c.args.encoding in
-    let qual = c.args.qual.now in
-    let q = scores e qual in
-    let i = c.loop-byte.byte-index in
-    let within : i < length q = omega (arith, length-scores e qual) in
-    let same : c.score_of-score.result ≡ get_or q i 0 = c.score_of-score.ensures ∙ sym (score_at e qual i (omega arith)) in
-    let small = value_small e (get_or qual i 0) (at_place (is_scored e) qual i c.requires.scored (omega arith)) in
-    let old = c.loop-byte.invariant in
-    let so_far = old.total in
-    let most = old.most in
-    let score = c.score_of-score.ensures in
-    let more = sum_by_more (λ (x : ℕ). x) q i 0 within in
+    let rest = c.loop.rest.now in
+    let first = c.split_at.ensures.front in
+    let behind = c.split_at.ensures.back in
+    let old = c.loop.invariant in
+    let low = split (λ (x : ℕ). cond (nat_le 20 x) 1 0) e rest _ _ 255 first behind in
+    let high = split (λ (x : ℕ). cond (nat_le 30 x) 1 0) e rest _ _ 255 first behind in
+    let parts = split (λ (x : ℕ). x) e rest _ _ 255 first behind in
+    let some = c.few_scores-some.ensures in
+    let some_low = some.at_least_20 in
+    let some_high = some.at_least_30 in
+    let some_sum = some.sum in
+    let old_low = old.at_least_20 in
+    let old_high = old.at_least_30 in
+    let old_sum = old.total in
+    let old_left = old.left in
+    let back_len = c.split_at.ensures.back_len in
     record {
-      at_least_20 = counted_more 20 i _ _ _ q within old.at_least_20 same c.from-at_least_20.ensures;
-      at_least_30 = counted_more 30 i _ _ _ q within old.at_least_30 same c.from-at_least_30.ensures;
+      at_least_20 = omega arith;
+      at_least_30 = omega arith;
       total = omega arith;
-      most = omega arith;
+      scored = ap (list_all (is_scored e)) behind ∙ all_dropped (is_scored e) rest 255 old.scored;
+      left = omega arith;
     }
+
+pub overflow_add-result-3 : goal.overflow_add-result-3
+overflow_add-result-3 c =
+    let e = c.args.encoding in
+    let small = sum_small e c.args.qual.now c.requires.scored in
+    let last = c.few_scores-last.ensures.sum in
+    let total = c.loop.invariant.total in
+    omega arith

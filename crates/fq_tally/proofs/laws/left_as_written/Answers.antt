@@ -1,6 +1,9 @@
 use Rattle.fq_tally.specs.Courses.{whole}
-use Rattle.fq_tally.proofs.LeftLaws.{left_in_turn, survives_in_turn}
+use Rattle.fq_tally.proofs.LeftLaws.{alone_are_all, left_in_turn, survives_in_turn}
 use Rattle.fq_tally.proofs.laws.left_as_written.Goals as goal
+
+pub returns-clause-alone : goal.returns-clause-alone
+returns-clause-alone c = alone_are_all
 
 pub returns-clause-left : goal.returns-clause-left
 returns-clause-left c = λ lists read same. left_in_turn lists 0 (whole read) same

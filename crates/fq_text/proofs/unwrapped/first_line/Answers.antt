@@ -1,4 +1,4 @@
-use Rattle.std.proofs.Common.{rules, ◌≡◌, ℕ, ◌-◌, ◌≤◌, get_or, arith, inl, refl}
+use Rattle.std.proofs.Common.{rules, ◌≡◌, ◌-◌, ◌≤◌, get_or, arith, inl, refl}
 use Rattle.fq_text.proofs.UnwrappedLemmas.{plain_to}
 use Rattle.fq_text.proofs.unwrapped.first_line.Goals.{else-place-gt0-via-then-place-gt0+else-text-place-eq13, else-place-gt0-via-else-place-gt0}
 use Rattle.fq_text.proofs.unwrapped.first_line.Goals as goal

@@ -1,10 +1,23 @@
-use Rattle.std.proofs.Common.{◌≡◌, ℕ, ◌+◌, Some, None, List, length, drop, refl, sym, subst, ◌∙◌}
+use Rattle.std.proofs.Common.{◌≡◌, ℕ, ◌+◌, ◌-◌, List, length, take, drop, refl, sym, subst, ◌∙◌}
 use Rattle.std.proofs.lemmas.List.{take_rest}
 use Rattle.fq_text.specs.Reading.{NoLf}
 use Rattle.fq_text.specs.Unwrapped.{IsFirstLine, StandsFirst}
+use Rattle.fq_text.specs.declared.encoding.Encoding.{Encoding}
 use Rattle.fq_text.specs.declared.unwrapped.Shape.{Shape}
 use Rattle.fq_text.proofs.UnwrappedLemmas.{same_line, first_line_ends, title_line, as_found, shape_is}
 use Rattle.fq_text.proofs.unwrapped.first_record.Goals as goal
+
+-- what stands behind so many bytes
+abbrev behind : List ℕ → ℕ → List ℕ
+behind hand n = take (length hand - n) (drop n hand)
+
+-- the two lines that were found first are those of the record that stands first
+two_lines : (e : Encoding) (hand : List ℕ) (s : Shape) (t k n m : ℕ) → StandsFirst e hand s → IsFirstLine (behind hand 1) t k → IsFirstLine (behind hand (t + k + 1)) n m →
+    (t ≡ s.title) × (k ≡ s.end) × (n ≡ s.bases) × (m ≡ s.end)
+two_lines e hand s t k n m first title bases =
+    let found = as_found e hand s first t k (subst (λ (xs : List ℕ). IsFirstLine xs t k) (take_rest hand 1) title) in
+    let same = same_line (drop (t + k + 1) hand) n m s.bases s.end (subst (λ (xs : List ℕ). IsFirstLine xs n m) (take_rest hand (t + k + 1)) bases) found.2 in
+    (found.0, found.1, same.0, same.1)
 
 pub returns-in-None-clause-none : goal.returns-in-None-clause-none
 returns-in-None-clause-none c none s first =
@@ -20,25 +33,18 @@ pub returns-in-Some-first_line-clause-none : goal.returns-in-Some-first_line-cla
 returns-in-Some-first_line-clause-none c none s first =
     let e = c.args.encoding in
     let hand = c.args.hand.now in
-    let t = c.in-Some.title.len in
-    let k = c.in-Some.title.end in
+    let title = c.in-Some.title in
     let seq = c.in-Some-first_line.seq in
-    let found = as_found e hand s first t k (subst (λ (xs : List ℕ). IsFirstLine xs t k) (take_rest hand 1) c.in-Some.ensures.found) in
-    let bases = subst (λ (xs : List ℕ). IsFirstLine xs seq.len seq.end) (take_rest hand (t + k + 1)) c.in-Some-first_line.ensures.found in
-    let same = same_line (drop (t + k + 1) hand) seq.len seq.end s.bases s.end bases found.2 in
-    c.shape_of-in-Some-first_line.ensures.none none s.again (subst (λ (shape : Shape). StandsFirst e hand shape) (shape_is s t seq.len k found.0 same.0 found.1) first)
+    let found = two_lines e hand s title.len title.end seq.len seq.end first c.in-Some.ensures.found c.in-Some-first_line.ensures.found in
+    c.shape_of-in-Some-first_line.ensures.none none s.again
+    (subst (λ (shape : Shape). StandsFirst e hand shape) (shape_is s title.len seq.len title.end found.0 found.2 found.1) first)
 
 pub returns-in_default-first_line-clause-none : goal.returns-in_default-first_line-clause-none
 returns-in_default-first_line-clause-none c none s first =
-    let e = c.args.encoding in
-    let hand = c.args.hand.now in
-    let t = c.in-Some.title.len in
-    let k = c.in-Some.title.end in
+    let title = c.in-Some.title in
     let seq = c.in-Some-first_line.seq in
-    let found = as_found e hand s first t k (subst (λ (xs : List ℕ). IsFirstLine xs t k) (take_rest hand 1) c.in-Some.ensures.found) in
-    let bases = subst (λ (xs : List ℕ). IsFirstLine xs seq.len seq.end) (take_rest hand (t + k + 1)) c.in-Some-first_line.ensures.found in
-    let same = same_line (drop (t + k + 1) hand) seq.len seq.end s.bases s.end bases found.2 in
-    c.if-seq-title.false (same.1 ∙ sym found.1)
+    let found = two_lines c.args.encoding c.args.hand.now s title.len title.end seq.len seq.end first c.in-Some.ensures.found c.in-Some-first_line.ensures.found in
+    c.if-seq-title.false (found.3 ∙ sym found.1)
 
 pub returns-in_default-first_line-2-clause-none : goal.returns-in_default-first_line-2-clause-none
 returns-in_default-first_line-2-clause-none c none s first =

@@ -1,4 +1,4 @@
-use Rattle.std.proofs.Common.{rules, ◌≡◌, ℕ, ◌+◌, ◌-◌, ◌*◌, true, not, eqb, take, drop, sym, subst, arith}
+use Rattle.std.proofs.Common.{rules, ◌≡◌, ℕ, ◌+◌, ◌-◌, true, not, eqb, take, drop, sym, subst, arith}
 use Rattle.std.specs.List.{list_all}
 use Rattle.fq_text.specs.Grammar.{IsLawful}
 use Rattle.fq_text.proofs.UnwrappedLemmas.{parts_of_hand, one_line_to}

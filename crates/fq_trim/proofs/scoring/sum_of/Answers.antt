@@ -11,5 +11,5 @@ loop-byte-preserved c =
     let small = value_small c.args.encoding byte scored in
     record {
       total = grind (arith, common_steps);
-      bound = omega (arith, c.score_of-total.ensures, c.loop-byte.invariant.bound);
+      bound = omega (arith, c.from-total.ensures, c.phred.ensures, c.loop-byte.invariant.bound);
     }

@@ -9,6 +9,7 @@ pub returns : goal.returns
 unfolding asking_in
 returns c =
     let log = c.get_str-log.ensures ∙ first_value-rows (found_of c.args.found.now) (codes "trimlog") in
+    let report = c.get_str-report.ensures ∙ first_value-rows (found_of c.args.found.now) (codes "report") in
     let checked = ap not c.flag_of-unchecked.ensures in
     λ i. record {
       encoding = c.text_of-encoding.ensures i;
@@ -24,5 +25,6 @@ returns c =
       reverse_paired = c.text_of-reverse_paired.ensures i;
       reverse_unpaired = c.text_of-reverse_unpaired.ensures i;
       log = log i;
+      report = report i;
       steps = c.in_ok-steps.ensures i;
     }

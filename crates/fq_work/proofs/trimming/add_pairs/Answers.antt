@@ -1,24 +1,27 @@
-use Rattle.std.proofs.Common.{◌<◌, [], ◌∷◌, ◌++◌, length, take, ap, sym, ◌∙◌, arith}
+use Rattle.std.proofs.Common.{◌<◌, [], ◌∷◌, ◌++◌, is_some, length, take, ap, sym, ◌∙◌, arith}
 use Rattle.std.proofs.lemmas.List.{take_more, length-take}
 use Rattle.std.proofs.lemmas.Option.{get_or_from_slice_get}
 use Rattle.fq_pair.specs.Mates.{Mates, mates_in}
-use Rattle.fq_pair.specs.Outputs.{Outputs, joined, texts_of}
-use Rattle.fq_pair.proofs.OutputLaws.{texts_of-append}
+use Rattle.fq_work.specs.declared.done.Done.{Done}
+use Rattle.fq_work.specs.Replies.{made_of, with_mates}
+use Rattle.fq_work.proofs.WorkLemmas.{made_more}
 use Rattle.fq_work.proofs.trimming.add_pairs.Goals as goal
 
 pub add-requires : goal.add-requires
-add-requires c = omega (arith, ap (λ (o : Outputs). o.counts.pairs) c.loop-i.invariant, length-take c.loop-i.i c.args.block.now.pairs, c.len-i-end.ensures.limit)
+add-requires c = omega (arith, ap (λ (d : Done). d.texts.counts.pairs) c.loop-i.invariant, length-take c.loop-i.i c.args.block.now.pairs, c.len-i-end.ensures.limit)
 
 pub loop-i-preserved : goal.loop-i-preserved
 loop-i-preserved c =
     let steps = c.args.steps.now in
     let pairs = c.args.block.now.pairs in
+    let number = c.args.block.now.number in
+    let tallied = is_some c.args.done.now.tally in
     let i = c.loop-i.i in
     let m = mates_in c.pair.result.forward c.pair.result.reverse in
     let within : i < length pairs = omega (arith, c.len-i-end.ensures.len) in
     let here = get_or_from_slice_get pairs i m m c.pair.ensures in
     c.in_ok-add.ensures.ok
-    ∙ ap (λ (o : Outputs). joined o (texts_of steps (m ∷ []))) c.loop-i.invariant
-    ∙ sym (texts_of-append steps (take i pairs) (m ∷ []))
-    ∙ ap (λ (k : Mates). texts_of steps (take i pairs ++ k ∷ [])) (sym here)
-    ∙ ap (texts_of steps) (sym (take_more pairs i m within))
+    ∙ ap (λ (d : Done). with_mates steps d m) c.loop-i.invariant
+    ∙ made_more tallied steps number (take i pairs) m
+    ∙ ap (λ (k : Mates). made_of tallied steps number (take i pairs ++ k ∷ [])) (sym here)
+    ∙ ap (made_of tallied steps number) (sym (take_more pairs i m within))

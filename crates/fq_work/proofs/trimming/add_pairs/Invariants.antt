@@ -1,6 +1,6 @@
-use Rattle.std.proofs.Common.{◌≡◌, take}
-use Rattle.fq_pair.specs.Outputs.{texts_of}
+use Rattle.std.proofs.Common.{◌≡◌, is_some, take}
+use Rattle.fq_work.specs.Replies.{made_of}
 use Rattle.fq_work.proofs.trimming.add_pairs.Given as goal
 
 abbrev pub invariant-loop-i : goal.invariant-loop-i
-invariant-loop-i l = l.texts ≡ texts_of l.steps (take l.i l.block.pairs)
+invariant-loop-i l = l.done ≡ made_of (is_some l.fn.done.tally) l.steps l.block.number (take l.i l.block.pairs)

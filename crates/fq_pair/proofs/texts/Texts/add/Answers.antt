@@ -18,8 +18,8 @@ returns-clause-ok c =
     let r = c.trimmed-reverse.result in
     let forward = c.trimmed-forward.ensures.places in
     let reverse = c.trimmed-reverse.ensures.places in
-    let forward_name = c.name_of-forward_name.ensures.name ∙ ap (name_of Forward) c.title.ensures.title in
-    let reverse_name = c.name_of-reverse_name.ensures.name ∙ ap (name_of Reverse) c.title-2.ensures.title in
+    let forward_name = c.names_of.ensures.forward ∙ ap (name_of Forward) c.title.ensures.title in
+    let reverse_name = c.names_of.ensures.reverse ∙ ap (name_of Reverse) c.title-2.ensures.title in
     let fp = ap (λ (o : Outputs). o.forward_paired) c.self.view_is in
     let fu = ap (λ (o : Outputs). o.forward_unpaired) c.self.view_is in
     let rp = ap (λ (o : Outputs). o.reverse_paired) c.self.view_is in
@@ -36,7 +36,7 @@ returns-clause-ok c =
           (ap (λ (i : Inside). i.forward_unpaired.items) inside ∙ fu)
           (text_with old.reverse_paired _ _ _ steps r w.in-Some-Some.reverse m.reverse (w.in_ok-make_room-in-Some-Some-2.ensures.items ∙ rp) (ap (λ (i : Inside). i.reverse_paired.items) inside ∙ w.put_kept-in-Some-Some.ensures) recode reverse is_r)
           (ap (λ (i : Inside). i.reverse_unpaired.items) inside ∙ ru)
-          (log_with _ _ _ Reverse steps r m.reverse c.name_of-reverse_name.result.now (length c.seq-2.result.now) (log_with old.log _ _ Forward steps f m.forward c.name_of-forward_name.result.now (length c.seq.result.now) (ap (λ (i : Inside). i.log.items) inside ∙ log) c.put_line.ensures.items forward_name (ap length c.seq.ensures) forward) c.put_line-2.ensures.items reverse_name (ap length c.seq-2.ensures) reverse)
+          (log_with _ _ _ Reverse steps r m.reverse c.names_of.result.1.now (length c.seq-2.result.now) (log_with old.log _ _ Forward steps f m.forward c.names_of.result.0.now (length c.seq.result.now) (ap (λ (i : Inside). i.log.items) inside ∙ log) c.put_line.ensures.items forward_name (ap length c.seq.ensures) forward) c.put_line-2.ensures.items reverse_name (ap length c.seq-2.ensures) reverse)
           (ap (λ (i : Inside). let n : Counts = i.counts in let k : Counts = record n { pairs = n.pairs + 1 } in k) inside ∙ ap (λ (n : Counts). let k : Counts = record n { pairs = n.pairs + 1; both = n.both + 1 } in k) counts)
           ∙ sym (both_added steps m old (kept_survives _ f w.in-Some-Some.forward forward is_f) (kept_survives _ r w.in-Some-Some.reverse reverse is_r))
       | in-Some-None+in_ok-make_room-in-Some-None w ↦
@@ -48,7 +48,7 @@ returns-clause-ok c =
           (text_with old.forward_unpaired _ _ _ steps f w.in-Some-None.forward m.forward (w.in_ok-make_room-in-Some-None.ensures.items ∙ fu) (ap (λ (i : Inside). i.forward_unpaired.items) inside ∙ w.put_kept-in-Some-None.ensures) recode forward is_f)
           (ap (λ (i : Inside). i.reverse_paired.items) inside ∙ rp)
           (ap (λ (i : Inside). i.reverse_unpaired.items) inside ∙ ru)
-          (log_with _ _ _ Reverse steps r m.reverse c.name_of-reverse_name.result.now (length c.seq-2.result.now) (log_with old.log _ _ Forward steps f m.forward c.name_of-forward_name.result.now (length c.seq.result.now) (ap (λ (i : Inside). i.log.items) inside ∙ log) c.put_line.ensures.items forward_name (ap length c.seq.ensures) forward) c.put_line-2.ensures.items reverse_name (ap length c.seq-2.ensures) reverse)
+          (log_with _ _ _ Reverse steps r m.reverse c.names_of.result.1.now (length c.seq-2.result.now) (log_with old.log _ _ Forward steps f m.forward c.names_of.result.0.now (length c.seq.result.now) (ap (λ (i : Inside). i.log.items) inside ∙ log) c.put_line.ensures.items forward_name (ap length c.seq.ensures) forward) c.put_line-2.ensures.items reverse_name (ap length c.seq-2.ensures) reverse)
           (ap (λ (i : Inside). let n : Counts = i.counts in let k : Counts = record n { pairs = n.pairs + 1 } in k) inside ∙ ap (λ (n : Counts). let k : Counts = record n { pairs = n.pairs + 1; forward_only = n.forward_only + 1 } in k) counts)
           ∙ sym (forward_added steps m old (kept_survives _ f w.in-Some-None.forward forward is_f) (dropped_is_gone _ r reverse is_r))
       | in-None-Some+in_ok-make_room-in-None-Some w ↦
@@ -60,7 +60,7 @@ returns-clause-ok c =
           (ap (λ (i : Inside). i.forward_unpaired.items) inside ∙ fu)
           (ap (λ (i : Inside). i.reverse_paired.items) inside ∙ rp)
           (text_with old.reverse_unpaired _ _ _ steps r w.in-None-Some.reverse m.reverse (w.in_ok-make_room-in-None-Some.ensures.items ∙ ru) (ap (λ (i : Inside). i.reverse_unpaired.items) inside ∙ w.put_kept-in-None-Some.ensures) recode reverse is_r)
-          (log_with _ _ _ Reverse steps r m.reverse c.name_of-reverse_name.result.now (length c.seq-2.result.now) (log_with old.log _ _ Forward steps f m.forward c.name_of-forward_name.result.now (length c.seq.result.now) (ap (λ (i : Inside). i.log.items) inside ∙ log) c.put_line.ensures.items forward_name (ap length c.seq.ensures) forward) c.put_line-2.ensures.items reverse_name (ap length c.seq-2.ensures) reverse)
+          (log_with _ _ _ Reverse steps r m.reverse c.names_of.result.1.now (length c.seq-2.result.now) (log_with old.log _ _ Forward steps f m.forward c.names_of.result.0.now (length c.seq.result.now) (ap (λ (i : Inside). i.log.items) inside ∙ log) c.put_line.ensures.items forward_name (ap length c.seq.ensures) forward) c.put_line-2.ensures.items reverse_name (ap length c.seq-2.ensures) reverse)
           (ap (λ (i : Inside). let n : Counts = i.counts in let k : Counts = record n { pairs = n.pairs + 1 } in k) inside ∙ ap (λ (n : Counts). let k : Counts = record n { pairs = n.pairs + 1; reverse_only = n.reverse_only + 1 } in k) counts)
           ∙ sym (reverse_added steps m old (dropped_is_gone _ f forward is_f) (kept_survives _ r w.in-None-Some.reverse reverse is_r))
       | in-None-None w ↦
@@ -72,7 +72,7 @@ returns-clause-ok c =
           (ap (λ (i : Inside). i.forward_unpaired.items) inside ∙ fu)
           (ap (λ (i : Inside). i.reverse_paired.items) inside ∙ rp)
           (ap (λ (i : Inside). i.reverse_unpaired.items) inside ∙ ru)
-          (log_with _ _ _ Reverse steps r m.reverse c.name_of-reverse_name.result.now (length c.seq-2.result.now) (log_with old.log _ _ Forward steps f m.forward c.name_of-forward_name.result.now (length c.seq.result.now) (ap (λ (i : Inside). i.log.items) inside ∙ log) c.put_line.ensures.items forward_name (ap length c.seq.ensures) forward) c.put_line-2.ensures.items reverse_name (ap length c.seq-2.ensures) reverse)
+          (log_with _ _ _ Reverse steps r m.reverse c.names_of.result.1.now (length c.seq-2.result.now) (log_with old.log _ _ Forward steps f m.forward c.names_of.result.0.now (length c.seq.result.now) (ap (λ (i : Inside). i.log.items) inside ∙ log) c.put_line.ensures.items forward_name (ap length c.seq.ensures) forward) c.put_line-2.ensures.items reverse_name (ap length c.seq-2.ensures) reverse)
           (ap (λ (i : Inside). let n : Counts = i.counts in let k : Counts = record n { pairs = n.pairs + 1 } in k) inside ∙ ap (λ (n : Counts). let k : Counts = record n { pairs = n.pairs + 1; dropped = n.dropped + 1 } in k) counts)
           ∙ sym (none_added steps m old (dropped_is_gone _ f forward is_f) (dropped_is_gone _ r reverse is_r))
     ]

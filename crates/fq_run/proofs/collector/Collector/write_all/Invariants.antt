@@ -1,5 +1,5 @@
 -- Whatever was taken from the lanes so far is written.
-use Rattle.std.proofs.Common.{◌≡◌, vec_len}
+use Rattle.std.proofs.Common.{◌≡◌, is_some, vec_len}
 use Rattle.fq_run.specs.Collecting.{Collects}
 use Rattle.fq_serial.specs.Devices.{outlet_states}
 use Rattle.fq_run.specs.Lanes.{names_of}
@@ -10,7 +10,7 @@ abbrev pub invariant-loop : goal.invariant-loop
 invariant-loop g l =
     let o = g.O.Outlet in
     record {
-      collects : Collects (vec_len l.fn.self.replies) (outlet_states o.state l.fn.outlets) (outlet_states o.state l.outlets) l.self;
+      collects : Collects (is_some l.fn.self.total.tally) (vec_len l.fn.self.replies) (outlet_states o.state l.fn.outlets) (outlet_states o.state l.outlets) l.self;
       lanes : vec_len l.self.replies ≡ vec_len l.fn.self.replies;
       names : names_of l.self.replies.items ≡ names_of l.fn.self.replies.items;
       hears : HearsAll l.fn.self → HearsAll l.self;

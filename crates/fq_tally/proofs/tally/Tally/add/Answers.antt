@@ -1,7 +1,7 @@
 use Rattle.std.proofs.Common.{ap, ◌∙◌}
 use Rattle.fq_tally.specs.declared.side.SideTally.{SideTally}
 use Rattle.fq_tally.specs.declared.tally.Tally.{Tally}
-use Rattle.fq_tally.specs.Courses.{Part, course, survives}
+use Rattle.fq_tally.specs.Courses.{Part, alone, course, survives}
 use Rattle.fq_tally.specs.Tallies.{with_read}
 use Rattle.fq_tally.proofs.CourseLemmas.{read_is}
 use Rattle.fq_tally.proofs.tally.Tally.add.Goals as goal
@@ -9,7 +9,7 @@ use Rattle.fq_tally.proofs.tally.Tally.add.Goals as goal
 pub returns : goal.returns
 returns c =
     let two : SideTally → SideTally → Tally = λ f r. record { forward = f; reverse = r } in
-    let lists = c.args.lists.now in
+    let lists = alone c.args.steps.now in
     let old = c.args.self.now in
     let forward = c.args.pair.forward in
     let reverse = c.args.pair.reverse in

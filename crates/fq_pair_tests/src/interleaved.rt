@@ -1,0 +1,287 @@
+//! Pairs out of an interleaved text.
+
+use super::frame::{Mixed, PLAIN, UNCHECKED, Way, assert_last, interleaved, pairs};
+use fq_pair::*;
+use fq_samples::{ELEVEN_INTERLEAVED, TWO_FORWARD, TWO_INTERLEAVED, TWO_REVERSE};
+use fq_text::{Feed, TextFault};
+use std::alloc::Global;
+use std::process::Abort;
+use std::test::Fail;
+
+const OTHER_NAMES: &[u8] = b"@a/1\nA\n+\nI\n@a/2 x\nA\n+\nI\n@b/1\nA\n+\nI\n@c/2\nA\n+\nI\n";
+
+// A text, how it is read, the two titles of each pair as a line, and the fault behind the pairs.
+type Row = (&'static [u8], Way, &'static [u8], Option<InputFault>);
+
+// Appends two titles as a line.
+fn push_titles(titles: &mut Vec<u8>, pair: PairView<'_>) -> Result<(), Fail> {
+    titles.extend_from_slice(pair.forward.title())?;
+    titles.push(b' ')?;
+    titles.extend_from_slice(pair.reverse.title())?;
+    titles.push(b'\n')?;
+    Ok(())
+}
+
+// The next pair.
+fn next<S: PairReader>(pairs: &mut S) -> Result<Option<Pair>, InputFault> {
+    pairs.next_pair()
+}
+
+// Appends the two titles of each pair as a line. The fault behind the pairs is answered.
+fn push_given<S: PairReader>(
+    pairs: &mut S,
+    titles: &mut Vec<u8>,
+) -> Result<Option<InputFault>, Fail> {
+    for _ in 0..100 {
+        match next(pairs) {
+            Ok(Some(pair)) => push_titles(titles, pair.view())?,
+            Ok(None) => break,
+            Err(fault) => return Ok(Some(fault)),
+        }
+    }
+    Ok(None)
+}
+
+// The two titles of each pair as a line, and the fault behind the pairs. The last answer is the answer from then on.
+fn ask<S: PairReader>(
+    rt: &impl Abort,
+    alloc: Global,
+    pairs: &mut S,
+) -> Result<(Vec<u8>, Option<InputFault>), Fail> {
+    let mut titles = Vec::new(alloc);
+    let fault = push_given(pairs, &mut titles)?;
+    for _ in 0..2 {
+        assert_last(rt, next(pairs), fault);
+    }
+    Ok((titles, fault))
+}
+
+// Appends the two titles of the pair that is lent next, where there is one.
+fn push_next<S: PairReader>(
+    pairs: &mut S,
+    titles: &mut Vec<u8>,
+) -> Result<Result<bool, InputFault>, Fail> {
+    let answer = pairs.advance_pair();
+    if let Ok(true) = answer {
+        push_titles(titles, pairs.pair_in_hand())?;
+    }
+    Ok(answer)
+}
+
+// The same as `push_given`, of pairs that are lent.
+fn push_lent<S: PairReader>(
+    pairs: &mut S,
+    titles: &mut Vec<u8>,
+) -> Result<Option<InputFault>, Fail> {
+    for _ in 0..100 {
+        match push_next(pairs, titles)? {
+            Ok(true) => {}
+            Ok(false) => break,
+            Err(fault) => return Ok(Some(fault)),
+        }
+    }
+    Ok(None)
+}
+
+// The answer is this fault, or the end where there is none.
+fn assert_none_lent<S: PairReader>(rt: &impl Abort, pairs: &mut S, fault: Option<InputFault>) {
+    match fault {
+        None => assert!(rt; matches!(pairs.advance_pair(), Ok(false))),
+        Some(fault) => assert!(rt; matches!(pairs.advance_pair(), Err(again) if again == fault)),
+    }
+}
+
+// The same as `ask`, of pairs that are lent.
+fn ask_lent<S: PairReader>(
+    rt: &impl Abort,
+    alloc: Global,
+    pairs: &mut S,
+) -> Result<(Vec<u8>, Option<InputFault>), Fail> {
+    let mut titles = Vec::new(alloc);
+    let fault = push_lent(pairs, &mut titles)?;
+    for _ in 0..2 {
+        assert_none_lent(rt, pairs, fault);
+    }
+    Ok((titles, fault))
+}
+
+// How often the feed failed.
+fn failures(pairs: Mixed) -> u64 {
+    pairs.into_feed().failures()
+}
+
+fn check(rt: &impl Abort, alloc: Global, row: Row) -> Result<(), Fail> {
+    let (text, way, want, fault) = row;
+    let mut pairs = interleaved(rt, alloc, text, way)?;
+    let (titles, met) = ask(rt, alloc, &mut pairs)?;
+    assert_eq!(rt; titles.as_slice(), want);
+    assert_eq!(rt; met, fault);
+    let failed = u64::from(matches!(fault, Some(InputFault::Text(_, TextFault::Read))));
+    assert_eq!(rt; failures(pairs), failed);
+    let mut lent = interleaved(rt, alloc, text, way)?;
+    let (titles, met) = ask_lent(rt, alloc, &mut lent)?;
+    assert_eq!(rt; titles.as_slice(), want);
+    assert_eq!(rt; met, fault);
+    assert_eq!(rt; failures(lent), failed);
+    Ok(())
+}
+
+#[test]
+fn two_texts_asked_alike(rt: HostRuntime) -> Result<(), Fail> {
+    let mut pairs = pairs(&rt, rt.alloc(), TWO_FORWARD, TWO_REVERSE, PLAIN)?;
+    let (titles, fault) = ask(&rt, rt.alloc(), &mut pairs)?;
+    assert_eq!(rt; titles.as_slice(), b"p1/1 p1/2\np2/1 p2/2\n".as_slice());
+    assert_eq!(rt; fault, None);
+    Ok(())
+}
+
+#[test]
+fn interleaved_mates(rt: HostRuntime) -> Result<(), Fail> {
+    let both: &[u8] = b"p1/1 p1/2\np2/1 p2/2\n";
+    for chunk in 1..8usize {
+        check(
+            &rt,
+            rt.alloc(),
+            (TWO_INTERLEAVED, Way { chunk, ..PLAIN }, both, None),
+        )?;
+    }
+    check(&rt, rt.alloc(), (b"", PLAIN, b"", None))?;
+    check(&rt, rt.alloc(), (b"\n\r\n", PLAIN, b"", None))?;
+    check(
+        &rt,
+        rt.alloc(),
+        (OTHER_NAMES, UNCHECKED, b"a/1 a/2 x\nb/1 c/2\n", None),
+    )
+}
+
+fn missing(number: u64) -> Option<InputFault> {
+    Some(InputFault::MateMissing(Side::Reverse, number))
+}
+
+fn forward(fault: TextFault) -> Option<InputFault> {
+    Some(InputFault::Text(Side::Forward, fault))
+}
+
+fn reverse(fault: TextFault) -> Option<InputFault> {
+    Some(InputFault::Text(Side::Reverse, fault))
+}
+
+#[test]
+fn a_mate_is_missing_or_has_another_name(rt: HostRuntime) -> Result<(), Fail> {
+    let five: &[u8] = b"n1/1 n1/2\nn2/1 n2/2\nn3/1 n3/2\nn4/1 n4/2\nn5/1 n5/2\n";
+    let rows: [Row; 5] = [
+        (ELEVEN_INTERLEAVED, PLAIN, five, missing(6)),
+        (&TWO_INTERLEAVED[..18], PLAIN, b"", missing(1)),
+        (&TWO_INTERLEAVED[..54], PLAIN, b"p1/1 p1/2\n", missing(2)),
+        (
+            OTHER_NAMES,
+            PLAIN,
+            b"a/1 a/2 x\n",
+            Some(InputFault::NamesDiffer(2)),
+        ),
+        // Marks of the other side are no marks.
+        (
+            b"@a/2\nA\n+\nI\n@a/1\nA\n+\nI\n",
+            PLAIN,
+            b"",
+            Some(InputFault::NamesDiffer(1)),
+        ),
+    ];
+    for row in rows {
+        check(&rt, rt.alloc(), row)?;
+    }
+    Ok(())
+}
+
+#[test]
+fn a_fault_has_the_side_and_the_number_of_its_record(rt: HostRuntime) -> Result<(), Fail> {
+    let one: &[u8] = b"p1/1 p1/2\n";
+    let rows: [Row; 6] = [
+        (
+            b"@r1\nA\n+other\nI\n",
+            PLAIN,
+            b"",
+            forward(TextFault::PlusDiffers(1)),
+        ),
+        (
+            b"@r1\nA\n+\nI\n@r1\nA\n",
+            PLAIN,
+            b"",
+            reverse(TextFault::NoPlus(2)),
+        ),
+        (
+            b"@p1/1\nA\n+\nI\n@p1/2\nA\n+\nI\nr\n",
+            PLAIN,
+            one,
+            forward(TextFault::NoTitle(3)),
+        ),
+        (
+            b"@p1/1\nACGT\n+\n#!II\n@p1/2\nTTTT\n+\nIIII\n@p2/1\nGGCC\n+\nIIII\n@p2/2\nAAAA\n+x\n!!!\"\n",
+            PLAIN,
+            one,
+            reverse(TextFault::PlusDiffers(4)),
+        ),
+        (
+            &TWO_INTERLEAVED[..52],
+            PLAIN,
+            one,
+            forward(TextFault::QualityShort(3)),
+        ),
+        (
+            &TWO_INTERLEAVED[..70],
+            PLAIN,
+            one,
+            reverse(TextFault::QualityShort(4)),
+        ),
+    ];
+    for row in rows {
+        check(&rt, rt.alloc(), row)?;
+    }
+    Ok(())
+}
+
+// Each read gives one record, and one of them fails.
+fn failing(fail_at: u64) -> Way {
+    Way {
+        chunk: 18,
+        fail_at,
+        ..PLAIN
+    }
+}
+
+// Each read gives one record, and there are so many at most.
+fn few(max_reads: u64) -> Way {
+    Way {
+        chunk: 18,
+        max_reads,
+        ..PLAIN
+    }
+}
+
+#[test]
+fn a_text_that_cannot_be_read_on(rt: HostRuntime) -> Result<(), Fail> {
+    let one: &[u8] = b"p1/1 p1/2\n";
+    let rows: [Row; 8] = [
+        (TWO_INTERLEAVED, failing(1), b"", forward(TextFault::Read)),
+        (TWO_INTERLEAVED, failing(2), b"", reverse(TextFault::Read)),
+        (TWO_INTERLEAVED, failing(3), one, forward(TextFault::Read)),
+        (TWO_INTERLEAVED, failing(4), one, reverse(TextFault::Read)),
+        (TWO_INTERLEAVED, few(1), b"", reverse(TextFault::Endless)),
+        (TWO_INTERLEAVED, few(2), one, forward(TextFault::Endless)),
+        (TWO_INTERLEAVED, few(3), one, reverse(TextFault::Endless)),
+        (
+            TWO_INTERLEAVED,
+            Way {
+                chunk: 1,
+                max_reads: 10,
+                ..PLAIN
+            },
+            b"",
+            forward(TextFault::Endless),
+        ),
+    ];
+    for row in rows {
+        check(&rt, rt.alloc(), row)?;
+    }
+    Ok(())
+}

@@ -1,0 +1,131 @@
+//! Pairs that are lent.
+
+use super::frame::{PLAIN, Pairs, UNCHECKED, Way, add, assert_written, failures, pairs, trimmed};
+use fq_pair::*;
+use fq_samples::{SEVEN_FORWARD, SEVEN_REVERSE, TWO_FORWARD, TWO_REVERSE, TWO_STEPS, TWO_WRITTEN};
+use fq_trim::Steps;
+use std::alloc::Global;
+use std::process::Abort;
+use std::test::Fail;
+
+const ROWS: [(&[u8], &[u8], Way); 8] = [
+    (TWO_FORWARD, TWO_REVERSE, PLAIN),
+    (TWO_FORWARD, TWO_REVERSE, Way { chunk: 1, ..PLAIN }),
+    (SEVEN_FORWARD, SEVEN_REVERSE, PLAIN),
+    (SEVEN_FORWARD, SEVEN_REVERSE, Way { chunk: 7, ..PLAIN }),
+    // A mate is missing, on either side.
+    (SEVEN_FORWARD, TWO_REVERSE, UNCHECKED),
+    (TWO_FORWARD, SEVEN_REVERSE, UNCHECKED),
+    // The second pair's names differ, and its forward text is at fault.
+    (TWO_FORWARD, SEVEN_REVERSE, PLAIN),
+    (
+        b"@n1/1\nACGT\nAC\n+\nIIII\nII\n@n2/1\nACGT\n+\nI\n",
+        SEVEN_REVERSE,
+        PLAIN,
+    ),
+];
+
+// Adds the pair that is lent next, where there is one.
+fn add_next(
+    rt: &impl Abort,
+    texts: &mut Texts,
+    pairs: &mut Pairs,
+    steps: &Steps,
+) -> Result<Result<bool, InputFault>, Fail> {
+    let answer = pairs.advance();
+    if let Ok(true) = answer {
+        add(rt, texts, pairs.pair(), steps)?;
+    }
+    Ok(answer)
+}
+
+// Adds the pairs to the texts, each lent. The fault behind them is answered.
+fn add_lent(
+    rt: &impl Abort,
+    texts: &mut Texts,
+    pairs: &mut Pairs,
+    steps: &Steps,
+) -> Result<Option<InputFault>, Fail> {
+    for _ in 0..100 {
+        match add_next(rt, texts, pairs, steps)? {
+            Ok(true) => {}
+            Ok(false) => break,
+            Err(fault) => return Ok(Some(fault)),
+        }
+    }
+    Ok(None)
+}
+
+// The answer is this fault, or the end where there is none.
+fn assert_last(rt: &impl Abort, pairs: &mut Pairs, fault: Option<InputFault>) {
+    match fault {
+        None => assert!(rt; matches!(pairs.advance(), Ok(false))),
+        Some(fault) => assert!(rt; matches!(pairs.advance(), Err(again) if again == fault)),
+    }
+}
+
+// The texts of the pairs, each lent, and the fault behind them. The last answer is the answer from then on.
+fn trimmed_lent(
+    rt: &impl Abort,
+    alloc: Global,
+    mut pairs: Pairs,
+    words: &[&str],
+) -> Result<(Texts, Option<InputFault>), Fail> {
+    let steps = Steps::parse(words)?;
+    let mut texts = Texts::new(alloc);
+    let fault = add_lent(rt, &mut texts, &mut pairs, &steps)?;
+    assert_last(rt, &mut pairs, fault);
+    let (forward, reverse) = failures(pairs);
+    assert!(rt; forward <= 1 && reverse == 0);
+    Ok((texts, fault))
+}
+
+// The pairs are lent as they are given.
+fn check(
+    rt: &impl Abort,
+    alloc: Global,
+    forward: &[u8],
+    reverse: &[u8],
+    way: Way,
+) -> Result<(), Fail> {
+    let steps = ["LEADING:3", "TRAILING:3", "MINLEN:2"];
+    let given = pairs(rt, alloc, forward, reverse, way)?;
+    let (given, why) = trimmed(rt, alloc, given, &steps)?;
+    let lent = pairs(rt, alloc, forward, reverse, way)?;
+    let (lent, fault) = trimmed_lent(rt, alloc, lent, &steps)?;
+    assert_eq!(rt; fault, why);
+    assert_eq!(rt; lent.counts(), given.counts());
+    for out in [
+        Out::ForwardPaired,
+        Out::ForwardUnpaired,
+        Out::ReversePaired,
+        Out::ReverseUnpaired,
+        Out::Log,
+    ] {
+        assert!(rt; lent.text(out) == given.text(out), "{out}");
+    }
+    Ok(())
+}
+
+#[test]
+fn lent_pairs_are_those_that_are_given(rt: HostRuntime) -> Result<(), Fail> {
+    for (forward, reverse, way) in ROWS {
+        check(&rt, rt.alloc(), forward, reverse, way)?;
+    }
+    Ok(())
+}
+
+#[test]
+fn two_pairs_lent(rt: HostRuntime) -> Result<(), Fail> {
+    let source = pairs(&rt, rt.alloc(), TWO_FORWARD, TWO_REVERSE, PLAIN)?;
+    let (texts, fault) = trimmed_lent(&rt, rt.alloc(), source, TWO_STEPS)?;
+    let counts = Counts {
+        pairs: 2,
+        both: 1,
+        forward_only: 1,
+        ..Counts::ZERO
+    };
+    assert_eq!(rt; fault, None);
+    assert_written(&rt, &texts, &TWO_WRITTEN, counts);
+    Ok(())
+}

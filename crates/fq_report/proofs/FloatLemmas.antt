@@ -1,0 +1,70 @@
+-- A report has no float, so its text is told by its value.
+use Rattle.std.proofs.Common.{◌≡◌, ℕ, suc, Bool, true, false, ◌==◌, if◌then◌else◌, Option, Some, None, List, [], ◌∷◌, refl}
+use Rattle.fq_pair.specs.declared.counts.Counts.{Counts}
+use Rattle.fq_tally.specs.declared.reads.ReadsTally.{ReadsTally}
+use Rattle.fq_tally.specs.declared.side.SideTally.{SideTally}
+use Rattle.fq_tally.specs.declared.tally.Tally.{Tally}
+use Rattle.serde_json.specs.Data.{Data, null}
+use Rattle.serde_json.specs.View.{items_of}
+use Rattle.serde_json.specs.Written.{has_float, items_have_float}
+use Rattle.fq_report.specs.Values.{count, list, optional_text}
+use Rattle.fq_report.specs.Facts.{InputNames, TwoFiles, OneFile, Facts}
+use Rattle.fq_report.specs.Reports.{inputs_value, outputs_value, pairs_value, length_value, lengths_from, reads_value, removed_value, side_value, sides_value, done_value, step_value, steps_from, report_value}
+
+text_no_float : (text : Option (List ℕ)) → has_float (optional_text text) ≡ false
+text_no_float (Some text) = refl
+text_no_float None = refl
+
+inputs_no_float : (inputs : InputNames) → has_float (inputs_value inputs) ≡ false
+unfolding inputs_value
+inputs_no_float (TwoFiles forward reverse) = refl
+inputs_no_float (OneFile both) = refl
+
+outputs_no_float : (f : Facts) → has_float (outputs_value f) ≡ false
+unfolding outputs_value
+outputs_no_float f = rw (text_no_float f.log) refl
+
+pairs_no_float : (counts : Counts) → has_float (pairs_value counts) ≡ false
+unfolding pairs_value
+pairs_no_float counts = refl
+
+one_no_float : (b : Bool) (some other : Data) → has_float some ≡ false → has_float other ≡ false → has_float (if b then some else other) ≡ false
+one_no_float true some other first second = first
+one_no_float false some other first second = second
+
+length_no_float : (reads bases : ℕ) → has_float (length_value reads bases) ≡ false
+length_no_float reads bases = one_no_float (reads == 0) null (count bases) refl refl
+
+row_no_float : (none : Bool) (row : Data) (rows : List Data) → has_float row ≡ false → items_have_float (items_of rows) ≡ false
+    → items_have_float (items_of (if none then rows else row ∷ rows)) ≡ false
+row_no_float true row rows first rest = rest
+row_no_float false row rows first rest = rw first rest
+
+lengths_no_float : (length : ℕ) (rows : List ℕ) → items_have_float (items_of (lengths_from length rows)) ≡ false
+lengths_no_float length [] = refl
+lengths_no_float length (reads ∷ rows) =
+    row_no_float (reads == 0) (list (count length ∷ count reads ∷ [])) (lengths_from (suc length) rows) refl (lengths_no_float (suc length) rows)
+
+reads_no_float : (t : ReadsTally) → has_float (reads_value t) ≡ false
+unfolding reads_value
+reads_no_float t = rw (lengths_no_float 0 t.lengths, length_no_float t.reads t.longest, length_no_float t.reads t.shortest) refl
+
+side_no_float : (t : SideTally) → has_float (side_value t) ≡ false
+unfolding side_value removed_value
+side_no_float t = rw (reads_no_float t.before, reads_no_float t.paired, reads_no_float t.unpaired) refl
+
+sides_no_float : (t : Tally) → has_float (sides_value t) ≡ false
+unfolding sides_value
+sides_no_float t = rw (side_no_float t.forward, side_no_float t.reverse) refl
+
+step_no_float : (number : ℕ) (word : List ℕ) (t : Tally) → has_float (step_value number word t) ≡ false
+unfolding step_value done_value
+step_no_float number word t = refl
+
+steps_no_float : (number : ℕ) (words : List (List ℕ)) (t : Tally) → items_have_float (items_of (steps_from number words t)) ≡ false
+steps_no_float number [] t = refl
+steps_no_float number (word ∷ words) t = rw (step_no_float number word t) (steps_no_float (suc number) words t)
+
+pub report_no_float : (f : Facts) → has_float (report_value f) ≡ false
+unfolding report_value
+report_no_float f = rw (text_no_float f.fault, inputs_no_float f.inputs, outputs_no_float f, pairs_no_float f.counts, sides_no_float f.tally, steps_no_float 0 f.steps f.tally) refl

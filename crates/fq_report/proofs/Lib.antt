@@ -1,0 +1,3 @@
+pub mod FloatLemmas
+pub mod StepLemmas
+pub mod WorkedExamples

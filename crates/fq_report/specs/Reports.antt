@@ -1,0 +1,139 @@
+-- The report of a run as JSON: one definition for each object, with its fields in the order of their names.
+use Rattle.std.specs.Prelude.{ℕ, suc, ◌==◌, Option, Some, None, List, [], ◌∷◌, codes, get_or, if◌then◌else◌}
+use Rattle.fq_text.specs.declared.encoding.Encoding.{Encoding}
+use Rattle.fq_text.specs.declared.encoding.Encoding.TheVariants.{Sanger, Illumina13, Solexa}
+use Rattle.fq_text.specs.Written.{line}
+use Rattle.fq_pair.specs.declared.counts.Counts.{Counts}
+use Rattle.fq_tally.specs.declared.reads.ReadsTally.{ReadsTally}
+use Rattle.fq_tally.specs.declared.steps.StepsTally.{StepsTally}
+use Rattle.fq_tally.specs.declared.side.SideTally.{SideTally}
+use Rattle.fq_tally.specs.declared.tally.Tally.{Tally}
+use Rattle.serde_json.specs.Data.{Data, null, boolean, string}
+use Rattle.serde_json.specs.Written.{compact_text}
+use Rattle.fq_report.specs.Values.{count, optional_text, list, fields}
+use Rattle.fq_report.specs.Facts.{InputNames, TwoFiles, OneFile, Facts}
+
+-- Of the call.
+
+-- the command that takes such inputs
+abbrev pub command_of : InputNames → List ℕ
+command_of (TwoFiles forward reverse) = codes "PE"
+command_of (OneFile both) = codes "IL"
+
+abbrev pub encoding_name : Encoding → List ℕ
+encoding_name Sanger = codes "sanger"
+encoding_name Illumina13 = codes "illumina13"
+encoding_name Solexa = codes "solexa"
+
+-- how the run ended: at a fault of its inputs, or at their end
+abbrev pub outcome_of : Option (List ℕ) → List ℕ
+outcome_of (Some line) = codes "fault"
+outcome_of None = codes "finished"
+
+unfoldable pub inputs_value : InputNames → Data
+inputs_value (TwoFiles forward reverse) = fields (
+    (codes "forward", string forward)
+    ∷ (codes "reverse", string reverse) ∷ [])
+inputs_value (OneFile both) = fields (
+    (codes "interleaved", string both) ∷ [])
+
+unfoldable pub outputs_value : Facts → Data
+outputs_value f = fields (
+    (codes "forward_paired", string f.forward_paired)
+    ∷ (codes "forward_unpaired", string f.forward_unpaired)
+    ∷ (codes "reverse_paired", string f.reverse_paired)
+    ∷ (codes "reverse_unpaired", string f.reverse_unpaired)
+    ∷ (codes "trim_log", optional_text f.log) ∷ [])
+
+-- Of pairs.
+
+unfoldable pub pairs_value : Counts → Data
+pairs_value c = fields (
+    (codes "both_surviving", count c.both)
+    ∷ (codes "dropped", count c.dropped)
+    ∷ (codes "forward_only_surviving", count c.forward_only)
+    ∷ (codes "input", count c.pairs)
+    ∷ (codes "reverse_only_surviving", count c.reverse_only) ∷ [])
+
+-- Of reads.
+
+-- the length of one of so many reads, and null where there is none
+abbrev pub length_value : ℕ → ℕ → Data
+length_value reads bases = if reads == 0 then null else count bases
+
+-- each length that reads have with their number, in rising order; the first row is that of this length
+abbrev pub lengths_from : ℕ → List ℕ → List Data
+lengths_from length [] = []
+lengths_from length (reads ∷ rows) =
+    if reads == 0 then lengths_from (suc length) rows
+    else list (count length ∷ count reads ∷ []) ∷ lengths_from (suc length) rows
+
+unfoldable pub reads_value : ReadsTally → Data
+reads_value t = fields (
+    (codes "bases", count t.bases.bases)
+    ∷ (codes "gc_bases", count t.bases.gc)
+    ∷ (codes "lengths", list (lengths_from 0 t.lengths))
+    ∷ (codes "longest", length_value t.reads t.longest)
+    ∷ (codes "n_bases", count t.bases.n)
+    ∷ (codes "q20_bases", count t.bases.at_least_20)
+    ∷ (codes "q30_bases", count t.bases.at_least_30)
+    ∷ (codes "reads", count t.reads)
+    ∷ (codes "score_sum", count t.bases.score_sum)
+    ∷ (codes "shortest", length_value t.reads t.shortest) ∷ [])
+
+unfoldable pub removed_value : SideTally → Data
+removed_value t = fields (
+    (codes "behind", count t.behind)
+    ∷ (codes "front", count t.front) ∷ [])
+
+unfoldable pub side_value : SideTally → Data
+side_value t = fields (
+    (codes "before", reads_value t.before)
+    ∷ (codes "paired", reads_value t.paired)
+    ∷ (codes "removed_bases", removed_value t)
+    ∷ (codes "unpaired", reads_value t.unpaired) ∷ [])
+
+-- Of steps.
+
+-- what the step of a number did to the reads of a side
+unfoldable pub done_value : ℕ → StepsTally → Data
+done_value number t = fields (
+    (codes "dropped", count (get_or t.dropped number 0))
+    ∷ (codes "shortened", count (get_or t.shortened number 0)) ∷ [])
+
+unfoldable pub step_value : ℕ → List ℕ → Tally → Data
+step_value number word t = fields (
+    (codes "forward", done_value number t.forward.steps)
+    ∷ (codes "reverse", done_value number t.reverse.steps)
+    ∷ (codes "step", string word) ∷ [])
+
+-- each step in its place; the first has this number
+abbrev pub steps_from : ℕ → List (List ℕ) → Tally → List Data
+steps_from number [] t = []
+steps_from number (word ∷ words) t = step_value number word t ∷ steps_from (suc number) words t
+
+-- All of it.
+
+unfoldable pub sides_value : Tally → Data
+sides_value t = fields (
+    (codes "forward", side_value t.forward)
+    ∷ (codes "reverse", side_value t.reverse) ∷ [])
+
+unfoldable pub report_value : Facts → Data
+report_value f = fields (
+    (codes "command", string (command_of f.inputs))
+    ∷ (codes "encoding", string (encoding_name f.encoding))
+    ∷ (codes "fault", optional_text f.fault)
+    ∷ (codes "inputs", inputs_value f.inputs)
+    ∷ (codes "name_check", boolean f.check_names)
+    ∷ (codes "outcome", string (outcome_of f.fault))
+    ∷ (codes "outputs", outputs_value f)
+    ∷ (codes "pairs", pairs_value f.counts)
+    ∷ (codes "program", string f.program)
+    ∷ (codes "reads", sides_value f.tally)
+    ∷ (codes "steps", list (steps_from 0 f.steps f.tally))
+    ∷ (codes "version", string f.version) ∷ [])
+
+-- the text of a report: one line of JSON, without blanks between its parts
+abbrev pub text_of : Facts → List ℕ
+text_of f = line (compact_text (report_value f))

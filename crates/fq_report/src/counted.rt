@@ -1,0 +1,149 @@
+//! What was counted, as values of JSON.
+
+ghost use Rattle.std.specs.Prelude.{◌≡◌, IfOk, map, get_or};
+ghost use Rattle.serde_json.specs.View.{view};
+ghost use Rattle.fq_report.specs.Values.{list};
+ghost use Rattle.fq_report.specs.Reports.{pairs_value, length_value, lengths_from, reads_value, removed_value, side_value, sides_value, done_value, step_value, steps_from};
+
+use fq_pair::Counts;
+use fq_tally::{ReadsTally, Rows, SideTally, StepsTally, Tally};
+use fq_text::OutOfMemory;
+use serde_json::{Value, json};
+use std::alloc::Global;
+
+// How many pairs there were, and what became of them.
+#[tactic(auto, unfolding(crate::specs::Reports::pairs_value))]
+pub(crate) fn pairs_value(alloc: Global, counts: &Counts) -> Result<Value, OutOfMemory>
+    ensures { IfOk result (λ v. view v ≡ pairs_value counts.now) }
+{
+    json!(in alloc; {
+        "input": counts.pairs,
+        "both_surviving": counts.both,
+        "forward_only_surviving": counts.forward_only,
+        "reverse_only_surviving": counts.reverse_only,
+        "dropped": counts.dropped,
+    })
+}
+
+// The reads of both sides.
+#[tactic(auto, unfolding(crate::specs::Reports::sides_value))]
+pub(crate) fn sides_value(alloc: Global, tally: &Tally) -> Result<Value, OutOfMemory>
+    ensures { IfOk result (λ v. view v ≡ sides_value tally.now) }
+{
+    json!(in alloc; {
+        "forward": side_value(alloc, &tally.forward)?,
+        "reverse": side_value(alloc, &tally.reverse)?,
+    })
+}
+
+// The reads of one side.
+#[tactic(auto, unfolding(crate::specs::Reports::side_value))]
+fn side_value(alloc: Global, side: &SideTally) -> Result<Value, OutOfMemory>
+    ensures { IfOk result (λ v. view v ≡ side_value side.now) }
+{
+    json!(in alloc; {
+        "before": reads_value(alloc, &side.before)?,
+        "paired": reads_value(alloc, &side.paired)?,
+        "unpaired": reads_value(alloc, &side.unpaired)?,
+        "removed_bases": removed_value(alloc, side)?,
+    })
+}
+
+// The bases removed from the reads that survive.
+#[tactic(auto, unfolding(crate::specs::Reports::removed_value))]
+fn removed_value(alloc: Global, side: &SideTally) -> Result<Value, OutOfMemory>
+    ensures { IfOk result (λ v. view v ≡ removed_value side.now) }
+{
+    json!(in alloc; {"front": side.front, "behind": side.behind})
+}
+
+// Reads, their bases and their lengths.
+#[tactic(auto, unfolding(crate::specs::Reports::reads_value))]
+fn reads_value(alloc: Global, tally: &ReadsTally) -> Result<Value, OutOfMemory>
+    ensures { IfOk result (λ v. view v ≡ reads_value tally.now) }
+{
+    let bases = tally.bases;
+    json!(in alloc; {
+        "reads": tally.reads,
+        "bases": bases.bases,
+        "q20_bases": bases.at_least_20,
+        "q30_bases": bases.at_least_30,
+        "score_sum": bases.score_sum,
+        "gc_bases": bases.gc,
+        "n_bases": bases.n,
+        "shortest": length_value(tally.reads, tally.shortest),
+        "longest": length_value(tally.reads, tally.longest),
+        "lengths": lengths_value(alloc, &tally.lengths)?,
+    })
+}
+
+// The length of one of so many reads.
+fn length_value(reads: u64, bases: u64) -> Value
+    ensures { view result ≡ length_value reads bases }
+{
+    if reads == 0 {
+        Value::Null
+    } else {
+        Value::from(bases)
+    }
+}
+
+// How many reads have each length.
+fn lengths_value(alloc: Global, rows: &Rows) -> Result<Value, OutOfMemory>
+    ensures { IfOk result (λ v. view v ≡ list (lengths_from 0 rows.now)) }
+{
+    let mut lengths = Vec::new(alloc);
+    for (length, reads) in rows.as_slice().iter().enumerate() {
+        if *reads > 0 {
+            let row = json!(in alloc; [length, *reads])?;
+            lengths.push(row)?;
+        }
+    }
+    Ok(Value::Array(lengths))
+}
+
+// What each step did.
+pub(crate) fn steps_value(
+    alloc: Global,
+    words: &[&str],
+    tally: &Tally,
+) -> Result<Value, OutOfMemory>
+    ensures { IfOk result (λ v. view v ≡ list (steps_from 0 (map (λ word. word.now) words.now) tally.now)) }
+{
+    let mut steps = Vec::new(alloc);
+    for (number, word) in words.iter().enumerate() {
+        let step = step_value(alloc, number, word, tally)?;
+        steps.push(step)?;
+    }
+    Ok(Value::Array(steps))
+}
+
+// What the step of a number did.
+#[tactic(auto, unfolding(crate::specs::Reports::step_value))]
+fn step_value(alloc: Global, number: usize, word: &str, tally: &Tally) -> Result<Value, OutOfMemory>
+    ensures { IfOk result (λ v. view v ≡ step_value number word.now tally.now) }
+{
+    json!(in alloc; {
+        "step": word,
+        "forward": done_value(alloc, number, &tally.forward.steps)?,
+        "reverse": done_value(alloc, number, &tally.reverse.steps)?,
+    })
+}
+
+// What it did to the reads of a side.
+#[tactic(auto, unfolding(crate::specs::Reports::done_value))]
+fn done_value(alloc: Global, number: usize, steps: &StepsTally) -> Result<Value, OutOfMemory>
+    ensures { IfOk result (λ v. view v ≡ done_value number steps.now) }
+{
+    json!(in alloc; {
+        "shortened": reads_in(&steps.shortened, number),
+        "dropped": reads_in(&steps.dropped, number),
+    })
+}
+
+// How many reads a row has: none where there is no such row.
+fn reads_in(rows: &Rows, row: usize) -> u64
+    ensures { result ≡ get_or rows.now row 0 }
+{
+    rows.as_slice().get(row).copied().unwrap_or(0)
+}

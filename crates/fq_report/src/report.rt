@@ -1,0 +1,153 @@
+//! The report of a run.
+
+ghost use Rattle.std.specs.Prelude.{◌≡◌, IfOk, option_map};
+ghost use Rattle.std.specs.String.{string_bytes};
+ghost use Rattle.serde_json.specs.View.{view};
+ghost use Rattle.fq_report.specs.Values.{optional_text};
+ghost use Rattle.fq_report.specs.Facts.{names_of, facts_of};
+ghost use Rattle.fq_report.specs.Reports.{command_of, encoding_name, outcome_of, inputs_value, outputs_value, report_value, text_of};
+
+use crate::counted::{pairs_value, sides_value, steps_value};
+use fq_pair::Counts;
+use fq_tally::Tally;
+use fq_text::{Encoding, OutOfMemory};
+use serde_json::{Value, json};
+use std::alloc::Global;
+
+/// Where the pairs came from, by the names of files.
+#[derive(Clone, Copy)]
+pub enum Inputs<'a> {
+    /// Forward and reverse reads, each in a file.
+    Apart { forward: &'a str, reverse: &'a str },
+    /// One interleaved file: a forward read, then its reverse mate, and so on.
+    Interleaved(&'a str),
+}
+
+/// What a report tells of a run that came to the end of its inputs, or to a fault of theirs.
+#[derive(Clone, Copy)]
+pub struct Report<'a> {
+    /// The name of the program.
+    pub program: &'a str,
+    /// Its version.
+    pub version: &'a str,
+    /// Where the pairs came from.
+    pub inputs: Inputs<'a>,
+    /// The names of the four outputs.
+    pub forward_paired: &'a str,
+    pub forward_unpaired: &'a str,
+    pub reverse_paired: &'a str,
+    pub reverse_unpaired: &'a str,
+    /// The name of the log, if one was wanted.
+    pub log: Option<&'a str>,
+    /// The encoding of the inputs.
+    pub encoding: Encoding,
+    /// Whether the names of mates had to match.
+    pub check_names: bool,
+    /// The words of the steps.
+    pub steps: &'a [&'a str],
+    /// What was told of a fault of the inputs, without its line end. Nothing where all pairs were trimmed.
+    pub fault: Option<&'a str>,
+    /// What became of the pairs.
+    pub counts: Counts,
+    /// What was counted of their reads: step n of `steps` is list n of the steps there.
+    pub tally: &'a Tally,
+}
+
+/// The text of a report: one line of JSON, with its line feed. Memory may be refused for it.
+pub fn report_text(alloc: Global, report: &Report<'_>) -> Result<String, OutOfMemory>
+    ensures { IfOk result (λ text. string_bytes text ≡ text_of (facts_of report.now)) }
+{
+    let value = report_value(alloc, report)?;
+    let mut text = value.to_string(alloc)?;
+    text.push_str("\n")?;
+    Ok(text)
+}
+
+// The whole report.
+#[tactic(auto, unfolding(crate::specs::Reports::report_value))]
+fn report_value(alloc: Global, report: &Report<'_>) -> Result<Value, OutOfMemory>
+    ensures { IfOk result (λ v. view v ≡ report_value (facts_of report.now)) }
+{
+    json!(in alloc; {
+        "program": report.program,
+        "version": report.version,
+        "command": command_of(report.inputs),
+        "inputs": inputs_value(alloc, report.inputs)?,
+        "outputs": outputs_value(alloc, report)?,
+        "encoding": encoding_name(report.encoding),
+        "name_check": report.check_names,
+        "outcome": outcome_of(report.fault),
+        "fault": optional_text(alloc, report.fault)?,
+        "pairs": pairs_value(alloc, &report.counts)?,
+        "reads": sides_value(alloc, report.tally)?,
+        "steps": steps_value(alloc, report.steps, report.tally)?,
+    })
+}
+
+// The command that takes such inputs.
+fn command_of(inputs: Inputs<'_>) -> &'static str
+    ensures { result.now ≡ command_of (names_of inputs.entry) }
+{
+    match inputs {
+        Inputs::Apart { .. } => "PE",
+        Inputs::Interleaved(_) => "IL",
+    }
+}
+
+// The name of an encoding.
+fn encoding_name(encoding: Encoding) -> &'static str
+    ensures { result.now ≡ encoding_name encoding }
+{
+    match encoding {
+        Encoding::Sanger => "sanger",
+        Encoding::Illumina13 => "illumina13",
+        Encoding::Solexa => "solexa",
+    }
+}
+
+// How the run ended.
+fn outcome_of(fault: Option<&str>) -> &'static str
+    ensures { result.now ≡ outcome_of (option_map (λ line. line.now) fault.entry) }
+{
+    match fault {
+        Some(_) => "fault",
+        None => "finished",
+    }
+}
+
+// The names of the inputs.
+#[tactic(auto, unfolding(crate::specs::Reports::inputs_value))]
+fn inputs_value(alloc: Global, inputs: Inputs<'_>) -> Result<Value, OutOfMemory>
+    ensures { IfOk result (λ v. view v ≡ inputs_value (names_of inputs.entry)) }
+{
+    match inputs {
+        Inputs::Apart { forward, reverse } => {
+            json!(in alloc; {"forward": forward, "reverse": reverse})
+        }
+        Inputs::Interleaved(both) => json!(in alloc; {"interleaved": both}),
+    }
+}
+
+// The names of the outputs.
+#[tactic(auto, unfolding(crate::specs::Reports::outputs_value))]
+fn outputs_value(alloc: Global, report: &Report<'_>) -> Result<Value, OutOfMemory>
+    ensures { IfOk result (λ v. view v ≡ outputs_value (facts_of report.now)) }
+{
+    json!(in alloc; {
+        "forward_paired": report.forward_paired,
+        "forward_unpaired": report.forward_unpaired,
+        "reverse_paired": report.reverse_paired,
+        "reverse_unpaired": report.reverse_unpaired,
+        "trim_log": optional_text(alloc, report.log)?,
+    })
+}
+
+// A text, if there is one.
+fn optional_text(alloc: Global, text: Option<&str>) -> Result<Value, OutOfMemory>
+    ensures { IfOk result (λ v. view v ≡ optional_text (option_map (λ bytes. bytes.now) text.entry)) }
+{
+    match text {
+        Some(text) => Value::try_from_str(alloc, text),
+        None => Ok(Value::Null),
+    }
+}

@@ -1,0 +1,294 @@
+ghost use Rattle.std.specs.Prelude.{◌≡◌, ◌<◌, true, [], IfOk};
+ghost use Rattle.fq_serial.specs.Devices.{outlet_states, AreHealthy};
+
+use fq_pair::{Counts, Out};
+use fq_run::{Ending, Outcome, Outlets, Settings, run_serial, run_threads};
+use fq_samples::Written;
+use fq_text::{Encoding, Feed, Outlet, ScriptFeed, ScriptOutlet};
+use fq_trim::Steps;
+use fq_work::{Gate, OpenGate};
+use std::alloc::Global;
+use std::process::Abort;
+use std::sync::{Arc, Wait};
+use std::test::Fail;
+use std::thread::Threads;
+
+pub const LONG: u64 = 1 << 40;
+
+/// The inputs of a run, its settings, and how its devices cut and fail.
+#[derive(Clone, Copy)]
+pub struct Given<'a> {
+    pub forward: &'a [u8],
+    pub reverse: &'a [u8],
+    pub encoding: Encoding,
+    pub steps: &'a [&'a str],
+    pub check_names: bool,
+    pub block_pairs: u64,
+    pub chunk: u64,
+    pub max_reads: u64,
+    /// The most bytes that a feed gives, or an outlet takes, in a call.
+    pub cut: usize,
+    /// The read of the forward feed that fails, or 0.
+    pub fails_at_read: u64,
+    /// An outlet, and the write of it that fails.
+    pub fails_at_write: Option<(Out, u64)>,
+    /// Another one that fails so.
+    pub fails_at_flush: Option<Out>,
+}
+
+/// What a run leaves.
+#[derive(Clone, Copy)]
+pub struct Wanted<'a> {
+    pub forward_paired: &'a [u8],
+    pub forward_unpaired: &'a [u8],
+    pub reverse_paired: &'a [u8],
+    pub reverse_unpaired: &'a [u8],
+    pub log: &'a [u8],
+    pub counts: Counts,
+    pub outcome: Outcome,
+}
+
+pub fn with_defaults<'a>(forward: &'a [u8], reverse: &'a [u8], steps: &'a [&'a str]) -> Given<'a> {
+    Given {
+        forward,
+        reverse,
+        encoding: Encoding::Sanger,
+        steps,
+        check_names: true,
+        block_pairs: 1024,
+        chunk: 65_536,
+        max_reads: LONG,
+        cut: 1000,
+        fails_at_read: 0,
+        fails_at_write: None,
+        fails_at_flush: None,
+    }
+}
+
+pub fn counts(pairs: u64, both: u64, forward_only: u64, reverse_only: u64, dropped: u64) -> Counts {
+    Counts {
+        pairs,
+        both,
+        forward_only,
+        reverse_only,
+        dropped,
+    }
+}
+
+/// Nothing written, with this outcome.
+pub fn nothing(outcome: Outcome) -> Wanted<'static> {
+    Wanted {
+        forward_paired: b"",
+        forward_unpaired: b"",
+        reverse_paired: b"",
+        reverse_unpaired: b"",
+        log: b"",
+        counts: Counts::ZERO,
+        outcome,
+    }
+}
+
+/// This written, with these counts and this outcome.
+pub fn wanted_of(written: Written, counts: Counts, outcome: Outcome) -> Wanted<'static> {
+    Wanted {
+        forward_paired: written.forward_paired,
+        forward_unpaired: written.forward_unpaired,
+        reverse_paired: written.reverse_paired,
+        reverse_unpaired: written.reverse_unpaired,
+        log: written.log,
+        counts,
+        outcome,
+    }
+}
+
+pub fn feed(
+    rt: &impl Abort,
+    alloc: Global,
+    bytes: &[u8],
+    cut: usize,
+    fail_at: u64,
+) -> Result<ScriptFeed, Fail>
+    ensures { IfOk result (λ feed. feed.failures ≡ 0) }
+{
+    assert!(rt; cut > 0);
+    Ok(ScriptFeed::new(alloc, bytes, cut, fail_at)?)
+}
+
+pub fn outlet(rt: &impl Abort, alloc: Global, given: &Given<'_>, out: Out) -> ScriptOutlet
+    ensures { (result.bytes ≡ []) × (result.failures ≡ 0) }
+{
+    let cut = given.cut;
+    assert!(rt; cut > 0);
+    let fail_at = match given.fails_at_write {
+        Some((failing, fail_at)) if failing == out => fail_at,
+        _ => 0,
+    };
+    let flush_fails = given.fails_at_flush == Some(out);
+    ScriptOutlet::new(alloc, cut, fail_at, flush_fails)
+}
+
+pub fn settings_of(given: &Given<'_>, workers: u64, depth: u64) -> Result<Settings, Fail> {
+    settings_with(given, workers, depth, LONG)
+}
+
+pub fn settings_with(
+    given: &Given<'_>,
+    workers: u64,
+    depth: u64,
+    gate_turns: u64,
+) -> Result<Settings, Fail> {
+    let steps = Steps::parse(given.steps)?;
+    let settings = Settings::new(
+        given.encoding,
+        steps,
+        given.check_names,
+        workers,
+        given.block_pairs,
+        depth,
+        given.chunk,
+        given.max_reads,
+        gate_turns,
+    );
+    Ok(settings?)
+}
+
+pub fn outlets(rt: &impl Abort, alloc: Global, given: &Given<'_>) -> Outlets<ScriptOutlet>
+    ensures { AreHealthy (outlet_states (λ o. record { tells = true; taken = o.bytes; failures = o.failures }) result) }
+{
+    Outlets {
+        forward_paired: outlet(rt, alloc, given, Out::ForwardPaired),
+        forward_unpaired: outlet(rt, alloc, given, Out::ForwardUnpaired),
+        reverse_paired: outlet(rt, alloc, given, Out::ReversePaired),
+        reverse_unpaired: outlet(rt, alloc, given, Out::ReverseUnpaired),
+        log: Some(outlet(rt, alloc, given, Out::Log)),
+    }
+}
+
+/// Compares what a run has left.
+pub fn assert_left(
+    rt: &impl Abort,
+    ending: &Ending<ScriptFeed, ScriptFeed>,
+    outlets: &Outlets<ScriptOutlet>,
+    wanted: &Wanted<'_>,
+) -> Result<(), Fail> {
+    assert_written(rt, ending.outcome, ending.counts, outlets, wanted)?;
+    assert!(rt; ending.forward.is_some() && ending.reverse.is_some());
+    assert!(rt; ending.unended.is_none());
+    Ok(())
+}
+
+/// Compares the outcome, the counts and the texts.
+pub fn assert_written(
+    rt: &impl Abort,
+    outcome: Outcome,
+    counts: Counts,
+    outlets: &Outlets<ScriptOutlet>,
+    wanted: &Wanted<'_>,
+) -> Result<(), Fail> {
+    assert_ended(rt, outcome, counts, wanted);
+    assert_reads(rt, outlets, wanted);
+    let log = outlets.log.as_ref().ok_or("a log")?;
+    assert_eq!(rt; log.bytes(), wanted.log);
+    Ok(())
+}
+
+/// Compares the outcome and the counts.
+pub fn assert_ended(rt: &impl Abort, outcome: Outcome, counts: Counts, wanted: &Wanted<'_>) {
+    assert_eq!(rt; (outcome, counts), (wanted.outcome, wanted.counts));
+}
+
+/// Compares the texts of the reads.
+pub fn assert_reads(rt: &impl Abort, outlets: &Outlets<ScriptOutlet>, wanted: &Wanted<'_>) {
+    for (outlet, text) in [
+        (&outlets.forward_paired, wanted.forward_paired),
+        (&outlets.forward_unpaired, wanted.forward_unpaired),
+        (&outlets.reverse_paired, wanted.reverse_paired),
+        (&outlets.reverse_unpaired, wanted.reverse_unpaired),
+    ] {
+        assert_eq!(rt; outlet.bytes(), text);
+    }
+}
+
+// The runs without their promise. A test has no use for it, and its proof is long where it is known.
+
+pub fn serial<O: Outlet>(
+    alloc: Global,
+    settings: &Settings,
+    forward: ScriptFeed,
+    reverse: ScriptFeed,
+    outlets: &mut Outlets<O>,
+) -> Ending<ScriptFeed, ScriptFeed>
+    requires forward { forward.failures ≡ 0 }
+    requires reverse { reverse.failures ≡ 0 }
+    requires outlets { AreHealthy (outlet_states O.state outlets.old) }
+{
+    run_serial(alloc, settings, forward, reverse, outlets)
+}
+
+pub fn threaded<
+    R: Threads + Wait + Copy + Send + 'static,
+    F: Feed + Drop + Send + 'static,
+    O: Outlet,
+    H: Gate + 'static,
+>(
+    rt: &R,
+    alloc: Global,
+    settings: &Settings,
+    gate: H,
+    forward: F,
+    reverse: ScriptFeed,
+    outlets: &mut Outlets<O>,
+) -> Result<Ending<F, ScriptFeed>, Fail>
+    requires forward { (F.state forward).failures ≡ 0 }
+    requires reverse { reverse.failures ≡ 0 }
+    requires outlets { AreHealthy (outlet_states O.state outlets.old) }
+{
+    let gate = Arc::new(alloc, gate)?;
+    Ok(run_threads(alloc, rt, settings, gate, forward, reverse, outlets))
+}
+
+/// Runs with a log on one thread.
+pub fn leaves_alone(
+    rt: &impl Abort,
+    alloc: Global,
+    given: &Given<'_>,
+    wanted: &Wanted<'_>,
+) -> Result<(), Fail> {
+    let settings = settings_of(given, 4, 4)?;
+    let forward = feed(rt, alloc, given.forward, given.cut, given.fails_at_read)?;
+    let reverse = feed(rt, alloc, given.reverse, given.cut, 0)?;
+    let mut outlets = outlets(rt, alloc, given);
+    let ending = serial(alloc, &settings, forward, reverse, &mut outlets);
+    assert_left(rt, &ending, &outlets, wanted)
+}
+
+/// Runs with a log on so many workers' threads, behind a gate.
+pub fn leaves_behind<R: Abort + Threads + Wait + Copy + Send + 'static, H: Gate + 'static>(
+    rt: &R,
+    alloc: Global,
+    given: &Given<'_>,
+    settings: &Settings,
+    gate: H,
+    wanted: &Wanted<'_>,
+) -> Result<(), Fail> {
+    let forward = feed(rt, alloc, given.forward, given.cut, given.fails_at_read)?;
+    let reverse = feed(rt, alloc, given.reverse, given.cut, 0)?;
+    let mut outlets = outlets(rt, alloc, given);
+    let ending = threaded(rt, alloc, settings, gate, forward, reverse, &mut outlets)?;
+    assert_left(rt, &ending, &outlets, wanted)
+}
+
+/// Runs with a log on one thread, and then on those of 1 to 5 workers, and compares what each run leaves.
+pub fn leaves<R: Abort + Threads + Wait + Copy + Send + 'static>(
+    rt: &R,
+    alloc: Global,
+    given: &Given<'_>,
+    wanted: &Wanted<'_>,
+) -> Result<(), Fail> {
+    leaves_alone(rt, alloc, given, wanted)?;
+    for workers in 1..6 {
+        let settings = settings_of(given, workers, 4)?;
+        leaves_behind(rt, alloc, given, &settings, OpenGate, wanted)?;
+    }
+    Ok(())
+}

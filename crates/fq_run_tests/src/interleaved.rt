@@ -1,0 +1,305 @@
+//! Runs over an interleaved text.
+
+ghost use Rattle.std.specs.Prelude.{◌≡◌, true};
+ghost use Rattle.fq_serial.specs.Devices.{outlet_states, AreHealthy};
+
+use super::frame::{
+    Given, Wanted, assert_written, counts, feed, nothing, outlets, settings_of, with_defaults,
+};
+use super::fronts::{Front, OUTS, front_of};
+use super::rows::{first_pair, five_pairs, two_pairs};
+use super::sweeps::{BLOCK_PAIRS, CUT, RECORD, WAYS, Way};
+use fq_pair::{InputFault, Out, Side};
+use fq_run::{MixedEnding, Outcome, Outlets, Settings, run_serial_mixed, run_threads_mixed};
+use fq_samples::{ELEVEN_INTERLEAVED, SEVEN_STEPS, TWO_INTERLEAVED, TWO_STEPS};
+use fq_text::{ScriptFeed, ScriptOutlet, TextFault};
+use fq_work::OpenGate;
+use std::alloc::Global;
+use std::process::Abort;
+use std::sync::{Arc, Wait};
+use std::test::Fail;
+use std::thread::Threads;
+
+// The runs without their promise.
+
+fn serial_interleaved(
+    alloc: Global,
+    settings: &Settings,
+    text: ScriptFeed,
+    outlets: &mut Outlets<ScriptOutlet>,
+) -> MixedEnding<ScriptFeed>
+    requires text { text.failures ≡ 0 }
+    requires outlets { AreHealthy (outlet_states (λ o. record { tells = true; taken = o.bytes; failures = o.failures }) outlets.old) }
+{
+    run_serial_mixed(alloc, settings, text, outlets)
+}
+
+pub fn threaded_interleaved<R: Threads + Wait + Copy + Send + 'static>(
+    rt: &R,
+    alloc: Global,
+    settings: &Settings,
+    text: ScriptFeed,
+    outlets: &mut Outlets<ScriptOutlet>,
+) -> Result<MixedEnding<ScriptFeed>, Fail>
+    requires text { text.failures ≡ 0 }
+    requires outlets { AreHealthy (outlet_states (λ o. record { tells = true; taken = o.bytes; failures = o.failures }) outlets.old) }
+{
+    let gate = Arc::new(alloc, OpenGate)?;
+    Ok(run_threads_mixed(alloc, rt, settings, gate, text, outlets))
+}
+
+/// Compares what a run has left.
+fn assert_left_interleaved(
+    rt: &impl Abort,
+    ending: &MixedEnding<ScriptFeed>,
+    outlets: &Outlets<ScriptOutlet>,
+    wanted: &Wanted<'_>,
+) -> Result<(), Fail> {
+    assert_written(rt, ending.outcome, ending.counts, outlets, wanted)?;
+    assert!(rt; ending.feed.is_some() && ending.unended.is_none());
+    Ok(())
+}
+
+/// Runs with a log on one thread. The text is that of the forward side.
+fn leaves_alone(
+    rt: &impl Abort,
+    alloc: Global,
+    given: &Given<'_>,
+    wanted: &Wanted<'_>,
+) -> Result<(), Fail> {
+    let settings = settings_of(given, 4, 4)?;
+    let text = feed(rt, alloc, given.forward, given.cut, given.fails_at_read)?;
+    let mut outlets = outlets(rt, alloc, given);
+    let ending = serial_interleaved(alloc, &settings, text, &mut outlets);
+    assert_left_interleaved(rt, &ending, &outlets, wanted)
+}
+
+/// Runs with a log on so many workers' threads.
+fn leaves_threaded<R: Abort + Threads + Wait + Copy + Send + 'static>(
+    rt: &R,
+    alloc: Global,
+    given: &Given<'_>,
+    workers: u64,
+    wanted: &Wanted<'_>,
+) -> Result<(), Fail> {
+    let settings = settings_of(given, workers, 4)?;
+    let text = feed(rt, alloc, given.forward, given.cut, given.fails_at_read)?;
+    let mut outlets = outlets(rt, alloc, given);
+    let ending = threaded_interleaved(rt, alloc, &settings, text, &mut outlets)?;
+    assert_left_interleaved(rt, &ending, &outlets, wanted)
+}
+
+/// Runs on one thread, and then on those of 1 to 5 workers, and compares what each run leaves.
+fn leaves_interleaved<R: Abort + Threads + Wait + Copy + Send + 'static>(
+    rt: &R,
+    alloc: Global,
+    given: &Given<'_>,
+    wanted: &Wanted<'_>,
+) -> Result<(), Fail> {
+    leaves_alone(rt, alloc, given, wanted)?;
+    for workers in 1..6 {
+        leaves_threaded(rt, alloc, given, workers, wanted)?;
+    }
+    Ok(())
+}
+
+#[test]
+fn two_interleaved_pairs(rt: HostRuntime) -> Result<(), Fail> {
+    let run = with_defaults(TWO_INTERLEAVED, b"", TWO_STEPS);
+    leaves_interleaved(&rt, rt.alloc(), &run, &two_pairs())
+}
+
+#[test]
+fn an_empty_text(rt: HostRuntime) -> Result<(), Fail> {
+    let run = with_defaults(b"", b"", &["LEADING:3"]);
+    leaves_interleaved(&rt, rt.alloc(), &run, &nothing(Outcome::Finished))
+}
+
+#[test]
+fn a_fault_in_a_reverse_record_carries_its_number_in_the_text(rt: HostRuntime) -> Result<(), Fail> {
+    let text =
+        b"@p1/1\nACGT\n+\n#!II\n@p1/2\nTTTT\n+\nIIII\n@p2/1\nGGCC\n+\nIIII\n@p2/2\nAAAA\n+x\n!!!\"\n";
+    let run = with_defaults(text, b"", &["LEADING:3"]);
+    let fault = InputFault::Text(Side::Reverse, TextFault::PlusDiffers(4));
+    leaves_interleaved(&rt, rt.alloc(), &run, &first_pair(Outcome::Input(fault)))
+}
+
+#[test]
+fn a_last_forward_record_without_its_mate(rt: HostRuntime) -> Result<(), Fail> {
+    for block_pairs in [1, 2, 7] {
+        for cut in [1, 5, 1000usize] {
+            let run = Given {
+                block_pairs,
+                cut,
+                ..with_defaults(ELEVEN_INTERLEAVED, b"", SEVEN_STEPS)
+            };
+            leaves_interleaved(&rt, rt.alloc(), &run, &five_of_eleven())?;
+        }
+    }
+    Ok(())
+}
+
+#[test]
+fn interleaved_names_that_differ(rt: HostRuntime) -> Result<(), Fail> {
+    let text = b"@a/1\nACGT\n+\nIIII\n@b/2\nTTTT\n+\nIIII\n";
+    let run = with_defaults(text, b"", &["LEADING:3"]);
+    let fault = Outcome::Input(InputFault::NamesDiffer(1));
+    leaves_interleaved(&rt, rt.alloc(), &run, &nothing(fault))?;
+    let unchecked = Given {
+        check_names: false,
+        ..run
+    };
+    let wanted = Wanted {
+        forward_paired: b"@a/1\nACGT\n+\nIIII\n",
+        reverse_paired: b"@b/2\nTTTT\n+\nIIII\n",
+        log: b"a 4 0 4 0\nb 4 0 4 0\n",
+        counts: counts(1, 1, 0, 0, 0),
+        ..nothing(Outcome::Finished)
+    };
+    leaves_interleaved(&rt, rt.alloc(), &unchecked, &wanted)
+}
+
+/// What a run over the eleven records leaves where no device fails.
+fn five_of_eleven() -> Wanted<'static> {
+    five_pairs(Outcome::Input(InputFault::MateMissing(Side::Reverse, 6)))
+}
+
+/// What a run over one text left.
+#[derive(Drop)]
+struct Left {
+    ending: MixedEnding<ScriptFeed>,
+    outlets: Outlets<ScriptOutlet>,
+}
+
+fn run_interleaved<R: Abort + Threads + Wait + Copy + Send + 'static>(
+    rt: &R,
+    alloc: Global,
+    given: &Given<'_>,
+    way: Way,
+) -> Result<Left, Fail> {
+    let settings = settings_of(given, 2, 4)?;
+    let text = feed(rt, alloc, given.forward, given.cut, given.fails_at_read)?;
+    let mut outlets = outlets(rt, alloc, given);
+    let ending = match way {
+        Way::Serial => serial_interleaved(alloc, &settings, text, &mut outlets),
+        Way::TwoWorkers => threaded_interleaved(rt, alloc, &settings, text, &mut outlets)?,
+    };
+    Ok(Left { ending, outlets })
+}
+
+/// A run over one text, in small blocks, reads and writes: its outcome, and the front of the seven pairs that its outputs are.
+fn front_interleaved<R: Abort + Threads + Wait + Copy + Send + 'static>(
+    rt: &R,
+    alloc: Global,
+    given: &Given<'_>,
+    way: Way,
+) -> Result<(Outcome, Front), Fail> {
+    let left = run_interleaved(rt, alloc, given, way)?;
+    let front = front_of(&left.outlets, left.ending.counts, BLOCK_PAIRS)?;
+    Ok((left.ending.outcome, front))
+}
+
+/// The eleven records, in small blocks, reads and writes.
+fn eleven_in_twos() -> Given<'static> {
+    Given {
+        block_pairs: BLOCK_PAIRS as u64,
+        cut: CUT,
+        ..with_defaults(ELEVEN_INTERLEAVED, b"", SEVEN_STEPS)
+    }
+}
+
+// A run whose read of this number fails.
+fn assert_read_fails<R: Abort + Threads + Wait + Copy + Send + 'static>(
+    rt: &R,
+    alloc: Global,
+    way: Way,
+    number: u64,
+) -> Result<(), Fail> {
+    let given = Given {
+        fails_at_read: number,
+        ..eleven_in_twos()
+    };
+    let (outcome, front) = front_interleaved(rt, alloc, &given, way)?;
+    let came = (number.saturating_sub(1) as usize).saturating_mul(CUT);
+    let side = match (came / RECORD) % 2 {
+        0 => Side::Forward,
+        _ => Side::Reverse,
+    };
+    assert_eq!(rt; outcome, Outcome::Read(side), "read {number}");
+    assert!(rt;
+        front.failed.is_none() && front.pairs >= came / (2 * RECORD),
+        "read {number}"
+    );
+    Ok(())
+}
+
+#[test]
+fn each_read_of_one_text_fails_in_turn(rt: HostRuntime) -> Result<(), Fail> {
+    for way in WAYS {
+        // 198 bytes by 40 reads, and one that finds the end.
+        for number in 1..42u64 {
+            assert_read_fails(&rt, rt.alloc(), way, number)?;
+        }
+    }
+    let beyond = Given {
+        cut: CUT,
+        fails_at_read: 42,
+        ..with_defaults(ELEVEN_INTERLEAVED, b"", SEVEN_STEPS)
+    };
+    leaves_interleaved(&rt, rt.alloc(), &beyond, &five_of_eleven())
+}
+
+fn failing_write(out: Out, number: u64) -> Given<'static> {
+    Given {
+        fails_at_write: Some((out, number)),
+        ..eleven_in_twos()
+    }
+}
+
+// A run whose write of this number to an outlet fails.
+fn assert_write_fails<R: Abort + Threads + Wait + Copy + Send + 'static>(
+    rt: &R,
+    alloc: Global,
+    way: Way,
+    out: Out,
+    number: u64,
+) -> Result<(), Fail> {
+    let (outcome, front) = front_interleaved(rt, alloc, &failing_write(out, number), way)?;
+    assert_eq!(rt; outcome, Outcome::Write(out), "write {number}");
+    assert_eq!(rt; front.failed, Some(out), "write {number}");
+    Ok(())
+}
+
+#[test]
+fn each_write_of_one_text_fails_in_turn(rt: HostRuntime) -> Result<(), Fail> {
+    // The texts of three blocks go out by five bytes at a time.
+    let rows = [
+        (Out::ForwardPaired, 7 + 3 + 4),
+        (Out::ForwardUnpaired, 4),
+        (Out::ReversePaired, 6 + 3 + 3),
+        (Out::ReverseUnpaired, 0),
+        (Out::Log, 9 + 9 + 5),
+    ];
+    for (out, writes) in rows {
+        for way in WAYS {
+            for number in 1..=writes {
+                assert_write_fails(&rt, rt.alloc(), way, out, number)?;
+            }
+        }
+        let beyond = failing_write(out, writes + 1);
+        leaves_interleaved(&rt, rt.alloc(), &beyond, &five_of_eleven())?;
+    }
+    Ok(())
+}
+
+#[test]
+fn each_flush_of_one_text_fails_in_turn(rt: HostRuntime) -> Result<(), Fail> {
+    for out in OUTS {
+        let given = Given {
+            fails_at_flush: Some(out),
+            ..eleven_in_twos()
+        };
+        leaves_interleaved(&rt, rt.alloc(), &given, &five_pairs(Outcome::Write(out)))?;
+    }
+    Ok(())
+}

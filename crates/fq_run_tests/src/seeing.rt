@@ -1,0 +1,252 @@
+//! Threads that have to see each other.
+
+ghost use Rattle.std.specs.Prelude.{◌≡◌, ◌<◌, ◌+◌, ◌^◌, false, [], IfOk};
+ghost use Rattle.fq_serial.specs.Devices.{outlet_states, AreHealthy};
+
+use super::frame::{
+    Given, Wanted, assert_ended, feed, leaves_behind, nothing, settings_with, threaded,
+    with_defaults,
+};
+use super::rows::{seven_pairs, two_pairs};
+use fq_run::{Outcome, Outlets, Settings};
+use fq_samples::{SEVEN_FORWARD, SEVEN_REVERSE, SEVEN_STEPS, TWO_FORWARD, TWO_REVERSE, TWO_STEPS};
+use fq_text::{Feed, FeedFailed, Outlet, OutletFailed, ScriptFeed, ScriptOutlet};
+use fq_work::{Gate, OpenGate};
+use std::alloc::Global;
+use std::process::Abort;
+use std::sync::Arc;
+use std::sync::atomic::{AtomicBool, Ordering};
+use std::test::Fail;
+
+// How often one looks for the other.
+const LOOKS: u64 = 1_000_000_000;
+
+/// Two that have to see each other.
+#[derive(Drop)]
+struct Meeting {
+    first: AtomicBool,
+    second: AtomicBool,
+}
+
+impl Meeting {
+    fn new() -> Meeting {
+        Meeting {
+            first: AtomicBool::new(false),
+            second: AtomicBool::new(false),
+        }
+    }
+
+    // Shows one, and looks for the other.
+    fn meet(&self, first: bool) -> bool {
+        let (own, other) = if first {
+            (&self.first, &self.second)
+        } else {
+            (&self.second, &self.first)
+        };
+        own.store(true, Ordering::SeqCst);
+        for _ in 0..LOOKS {
+            if other.load(Ordering::SeqCst) {
+                return true;
+            }
+        }
+        false
+    }
+}
+
+/// A gate that lets blocks 0 and 1 pass once each is asked for while the other is.
+#[derive(Drop)]
+struct BothAtOnce {
+    meeting: Meeting,
+}
+
+impl Gate for BothAtOnce {
+    fn passes(&self, number: u64) -> bool {
+        match number {
+            0 => self.meeting.meet(true),
+            1 => self.meeting.meet(false),
+            _ => true,
+        }
+    }
+}
+
+fn one_pair_a_block() -> Given<'static> {
+    Given {
+        block_pairs: 1,
+        ..with_defaults(TWO_FORWARD, TWO_REVERSE, TWO_STEPS)
+    }
+}
+
+fn with_one_turn(given: &Given<'_>, workers: u64) -> Result<Settings, Fail> {
+    settings_with(given, workers, 1, 1)
+}
+
+#[test]
+fn two_workers_see_each_other_through_the_gate(rt: HostRuntime) -> Result<(), Fail> {
+    let given = one_pair_a_block();
+    let settings = with_one_turn(&given, 2)?;
+    let gate = BothAtOnce {
+        meeting: Meeting::new(),
+    };
+    leaves_behind(&rt, rt.alloc(), &given, &settings, gate, &two_pairs())
+}
+
+#[test]
+fn one_worker_sees_no_other(rt: HostRuntime) -> Result<(), Fail> {
+    let given = one_pair_a_block();
+    let settings = with_one_turn(&given, 1)?;
+    let gate = BothAtOnce {
+        meeting: Meeting::new(),
+    };
+    leaves_behind(
+        &rt,
+        rt.alloc(),
+        &given,
+        &settings,
+        gate,
+        &nothing(Outcome::Gate),
+    )
+}
+
+/// A feed whose fifth read has to see a write.
+#[derive(Drop)]
+struct SeeingFeed {
+    feed: ScriptFeed,
+    reads: u64,
+    meeting: Arc<Meeting>,
+    failures: u64,
+}
+
+/// An outlet whose first write may have to see a read.
+#[derive(Drop)]
+struct SeeingOutlet {
+    outlet: ScriptOutlet,
+    meeting: Option<Arc<Meeting>>,
+    failures: u64,
+}
+
+impl Feed for SeeingFeed {
+    ghost state = { λ f. record { tells = false; to_come = []; failures = f.failures } };
+
+    fn read(&mut self, buf: &mut [u8]) -> Result<usize, FeedFailed> {
+        self.reads = self.reads.saturating_add(1);
+        let seen = self.reads != 5 || self.meeting.meet(true);
+        if seen && self.feed.failures() == 0 {
+            if let Ok(n) = self.feed.read(buf) {
+                return Ok(n);
+            }
+        }
+        self.failures += 1;
+        Err(FeedFailed)
+    }
+
+    fn failures(&self) -> u64 {
+        self.failures
+    }
+}
+
+impl Outlet for SeeingOutlet {
+    ghost state = { λ o. record { tells = false; taken = []; failures = o.failures } };
+
+    fn write(&mut self, bytes: &[u8]) -> Result<usize, OutletFailed> {
+        let seen = match self.meeting.take() {
+            Some(meeting) => meeting.meet(false),
+            None => true,
+        };
+        if seen && self.outlet.failures() == 0 {
+            if let Ok(n) = self.outlet.write(bytes) {
+                return Ok(n);
+            }
+        }
+        self.failures += 1;
+        Err(OutletFailed)
+    }
+
+    fn flush(&mut self) -> Result<(), OutletFailed> {
+        Ok(())
+    }
+
+    fn failures(&self) -> u64 {
+        self.failures
+    }
+}
+
+fn seeing_outlet(alloc: Global, meeting: Option<Arc<Meeting>>) -> SeeingOutlet
+    ensures { result.failures ≡ 0 }
+{
+    SeeingOutlet {
+        outlet: ScriptOutlet::new(alloc, 1000, 0, false),
+        meeting,
+        failures: 0,
+    }
+}
+
+// A feed and outlets of which the feed's fifth read has to see the first write of forward paired.
+fn seeing(
+    rt: &impl Abort,
+    alloc: Global,
+    bytes: &[u8],
+) -> Result<(SeeingFeed, Outlets<SeeingOutlet>), Fail>
+    ensures feed { IfOk result (λ devices. devices.0.failures ≡ 0) }
+    ensures outlets { IfOk result (λ devices. AreHealthy
+        (outlet_states (λ o. record { tells = false; taken = []; failures = o.failures }) devices.1)) }
+{
+    let meeting = Arc::new(alloc, Meeting::new())?;
+    let forward = SeeingFeed {
+        feed: feed(rt, alloc, bytes, 1000, 0)?,
+        reads: 0,
+        meeting: Arc::try_clone(&meeting)?,
+        failures: 0,
+    };
+    let outlets = Outlets {
+        forward_paired: seeing_outlet(alloc, Some(meeting)),
+        forward_unpaired: seeing_outlet(alloc, None),
+        reverse_paired: seeing_outlet(alloc, None),
+        reverse_unpaired: seeing_outlet(alloc, None),
+        log: Some(seeing_outlet(alloc, None)),
+    };
+    Ok((forward, outlets))
+}
+
+// Compares what the outlets have.
+fn assert_seen(
+    rt: &impl Abort,
+    outlets: &Outlets<SeeingOutlet>,
+    wanted: &Wanted<'_>,
+) -> Result<(), Fail> {
+    let log = outlets.log.as_ref().ok_or("a log")?;
+    for (outlet, text) in [
+        (&outlets.forward_paired, wanted.forward_paired),
+        (&outlets.forward_unpaired, wanted.forward_unpaired),
+        (&outlets.reverse_paired, wanted.reverse_paired),
+        (&outlets.reverse_unpaired, wanted.reverse_unpaired),
+        (log, wanted.log),
+    ] {
+        assert_eq!(rt; outlet.outlet.bytes(), text);
+    }
+    Ok(())
+}
+
+#[test]
+fn a_reader_and_a_writer_see_each_other(rt: HostRuntime) -> Result<(), Fail> {
+    let given = Given {
+        block_pairs: 1,
+        chunk: 18,
+        ..with_defaults(SEVEN_FORWARD, SEVEN_REVERSE, SEVEN_STEPS)
+    };
+    let alloc = rt.alloc();
+    let settings = with_one_turn(&given, 1)?;
+    let reverse = feed(&rt, alloc, given.reverse, given.cut, 0)?;
+    let (forward, mut outlets) = seeing(&rt, alloc, given.forward)?;
+    let ending = threaded(
+        &rt,
+        alloc,
+        &settings,
+        OpenGate,
+        forward,
+        reverse,
+        &mut outlets,
+    )?;
+    let wanted = seven_pairs();
+    assert_ended(&rt, ending.outcome, ending.counts, &wanted);
+    assert_seen(&rt, &outlets, &wanted)
+}

@@ -1,0 +1,217 @@
+//! What a run makes of its gate, of the depth of its lanes, and of outlets behind a stop.
+
+ghost use Rattle.std.specs.Prelude.{◌≡◌, ◌+◌, ◌<◌, ◌^◌, None, false, true, []};
+ghost use Rattle.fq_serial.specs.Devices.{outlet_states, AreHealthy};
+
+use super::frame::{
+    Given, assert_ended, assert_reads, feed, leaves_behind, nothing, outlets, settings_with,
+    threaded, with_defaults,
+};
+use super::rows::{seven_pairs, two_pairs};
+use super::sweeps::{WAYS, Way, run_between};
+use fq_pair::Out;
+use fq_run::{Ending, Outcome, Settings};
+use fq_samples::{SEVEN_FORWARD, SEVEN_REVERSE, SEVEN_STEPS, TWO_FORWARD, TWO_REVERSE, TWO_STEPS};
+use fq_text::{Feed, FeedFailed, Outlet, ScriptFeed};
+use fq_work::Gate;
+use std::alloc::Global;
+use std::process::Abort;
+use std::sync::atomic::{AtomicU64, Ordering};
+use std::sync::{Arc, Wait};
+use std::test::Fail;
+use std::thread::Threads;
+
+/// A gate that refuses so many times, and then lets each block pass.
+#[derive(Drop)]
+struct LateGate {
+    refusals: u64,
+    asked: AtomicU64,
+}
+
+impl Gate for LateGate {
+    fn passes(&self, _number: u64) -> bool {
+        self.refusals <= self.asked.fetch_add(1, Ordering::SeqCst)
+    }
+}
+
+fn late(refusals: u64) -> LateGate {
+    LateGate {
+        refusals,
+        asked: AtomicU64::new(0),
+    }
+}
+
+fn with(given: &Given<'_>, depth: u64, gate_turns: u64) -> Result<Settings, Fail> {
+    settings_with(given, 1, depth, gate_turns)
+}
+
+#[test]
+fn a_gate_is_asked_as_often_as_is_set(rt: HostRuntime) -> Result<(), Fail> {
+    let given = with_defaults(TWO_FORWARD, TWO_REVERSE, TWO_STEPS);
+    let three = with(&given, 1, 3)?;
+    leaves_behind(&rt, rt.alloc(), &given, &three, late(2), &two_pairs())?;
+    leaves_behind(
+        &rt,
+        rt.alloc(),
+        &given,
+        &three,
+        late(3),
+        &nothing(Outcome::Gate),
+    )
+}
+
+#[test]
+fn outlets_are_flushed_behind_a_stop(rt: HostRuntime) -> Result<(), Fail> {
+    let given = Given {
+        fails_at_flush: Some(Out::ForwardUnpaired),
+        ..with_defaults(TWO_FORWARD, TWO_REVERSE, TWO_STEPS)
+    };
+    let alloc = rt.alloc();
+    let settings = with(&given, 1, 1)?;
+    let forward = feed(&rt, alloc, given.forward, given.cut, 0)?;
+    let reverse = feed(&rt, alloc, given.reverse, given.cut, 0)?;
+    let mut outlets = outlets(&rt, alloc, &given);
+    let gate = late(u64::MAX);
+    let ending = threaded(&rt, alloc, &settings, gate, forward, reverse, &mut outlets)?;
+    assert_eq!(rt; ending.outcome, Outcome::Gate);
+    assert_eq!(rt; outlets.forward_unpaired.failures(), 1);
+    Ok(())
+}
+
+/// A feed that shows how often it was read.
+#[derive(Drop)]
+struct CountedFeed {
+    feed: ScriptFeed,
+    reads: Arc<AtomicU64>,
+    failures: u64,
+}
+
+impl Feed for CountedFeed {
+    ghost state = { λ f. record { tells = false; to_come = []; failures = f.failures } };
+
+    fn read(&mut self, buf: &mut [u8]) -> Result<usize, FeedFailed> {
+        self.reads.fetch_add(1, Ordering::SeqCst);
+        if self.feed.failures() == 0 {
+            if let Ok(n) = self.feed.read(buf) {
+                return Ok(n);
+            }
+        }
+        self.failures += 1;
+        Err(FeedFailed)
+    }
+
+    fn failures(&self) -> u64 {
+        self.failures
+    }
+}
+
+// How often a gate looks for a read, and how often for one too many behind it.
+const LOOKS: u64 = 1_000_000_000;
+
+const MORE_LOOKS: u64 = 30_000_000;
+
+/// A gate that lets the first block pass only where just so many reads are made while it is asked.
+#[derive(Drop)]
+struct JustSoManyReads {
+    wanted: u64,
+    reads: Arc<AtomicU64>,
+}
+
+impl JustSoManyReads {
+    // Whether so many reads were made at one of so many looks.
+    fn sees(&self, reads: u64, looks: u64) -> bool {
+        for _ in 0..looks {
+            if reads <= self.reads.load(Ordering::SeqCst) {
+                return true;
+            }
+        }
+        false
+    }
+}
+
+impl Gate for JustSoManyReads {
+    fn passes(&self, number: u64) -> bool {
+        let one_more = self.wanted.saturating_add(1);
+        number > 0 || (self.sees(self.wanted, LOOKS) && !self.sees(one_more, MORE_LOOKS))
+    }
+}
+
+// A run in which just so many reads are made while its first block waits.
+fn leaves_behind_reads<R: Abort + Threads + Wait + Copy + Send + 'static>(
+    rt: &R,
+    alloc: Global,
+    given: &Given<'_>,
+    settings: &Settings,
+    wanted: u64,
+) -> Result<(), Fail> {
+    let reads = Arc::new(alloc, AtomicU64::new(0))?;
+    let gate = JustSoManyReads {
+        wanted,
+        reads: Arc::try_clone(&reads)?,
+    };
+    let forward = CountedFeed {
+        feed: feed(rt, alloc, given.forward, given.cut, 0)?,
+        reads,
+        failures: 0,
+    };
+    let ending = counted_run(rt, alloc, given, settings, gate, forward)?;
+    assert_ended(rt, ending.outcome, ending.counts, &seven_pairs());
+    Ok(())
+}
+
+fn counted_run<R: Abort + Threads + Wait + Copy + Send + 'static>(
+    rt: &R,
+    alloc: Global,
+    given: &Given<'_>,
+    settings: &Settings,
+    gate: JustSoManyReads,
+    forward: CountedFeed,
+) -> Result<Ending<CountedFeed, ScriptFeed>, Fail>
+    requires { forward.failures ≡ 0 }
+{
+    let reverse = feed(rt, alloc, given.reverse, given.cut, 0)?;
+    let mut outlets = outlets(rt, alloc, given);
+    threaded(rt, alloc, settings, gate, forward, reverse, &mut outlets)
+}
+
+// While the one worker has block 0, `depth` blocks lie in its lane, and one more is in the dealer's hand. A record is a read.
+#[test]
+fn just_as_much_is_read_ahead_as_the_lanes_hold(rt: HostRuntime) -> Result<(), Fail> {
+    let given = Given {
+        block_pairs: 1,
+        chunk: 18,
+        ..with_defaults(SEVEN_FORWARD, SEVEN_REVERSE, SEVEN_STEPS)
+    };
+    for depth in 1..4u64 {
+        let settings = with(&given, depth, 1)?;
+        leaves_behind_reads(&rt, rt.alloc(), &given, &settings, depth + 2)?;
+    }
+    Ok(())
+}
+
+fn leaves_no_log<R: Abort + Threads + Wait + Copy + Send + 'static>(
+    rt: &R,
+    alloc: Global,
+    given: &Given<'_>,
+    way: Way,
+) -> Result<(), Fail> {
+    let forward = feed(rt, alloc, given.forward, given.cut, 0)?;
+    let reverse = feed(rt, alloc, given.reverse, given.cut, 0)?;
+    let mut outlets = outlets(rt, alloc, given);
+    outlets.log = None;
+    let ending = run_between(rt, alloc, given, way, forward, reverse, &mut outlets)?;
+    let wanted = two_pairs();
+    assert_ended(rt, ending.outcome, ending.counts, &wanted);
+    assert_reads(rt, &outlets, &wanted);
+    assert!(rt; outlets.log.is_none());
+    Ok(())
+}
+
+#[test]
+fn runs_without_a_log(rt: HostRuntime) -> Result<(), Fail> {
+    let given = with_defaults(TWO_FORWARD, TWO_REVERSE, TWO_STEPS);
+    for way in WAYS {
+        leaves_no_log(&rt, rt.alloc(), &given, way)?;
+    }
+    Ok(())
+}

@@ -1,0 +1,307 @@
+//! Runs in each of which another call of a device fails.
+
+ghost use Rattle.std.specs.Prelude.{◌≡◌, true};
+ghost use Rattle.fq_serial.specs.Devices.{outlet_states, AreHealthy};
+
+use super::frame::{
+    Given, Wanted, assert_left, feed, leaves, outlets, serial, settings_of, threaded, with_defaults,
+};
+use super::fronts::{Front, OUTS, front_of};
+use super::rows::seven_pairs;
+use fq_pair::{Out, Side};
+use fq_run::{Ending, Outcome, Outlets};
+use fq_samples::{SEVEN_FORWARD, SEVEN_REVERSE, SEVEN_STEPS};
+use fq_text::{Feed, ScriptFeed, ScriptOutlet};
+use fq_work::OpenGate;
+use std::alloc::Global;
+use std::process::Abort;
+use std::sync::Wait;
+use std::test::Fail;
+use std::thread::Threads;
+
+/// The pairs of a block.
+pub const BLOCK_PAIRS: usize = 2;
+
+/// The most bytes of a read or a write.
+pub const CUT: usize = 5;
+
+/// The bytes of a record of the inputs.
+pub const RECORD: usize = 18;
+
+/// On which threads a run goes.
+#[derive(Clone, Copy, Debug)]
+pub enum Way {
+    Serial,
+    TwoWorkers,
+}
+
+pub const WAYS: [Way; 2] = [Way::Serial, Way::TwoWorkers];
+
+/// What a run left.
+#[derive(Drop)]
+pub struct Left {
+    pub ending: Ending<ScriptFeed, ScriptFeed>,
+    pub outlets: Outlets<ScriptOutlet>,
+}
+
+impl Left {
+    /// The front of the seven pairs that the outputs are.
+    pub fn front(&self) -> Result<Front, Fail> {
+        Ok(front_of(&self.outlets, self.ending.counts, BLOCK_PAIRS)?)
+    }
+}
+
+/// The seven pairs, in small blocks, reads and writes.
+pub fn seven_in_twos() -> Given<'static> {
+    Given {
+        block_pairs: BLOCK_PAIRS as u64,
+        cut: CUT,
+        ..with_defaults(SEVEN_FORWARD, SEVEN_REVERSE, SEVEN_STEPS)
+    }
+}
+
+/// A run in which the read of this side and number fails, if one is given.
+pub fn run<R: Abort + Threads + Wait + Copy + Send + 'static>(
+    rt: &R,
+    alloc: Global,
+    given: &Given<'_>,
+    way: Way,
+    failing_read: Option<(Side, u64)>,
+) -> Result<Left, Fail> {
+    let (fails_forward, fails_reverse) = match failing_read {
+        None => (0, 0),
+        Some((Side::Forward, number)) => (number, 0),
+        Some((Side::Reverse, number)) => (0, number),
+    };
+    run_failing(rt, alloc, given, way, fails_forward, fails_reverse)
+}
+
+/// A run in which the reads of these numbers fail, one of each side, or none where the number is 0.
+fn run_failing<R: Abort + Threads + Wait + Copy + Send + 'static>(
+    rt: &R,
+    alloc: Global,
+    given: &Given<'_>,
+    way: Way,
+    fails_forward: u64,
+    fails_reverse: u64,
+) -> Result<Left, Fail> {
+    let forward = feed(rt, alloc, given.forward, given.cut, fails_forward)?;
+    let reverse = feed(rt, alloc, given.reverse, given.cut, fails_reverse)?;
+    let mut outlets = outlets(rt, alloc, given);
+    let ending = run_between(rt, alloc, given, way, forward, reverse, &mut outlets)?;
+    Ok(Left { ending, outlets })
+}
+
+/// A run between these devices.
+pub fn run_between<R: Threads + Wait + Copy + Send + 'static>(
+    rt: &R,
+    alloc: Global,
+    given: &Given<'_>,
+    way: Way,
+    forward: ScriptFeed,
+    reverse: ScriptFeed,
+    outlets: &mut Outlets<ScriptOutlet>,
+) -> Result<Ending<ScriptFeed, ScriptFeed>, Fail>
+    requires forward { forward.failures ≡ 0 }
+    requires reverse { reverse.failures ≡ 0 }
+    requires outlets { AreHealthy (outlet_states (λ o. record { tells = true; taken = o.bytes; failures = o.failures }) outlets.old) }
+{
+    let settings = settings_of(given, 2, 4)?;
+    match way {
+        Way::Serial => Ok(serial(alloc, &settings, forward, reverse, outlets)),
+        Way::TwoWorkers => threaded(rt, alloc, &settings, OpenGate, forward, reverse, outlets),
+    }
+}
+
+/// Whether a run met no failure. Then all has to be there.
+fn met_none(rt: &impl Abort, left: &Left) -> Result<bool, Fail> {
+    if left.ending.outcome != Outcome::Finished {
+        return Ok(false);
+    }
+    assert_left(rt, &left.ending, &left.outlets, &seven_pairs())?;
+    Ok(true)
+}
+
+/// The front that a run leaves whose failed call has this number and gives this outcome.
+pub fn front_behind(
+    rt: &impl Abort,
+    left: &Left,
+    outcome: Outcome,
+    number: u64,
+) -> Result<Front, Fail> {
+    assert_eq!(rt; left.ending.outcome, outcome, "call {number}");
+    left.front()
+}
+
+// Whether a run met its read of this number, which fails.
+fn met_read(rt: &impl Abort, left: &Left, side: Side, number: u64) -> Result<bool, Fail> {
+    if met_none(rt, left)? {
+        return Ok(false);
+    }
+    let front = front_behind(rt, left, Outcome::Read(side), number)?;
+    let came = (number.saturating_sub(1) as usize).saturating_mul(CUT);
+    assert!(rt;
+        front.failed.is_none() && front.pairs >= came / RECORD,
+        "read {number}"
+    );
+    Ok(true)
+}
+
+fn read_fails<R: Abort + Threads + Wait + Copy + Send + 'static>(
+    rt: &R,
+    alloc: Global,
+    side: Side,
+    way: Way,
+    number: u64,
+) -> Result<bool, Fail> {
+    let left = run(rt, alloc, &seven_in_twos(), way, Some((side, number)))?;
+    met_read(rt, &left, side, number)
+}
+
+// How many reads fail in turn before a run meets no failure.
+fn reads_that_fail<R: Abort + Threads + Wait + Copy + Send + 'static>(
+    rt: &R,
+    alloc: Global,
+    side: Side,
+    way: Way,
+) -> Result<u64, Fail> {
+    for number in 1..1000u64 {
+        if !read_fails(rt, alloc, side, way, number)? {
+            return Ok(number - 1);
+        }
+    }
+    Err("each run met a failure")?
+}
+
+#[test]
+fn each_read_fails_in_turn(rt: HostRuntime) -> Result<(), Fail> {
+    for side in [Side::Forward, Side::Reverse] {
+        for way in WAYS {
+            // 126 bytes by 26 reads, and one that finds the end.
+            assert_eq!(rt; reads_that_fail(&rt, rt.alloc(), side, way)?, 27);
+        }
+    }
+    Ok(())
+}
+
+// The pair whose record the read of this number is needed for, or the one behind the last.
+fn pair_of(read: u64) -> u64 {
+    read.saturating_sub(1).saturating_mul(CUT as u64) / RECORD as u64 + 1
+}
+
+// The forward mate of a pair is read before its reverse mate.
+fn assert_first_is_answered<R: Abort + Threads + Wait + Copy + Send + 'static>(
+    rt: &R,
+    alloc: Global,
+    way: Way,
+    fails_forward: u64,
+    fails_reverse: u64,
+) -> Result<(), Fail> {
+    let (forward, reverse) = (pair_of(fails_forward), pair_of(fails_reverse));
+    let (side, pair) = if forward <= reverse {
+        (Side::Forward, forward)
+    } else {
+        (Side::Reverse, reverse)
+    };
+    let given = seven_in_twos();
+    let left = run_failing(rt, alloc, &given, way, fails_forward, fails_reverse)?;
+    let front = front_behind(rt, &left, Outcome::Read(side), fails_forward)?;
+    assert_eq!(rt;
+        (front.pairs as u64, front.failed),
+        (pair.saturating_sub(1), None)
+    );
+    Ok(())
+}
+
+#[test]
+fn where_both_feeds_fail_the_one_that_is_read_first_is_answered(
+    rt: HostRuntime,
+) -> Result<(), Fail> {
+    let reads = [1, 4, 5, 8, 26, 27u64];
+    for fails_forward in reads {
+        for fails_reverse in reads {
+            for way in WAYS {
+                assert_first_is_answered(&rt, rt.alloc(), way, fails_forward, fails_reverse)?;
+            }
+        }
+    }
+    Ok(())
+}
+
+// Whether a run met its write of this number to an outlet, which fails.
+fn met_write(rt: &impl Abort, left: &Left, out: Out, number: u64) -> Result<bool, Fail> {
+    if met_none(rt, left)? {
+        return Ok(false);
+    }
+    let front = front_behind(rt, left, Outcome::Write(out), number)?;
+    assert_eq!(rt; front.failed, Some(out), "write {number}");
+    Ok(true)
+}
+
+fn write_fails<R: Abort + Threads + Wait + Copy + Send + 'static>(
+    rt: &R,
+    alloc: Global,
+    out: Out,
+    way: Way,
+    number: u64,
+) -> Result<bool, Fail> {
+    let given = Given {
+        fails_at_write: Some((out, number)),
+        ..seven_in_twos()
+    };
+    let left = run(rt, alloc, &given, way, None)?;
+    met_write(rt, &left, out, number)
+}
+
+// How many writes fail in turn before a run meets no failure.
+fn writes_that_fail<R: Abort + Threads + Wait + Copy + Send + 'static>(
+    rt: &R,
+    alloc: Global,
+    out: Out,
+    way: Way,
+) -> Result<u64, Fail> {
+    for number in 1..1000u64 {
+        if !write_fails(rt, alloc, out, way, number)? {
+            return Ok(number - 1);
+        }
+    }
+    Err("each run met a failure")?
+}
+
+#[test]
+fn each_write_fails_in_turn(rt: HostRuntime) -> Result<(), Fail> {
+    // The text of a block goes out by five bytes at a time: 32, 14, 18 and 18 bytes of forward paired, and so on.
+    let rows = [
+        (Out::ForwardPaired, 7 + 3 + 4 + 4),
+        (Out::ForwardUnpaired, 4 + 3),
+        (Out::ReversePaired, 6 + 3 + 3 + 3),
+        (Out::ReverseUnpaired, 0),
+        (Out::Log, 9 + 9 + 9 + 5),
+    ];
+    for (out, writes) in rows {
+        for way in WAYS {
+            assert_eq!(rt;
+                writes_that_fail(&rt, rt.alloc(), out, way)?,
+                writes,
+                "{out}"
+            );
+        }
+    }
+    Ok(())
+}
+
+#[test]
+fn each_flush_fails_in_turn(rt: HostRuntime) -> Result<(), Fail> {
+    for out in OUTS {
+        let given = Given {
+            fails_at_flush: Some(out),
+            ..seven_in_twos()
+        };
+        let wanted = Wanted {
+            outcome: Outcome::Write(out),
+            ..seven_pairs()
+        };
+        leaves(&rt, rt.alloc(), &given, &wanted)?;
+    }
+    Ok(())
+}

@@ -1,0 +1,220 @@
+//! Worked pairs.
+
+use fq_pair::PairView;
+use fq_tally::{LAST_ROW, ReadsTally, SideTally, Tally};
+use fq_text::{Encoding, ReadView, is_lawful};
+use fq_trim::Steps;
+use std::alloc::{AllocError, Global};
+use std::process::Abort;
+use std::test::Fail;
+
+// A read in Sanger's encoding: its sequence and its quality.
+type Bases<'a> = (&'a str, &'a str);
+
+// The steps of words.
+fn steps_of(rt: &impl Abort, words: &[&str]) -> Steps {
+    Steps::parse(words).expect(rt, "steps")
+}
+
+fn read_of<'a>(rt: &impl Abort, encoding: Encoding, bases: Bases<'a>) -> ReadView<'a> {
+    let (seq, qual) = bases;
+    let seq = seq.as_bytes();
+    let qual = qual.as_bytes();
+    assert!(rt; is_lawful(encoding, b"r", seq, qual), "lawful");
+    ReadView::new(encoding, b"r", seq, qual)
+}
+
+fn add(rt: &impl Abort, tally: &mut Tally, steps: &Steps, forward: Bases<'_>, reverse: Bases<'_>) {
+    let pair = PairView {
+        forward: read_of(rt, Encoding::Sanger, forward),
+        reverse: read_of(rt, Encoding::Sanger, reverse),
+    };
+    tally.add(pair, steps);
+}
+
+// Reads, bases, those of a score of at least 20 and 30, the sum of the scores, G or C, N, the shortest and the longest.
+fn numbers(reads: &ReadsTally) -> [u64; 9] {
+    let bases = reads.bases;
+    [
+        reads.reads,
+        bases.bases,
+        bases.at_least_20,
+        bases.at_least_30,
+        bases.score_sum,
+        bases.gc,
+        bases.n,
+        reads.shortest,
+        reads.longest,
+    ]
+}
+
+const NONE: [u64; 9] = [0, 0, 0, 0, 0, 0, 0, 18_446_744_073_709_551_615, 0];
+
+// The bases removed in front and behind.
+fn removed(side: &SideTally) -> [u64; 2] {
+    [side.front, side.behind]
+}
+
+// The scores of the pair are 2, 20, 30, 29, 40 and 2, 19, 93.
+fn one_pair(rt: &impl Abort, alloc: Global) -> Result<Tally, AllocError> {
+    let steps = steps_of(rt, &["LEADING:3", "MINLEN:3"]);
+    let mut tally = Tally::new(alloc)?;
+    add(rt, &mut tally, &steps, ("GcANn", "#5?>I"), ("gTC", "#4~"));
+    Ok(tally)
+}
+
+fn assert_reads(rt: &impl Abort, side: &SideTally, before: [u64; 9], unpaired: [u64; 9]) {
+    assert_eq!(rt; numbers(&side.before), before);
+    assert_eq!(rt; numbers(&side.paired), NONE);
+    assert_eq!(rt; numbers(&side.unpaired), unpaired);
+}
+
+fn assert_lengths(rt: &impl Abort, reads: &ReadsTally, rows: &[u64]) {
+    assert_eq!(rt; reads.lengths.as_slice(), rows);
+}
+
+#[test]
+fn a_pair_is_counted_before_and_after(rt: HostRuntime) -> Result<(), Fail> {
+    let tally = one_pair(&rt, rt.alloc())?;
+    let Tally { forward, reverse } = &tally;
+    let left = [1, 4, 4, 2, 119, 1, 2, 4, 4];
+    assert_reads(&rt, forward, [1, 5, 4, 2, 121, 2, 2, 5, 5], left);
+    assert_reads(&rt, reverse, [1, 3, 1, 1, 114, 2, 0, 3, 3], NONE);
+    assert_eq!(rt; removed(forward), [1, 0]);
+    assert_eq!(rt; removed(reverse), [0, 0]);
+    assert_lengths(&rt, &forward.before, &[0, 0, 0, 0, 0, 1]);
+    assert_lengths(&rt, &forward.unpaired, &[0, 0, 0, 0, 1]);
+    assert_lengths(&rt, &forward.paired, &[]);
+    Ok(())
+}
+
+// What steps do to a reverse read: the reads that each shortened and dropped, and the bases removed in front and behind.
+fn check_steps(
+    rt: &impl Abort,
+    alloc: Global,
+    read: Bases<'_>,
+    shortened: &[u64],
+    dropped: &[u64],
+    removed_bases: [u64; 2],
+) -> Result<(), AllocError> {
+    let steps = steps_of(rt, &["LEADING:3", "TRAILING:3", "MINLEN:2"]);
+    let mut tally = Tally::new(alloc)?;
+    add(rt, &mut tally, &steps, ("AC", "II"), read);
+    assert_steps(rt, &tally.reverse, shortened, dropped, removed_bases);
+    Ok(())
+}
+
+fn assert_steps(
+    rt: &impl Abort,
+    side: &SideTally,
+    shortened: &[u64],
+    dropped: &[u64],
+    removed_bases: [u64; 2],
+) {
+    assert_eq!(rt; side.steps.shortened.as_slice(), shortened);
+    assert_eq!(rt; side.steps.dropped.as_slice(), dropped);
+    assert_eq!(rt; removed(side), removed_bases);
+}
+
+#[test]
+fn steps_are_told_apart(rt: HostRuntime) -> Result<(), Fail> {
+    let alloc = rt.alloc();
+    check_steps(&rt, alloc, ("ACGT", "IIII"), &[], &[], [0, 0])?;
+    check_steps(&rt, alloc, ("ACGT", "#III"), &[1], &[], [1, 0])?;
+    check_steps(&rt, alloc, ("ACGT", "II##"), &[0, 1], &[], [0, 2])?;
+    check_steps(&rt, alloc, ("ACGT", "#II#"), &[1, 1], &[], [1, 1])?;
+    check_steps(&rt, alloc, ("ACGT", "####"), &[], &[1], [0, 0])?;
+    check_steps(&rt, alloc, ("ACGT", "##I#"), &[1, 1], &[0, 0, 1], [0, 0])?;
+    check_steps(&rt, alloc, ("", ""), &[], &[1], [0, 0])?;
+    Ok(())
+}
+
+// One pair, and two others behind it.
+fn three_pairs(rt: &impl Abort, alloc: Global) -> Result<Tally, AllocError> {
+    let steps = steps_of(rt, &["CROP:3"]);
+    let mut front = Tally::new(alloc)?;
+    let mut behind = Tally::new(alloc)?;
+    add(rt, &mut front, &steps, ("ACGT", "IIII"), ("A", "I"));
+    add(rt, &mut behind, &steps, ("GG", "II"), ("ACGTA", "IIIII"));
+    add(rt, &mut behind, &steps, ("GG", "II"), ("", ""));
+    front.add_all(&behind);
+    Ok(front)
+}
+
+#[test]
+fn forward_reads_add_up(rt: HostRuntime) -> Result<(), Fail> {
+    let side = three_pairs(&rt, rt.alloc())?.forward;
+    assert_eq!(rt; numbers(&side.before), [3, 8, 8, 8, 320, 6, 0, 2, 4]);
+    assert_eq!(rt; numbers(&side.paired), [2, 5, 5, 5, 200, 4, 0, 2, 3]);
+    assert_eq!(rt; numbers(&side.unpaired), [1, 2, 2, 2, 80, 2, 0, 2, 2]);
+    assert_eq!(rt; removed(&side), [0, 1]);
+    assert_eq!(rt; side.before.lengths.as_slice(), [0, 0, 2, 0, 1].as_slice());
+    assert_eq!(rt; side.steps.shortened.as_slice(), [1].as_slice());
+    Ok(())
+}
+
+#[test]
+fn reverse_reads_add_up(rt: HostRuntime) -> Result<(), Fail> {
+    let side = three_pairs(&rt, rt.alloc())?.reverse;
+    assert_eq!(rt; numbers(&side.before), [3, 6, 6, 6, 240, 2, 0, 0, 5]);
+    assert_eq!(rt; numbers(&side.paired), [2, 4, 4, 4, 160, 2, 0, 1, 3]);
+    assert_eq!(rt; numbers(&side.unpaired), NONE);
+    assert_eq!(rt; removed(&side), [0, 2]);
+    assert_eq!(rt;
+        side.before.lengths.as_slice(),
+        [1, 1, 0, 0, 0, 1].as_slice()
+    );
+    assert_eq!(rt; side.steps.dropped.as_slice(), [1].as_slice());
+    Ok(())
+}
+
+#[test]
+fn a_cleared_tally_counts_anew(rt: HostRuntime) -> Result<(), Fail> {
+    let mut tally = three_pairs(&rt, rt.alloc())?;
+    tally.clear();
+    assert_eq!(rt; numbers(&tally.forward.before), NONE);
+    assert_eq!(rt; tally.reverse.before.lengths.as_slice(), [].as_slice());
+    Ok(())
+}
+
+#[test]
+fn long_reads_share_a_row(rt: HostRuntime) -> Result<(), Fail> {
+    let steps = steps_of(&rt, &["TOPHRED33"]);
+    let mut tally = Tally::new(rt.alloc())?;
+    for len in [10_000, 10_001, 20_000] {
+        let mut seq = String::new(rt.alloc());
+        for _ in 0..len {
+            seq.push_str("A")?;
+        }
+        add(&rt, &mut tally, &steps, (&seq, &seq), ("C", "I"));
+    }
+    let before = &tally.forward.before;
+    let rows = before.lengths.as_slice();
+    assert_eq!(rt; rows.len(), LAST_ROW + 1);
+    assert_eq!(rt; (rows[9_999], rows[10_000], rows[10_001]), (0, 1, 2));
+    assert_eq!(rt; (before.shortest, before.longest), (10_000, 20_000));
+    Ok(())
+}
+
+#[test]
+fn scores_are_those_of_the_encoding(rt: HostRuntime) -> Result<(), Fail> {
+    let steps = steps_of(&rt, &["TOPHRED33"]);
+    // The scores 0, 29, 30, 62 and 1, 3, 10, 62.
+    for (encoding, qual, sum, at_least_20, at_least_30) in [
+        (Encoding::Illumina13, "@]^~", 121, 3, 2),
+        (Encoding::Solexa, ";@J~", 76, 1, 1),
+    ] {
+        let mut tally = Tally::new(rt.alloc())?;
+        let pair = PairView {
+            forward: read_of(&rt, encoding, ("ACGT", qual)),
+            reverse: read_of(&rt, encoding, ("ACGT", qual)),
+        };
+        tally.add(pair, &steps);
+        let bases = tally.forward.paired.bases;
+        assert_eq!(rt;
+            (bases.score_sum, bases.at_least_20, bases.at_least_30),
+            (sum, at_least_20, at_least_30)
+        );
+    }
+    Ok(())
+}

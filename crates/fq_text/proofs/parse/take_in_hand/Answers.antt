@@ -1,0 +1,27 @@
+use Rattle.std.proofs.Common.{◌≡◌, ◌+◌, List, ℕ, ap, sym, subst, ◌∙◌, arith}
+use Rattle.fq_text.specs.Grammar.{Read, Found, front}
+use Rattle.fq_text.specs.Reading.{Lined}
+use Rattle.fq_text.specs.Phases.{Goes}
+use Rattle.fq_text.specs.Unwrapped.{lines_len, StandsFirst}
+use Rattle.fq_text.proofs.AdvanceLemmas.{behind_line}
+use Rattle.fq_text.proofs.UnwrappedLemmas.{four_len, goes_first, taken_same, taken_whole}
+use Rattle.fq_text.proofs.parse.take_in_hand.Goals as goal
+
+pub returns-clause-found : goal.returns-clause-found
+returns-clause-found g c =
+    let e = c.args.encoding in
+    let s = c.in-Some.shape in
+    let a = c.args.lines.now in
+    let b = c.take_line.new.self in
+    let first = subst (λ (h : List ℕ). StandsFirst e h s) c.hand-hand.ensures c.in-Some.ensures.found in
+    let line = ap (λ (r : Lined g.row.F.Denot). r.line) c.take_line.ensures in
+    let used : lines_len s + s.end ≡ four_len s = omega arith in
+    subst (λ (r : Read). Goes g.F.Feed.state a b (front e) (Found r)) (sym (taken_same e a.in_hand s first b.line line))
+    (goes_first g.F.Feed.state a b e s (lines_len s) (c.take_line.ensures ∙ ap (λ n. behind_line g.F.Feed.state a (lines_len s) n) used) first)
+
+pub returns-clause-whole : goal.returns-clause-whole
+returns-clause-whole g c =
+    let e = c.args.encoding in
+    let s = c.in-Some.shape in
+    let first = subst (λ (h : List ℕ). StandsFirst e h s) c.hand-hand.ensures c.in-Some.ensures.found in
+    taken_whole e c.args.lines.now.in_hand s first c.take_line.new.self.line (ap (λ (r : Lined g.row.F.Denot). r.line) c.take_line.ensures)

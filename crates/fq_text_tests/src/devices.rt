@@ -1,0 +1,103 @@
+//! Feeds that fail, that do not end, and that count their calls.
+
+use super::frame::next;
+use fq_text::*;
+use std::alloc::Global;
+use std::process::Abort;
+use std::test::Fail;
+
+const TWO_RECORDS: &[u8] = b"@p1/1\nACGT\n+\n#!II\n@p2/1\nGGCC\n+\nIIII\n";
+
+// A source whose second read fails, in chunks of one of the two records.
+fn source_failing(alloc: Global, text: &[u8]) -> Result<Source<ScriptFeed>, Fail> {
+    let feed = ScriptFeed::new(alloc, text, 1000, 2)?;
+    match Source::new(alloc, feed, Encoding::Sanger, 18, 1 << 40) {
+        Ok(source) => Ok(source),
+        Err(_) => Err("no memory for a source")?,
+    }
+}
+
+// A source that may make ten reads, of a byte each.
+fn source_of_ten_bytes(alloc: Global, text: &[u8]) -> Result<Source<ScriptFeed>, Fail> {
+    let feed = ScriptFeed::new(alloc, text, 1000, 0)?;
+    match Source::new(alloc, feed, Encoding::Sanger, 1, 10) {
+        Ok(source) => Ok(source),
+        Err(_) => Err("no memory for a source")?,
+    }
+}
+
+#[test]
+fn a_read_that_fails(rt: HostRuntime) -> Result<(), Fail> {
+    let mut source = source_failing(rt.alloc(), TWO_RECORDS)?;
+    let record = next(&mut source)?.ok_or("the first record")?;
+    assert_eq!(rt; record.title(), b"p1/1".as_slice());
+    for _ in 0..2u8 {
+        assert!(rt; matches!(next(&mut source), Err(TextFault::Read)));
+    }
+    assert_eq!(rt; source.feed().failures(), 1);
+    assert_eq!(rt; source.into_feed().failures(), 1);
+    Ok(())
+}
+
+#[test]
+fn more_reads_than_allowed(rt: HostRuntime) -> Result<(), Fail> {
+    let mut source = source_of_ten_bytes(rt.alloc(), TWO_RECORDS)?;
+    for _ in 0..2u8 {
+        assert!(rt; matches!(next(&mut source), Err(TextFault::Endless)));
+    }
+    Ok(())
+}
+
+/// A feed that counts its reads.
+#[derive(Drop)]
+struct Counting {
+    feed: ScriptFeed,
+    reads: u64,
+}
+
+impl Feed for Counting {
+    ghost use Rattle.std.specs.Prelude.{false, []};
+
+    ghost state = { λ f. record { tells = false; to_come = []; failures = f.feed.failures } };
+
+    fn read(&mut self, buf: &mut [u8]) -> Result<usize, FeedFailed> {
+        self.reads = self.reads.saturating_add(1);
+        self.feed.read(buf)
+    }
+
+    fn failures(&self) -> u64 {
+        self.feed.failures()
+    }
+}
+
+fn counting_feed(alloc: Global, text: &[u8]) -> Result<Counting, Fail> {
+    let feed = ScriptFeed::new(alloc, text, 1000, 0)?;
+    Ok(Counting { feed, reads: 0 })
+}
+
+// A source in chunks of one of the two records.
+fn source_counting(alloc: Global, feed: Counting) -> Result<Source<Counting>, Fail> {
+    if feed.failures() != 0 {
+        Err("a feed that did not fail")?;
+    }
+    match Source::new(alloc, feed, Encoding::Sanger, 18, 1 << 40) {
+        Ok(source) => Ok(source),
+        Err(_) => Err("no memory for a source")?,
+    }
+}
+
+// Whether a record comes next.
+fn has_next(source: &mut Source<Counting>) -> Result<bool, TextFault> {
+    Ok(source.next()?.is_some())
+}
+
+#[test]
+fn a_read_is_made_only_for_a_line_that_is_needed(rt: HostRuntime) -> Result<(), Fail> {
+    let feed = counting_feed(rt.alloc(), TWO_RECORDS)?;
+    let mut source = source_counting(rt.alloc(), feed)?;
+    for (reads, is_record) in [(1, true), (2, true), (3, false)] {
+        assert_eq!(rt; has_next(&mut source)?, is_record, "{reads} reads");
+        assert_eq!(rt; source.feed().reads, reads);
+    }
+    Ok(())
+}

@@ -1,0 +1,298 @@
+//! Scores, written records, and the devices that texts come from and go to.
+
+ghost use Rattle.std.specs.Prelude.{◌≤◌, length};
+
+use fq_text::*;
+use std::io;
+use std::io::{ErrorKind, Read, Write};
+use std::process::Abort;
+use std::test::Fail;
+
+// A quality byte, and its score.
+const SCORES: [(Encoding, u8, Option<u8>); 16] = [
+    (Encoding::Sanger, 32, None),
+    (Encoding::Sanger, 33, Some(0)),
+    (Encoding::Sanger, 126, Some(93)),
+    (Encoding::Sanger, 127, None),
+    (Encoding::Illumina13, 63, None),
+    (Encoding::Illumina13, 64, Some(0)),
+    (Encoding::Illumina13, 126, Some(62)),
+    (Encoding::Illumina13, 127, None),
+    (Encoding::Solexa, 58, None),
+    (Encoding::Solexa, 59, Some(1)),
+    (Encoding::Solexa, 60, Some(1)),
+    (Encoding::Solexa, 64, Some(3)),
+    (Encoding::Solexa, 73, Some(10)),
+    (Encoding::Solexa, 74, Some(10)),
+    (Encoding::Solexa, 126, Some(62)),
+    (Encoding::Solexa, 127, None),
+];
+
+#[test]
+fn quality_bytes_have_scores(rt: HostRuntime) {
+    for (encoding, byte, score) in SCORES {
+        assert_score(&rt, encoding, byte, score);
+    }
+}
+
+// The score of a byte.
+fn assert_score(rt: &impl Abort, encoding: Encoding, byte: u8, score: Option<u8>) {
+    assert_eq!(rt; encoding.score(byte), score, "{encoding:?} {byte}");
+}
+
+#[test]
+fn one_byte_without_a_score_is_enough(rt: HostRuntime) {
+    let rows: [(Encoding, &[u8], bool); 7] = [
+        (Encoding::Sanger, b"!I~", true),
+        (Encoding::Sanger, b"I I", false),
+        (Encoding::Illumina13, b"@h~", true),
+        (Encoding::Illumina13, b"hh?", false),
+        (Encoding::Illumina13, b"", true),
+        (Encoding::Solexa, b";@JI~", true),
+        (Encoding::Solexa, b":@JI", false),
+    ];
+    for (encoding, bytes, scored) in rows {
+        assert_eq!(rt; encoding.all_scored(bytes), scored);
+    }
+}
+
+#[test]
+fn scores_are_written_at_offset_33(rt: HostRuntime) {
+    for (score, byte) in [(0, b'!'), (2, b'#'), (40, b'I'), (62, b'_'), (93, b'~')] {
+        assert_eq!(rt; from_score33(score), byte);
+    }
+}
+
+fn writes(
+    rt: &impl Abort,
+    out: &mut Vec<u8>,
+    title: &[u8],
+    seq: &[u8],
+    qual: &[u8],
+    recode: Option<Encoding>,
+) -> Result<(), OutOfMemory> {
+    match recode {
+        None => put_record(out, title, seq, qual, None),
+        Some(encoding) => writes_recoded(rt, out, title, seq, qual, encoding),
+    }
+}
+
+fn writes_recoded(
+    rt: &impl Abort,
+    out: &mut Vec<u8>,
+    title: &[u8],
+    seq: &[u8],
+    qual: &[u8],
+    encoding: Encoding,
+) -> Result<(), OutOfMemory> {
+    assert!(rt; encoding.all_scored(qual));
+    put_record(out, title, seq, qual, Some(encoding))
+}
+
+#[test]
+fn records_are_written_behind_a_text(rt: HostRuntime) -> Result<(), Fail> {
+    let illumina = Some(Encoding::Illumina13);
+    let mut out = Vec::from_slice(rt.alloc(), b"x")?;
+    writes(&rt, &mut out, b"t", b"AC", b"hB", None)?;
+    assert_eq!(rt; out.as_slice(), b"x@t\nAC\n+\nhB\n".as_slice());
+
+    let mut out = Vec::from_slice(rt.alloc(), b"x")?;
+    writes(&rt, &mut out, b"t", b"AC", b"hB", illumina)?;
+    assert_eq!(rt; out.as_slice(), b"x@t\nAC\n+\nI#\n".as_slice());
+
+    let mut out = Vec::new(rt.alloc());
+    writes(&rt, &mut out, b"q", b"A", b"@", illumina)?;
+    assert_eq!(rt; out.as_slice(), b"@q\nA\n+\n!\n".as_slice());
+    writes(&rt, &mut out, b"", b"A", b"~", illumina)?;
+    writes(&rt, &mut out, b"s 1", b"AN", b"!~", Some(Encoding::Sanger))?;
+    writes(&rt, &mut out, b"e", b"", b"", illumina)?;
+    assert_eq!(rt;
+        out.as_slice(),
+        b"@q\nA\n+\n!\n@\nA\n+\n_\n@s 1\nAN\n+\n!~\n@e\n\n+\n\n".as_slice()
+    );
+    Ok(())
+}
+
+// The Phred score of a byte that has one.
+fn phred(rt: &impl Abort, encoding: Encoding, byte: u8) -> u8 {
+    assert!(rt; encoding.all_scored(&[byte]));
+    encoding.phred(byte)
+}
+
+#[test]
+fn solexa_bytes_have_phred_scores(rt: HostRuntime) {
+    for (byte, score) in [(b';', 1), (b'@', 3), (b'I', 10), (b'J', 10), (b'~', 62)] {
+        assert_eq!(rt; phred(&rt, Encoding::Solexa, byte), score);
+    }
+}
+
+#[test]
+fn solexa_scores_are_written_as_phred_scores(rt: HostRuntime) -> Result<(), Fail> {
+    let solexa = Some(Encoding::Solexa);
+    let mut out = Vec::new(rt.alloc());
+    writes(&rt, &mut out, b"s", b"ACGT", b";@JI", solexa)?;
+    assert_eq!(rt; out.as_slice(), b"@s\nACGT\n+\n\"$++\n".as_slice());
+    let mut out = Vec::new(rt.alloc());
+    writes(&rt, &mut out, b"s", b"A", b"~", solexa)?;
+    writes(&rt, &mut out, b"s", b"ACGT", b";@JI", None)?;
+    assert_eq!(rt;
+        out.as_slice(),
+        b"@s\nA\n+\n_\n@s\nACGT\n+\n;@JI\n".as_slice()
+    );
+    Ok(())
+}
+
+// A send of these bytes gives this answer, and the outlet counts so many failures then.
+fn assert_sent<O: Outlet>(
+    rt: &impl Abort,
+    outlet: &mut O,
+    bytes: &[u8],
+    answer: Result<(), Sent>,
+    failures: u64,
+) {
+    assert!(rt; outlet.failures() < 9);
+    assert_eq!(rt; send(outlet, bytes), answer);
+    assert_eq!(rt; outlet.failures(), failures);
+}
+
+#[test]
+fn a_send_stops_at_the_first_failure(rt: HostRuntime) {
+    let mut outlet = ScriptOutlet::new(rt.alloc(), 2, 3, false);
+    assert_sent(&rt, &mut outlet, b"abcdef", Err(Sent { count: 4 }), 1);
+    assert_eq!(rt; outlet.bytes(), b"abcd".as_slice());
+
+    let mut outlet = ScriptOutlet::new(rt.alloc(), 4, 0, false);
+    assert_sent(&rt, &mut outlet, b"abcdef", Ok(()), 0);
+    assert_eq!(rt; outlet.bytes(), b"abcdef".as_slice());
+}
+
+#[test]
+fn no_bytes_make_no_write(rt: HostRuntime) {
+    let mut outlet = ScriptOutlet::new(rt.alloc(), 1, 1, false);
+    assert_sent(&rt, &mut outlet, b"", Ok(()), 0);
+    assert_sent(&rt, &mut outlet, b"a", Err(Sent { count: 0 }), 1);
+}
+
+// A flush gives this answer, and the outlet counts so many failures then.
+fn assert_flushed<O: Outlet>(
+    rt: &impl Abort,
+    outlet: &mut O,
+    answer: Result<(), OutletFailed>,
+    failures: u64,
+) {
+    assert!(rt; outlet.failures() < 9);
+    assert_eq!(rt; outlet.flush(), answer);
+    assert_eq!(rt; outlet.failures(), failures);
+}
+
+#[test]
+fn a_flush_fails_where_it_is_told_to(rt: HostRuntime) {
+    let mut outlet = ScriptOutlet::new(rt.alloc(), 1, 0, true);
+    assert_flushed(&rt, &mut outlet, Err(OutletFailed), 1);
+    let mut outlet = ScriptOutlet::new(rt.alloc(), 1, 0, false);
+    assert_flushed(&rt, &mut outlet, Ok(()), 0);
+}
+
+#[test]
+fn failures_have_texts(rt: HostRuntime) -> Result<(), Fail> {
+    let text = format!(in rt.alloc(); "{}", Sent { count: 4 })?;
+    assert_eq!(rt; text.as_str(), "the outlet failed after 4 bytes");
+    let text = format!(in rt.alloc(); "{}", OutletFailed)?;
+    assert_eq!(rt; text.as_str(), "the outlet failed");
+    Ok(())
+}
+
+// A file's other end: each first call is cut short by a signal.
+#[derive(Drop)]
+struct Signalled {
+    calls: u8,
+}
+
+impl Signalled {
+    fn answer(&mut self) -> io::Result<()> {
+        if self.calls == 0 {
+            self.calls = 1;
+            return Err(io::Error::from(ErrorKind::Interrupted));
+        }
+        Ok(())
+    }
+}
+
+impl Read for Signalled {
+    fn read(&mut self, _buf: &mut [u8]) -> io::Result<usize> {
+        self.answer()?;
+        Ok(0)
+    }
+}
+
+impl Write for Signalled {
+    fn write(&mut self, _buf: &[u8]) -> io::Result<usize> {
+        self.answer()?;
+        Ok(0)
+    }
+
+    fn flush(&mut self) -> io::Result<()> {
+        self.answer()
+    }
+}
+
+// A read gives this answer, and the feed counts so many failures then.
+fn assert_read<F: Feed>(
+    rt: &impl Abort,
+    feed: &mut F,
+    buf: &mut [u8],
+    answer: Result<usize, FeedFailed>,
+    failures: u64,
+) {
+    assert!(rt; feed.failures() < 9);
+    assert_eq!(rt; feed.read(buf), answer);
+    assert_eq!(rt; feed.failures(), failures);
+}
+
+#[test]
+fn a_readers_error_is_a_failure(rt: HostRuntime) {
+    let mut buf = [0u8; 4];
+    let mut feed = FromRead::new(Signalled { calls: 0 });
+    assert_read(&rt, &mut feed, &mut buf, Err(FeedFailed), 1);
+    assert_read(&rt, &mut feed, &mut buf, Ok(0), 1);
+    assert_eq!(rt; feed.into_inner().calls, 1);
+}
+
+// A write gives this answer, and the outlet counts so many failures then.
+fn assert_writes<O: Outlet>(
+    rt: &impl Abort,
+    outlet: &mut O,
+    bytes: &[u8],
+    answer: Result<usize, OutletFailed>,
+    failures: u64,
+) {
+    assert!(rt; outlet.failures() < 9);
+    assert_eq!(rt; outlet.write(bytes), answer);
+    assert_eq!(rt; outlet.failures(), failures);
+}
+
+#[test]
+fn a_writers_error_and_a_write_of_nothing_are_failures(rt: HostRuntime) {
+    let mut outlet = FromWrite::new(Signalled { calls: 0 });
+    assert_flushed(&rt, &mut outlet, Err(OutletFailed), 1);
+    assert_writes(&rt, &mut outlet, b"a", Err(OutletFailed), 2);
+    assert_writes(&rt, &mut outlet, b"", Ok(0), 2);
+    assert_flushed(&rt, &mut outlet, Ok(()), 2);
+    let mut outlet = FromWrite::new(Signalled { calls: 0 });
+    assert_writes(&rt, &mut outlet, b"a", Err(OutletFailed), 1);
+}
+
+#[test]
+fn bytes_pass_through_readers(rt: HostRuntime) {
+    let mut buf = [0u8; 4];
+    let mut feed = FromRead::new(b"abc".as_slice());
+    assert_read(&rt, &mut feed, &mut buf, Ok(3), 0);
+    assert_eq!(rt; buf[..3], b"abc"[..]);
+}
+
+#[test]
+fn bytes_pass_through_writers(rt: HostRuntime) {
+    let mut outlet = FromWrite::new(Vec::new(rt.alloc()));
+    assert_sent(&rt, &mut outlet, b"abcdef", Ok(()), 0);
+    assert_eq!(rt; outlet.into_inner().as_slice(), b"abcdef".as_slice());
+}

@@ -1,0 +1,295 @@
+ghost use Rattle.std.specs.Prelude.{◌≡◌, true, IfOk, OnOk};
+
+use fq_block::Block;
+use fq_lane::{End, Rx, Taken, Tx, lane};
+use fq_pair::{Counts, Out, PairSource, Texts};
+use fq_samples::{
+    FIRST_FORWARD, FIRST_REVERSE, FIRST_WRITTEN, SECOND_FORWARD, SECOND_REVERSE, SECOND_WRITTEN,
+    TWO_STEPS, Written, source_of,
+};
+use fq_text::Encoding;
+use fq_trim::Steps;
+use fq_work::{Cause, Done, Gate, Reply, WorkEnds, Worked, work, work_tallied};
+use std::alloc::Global;
+use std::process::Abort;
+use std::sync::{Arc, Wait};
+use std::test::Fail;
+
+// One pair, and what becomes of it.
+#[derive(Clone, Copy)]
+pub(super) struct Sample {
+    pub(super) forward: &'static [u8],
+    pub(super) reverse: &'static [u8],
+    written: Written,
+    counts: Counts,
+}
+
+pub(super) const FIRST: Sample = Sample {
+    forward: FIRST_FORWARD,
+    reverse: FIRST_REVERSE,
+    written: FIRST_WRITTEN,
+    counts: Counts {
+        pairs: 1,
+        both: 1,
+        forward_only: 0,
+        reverse_only: 0,
+        dropped: 0,
+    },
+};
+
+pub(super) const SECOND: Sample = Sample {
+    forward: SECOND_FORWARD,
+    reverse: SECOND_REVERSE,
+    written: SECOND_WRITTEN,
+    counts: Counts {
+        pairs: 1,
+        both: 0,
+        forward_only: 1,
+        reverse_only: 0,
+        dropped: 0,
+    },
+};
+
+// A worker's run, and what it leaves.
+#[derive(Clone, Copy)]
+pub(super) struct Case<'a> {
+    // The pairs that it is dealt, in blocks of one.
+    pub(super) pairs: &'a [Sample],
+    // How often it may ask the gate.
+    pub(super) gate_turns: u64,
+    // The room of the lane of used blocks.
+    pub(super) room: usize,
+    // How many blocks it answers.
+    pub(super) answered: usize,
+    // Whether its blocks are tallied.
+    pub(super) tallied: bool,
+    // Why it stops.
+    pub(super) cause: Option<Cause>,
+    // How many blocks come back.
+    pub(super) used: u64,
+}
+
+// A block of the pairs of two texts, which have two at most.
+pub(super) fn block_of(
+    rt: &impl Abort,
+    alloc: Global,
+    number: u64,
+    forward: &[u8],
+    reverse: &[u8],
+) -> Result<Block, Fail> {
+    let forward = source_of(alloc, forward, Encoding::Sanger)?;
+    let reverse = source_of(alloc, reverse, Encoding::Sanger)?;
+    let mut pairs = PairSource::new(forward, reverse, true);
+    let mut block = Block::new(alloc, number, Encoding::Sanger);
+    for _ in 0..2 {
+        let Some(pair) = pairs.next()? else {
+            break;
+        };
+        let encoding = pair.encoding();
+        assert!(rt; encoding == block.encoding());
+        assert!(rt; block.len() < 65_536);
+        block.push(&pair)?;
+    }
+    Ok(block)
+}
+
+// No texts come back.
+pub(super) fn no_texts(alloc: Global) -> Result<Rx<Done>, Fail> {
+    let (_texts, texts_back) = lane(alloc, 1)?;
+    Ok(texts_back)
+}
+
+// The ends of a worker's lanes, and those of whom it works for.
+#[derive(Drop)]
+struct Lanes {
+    blocks: Tx<Block>,
+    rx: Rx<Block>,
+    tx: Tx<Reply>,
+    replies: Rx<Reply>,
+    blocks_back: Tx<Block>,
+    used: Rx<Block>,
+}
+
+// The lane of used blocks has this room.
+fn lay_lanes(rt: &impl Abort, alloc: Global, room: usize) -> Result<Lanes, Fail>
+    ensures blocks { IfOk result (λ lanes. lanes.rx.name ≡ lanes.blocks.name) }
+    ensures replies { IfOk result (λ lanes. lanes.replies.name ≡ lanes.tx.name) }
+{
+    assert!(rt; 1 <= room && room <= 64);
+    let (blocks, rx) = lane(alloc, 4)?;
+    let (tx, replies) = lane(alloc, 4)?;
+    let (blocks_back, used) = lane(alloc, room)?;
+    Ok(Lanes {
+        blocks,
+        rx,
+        tx,
+        replies,
+        blocks_back,
+        used,
+    })
+}
+
+// Deals the pairs, works on them, looks at each reply and at each block that comes back, and confirms both lanes.
+pub(super) fn assert_work<R: Abort + Wait, G: Gate>(
+    rt: &R,
+    alloc: Global,
+    case: Case<'_>,
+    texts_back: Rx<Done>,
+    gate: Arc<G>,
+) -> Result<(), Fail> {
+    let Lanes {
+        blocks,
+        rx,
+        tx,
+        replies,
+        blocks_back,
+        used,
+    } = lay_lanes(rt, alloc, case.room)?;
+    let dealt = deal(rt, alloc, blocks, case.pairs)?;
+    let ends = WorkEnds {
+        rx,
+        tx,
+        blocks_back,
+        texts_back,
+    };
+    let worked = work_on(rt, alloc, case, ends, gate)?;
+    assert_used(rt, used, case.used);
+    assert_worked(rt, case, worked, dealt, replies)
+}
+
+// Works on what was dealt.
+fn work_on<R: Wait, G: Gate>(
+    rt: &R,
+    alloc: Global,
+    case: Case<'_>,
+    ends: WorkEnds,
+    gate: Arc<G>,
+) -> Result<Worked, Fail>
+    ensures blocks { IfOk result (λ worked. (worked.rx.name ≡ ends.rx.name) × (worked.rx.marked ≡ true)) }
+    ensures replies { IfOk result (λ worked. IfOk worked.closing (λ end. end.name ≡ ends.tx.name)) }
+{
+    let steps = Steps::parse(TWO_STEPS)?;
+    if case.tallied {
+        Ok(work_tallied(alloc, rt, ends, steps, true, gate, case.gate_turns))
+    } else {
+        Ok(work(alloc, rt, ends, steps, gate, case.gate_turns))
+    }
+}
+
+// Looks at each reply, and confirms both lanes.
+fn assert_worked(
+    rt: &impl Abort,
+    case: Case<'_>,
+    worked: Worked,
+    dealt: End<Block>,
+    mut replies: Rx<Reply>,
+) -> Result<(), Fail>
+    requires closed { worked.rx.marked ≡ true }
+    requires blocks { dealt.name ≡ worked.rx.name }
+    requires replies { IfOk worked.closing (λ end. end.name ≡ replies.name) }
+{
+    let Worked {
+        mut rx,
+        closing,
+        cause,
+    } = worked;
+    assert_eq!(rt; cause, case.cause);
+    assert_replies(rt, &mut replies, case)?;
+    rx.confirm(dealt);
+    replies.confirm(closing.expect(rt, "the receiver is there"));
+    Ok(())
+}
+
+// Deals blocks of one pair each, from number 0, and closes their lane, which has room for all.
+fn deal<R: Abort + Wait>(
+    rt: &R,
+    alloc: Global,
+    mut tx: Tx<Block>,
+    pairs: &[Sample],
+) -> Result<End<Block>, Fail>
+    ensures { IfOk result (λ end. end.name ≡ tx.name) }
+{
+    for (number, pair) in pairs.iter().enumerate() {
+        let block = block_of(rt, alloc, number as u64, pair.forward, pair.reverse)?;
+        tx.put(rt, block);
+    }
+    Ok(tx.close().expect(rt, "the receiver is there"))
+}
+
+// Takes the replies to the blocks that are answered, a stop where there is a cause, and the mark.
+fn assert_replies(rt: &impl Abort, replies: &mut Rx<Reply>, case: Case<'_>) -> Result<(), Fail>
+    ensures name { replies.new.name ≡ replies.old.name }
+    ensures closed { OnOk result (replies.new.marked ≡ true) }
+{
+    for (number, pair) in case.pairs.iter().take(case.answered).enumerate() {
+        let reply = take_reply(replies)?;
+        assert_done(rt, reply, number as u64, pair, case.tallied);
+    }
+    if case.cause.is_some() {
+        let reply = take_reply(replies)?;
+        assert!(rt; matches!(reply, Reply::Stop(why) if Some(why) == case.cause));
+    }
+    take_mark(replies)
+}
+
+fn take_reply(replies: &mut Rx<Reply>) -> Result<Reply, Fail>
+    ensures { replies.new.name ≡ replies.old.name }
+{
+    match replies.take() {
+        Taken::Item(reply) => Ok(reply),
+        Taken::Empty => Err("nothing came")?,
+        Taken::Closed => Err("the lane is closed")?,
+    }
+}
+
+fn take_mark(replies: &mut Rx<Reply>) -> Result<(), Fail>
+    ensures name { replies.new.name ≡ replies.old.name }
+    ensures closed { OnOk result (replies.new.marked ≡ true) }
+{
+    let _ = replies.take();
+    if !replies.is_closed() {
+        Err("the mark did not come")?;
+    }
+    Ok(())
+}
+
+// How many forward reads were tallied, if any tally was made.
+fn reads_tallied(done: &Done) -> Option<u64> {
+    let tally = done.tally.as_ref()?;
+    Some(tally.forward.before.reads)
+}
+
+fn assert_done(rt: &impl Abort, reply: Reply, number: u64, pair: &Sample, tallied: bool) {
+    match reply {
+        Reply::Done(done) => {
+            assert_eq!(rt; done.number, number);
+            assert_written(rt, &done.texts, &pair.written, pair.counts);
+            assert_eq!(rt; reads_tallied(&done), tallied.then_some(1));
+        }
+        Reply::Stop(cause) => panic!(rt; "stopped by {cause:?}"),
+    }
+}
+
+pub(super) fn assert_written(rt: &impl Abort, texts: &Texts, want: &Written, counts: Counts) {
+    for (out, text) in [
+        (Out::ForwardPaired, want.forward_paired),
+        (Out::ForwardUnpaired, want.forward_unpaired),
+        (Out::ReversePaired, want.reverse_paired),
+        (Out::ReverseUnpaired, want.reverse_unpaired),
+        (Out::Log, want.log),
+    ] {
+        assert_eq!(rt; texts.text(out), text);
+    }
+    assert_eq!(rt; texts.counts(), counts);
+}
+
+// Takes so many blocks that came back, from number 0. No further one is there.
+fn assert_used(rt: &impl Abort, mut used: Rx<Block>, count: u64) {
+    for number in 0..count {
+        match used.take() {
+            Taken::Item(block) => assert_eq!(rt; block.number(), number),
+            Taken::Empty | Taken::Closed => panic!(rt; "block {number} did not come back"),
+        }
+    }
+    assert!(rt; matches!(used.take(), Taken::Empty));
+}

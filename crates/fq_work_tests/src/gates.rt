@@ -1,0 +1,83 @@
+use super::frame::{Case, FIRST, SECOND, assert_work, no_texts};
+use fq_work::*;
+use std::sync::Arc;
+use std::sync::atomic::{AtomicU64, Ordering};
+use std::test::Fail;
+
+// A gate that refuses so many times, and counts how often it's asked.
+#[derive(Drop)]
+struct LateGate {
+    refusals: u64,
+    asked: AtomicU64,
+}
+
+impl LateGate {
+    fn new(refusals: u64) -> LateGate {
+        LateGate {
+            refusals,
+            asked: AtomicU64::new(0),
+        }
+    }
+}
+
+impl Gate for LateGate {
+    fn passes(&self, _number: u64) -> bool {
+        self.refusals <= self.asked.fetch_add(1, Ordering::SeqCst)
+    }
+}
+
+// A gate that lets each block pass but one.
+#[derive(Drop)]
+struct GateBut {
+    refused: u64,
+}
+
+impl Gate for GateBut {
+    fn passes(&self, number: u64) -> bool {
+        number != self.refused
+    }
+}
+
+#[test]
+fn a_gate_is_asked_until_it_passes_or_as_often_as_is_set(rt: HostRuntime) -> Result<(), Fail> {
+    let answered = Case {
+        pairs: &[FIRST, SECOND],
+        gate_turns: 3,
+        room: 4,
+        answered: 2,
+        tallied: false,
+        cause: None,
+        used: 2,
+    };
+    let stopped = Case {
+        // So the second block is let go.
+        room: 1,
+        answered: 0,
+        cause: Some(Cause::Gate),
+        used: 1,
+        ..answered
+    };
+    let alloc = rt.alloc();
+    for (refusals, case, asked) in [(2, answered, 4), (u64::MAX, stopped, 3)] {
+        let gate = Arc::new(alloc, LateGate::new(refusals))?;
+        let texts_back = no_texts(alloc)?;
+        assert_work(&rt, alloc, case, texts_back, Arc::try_clone(&gate)?)?;
+        assert_eq!(rt; gate.asked.load(Ordering::SeqCst), asked);
+    }
+    Ok(())
+}
+
+#[test]
+fn behind_a_refused_block_none_is_answered(rt: HostRuntime) -> Result<(), Fail> {
+    let case = Case {
+        pairs: &[FIRST, SECOND, FIRST],
+        gate_turns: 2,
+        room: 4,
+        answered: 1,
+        tallied: false,
+        cause: Some(Cause::Gate),
+        used: 3,
+    };
+    let gate = Arc::new(rt.alloc(), GateBut { refused: 1 })?;
+    assert_work(&rt, rt.alloc(), case, no_texts(rt.alloc())?, gate)
+}

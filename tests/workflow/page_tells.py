@@ -1,0 +1,109 @@
+"""Compares what is on the workflow's page with direct calls of the program, for the samples that are named and no others.
+
+    page_tells.py DIRECT DATA SAMPLE..            the table, the dropped reads, and the lengths before and after
+    page_tells.py DIRECT DATA --removed SAMPLE..  the lines of removed bases
+
+DIRECT has the texts that were read and written, the logs and the reports of the direct calls. DATA is the folder of the page's data.
+"""
+
+import collections
+import json
+import sys
+
+SIDES = {"forward": 1, "reverse": 2}
+
+
+class Page:
+    """The page's data, and what they are compared with."""
+
+    def __init__(self, direct, data, samples):
+        self.direct, self.data, self.samples = direct, data, samples
+        self.bars = [(sample, side) for sample in samples for side in SIDES]
+
+    def rows(self, name):
+        """The heads of the columns of a table, and the cells of its rows by their names."""
+        with open(f"{self.data}/multiqc_{name}.txt", encoding="utf-8") as file:
+            header, *rows = [line.rstrip("\n").split("\t") for line in file]
+        return header[1:], {row[0]: row[1:] for row in rows}
+
+    def plot(self, graph):
+        """What is drawn of each side of each sample, without zeros."""
+        columns, rows = self.rows(f"tibzharuk_{graph}_plot")
+        assert sorted(rows) == sorted(f"{sample} {side}" for sample, side in self.bars), (graph, rows)
+        cells = {name: zip(columns, row) for name, row in rows.items()}
+        return {name: {column: float(cell) for column, cell in row if cell and float(cell)} for name, row in cells.items()}
+
+    def reads(self, sample, *parts):
+        """The bases and the scores of the reads of some of a sample's texts."""
+        reads = []
+        for part in parts:
+            with open(f"{self.direct}/{sample}.{part}", encoding="utf-8") as file:
+                lines = file.read().split("\n")
+            reads += zip(lines[1::4], lines[3::4])
+        return reads
+
+    def before(self, sample, side):
+        return self.reads(sample, f"in{SIDES[side]}")
+
+    def after(self, sample, side):
+        return self.reads(sample, f"r{SIDES[side]}.paired", f"r{SIDES[side]}.unpaired")
+
+
+def check_table(page):
+    columns, rows = page.rows("general_stats")
+    assert list(rows) == page.samples and len(columns) == 6, (columns, rows)
+    for sample in page.samples:
+        both = [[read for side in SIDES for read in reads(sample, side)] for reads in (page.before, page.after)]
+        bases = [sum(len(read[0]) for read in reads) for reads in both]
+        high = [sum(score >= "?" for read in reads for score in read[1]) for reads in both]
+        pairs, kept = len(page.before(sample, "forward")), len(page.reads(sample, "r1.paired"))
+        percents = [round(100 * part / whole, 4) for part, whole in [*zip(high, bases), (kept, pairs)]]
+        wanted = [pairs, bases[0] / 1e6, bases[1] / 1e6, *percents]
+        assert [float(cell) for cell in rows[sample]] == wanted, (sample, rows[sample], wanted)
+
+
+def check_dropped(page):
+    drawn = page.plot("dropped")
+    for sample, side in page.bars:
+        with open(f"{page.direct}/{sample}.json", encoding="utf-8") as file:
+            steps = json.load(file)["steps"]
+        wanted = {f"{place}. {step['step']}": step[side]["dropped"] for place, step in enumerate(steps, 1) if step[side]["dropped"]}
+        assert drawn[f"{sample} {side}"] == wanted, (sample, side, drawn, wanted)
+        assert sum(wanted.values()) == len(page.before(sample, side)) - len(page.after(sample, side)), (sample, side)
+
+
+def check_line(drawn, numbers, among, where):
+    """The line has the per cent of reads, among so many, that have each number of bases."""
+    wanted = {number: round(100 * reads / among, 4) for number, reads in collections.Counter(numbers).items()}
+    assert {int(float(place)): percent for place, percent in drawn.items()} == wanted, (where, drawn, wanted)
+
+
+def check_lengths(page):
+    for graph, reads in ("lengths_before", page.before), ("lengths_after", page.after):
+        drawn = page.plot(graph)
+        for sample, side in page.bars:
+            lengths = [len(bases) for bases, _ in reads(sample, side)]
+            check_line(drawn[f"{sample} {side}"], lengths, len(lengths), (graph, sample, side))
+
+
+def check_removed(page):
+    for graph, field in ("front", 1), ("behind", 3):
+        drawn = page.plot(graph)
+        for sample, side in page.bars:
+            with open(f"{page.direct}/{sample}.log", encoding="utf-8") as file:
+                lines = [[int(word) for word in line.split()[1:]] for line in file]
+            kept = [line for line in lines[SIDES[side] - 1 :: 2] if line[0]]
+            check_line(drawn[f"{sample} {side}"], [line[field] for line in kept if line[field]], len(kept), (graph, sample, side))
+
+
+def main(direct, data, *samples):
+    if samples[0] == "--removed":
+        check_removed(Page(direct, data, list(samples[1:])))
+        return
+    page = Page(direct, data, list(samples))
+    check_table(page)
+    check_dropped(page)
+    check_lengths(page)
+
+
+main(*sys.argv[1:])
