@@ -48,6 +48,7 @@ pub struct Wanted<'a> {
     pub outcome: Outcome,
 }
 
+/// Two texts and steps, with the settings that most tests have, and devices that do not fail.
 pub fn with_defaults<'a>(forward: &'a [u8], reverse: &'a [u8], steps: &'a [&'a str]) -> Given<'a> {
     Given {
         forward,
@@ -65,6 +66,7 @@ pub fn with_defaults<'a>(forward: &'a [u8], reverse: &'a [u8], steps: &'a [&'a s
     }
 }
 
+/// Counts, in the order of a summary.
 pub fn counts(pairs: u64, both: u64, forward_only: u64, reverse_only: u64, dropped: u64) -> Counts {
     Counts {
         pairs,
@@ -101,6 +103,7 @@ pub fn wanted_of(written: Written, counts: Counts, outcome: Outcome) -> Wanted<'
     }
 }
 
+/// A feed of these bytes, at most `cut` at a read, whose read of this number fails, if the number is not 0.
 pub fn feed(
     rt: &impl Abort,
     alloc: Global,
@@ -114,6 +117,7 @@ pub fn feed(
     Ok(ScriptFeed::new(alloc, bytes, cut, fail_at)?)
 }
 
+/// An outlet in memory, which cuts and fails as is given for this output.
 pub fn outlet(rt: &impl Abort, alloc: Global, given: &Given<'_>, out: Out) -> ScriptOutlet
     ensures { (result.bytes ≡ []) × (result.failures ≡ 0) }
 {
@@ -127,10 +131,12 @@ pub fn outlet(rt: &impl Abort, alloc: Global, given: &Given<'_>, out: Out) -> Sc
     ScriptOutlet::new(alloc, cut, fail_at, flush_fails)
 }
 
+/// The settings that are given, for so many workers and lanes of this depth.
 pub fn settings_of(given: &Given<'_>, workers: u64, depth: u64) -> Result<Settings, Fail> {
     settings_with(given, workers, depth, LONG)
 }
 
+/// The same, with a bound on how often a gate is asked.
 pub fn settings_with(
     given: &Given<'_>,
     workers: u64,
@@ -152,6 +158,7 @@ pub fn settings_with(
     Ok(settings?)
 }
 
+/// The five outlets in memory.
 pub fn outlets(rt: &impl Abort, alloc: Global, given: &Given<'_>) -> Outlets<ScriptOutlet>
     ensures { AreHealthy (outlet_states (λ o. record { tells = true; taken = o.bytes; failures = o.failures }) result) }
 {
@@ -211,6 +218,7 @@ pub fn assert_reads(rt: &impl Abort, outlets: &Outlets<ScriptOutlet>, wanted: &W
 
 // The runs without their promise. A test has no use for it, and its proof is long where it is known.
 
+/// The run on one thread.
 pub fn serial<O: Outlet>(
     alloc: Global,
     settings: &Settings,
@@ -225,6 +233,7 @@ pub fn serial<O: Outlet>(
     run_serial(alloc, settings, forward, reverse, outlets)
 }
 
+/// The run on several threads, behind a gate.
 pub fn threaded<
     R: Threads + Wait + Copy + Send + 'static,
     F: Feed + Drop + Send + 'static,
