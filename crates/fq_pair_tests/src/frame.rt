@@ -148,7 +148,7 @@ pub fn assert_last(
     }
 }
 
-// The texts of the pairs, and the fault behind them. The last answer is the answer from then on.
+/// The texts of the pairs, and the fault behind them. The last answer is the answer from then on.
 pub fn trimmed(
     rt: &impl Abort,
     alloc: Global,

@@ -34,6 +34,7 @@ fn serial_interleaved(
     run_serial_mixed(alloc, settings, text, outlets)
 }
 
+/// The run on several threads, behind an open gate.
 pub fn threaded_interleaved<R: Threads + Wait + Copy + Send + 'static>(
     rt: &R,
     alloc: Global,
