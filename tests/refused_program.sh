@@ -4,7 +4,8 @@
 # done without may be refused unseen: one in each call, at the most.
 #
 # Then it is counted how often a run over many pairs asks for memory: once its buffers have grown no pair does, whether its reads are lent
-# as they lie in the buffer or their lines are joined.
+# as they lie in the buffer or their lines are joined. There are 500 blocks, and one that grows anew asks some twenty times: so buffers
+# that were let go, however seldom, are seen too.
 set -uo pipefail
 
 cd "$(dirname "$0")/.." || exit 2

@@ -434,7 +434,7 @@ untouched
 endless() {
   rm -f endless
   mkfifo endless
-  { cat "$1"; exec sleep 60; } > endless &
+  { cat "$1"; exec sleep 600; } > endless &
   fed=$!
 }
 

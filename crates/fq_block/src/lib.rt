@@ -9,6 +9,3 @@ mod block;
 mod packing;
 
 pub use block::Block;
-
-#[cfg(test)]
-mod tests;

@@ -11,3 +11,4 @@ pub mod WholeLemmas
 pub mod SideLemmas
 pub mod AskLemmas
 pub mod InterleavedLemmas
+pub mod KeptLemmas

@@ -77,9 +77,29 @@ impl Texts {
         ensures ok { OnOk result (self.new ≡ joined self.old (texts_of steps.now (mates_in pair.entry.forward pair.entry.reverse ∷ []))) }
         ensures err { OnErr result (self.new ≡ self.old) }
     {
-        let (forward_name, reverse_name) = names_of(pair.forward.title(), pair.reverse.title());
         let forward = trimmed(&pair.forward, steps);
         let reverse = trimmed(&pair.reverse, steps);
+        self.add_kept(pair, steps, forward, reverse)
+    }
+
+    /// Adds the same, where it is known already what the steps keep of each mate. So who needs to know that too, as one
+    /// who counts the pair, trims it once.
+    // Two functions call it, so without this hint `add` would cost a call more.
+    #[inline(always)]
+    pub fn add_kept(
+        &mut self,
+        pair: PairView<'_>,
+        steps: &Steps,
+        forward: Option<Kept>,
+        reverse: Option<Kept>,
+    ) -> Result<(), OutOfMemory>
+        requires room { self.old.counts.pairs < u64.MAX }
+        requires forward { kept_places steps.now pair.forward ≡ places_of forward }
+        requires reverse { kept_places steps.now pair.reverse ≡ places_of reverse }
+        ensures ok { OnOk result (self.new ≡ joined self.old (texts_of steps.now (mates_in pair.entry.forward pair.entry.reverse ∷ []))) }
+        ensures err { OnErr result (self.new ≡ self.old) }
+    {
+        let (forward_name, reverse_name) = names_of(pair.forward.title(), pair.reverse.title());
         let recode = steps.reencodes();
         self.log
             .reserve(line_room(forward_name) + line_room(reverse_name))?;

@@ -18,6 +18,13 @@ pub type Pairs = PairSource<ScriptFeed, ScriptFeed>;
 
 pub type Mixed = MixedSource<ScriptFeed>;
 
+/// How pairs come: given whole, or lent.
+#[derive(Clone, Copy)]
+pub enum Form {
+    Given,
+    Lent,
+}
+
 // How two texts are read.
 #[derive(Clone, Copy)]
 pub struct Way {
@@ -116,52 +123,104 @@ pub fn add(
     Ok(())
 }
 
+// Adds the pair that is given next, where there is one.
+fn add_given(
+    rt: &impl Abort,
+    texts: &mut Texts,
+    pairs: &mut Pairs,
+    steps: &Steps,
+) -> Result<Result<bool, InputFault>, Fail> {
+    match next(pairs) {
+        Ok(Some(pair)) => {
+            assert_eq!(rt; pair.encoding(), pair.view().reverse.encoding());
+            add(rt, texts, pair.view(), steps)?;
+            Ok(Ok(true))
+        }
+        Ok(None) => Ok(Ok(false)),
+        Err(fault) => Ok(Err(fault)),
+    }
+}
+
+// Adds the pair that is lent next, where there is one.
+fn add_lent(
+    rt: &impl Abort,
+    texts: &mut Texts,
+    pairs: &mut Pairs,
+    steps: &Steps,
+) -> Result<Result<bool, InputFault>, Fail> {
+    let answer = pairs.advance();
+    if let Ok(true) = answer {
+        add(rt, texts, pairs.pair(), steps)?;
+    }
+    Ok(answer)
+}
+
+// Adds the next pair, where there is one.
+fn add_next(
+    rt: &impl Abort,
+    texts: &mut Texts,
+    pairs: &mut Pairs,
+    steps: &Steps,
+    form: Form,
+) -> Result<Result<bool, InputFault>, Fail> {
+    match form {
+        Form::Given => add_given(rt, texts, pairs, steps),
+        Form::Lent => add_lent(rt, texts, pairs, steps),
+    }
+}
+
 // Adds the pairs to the texts. The fault behind them is answered.
 fn add_all(
     rt: &impl Abort,
     texts: &mut Texts,
     pairs: &mut Pairs,
     steps: &Steps,
+    form: Form,
 ) -> Result<Option<InputFault>, Fail> {
     for _ in 0..100 {
-        match next(pairs) {
-            Ok(Some(pair)) => {
-                assert_eq!(rt; pair.encoding(), pair.view().reverse.encoding());
-                add(rt, texts, pair.view(), steps)?;
-            }
-            Ok(None) => break,
+        match add_next(rt, texts, pairs, steps, form)? {
+            Ok(true) => {}
+            Ok(false) => break,
             Err(fault) => return Ok(Some(fault)),
         }
     }
     Ok(None)
 }
 
-/// The answer is this fault, or the end where there is none.
-pub fn assert_last(
-    rt: &impl Abort,
-    answer: Result<Option<Pair>, InputFault>,
-    fault: Option<InputFault>,
-) {
+/// The answer, which says whether a pair came, is this fault, or the end where there is none.
+pub fn assert_last(rt: &impl Abort, answer: Result<bool, InputFault>, fault: Option<InputFault>) {
     match fault {
-        None => assert!(rt; matches!(answer, Ok(None))),
+        None => assert!(rt; matches!(answer, Ok(false))),
         Some(fault) => assert!(rt; matches!(answer, Err(again) if again == fault)),
     }
 }
 
-/// The texts of the pairs, and the fault behind them. The last answer is the answer from then on.
-pub fn trimmed(
+/// The texts of the pairs, in this form, and the fault behind them. The last answer is the answer from then on.
+pub fn trimmed_in(
     rt: &impl Abort,
     alloc: Global,
+    form: Form,
     mut pairs: Pairs,
     words: &[&str],
 ) -> Result<(Texts, Option<InputFault>), Fail> {
     let steps = Steps::parse(words)?;
     let mut texts = Texts::new(alloc);
-    let fault = add_all(rt, &mut texts, &mut pairs, &steps)?;
-    assert_last(rt, next(&mut pairs), fault);
+    let fault = add_all(rt, &mut texts, &mut pairs, &steps, form)?;
+    let again = add_next(rt, &mut texts, &mut pairs, &steps, form)?;
+    assert_last(rt, again, fault);
     let (forward, reverse) = failures(pairs);
     assert!(rt; forward <= 1 && reverse == 0);
     Ok((texts, fault))
+}
+
+/// The same of pairs that are given.
+pub fn trimmed(
+    rt: &impl Abort,
+    alloc: Global,
+    pairs: Pairs,
+    words: &[&str],
+) -> Result<(Texts, Option<InputFault>), Fail> {
+    trimmed_in(rt, alloc, Form::Given, pairs, words)
 }
 
 /// The texts are those that are to be written, and the counts are these.

@@ -1,6 +1,6 @@
 //! Pairs out of an interleaved text.
 
-use super::frame::{Mixed, PLAIN, UNCHECKED, Way, assert_last, interleaved, pairs};
+use super::frame::{Form, Mixed, PLAIN, UNCHECKED, Way, assert_last, interleaved, pairs};
 use fq_pair::*;
 use fq_samples::{ELEVEN_INTERLEAVED, TWO_FORWARD, TWO_INTERLEAVED, TWO_REVERSE};
 use fq_text::{Feed, TextFault};
@@ -27,37 +27,23 @@ fn next<S: PairReader>(pairs: &mut S) -> Result<Option<Pair>, InputFault> {
     pairs.next_pair()
 }
 
-// Appends the two titles of each pair as a line. The fault behind the pairs is answered.
+// Appends the two titles of the pair that is given next, where there is one.
 fn push_given<S: PairReader>(
     pairs: &mut S,
     titles: &mut Vec<u8>,
-) -> Result<Option<InputFault>, Fail> {
-    for _ in 0..100 {
-        match next(pairs) {
-            Ok(Some(pair)) => push_titles(titles, pair.view())?,
-            Ok(None) => break,
-            Err(fault) => return Ok(Some(fault)),
+) -> Result<Result<bool, InputFault>, Fail> {
+    match next(pairs) {
+        Ok(Some(pair)) => {
+            push_titles(titles, pair.view())?;
+            Ok(Ok(true))
         }
+        Ok(None) => Ok(Ok(false)),
+        Err(fault) => Ok(Err(fault)),
     }
-    Ok(None)
-}
-
-// The two titles of each pair as a line, and the fault behind the pairs. The last answer is the answer from then on.
-fn ask<S: PairReader>(
-    rt: &impl Abort,
-    alloc: Global,
-    pairs: &mut S,
-) -> Result<(Vec<u8>, Option<InputFault>), Fail> {
-    let mut titles = Vec::new(alloc);
-    let fault = push_given(pairs, &mut titles)?;
-    for _ in 0..2 {
-        assert_last(rt, next(pairs), fault);
-    }
-    Ok((titles, fault))
 }
 
 // Appends the two titles of the pair that is lent next, where there is one.
-fn push_next<S: PairReader>(
+fn push_lent<S: PairReader>(
     pairs: &mut S,
     titles: &mut Vec<u8>,
 ) -> Result<Result<bool, InputFault>, Fail> {
@@ -68,13 +54,26 @@ fn push_next<S: PairReader>(
     Ok(answer)
 }
 
-// The same as `push_given`, of pairs that are lent.
-fn push_lent<S: PairReader>(
+// Appends the two titles of the next pair, where there is one.
+fn push_next<S: PairReader>(
     pairs: &mut S,
     titles: &mut Vec<u8>,
+    form: Form,
+) -> Result<Result<bool, InputFault>, Fail> {
+    match form {
+        Form::Given => push_given(pairs, titles),
+        Form::Lent => push_lent(pairs, titles),
+    }
+}
+
+// Appends the two titles of each pair as a line. The fault behind the pairs is answered.
+fn push_all<S: PairReader>(
+    pairs: &mut S,
+    titles: &mut Vec<u8>,
+    form: Form,
 ) -> Result<Option<InputFault>, Fail> {
     for _ in 0..100 {
-        match push_next(pairs, titles)? {
+        match push_next(pairs, titles, form)? {
             Ok(true) => {}
             Ok(false) => break,
             Err(fault) => return Ok(Some(fault)),
@@ -83,25 +82,29 @@ fn push_lent<S: PairReader>(
     Ok(None)
 }
 
-// The answer is this fault, or the end where there is none.
-fn assert_none_lent<S: PairReader>(rt: &impl Abort, pairs: &mut S, fault: Option<InputFault>) {
-    match fault {
-        None => assert!(rt; matches!(pairs.advance_pair(), Ok(false))),
-        Some(fault) => assert!(rt; matches!(pairs.advance_pair(), Err(again) if again == fault)),
+// The same. The last answer is the answer from then on.
+fn push_to_end<S: PairReader>(
+    rt: &impl Abort,
+    pairs: &mut S,
+    titles: &mut Vec<u8>,
+    form: Form,
+) -> Result<Option<InputFault>, Fail> {
+    let fault = push_all(pairs, titles, form)?;
+    for _ in 0..2 {
+        assert_last(rt, push_next(pairs, titles, form)?, fault);
     }
+    Ok(fault)
 }
 
-// The same as `ask`, of pairs that are lent.
-fn ask_lent<S: PairReader>(
+// The two titles of each pair as a line, and the fault behind the pairs.
+fn ask<S: PairReader>(
     rt: &impl Abort,
     alloc: Global,
     pairs: &mut S,
+    form: Form,
 ) -> Result<(Vec<u8>, Option<InputFault>), Fail> {
     let mut titles = Vec::new(alloc);
-    let fault = push_lent(pairs, &mut titles)?;
-    for _ in 0..2 {
-        assert_none_lent(rt, pairs, fault);
-    }
+    let fault = push_to_end(rt, pairs, &mut titles, form)?;
     Ok((titles, fault))
 }
 
@@ -110,26 +113,26 @@ fn failures(pairs: Mixed) -> u64 {
     pairs.into_feed().failures()
 }
 
-fn check(rt: &impl Abort, alloc: Global, row: Row) -> Result<(), Fail> {
+fn check_in(rt: &impl Abort, alloc: Global, row: Row, form: Form) -> Result<(), Fail> {
     let (text, way, want, fault) = row;
     let mut pairs = interleaved(rt, alloc, text, way)?;
-    let (titles, met) = ask(rt, alloc, &mut pairs)?;
+    let (titles, met) = ask(rt, alloc, &mut pairs, form)?;
     assert_eq!(rt; titles.as_slice(), want);
     assert_eq!(rt; met, fault);
     let failed = u64::from(matches!(fault, Some(InputFault::Text(_, TextFault::Read))));
     assert_eq!(rt; failures(pairs), failed);
-    let mut lent = interleaved(rt, alloc, text, way)?;
-    let (titles, met) = ask_lent(rt, alloc, &mut lent)?;
-    assert_eq!(rt; titles.as_slice(), want);
-    assert_eq!(rt; met, fault);
-    assert_eq!(rt; failures(lent), failed);
     Ok(())
+}
+
+fn check(rt: &impl Abort, alloc: Global, row: Row) -> Result<(), Fail> {
+    check_in(rt, alloc, row, Form::Given)?;
+    check_in(rt, alloc, row, Form::Lent)
 }
 
 #[test]
 fn two_texts_asked_alike(rt: HostRuntime) -> Result<(), Fail> {
     let mut pairs = pairs(&rt, rt.alloc(), TWO_FORWARD, TWO_REVERSE, PLAIN)?;
-    let (titles, fault) = ask(&rt, rt.alloc(), &mut pairs)?;
+    let (titles, fault) = ask(&rt, rt.alloc(), &mut pairs, Form::Given)?;
     assert_eq!(rt; titles.as_slice(), b"p1/1 p1/2\np2/1 p2/2\n".as_slice());
     assert_eq!(rt; fault, None);
     Ok(())

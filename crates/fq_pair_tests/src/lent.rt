@@ -1,9 +1,8 @@
 //! Pairs that are lent.
 
-use super::frame::{PLAIN, Pairs, UNCHECKED, Way, add, assert_written, failures, pairs, trimmed};
+use super::frame::{Form, PLAIN, UNCHECKED, Way, assert_written, pairs, trimmed, trimmed_in};
 use fq_pair::*;
 use fq_samples::{SEVEN_FORWARD, SEVEN_REVERSE, TWO_FORWARD, TWO_REVERSE, TWO_STEPS, TWO_WRITTEN};
-use fq_trim::Steps;
 use std::alloc::Global;
 use std::process::Abort;
 use std::test::Fail;
@@ -25,61 +24,6 @@ const ROWS: [(&[u8], &[u8], Way); 8] = [
     ),
 ];
 
-// Adds the pair that is lent next, where there is one.
-fn add_next(
-    rt: &impl Abort,
-    texts: &mut Texts,
-    pairs: &mut Pairs,
-    steps: &Steps,
-) -> Result<Result<bool, InputFault>, Fail> {
-    let answer = pairs.advance();
-    if let Ok(true) = answer {
-        add(rt, texts, pairs.pair(), steps)?;
-    }
-    Ok(answer)
-}
-
-// Adds the pairs to the texts, each lent. The fault behind them is answered.
-fn add_lent(
-    rt: &impl Abort,
-    texts: &mut Texts,
-    pairs: &mut Pairs,
-    steps: &Steps,
-) -> Result<Option<InputFault>, Fail> {
-    for _ in 0..100 {
-        match add_next(rt, texts, pairs, steps)? {
-            Ok(true) => {}
-            Ok(false) => break,
-            Err(fault) => return Ok(Some(fault)),
-        }
-    }
-    Ok(None)
-}
-
-// The answer is this fault, or the end where there is none.
-fn assert_last(rt: &impl Abort, pairs: &mut Pairs, fault: Option<InputFault>) {
-    match fault {
-        None => assert!(rt; matches!(pairs.advance(), Ok(false))),
-        Some(fault) => assert!(rt; matches!(pairs.advance(), Err(again) if again == fault)),
-    }
-}
-
-// The texts of the pairs, each lent, and the fault behind them. The last answer is the answer from then on.
-fn trimmed_lent(
-    rt: &impl Abort,
-    alloc: Global,
-    mut pairs: Pairs,
-    words: &[&str],
-) -> Result<(Texts, Option<InputFault>), Fail> {
-    let steps = Steps::parse(words)?;
-    let mut texts = Texts::new(alloc);
-    let fault = add_lent(rt, &mut texts, &mut pairs, &steps)?;
-    assert_last(rt, &mut pairs, fault);
-    let (forward, reverse) = failures(pairs);
-    assert!(rt; forward <= 1 && reverse == 0);
-    Ok((texts, fault))
-}
-
 // The pairs are lent as they are given.
 fn check(
     rt: &impl Abort,
@@ -92,7 +36,7 @@ fn check(
     let given = pairs(rt, alloc, forward, reverse, way)?;
     let (given, why) = trimmed(rt, alloc, given, &steps)?;
     let lent = pairs(rt, alloc, forward, reverse, way)?;
-    let (lent, fault) = trimmed_lent(rt, alloc, lent, &steps)?;
+    let (lent, fault) = trimmed_in(rt, alloc, Form::Lent, lent, &steps)?;
     assert_eq!(rt; fault, why);
     assert_eq!(rt; lent.counts(), given.counts());
     for out in [
@@ -118,7 +62,7 @@ fn lent_pairs_are_those_that_are_given(rt: HostRuntime) -> Result<(), Fail> {
 #[test]
 fn two_pairs_lent(rt: HostRuntime) -> Result<(), Fail> {
     let source = pairs(&rt, rt.alloc(), TWO_FORWARD, TWO_REVERSE, PLAIN)?;
-    let (texts, fault) = trimmed_lent(&rt, rt.alloc(), source, TWO_STEPS)?;
+    let (texts, fault) = trimmed_in(&rt, rt.alloc(), Form::Lent, source, TWO_STEPS)?;
     let counts = Counts {
         pairs: 2,
         both: 1,

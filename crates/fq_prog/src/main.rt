@@ -4,29 +4,13 @@
 
 ghost use Rattle.std.specs.Prelude.{◌≡◌};
 
-mod example;
-mod fault_line;
-mod judging;
-mod outputs;
-mod program;
-mod refusal;
-mod refusal_line;
-mod report;
-mod reporting;
-mod trimming;
-mod unshown;
-
+use fq_command::{out_of_memory, program};
 use fq_files::SystemFiles;
 use fq_text::{FromWrite, Outlet, send};
-use program::program;
-use report::out_of_memory;
 use std::alloc::{AllocError, Global};
 use std::env::Env;
 use std::process::ExitCode;
 use std::{env, io, str};
-
-#[cfg(test)]
-mod tests;
 
 // The system passes on no longer word.
 const LONGEST_WORD: usize = 1 << 17;

@@ -7,6 +7,3 @@ mod counted;
 mod report;
 
 pub use report::{Inputs, Report, report_text};
-
-#[cfg(test)]
-mod tests;

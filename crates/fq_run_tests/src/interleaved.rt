@@ -49,19 +49,47 @@ pub fn threaded_interleaved<R: Threads + Wait + Copy + Send + 'static>(
     Ok(run_threads_mixed(alloc, rt, settings, gate, text, outlets))
 }
 
+/// What a run over one text left.
+#[derive(Drop)]
+struct Left {
+    ending: MixedEnding<ScriptFeed>,
+    outlets: Outlets<ScriptOutlet>,
+}
+
 /// Compares what a run has left.
-fn assert_left_interleaved(
-    rt: &impl Abort,
-    ending: &MixedEnding<ScriptFeed>,
-    outlets: &Outlets<ScriptOutlet>,
-    wanted: &Wanted<'_>,
-) -> Result<(), Fail> {
-    assert_written(rt, ending.outcome, ending.counts, outlets, wanted)?;
+fn assert_left_interleaved(rt: &impl Abort, left: &Left, wanted: &Wanted<'_>) -> Result<(), Fail> {
+    let ending = &left.ending;
+    assert_written(rt, ending.outcome, ending.counts, &left.outlets, wanted)?;
     assert!(rt; ending.feed.is_some() && ending.unended.is_none());
     Ok(())
 }
 
 /// Runs with a log on one thread. The text is that of the forward side.
+fn run_alone(
+    rt: &impl Abort,
+    alloc: Global,
+    settings: &Settings,
+    given: &Given<'_>,
+) -> Result<Left, Fail> {
+    let text = feed(rt, alloc, given.forward, given.cut, given.fails_at_read)?;
+    let mut outlets = outlets(rt, alloc, given);
+    let ending = serial_interleaved(alloc, settings, text, &mut outlets);
+    Ok(Left { ending, outlets })
+}
+
+/// The same on several threads.
+fn run_threaded<R: Abort + Threads + Wait + Copy + Send + 'static>(
+    rt: &R,
+    alloc: Global,
+    settings: &Settings,
+    given: &Given<'_>,
+) -> Result<Left, Fail> {
+    let text = feed(rt, alloc, given.forward, given.cut, given.fails_at_read)?;
+    let mut outlets = outlets(rt, alloc, given);
+    let ending = threaded_interleaved(rt, alloc, settings, text, &mut outlets)?;
+    Ok(Left { ending, outlets })
+}
+
 fn leaves_alone(
     rt: &impl Abort,
     alloc: Global,
@@ -69,10 +97,8 @@ fn leaves_alone(
     wanted: &Wanted<'_>,
 ) -> Result<(), Fail> {
     let settings = settings_of(given, 4, 4)?;
-    let text = feed(rt, alloc, given.forward, given.cut, given.fails_at_read)?;
-    let mut outlets = outlets(rt, alloc, given);
-    let ending = serial_interleaved(alloc, &settings, text, &mut outlets);
-    assert_left_interleaved(rt, &ending, &outlets, wanted)
+    let left = run_alone(rt, alloc, &settings, given)?;
+    assert_left_interleaved(rt, &left, wanted)
 }
 
 /// Runs with a log on so many workers' threads.
@@ -84,10 +110,8 @@ fn leaves_threaded<R: Abort + Threads + Wait + Copy + Send + 'static>(
     wanted: &Wanted<'_>,
 ) -> Result<(), Fail> {
     let settings = settings_of(given, workers, 4)?;
-    let text = feed(rt, alloc, given.forward, given.cut, given.fails_at_read)?;
-    let mut outlets = outlets(rt, alloc, given);
-    let ending = threaded_interleaved(rt, alloc, &settings, text, &mut outlets)?;
-    assert_left_interleaved(rt, &ending, &outlets, wanted)
+    let left = run_threaded(rt, alloc, &settings, given)?;
+    assert_left_interleaved(rt, &left, wanted)
 }
 
 /// Runs on one thread, and then on those of 1 to 5 workers, and compares what each run leaves.
@@ -165,13 +189,6 @@ fn five_of_eleven() -> Wanted<'static> {
     five_pairs(Outcome::Input(InputFault::MateMissing(Side::Reverse, 6)))
 }
 
-/// What a run over one text left.
-#[derive(Drop)]
-struct Left {
-    ending: MixedEnding<ScriptFeed>,
-    outlets: Outlets<ScriptOutlet>,
-}
-
 fn run_interleaved<R: Abort + Threads + Wait + Copy + Send + 'static>(
     rt: &R,
     alloc: Global,
@@ -179,13 +196,10 @@ fn run_interleaved<R: Abort + Threads + Wait + Copy + Send + 'static>(
     way: Way,
 ) -> Result<Left, Fail> {
     let settings = settings_of(given, 2, 4)?;
-    let text = feed(rt, alloc, given.forward, given.cut, given.fails_at_read)?;
-    let mut outlets = outlets(rt, alloc, given);
-    let ending = match way {
-        Way::Serial => serial_interleaved(alloc, &settings, text, &mut outlets),
-        Way::TwoWorkers => threaded_interleaved(rt, alloc, &settings, text, &mut outlets)?,
-    };
-    Ok(Left { ending, outlets })
+    match way {
+        Way::Serial => run_alone(rt, alloc, &settings, given),
+        Way::TwoWorkers => run_threaded(rt, alloc, &settings, given),
+    }
 }
 
 /// A run over one text, in small blocks, reads and writes: its outcome, and the front of the seven pairs that its outputs are.

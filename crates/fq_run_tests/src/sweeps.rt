@@ -158,15 +158,26 @@ fn read_fails<R: Abort + Threads + Wait + Copy + Send + 'static>(
     met_read(rt, &left, side, number)
 }
 
-// How many reads fail in turn before a run meets no failure.
-fn reads_that_fail<R: Abort + Threads + Wait + Copy + Send + 'static>(
+// What fails in turn.
+#[derive(Clone, Copy)]
+enum Calls {
+    Reads(Side),
+    Writes(Out),
+}
+
+// How many of these calls fail in turn before a run meets no failure.
+fn calls_that_fail<R: Abort + Threads + Wait + Copy + Send + 'static>(
     rt: &R,
     alloc: Global,
-    side: Side,
+    calls: Calls,
     way: Way,
 ) -> Result<u64, Fail> {
     for number in 1..1000u64 {
-        if !read_fails(rt, alloc, side, way, number)? {
+        let met = match calls {
+            Calls::Reads(side) => read_fails(rt, alloc, side, way, number)?,
+            Calls::Writes(out) => write_fails(rt, alloc, out, way, number)?,
+        };
+        if !met {
             return Ok(number - 1);
         }
     }
@@ -178,7 +189,8 @@ fn each_read_fails_in_turn(rt: HostRuntime) -> Result<(), Fail> {
     for side in [Side::Forward, Side::Reverse] {
         for way in WAYS {
             // 126 bytes by 26 reads, and one that finds the end.
-            assert_eq!(rt; reads_that_fail(&rt, rt.alloc(), side, way)?, 27);
+            let reads = calls_that_fail(&rt, rt.alloc(), Calls::Reads(side), way)?;
+            assert_eq!(rt; reads, 27);
         }
     }
     Ok(())
@@ -253,21 +265,6 @@ fn write_fails<R: Abort + Threads + Wait + Copy + Send + 'static>(
     met_write(rt, &left, out, number)
 }
 
-// How many writes fail in turn before a run meets no failure.
-fn writes_that_fail<R: Abort + Threads + Wait + Copy + Send + 'static>(
-    rt: &R,
-    alloc: Global,
-    out: Out,
-    way: Way,
-) -> Result<u64, Fail> {
-    for number in 1..1000u64 {
-        if !write_fails(rt, alloc, out, way, number)? {
-            return Ok(number - 1);
-        }
-    }
-    Err("each run met a failure")?
-}
-
 #[test]
 fn each_write_fails_in_turn(rt: HostRuntime) -> Result<(), Fail> {
     // The text of a block goes out by five bytes at a time: 32, 14, 18 and 18 bytes of forward paired, and so on.
@@ -280,11 +277,8 @@ fn each_write_fails_in_turn(rt: HostRuntime) -> Result<(), Fail> {
     ];
     for (out, writes) in rows {
         for way in WAYS {
-            assert_eq!(rt;
-                writes_that_fail(&rt, rt.alloc(), out, way)?,
-                writes,
-                "{out}"
-            );
+            let failed = calls_that_fail(&rt, rt.alloc(), Calls::Writes(out), way)?;
+            assert_eq!(rt; failed, writes, "{out}");
         }
     }
     Ok(())

@@ -24,6 +24,3 @@ pub use outcome::Outcome;
 pub use outlets::Outlets;
 pub use settings::{BadSetting, Settings};
 pub use two_texts::run_serial;
-
-#[cfg(test)]
-mod tests;

@@ -1,17 +1,14 @@
 -- One list of steps of several, on what is left of a read.
-use Rattle.std.proofs.Common.{◌≡◌, ℕ, zero, suc, ◌+◌, ◌-◌, ◌<◌, ◌≤◌, Bool, not, ◌==◌, cond, nat_lt, List, [], ◌∷◌, length, take, drop, get_or, refl, ap, sym, ◌∙◌, arith, add-one}
-use Rattle.std.proofs.lemmas.List.{drop_more, drop_all}
-use Rattle.std.proofs.lemmas.Bool.{ne_eqb}
+use Rattle.std.proofs.Common.{◌≡◌, ℕ, zero, suc, ◌+◌, ◌-◌, ◌<◌, ◌≤◌, cond, nat_lt, List, [], ◌∷◌, ◌++◌, length, take, drop, get_or, map, refl, ap, sym, ◌∙◌, arith, add-one}
+use Rattle.std.proofs.lemmas.List.{drop_more, drop_all, drop-drop, drop-take, take-take, take-append-drop, length-drop, length-take-le}
 use Rattle.fq_text.specs.declared.encoding.Encoding.{Encoding}
+use Rattle.fq_text.specs.Grammar.{Read}
 use Rattle.fq_trim.specs.declared.step.Step.{Step}
 use Rattle.fq_trim.specs.declared.trimming.Kept.{Kept}
-use Rattle.fq_trim.specs.Keeping.{kept, only, scores, places}
-use Rattle.fq_trim.proofs.PlaceLemmas.{length-places, scores_at}
-use Rattle.fq_text.specs.Grammar.{Read}
-use Rattle.fq_pair.specs.Outputs.{is_empty}
-use Rattle.fq_tally.specs.declared.side.SideTally.{SideTally}
-use Rattle.fq_tally.specs.Courses.{Part, part_at, Course, alone, after, course_of, survives}
-use Rattle.fq_tally.specs.Tallies.{with_left, with_steps, with_read}
+use Rattle.fq_trim.specs.Keeping.{kept, kept_of, only, scores, places}
+use Rattle.fq_trim.proofs.PlaceLemmas.{length-places, length-scores, scores_at, scores_of_part}
+use Rattle.fq_tally.specs.Courses.{Part, part_at, whole, Course, alone, after, course_of}
+use Rattle.fq_tally.proofs.LeftLaws.{at, kept_within, kept_append, kept_none}
 
 abbrev pub part : Encoding → List ℕ → List ℕ → Part
 part encoding seq qual = record { encoding = encoding; seq = seq; qual = qual }
@@ -84,19 +81,89 @@ alone_at [] number lt = absurd (omega arith)
 alone_at (step ∷ steps) zero lt = refl
 alone_at (step ∷ steps) (suc n) lt = alone_at steps n (omega arith)
 
--- a base is left
-pub survives_is : (xs : List ℕ) → not (length xs == 0) ≡ not (is_empty xs)
-survives_is [] = refl
-survives_is (x ∷ xs) = ap not (ne_eqb (suc (length xs)) 0 (omega arith))
+-- The walk over steps, by the places that are still left.
 
--- a read, by what its course left and whether its mate was found to survive
-pub read_is : (read : Read) (c : Course) (seq qual mate_seq : List ℕ) (front : ℕ) (mate : Part) (found : Bool) (old taken new : SideTally) →
-    taken ≡ with_steps c old → c.left ≡ part read.encoding seq qual → c.front ≡ front → mate.seq ≡ mate_seq → found ≡ (length mate_seq == 0) →
-    new ≡ with_left read (part read.encoding seq qual) front (not found) taken → new ≡ with_read read c (survives mate) old
-read_is read c seq qual mate_seq front mate found old taken new taken_is left front_is mate_is found_is new_is =
-    let mate_survives : not found ≡ survives mate = ap not found_is ∙ survives_is mate_seq ∙ ap (λ (xs : List ℕ). not (is_empty xs)) (sym mate_is) in
-    new_is
-    ∙ ap (λ (t : SideTally). with_left read (part read.encoding seq qual) front (not found) t) taken_is
-    ∙ ap (λ (b : Bool). with_left read (part read.encoding seq qual) front b (with_steps c old)) mate_survives
-    ∙ ap (λ (p : Part). with_left read p front (survives mate) (with_steps c old)) (sym left)
-    ∙ ap (λ (n : ℕ). with_left read c.left n (survives mate) (with_steps c old)) (sym front_is)
+at_places : (s m a : ℕ) → a < m → get_or (places s m) a 0 ≡ s + a
+at_places s zero a lt = absurd (omega arith)
+at_places s (suc m) zero lt = omega arith
+at_places s (suc m) (suc a) lt = let rest = at_places (suc s) m a (omega arith) in omega arith
+
+-- places of places
+places_at : (s m a n : ℕ) → a + n ≤ m → map (at (places s m)) (places a n) ≡ places (s + a) n
+places_at s m a zero le = refl
+places_at s m a (suc n) le =
+    let next : s + suc a ≡ suc (s + a) = omega arith in
+    ap (λ x. x ∷ map (at (places s m)) (places (suc a) n)) (at_places s m a (omega arith))
+    ∙ ap (λ xs. (s + a) ∷ xs) (places_at s m (suc a) n (omega arith))
+    ∙ ap (λ b. (s + a) ∷ places b n) next
+
+-- a part of a part
+part_again : {X : Type 0} (xs : List X) (s m a n : ℕ) → a + n ≤ m → take n (drop a (take m (drop s xs))) ≡ take n (drop (s + a) xs)
+part_again xs s m a n le =
+    let size : m ≡ a + (m - a) = omega arith in
+    ap (λ i. take n (drop a (take i (drop s xs)))) size
+    ∙ ap (take n) (drop-take a (m - a) (drop s xs))
+    ∙ take-take n (m - a) (drop a (drop s xs)) (omega arith)
+    ∙ ap (take n) (drop-drop a s xs)
+
+-- the steps to come, where the first of them is split off
+steps_split : (number : ℕ) (steps : List Step) → drop number steps ≡ only number steps ++ drop (number + 1) steps
+steps_split number steps = sym (take-append-drop 1 (drop number steps)) ∙ ap (λ (ss : List Step). only number steps ++ ss) (drop-drop 1 number steps)
+
+module _ (steps : List Step) (read : Read) (number start stop : ℕ) (in_steps : number < length steps) (order : start ≤ stop) (within : stop ≤ length read.qual) (same : length read.qual ≡ length read.seq) where
+  abbrev at_hand : Part
+  at_hand = cut start (stop - start) (whole read)
+
+  abbrev read_scores : List ℕ
+  read_scores = scores read.encoding read.qual
+
+  hand_scores : scores read.encoding at_hand.qual ≡ map (at read_scores) (places start (stop - start))
+  hand_scores = let size = length-scores read.encoding read.qual in scores_of_part read.encoding read.qual start (stop - start) ∙ sym (scores_at read_scores start (stop - start) (omega arith))
+
+  one_more : (ns : List ℕ) → kept (only number steps) (scores read.encoding at_hand.qual) ≡ ns →
+      kept_of (drop number steps) read_scores (places start (stop - start)) ≡ kept_of (drop (number + 1) steps) read_scores (map (at (places start (stop - start))) ns)
+  one_more ns is =
+      let ps = places start (stop - start) in
+      ap (λ (ss : List Step). kept_of ss read_scores ps) (steps_split number steps)
+      ∙ kept_append (only number steps) (drop (number + 1) steps) read_scores ps
+      ∙ ap (kept_of (drop (number + 1) steps) read_scores) (kept_within (only number steps) read_scores ps ∙ ap (λ (xs : List ℕ). map (at ps) (kept (only number steps) xs)) (sym hand_scores) ∙ ap (map (at ps)) is)
+
+  -- a step that keeps something
+  pub places_kept : (k : Kept) → kept (only number steps) (scores read.encoding at_hand.qual) ≡ places k.start (k.stop - k.start) → k.stop ≤ length at_hand.qual →
+      kept_of (drop number steps) read_scores (places start (stop - start)) ≡ kept_of (drop (number + 1) steps) read_scores (places (start + k.start) (start + k.stop - (start + k.start)))
+  places_kept k is fits =
+      let some = k.some in
+      let size : length at_hand.qual ≡ stop - start = length-take-le (stop - start) (drop start read.qual) (omega (arith, length-drop start read.qual)) in
+      let n : k.stop - k.start ≡ start + k.stop - (start + k.start) = omega arith in
+      one_more (places k.start (k.stop - k.start)) is
+      ∙ ap (kept_of (drop (number + 1) steps) read_scores) (places_at start (stop - start) k.start (k.stop - k.start) (omega arith) ∙ ap (places (start + k.start)) n)
+
+  -- a step that keeps nothing
+  pub places_dropped : kept (only number steps) (scores read.encoding at_hand.qual) ≡ [] → kept_of (drop number steps) read_scores (places start (stop - start)) ≡ []
+  places_dropped is = one_more [] is ∙ kept_none (drop (number + 1) steps) read_scores
+
+  -- the same of the course
+  pub cut_kept : (k : Kept) → kept (only number steps) (scores read.encoding at_hand.qual) ≡ places k.start (k.stop - k.start) → k.stop ≤ length at_hand.qual →
+      course_of number (drop number (alone steps)) at_hand
+      ≡ kept_course number k.start (k.stop - k.start) at_hand (course_of (number + 1) (drop (number + 1) (alone steps)) (cut (start + k.start) (start + k.stop - (start + k.start)) (whole read)))
+  cut_kept k is fits =
+      let some = k.some in
+      let m = stop - start in
+      let count = k.stop - k.start in
+      let size : length at_hand.qual ≡ m = length-take-le m (drop start read.qual) (omega (arith, length-drop start read.qual)) in
+      let seq_size : length at_hand.seq ≡ m = length-take-le m (drop start read.seq) (omega (arith, length-drop start read.seq)) in
+      let all = alone_length steps in
+      let n : count ≡ start + k.stop - (start + k.start) = omega arith in
+      let seq = part_again read.seq start m k.start count (omega arith) in
+      let qual = part_again read.qual start m k.start count (omega arith) in
+      let to : Part → Course = λ p. kept_course number k.start count at_hand (course_of (number + 1) (drop (number + 1) (alone steps)) p) in
+      next_kept number (alone steps) read.encoding at_hand.seq at_hand.qual k (omega arith) (ap (λ (s : List Step). kept s (scores read.encoding at_hand.qual)) (alone_at steps number in_steps) ∙ is) fits (omega arith)
+      ∙ ap (λ (xs : List ℕ). to (part read.encoding xs (take count (drop k.start at_hand.qual)))) seq
+      ∙ ap (λ (xs : List ℕ). to (part read.encoding (take count (drop (start + k.start) read.seq)) xs)) qual
+      ∙ ap (λ (i : ℕ). to (cut (start + k.start) i (whole read))) n
+
+  pub cut_dropped : kept (only number steps) (scores read.encoding at_hand.qual) ≡ [] →
+      course_of number (drop number (alone steps)) at_hand ≡ record { left = part read.encoding [] []; front = 0; shortened = []; dropped = number ∷ [] }
+  cut_dropped is =
+      let all = alone_length steps in
+      next_dropped number (alone steps) read.encoding at_hand.seq at_hand.qual (omega arith) (ap (λ (s : List Step). kept s (scores read.encoding at_hand.qual)) (alone_at steps number in_steps) ∙ is)

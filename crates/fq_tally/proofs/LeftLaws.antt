@@ -1,5 +1,5 @@
 -- Lists of steps, taken in turn and as one list.
-use Rattle.std.proofs.Common.{◌≡◌, ℕ, zero, suc, ◌+◌, ◌<◌, ◌≤◌, Bool, true, false, not, cond, List, [], ◌∷◌, ◌++◌, length, get_or, map, refl, ap, sym, subst, ◌∙◌, arith, ⊎_elim}
+use Rattle.std.proofs.Common.{◌≡◌, ℕ, zero, suc, ◌<◌, Bool, not, List, [], ◌∷◌, ◌++◌, length, get_or, map, refl, ap, sym, subst, ◌∙◌, arith, ⊎_elim}
 use Rattle.std.proofs.lemmas.List.{take_all, length-map}
 use Rattle.std.proofs.lemmas.Bool.{cond-true, cond-false, cases_Bool}
 use Rattle.fq_text.specs.Scores.{value_of}
@@ -9,6 +9,7 @@ use Rattle.fq_trim.specs.Keeping.{scores, places, select, keeps, kept_of, kept}
 use Rattle.fq_trim.proofs.PlaceLemmas.{scores_at}
 use Rattle.fq_pair.specs.Outputs as outputs
 use Rattle.fq_pair.specs.Outputs.{is_empty, kept_places}
+use Rattle.fq_pair.proofs.KeptLemmas.{Below, select_below, kept_below, places_below}
 use Rattle.fq_tally.specs.Laws.{one_list}
 use Rattle.fq_tally.specs.Courses.{Part, alone, part_at, whole, Course, after, course_of, course, survives}
 
@@ -17,13 +18,8 @@ alone_are_all [] = refl
 alone_are_all (step ∷ steps) = ap (λ ss. step ∷ ss) (alone_are_all steps)
 
 -- the member at a place
-abbrev at : List ℕ → ℕ → ℕ
+abbrev pub at : List ℕ → ℕ → ℕ
 at xs i = get_or xs i 0
-
--- each number is below n
-abbrev Below : ℕ → List ℕ → Type 0
-Below n [] = Unit {0}
-Below n (i ∷ is) = (i < n) × Below n is
 
 got : (f : ℕ → ℕ) (xs : List ℕ) (i : ℕ) → i < length xs → get_or (map f xs) i 0 ≡ f (get_or xs i 0)
 got f [] i lt = absurd (omega arith)
@@ -46,22 +42,6 @@ select_map test j f (i ∷ is) =
     (λ no. cond-false (test j) _ _ no ∙ rest ∙ ap (map f) (sym (cond-false (test j) (i ∷ select test (suc j) is) (select test (suc j) is) no)))
     (cases_Bool (test j))
 
-cond_below : (b : Bool) (n i : ℕ) (is : List ℕ) → i < n → Below n is → Below n (cond b (i ∷ is) is)
-cond_below true n i is lt below = (lt, below)
-cond_below false n i is lt below = below
-
-select_below : (test : ℕ → Bool) (j n : ℕ) (is : List ℕ) → Below n is → Below n (select test j is)
-select_below test j n [] below = tt
-select_below test j n (i ∷ is) below = cond_below (test j) n i (select test (suc j) is) below.0 (select_below test (suc j) n is below.1)
-
-kept_below : (steps : List Step) (q : List ℕ) (n : ℕ) (is : List ℕ) → Below n is → Below n (kept_of steps q is)
-kept_below [] q n is below = below
-kept_below (step ∷ steps) q n is below = kept_below steps q n _ (select_below (keeps step (map (at q) is)) 0 n is below)
-
-places_below : (n a m : ℕ) → a + m ≤ n → Below n (places a m)
-places_below n a zero le = tt
-places_below n a (suc m) le = (omega arith, places_below n (suc a) m (omega arith))
-
 all_places : (xs : List ℕ) (n : ℕ) → n ≡ length xs → map (at xs) (places 0 n) ≡ xs
 all_places xs n is = scores_at xs 0 n (omega arith) ∙ take_all n xs (omega arith)
 
@@ -75,18 +55,18 @@ kept_map (step ∷ steps) q ps is below =
     ∙ kept_map steps q ps (select test 0 is) (select_below test 0 (length ps) is below)
 
 -- steps on what is left at places are the steps on what is left, as places of these
-kept_within : (steps : List Step) (q ps : List ℕ) → kept_of steps q ps ≡ map (at ps) (kept steps (map (at q) ps))
+pub kept_within : (steps : List Step) (q ps : List ℕ) → kept_of steps q ps ≡ map (at ps) (kept steps (map (at q) ps))
 kept_within steps q ps =
     let size = length-map ps (at q) in
     ap (kept_of steps q) (sym (all_places ps (length ps) refl))
     ∙ kept_map steps q ps (places 0 (length ps)) (places_below (length ps) 0 (length ps) (omega arith))
     ∙ ap (λ (n : ℕ). map (at ps) (kept_of steps (map (at q) ps) (places 0 n))) (sym size)
 
-kept_append : (steps others : List Step) (q ps : List ℕ) → kept_of (steps ++ others) q ps ≡ kept_of others q (kept_of steps q ps)
+pub kept_append : (steps others : List Step) (q ps : List ℕ) → kept_of (steps ++ others) q ps ≡ kept_of others q (kept_of steps q ps)
 kept_append [] others q ps = refl
 kept_append (step ∷ steps) others q ps = kept_append steps others q (select (keeps step (map (at q) ps)) 0 ps)
 
-kept_none : (steps : List Step) (q : List ℕ) → kept_of steps q [] ≡ []
+pub kept_none : (steps : List Step) (q : List ℕ) → kept_of steps q [] ≡ []
 kept_none [] q = refl
 kept_none (step ∷ steps) q = kept_none steps q
 
@@ -130,10 +110,17 @@ left_in_turn (steps ∷ lists) n p same =
     left_after n ps p (course_of (suc n) lists next) r left (ap (λ (ns : List ℕ). part_at ns p) (kept_none rest q))
     ∙ ap (λ (ns : List ℕ). part_at ns p) (sym (kept_append steps rest q (places 0 (length q))))
 
-not_empty : (f : ℕ → ℕ) (xs : List ℕ) → is_empty (map f xs) ≡ is_empty xs
+pub not_empty : (f : ℕ → ℕ) (xs : List ℕ) → is_empty (map f xs) ≡ is_empty xs
 not_empty f [] = refl
 not_empty f (x ∷ xs) = refl
 
 pub survives_in_turn : (lists : List (List Step)) (read : Read) → length read.qual ≡ length read.seq → survives (course lists read).left ≡ outputs.survives (one_list lists) read
 survives_in_turn lists read same =
     ap survives (left_in_turn lists 0 (whole read) same) ∙ ap not (not_empty (at read.seq) (kept_places (one_list lists) read))
+
+-- the same of steps, each in a list of its own
+pub left_as_kept : (steps : List Step) (read : Read) → length read.qual ≡ length read.seq → (course (alone steps) read).left ≡ part_at (kept_places steps read) (whole read)
+left_as_kept steps read same = left_in_turn (alone steps) 0 (whole read) same ∙ ap (λ (ss : List Step). part_at (kept_places ss read) (whole read)) (alone_are_all steps)
+
+pub survives_as_kept : (steps : List Step) (read : Read) → length read.qual ≡ length read.seq → survives (course (alone steps) read).left ≡ not (is_empty (kept_places steps read))
+survives_as_kept steps read same = ap survives (left_as_kept steps read same) ∙ ap not (not_empty (at read.seq) (kept_places steps read))

@@ -3,3 +3,4 @@ pub mod CourseLemmas
 pub mod PlusLaws
 pub mod WorkedExamples
 pub mod LeftLaws
+pub mod SideLemmas

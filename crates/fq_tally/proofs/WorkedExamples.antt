@@ -7,7 +7,7 @@ use Rattle.fq_trim.specs.declared.step.Step.TheVariants.{Leading, Trailing, Crop
 use Rattle.fq_pair.specs.Mates.{Mates, mates_in}
 use Rattle.fq_tally.specs.declared.reads.ReadsTally.{ReadsTally}
 use Rattle.fq_tally.specs.Rows.{row_of, counted, rows_plus}
-use Rattle.fq_tally.specs.Courses.{course}
+use Rattle.fq_tally.specs.Courses.{course, passage}
 use Rattle.fq_tally.specs.Tallies.{is_gc, is_n, no_reads, no_tally, bases_of, tally_of, plus}
 
 -- Rows.
@@ -55,6 +55,12 @@ ends = (Leading 3 ∷ []) ∷ (Trailing 3 ∷ []) ∷ (MinLen 2 ∷ []) ∷ []
 
 both_ends : course ends (read_of (codes "ACGT") (codes "#II#")) ≡ record { left = record { encoding = Sanger; seq = codes "CG"; qual = codes "II" }; front = 1; shortened = 0 ∷ 1 ∷ []; dropped = [] }
 both_ends = refl
+
+both_ends_pass : passage (Leading 3 ∷ Trailing 3 ∷ MinLen 2 ∷ []) (read_of (codes "ACGT") (codes "#II#")) ≡ record { kept = 1 ∷ 2 ∷ []; front = 1; shortened = 0 ∷ 1 ∷ []; dropped = [] }
+both_ends_pass = refl
+
+short_pass : passage (Leading 3 ∷ Trailing 3 ∷ MinLen 2 ∷ []) (read_of (codes "ACGT") (codes "##I#")) ≡ record { kept = []; front = 2; shortened = 0 ∷ 1 ∷ []; dropped = 2 ∷ [] }
+short_pass = refl
 
 too_short : (course ends (read_of (codes "ACGT") (codes "##I#"))).dropped ≡ 2 ∷ []
 too_short = refl

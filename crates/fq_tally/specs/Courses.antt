@@ -1,12 +1,10 @@
 -- What becomes of a read when lists of steps are taken in turn, each on what the one before left.
-use Rattle.std.specs.Prelude.{◌≡◌, ℕ, suc, ◌+◌, ◌≤◌, Bool, true, not, nat_lt, List, [], ◌∷◌, length, if◌then◌else◌}
-use Rattle.std.specs.List.{list_all}
-use Rattle.fq_text.specs.Scores.{is_scored}
+use Rattle.std.specs.Prelude.{ℕ, suc, ◌+◌, Bool, not, nat_lt, Option, Some, None, List, [], ◌∷◌, length, if◌then◌else◌}
 use Rattle.fq_text.specs.declared.encoding.Encoding.{Encoding}
 use Rattle.fq_text.specs.Grammar.{Read}
 use Rattle.fq_trim.specs.declared.step.Step.{Step}
 use Rattle.fq_trim.specs.Keeping.{kept, scores}
-use Rattle.fq_pair.specs.Outputs.{bytes_at, is_empty}
+use Rattle.fq_pair.specs.Outputs.{bytes_at, is_empty, kept_places}
 
 -- bases of a read and their quality bytes
 pub record Part : Type 0 where
@@ -61,10 +59,24 @@ course lists read = course_of 0 lists (whole read)
 abbrev pub survives : Part → Bool
 survives left = not (is_empty left.seq)
 
--- of a read that takes a course this is left
-pub record HasLeft (read : Read) (course : Course) (seq qual : List ℕ) (front : ℕ) : Type 0 where
-  pub left : course.left ≡ record { encoding = read.encoding; seq = seq; qual = qual }
-  pub front_is : course.front ≡ front
-  pub within : front + length qual ≤ length read.qual
-  pub same : length qual ≡ length seq
-  pub scored : list_all (is_scored read.encoding) qual ≡ true
+-- what steps do to a read: the places of it that they keep, how many bases they remove in front of these, the numbers of the steps that
+-- shortened it, and the number of the one that dropped it
+pub record Passage : Type 0 where
+  pub kept : List ℕ
+  pub front : ℕ
+  pub shortened : List ℕ
+  pub dropped : List ℕ
+
+-- by steps that are counted from 0
+abbrev pub passage : List Step → Read → Passage
+passage steps read = record {
+  kept = kept_places steps read;
+  front = (course (alone steps) read).front;
+  shortened = (course (alone steps) read).shortened;
+  dropped = (course (alone steps) read).dropped;
+}
+
+-- a number, where there is one
+abbrev pub numbers_of : Option ℕ → List ℕ
+numbers_of None = []
+numbers_of (Some n) = n ∷ []

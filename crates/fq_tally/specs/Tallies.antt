@@ -60,6 +60,16 @@ with_part part t = record {
   lengths = counted (length part.seq) t.lengths;
 }
 
+-- a read whose bases are counted
+abbrev pub with_bases : BaseTally → ReadsTally → ReadsTally
+with_bases bases t = record {
+  reads = capped_sum t.reads 1;
+  bases = bases_plus t.bases bases;
+  shortest = min t.shortest bases.bases;
+  longest = max t.longest bases.bases;
+  lengths = counted bases.bases t.lengths;
+}
+
 abbrev pub reads_plus : ReadsTally → ReadsTally → ReadsTally
 reads_plus a b = record {
   reads = capped_sum a.reads b.reads;

@@ -60,6 +60,19 @@ impl BaseTally {
         }
     }
 
+    // These counts and those of more bases.
+    pub(crate) fn with(self, encoding: Encoding, seq: &[u8], qual: &[u8]) -> BaseTally
+        requires few { length qual.now ≤ 1048576 }
+        requires same { length qual.now ≡ length seq.now }
+        requires scored { list_all (is_scored encoding) qual.now ≡ true }
+        ensures { result ≡ bases_plus self (bases_of (record { encoding = encoding; seq = seq.now; qual = qual.now })) }
+    {
+        if seq.is_empty() {
+            return self;
+        }
+        self.plus(BaseTally::of(encoding, seq, qual))
+    }
+
     // The counts of both together.
     pub(crate) fn plus(self, other: BaseTally) -> BaseTally
         ensures { result ≡ bases_plus self other }

@@ -3,7 +3,8 @@
 //! A [`Tally`] takes pairs by [`add`](Tally::add), one after the other, and other tallies by [`add_all`](Tally::add_all). Pairs
 //! that are tallied apart and added up give the tally of all.
 //!
-//! The steps of a list are taken in turn, and what each does is counted by its place in the list.
+//! The steps of a list are taken in turn, and what each does is counted by its place in the list. [`Trimmed`] tells what they do to a
+//! read, before anything is counted: so a pair that is written too is trimmed once.
 #![tactic(auto)]
 
 mod bases;
@@ -13,6 +14,7 @@ mod rows;
 mod side;
 mod steps;
 mod tally;
+mod trimmed;
 
 pub use bases::BaseTally;
 pub use reads::ReadsTally;
@@ -20,3 +22,4 @@ pub use rows::{LAST_ROW, Rows};
 pub use side::SideTally;
 pub use steps::StepsTally;
 pub use tally::Tally;
+pub use trimmed::Trimmed;

@@ -1,12 +1,10 @@
 //! Counts of reads.
 
-ghost use Rattle.std.specs.Prelude.{◌≡◌, ◌≤◌, true, length, IfOk};
-ghost use Rattle.std.specs.List.{list_all};
-ghost use Rattle.fq_text.specs.Scores.{is_scored};
+ghost use Rattle.std.specs.Prelude.{◌≡◌, IfOk};
 
 use crate::bases::BaseTally;
 use crate::rows::Rows;
-use fq_text::{Encoding, OutOfMemory};
+use fq_text::OutOfMemory;
 use std::alloc::Global;
 
 /// Counts of reads, of their bases and of their lengths. A sum that is larger than `u64::MAX` is kept at that.
@@ -25,7 +23,7 @@ pub struct ReadsTally {
 }
 
 impl ReadsTally {
-    ghost use Rattle.fq_tally.specs.Tallies.{no_reads, with_part, reads_plus};
+    ghost use Rattle.fq_tally.specs.Tallies.{no_reads, with_bases, reads_plus};
 
     // No reads.
     pub(crate) fn new(alloc: Global) -> Result<ReadsTally, OutOfMemory>
@@ -41,18 +39,16 @@ impl ReadsTally {
         })
     }
 
-    // One read more, of these bases and quality bytes.
-    pub(crate) fn add(&mut self, encoding: Encoding, seq: &[u8], qual: &[u8])
-        requires few { length qual.now ≤ 1048576 }
-        requires scored { list_all (is_scored encoding) qual.now ≡ true }
-        ensures { self.new ≡ with_part (record { encoding = encoding; seq = seq.now; qual = qual.now }) self.old }
+    // One read more, whose bases are counted, as many as this.
+    pub(crate) fn add(&mut self, bases: BaseTally, length: usize)
+        requires { length ≡ bases.bases }
+        ensures { self.new ≡ with_bases bases self.old }
     {
-        let bases = BaseTally::of(encoding, seq, qual);
         self.reads = self.reads.saturating_add(1);
         self.bases = self.bases.plus(bases);
         self.shortest = self.shortest.min(bases.bases);
         self.longest = self.longest.max(bases.bases);
-        self.lengths.count(seq.len());
+        self.lengths.count(length);
     }
 
     // The counts of both together.

@@ -1,15 +1,17 @@
 //! Counts of the reads of one side.
 
-ghost use Rattle.std.specs.Prelude.{◌≡◌, ◌+◌, ◌≤◌, true, length, IfOk};
-ghost use Rattle.std.specs.List.{list_all};
-ghost use Rattle.fq_text.specs.Scores.{is_scored};
+ghost use Rattle.std.specs.Prelude.{◌≡◌, ◌≤◌, false, [], Some, length, IfOk};
 ghost use Rattle.fq_text.specs.Grammar.{IsLawful};
-ghost use Rattle.fq_tally.specs.Courses.{alone, course, HasLeft};
+ghost use Rattle.fq_pair.specs.Outputs.{places_of};
+ghost use Rattle.fq_tally.specs.Courses.{alone, course, passage, part_at, whole};
+ghost use Rattle.fq_tally.specs.Tallies.{bases_of};
 
+use crate::bases::BaseTally;
 use crate::reads::ReadsTally;
-use crate::steps::{Left, StepsTally};
+use crate::steps::StepsTally;
+use crate::trimmed::Trimmed;
 use fq_text::{OutOfMemory, ReadView};
-use fq_trim::Steps;
+use fq_trim::{Kept, Steps};
 use std::alloc::Global;
 
 /// Counts of the reads of one side, before and after trimming.
@@ -30,7 +32,7 @@ pub struct SideTally {
 }
 
 impl SideTally {
-    ghost use Rattle.fq_tally.specs.Tallies.{no_side, with_left, with_steps, side_plus};
+    ghost use Rattle.fq_tally.specs.Tallies.{no_side, with_left, with_read, side_plus};
 
     // No reads.
     pub(crate) fn new(alloc: Global) -> Result<SideTally, OutOfMemory>
@@ -50,37 +52,45 @@ impl SideTally {
         })
     }
 
-    // Takes steps in turn, counts what each does, and answers what is left.
-    pub(crate) fn take<'a>(&mut self, read: &ReadView<'a>, steps: &Steps) -> Left<'a>
-        ensures tally { self.new ≡ with_steps (course (alone steps.now) read.now) self.old }
-        ensures left { HasLeft read.now (course (alone steps.now) read.now) result.seq.now result.qual.now result.front }
+    // One read more, what steps do to it, and whether its mate survives.
+    pub(crate) fn add(&mut self, read: &ReadView<'_>, steps: &Steps, trimmed: &Trimmed, mate: bool)
+        requires { trimmed.now ≡ passage steps.now read.now }
+        ensures added { self.new ≡ with_read read.now (course (alone steps.now) read.now) mate self.old }
         ensures lawful { IsLawful read.now }
     {
         let _ = read.title();
-        self.steps
-            .take(steps, read.encoding(), read.seq(), read.qual())
+        self.steps.add(trimmed);
+        match trimmed.kept() {
+            Some(kept) => self.add_survivor(read, kept, mate),
+            None => self.add_dropped(read),
+        }
     }
 
-    // One read more, and what is left of it.
-    pub(crate) fn add(&mut self, read: &ReadView<'_>, left: Left<'_>, mate: bool)
-        requires lawful { IsLawful read.now }
-        requires within { left.front + length left.qual.now ≤ length read.now.qual }
-        requires same { length left.qual.now ≡ length left.seq.now }
-        requires scored { list_all (is_scored read.now.encoding) left.qual.now ≡ true }
-        ensures { self.new ≡ with_left read.now (record { encoding = read.now.encoding; seq = left.entry.seq.now; qual = left.entry.qual.now }) left.entry.front mate self.old }
+    // One read more of which no base is kept.
+    fn add_dropped(&mut self, read: &ReadView<'_>)
+        ensures { self.new ≡ with_left read.now (part_at [] (whole read.now)) 0 false self.old }
     {
-        let encoding = read.encoding();
-        self.before.add(encoding, read.seq(), read.qual());
-        if left.seq.is_empty() {
-            return;
-        }
+        let _ = read.title();
+        let bases = BaseTally::of(read.encoding(), read.seq(), read.qual());
+        self.before.add(bases, read.seq().len());
+    }
+
+    // One read more of which bases are kept, and whether its mate survives.
+    fn add_survivor(&mut self, read: &ReadView<'_>, kept: Kept, mate: bool)
+        requires { kept.stop ≤ length read.now.seq }
+        ensures { self.new ≡ with_left read.now (part_at (places_of (Some kept)) (whole read.now)) kept.start mate self.old }
+    {
+        let len = kept.stop - kept.start;
+        let left = kept_bases(read, kept);
+        let whole = whole_bases(read, kept, left);
+        self.before.add(whole, read.seq().len());
         if mate {
-            self.paired.add(encoding, left.seq, left.qual);
+            self.paired.add(left, len);
         } else {
-            self.unpaired.add(encoding, left.seq, left.qual);
+            self.unpaired.add(left, len);
         }
-        let behind = read.seq().len() - left.front - left.seq.len();
-        self.front = self.front.saturating_add(left.front as u64);
+        let behind = read.seq().len() - kept.stop;
+        self.front = self.front.saturating_add(kept.start as u64);
         self.behind = self.behind.saturating_add(behind as u64);
     }
 
@@ -107,4 +117,28 @@ impl SideTally {
         self.behind = 0;
         self.steps.clear();
     }
+}
+
+// The counts of the bases that are kept of a read.
+fn kept_bases(read: &ReadView<'_>, kept: Kept) -> BaseTally
+    requires { kept.stop ≤ length read.now.seq }
+    ensures { result ≡ bases_of (part_at (places_of (Some kept)) (whole read.now)) }
+{
+    let _ = read.title();
+    let seq = &read.seq()[kept.start..kept.stop];
+    let qual = &read.qual()[kept.start..kept.stop];
+    BaseTally::of(read.encoding(), seq, qual)
+}
+
+// The counts of all bases of a read, by those of the kept ones: so each base is counted once.
+fn whole_bases(read: &ReadView<'_>, kept: Kept, left: BaseTally) -> BaseTally
+    requires within { kept.stop ≤ length read.now.seq }
+    requires left { left ≡ bases_of (part_at (places_of (Some kept)) (whole read.now)) }
+    ensures { result ≡ bases_of (whole read.now) }
+{
+    let _ = read.title();
+    let encoding = read.encoding();
+    let (seq, qual) = (read.seq(), read.qual());
+    left.with(encoding, &seq[..kept.start], &qual[..kept.start])
+        .with(encoding, &seq[kept.stop..], &qual[kept.stop..])
 }

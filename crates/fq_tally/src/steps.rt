@@ -1,13 +1,11 @@
 //! What steps did to reads.
 
-ghost use Rattle.std.specs.Prelude.{◌≡◌, ◌+◌, ◌≤◌, true, length, IfOk};
-ghost use Rattle.std.specs.List.{list_all};
-ghost use Rattle.fq_text.specs.Scores.{is_scored};
-ghost use Rattle.fq_tally.specs.Courses.{alone, course_of};
+ghost use Rattle.std.specs.Prelude.{◌≡◌, IfOk};
+ghost use Rattle.fq_tally.specs.Rows.{counted_all};
 
 use crate::rows::Rows;
-use fq_text::{Encoding, OutOfMemory};
-use fq_trim::Steps;
+use crate::trimmed::Trimmed;
+use fq_text::OutOfMemory;
 use std::alloc::Global;
 
 /// What steps did to reads, by the number of the step, counted from 0.
@@ -20,17 +18,8 @@ pub struct StepsTally {
     pub dropped: Rows,
 }
 
-/// What is left of a read.
-#[derive(Drop)]
-pub(crate) struct Left<'a> {
-    pub(crate) seq: &'a [u8],
-    pub(crate) qual: &'a [u8],
-    /// How many bases were removed in front.
-    pub(crate) front: usize,
-}
-
 impl StepsTally {
-    ghost use Rattle.fq_tally.specs.Tallies.{no_steps, with_course, steps_plus};
+    ghost use Rattle.fq_tally.specs.Tallies.{no_steps, steps_plus};
 
     // No reads.
     pub(crate) fn new(alloc: Global) -> Result<StepsTally, OutOfMemory>
@@ -41,51 +30,16 @@ impl StepsTally {
         Ok(StepsTally { shortened, dropped })
     }
 
-    // Takes steps in turn, counts what each does, and answers what is left.
-    pub(crate) fn take<'a>(
-        &mut self,
-        steps: &Steps,
-        encoding: Encoding,
-        seq: &'a [u8],
-        qual: &'a [u8],
-    ) -> Left<'a>
-        requires same { length qual.now ≡ length seq.now }
-        requires scored { list_all (is_scored encoding) qual.now ≡ true }
-        ensures tally { self.new ≡ with_course (course_of 0 (alone steps.now) (record { encoding = encoding; seq = seq.now; qual = qual.now })) self.old }
-        ensures left { (course_of 0 (alone steps.now) (record { encoding = encoding; seq = seq.now; qual = qual.now })).left ≡ record { encoding = encoding; seq = result.seq.now; qual = result.qual.now } }
-        ensures front { (course_of 0 (alone steps.now) (record { encoding = encoding; seq = seq.now; qual = qual.now })).front ≡ result.front }
-        ensures within { result.front + length result.qual.now ≤ length qual.now }
-        ensures same { length result.qual.now ≡ length result.seq.now }
-        ensures scored { list_all (is_scored encoding) result.qual.now ≡ true }
+    // What steps did to one read more.
+    pub(crate) fn add(&mut self, trimmed: &Trimmed)
+        ensures { self.new ≡ record { shortened = counted_all trimmed.now.shortened self.old.shortened; dropped = counted_all trimmed.now.dropped self.old.dropped } }
     {
-        let mut left = Left {
-            seq,
-            qual,
-            front: 0,
-        };
-        for number in 0..steps.as_slice().len() {
-            match steps.trim_at(number, encoding, left.qual) {
-                Some(kept) => {
-                    if kept.stop - kept.start < left.qual.len() {
-                        self.shortened.count(number);
-                    }
-                    left = Left {
-                        seq: &left.seq[kept.start..kept.stop],
-                        qual: &left.qual[kept.start..kept.stop],
-                        front: left.front + kept.start,
-                    };
-                }
-                None => {
-                    self.dropped.count(number);
-                    return Left {
-                        seq: &[],
-                        qual: &[],
-                        front: left.front,
-                    };
-                }
-            }
+        for number in trimmed.shortened() {
+            self.shortened.count(usize::from(*number));
         }
-        left
+        if let Some(number) = trimmed.dropped() {
+            self.dropped.count(number);
+        }
     }
 
     // The counts of both together.

@@ -5,6 +5,7 @@ ghost use Rattle.fq_trim.specs.declared.step.Step.{Step};
 ghost use Rattle.fq_pair.specs.Mates.{Mates, mates_in};
 
 use crate::side::SideTally;
+use crate::trimmed::Trimmed;
 use fq_pair::PairView;
 use fq_text::OutOfMemory;
 use fq_trim::Steps;
@@ -20,7 +21,7 @@ pub struct Tally {
 }
 
 impl Tally {
-    ghost use Rattle.fq_tally.specs.Courses.{alone};
+    ghost use Rattle.fq_tally.specs.Courses.{alone, passage};
     ghost use Rattle.fq_tally.specs.Tallies.{no_tally, with_pair, tally_of, plus};
 
     /// The counts of no pairs. Memory for all counts is taken here, and may be refused.
@@ -36,12 +37,27 @@ impl Tally {
     pub fn add(&mut self, pair: PairView<'_>, steps: &Steps)
         ensures { self.new ≡ with_pair (alone steps.now) self.old (mates_in pair.entry.forward pair.entry.reverse) }
     {
-        let forward = self.forward.take(&pair.forward, steps);
-        let reverse = self.reverse.take(&pair.reverse, steps);
-        let forward_survives = !forward.seq.is_empty();
-        let reverse_survives = !reverse.seq.is_empty();
-        self.forward.add(&pair.forward, forward, reverse_survives);
-        self.reverse.add(&pair.reverse, reverse, forward_survives);
+        let forward = Trimmed::new(&pair.forward, steps);
+        let reverse = Trimmed::new(&pair.reverse, steps);
+        self.add_trimmed(pair, steps, &forward, &reverse);
+    }
+
+    /// Counts the same, where it is known already what the steps do to each mate. It takes no memory.
+    pub fn add_trimmed(
+        &mut self,
+        pair: PairView<'_>,
+        steps: &Steps,
+        forward: &Trimmed,
+        reverse: &Trimmed,
+    )
+        requires forward { forward.now ≡ passage steps.now pair.forward }
+        requires reverse { reverse.now ≡ passage steps.now pair.reverse }
+        ensures { self.new ≡ with_pair (alone steps.now) self.old (mates_in pair.entry.forward pair.entry.reverse) }
+    {
+        self.forward
+            .add(&pair.forward, steps, forward, reverse.survives());
+        self.reverse
+            .add(&pair.reverse, steps, reverse, forward.survives());
     }
 
     /// The counts of both together. So pairs may be counted apart, in any cut, and added up in their order.

@@ -1,7 +1,7 @@
 //! Worked pairs.
 
 use fq_pair::PairView;
-use fq_tally::{LAST_ROW, ReadsTally, SideTally, Tally};
+use fq_tally::{LAST_ROW, ReadsTally, SideTally, Tally, Trimmed};
 use fq_text::{Encoding, ReadView, is_lawful};
 use fq_trim::Steps;
 use std::alloc::{AllocError, Global};
@@ -11,17 +11,43 @@ use std::test::Fail;
 // A read in Sanger's encoding: its sequence and its quality.
 type Bases<'a> = (&'a str, &'a str);
 
-// The steps of words.
+const TITLE: &[u8] = b"r";
+
+// The calls, without their promise.
+
 fn steps_of(rt: &impl Abort, words: &[&str]) -> Steps {
     Steps::parse(words).expect(rt, "steps")
 }
 
+fn lawful_read<'a>(
+    rt: &impl Abort,
+    encoding: Encoding,
+    title: &'a [u8],
+    seq: &'a [u8],
+    qual: &'a [u8],
+) -> ReadView<'a> {
+    assert!(rt; is_lawful(encoding, title, seq, qual), "lawful");
+    ReadView::new(encoding, title, seq, qual)
+}
+
+fn no_pairs(alloc: Global) -> Result<Tally, AllocError> {
+    Tally::new(alloc)
+}
+
+fn add_pair(tally: &mut Tally, pair: PairView<'_>, steps: &Steps) {
+    tally.add(pair, steps);
+}
+
+fn add_tally(tally: &mut Tally, other: &Tally) {
+    tally.add_all(other);
+}
+
+fn trimmed_by(read: &ReadView<'_>, steps: &Steps) -> Trimmed {
+    Trimmed::new(read, steps)
+}
+
 fn read_of<'a>(rt: &impl Abort, encoding: Encoding, bases: Bases<'a>) -> ReadView<'a> {
-    let (seq, qual) = bases;
-    let seq = seq.as_bytes();
-    let qual = qual.as_bytes();
-    assert!(rt; is_lawful(encoding, b"r", seq, qual), "lawful");
-    ReadView::new(encoding, b"r", seq, qual)
+    lawful_read(rt, encoding, TITLE, bases.0.as_bytes(), bases.1.as_bytes())
 }
 
 fn add(rt: &impl Abort, tally: &mut Tally, steps: &Steps, forward: Bases<'_>, reverse: Bases<'_>) {
@@ -29,7 +55,7 @@ fn add(rt: &impl Abort, tally: &mut Tally, steps: &Steps, forward: Bases<'_>, re
         forward: read_of(rt, Encoding::Sanger, forward),
         reverse: read_of(rt, Encoding::Sanger, reverse),
     };
-    tally.add(pair, steps);
+    add_pair(tally, pair, steps);
 }
 
 // Reads, bases, those of a score of at least 20 and 30, the sum of the scores, G or C, N, the shortest and the longest.
@@ -58,7 +84,7 @@ fn removed(side: &SideTally) -> [u64; 2] {
 // The scores of the pair are 2, 20, 30, 29, 40 and 2, 19, 93.
 fn one_pair(rt: &impl Abort, alloc: Global) -> Result<Tally, AllocError> {
     let steps = steps_of(rt, &["LEADING:3", "MINLEN:3"]);
-    let mut tally = Tally::new(alloc)?;
+    let mut tally = no_pairs(alloc)?;
     add(rt, &mut tally, &steps, ("GcANn", "#5?>I"), ("gTC", "#4~"));
     Ok(tally)
 }
@@ -98,7 +124,7 @@ fn check_steps(
     removed_bases: [u64; 2],
 ) -> Result<(), AllocError> {
     let steps = steps_of(rt, &["LEADING:3", "TRAILING:3", "MINLEN:2"]);
-    let mut tally = Tally::new(alloc)?;
+    let mut tally = no_pairs(alloc)?;
     add(rt, &mut tally, &steps, ("AC", "II"), read);
     assert_steps(rt, &tally.reverse, shortened, dropped, removed_bases);
     Ok(())
@@ -129,16 +155,42 @@ fn steps_are_told_apart(rt: HostRuntime) -> Result<(), Fail> {
     Ok(())
 }
 
+// Which bases the same steps keep of a read: the place of the first, and that behind the last.
+fn kept_of(rt: &impl Abort, read: Bases<'_>) -> Option<(usize, usize)> {
+    let steps = steps_of(rt, &["LEADING:3", "TRAILING:3", "MINLEN:2"]);
+    let kept = trimmed_by(&read_of(rt, Encoding::Sanger, read), &steps).kept()?;
+    Some((kept.start, kept.stop))
+}
+
+#[test]
+fn what_is_kept_is_known_before_it_is_counted(rt: HostRuntime) -> Result<(), Fail> {
+    assert_eq!(rt; kept_of(&rt, ("ACGT", "IIII")), Some((0, 4)));
+    assert_eq!(rt; kept_of(&rt, ("ACGT", "#II#")), Some((1, 3)));
+    assert_eq!(rt; kept_of(&rt, ("ACGT", "##I#")), None);
+    assert_eq!(rt; kept_of(&rt, ("", "")), None);
+    Ok(())
+}
+
+fn add_two(
+    rt: &impl Abort,
+    alloc: Global,
+    tally: &mut Tally,
+    steps: &Steps,
+) -> Result<(), AllocError> {
+    let mut two = no_pairs(alloc)?;
+    add(rt, &mut two, steps, ("GG", "II"), ("ACGTA", "IIIII"));
+    add(rt, &mut two, steps, ("GG", "II"), ("", ""));
+    add_tally(tally, &two);
+    Ok(())
+}
+
 // One pair, and two others behind it.
 fn three_pairs(rt: &impl Abort, alloc: Global) -> Result<Tally, AllocError> {
     let steps = steps_of(rt, &["CROP:3"]);
-    let mut front = Tally::new(alloc)?;
-    let mut behind = Tally::new(alloc)?;
-    add(rt, &mut front, &steps, ("ACGT", "IIII"), ("A", "I"));
-    add(rt, &mut behind, &steps, ("GG", "II"), ("ACGTA", "IIIII"));
-    add(rt, &mut behind, &steps, ("GG", "II"), ("", ""));
-    front.add_all(&behind);
-    Ok(front)
+    let mut tally = no_pairs(alloc)?;
+    add(rt, &mut tally, &steps, ("ACGT", "IIII"), ("A", "I"));
+    add_two(rt, alloc, &mut tally, &steps)?;
+    Ok(tally)
 }
 
 #[test]
@@ -177,44 +229,65 @@ fn a_cleared_tally_counts_anew(rt: HostRuntime) -> Result<(), Fail> {
     Ok(())
 }
 
-#[test]
-fn long_reads_share_a_row(rt: HostRuntime) -> Result<(), Fail> {
-    let steps = steps_of(&rt, &["TOPHRED33"]);
-    let mut tally = Tally::new(rt.alloc())?;
-    for len in [10_000, 10_001, 20_000] {
-        let mut seq = String::new(rt.alloc());
-        for _ in 0..len {
-            seq.push_str("A")?;
-        }
-        add(&rt, &mut tally, &steps, (&seq, &seq), ("C", "I"));
+// So many bases, which are their quality too.
+fn long_read(alloc: Global, len: u64) -> Result<String, AllocError> {
+    let mut seq = String::new(alloc);
+    for _ in 0..len {
+        seq.push_str("A")?;
     }
-    let before = &tally.forward.before;
+    Ok(seq)
+}
+
+fn add_long(rt: &impl Abort, alloc: Global, tally: &mut Tally) -> Result<(), AllocError> {
+    let steps = steps_of(rt, &["TOPHRED33"]);
+    for len in [10_000, 10_001, 20_000] {
+        let seq = long_read(alloc, len)?;
+        add(rt, tally, &steps, (&seq, &seq), ("C", "I"));
+    }
+    Ok(())
+}
+
+fn assert_long(rt: &impl Abort, before: &ReadsTally) {
     let rows = before.lengths.as_slice();
     assert_eq!(rt; rows.len(), LAST_ROW + 1);
     assert_eq!(rt; (rows[9_999], rows[10_000], rows[10_001]), (0, 1, 2));
     assert_eq!(rt; (before.shortest, before.longest), (10_000, 20_000));
+}
+
+#[test]
+fn long_reads_share_a_row(rt: HostRuntime) -> Result<(), Fail> {
+    let mut tally = no_pairs(rt.alloc())?;
+    add_long(&rt, rt.alloc(), &mut tally)?;
+    assert_long(&rt, &tally.forward.before);
     Ok(())
+}
+
+// The bases that steps which keep all leave of a forward read: the sum of their scores, and how many have one of at least 20 and 30.
+fn scored(
+    rt: &impl Abort,
+    alloc: Global,
+    encoding: Encoding,
+    qual: &str,
+) -> Result<(u64, u64, u64), AllocError> {
+    let mut tally = no_pairs(alloc)?;
+    let pair = PairView {
+        forward: read_of(rt, encoding, ("ACGT", qual)),
+        reverse: read_of(rt, encoding, ("ACGT", qual)),
+    };
+    add_pair(&mut tally, pair, &steps_of(rt, &["TOPHRED33"]));
+    let bases = tally.forward.paired.bases;
+    Ok((bases.score_sum, bases.at_least_20, bases.at_least_30))
 }
 
 #[test]
 fn scores_are_those_of_the_encoding(rt: HostRuntime) -> Result<(), Fail> {
-    let steps = steps_of(&rt, &["TOPHRED33"]);
     // The scores 0, 29, 30, 62 and 1, 3, 10, 62.
     for (encoding, qual, sum, at_least_20, at_least_30) in [
         (Encoding::Illumina13, "@]^~", 121, 3, 2),
         (Encoding::Solexa, ";@J~", 76, 1, 1),
     ] {
-        let mut tally = Tally::new(rt.alloc())?;
-        let pair = PairView {
-            forward: read_of(&rt, encoding, ("ACGT", qual)),
-            reverse: read_of(&rt, encoding, ("ACGT", qual)),
-        };
-        tally.add(pair, &steps);
-        let bases = tally.forward.paired.bases;
-        assert_eq!(rt;
-            (bases.score_sum, bases.at_least_20, bases.at_least_30),
-            (sum, at_least_20, at_least_30)
-        );
+        let found = scored(&rt, rt.alloc(), encoding, qual)?;
+        assert_eq!(rt; found, (sum, at_least_20, at_least_30));
     }
     Ok(())
 }

@@ -2,7 +2,7 @@
 
 ghost use Rattle.std.specs.Prelude.{◌<◌, ◌≤◌};
 
-use super::frame::{InMemory, next, push_run, source};
+use super::frame::{InMemory, next, push_run, source, titled};
 use fq_text::*;
 use std::alloc::Global;
 use std::process::Abort;
@@ -71,17 +71,9 @@ fn a_sequence_that_is_too_long(rt: HostRuntime) -> Result<(), Fail> {
     Ok(())
 }
 
-// A record with the longest title line, which ends in CR and LF.
-fn titled(alloc: Global) -> Result<Vec<u8>, Fail> {
-    let mut text = Vec::from_slice(alloc, b"@")?;
-    push_run(&mut text, b't', LONGEST_TITLE)?;
-    text.extend_from_slice(b"\r\nA\n+\nI\n")?;
-    Ok(text)
-}
-
 #[test]
 fn the_longest_title_line_before_a_cr(rt: HostRuntime) -> Result<(), Fail> {
-    let text = titled(rt.alloc())?;
+    let text = titled(rt.alloc(), LONGEST_TITLE, b"\r\n")?;
     let record = only_record(rt.alloc(), &text)?;
     assert!(rt; has_longest_title(&record));
     Ok(())

@@ -1,5 +1,7 @@
 //! Feeds that fail, that do not end, and that count their calls.
 
+ghost use Rattle.std.specs.Prelude.{◌<◌, ◌≤◌, ◌^◌};
+
 use super::frame::next;
 use fq_text::*;
 use std::alloc::Global;
@@ -8,19 +10,20 @@ use std::test::Fail;
 
 const TWO_RECORDS: &[u8] = b"@p1/1\nACGT\n+\n#!II\n@p2/1\nGGCC\n+\nIIII\n";
 
-// A source whose second read fails, in chunks of one of the two records.
-fn source_failing(alloc: Global, text: &[u8]) -> Result<Source<ScriptFeed>, Fail> {
-    let feed = ScriptFeed::new(alloc, text, 1000, 2)?;
-    match Source::new(alloc, feed, Encoding::Sanger, 18, 1 << 40) {
-        Ok(source) => Ok(source),
-        Err(_) => Err("no memory for a source")?,
-    }
-}
-
-// A source that may make ten reads, of a byte each.
-fn source_of_ten_bytes(alloc: Global, text: &[u8]) -> Result<Source<ScriptFeed>, Fail> {
-    let feed = ScriptFeed::new(alloc, text, 1000, 0)?;
-    match Source::new(alloc, feed, Encoding::Sanger, 1, 10) {
+// A source of the two records whose read of this number fails, if it is not 0. It may make so many reads, of a chunk each.
+fn source_of_two(
+    alloc: Global,
+    fails_at: u64,
+    chunk: usize,
+    max_reads: u64,
+) -> Result<Source<ScriptFeed>, Fail>
+    requires some { 0 < chunk }
+    requires small { chunk ≤ 1048576 }
+    requires reads { 0 < max_reads }
+    requires few { max_reads ≤ 2 ^ 40 }
+{
+    let feed = ScriptFeed::new(alloc, TWO_RECORDS, 1000, fails_at)?;
+    match Source::new(alloc, feed, Encoding::Sanger, chunk, max_reads) {
         Ok(source) => Ok(source),
         Err(_) => Err("no memory for a source")?,
     }
@@ -28,7 +31,8 @@ fn source_of_ten_bytes(alloc: Global, text: &[u8]) -> Result<Source<ScriptFeed>,
 
 #[test]
 fn a_read_that_fails(rt: HostRuntime) -> Result<(), Fail> {
-    let mut source = source_failing(rt.alloc(), TWO_RECORDS)?;
+    // In chunks of one of the two records.
+    let mut source = source_of_two(rt.alloc(), 2, 18, 1 << 40)?;
     let record = next(&mut source)?.ok_or("the first record")?;
     assert_eq!(rt; record.title(), b"p1/1".as_slice());
     for _ in 0..2u8 {
@@ -41,7 +45,7 @@ fn a_read_that_fails(rt: HostRuntime) -> Result<(), Fail> {
 
 #[test]
 fn more_reads_than_allowed(rt: HostRuntime) -> Result<(), Fail> {
-    let mut source = source_of_ten_bytes(rt.alloc(), TWO_RECORDS)?;
+    let mut source = source_of_two(rt.alloc(), 0, 1, 10)?;
     for _ in 0..2u8 {
         assert!(rt; matches!(next(&mut source), Err(TextFault::Endless)));
     }

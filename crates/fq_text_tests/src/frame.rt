@@ -45,3 +45,12 @@ pub fn push_run(text: &mut Vec<u8>, byte: u8, count: usize) -> Result<(), Fail> 
     text.resize(len, byte)?;
     Ok(())
 }
+
+/// `@`, a title of so many bytes, a line end, and the rest of a record of one base.
+pub fn titled(alloc: Global, len: usize, line_end: &[u8]) -> Result<Vec<u8>, Fail> {
+    let mut text = Vec::from_slice(alloc, b"@")?;
+    push_run(&mut text, b't', len)?;
+    text.extend_from_slice(line_end)?;
+    text.extend_from_slice(b"A\n+\nI\n")?;
+    Ok(text)
+}

@@ -1,6 +1,6 @@
 //! Worked texts: the records that are read of them, and how they end, in chunks of each small size.
 
-use super::frame::{InMemory, advance, next, push_run, source};
+use super::frame::{InMemory, advance, next, source, titled};
 use fq_text::*;
 use std::alloc::Global;
 use std::process::Abort;
@@ -323,14 +323,6 @@ fn solexa_texts(rt: HostRuntime) -> Result<(), Fail> {
     Ok(())
 }
 
-// `@`, a title of so many bytes, and the rest of a record of one base.
-fn titled(alloc: Global, len: usize) -> Result<Vec<u8>, Fail> {
-    let mut text = Vec::from_slice(alloc, b"@")?;
-    push_run(&mut text, b't', len)?;
-    text.extend_from_slice(b"\nA\n+\nI\n")?;
-    Ok(text)
-}
-
 // The length of the first title, or the fault.
 fn first_title(alloc: Global, text: &[u8]) -> Result<Result<usize, TextFault>, Fail> {
     let mut source = source(alloc, text, Encoding::Sanger, 1 << 30, 65_536)?;
@@ -343,9 +335,9 @@ fn first_title(alloc: Global, text: &[u8]) -> Result<Result<usize, TextFault>, F
 
 #[test]
 fn the_longest_title_line(rt: HostRuntime) -> Result<(), Fail> {
-    let text = titled(rt.alloc(), 1_048_575)?;
+    let text = titled(rt.alloc(), 1_048_575, b"\n")?;
     assert_eq!(rt; first_title(rt.alloc(), &text)?, Ok(1_048_575));
-    let text = titled(rt.alloc(), 1_048_576)?;
+    let text = titled(rt.alloc(), 1_048_576, b"\n")?;
     assert_eq!(rt; first_title(rt.alloc(), &text)?, Err(TextFault::TooLong(1)));
     Ok(())
 }

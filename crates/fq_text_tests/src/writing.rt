@@ -142,55 +142,45 @@ fn solexa_scores_are_written_as_phred_scores(rt: HostRuntime) -> Result<(), Fail
     Ok(())
 }
 
-// A send of these bytes gives this answer, and the outlet counts so many failures then.
-fn assert_sent<O: Outlet>(
-    rt: &impl Abort,
-    outlet: &mut O,
-    bytes: &[u8],
-    answer: Result<(), Sent>,
-    failures: u64,
-) {
+// What a send of these bytes answers, and how many failures the outlet counts then.
+fn sent<O: Outlet>(rt: &impl Abort, outlet: &mut O, bytes: &[u8]) -> (Result<(), Sent>, u64) {
     assert!(rt; outlet.failures() < 9);
-    assert_eq!(rt; send(outlet, bytes), answer);
-    assert_eq!(rt; outlet.failures(), failures);
+    (send(outlet, bytes), outlet.failures())
 }
 
 #[test]
 fn a_send_stops_at_the_first_failure(rt: HostRuntime) {
     let mut outlet = ScriptOutlet::new(rt.alloc(), 2, 3, false);
-    assert_sent(&rt, &mut outlet, b"abcdef", Err(Sent { count: 4 }), 1);
+    assert_eq!(rt;
+        sent(&rt, &mut outlet, b"abcdef"),
+        (Err(Sent { count: 4 }), 1)
+    );
     assert_eq!(rt; outlet.bytes(), b"abcd".as_slice());
 
     let mut outlet = ScriptOutlet::new(rt.alloc(), 4, 0, false);
-    assert_sent(&rt, &mut outlet, b"abcdef", Ok(()), 0);
+    assert_eq!(rt; sent(&rt, &mut outlet, b"abcdef"), (Ok(()), 0));
     assert_eq!(rt; outlet.bytes(), b"abcdef".as_slice());
 }
 
 #[test]
 fn no_bytes_make_no_write(rt: HostRuntime) {
     let mut outlet = ScriptOutlet::new(rt.alloc(), 1, 1, false);
-    assert_sent(&rt, &mut outlet, b"", Ok(()), 0);
-    assert_sent(&rt, &mut outlet, b"a", Err(Sent { count: 0 }), 1);
+    assert_eq!(rt; sent(&rt, &mut outlet, b""), (Ok(()), 0));
+    assert_eq!(rt; sent(&rt, &mut outlet, b"a"), (Err(Sent { count: 0 }), 1));
 }
 
-// A flush gives this answer, and the outlet counts so many failures then.
-fn assert_flushed<O: Outlet>(
-    rt: &impl Abort,
-    outlet: &mut O,
-    answer: Result<(), OutletFailed>,
-    failures: u64,
-) {
+// The same of a flush.
+fn flushed<O: Outlet>(rt: &impl Abort, outlet: &mut O) -> (Result<(), OutletFailed>, u64) {
     assert!(rt; outlet.failures() < 9);
-    assert_eq!(rt; outlet.flush(), answer);
-    assert_eq!(rt; outlet.failures(), failures);
+    (outlet.flush(), outlet.failures())
 }
 
 #[test]
 fn a_flush_fails_where_it_is_told_to(rt: HostRuntime) {
     let mut outlet = ScriptOutlet::new(rt.alloc(), 1, 0, true);
-    assert_flushed(&rt, &mut outlet, Err(OutletFailed), 1);
+    assert_eq!(rt; flushed(&rt, &mut outlet), (Err(OutletFailed), 1));
     let mut outlet = ScriptOutlet::new(rt.alloc(), 1, 0, false);
-    assert_flushed(&rt, &mut outlet, Ok(()), 0);
+    assert_eq!(rt; flushed(&rt, &mut outlet), (Ok(()), 0));
 }
 
 #[test]
@@ -258,28 +248,25 @@ fn a_readers_error_is_a_failure(rt: HostRuntime) {
     assert_eq!(rt; feed.into_inner().calls, 1);
 }
 
-// A write gives this answer, and the outlet counts so many failures then.
-fn assert_writes<O: Outlet>(
+// The same of a write.
+fn written<O: Outlet>(
     rt: &impl Abort,
     outlet: &mut O,
     bytes: &[u8],
-    answer: Result<usize, OutletFailed>,
-    failures: u64,
-) {
+) -> (Result<usize, OutletFailed>, u64) {
     assert!(rt; outlet.failures() < 9);
-    assert_eq!(rt; outlet.write(bytes), answer);
-    assert_eq!(rt; outlet.failures(), failures);
+    (outlet.write(bytes), outlet.failures())
 }
 
 #[test]
 fn a_writers_error_and_a_write_of_nothing_are_failures(rt: HostRuntime) {
     let mut outlet = FromWrite::new(Signalled { calls: 0 });
-    assert_flushed(&rt, &mut outlet, Err(OutletFailed), 1);
-    assert_writes(&rt, &mut outlet, b"a", Err(OutletFailed), 2);
-    assert_writes(&rt, &mut outlet, b"", Ok(0), 2);
-    assert_flushed(&rt, &mut outlet, Ok(()), 2);
+    assert_eq!(rt; flushed(&rt, &mut outlet), (Err(OutletFailed), 1));
+    assert_eq!(rt; written(&rt, &mut outlet, b"a"), (Err(OutletFailed), 2));
+    assert_eq!(rt; written(&rt, &mut outlet, b""), (Ok(0), 2));
+    assert_eq!(rt; flushed(&rt, &mut outlet), (Ok(()), 2));
     let mut outlet = FromWrite::new(Signalled { calls: 0 });
-    assert_writes(&rt, &mut outlet, b"a", Err(OutletFailed), 1);
+    assert_eq!(rt; written(&rt, &mut outlet, b"a"), (Err(OutletFailed), 1));
 }
 
 #[test]
@@ -293,6 +280,6 @@ fn bytes_pass_through_readers(rt: HostRuntime) {
 #[test]
 fn bytes_pass_through_writers(rt: HostRuntime) {
     let mut outlet = FromWrite::new(Vec::new(rt.alloc()));
-    assert_sent(&rt, &mut outlet, b"abcdef", Ok(()), 0);
+    assert_eq!(rt; sent(&rt, &mut outlet, b"abcdef"), (Ok(()), 0));
     assert_eq!(rt; outlet.into_inner().as_slice(), b"abcdef".as_slice());
 }

@@ -18,6 +18,3 @@ pub use fault::{StepFault, StepFaultKind};
 pub use step::Step;
 pub use steps::Steps;
 pub use trimming::Kept;
-
-#[cfg(test)]
-mod tests;

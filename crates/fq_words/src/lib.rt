@@ -9,6 +9,3 @@ mod words;
 
 pub use request::{Inputs, Request, encoding_of, report_is_input, same_name};
 pub use words::{Asked, VERSION, read_words};
-
-#[cfg(test)]
-mod tests;

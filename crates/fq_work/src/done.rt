@@ -4,7 +4,7 @@ ghost use Rattle.std.specs.Prelude.{◌≡◌};
 ghost use Rattle.fq_pair.specs.Mates.{mates_in};
 
 use fq_pair::{PairView, Texts};
-use fq_tally::Tally;
+use fq_tally::{Tally, Trimmed};
 use fq_text::{OutOfMemory, ReadView};
 use fq_trim::Steps;
 use std::alloc::Global;
@@ -75,12 +75,15 @@ impl Done {
         match &mut self.tally {
             None => self.texts.add(pair, steps),
             Some(tally) => {
+                let forward = Trimmed::new(&pair.forward, steps);
+                let reverse = Trimmed::new(&pair.reverse, steps);
                 let counted = PairView {
                     forward: again(&pair.forward),
                     reverse: again(&pair.reverse),
                 };
-                self.texts.add(pair, steps)?;
-                tally.add(counted, steps);
+                self.texts
+                    .add_kept(pair, steps, forward.kept(), reverse.kept())?;
+                tally.add_trimmed(counted, steps, &forward, &reverse);
                 Ok(())
             }
         }

@@ -24,7 +24,20 @@ pub(crate) struct Seats {
     pub(crate) texts_back: Vec<Tx<Done>>,
 }
 
-/// The lanes of so many workers, each with room for `depth` items.
+// The most items that a lane may have room for.
+const MOST_ROOM: usize = 64;
+
+// The room of a return lane, where the others have room for `depth` items. Blocks or texts are made only where none has come back.
+// So with each worker go round at most those in a lane, one in the worker's hands, and one in those of the thread at the other
+// end. Whichever of them comes back, the lane has room for all others beside it, and none is let go to be made anew.
+fn room_back(depth: usize) -> usize
+    requires depth { (1 ≤ depth) × (depth ≤ MOST_ROOM) }
+    ensures { (1 ≤ result) × (result ≤ MOST_ROOM) }
+{
+    (depth + 1).min(MOST_ROOM)
+}
+
+/// The lanes of so many workers. Those of blocks and of replies have room for `depth` items.
 pub(crate) fn lay(alloc: Global, workers: usize, depth: usize) -> Result<Seats, OutOfMemory>
     requires depth { (1 ≤ depth) × (depth ≤ 64) }
     ensures laid { IfOk result IsLaid }
@@ -68,8 +81,8 @@ impl Seats {
     {
         let (to, rx) = lane(alloc, depth)?;
         let (tx, replies) = lane(alloc, depth)?;
-        let (blocks_back, blocks) = lane(alloc, depth)?;
-        let (texts_back, texts) = lane(alloc, depth)?;
+        let (blocks_back, blocks) = lane(alloc, room_back(depth))?;
+        let (texts_back, texts) = lane(alloc, room_back(depth))?;
         self.to.push_reserved(to);
         self.blocks_back.push_reserved(blocks);
         self.ends.push_reserved(WorkEnds {

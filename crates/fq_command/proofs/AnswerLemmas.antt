@@ -1,0 +1,207 @@
+-- What is told of a refusal, and of a run that was made.
+use Rattle.std.proofs.Common.{◌≡◌, ◌≢◌, ◌⊎◌, ◌∙◌, ℕ, suc, Bool, IsTrue, IsSome, Option, Some, None, [], ◌∷◌, List, length, inl, inr, ⊎_elim, refl, sym, ap, subst, arith}
+use Rattle.std.proofs.lemmas.List.{take_all}
+use Rattle.std.specs.List.{All}
+use Rattle.fq_files.specs.Holding.{Holding, IsUnchanged}
+use Rattle.fq_pair.specs.declared.counts.Counts.{Counts}
+use Rattle.fq_pair.specs.declared.side.Side.{Side}
+use Rattle.clap.specs.Kinds.{IsAmong, Kinds}
+use Rattle.clap.specs.declared.error.kind.ErrorKind.{ErrorKind}
+use Rattle.fq_run.specs.Outcome.{Outcome}
+use Rattle.fq_run.specs.Outcome.TheVariants.{Lane}
+use Rattle.fq_run.specs.Endings.{ends_whole}
+use Rattle.fq_job.specs.Faults.{outcome_status, outcome_line}
+use Rattle.fq_words.specs.Requests.{Asking, input_name}
+use Rattle.fq_job.specs.Judging.{wrong_with}
+use Rattle.fq_job.specs.Trimming.{HasDistinctFiles, TrimsFiles}
+use Rattle.fq_job.specs.Leaving.{RefusalLeaves, ReportLeft, HoldFirstPairs, AreLeft}
+use Rattle.fq_job.proofs.EndingLemmas.{done_is_whole, ends_so}
+use Rattle.fq_job.proofs.LeavingLemmas.{left_or_nothing, refusal_untrimmed, whole_first}
+use Rattle.fq_job.specs.Refusals.{status_of, line_of}
+use Rattle.fq_command.specs.Answers.{Device, EndsWhole, IsRefusal, IsEnding, IsUnprinted, IsUntold, IsUnreported, IsReportLeft, LacksMemory, PairsAnswered, Refuses, Tells, TookLine, memory_line, print_line, report_line}
+use Rattle.fq_job.specs.declared.refusal.Refusal.{Refusal}
+use Rattle.fq_job.specs.declared.reporting.Reported.{Reported}
+use Rattle.fq_job.specs.declared.reporting.Reported.TheVariants as report
+use Rattle.fq_job.specs.Reporting.{HoldsReport, ReportHeld}
+use Rattle.fq_job.specs.declared.refusal.Refusal.TheVariants as why
+
+-- a refusal has a status of its own
+pub refusal_fails : (refusal : Refusal) → (status_of refusal ≢ 0) × (status_of refusal ≢ 1) × (status_of refusal ≢ 3)
+refusal_fails why.Encoding = ((λ e. absurd (omega (arith, e))), (λ e. absurd (omega (arith, e))), (λ e. absurd (omega (arith, e))))
+refusal_fails (why.Step fault) = ((λ e. absurd (omega (arith, e))), (λ e. absurd (omega (arith, e))), (λ e. absurd (omega (arith, e))))
+refusal_fails (why.Setting bad) = ((λ e. absurd (omega (arith, e))), (λ e. absurd (omega (arith, e))), (λ e. absurd (omega (arith, e))))
+refusal_fails (why.SameName out) = ((λ e. absurd (omega (arith, e))), (λ e. absurd (omega (arith, e))), (λ e. absurd (omega (arith, e))))
+refusal_fails (why.Source side) = ((λ e. absurd (omega (arith, e))), (λ e. absurd (omega (arith, e))), (λ e. absurd (omega (arith, e))))
+refusal_fails (why.Target out) = ((λ e. absurd (omega (arith, e))), (λ e. absurd (omega (arith, e))), (λ e. absurd (omega (arith, e))))
+refusal_fails why.SameReport = ((λ e. absurd (omega (arith, e))), (λ e. absurd (omega (arith, e))), (λ e. absurd (omega (arith, e))))
+refusal_fails why.Report = ((λ e. absurd (omega (arith, e))), (λ e. absurd (omega (arith, e))), (λ e. absurd (omega (arith, e))))
+refusal_fails why.Memory = ((λ e. absurd (omega (arith, e))), (λ e. absurd (omega (arith, e))), (λ e. absurd (omega (arith, e))))
+
+-- want of memory has its line
+lacks_line : (a : Asking) (told : Bool) (old new : Holding) (err : Device) (status : ℕ) → LacksMemory err status → (IsTrue told → HasDistinctFiles a → AreLeft a old new) → TookLine a told old new err status
+lacks_line a told old new err status lacks left = record {
+  text = memory_line;
+  fits = inr (inr (inl (record { status_is = lacks.status_is; text_is = refl; left = left })));
+  took = lacks.told;
+}
+
+-- what was asked is answered by want of memory
+pub lacks_answer : (a : Asking) (told : Bool) (old new : Holding) (out err : Device) (status : ℕ) → LacksMemory err status → (IsTrue told → HasDistinctFiles a → AreLeft a old new)
+    → (IsTrue told → HasDistinctFiles a → (name : List ℕ) → a.report ≡ Some name → IsReportLeft a old new name)
+    → (IsTrue told → (side : Side) → old (input_name a.inputs side) ≡ None → IsUnchanged old new) → PairsAnswered a told old new out err status
+lacks_answer a told old new out err status lacks left report_left unopened =
+    let five = lacks.status_is in
+    record {
+      whole = λ ends. absurd (⊎_elim (λ zero. omega (arith, zero, five)) (λ three. omega (arith, three, five)) ends);
+      wrong = λ refusal is. inr lacks;
+      right = λ two. absurd (omega (arith, two, five));
+      line = λ other. lacks_line a told old new err status lacks left;
+      known = λ one. absurd (omega (arith, one, five));
+      left = λ other. left;
+      reported = λ ends. absurd (⊎_elim (λ zero. omega (arith, zero, five)) (λ three. omega (arith, three, five)) ends);
+      report_left = report_left;
+      unopened = unopened;
+    }
+
+there_is : {X : Type 0} (o : Option X) → (o ≡ None → ⊥) → IsSome o
+there_is None none = absurd (none refl)
+there_is (Some x) none = refl
+
+-- or by a refusal
+pub refused_answer : (a : Asking) (told : Bool) (old new : Holding) (out err : Device) (status : ℕ) (refusal : Refusal) → Refuses a refusal err status
+    → ((other : Refusal) → wrong_with a ≡ Some other → refusal ≡ other) → (wrong_with a ≡ None → status_of refusal ≢ 2)
+    → (IsTrue told → HasDistinctFiles a → RefusalLeaves a refusal old new)
+    → (IsTrue told → HasDistinctFiles a → (name : List ℕ) → a.report ≡ Some name → ReportLeft refusal (old name) (new name))
+    → (IsTrue told → (side : Side) → old (input_name a.inputs side) ≡ None → IsUnchanged old new) → PairsAnswered a told old new out err status
+refused_answer a told old new out err status refusal (inl refuses) first late left report_left unopened =
+    let own = refusal_fails refusal in
+    let is = refuses.0 in
+    record {
+      whole = λ ends. absurd (⊎_elim (λ zero. own.0 (sym is ∙ zero)) (λ three. own.2 (sym is ∙ three)) ends);
+      wrong = λ other named. let P : Refusal → Type 0 = λ r. Refuses a r err status in subst P (first other named) (inl refuses);
+      right = λ two. there_is (wrong_with a) (λ none. late none (sym is ∙ two));
+      line = λ other. record { text = line_of a refusal; fits = inl (inl (record { why = refusal; status_is = sym is; text_is = refl; left = left; report_left = report_left })); took = refuses.1 };
+      known = λ one. own.1 (sym is ∙ one);
+      left = λ other tells distinct. inl (refusal_untrimmed a refusal old new (left tells distinct));
+      reported = λ ends. absurd (⊎_elim (λ zero. own.0 (sym is ∙ zero)) (λ three. own.2 (sym is ∙ three)) ends);
+      report_left = λ tells distinct name named. inl (left_or_nothing refusal (old name) (new name) (report_left tells distinct name named));
+      unopened = unopened;
+    }
+refused_answer a told old new out err status refusal (inr lacks) first late left report_left unopened =
+    lacks_answer a told old new out err status lacks (λ tells distinct. inl (refusal_untrimmed a refusal old new (left tells distinct)))
+    (λ tells distinct name named. inl (left_or_nothing refusal (old name) (new name) (report_left tells distinct name named))) unopened
+
+-- What is known of a run that was made: what its outputs hold, whether its report was due, and what that holds.
+pub record IsRun (a : Asking) (told : Bool) (old new : Holding) (outcome : Outcome) (counts : Counts) (reported : Reported) : Type 0 where
+  pub trims : IsTrue told → HasDistinctFiles a → IsTrue (ends_whole outcome) → TrimsFiles a old new outcome counts
+  pub ended : IsTrue told → HasDistinctFiles a → outcome ≢ Lane → HoldFirstPairs a old new outcome
+  pub due : reported ≢ report.NotDue → (outcome_status outcome ≡ 0) ⊎ (outcome_status outcome ≡ 3)
+  pub not_due : reported ≡ report.NotDue → IsSome a.report → (outcome_status outcome ≢ 0) × (outcome_status outcome ≢ 3)
+  pub held : IsTrue told → (name : List ℕ) → a.report ≡ Some name → ReportHeld reported a old new name
+
+is_wanted : (o : Option (List ℕ)) (name : List ℕ) → o ≡ Some name → IsSome o
+is_wanted (Some n) name e = refl
+is_wanted None name e = absurd cc
+
+not_lane : (outcome : Outcome) → (outcome_status outcome ≡ 0) ⊎ (outcome_status outcome ≡ 3) → outcome ≢ Lane
+not_lane outcome is lane =
+    let six : outcome_status outcome ≡ 6 = ap outcome_status lane in
+    ⊎_elim (λ zero. omega (arith, six, zero)) (λ three. omega (arith, six, three)) is
+
+module _ (a : Asking) (told : Bool) (old new : Holding) (outcome : Outcome) (counts : Counts) (reported : Reported) (run : IsRun a told old new outcome counts reported) where
+  held_as : (is : Reported) → reported ≡ is → IsTrue told → (name : List ℕ) → a.report ≡ Some name → ReportHeld is a old new name
+  held_as is same tells name named = let P : Reported → Type 0 = λ r. ReportHeld r a old new name in subst P same (run.held tells name named)
+
+  due_as : (is : Reported) → reported ≡ is → is ≢ report.NotDue → (outcome_status outcome ≡ 0) ⊎ (outcome_status outcome ≡ 3)
+  due_as is same other = run.due (λ none. other (sym same ∙ none))
+
+  -- a report that was told to be written, or not to be due, is there where the run ended whole
+  pub is_held : (reported ≡ report.NotDue) ⊎ (reported ≡ report.Written) → (outcome_status outcome ≡ 0) ⊎ (outcome_status outcome ≡ 3)
+      → IsTrue told → (name : List ℕ) → a.report ≡ Some name → HoldsReport a old new name
+  is_held (inl none) ends tells name named =
+      let other = run.not_due none (is_wanted a.report name named) in
+      absurd (⊎_elim other.0 other.1 ends)
+  is_held (inr written) ends tells name named = held_as report.Written written tells name named
+
+  -- and empty where it did not
+  is_empty : (reported ≡ report.NotDue) ⊎ (reported ≡ report.Written) → IsTrue told → outcome_status outcome ≢ 0 → outcome_status outcome ≢ 3
+      → (name : List ℕ) → a.report ≡ Some name → new name ≡ Some []
+  is_empty (inl none) tells some other name named = held_as report.NotDue none tells name named
+  is_empty (inr written) tells some other name named =
+      absurd (⊎_elim some other (due_as report.Written written (λ e. absurd (cc e))))
+
+  -- the line of a run that was made
+  pub told_line : (err : Device) (status : ℕ) → Tells outcome reported err status → TookLine a told old new err status
+  told_line err status (inl (which, inl ending)) = record {
+    text = outcome_line outcome;
+    fits = inl (inr (record { outcome = outcome; status_is = sym ending.0; text_is = refl; left = run.ended; unreported = is_empty which }));
+    took = ending.1;
+  }
+  told_line err status (inl (which, inr (inl unprinted))) = record {
+    text = print_line;
+    fits = inr (inl (record {
+      status_is = unprinted.1;
+      text_is = refl;
+      left = λ tells distinct. (outcome, counts, unprinted.0, run.trims tells distinct (done_is_whole outcome unprinted.0));
+      reported = is_held which (inl unprinted.0);
+    }));
+    took = unprinted.2;
+  }
+  told_line err status (inl (which, inr (inr untold))) =
+      lacks_line a told old new err status untold.1 (λ tells distinct. inr (outcome, run.ended tells distinct untold.0))
+  told_line err status (inr (inl failed)) =
+      let due = due_as report.Failed failed.0 (λ e. absurd (cc e)) in record {
+        text = report_line;
+        fits = inr (inr (inr (record {
+          status_is = failed.1;
+          text_is = refl;
+          left = λ tells distinct. (outcome, counts, run.trims tells distinct (ends_so outcome (outcome_status outcome) refl due));
+          begun = held_as report.Failed failed.0;
+        })));
+        took = failed.2;
+      }
+  told_line err status (inr (inr lacks)) =
+      let due = due_as report.OutOfMemory lacks.0 (λ e. absurd (cc e)) in
+      lacks_line a told old new err status lacks.1 (λ tells distinct. inr (outcome, run.ended tells distinct (not_lane outcome due)))
+
+-- a whole report is a first part of itself
+pub is_left : (a : Asking) (old new : Holding) (name : List ℕ) (reported : Reported) → ReportHeld reported a old new name → IsReportLeft a old new name
+is_left a old new name report.NotDue empty = inl (inr empty)
+is_left a old new name report.Written holds = inr (record { text = holds.text; count = length holds.text; is = holds.is; held = holds.held ∙ ap Some (sym (take_all (length holds.text) holds.text (omega arith))) })
+is_left a old new name report.Failed begins = inr begins
+is_left a old new name report.OutOfMemory empty = inl (inr empty)
+
+-- what the line of a run says of the files
+fits_left : (a : Asking) (told : Bool) (old new : Holding) (status : ℕ) (text : List ℕ) → (IsRefusal a told old new status text ⊎ IsEnding a told old new status text)
+    ⊎ (IsUnprinted a told old new status text ⊎ (IsUntold a told old new status text ⊎ IsUnreported a told old new status text)) → status ≢ 6 → IsTrue told → HasDistinctFiles a → AreLeft a old new
+fits_left a told old new status text (inl (inl refusal)) other tells distinct = inl (refusal_untrimmed a refusal.why old new (refusal.left tells distinct))
+fits_left a told old new status text (inl (inr ending)) other tells distinct =
+    inr (ending.outcome, ending.left tells distinct (λ lane. other (sym ending.status_is ∙ ap outcome_status lane)))
+fits_left a told old new status text (inr (inl unprinted)) other tells distinct =
+    let all = unprinted.left tells distinct in inr (all.0, whole_first a old new all.0 all.1 all.3)
+fits_left a told old new status text (inr (inr (inl untold))) other tells distinct = untold.left tells distinct
+fits_left a told old new status text (inr (inr (inr unreported))) other tells distinct =
+    let all = unreported.left tells distinct in inr (all.0, whole_first a old new all.0 all.1 all.2)
+
+zero_or : (n : ℕ) → (n ≡ 0) ⊎ (n ≢ 0)
+zero_or n = grind arith
+
+-- at every status but that of an unconfirmed lane
+pub left_so : (a : Asking) (told : Bool) (old new : Holding) (out err : Device) (status : ℕ)
+    → ((status ≡ 0) ⊎ (status ≡ 3) → IsTrue told → HasDistinctFiles a → EndsWhole a old new out err status) → (status ≢ 0 → TookLine a told old new err status)
+    → status ≢ 6 → IsTrue told → HasDistinctFiles a → AreLeft a old new
+left_so a told old new out err status whole line other tells distinct = ⊎_elim
+    (λ zero. let ends = whole (inl zero) tells distinct in inr (ends.outcome, whole_first a old new ends.outcome ends.counts ends.trims))
+    (λ some. let took = line some in fits_left a told old new status took.text took.fits other tells distinct)
+    (zero_or status)
+
+-- what is there
+pub some_in : {X : Type 0} (o : Option X) → IsSome o → (x : X) × (o ≡ Some x)
+some_in (Some x) is = (x, refl)
+some_in None is = absurd cc
+
+-- one of several has what all have
+pub among_all : (P : ErrorKind → Type 0) (kind : ErrorKind) (kinds : Kinds) → IsAmong kind kinds → All P kinds → P kind
+among_all P kind [] among all = absurd among
+among_all P kind (k ∷ ks) (inl same) all = subst P (sym same) (all 0 k (omega arith))
+among_all P kind (k ∷ ks) (inr more) all = among_all P kind ks more (λ i d below. all (suc i) d (omega (arith, below)))

@@ -1,0 +1,25 @@
+use Rattle.std.proofs.Common.{◌≡◌, ◌≢◌, refl, subst, inl, inr, ⊎_elim, map, arith}
+use Rattle.clap.specs.Words.{HasKind, kind_of}
+use Rattle.clap.specs.Kinds.{Kinds}
+use Rattle.clap.specs.declared.error.kind.ErrorKind.TheVariants.{DisplayHelp, DisplayVersion, OutOfMemory}
+use Rattle.fq_command.specs.Answers.{IsCall}
+use Rattle.fq_words.specs.Words.{words_fault}
+use Rattle.fq_command.proofs.AnswerLemmas.{among_all, lacks_answer}
+use Rattle.fq_command.proofs.answering.program.Goals as goal
+
+pub returns-in-Err-clause-pairs : goal.returns-in-Err-clause-pairs
+returns-in-Err-clause-pairs g c = λ a asked.
+    let P : Kinds → Type 0 = λ kinds. HasKind kinds c.in-Err.error in
+    let memory : kind_of c.in-Err.error ≡ OutOfMemory = ⊎_elim (λ e. e) (λ none. absurd none) (subst P asked.parse c.in-Err.ensures.err) in
+    let five = c.refuse_words.ensures.no_memory memory in
+    lacks_answer a _ _ _ _ _ _ (c.refuse_words.ensures.memory five).1
+    (λ told distinct. inl (λ out name named. inl refl)) (λ told distinct name named. inl (inl refl)) (λ told side none name. refl)
+
+pub returns-in-Err-clause-usage : goal.returns-in-Err-clause-usage
+returns-in-Err-clause-usage g c = λ refused. ⊎_elim (λ memory. inr (c.refuse_words.ensures.no_memory memory))
+    (λ among. let other = among_all (λ kind. (kind ≢ DisplayHelp) × (kind ≢ DisplayVersion)) (kind_of c.in-Err.error) (words_fault (map (λ word. word.now) c.args.words.now)) among refused.no_help in
+    c.refuse_words.ensures.usage other.0 other.1) c.in-Err.ensures.err
+
+pub returns-in-Err-clause-called : goal.returns-in-Err-clause-called
+returns-in-Err-clause-called g c = λ calls. ⊎_elim (λ memory one. let five = c.refuse_words.ensures.no_memory memory in omega (arith, one, five))
+    (λ among. c.refuse_words.ensures.called (among_all IsCall (kind_of c.in-Err.error) (words_fault (map (λ word. word.now) c.args.words.now)) among calls.all)) c.in-Err.ensures.err

@@ -1,0 +1,63 @@
+use Rattle.std.proofs.Common.{◌≡◌, ◌≢◌, ◌⊎◌, IsTrue, subst, sym}
+use Rattle.fq_job.specs.Faults.{outcome_status}
+use Rattle.fq_command.specs.Answers.{TookLine, EndsWhole}
+use Rattle.fq_job.specs.Trimming.{HasDistinctFiles}
+use Rattle.fq_words.specs.Requests.{asking_of}
+use Rattle.fq_job.specs.Judging.{wrong_with}
+use Rattle.fq_job.proofs.EndingLemmas.{ends_so}
+use Rattle.fq_command.proofs.AnswerLemmas.{IsRun, is_held, is_left, left_so, refused_answer, some_in, told_line}
+use Rattle.fq_command.proofs.answering.trim_pairs.Goals as goal
+
+pub returns-in-Ok-clause-pairs : goal.returns-in-Ok-clause-pairs
+returns-in-Ok-clause-pairs g c =
+    let a = asking_of c.args.request.now in
+    let account = c.in-Ok.completed.account in
+    let reported = c.in-Ok.completed.reported in
+    let run : IsRun a (g.T.Files.tells_bytes c.args.files.now) (g.T.Files.bytes_of c.args.files.now) (g.T.Files.bytes_of c.trim_files.new.files) account.outcome account.counts reported = record {
+      trims = c.in-Ok.ensures.trims;
+      ended = c.in-Ok.ensures.ended;
+      due = c.in-Ok.ensures.due;
+      not_due = c.in-Ok.ensures.not_due;
+      held = c.in-Ok.ensures.report;
+    } in
+    let line : c.tell.result ≢ 0 → TookLine a _ _ _ _ c.tell.result =
+    λ some. told_line a _ _ _ account.outcome account.counts reported run _ _ (c.tell.ensures.line some) in
+    let whole : (c.tell.result ≡ 0) ⊎ (c.tell.result ≡ 3) → IsTrue (g.T.Files.tells_bytes c.args.files.now) → HasDistinctFiles a → EndsWhole a _ _ _ _ c.tell.result =
+    λ ends told distinct.
+    let status = c.tell.ensures.whole ends in
+    record {
+      outcome = account.outcome;
+      counts = account.counts;
+      trims = c.in-Ok.ensures.trims told distinct (ends_so account.outcome c.tell.result status ends);
+      status_is = status;
+      printed = c.tell.ensures.printed ends;
+      told = c.tell.ensures.told ends;
+    } in
+    record {
+      whole = whole;
+      wrong = λ why is. let failed = (c.in-Ok.ensures.wrong why is).0 in absurd (cc failed);
+      right = λ two. absurd (c.tell.ensures.known.1 two);
+      line = line;
+      known = c.tell.ensures.known.0;
+      left = left_so a _ _ _ _ _ _ whole line;
+      reported = λ ends told name named.
+          let is : (outcome_status account.outcome ≡ 0) ⊎ (outcome_status account.outcome ≡ 3) = subst (λ n. (n ≡ 0) ⊎ (n ≡ 3)) (sym (c.tell.ensures.whole ends)) ends in
+          is_held a _ _ _ account.outcome account.counts reported run (c.tell.ensures.reported ends) is told name named;
+      report_left = λ told distinct name named. is_left a _ _ name reported (c.in-Ok.ensures.report told name named);
+      unopened = c.in-Ok.ensures.unopened;
+    }
+
+pub returns-in-Ok-clause-wrong : goal.returns-in-Ok-clause-wrong
+returns-in-Ok-clause-wrong g c = λ wrong.
+    let why = some_in (wrong_with (asking_of c.args.request.now)) wrong in
+    (c.in-Ok.ensures.wrong why.0 why.1).1
+
+pub returns-in-Err-clause-pairs : goal.returns-in-Err-clause-pairs
+returns-in-Err-clause-pairs g c = refused_answer _ _ _ _ _ _ _ c.in-Err.refusal c.refuse.ensures
+    (λ why is. let same = (c.in-Err.ensures.wrong why is).0 in cc same) (λ none. c.in-Err.ensures.right none)
+    c.in-Err.ensures.refused c.in-Err.ensures.report_left c.in-Err.ensures.unopened
+
+pub returns-in-Err-clause-wrong : goal.returns-in-Err-clause-wrong
+returns-in-Err-clause-wrong g c = λ wrong.
+    let why = some_in (wrong_with (asking_of c.args.request.now)) wrong in
+    (c.in-Err.ensures.wrong why.0 why.1).1

@@ -1,0 +1,23 @@
+use Rattle.std.proofs.Common.{◌∙◌, ap, refl}
+use Rattle.std.proofs.lemmas.Result.{IfOk-weaker}
+use Rattle.fq_pair.specs.declared.out.Out.TheVariants.{ForwardPaired, ForwardUnpaired, ReversePaired, ReverseUnpaired, Log}
+use Rattle.fq_pair.specs.Summaries.{summary_of}
+use Rattle.fq_run.specs.Endings.{ends_whole}
+use Rattle.fq_command.specs.Example.{example_text, sections}
+use Rattle.fq_command.proofs.ExampleLemmas.{output_is, summary_is, log_took, took_all}
+use Rattle.fq_command.proofs.example.example.Goals as goal
+
+pub returns-clause-text : goal.returns-clause-text
+unfolding example_text
+returns-clause-text g c = IfOk-weaker c.shown.result _ _ (λ text left.
+    let trimmed = c.run-account.ensures (ap ends_whole left.0) refl refl in
+    let forward_is = ap (λ f. f.bytes) c.in_ok-forward.ensures in
+    let reverse_is = ap (λ f. f.bytes) c.in_ok-reverse.ensures in
+    let output = output_is c.settings.result _ _ c.settings.ensures forward_is reverse_is in
+    let fp = took_all _ _ _ _ c.outlet.ensures.0 refl (trimmed.took ForwardPaired) (output ForwardPaired) in
+    let fu = took_all _ _ _ _ c.outlet-2.ensures.0 refl (trimmed.took ForwardUnpaired) (output ForwardUnpaired) in
+    let rp = took_all _ _ _ _ c.outlet-3.ensures.0 refl (trimmed.took ReversePaired) (output ReversePaired) in
+    let ru = took_all _ _ _ _ c.outlet-4.ensures.0 refl (trimmed.took ReverseUnpaired) (output ReverseUnpaired) in
+    let log = log_took _ _ _ _ _ c.outlet-5.ensures.0 refl (trimmed.took Log) left.1.1 ∙ output Log in
+    let summary = ap summary_of trimmed.counts_are ∙ summary_is c.settings.result _ _ c.settings.ensures forward_is reverse_is in
+    left.1.2 ∙ (λ i. sections (fp i) (fu i) (rp i) (ru i) (log i) (summary i))) c.shown.ensures.text

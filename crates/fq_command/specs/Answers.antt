@@ -1,0 +1,161 @@
+-- How a call of the program ends.
+use Rattle.std.specs.Prelude.{◌≡◌, ◌≢◌, ◌⊎◌, ℕ, ◌<◌, Bool, IsTrue, IsSome, Some, None, List, [], ◌++◌, codes, length, take}
+use Rattle.std.specs.List.{All}
+use Rattle.fq_text.specs.Devices.{OutletState}
+use Rattle.fq_text.specs.Written.{line}
+use Rattle.fq_files.specs.Holding.{Holding, IsUnchanged}
+use Rattle.fq_pair.specs.declared.counts.Counts.{Counts}
+use Rattle.fq_pair.specs.declared.side.Side.{Side}
+use Rattle.fq_pair.specs.Summaries.{summary_of}
+use Rattle.fq_run.specs.Outcome.{Outcome}
+use Rattle.fq_run.specs.Outcome.TheVariants.{Lane}
+use Rattle.clap.specs.Kinds.{Kinds}
+use Rattle.clap.specs.declared.error.kind.ErrorKind.{ErrorKind}
+use Rattle.clap.specs.declared.error.kind.ErrorKind.TheVariants.{DisplayHelp, DisplayVersion}
+use Rattle.fq_job.specs.declared.refusal.Refusal.{Refusal}
+use Rattle.fq_words.specs.Requests.{Asking, input_name}
+use Rattle.fq_job.specs.Judging.{wrong_with}
+use Rattle.fq_job.specs.Refusals.{status_of, line_of}
+use Rattle.fq_job.specs.Faults.{outcome_status, outcome_line}
+use Rattle.fq_job.specs.Trimming.{HasDistinctFiles, TrimsFiles}
+use Rattle.fq_job.specs.Leaving.{RefusalLeaves, ReportLeft, HoldFirstPairs, AreLeft}
+use Rattle.fq_job.specs.Reporting.{HoldsReport, BeginsReport}
+use Rattle.fq_job.specs.declared.reporting.Reported.{Reported}
+use Rattle.fq_job.specs.declared.reporting.Reported.TheVariants as report
+
+-- A device in a call: whether it tells its bytes, those that it had taken before the call and has taken after it, and how
+-- often it has failed.
+pub record Device : Type 0 where
+  pub tells : Bool
+  pub before : List ℕ
+  pub after : List ℕ
+  pub failures : ℕ
+
+abbrev pub device_of : {D : Type 0} → (D → OutletState) → D → D → Device
+device_of state old new = record { tells = (state old).tells; before = (state old).taken; after = (state new).taken; failures = (state new).failures }
+
+-- where it has not failed, it took this text and nothing else
+abbrev pub TookText : Device → List ℕ → Type 0
+TookText d text = IsTrue d.tells → d.failures ≡ 0 → d.after ≡ d.before ++ text
+
+-- and where it has, it took a part of it that is not the whole
+pub record TookPart (d : Device) (text : List ℕ) : Type 0 where
+  pub whole : TookText d text
+  pub part : IsTrue d.tells → d.failures ≢ 0 → (count : ℕ) × (count < length text) × (d.after ≡ d.before ++ take count text)
+
+-- The pairs of the inputs were trimmed into the files of the outputs, up to the end or to a fault of the inputs. The summary of
+-- their counts went to standard output, and the line of the outcome, which has this status, to standard error.
+pub record EndsWhole (a : Asking) (old new : Holding) (out err : Device) (status : ℕ) : Type 0 where
+  pub outcome : Outcome
+  pub counts : Counts
+  pub trims : TrimsFiles a old new outcome counts
+  pub status_is : outcome_status outcome ≡ status
+  pub printed : TookPart out (summary_of counts)
+  pub told : TookText err (outcome_line outcome)
+
+abbrev pub memory_line : List ℕ
+memory_line = line (codes "out of memory")
+
+abbrev pub print_line : List ℕ
+print_line = line (codes "cannot print")
+
+abbrev pub report_line : List ℕ
+report_line = line (codes "write failed: report")
+
+-- memory was refused, and standard error took that line
+pub record LacksMemory (err : Device) (status : ℕ) : Type 0 where
+  pub status_is : status ≡ 5
+  pub told : TookText err memory_line
+
+-- What is told on standard error, and what the files of the outputs hold then.
+
+-- a refusal of what was asked has this status and this line
+pub record IsRefusal (a : Asking) (tells : Bool) (old new : Holding) (status : ℕ) (text : List ℕ) : Type 0 where
+  pub why : Refusal
+  pub status_is : status_of why ≡ status
+  pub text_is : line_of a why ≡ text
+  pub left : IsTrue tells → HasDistinctFiles a → RefusalLeaves a why old new
+  pub report_left : IsTrue tells → HasDistinctFiles a → (name : List ℕ) → a.report ≡ Some name → ReportLeft why (old name) (new name)
+
+-- an outcome of the run has this status and this line
+pub record IsEnding (a : Asking) (tells : Bool) (old new : Holding) (status : ℕ) (text : List ℕ) : Type 0 where
+  pub outcome : Outcome
+  pub status_is : outcome_status outcome ≡ status
+  pub text_is : outcome_line outcome ≡ text
+  pub left : IsTrue tells → HasDistinctFiles a → outcome ≢ Lane → HoldFirstPairs a old new outcome
+  pub unreported : IsTrue tells → outcome_status outcome ≢ 0 → outcome_status outcome ≢ 3 → (name : List ℕ) → a.report ≡ Some name → new name ≡ Some []
+
+-- all pairs were trimmed, and the summary could not be printed
+pub record IsUnprinted (a : Asking) (tells : Bool) (old new : Holding) (status : ℕ) (text : List ℕ) : Type 0 where
+  pub status_is : status ≡ 4
+  pub text_is : text ≡ print_line
+  pub left : IsTrue tells → HasDistinctFiles a → (outcome : Outcome) × (counts : Counts) × (outcome_status outcome ≡ 0) × TrimsFiles a old new outcome counts
+  pub reported : IsTrue tells → (name : List ℕ) → a.report ≡ Some name → HoldsReport a old new name
+
+-- all pairs were trimmed, up to the end or to a fault of the inputs, and the report could not be written
+pub record IsUnreported (a : Asking) (tells : Bool) (old new : Holding) (status : ℕ) (text : List ℕ) : Type 0 where
+  pub status_is : status ≡ 4
+  pub text_is : text ≡ report_line
+  pub left : IsTrue tells → HasDistinctFiles a → (outcome : Outcome) × (counts : Counts) × TrimsFiles a old new outcome counts
+  pub begun : IsTrue tells → (name : List ℕ) → a.report ≡ Some name → BeginsReport a old new name
+
+-- memory was refused for what was to be told
+pub record IsUntold (a : Asking) (tells : Bool) (old new : Holding) (status : ℕ) (text : List ℕ) : Type 0 where
+  pub status_is : status ≡ 5
+  pub text_is : text ≡ memory_line
+  pub left : IsTrue tells → HasDistinctFiles a → AreLeft a old new
+
+-- standard error took the line of one of these, which has this status, and nothing else
+pub record TookLine (a : Asking) (tells : Bool) (old new : Holding) (err : Device) (status : ℕ) : Type 0 where
+  pub text : List ℕ
+  pub fits : (IsRefusal a tells old new status text ⊎ IsEnding a tells old new status text)
+      ⊎ (IsUnprinted a tells old new status text ⊎ (IsUntold a tells old new status text ⊎ IsUnreported a tells old new status text))
+  pub took : TookText err text
+
+-- an outcome was told, or that the summary of pairs that were all trimmed was not printed, or memory was refused for either
+abbrev pub Reports : Outcome → Device → ℕ → Type 0
+Reports outcome err status =
+    ((status ≡ outcome_status outcome) × TookText err (outcome_line outcome))
+    ⊎ (((outcome_status outcome ≡ 0) × (status ≡ 4) × TookText err print_line)
+    ⊎ ((outcome ≢ Lane) × LacksMemory err status))
+
+-- the same of a run with a report, where that was written or none was due; else that it was not written, or that memory was refused for it
+abbrev pub Tells : Outcome → Reported → Device → ℕ → Type 0
+Tells outcome reported err status =
+    (((reported ≡ report.NotDue) ⊎ (reported ≡ report.Written)) × Reports outcome err status)
+    ⊎ (((reported ≡ report.Failed) × (status ≡ 4) × TookText err report_line)
+    ⊎ ((reported ≡ report.OutOfMemory) × LacksMemory err status))
+
+-- a refusal was told, or memory was refused for its line
+abbrev pub Refuses : Asking → Refusal → Device → ℕ → Type 0
+Refuses a why err status = ((status ≡ status_of why) × TookText err (line_of a why)) ⊎ LacksMemory err status
+
+-- the file of the report holds what it held, or nothing, or a first part of the report that is defined
+abbrev pub IsReportLeft : Asking → Holding → Holding → List ℕ → Type 0
+IsReportLeft a old new name = ((new name ≡ old name) ⊎ (new name ≡ Some [])) ⊎ BeginsReport a old new name
+
+-- How pairs that were asked for are answered: trimmed, or refused.
+pub record PairsAnswered (a : Asking) (told : Bool) (old new : Holding) (out err : Device) (status : ℕ) : Type 0 where
+  pub whole : (status ≡ 0) ⊎ (status ≡ 3) → IsTrue told → HasDistinctFiles a → EndsWhole a old new out err status
+  pub wrong : (why : Refusal) → wrong_with a ≡ Some why → Refuses a why err status
+  pub right : status ≡ 2 → IsSome (wrong_with a)
+  pub line : status ≢ 0 → TookLine a told old new err status
+  pub known : status ≢ 1
+  pub left : status ≢ 6 → IsTrue told → HasDistinctFiles a → AreLeft a old new
+  pub reported : (status ≡ 0) ⊎ (status ≡ 3) → IsTrue told → (name : List ℕ) → a.report ≡ Some name → HoldsReport a old new name
+  pub report_left : IsTrue told → HasDistinctFiles a → (name : List ℕ) → a.report ≡ Some name → IsReportLeft a old new name
+  pub unopened : IsTrue told → (side : Side) → old (input_name a.inputs side) ≡ None → IsUnchanged old new
+
+-- a call for help or for the version
+abbrev pub IsCall : ErrorKind → Type 0
+IsCall kind = (kind ≡ DisplayHelp) ⊎ (kind ≡ DisplayVersion)
+
+-- words that are such a call, and nothing else
+pub record AreCalls (kinds : Kinds) : Type 0 where
+  pub some : kinds ≢ []
+  pub all : All IsCall kinds
+
+-- words that are refused, and are no such call
+pub record AreRefused (kinds : Kinds) : Type 0 where
+  pub some : kinds ≢ []
+  pub no_help : All (λ kind. (kind ≢ DisplayHelp) × (kind ≢ DisplayVersion)) kinds

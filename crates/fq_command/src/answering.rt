@@ -1,0 +1,202 @@
+//! The program, apart from where its words and files come from and its texts go to.
+
+ghost use Rattle.std.specs.Prelude.{◌≡◌, ◌≢◌, ◌⊎◌, ◌++◌, Some, None, [], IsSome, IsTrue, map};
+ghost use Rattle.fq_words.specs.Requests.{Asking, asking_of};
+ghost use Rattle.fq_job.specs.Judging.{wrong_with};
+ghost use Rattle.fq_job.specs.Trimming.{KeepsUnnamed};
+ghost use Rattle.fq_words.specs.Words.{AskedFor, words_fault};
+ghost use Rattle.fq_command.specs.Answers.{device_of, TookText, TookPart, LacksMemory, Refuses, Tells, PairsAnswered, AreRefused, IsCall, AreCalls, print_line};
+ghost use Rattle.fq_command.specs.Example.{example_text};
+ghost use Rattle.fq_job.specs.Faults.{outcome_status, outcome_line};
+ghost use Rattle.fq_pair.specs.Summaries.{summary_of};
+ghost use Rattle.clap.specs.Words.{kind_of};
+ghost use Rattle.clap.specs.declared.error.kind.ErrorKind.TheVariants.{DisplayHelp, DisplayVersion, OutOfMemory};
+
+use crate::example::example;
+use crate::refusal_line::{refusal_line, refusal_status};
+use crate::report::{cannot_print, cannot_report, out_of_memory, report};
+use crate::unshown::Unshown;
+use clap::Error;
+use clap::error::ErrorKind;
+use fq_files::Files;
+use fq_job::{Completed, Refusal, Reported, trim_files};
+use fq_text::{Outlet, send};
+use fq_words::{Asked, Request, read_words};
+use std::alloc::Global;
+use std::sync::Wait;
+use std::thread::Threads;
+
+/// Runs the program on its words, of which the first is its name, and answers the exit status.
+///
+/// `PE [options] F R FP FU RP RU STEPS..` trims the pairs of the files F and R by these steps. The pairs of which both mates survive go
+/// to FP and RP, and a mate that survives alone goes to FU or RU. Where the run ends whole, at the end of the inputs or at a fault of theirs,
+/// the summary goes to `out`, and the report to its file, if one is asked for. Each refusal and each fault sends one line to `err`; whether that fails changes nothing.
+///
+/// `IL [options] I FP FU RP RU STEPS..` does the same with the pairs of one interleaved file I: a forward record, then its
+/// reverse mate, and so on.
+///
+/// `EXAMPLE` prints what becomes of two built-in pairs under the step `LEADING:3`: the four outputs, the trim log and the
+/// summary, each below a label.
+///
+/// The statuses are 0 for all that is done, help too, 1 for other words, 2 for an encoding, a step, a setting or a name that is bad, 3 at a fault
+/// of the input, 4 for a device, 5 for want of memory, and 6 for threads.
+pub fn program<'a, R: Threads + Wait + Copy + Send + 'static, T: Files, O: Outlet, E: Outlet>(
+    alloc: Global,
+    rt: &R,
+    words: &'a [&'a str],
+    files: &mut T,
+    out: &mut O,
+    err: &mut E,
+) -> u8
+    requires out { (O.state out.old).failures ≡ 0 }
+    requires err { (E.state err.old).failures ≡ 0 }
+
+    // Words that parse as `PE` or `IL` are answered as they ask: the pairs are trimmed, or it is told why not. What is wrong with the words
+    // is found before a file is touched.
+    ensures pairs { (a : Asking) → AskedFor (map (λ word. word.now) words.entry.now) (Some a)
+        → PairsAnswered a (T.tells_bytes files.old) (T.bytes_of files.old) (T.bytes_of files.new) (device_of O.state out.old out.new) (device_of E.state err.old err.new) result }
+    ensures wrong { (a : Asking) → AskedFor (map (λ word. word.now) words.entry.now) (Some a) → IsSome (wrong_with a) → files.new ≡ files.old }
+
+    // No file is touched but those of the outputs and of the report.
+    ensures rest { (a : Asking) → AskedFor (map (λ word. word.now) words.entry.now) (Some a) → IsTrue (T.tells_bytes files.old) → KeepsUnnamed a (T.bytes_of files.old) (T.bytes_of files.new) }
+
+    // Other words touch no file. `EXAMPLE` is printed, but where `out`, memory or a thread fails; words that don't parse are refused, but
+    // calls for help or for the version are not.
+    ensures example { AskedFor (map (λ word. word.now) words.entry.now) None → (files.new ≡ files.old) × ((result ≡ 0) ⊎ ((result ≡ 4) ⊎ ((result ≡ 5) ⊎ (result ≡ 6)))) }
+    ensures shown { AskedFor (map (λ word. word.now) words.entry.now) None → result ≡ 0 → IsTrue (O.state out.old).tells → (O.state out.new).taken ≡ (O.state out.old).taken ++ example_text }
+    ensures refused { words_fault (map (λ word. word.now) words.entry.now) ≢ [] → files.new ≡ files.old }
+    ensures usage { AreRefused (words_fault (map (λ word. word.now) words.entry.now)) → (result ≡ 1) ⊎ (result ≡ 5) }
+    ensures called { AreCalls (words_fault (map (λ word. word.now) words.entry.now)) → result ≢ 1 }
+    ensures usage_only { result ≡ 1 → (words_fault (map (λ word. word.now) words.entry.now) ≢ []) × (out.new ≡ out.old) }
+
+    // Where all is done nothing is told, and `out` has taken all. Where it fails the status says so, or tells of the input; nothing is
+    // printed at any other status, and want of memory is told as such.
+    ensures finished { result ≡ 0 → ((O.state out.new).failures ≡ 0) × (err.new ≡ err.old) }
+    ensures quiet { result ≢ 0 → result ≢ 3 → (O.state out.new).failures ≡ 0 → out.new ≡ out.old }
+    ensures failed { (O.state out.new).failures ≢ 0 → (result ≡ 3) ⊎ ((result ≡ 4) × TookText (device_of E.state err.old err.new) print_line) }
+    ensures memory { result ≡ 5 → (out.new ≡ out.old) × LacksMemory (device_of E.state err.old err.new) result }
+{
+    match read_words(alloc, words) {
+        Ok(Asked::Example) => print_example(alloc, rt, out, err),
+        Ok(Asked::Pairs(request)) => trim_pairs(alloc, rt, &request, files, out, err),
+        Err(error) => refuse_words(alloc, &error, out, err),
+    }
+}
+
+// Trims files, and reports.
+fn trim_pairs<R: Threads + Wait + Copy + Send + 'static, T: Files, O: Outlet, E: Outlet>(
+    alloc: Global,
+    rt: &R,
+    request: &Request<'_>,
+    files: &mut T,
+    out: &mut O,
+    err: &mut E,
+) -> u8
+    requires out { (O.state out.old).failures ≡ 0 }
+    requires err { (E.state err.old).failures ≡ 0 }
+    ensures pairs { PairsAnswered (asking_of request.now) (T.tells_bytes files.old) (T.bytes_of files.old) (T.bytes_of files.new) (device_of O.state out.old out.new) (device_of E.state err.old err.new) result }
+    ensures wrong { IsSome (wrong_with (asking_of request.now)) → files.new ≡ files.old }
+    ensures rest { IsTrue (T.tells_bytes files.old) → KeepsUnnamed (asking_of request.now) (T.bytes_of files.old) (T.bytes_of files.new) }
+    ensures finished { result ≡ 0 → ((O.state out.new).failures ≡ 0) × (err.new ≡ err.old) }
+    ensures quiet { result ≢ 0 → result ≢ 3 → (O.state out.new).failures ≡ 0 → out.new ≡ out.old }
+    ensures failed { (O.state out.new).failures ≢ 0 → (result ≡ 3) ⊎ ((result ≡ 4) × TookText (device_of E.state err.old err.new) print_line) }
+    ensures memory { result ≡ 5 → (out.new ≡ out.old) × LacksMemory (device_of E.state err.old err.new) result }
+{
+    match trim_files(alloc, rt, request, files) {
+        Ok(completed) => tell(alloc, &completed, out, err),
+        Err(refusal) => refuse(alloc, request, refusal, err),
+    }
+}
+
+// Says how a run ended, or that its report was not written, and answers the exit status.
+fn tell<O: Outlet, E: Outlet>(alloc: Global, completed: &Completed, out: &mut O, err: &mut E) -> u8
+    requires out { (O.state out.old).failures ≡ 0 }
+    requires err { (E.state err.old).failures ≡ 0 }
+    ensures whole { (result ≡ 0) ⊎ (result ≡ 3) → outcome_status completed.now.account.outcome ≡ result }
+    ensures reported { (result ≡ 0) ⊎ (result ≡ 3) → (completed.now.reported ≡ Reported.NotDue) ⊎ (completed.now.reported ≡ Reported.Written) }
+    ensures printed { (result ≡ 0) ⊎ (result ≡ 3) → TookPart (device_of O.state out.old out.new) (summary_of completed.now.account.counts) }
+    ensures finished { result ≡ 0 → ((O.state out.new).failures ≡ 0) × (err.new ≡ err.old) }
+    ensures told { (result ≡ 0) ⊎ (result ≡ 3) → TookText (device_of E.state err.old err.new) (outcome_line completed.now.account.outcome) }
+    ensures line { result ≢ 0 → Tells completed.now.account.outcome completed.now.reported (device_of E.state err.old err.new) result }
+    ensures memory { result ≡ 5 → (out.new ≡ out.old) × LacksMemory (device_of E.state err.old err.new) result }
+    ensures quiet { result ≢ 0 → result ≢ 3 → (O.state out.new).failures ≡ 0 → out.new ≡ out.old }
+    ensures failed { (O.state out.new).failures ≢ 0 → (result ≡ 3) ⊎ ((result ≡ 4) × TookText (device_of E.state err.old err.new) print_line) }
+    ensures known { (result ≢ 1) × (result ≢ 2) }
+{
+    match completed.reported {
+        Reported::NotDue | Reported::Written => report(alloc, &completed.account, out, err),
+        Reported::Failed => cannot_report(err),
+        Reported::OutOfMemory => out_of_memory(err),
+    }
+}
+
+// Says why nothing was trimmed, and answers the exit status.
+fn refuse<E: Outlet>(alloc: Global, request: &Request<'_>, refusal: Refusal, err: &mut E) -> u8
+    requires { (E.state err.old).failures ≡ 0 }
+    ensures { Refuses (asking_of request.now) refusal (device_of E.state err.old err.new) result }
+{
+    match refusal_line(alloc, request, refusal) {
+        Ok(line) => {
+            // There is nowhere to say that this failed.
+            let _ = send(err, line.as_bytes());
+            refusal_status(refusal)
+        }
+        Err(_) => out_of_memory(err),
+    }
+}
+
+// Prints the example.
+fn print_example<R: Threads + Wait + Copy + Send + 'static, O: Outlet, E: Outlet>(
+    alloc: Global,
+    rt: &R,
+    out: &mut O,
+    err: &mut E,
+) -> u8
+    requires out { (O.state out.old).failures ≡ 0 }
+    requires err { (E.state err.old).failures ≡ 0 }
+    ensures status { (result ≡ 0) ⊎ ((result ≡ 4) ⊎ ((result ≡ 5) ⊎ (result ≡ 6))) }
+    ensures shown { result ≡ 0 → IsTrue (O.state out.old).tells → (O.state out.new).taken ≡ (O.state out.old).taken ++ example_text }
+    ensures finished { result ≡ 0 → ((O.state out.new).failures ≡ 0) × (err.new ≡ err.old) }
+    ensures quiet { result ≢ 0 → (O.state out.new).failures ≡ 0 → out.new ≡ out.old }
+    ensures failed { (O.state out.new).failures ≢ 0 → (result ≡ 4) × TookText (device_of E.state err.old err.new) print_line }
+    ensures memory { result ≡ 5 → (out.new ≡ out.old) × LacksMemory (device_of E.state err.old err.new) result }
+{
+    match example(alloc, rt) {
+        Ok(text) => match send(out, &text) {
+            Ok(()) => 0,
+            Err(_) => cannot_print(err),
+        },
+        Err(Unshown::Unrun(account)) => report(alloc, &account, out, err),
+        Err(Unshown::Memory) => out_of_memory(err),
+    }
+}
+
+// Prints help that was asked for, or what is wrong with the words.
+fn refuse_words<O: Outlet, E: Outlet>(alloc: Global, error: &Error, out: &mut O, err: &mut E) -> u8
+    requires out { (O.state out.old).failures ≡ 0 }
+    requires err { (E.state err.old).failures ≡ 0 }
+    ensures status { (result ≡ 0) ⊎ ((result ≡ 1) ⊎ ((result ≡ 4) ⊎ (result ≡ 5))) }
+    ensures no_memory { kind_of error.now ≡ OutOfMemory → result ≡ 5 }
+    ensures usage { kind_of error.now ≢ DisplayHelp → kind_of error.now ≢ DisplayVersion → (result ≡ 1) ⊎ (result ≡ 5) }
+    ensures called { IsCall (kind_of error.now) → result ≢ 1 }
+    ensures usage_only { result ≡ 1 → (out.new ≡ out.old) × (kind_of error.now ≢ OutOfMemory) }
+    ensures finished { result ≡ 0 → ((O.state out.new).failures ≡ 0) × (err.new ≡ err.old) }
+    ensures failed { result ≡ 4 → ((O.state out.new).failures ≡ 1) × TookText (device_of E.state err.old err.new) print_line }
+    ensures memory { result ≡ 5 → (out.new ≡ out.old) × LacksMemory (device_of E.state err.old err.new) result }
+{
+    if error.kind() == ErrorKind::OutOfMemory {
+        return out_of_memory(err);
+    }
+    let Ok(text) = format!(in alloc; "{error}") else {
+        return out_of_memory(err);
+    };
+    if error.use_stderr() {
+        // There is nowhere to say that this failed.
+        let _ = send(err, text.as_bytes());
+        return 1;
+    }
+    match send(out, text.as_bytes()) {
+        Ok(()) => 0,
+        Err(_) => cannot_print(err),
+    }
+}

@@ -1,0 +1,171 @@
+//! The built-in example.
+
+ghost use Rattle.std.specs.Prelude.{◌≡◌, ◌++◌, ℕ, List, [], Some, IfOk, IfErr, IsTrue, OnOk};
+ghost use Rattle.std.specs.Option.{option_map};
+ghost use Rattle.fq_pair.specs.Forms.{TwoTexts};
+ghost use Rattle.fq_pair.specs.Summaries.{summary_of};
+ghost use Rattle.fq_run.specs.Devices.{outlet_states, AreHealthy};
+ghost use Rattle.fq_run.specs.Endings.{ends_whole};
+ghost use Rattle.fq_command.specs.Example.{example_choices, example_text, sections};
+ghost use Rattle.fq_job.specs.Faults.{outcome_status};
+ghost use Rattle.fq_job.specs.Trimming.{pairs_of, TrimsPairs};
+ghost use Rattle.fq_job.specs.declared.trimming.Account.{Account};
+ghost use Rattle.fq_command.specs.declared.unshown.Unshown.TheVariants.{Unrun};
+
+use crate::unshown::Unshown;
+use fq_job::Account;
+use fq_pair::{Counts, summary};
+use fq_run::{Outcome, Outlets, Settings, run_threads};
+use fq_text::{Encoding, Feed, OutOfMemory, Outlet, ScriptFeed, ScriptOutlet};
+use fq_trim::Steps;
+use fq_work::OpenGate;
+use std::alloc::Global;
+use std::sync::{Arc, Wait};
+use std::thread::Threads;
+
+const FORWARD: &[u8] = b"@p1/1\nACGT\n+\n#!II\n@p2/1\nGGCC\n+\nIIII\n";
+
+const REVERSE: &[u8] = b"@p1/2\nTTTT\n+\nIIII\n@p2/2\nAAAA\n+\n!!!\"\n";
+
+// Bytes of a read or a write of the example's devices.
+const CUT: usize = 1000;
+
+const CHUNK: u64 = 65_536;
+
+const MOST: u64 = 1 << 40;
+
+// The settings of the example.
+fn settings() -> Settings
+    ensures { result ≡ example_choices }
+{
+    match Steps::parse(&["LEADING:3"]) {
+        Ok(steps) => {
+            match Settings::new(Encoding::Sanger, steps, true, 2, 1, 4, CHUNK, MOST, MOST) {
+                Ok(settings) => settings,
+                Err(_) => unreachable!(),
+            }
+        }
+        Err(_) => unreachable!(),
+    }
+}
+
+fn outlet(alloc: Global) -> ScriptOutlet
+    ensures { (result.bytes ≡ []) × (result.failures ≡ 0) }
+{
+    ScriptOutlet::new(alloc, CUT, 0, false)
+}
+
+/// What the example prints: the texts of the two pairs, each below its label. Its run has two workers and blocks of one pair.
+pub(crate) fn example<R: Threads + Wait + Copy + Send + 'static>(
+    alloc: Global,
+    rt: &R,
+) -> Result<Vec<u8>, Unshown>
+    ensures text { IfOk result (λ text. text.items ≡ example_text) }
+    ensures unrun { IfErr result (λ why. (account : Account) → why ≡ Unrun account → outcome_status account.outcome ≡ 6) }
+{
+    let Ok(gate) = Arc::new(alloc, OpenGate) else {
+        return Err(Unshown::Memory);
+    };
+    let forward = ScriptFeed::new(alloc, FORWARD, CUT, 0)?;
+    let reverse = ScriptFeed::new(alloc, REVERSE, CUT, 0)?;
+    let mut outlets = Outlets {
+        forward_paired: outlet(alloc),
+        forward_unpaired: outlet(alloc),
+        reverse_paired: outlet(alloc),
+        reverse_unpaired: outlet(alloc),
+        log: Some(outlet(alloc)),
+    };
+    let account = run(alloc, rt, &settings(), gate, forward, reverse, &mut outlets);
+    shown(alloc, account, &outlets)
+}
+
+// What a run left, each text below its label, or why it isn't shown.
+fn shown(
+    alloc: Global,
+    account: Account,
+    outlets: &Outlets<ScriptOutlet>,
+) -> Result<Vec<u8>, Unshown>
+    ensures text { IfOk result (λ text. (account.outcome ≡ Outcome.Finished) × ((log : List ℕ) × (option_map (λ l. l.bytes) outlets.now.log ≡ Some log)
+        × (text.items ≡ sections outlets.now.forward_paired.bytes outlets.now.forward_unpaired.bytes
+        outlets.now.reverse_paired.bytes outlets.now.reverse_unpaired.bytes log (summary_of account.counts)))) }
+    ensures unrun { IfErr result (λ why. (unrun : Account) → why ≡ Unrun unrun → outcome_status unrun.outcome ≡ 6) }
+{
+    match (account.outcome, &outlets.log) {
+        (Outcome::Finished, Some(log)) => {
+            Ok(labelled(alloc, outlets, log.bytes(), &account.counts)?)
+        }
+        (Outcome::Spawn | Outcome::Lane, _) => Err(Unshown::Unrun(account)),
+        // Outlets in memory fail for want of memory alone.
+        _ => Err(Unshown::Memory),
+    }
+}
+
+// The run of the example, over its inputs.
+fn run<R: Threads + Wait + Copy + Send + 'static, F: Feed + Drop + Send + 'static, O: Outlet>(
+    alloc: Global,
+    rt: &R,
+    settings: &Settings,
+    gate: Arc<OpenGate>,
+    forward: F,
+    reverse: F,
+    outlets: &mut Outlets<O>,
+) -> Account
+    requires forward { (F.state forward).failures ≡ 0 }
+    requires reverse { (F.state reverse).failures ≡ 0 }
+    requires healthy { AreHealthy (outlet_states O.state outlets.old) }
+    ensures { IsTrue (ends_whole result.outcome) → IsTrue (F.state forward).tells → IsTrue (F.state reverse).tells
+        → TrimsPairs settings.now (pairs_of settings.now TwoTexts (F.state forward).to_come (F.state reverse).to_come)
+        (outlet_states O.state outlets.old) (outlet_states O.state outlets.new) result.outcome result.counts }
+{
+    let ending = run_threads(alloc, rt, settings, gate, forward, reverse, outlets);
+    Account {
+        outcome: ending.outcome,
+        counts: ending.counts,
+        tally: ending.tally,
+    }
+}
+
+// The texts of the outlets and the summary, each below its label.
+fn labelled(
+    alloc: Global,
+    outlets: &Outlets<ScriptOutlet>,
+    log: &[u8],
+    counts: &Counts,
+) -> Result<Vec<u8>, OutOfMemory>
+    ensures { IfOk result (λ text. text.items ≡ sections outlets.now.forward_paired.bytes outlets.now.forward_unpaired.bytes
+        outlets.now.reverse_paired.bytes outlets.now.reverse_unpaired.bytes log.now (summary_of counts.now)) }
+{
+    let summary = summary(alloc, counts)?;
+    let mut text = Vec::new(alloc);
+    put_section(
+        &mut text,
+        b"[forward paired]\n",
+        outlets.forward_paired.bytes(),
+    )?;
+    put_section(
+        &mut text,
+        b"[forward unpaired]\n",
+        outlets.forward_unpaired.bytes(),
+    )?;
+    put_section(
+        &mut text,
+        b"[reverse paired]\n",
+        outlets.reverse_paired.bytes(),
+    )?;
+    put_section(
+        &mut text,
+        b"[reverse unpaired]\n",
+        outlets.reverse_unpaired.bytes(),
+    )?;
+    put_section(&mut text, b"[trim log]\n", log)?;
+    put_section(&mut text, b"[summary]\n", summary.as_bytes())?;
+    Ok(text)
+}
+
+// Appends a text below its label.
+fn put_section(text: &mut Vec<u8>, label: &[u8], section: &[u8]) -> Result<(), OutOfMemory>
+    ensures { OnOk result (text.new.items ≡ text.old.items ++ (label.now ++ section.now)) }
+{
+    text.extend_from_slice(label)?;
+    text.extend_from_slice(section)
+}

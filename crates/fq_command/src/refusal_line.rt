@@ -1,0 +1,115 @@
+//! What the program says where it refuses.
+
+ghost use Rattle.std.specs.Prelude.{◌≡◌, ◌++◌, [], IfOk, codes, decimal, unwrap_or};
+ghost use Rattle.fq_text.specs.Written.{line};
+ghost use Rattle.std.specs.String.{string_bytes};
+ghost use Rattle.fq_words.specs.Requests.{asking_of};
+ghost use Rattle.fq_job.specs.Refusals.{status_of, line_of, step_fault_name, setting_name};
+
+use fq_job::Refusal;
+use fq_run::BadSetting;
+use fq_text::OutOfMemory;
+use fq_trim::StepFaultKind;
+use fq_words::Request;
+use std::alloc::Global;
+
+/// The exit status of a refusal.
+pub(crate) fn refusal_status(refusal: Refusal) -> u8
+    ensures { result ≡ status_of refusal }
+{
+    match refusal {
+        Refusal::Encoding | Refusal::Step(_) | Refusal::Setting(_) | Refusal::SameName(_) => 2,
+        Refusal::SameReport => 2,
+        Refusal::Source(_) | Refusal::Target(_) | Refusal::Report => 4,
+        Refusal::Memory => 5,
+    }
+}
+
+/// The line of a refusal of what was asked, with its line end.
+pub(crate) fn refusal_line(
+    alloc: Global,
+    request: &Request<'_>,
+    refusal: Refusal,
+) -> Result<String, OutOfMemory>
+    ensures { IfOk result (λ text. string_bytes text ≡ line_of (asking_of request.now) refusal) }
+{
+    match refusal {
+        Refusal::Encoding => {
+            let name = request.encoding;
+            format!(in alloc; "bad encoding: {name}\n")
+        }
+        Refusal::Step(fault) => step_line(alloc, fault.place, step_fault_name(fault.kind)),
+        Refusal::Setting(bad) => {
+            let name = setting_name(bad);
+            format!(in alloc; "bad setting: {name}\n")
+        }
+        Refusal::SameName(out) => same_name_line(alloc, request.output_name(out)),
+        Refusal::Source(side) => {
+            let name = request.input_name(side);
+            format!(in alloc; "cannot read {name}\n")
+        }
+        Refusal::Target(out) => unwritten_line(alloc, request.output_name(out)),
+        Refusal::SameReport => same_name_line(alloc, report_name(request)),
+        Refusal::Report => unwritten_line(alloc, report_name(request)),
+        Refusal::Memory => String::from_str(alloc, "out of memory\n"),
+    }
+}
+
+// The name of the report, or nothing where none is wanted.
+fn report_name<'a>(request: &Request<'a>) -> &'a str
+    ensures { result.now ≡ unwrap_or (asking_of request.now).report [] }
+{
+    match request.report {
+        Some(name) => name,
+        None => "",
+    }
+}
+
+// The line of a name that is that of an input.
+fn same_name_line(alloc: Global, name: &str) -> Result<String, OutOfMemory>
+    ensures { IfOk result (λ text. string_bytes text ≡ line (codes "same name: " ++ name.now)) }
+{
+    format!(in alloc; "same name: {name}\n")
+}
+
+// The line of a file that can't be made.
+fn unwritten_line(alloc: Global, name: &str) -> Result<String, OutOfMemory>
+    ensures { IfOk result (λ text. string_bytes text ≡ line (codes "cannot write " ++ name.now)) }
+{
+    format!(in alloc; "cannot write {name}\n")
+}
+
+// The line of a fault in the words of the steps.
+fn step_line(alloc: Global, place: usize, kind: &str) -> Result<String, OutOfMemory>
+    ensures { IfOk result (λ text. string_bytes text ≡ line (codes "bad step " ++ decimal place ++ codes ": " ++ kind.now)) }
+{
+    format!(in alloc; "bad step {place}: {kind}\n")
+}
+
+// The name of a kind of fault.
+fn step_fault_name(kind: StepFaultKind) -> &'static str
+    ensures { result.now ≡ step_fault_name kind }
+{
+    match kind {
+        StepFaultKind::NoSteps => "NoSteps",
+        StepFaultKind::TooMany => "TooMany",
+        StepFaultKind::Unknown => "Unknown",
+        StepFaultKind::WrongCount => "WrongCount",
+        StepFaultKind::BadNumber => "BadNumber",
+        StepFaultKind::OutOfRange => "OutOfRange",
+    }
+}
+
+// The name of a setting.
+fn setting_name(bad: BadSetting) -> &'static str
+    ensures { result.now ≡ setting_name bad }
+{
+    match bad {
+        BadSetting::Workers => "workers",
+        BadSetting::BlockPairs => "block",
+        BadSetting::Depth => "depth",
+        BadSetting::Chunk => "chunk",
+        BadSetting::MaxReads => "reads",
+        BadSetting::GateTurns => "gate",
+    }
+}

@@ -1,0 +1,112 @@
+//! What the program says at its end.
+
+ghost use Rattle.std.specs.Prelude.{◌≡◌, ◌≢◌, ◌⊎◌, true, false, IfOk, OnErr};
+ghost use Rattle.fq_pair.specs.Summaries.{summary_of};
+ghost use Rattle.fq_command.specs.Answers.{device_of, TookText, TookPart, Reports, LacksMemory, memory_line, print_line, report_line};
+ghost use Rattle.fq_job.specs.Faults.{outcome_status, outcome_line};
+
+use fq_job::{Account, fault_line, status_of};
+use fq_pair::{Counts, summary};
+use fq_run::Outcome;
+use fq_text::{OutOfMemory, Outlet, send};
+use std::alloc::Global;
+
+/// Prints the summary of a run that ended whole to `out`, and the line of a fault to `err`. Answers the exit status.
+pub(crate) fn report<O: Outlet, E: Outlet>(
+    alloc: Global,
+    account: &Account,
+    out: &mut O,
+    err: &mut E,
+) -> u8
+    requires out { (O.state out.old).failures ≡ 0 }
+    requires err { (E.state err.old).failures ≡ 0 }
+
+    // At the end of the inputs, or at a fault of theirs, the summary was printed, or at a fault a part of it.
+    ensures whole { (result ≡ 0) ⊎ (result ≡ 3) → outcome_status account.now.outcome ≡ result }
+    ensures printed { (result ≡ 0) ⊎ (result ≡ 3) → TookPart (device_of O.state out.old out.new) (summary_of account.now.counts) }
+    ensures finished { result ≡ 0 → ((O.state out.new).failures ≡ 0) × (err.new ≡ err.old) }
+
+    ensures status { (result ≡ outcome_status account.now.outcome) ⊎ ((result ≡ 4) ⊎ (result ≡ 5)) }
+
+    // The line of the outcome.
+    ensures told { (result ≡ 0) ⊎ (result ≡ 3) → TookText (device_of E.state err.old err.new) (outcome_line account.now.outcome) }
+    ensures line { result ≢ 0 → Reports account.now.outcome (device_of E.state err.old err.new) result }
+    ensures memory { result ≡ 5 → (out.new ≡ out.old) × LacksMemory (device_of E.state err.old err.new) result }
+
+    // Where `out` failed the status says so, and otherwise nothing but the summary is printed.
+    ensures quiet { result ≢ 0 → result ≢ 3 → (O.state out.new).failures ≡ 0 → out.new ≡ out.old }
+    ensures failed { (O.state out.new).failures ≢ 0 → (result ≡ 3) ⊎ ((result ≡ 4) × TookText (device_of E.state err.old err.new) print_line) }
+    ensures known { (result ≢ 1) × (result ≢ 2) }
+{
+    if matches!(account.outcome, Outcome::Lane) {
+        // It is told without memory: what is told of want of memory holds of every other outcome.
+        let _ = send(err, b"lane not confirmed\n");
+        return 6;
+    }
+    let mut line = String::new(alloc);
+    if fault_line(alloc, &mut line, &account.outcome).is_err() {
+        return out_of_memory(err);
+    }
+    let status = status_of(&account.outcome);
+    if status == 0 || status == 3 {
+        match print_summary(alloc, &account.counts, out) {
+            Ok(printed) => {
+                if !printed && status == 0 {
+                    return cannot_print(err);
+                }
+            }
+            Err(_) => return out_of_memory(err),
+        }
+    }
+    // There is nowhere to say that this failed.
+    let _ = send(err, line.as_bytes());
+    status
+}
+
+// Prints the summary, and answers whether all of it went out.
+fn print_summary<O: Outlet>(
+    alloc: Global,
+    counts: &Counts,
+    out: &mut O,
+) -> Result<bool, OutOfMemory>
+    requires { (O.state out.old).failures ≡ 0 }
+    ensures printed { IfOk result (λ printed. TookPart (device_of O.state out.old out.new) (summary_of counts.now)) }
+    ensures whole { result ≡ Ok true → (O.state out.new).failures ≡ 0 }
+    ensures failed { result ≡ Ok false → (O.state out.new).failures ≡ 1 }
+    ensures memory { OnErr result (out.new ≡ out.old) }
+{
+    let text = summary(alloc, counts)?;
+    match send(out, text.as_bytes()) {
+        Ok(()) => Ok(true),
+        Err(_) => Ok(false),
+    }
+}
+
+/// Memory was refused: says so on `err`, in the line `out of memory`, and answers the exit status, which is 5.
+pub fn out_of_memory<E: Outlet>(err: &mut E) -> u8
+    requires { (E.state err.old).failures ≡ 0 }
+    ensures { LacksMemory (device_of E.state err.old err.new) result }
+{
+    let _ = send(err, b"out of memory\n");
+    5
+}
+
+/// What was to be printed was not: says so on `err`, and answers the exit status.
+pub(crate) fn cannot_print<E: Outlet>(err: &mut E) -> u8
+    requires { (E.state err.old).failures ≡ 0 }
+    ensures status { result ≡ 4 }
+    ensures told { TookText (device_of E.state err.old err.new) print_line }
+{
+    let _ = send(err, b"cannot print\n");
+    4
+}
+
+/// The report was not written: says so on `err`, and answers the exit status.
+pub(crate) fn cannot_report<E: Outlet>(err: &mut E) -> u8
+    requires { (E.state err.old).failures ≡ 0 }
+    ensures status { result ≡ 4 }
+    ensures told { TookText (device_of E.state err.old err.new) report_line }
+{
+    let _ = send(err, b"write failed: report\n");
+    4
+}

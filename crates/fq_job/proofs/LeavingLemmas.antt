@@ -1,0 +1,164 @@
+-- What the files of the outputs hold where the program ends otherwise than whole.
+use Rattle.std.proofs.Common.{◌≡◌, ◌≢◌, ℕ, IsTrue, Option, Some, None, Result, Ok, Err, List, [], ◌++◌, refl, sym, ap, subst, ◌∙◌, inl, inr, ◌⊎◌, ⊎_elim}
+use Rattle.std.proofs.lemmas.List.{append-nil}
+use Rattle.fq_files.specs.Holding.{Holding, IsUnchanged}
+use Rattle.fq_trim.specs.declared.step.Step.{Step}
+use Rattle.fq_trim.specs.declared.fault.StepFault.{StepFault}
+use Rattle.fq_trim.specs.Words.{steps_of}
+use Rattle.fq_text.specs.declared.encoding.Encoding.{Encoding}
+use Rattle.fq_pair.specs.declared.counts.Counts.{Counts}
+use Rattle.fq_pair.specs.declared.fault.InputFault.{InputFault}
+use Rattle.fq_pair.specs.declared.out.Out.{Out}
+use Rattle.fq_pair.specs.Outputs.{texts_of, text_of}
+use Rattle.fq_run.specs.Choices.{Choices, checked}
+use Rattle.fq_run.specs.BadSetting.{BadSetting}
+use Rattle.fq_run.specs.Outcome.{Outcome}
+use Rattle.fq_run.specs.Outcome.TheVariants.{Spawn, Write}
+use Rattle.fq_run.specs.Endings.{Run, AreTold, EveryEnding, all_pairs, trimmed_outcome}
+use Rattle.fq_run.specs.Fates.{Unbroken}
+use Rattle.fq_job.specs.declared.refusal.Refusal.{Refusal}
+use Rattle.fq_job.specs.declared.refusal.Refusal.TheVariants as why
+use Rattle.fq_words.specs.Requests.{Asking, encoding_of}
+use Rattle.fq_job.specs.Judging.{judged, with_steps, with_encoding, settings_of, choices_of}
+use Rattle.fq_job.specs.Trimming.{TrimsFiles, pairs_of}
+use Rattle.fq_job.specs.Leaving.{AreUntrimmed, RefusalLeaves, ReportLeft, is_early, TrimsFirst, HoldFirstPairs}
+use Rattle.fq_job.proofs.MakingLemmas.{stops_untrimmed}
+
+-- what a run promises of every ending, of its outlets
+pub first_of : (c : Choices) (run : Run) → EveryEnding c run → AreTold run → TrimsFirst c (all_pairs c run) run.outlets run.outlets_left run.outcome
+first_of c run every told = record {
+  whole = every.whole;
+  fate = every.fate;
+  took = every.took;
+  cut_short = every.cut_short;
+  first = every.first told;
+  told = record { spawn = every.outcome.spawn; write = every.outcome.write; outlet_failed = every.outcome.outlet_failed };
+}
+
+-- ---- refusals
+
+-- settings that are wrong are told before an output is made
+judged_early : (r : Result Choices BadSetting) (report : Option (List ℕ)) (refusal : Refusal) → judged r report ≡ Err refusal → IsTrue (is_early refusal)
+judged_early (Ok c) None refusal e = absurd cc
+judged_early (Ok c) (Some report) refusal e = absurd cc
+judged_early (Err bad) report refusal e = let is : why.Setting bad ≡ refusal = cc in subst (λ (r : Refusal). IsTrue (is_early r)) is refl
+
+steps_early : (a : Asking) (encoding : Encoding) (r : Result (List Step) StepFault) (refusal : Refusal) → with_steps a encoding r ≡ Err refusal → IsTrue (is_early refusal)
+steps_early a encoding (Ok steps) refusal e = judged_early (checked (choices_of a encoding steps)) a.report refusal e
+steps_early a encoding (Err fault) refusal e = let is : why.Step fault ≡ refusal = cc in subst (λ (r : Refusal). IsTrue (is_early r)) is refl
+
+encoding_early : (a : Asking) (o : Option Encoding) (refusal : Refusal) → with_encoding a o ≡ Err refusal → IsTrue (is_early refusal)
+encoding_early a (Some encoding) refusal e = steps_early a encoding (steps_of a.steps) refusal e
+encoding_early a None refusal e = let is : why.Encoding ≡ refusal = cc in subst (λ (r : Refusal). IsTrue (is_early r)) is refl
+
+pub settings_early : (a : Asking) (refusal : Refusal) → settings_of a ≡ Err refusal → IsTrue (is_early refusal)
+settings_early a refusal e = encoding_early a (encoding_of a.encoding) refusal e
+
+-- a refusal before the outputs leaves the files as they were
+pub leaves_unchanged : (a : Asking) (refusal : Refusal) (old new : Holding) → IsTrue (is_early refusal) → IsUnchanged old new → RefusalLeaves a refusal old new
+leaves_unchanged a why.Encoding old new early same = same
+leaves_unchanged a (why.Step fault) old new early same = same
+leaves_unchanged a (why.Setting bad) old new early same = same
+leaves_unchanged a (why.SameName out) old new early same = same
+leaves_unchanged a (why.Source side) old new early same = same
+leaves_unchanged a (why.Target out) old new early same = absurd (cc early)
+leaves_unchanged a why.SameReport old new early same = same
+leaves_unchanged a why.Report old new early same = absurd (cc early)
+leaves_unchanged a why.Memory old new early same = λ out name named. inl (same name)
+
+-- nothing was trimmed where something was refused
+pub refusal_untrimmed : (a : Asking) (refusal : Refusal) (old new : Holding) → RefusalLeaves a refusal old new → AreUntrimmed a old new
+refusal_untrimmed a why.Encoding old new left = λ out name named. inl (left name)
+refusal_untrimmed a (why.Step fault) old new left = λ out name named. inl (left name)
+refusal_untrimmed a (why.Setting bad) old new left = λ out name named. inl (left name)
+refusal_untrimmed a (why.SameName out) old new left = λ o name named. inl (left name)
+refusal_untrimmed a (why.Source side) old new left = λ out name named. inl (left name)
+refusal_untrimmed a (why.Target out) old new left = stops_untrimmed a out old new left
+refusal_untrimmed a why.SameReport old new left = λ out name named. inl (left name)
+refusal_untrimmed a why.Report old new left = λ out name named. inr (left out name named)
+refusal_untrimmed a why.Memory old new left = left
+
+-- what was left behind calls that changed nothing
+pub unchanged_or_nothing : (old mid new : Option (List ℕ)) → mid ≡ old → (new ≡ mid) ⊎ (new ≡ Some []) → (new ≡ old) ⊎ (new ≡ Some [])
+unchanged_or_nothing old mid new same (inl kept) = inl (kept ∙ same)
+unchanged_or_nothing old mid new same (inr nothing) = inr nothing
+
+pub leaves_since : (a : Asking) (refusal : Refusal) (old mid new : Holding) → IsUnchanged old mid → RefusalLeaves a refusal mid new → RefusalLeaves a refusal old new
+leaves_since a why.Encoding old mid new same left = λ name. left name ∙ same name
+leaves_since a (why.Step fault) old mid new same left = λ name. left name ∙ same name
+leaves_since a (why.Setting bad) old mid new same left = λ name. left name ∙ same name
+leaves_since a (why.SameName out) old mid new same left = λ name. left name ∙ same name
+leaves_since a (why.Source side) old mid new same left = λ name. left name ∙ same name
+leaves_since a (why.Target out) old mid new same left = record {
+  before = left.before;
+  there = λ name named. unchanged_or_nothing (old name) (mid name) (new name) (same name) (left.there name named);
+  behind = λ other name named behind. left.behind other name named behind ∙ same name;
+}
+leaves_since a why.SameReport old mid new same left = λ name. left name ∙ same name
+leaves_since a why.Report old mid new same left = left
+leaves_since a why.Memory old mid new same left = λ out name named. unchanged_or_nothing (old name) (mid name) (new name) (same name) (left out name named)
+
+-- ---- whole runs
+
+not_spawn : (fault : Option InputFault) → trimmed_outcome fault ≢ Spawn
+not_spawn None e = absurd (cc e)
+not_spawn (Some fault) e = absurd (cc e)
+
+not_written : (fault : Option InputFault) (out : Out) → trimmed_outcome fault ≢ Write out
+not_written None out e = absurd (cc e)
+not_written (Some fault) out e = absurd (cc e)
+
+-- all pairs are their own first pairs
+pub whole_first : (a : Asking) (old new : Holding) (outcome : Outcome) (counts : Counts) → TrimsFiles a old new outcome counts → HoldFirstPairs a old new outcome
+whole_first a old new outcome counts trims =
+    let all = pairs_of trims.choices a.inputs.form trims.forward trims.reverse in
+    record {
+      choices = trims.choices;
+      forward = trims.forward;
+      reverse = trims.reverse;
+      whole = all.mates;
+      fate = Unbroken;
+      settings = trims.settings;
+      forward_is = trims.forward_is;
+      reverse_is = trims.reverse_is;
+      texts = λ out name named. trims.texts out name named ∙ ap Some (sym (append-nil (text_of out (texts_of trims.choices.steps all.mates))));
+      cut_short = tt;
+      first = ([], sym (append-nil (all.mates ++ []) ∙ append-nil all.mates));
+      told = record {
+        spawn = λ spawned. absurd (not_spawn all.fault (sym trims.outcome_is ∙ spawned));
+        write = λ out written. absurd (not_written all.fault out (sym trims.outcome_is ∙ written));
+        outlet_failed = λ out failed. absurd (cc failed);
+      };
+    }
+
+-- ---- the report
+
+-- a refusal before the report leaves it as it was
+pub report_behind : (refusal : Refusal) (old new : Option (List ℕ)) → new ≡ old → ReportLeft refusal old new
+report_behind why.Encoding old new same = same
+report_behind (why.Step fault) old new same = same
+report_behind (why.Setting bad) old new same = same
+report_behind (why.SameName out) old new same = same
+report_behind (why.Source side) old new same = same
+report_behind (why.Target out) old new same = same
+report_behind why.SameReport old new same = same
+report_behind why.Report old new same = inl same
+report_behind why.Memory old new same = inl same
+
+-- a refusal of the report itself, or want of memory for it
+pub report_refused : (refusal : Refusal) (old new : Option (List ℕ)) → (refusal ≡ why.Report) ⊎ (refusal ≡ why.Memory) → (new ≡ old) ⊎ (new ≡ Some []) → ReportLeft refusal old new
+report_refused refusal old new is left =
+    let P : Refusal → Type 0 = λ r. ReportLeft r old new in
+    ⊎_elim (λ report. subst P (sym report) left) (λ memory. subst P (sym memory) left) is
+
+-- what each refusal leaves of the report
+pub left_or_nothing : (refusal : Refusal) (old new : Option (List ℕ)) → ReportLeft refusal old new → (new ≡ old) ⊎ (new ≡ Some [])
+left_or_nothing why.Encoding old new left = inl left
+left_or_nothing (why.Step fault) old new left = inl left
+left_or_nothing (why.Setting bad) old new left = inl left
+left_or_nothing (why.SameName out) old new left = inl left
+left_or_nothing (why.Source side) old new left = inl left
+left_or_nothing (why.Target out) old new left = inl left
+left_or_nothing why.SameReport old new left = inl left
+left_or_nothing why.Report old new left = left
+left_or_nothing why.Memory old new left = left

@@ -1,0 +1,7 @@
+pub mod EndingLemmas
+pub mod LeavingLemmas
+mod StoreLemmas
+mod RestLemmas
+mod MakingLemmas
+mod TextLemmas
+mod ReportingLemmas

@@ -1,0 +1,57 @@
+//! Why the program did not do what it was asked for.
+
+ghost use Rattle.std.specs.Prelude.{◌≡◌, ◌≢◌, ◌⊎◌};
+ghost use Rattle.fq_job.specs.Refusals.{status_of};
+
+use fq_files::FileFault;
+use fq_pair::{Out, Side};
+use fq_run::BadSetting;
+use fq_text::OutOfMemory;
+use fq_trim::StepFault;
+
+/// Why the program did not do what it was asked for. Each has an exit status and a line on standard error.
+#[derive(Clone, Copy, Debug, PartialEq, Eq)]
+pub enum Refusal {
+    /// The encoding has no such name.
+    Encoding,
+    /// The words of the steps are no steps.
+    Step(StepFault),
+    /// A setting is out of its range.
+    Setting(BadSetting),
+    /// This output has the name of an input.
+    SameName(Out),
+    /// The input of this side can't be read.
+    Source(Side),
+    /// This output can't be written.
+    Target(Out),
+    /// The report has the name of an input.
+    SameReport,
+    /// The report can't be written.
+    Report,
+    /// Memory was refused.
+    Memory,
+}
+
+impl From<OutOfMemory> for Refusal {
+    ghost use Rattle.std.specs.Prelude.{◌≡◌};
+    ghost use Rattle.fq_job.specs.declared.refusal.Refusal.TheVariants.{Memory};
+
+    ghost from_gives = { λ _ e. e ≡ Memory };
+
+    fn from(_e: OutOfMemory) -> Refusal {
+        Refusal::Memory
+    }
+}
+
+/// An input that is not given, or an output that is not made: why, and otherwise want of memory.
+pub(crate) fn file_refused(fault: FileFault, refused: Refusal) -> Refusal
+    ensures refused { fault ≡ FileFault.Refused → result ≡ refused }
+    ensures memory { fault ≡ FileFault.OutOfMemory → result ≡ Refusal.Memory }
+    ensures either { (result ≡ refused) ⊎ (result ≡ Refusal.Memory) }
+    ensures late { status_of refused ≢ 2 → status_of result ≢ 2 }
+{
+    match fault {
+        FileFault::Refused => refused,
+        FileFault::OutOfMemory => Refusal::Memory,
+    }
+}

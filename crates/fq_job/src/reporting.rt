@@ -1,0 +1,191 @@
+//! The report of a run: its file is made last of all, and written once, at the end.
+
+ghost use Rattle.std.specs.Prelude.{◌≡◌, ◌≢◌, ◌⊎◌, ◌++◌, ℕ, List, true, false, Some, None, [], take, is_some, option_map, IsTrue, IsSome, IfOk, IfSome, OnOk, IfErr};
+ghost use Rattle.std.specs.String.{string_bytes};
+ghost use Rattle.fq_files.specs.Holding.{KeepsOthers, KeepsNames};
+ghost use Rattle.fq_text.specs.Written.{line};
+ghost use Rattle.fq_report.specs.Facts.{names_of as named};
+ghost use Rattle.fq_report.specs.Reports.{text_of};
+ghost use Rattle.fq_words.specs.Requests.{asking_of, names_of};
+ghost use Rattle.fq_job.specs.declared.refusal.Refusal.{Refusal as Refused};
+ghost use Rattle.fq_job.specs.Faults.{outcome_status};
+ghost use Rattle.fq_job.specs.Reporting.{report_inputs, run_facts, IsTextOf, TookReport};
+
+use crate::outcome_line::{fault_line, status_of};
+use crate::refusal::{Refusal, file_refused};
+use crate::trimming::Account;
+use fq_files::Files;
+use fq_report::{Inputs as NamedInputs, Report, report_text};
+use fq_tally::Tally;
+use fq_text::{Encoding, OutOfMemory, Outlet, send};
+use fq_words::{Inputs, Request, VERSION};
+use std::alloc::Global;
+
+/// What became of the report of a run.
+#[derive(Clone, Copy, Debug, PartialEq, Eq)]
+pub enum Reported {
+    /// None was due: none was asked for, or the run did not end whole.
+    NotDue,
+    /// It was written.
+    Written,
+    /// A write of it failed.
+    Failed,
+    /// Memory was refused for it.
+    OutOfMemory,
+}
+
+/// The file of the report, made empty, if a report is asked for.
+pub(crate) fn report_target<T: Files>(
+    request: &Request<'_>,
+    files: &mut T,
+) -> Result<Option<T::Target>, Refusal>
+    ensures there { IfOk result (λ target. is_some target ≡ is_some (asking_of request.now).report) }
+    ensures fresh { IfOk result (λ target. IfSome target (λ t. (T.Target.state t).failures ≡ 0)) }
+    ensures telling { IfOk result (λ target. IsTrue (T.tells_bytes files.old) → IfSome target (λ t. IsTrue (T.Target.state t).tells)) }
+    ensures nothing { IfOk result (λ target. IsTrue (T.tells_bytes files.old) → IfSome target (λ t. (T.Target.state t).taken ≡ [])) }
+    ensures made { OnOk result (IsTrue (T.tells_bytes files.old) → (name : List ℕ) → (asking_of request.now).report ≡ Some name → IsSome (T.bytes_of files.new name)) }
+    ensures why { IfErr result (λ why. (why ≡ Refused.Report) ⊎ (why ≡ Refused.Memory)) }
+    ensures left { IfErr result (λ why. IsTrue (T.tells_bytes files.old) → (name : List ℕ) → (asking_of request.now).report ≡ Some name
+        → (T.bytes_of files.new name ≡ T.bytes_of files.old name) ⊎ (T.bytes_of files.new name ≡ Some [])) }
+    ensures held { IsTrue (T.tells_bytes files.old) → KeepsNames (T.bytes_of files.old) (T.bytes_of files.new) }
+    ensures others { IsTrue (T.tells_bytes files.old) → (name : List ℕ) → (asking_of request.now).report ≢ Some name → T.bytes_of files.new name ≡ T.bytes_of files.old name }
+    ensures told { T.tells_bytes files.new ≡ T.tells_bytes files.old }
+{
+    let Some(name) = request.report else {
+        return Ok(None);
+    };
+    match files.target(name) {
+        Ok(target) => Ok(Some(target)),
+        Err(fault) => Err(file_refused(fault, Refusal::Report)),
+    }
+}
+
+/// Writes the report of a run, where one is asked for and the run ended whole, and is done with its file.
+pub(crate) fn store_report<T: Files>(
+    alloc: Global,
+    request: &Request<'_>,
+    files: &mut T,
+    encoding: Encoding,
+    account: &Account,
+    target: Option<T::Target>,
+) -> Reported
+    requires there { is_some target ≡ is_some (asking_of request.now).report }
+    requires fresh { IfSome target (λ t. (T.Target.state t).failures ≡ 0) }
+    requires held { IsTrue (T.tells_bytes files.old) → (name : List ℕ) → (asking_of request.now).report ≡ Some name → IsSome (T.bytes_of files.old name) }
+    ensures due { result ≢ Reported.NotDue → (outcome_status account.now.outcome ≡ 0) ⊎ (outcome_status account.now.outcome ≡ 3) }
+    ensures not_due { result ≡ Reported.NotDue → IsSome (asking_of request.now).report → (outcome_status account.now.outcome ≢ 0) × (outcome_status account.now.outcome ≢ 3) }
+    ensures took { IsTrue (T.tells_bytes files.old) → IfSome target (λ t. IsTrue (T.Target.state t).tells) → IfSome target (λ t. (T.Target.state t).taken ≡ [])
+        → (name : List ℕ) → (asking_of request.now).report ≡ Some name
+        → (bytes : List ℕ) × (T.bytes_of files.new name ≡ Some bytes) × TookReport result (asking_of request.now) encoding account.now [] bytes }
+    ensures others { IsTrue (T.tells_bytes files.old) → (name : List ℕ) → (asking_of request.now).report ≢ Some name → T.bytes_of files.new name ≡ T.bytes_of files.old name }
+    ensures told { T.tells_bytes files.new ≡ T.tells_bytes files.old }
+{
+    match (request.report, target) {
+        (Some(name), Some(mut target)) => {
+            let reported = write_report(alloc, request, encoding, account, &mut target);
+            files.done(name, target);
+            reported
+        }
+        _ => Reported::NotDue,
+    }
+}
+
+// Writes the report of a run that ended whole.
+fn write_report<O: Outlet>(
+    alloc: Global,
+    request: &Request<'_>,
+    encoding: Encoding,
+    account: &Account,
+    target: &mut O,
+) -> Reported
+    requires { (O.state target.old).failures ≡ 0 }
+    ensures due { result ≢ Reported.NotDue → (outcome_status account.now.outcome ≡ 0) ⊎ (outcome_status account.now.outcome ≡ 3) }
+    ensures not_due { result ≡ Reported.NotDue → (outcome_status account.now.outcome ≢ 0) × (outcome_status account.now.outcome ≢ 3) }
+    ensures took { IsTrue (O.state target.old).tells → TookReport result (asking_of request.now) encoding account.now (O.state target.old).taken (O.state target.new).taken }
+    ensures failed { result ≡ Reported.Failed → (O.state target.new).failures ≢ 0 }
+    ensures told { (O.state target.new).tells ≡ (O.state target.old).tells }
+{
+    let status = status_of(&account.outcome);
+    if status != 0 && status != 3 {
+        return Reported::NotDue;
+    }
+    // A run that ended whole has its tally.
+    let Some(tally) = &account.tally else {
+        return Reported::OutOfMemory;
+    };
+    let Ok(text) = run_text(alloc, request, encoding, account, tally) else {
+        return Reported::OutOfMemory;
+    };
+    if put_text(target, text.as_bytes()) {
+        Reported::Written
+    } else {
+        Reported::Failed
+    }
+}
+
+// Sends a text, and passes it on. Answers whether neither failed.
+fn put_text<O: Outlet>(target: &mut O, text: &[u8]) -> bool
+    requires { (O.state target.old).failures ≡ 0 }
+    ensures whole { result ≡ true → IsTrue (O.state target.old).tells → (O.state target.new).taken ≡ (O.state target.old).taken ++ text.now }
+    ensures part { result ≡ false → IsTrue (O.state target.old).tells → (count : ℕ) × ((O.state target.new).taken ≡ (O.state target.old).taken ++ take count text.now) }
+    ensures failed { result ≡ false → (O.state target.new).failures ≢ 0 }
+    ensures told { (O.state target.new).tells ≡ (O.state target.old).tells }
+{
+    match send(target, text) {
+        Ok(()) => target.flush().is_ok(),
+        Err(_) => false,
+    }
+}
+
+// The text of the report of a run that ended whole.
+fn run_text<'a>(
+    alloc: Global,
+    request: &'a Request<'a>,
+    encoding: Encoding,
+    account: &Account,
+    tally: &'a Tally,
+) -> Result<String, OutOfMemory>
+    requires { (outcome_status account.now.outcome ≡ 0) ⊎ (outcome_status account.now.outcome ≡ 3) }
+    ensures { IfOk result (λ text. string_bytes text ≡ text_of (run_facts (asking_of request.now) encoding account.now.outcome account.now.counts tally.now)) }
+{
+    let mut line = String::new(alloc);
+    fault_line(alloc, &mut line, &account.outcome)?;
+    let fault = without_end(line.as_str());
+    report_text(
+        alloc,
+        &Report {
+            program: "fq_prog",
+            version: VERSION,
+            inputs: named_inputs(request.inputs),
+            forward_paired: request.forward_paired,
+            forward_unpaired: request.forward_unpaired,
+            reverse_paired: request.reverse_paired,
+            reverse_unpaired: request.reverse_unpaired,
+            log: request.log,
+            encoding,
+            check_names: request.check_names,
+            steps: &request.steps,
+            fault,
+            counts: account.counts,
+            tally,
+        },
+    )
+}
+
+// A line without its line end, if there is a line.
+fn without_end(text: &str) -> Option<&str>
+    ensures some { (words : List ℕ) → text.now ≡ line words → option_map (λ stripped. stripped.now) result ≡ Some words }
+    ensures none { text.now ≡ [] → result ≡ None }
+{
+    text.strip_suffix('\n')
+}
+
+// The names of the inputs, for the report.
+fn named_inputs<'a>(inputs: Inputs<'a>) -> NamedInputs<'a>
+    ensures { named result ≡ report_inputs (names_of inputs.entry) }
+{
+    match inputs {
+        Inputs::Apart { forward, reverse } => NamedInputs::Apart { forward, reverse },
+        Inputs::Interleaved(both) => NamedInputs::Interleaved(both),
+    }
+}

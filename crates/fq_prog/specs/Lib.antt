@@ -1,9 +1,0 @@
-pub mod Refusals
-pub mod Judging
-pub mod Trimming
-pub mod Leaving
-pub mod Making
-pub mod Answers
-pub mod Faults
-pub mod Reporting
-pub mod Example
