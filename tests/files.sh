@@ -110,6 +110,31 @@ two_pairs
 "$program" PE --trimlog log f r fp fu rp ru LEADING:3 > log 2> err
 [ $? -eq 4 ] || fail "$row: the status is not 4"
 same err 'cannot write log\n'
+same log ''
+
+row='the summary into the file of an output'
+for name in fp ./fp /dev/stdout; do
+  two_pairs
+  "$program" PE f r "$name" fu rp ru LEADING:3 > fp 2> err
+  [ $? -eq 4 ] || fail "$row: the status is not 4"
+  same err "cannot write $name\n"
+  same fp ''
+done
+
+row='the summary into the file of the report'
+two_pairs
+"$program" PE --report report f r fp fu rp ru LEADING:3 > report 2> err
+[ $? -eq 4 ] || fail "$row: the status is not 4"
+same err 'cannot write report\n'
+
+row='standard error into the file of an output'
+for name in ru /dev/stderr; do
+  two_pairs
+  "$program" PE f r fp fu rp "$name" LEADING:3 > out 2> ru
+  [ $? -eq 4 ] || fail "$row: the status is not 4"
+  same ru "cannot write $name\n"
+  same out ''
+done
 
 row='a word that is not UTF-8'
 two_pairs

@@ -1,11 +1,11 @@
 #!/usr/bin/env bash
-# Refuses each growth of memory of the built program in turn, until a run meets no refusal: of PE, also with a report, of IL, of EXAMPLE and of --help. A run that met
-# one has to say that memory was wanted (status 5), or that a thread was refused for it (status 6), and print nothing. A growth that can be
-# done without may be refused unseen: one in each call, at the most.
+# Refuses each growth of memory of the built program in turn, until a run meets no refusal: of PE, also with a report, of IL, of EXAMPLE,
+# of --help, and of a word that is not UTF-8. A run that met one has to say that memory was wanted (status 5), or that a thread was
+# refused for it (status 6), and print nothing. A growth that can be done without may be refused unseen: one in each call, at the most.
 #
 # Then it is counted how often a run over many pairs asks for memory: once its buffers have grown no pair does, whether its reads are lent
-# as they lie in the buffer or their lines are joined. There are 500 blocks, and one that grows anew asks some twenty times: so buffers
-# that were let go, however seldom, are seen too.
+# as they lie in the buffer or their lines are joined. There are 500 blocks, and one that is made anew asks some twenty times: so buffers
+# that are let go now and then are seen too.
 set -uo pipefail
 
 cd "$(dirname "$0")/.." || exit 2
@@ -26,16 +26,16 @@ printf '@p1/1\nACGT\n+\n#!II\n@p2/1\nGGCC\n+\nIIII\n' >f
 printf '@p1/2\nTTTT\n+\nIIII\n@p2/2\nAAAA\n+\n!!!"\n' >r
 printf '@p1/1\nACGT\n+\n#!II\n@p1/2\nTTTT\n+\nIIII\n' >i
 
-# sweep WORDS..: refuses each growth of this call in turn.
+# sweep WORDS..: refuses each growth of this call in turn. Where none was met it ends as ENDING says, and else with status 0 and no line.
 sweep() {
-    local number said status unseen=0
+    local number said status unseen=0 ending=${ENDING:-0 }
     for number in $(seq 10000); do
         said=$(timeout 60 env REFUSED_GROWTH="$number" LD_PRELOAD="$room/refuse.so" "$program" "$@" 9>refused 2>err)
         status=$?
         [ -s refused ] || break
         case "$status $(cat err)" in
         '5 out of memory' | '6 cannot start a thread') [ -z "$said" ] || wrong "$number" "$1" "printed '$said'" ;;
-        '0 ') unseen=$((unseen + 1)) ;;
+        "$ending") unseen=$((unseen + 1)) ;;
         *) wrong "$number" "$1" "status $status, '$(cat err)'" ;;
         esac
     done
@@ -56,13 +56,13 @@ draw() {
     yes "$record" | head -n "$((50000 * $#))"
 }
 
-# grow_seldom WORDS..: this call, over 50,000 pairs, asks for memory fewer than 5,000 times.
+# grow_seldom WORDS..: this call, over 50,000 pairs, asks for memory fewer than 1,000 times.
 grow_seldom() {
     local status
-    timeout 60 env REFUSED_GROWTH=5000 LD_PRELOAD="$room/refuse.so" "$program" "$@" 9>refused >summary 2>err
+    timeout 60 env REFUSED_GROWTH=1000 LD_PRELOAD="$room/refuse.so" "$program" "$@" 9>refused >summary 2>err
     status=$?
     if [ "$status" -ne 0 ] || [ -s refused ] || ! grep -q 50000 summary; then
-        wrong 5000 "$1" "status $status, '$(cat err)', $(cat refused)"
+        wrong 1000 "$1" "status $status, '$(cat err)', $(cat refused)"
     fi
 }
 
@@ -72,6 +72,7 @@ sweep PE --threads 2 --block 1 --report report f r fp fu rp ru LEADING:3 MINLEN:
 sweep IL --threads 2 --block 1 --trimlog log i fp fu rp ru LEADING:3
 sweep EXAMPLE
 sweep --help
+ENDING=$(printf '1 error: word 2 is not UTF-8\n\nFor more information, try %s.' "'--help'") sweep PE $'\xff' r fp fu rp ru LEADING:3
 
 for side in 1 2; do
     draw "@p/$side" ACGT + IIII >"plain$side"
@@ -83,7 +84,7 @@ grow_seldom PE --threads 1 --block 100 --depth 1 --trimlog log plain1 plain2 fp 
 grow_seldom PE --threads 1 --block 100 --depth 1 --trimlog log joined1 joined2 fp fu rp ru "${steps[@]}"
 grow_seldom PE --threads 1 --block 100 --depth 1 --report report plain1 plain2 fp fu rp ru "${steps[@]}"
 grow_seldom IL --threads 1 --block 100 --depth 1 --trimlog log interleaved fp fu rp ru "${steps[@]}"
-echo "50,000 pairs: fewer than 5,000 growths"
+echo "50,000 pairs: fewer than 1,000 growths"
 if [ $failed -ne 0 ]; then
     echo "refused_program: FAILED"
     exit 1

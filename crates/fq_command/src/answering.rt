@@ -30,7 +30,8 @@ use std::thread::Threads;
 ///
 /// `PE [options] F R FP FU RP RU STEPS..` trims the pairs of the files F and R by these steps. The pairs of which both mates survive go
 /// to FP and RP, and a mate that survives alone goes to FU or RU. Where the run ends whole, at the end of the inputs or at a fault of theirs,
-/// the summary goes to `out`, and the report to its file, if one is asked for. Each refusal and each fault sends one line to `err`; whether that fails changes nothing.
+/// the summary goes to `out`, and the report to its file, if one is asked for. Each refusal and each fault sends one line to `err`; whether
+/// that fails changes nothing.
 ///
 /// `IL [options] I FP FU RP RU STEPS..` does the same with the pairs of one interleaved file I: a forward record, then its
 /// reverse mate, and so on.
@@ -54,16 +55,20 @@ pub fn program<'a, R: Threads + Wait + Copy + Send + 'static, T: Files, O: Outle
     // Words that parse as `PE` or `IL` are answered as they ask: the pairs are trimmed, or it is told why not. What is wrong with the words
     // is found before a file is touched.
     ensures pairs { (a : Asking) → AskedFor (map (λ word. word.now) words.entry.now) (Some a)
-        → PairsAnswered a (T.tells_bytes files.old) (T.bytes_of files.old) (T.bytes_of files.new) (device_of O.state out.old out.new) (device_of E.state err.old err.new) result }
+        → PairsAnswered a (T.tells_bytes files.old) (T.bytes_of files.old) (T.bytes_of files.new)
+        (device_of O.state out.old out.new) (device_of E.state err.old err.new) result }
     ensures wrong { (a : Asking) → AskedFor (map (λ word. word.now) words.entry.now) (Some a) → IsSome (wrong_with a) → files.new ≡ files.old }
 
     // No file is touched but those of the outputs and of the report.
-    ensures rest { (a : Asking) → AskedFor (map (λ word. word.now) words.entry.now) (Some a) → IsTrue (T.tells_bytes files.old) → KeepsUnnamed a (T.bytes_of files.old) (T.bytes_of files.new) }
+    ensures rest { (a : Asking) → AskedFor (map (λ word. word.now) words.entry.now) (Some a) → IsTrue (T.tells_bytes files.old)
+        → KeepsUnnamed a (T.bytes_of files.old) (T.bytes_of files.new) }
 
     // Other words touch no file. `EXAMPLE` is printed, but where `out`, memory or a thread fails; words that don't parse are refused, but
     // calls for help or for the version are not.
-    ensures example { AskedFor (map (λ word. word.now) words.entry.now) None → (files.new ≡ files.old) × ((result ≡ 0) ⊎ ((result ≡ 4) ⊎ ((result ≡ 5) ⊎ (result ≡ 6)))) }
-    ensures shown { AskedFor (map (λ word. word.now) words.entry.now) None → result ≡ 0 → IsTrue (O.state out.old).tells → (O.state out.new).taken ≡ (O.state out.old).taken ++ example_text }
+    ensures example { AskedFor (map (λ word. word.now) words.entry.now) None
+        → (files.new ≡ files.old) × ((result ≡ 0) ⊎ ((result ≡ 4) ⊎ ((result ≡ 5) ⊎ (result ≡ 6)))) }
+    ensures shown { AskedFor (map (λ word. word.now) words.entry.now) None → result ≡ 0 → IsTrue (O.state out.old).tells
+        → (O.state out.new).taken ≡ (O.state out.old).taken ++ example_text }
     ensures refused { words_fault (map (λ word. word.now) words.entry.now) ≢ [] → files.new ≡ files.old }
     ensures usage { AreRefused (words_fault (map (λ word. word.now) words.entry.now)) → (result ≡ 1) ⊎ (result ≡ 5) }
     ensures called { AreCalls (words_fault (map (λ word. word.now) words.entry.now)) → result ≢ 1 }
@@ -94,7 +99,8 @@ fn trim_pairs<R: Threads + Wait + Copy + Send + 'static, T: Files, O: Outlet, E:
 ) -> u8
     requires out { (O.state out.old).failures ≡ 0 }
     requires err { (E.state err.old).failures ≡ 0 }
-    ensures pairs { PairsAnswered (asking_of request.now) (T.tells_bytes files.old) (T.bytes_of files.old) (T.bytes_of files.new) (device_of O.state out.old out.new) (device_of E.state err.old err.new) result }
+    ensures pairs { PairsAnswered (asking_of request.now) (T.tells_bytes files.old) (T.bytes_of files.old) (T.bytes_of files.new)
+        (device_of O.state out.old out.new) (device_of E.state err.old err.new) result }
     ensures wrong { IsSome (wrong_with (asking_of request.now)) → files.new ≡ files.old }
     ensures rest { IsTrue (T.tells_bytes files.old) → KeepsUnnamed (asking_of request.now) (T.bytes_of files.old) (T.bytes_of files.new) }
     ensures finished { result ≡ 0 → ((O.state out.new).failures ≡ 0) × (err.new ≡ err.old) }

@@ -82,7 +82,8 @@ pub trait Files {
         ensures telling { IfOk result (λ target. IsTrue (tells_bytes self.old) → IsTrue (Self.Target.state target).tells) }
         ensures nothing { IfOk result (λ target. IsTrue (tells_bytes self.old) → (Self.Target.state target).taken ≡ []) }
         ensures emptied { OnOk result (IsTrue (tells_bytes self.old) → bytes_of self.new name.now ≡ Some []) }
-        ensures refused { OnErr result (IsTrue (tells_bytes self.old) → (bytes_of self.new name.now ≡ bytes_of self.old name.now) ⊎ (bytes_of self.new name.now ≡ Some [])) }
+        ensures refused { OnErr result (IsTrue (tells_bytes self.old)
+            → (bytes_of self.new name.now ≡ bytes_of self.old name.now) ⊎ (bytes_of self.new name.now ≡ Some [])) }
         ensures held { IsTrue (tells_bytes self.old) → KeepsNames (bytes_of self.old) (bytes_of self.new) }
         ensures others { IsTrue (tells_bytes self.old) → KeepsOthers (bytes_of self.old) (bytes_of self.new) name.now }
         ensures told { tells_bytes self.new ≡ tells_bytes self.old };
@@ -91,7 +92,8 @@ pub trait Files {
     /// [`target`](Files::target) has answered Ok for it.
     fn done(&mut self, name: &str, target: Self::Target)
         requires { IsTrue (tells_bytes self.old) → IsSome (bytes_of self.old name.now) }
-        ensures stored { IsTrue (tells_bytes self.old) → IsTrue (Self.Target.state target).tells → bytes_of self.new name.now ≡ Some (Self.Target.state target).taken }
+        ensures stored { IsTrue (tells_bytes self.old) → IsTrue (Self.Target.state target).tells
+            → bytes_of self.new name.now ≡ Some (Self.Target.state target).taken }
         ensures held { IsTrue (tells_bytes self.old) → KeepsNames (bytes_of self.old) (bytes_of self.new) }
         ensures others { IsTrue (tells_bytes self.old) → KeepsOthers (bytes_of self.old) (bytes_of self.new) name.now }
         ensures told { tells_bytes self.new ≡ tells_bytes self.old };

@@ -43,12 +43,14 @@ pub(crate) fn report_target<T: Files>(
     ensures fresh { IfOk result (λ target. IfSome target (λ t. (T.Target.state t).failures ≡ 0)) }
     ensures telling { IfOk result (λ target. IsTrue (T.tells_bytes files.old) → IfSome target (λ t. IsTrue (T.Target.state t).tells)) }
     ensures nothing { IfOk result (λ target. IsTrue (T.tells_bytes files.old) → IfSome target (λ t. (T.Target.state t).taken ≡ [])) }
-    ensures made { OnOk result (IsTrue (T.tells_bytes files.old) → (name : List ℕ) → (asking_of request.now).report ≡ Some name → IsSome (T.bytes_of files.new name)) }
+    ensures made { OnOk result (IsTrue (T.tells_bytes files.old) → (name : List ℕ) → (asking_of request.now).report ≡ Some name
+        → IsSome (T.bytes_of files.new name)) }
     ensures why { IfErr result (λ why. (why ≡ Refused.Report) ⊎ (why ≡ Refused.Memory)) }
     ensures left { IfErr result (λ why. IsTrue (T.tells_bytes files.old) → (name : List ℕ) → (asking_of request.now).report ≡ Some name
         → (T.bytes_of files.new name ≡ T.bytes_of files.old name) ⊎ (T.bytes_of files.new name ≡ Some [])) }
     ensures held { IsTrue (T.tells_bytes files.old) → KeepsNames (T.bytes_of files.old) (T.bytes_of files.new) }
-    ensures others { IsTrue (T.tells_bytes files.old) → (name : List ℕ) → (asking_of request.now).report ≢ Some name → T.bytes_of files.new name ≡ T.bytes_of files.old name }
+    ensures others { IsTrue (T.tells_bytes files.old) → (name : List ℕ) → (asking_of request.now).report ≢ Some name
+        → T.bytes_of files.new name ≡ T.bytes_of files.old name }
     ensures told { T.tells_bytes files.new ≡ T.tells_bytes files.old }
 {
     let Some(name) = request.report else {
@@ -73,11 +75,13 @@ pub(crate) fn store_report<T: Files>(
     requires fresh { IfSome target (λ t. (T.Target.state t).failures ≡ 0) }
     requires held { IsTrue (T.tells_bytes files.old) → (name : List ℕ) → (asking_of request.now).report ≡ Some name → IsSome (T.bytes_of files.old name) }
     ensures due { result ≢ Reported.NotDue → (outcome_status account.now.outcome ≡ 0) ⊎ (outcome_status account.now.outcome ≡ 3) }
-    ensures not_due { result ≡ Reported.NotDue → IsSome (asking_of request.now).report → (outcome_status account.now.outcome ≢ 0) × (outcome_status account.now.outcome ≢ 3) }
+    ensures not_due { result ≡ Reported.NotDue → IsSome (asking_of request.now).report
+        → (outcome_status account.now.outcome ≢ 0) × (outcome_status account.now.outcome ≢ 3) }
     ensures took { IsTrue (T.tells_bytes files.old) → IfSome target (λ t. IsTrue (T.Target.state t).tells) → IfSome target (λ t. (T.Target.state t).taken ≡ [])
         → (name : List ℕ) → (asking_of request.now).report ≡ Some name
         → (bytes : List ℕ) × (T.bytes_of files.new name ≡ Some bytes) × TookReport result (asking_of request.now) encoding account.now [] bytes }
-    ensures others { IsTrue (T.tells_bytes files.old) → (name : List ℕ) → (asking_of request.now).report ≢ Some name → T.bytes_of files.new name ≡ T.bytes_of files.old name }
+    ensures others { IsTrue (T.tells_bytes files.old) → (name : List ℕ) → (asking_of request.now).report ≢ Some name
+        → T.bytes_of files.new name ≡ T.bytes_of files.old name }
     ensures told { T.tells_bytes files.new ≡ T.tells_bytes files.old }
 {
     match (request.report, target) {
@@ -101,7 +105,8 @@ fn write_report<O: Outlet>(
     requires { (O.state target.old).failures ≡ 0 }
     ensures due { result ≢ Reported.NotDue → (outcome_status account.now.outcome ≡ 0) ⊎ (outcome_status account.now.outcome ≡ 3) }
     ensures not_due { result ≡ Reported.NotDue → (outcome_status account.now.outcome ≢ 0) × (outcome_status account.now.outcome ≢ 3) }
-    ensures took { IsTrue (O.state target.old).tells → TookReport result (asking_of request.now) encoding account.now (O.state target.old).taken (O.state target.new).taken }
+    ensures took { IsTrue (O.state target.old).tells
+        → TookReport result (asking_of request.now) encoding account.now (O.state target.old).taken (O.state target.new).taken }
     ensures failed { result ≡ Reported.Failed → (O.state target.new).failures ≢ 0 }
     ensures told { (O.state target.new).tells ≡ (O.state target.old).tells }
 {
@@ -127,7 +132,8 @@ fn write_report<O: Outlet>(
 fn put_text<O: Outlet>(target: &mut O, text: &[u8]) -> bool
     requires { (O.state target.old).failures ≡ 0 }
     ensures whole { result ≡ true → IsTrue (O.state target.old).tells → (O.state target.new).taken ≡ (O.state target.old).taken ++ text.now }
-    ensures part { result ≡ false → IsTrue (O.state target.old).tells → (count : ℕ) × ((O.state target.new).taken ≡ (O.state target.old).taken ++ take count text.now) }
+    ensures part { result ≡ false → IsTrue (O.state target.old).tells
+        → (count : ℕ) × ((O.state target.new).taken ≡ (O.state target.old).taken ++ take count text.now) }
     ensures failed { result ≡ false → (O.state target.new).failures ≢ 0 }
     ensures told { (O.state target.new).tells ≡ (O.state target.old).tells }
 {

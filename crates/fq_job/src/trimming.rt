@@ -67,13 +67,15 @@ pub fn trim_files<R: Threads + Wait + Copy + Send + 'static, T: Files>(
     request: &Request<'_>,
     files: &mut T,
 ) -> Result<Completed, Refusal>
-    ensures trims { IfOk result (λ trimmed. IsTrue (T.tells_bytes files.old) → HasDistinctFiles (asking_of request.now) → IsTrue (ends_whole trimmed.account.outcome)
+    ensures trims { IfOk result (λ trimmed. IsTrue (T.tells_bytes files.old) → HasDistinctFiles (asking_of request.now)
+        → IsTrue (ends_whole trimmed.account.outcome)
         → TrimsFiles (asking_of request.now) (T.bytes_of files.old) (T.bytes_of files.new) trimmed.account.outcome trimmed.account.counts) }
 
     ensures rest { IsTrue (T.tells_bytes files.old) → KeepsUnnamed (asking_of request.now) (T.bytes_of files.old) (T.bytes_of files.new) }
 
     // The report is that of the pairs of the inputs, where the run ended whole; at other endings its file is empty.
-    ensures due { IfOk result (λ trimmed. trimmed.reported ≢ Reported.NotDue → (outcome_status trimmed.account.outcome ≡ 0) ⊎ (outcome_status trimmed.account.outcome ≡ 3)) }
+    ensures due { IfOk result (λ trimmed. trimmed.reported ≢ Reported.NotDue
+        → (outcome_status trimmed.account.outcome ≡ 0) ⊎ (outcome_status trimmed.account.outcome ≡ 3)) }
     ensures not_due { IfOk result (λ trimmed. trimmed.reported ≡ Reported.NotDue → IsSome (asking_of request.now).report
         → (outcome_status trimmed.account.outcome ≢ 0) × (outcome_status trimmed.account.outcome ≢ 3)) }
     ensures report { IfOk result (λ trimmed. IsTrue (T.tells_bytes files.old) → (name : List ℕ) → (asking_of request.now).report ≡ Some name
@@ -136,7 +138,8 @@ fn run<R: Threads + Wait + Copy + Send + 'static, F: Feed + Drop + Send + 'stati
         (outlet_states O.state outlets.old) (outlet_states O.state outlets.new) result.outcome result.counts }
     ensures tally { let inputs = opened_of F.state feeds in
         IsTrue (ends_whole result.outcome) → IsTrue inputs.forward.tells → IsTrue inputs.reverse.tells
-        → result.tally ≡ tally_if settings.now.tallied settings.now.steps (pairs_of settings.now inputs.form inputs.forward.to_come inputs.reverse.to_come).mates }
+        → result.tally ≡ tally_if settings.now.tallied settings.now.steps
+        (pairs_of settings.now inputs.form inputs.forward.to_come inputs.reverse.to_come).mates }
     ensures first { let inputs = opened_of F.state feeds in
         result.outcome ≢ Outcome.Lane → IsTrue inputs.forward.tells → IsTrue inputs.reverse.tells
         → TrimsFirst settings.now (pairs_of settings.now inputs.form inputs.forward.to_come inputs.reverse.to_come)
@@ -221,7 +224,8 @@ fn inputs<T: Files>(request: &Request<'_>, files: &mut T) -> Result<Feeds<T::In>
 // The input of a side.
 fn input<T: Files>(request: &Request<'_>, files: &mut T, side: Side) -> Result<T::In, Refusal>
     ensures fresh { IfOk result (λ feed. (T.In.state feed).failures ≡ 0) }
-    ensures fed { IfOk result (λ feed. IsTrue (T.tells_bytes files.old) → IsFed (T.In.state feed).tells (T.In.state feed).to_come (T.bytes_of files.old (input_name (asking_of request.now).inputs side))) }
+    ensures fed { IfOk result (λ feed. IsTrue (T.tells_bytes files.old)
+        → IsFed (T.In.state feed).tells (T.In.state feed).to_come (T.bytes_of files.old (input_name (asking_of request.now).inputs side))) }
     ensures unchanged { IsTrue (T.tells_bytes files.old) → IsUnchanged (T.bytes_of files.old) (T.bytes_of files.new) }
     ensures told { T.tells_bytes files.new ≡ T.tells_bytes files.old }
     ensures early { IfErr result (λ why. IsTrue (is_early why)) }

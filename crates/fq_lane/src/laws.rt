@@ -12,11 +12,15 @@ ghost use Rattle.fq_lane.specs.declared.slot.Slot.TheVariants.{Item, Mark};
 /// - What the contracts of the calls add to a history (`with_item`, `with_mark`) is what the event adds to that end's list.
 pub fn lane_order<T>()
     ensures prefix { (events : List (Event T)) → IsPrefix (after_events new_lane events).got (after_events new_lane events).sent }
-    ensures whole { (events : List (Event T)) → has_mark (after_events new_lane events).got ≡ true → (after_events new_lane events).got ≡ (after_events new_lane events).sent }
+    ensures whole { (events : List (Event T)) → has_mark (after_events new_lane events).got ≡ true
+        → (after_events new_lane events).got ≡ (after_events new_lane events).sent }
 
     // Each call is one event.
-    ensures sends_item { (sent : History T) (got : History T) (x : T) → sent.marked ≡ false → after_event (lane_of sent got) (push_item x) ≡ lane_of (with_item sent x) got }
+    ensures sends_item { (sent : History T) (got : History T) (x : T) → sent.marked ≡ false
+        → after_event (lane_of sent got) (push_item x) ≡ lane_of (with_item sent x) got }
     ensures sends_mark { (sent : History T) (got : History T) → sent.marked ≡ false → after_event (lane_of sent got) push_mark ≡ lane_of (with_mark sent) got }
-    ensures gets_item { (sent : History T) (got : History T) (x : T) → got.marked ≡ false → next_slot (lane_of sent got) ≡ Item x ∷ [] → after_event (lane_of sent got) pop ≡ lane_of sent (with_item got x) }
-    ensures gets_mark { (sent : History T) (got : History T) → got.marked ≡ false → next_slot (lane_of sent got) ≡ Mark ∷ [] → after_event (lane_of sent got) pop ≡ lane_of sent (with_mark got) }
+    ensures gets_item { (sent : History T) (got : History T) (x : T) → got.marked ≡ false → next_slot (lane_of sent got) ≡ Item x ∷ []
+        → after_event (lane_of sent got) pop ≡ lane_of sent (with_item got x) }
+    ensures gets_mark { (sent : History T) (got : History T) → got.marked ≡ false → next_slot (lane_of sent got) ≡ Mark ∷ []
+        → after_event (lane_of sent got) pop ≡ lane_of sent (with_mark got) }
 {}

@@ -9,7 +9,7 @@ use Rattle.fq_pair.specs.declared.fault.InputFault.{InputFault}
 use Rattle.fq_pair.specs.Mates.{Mates}
 use Rattle.fq_pair.specs.PairSources.{PairSourced, KeepsCounts, GivesPair, EndsPairs, StopsPairs, failed_on}
 use Rattle.fq_pair.specs.MixedSources.{MixedSourced}
-use Rattle.fq_pair.specs.MixedSources as one
+use Rattle.fq_pair.specs.MixedSources as interleaved
 use Rattle.fq_pair.specs.Walks.{source_state, interleaved_state, KeepsSettings, side_state, Draws, Walks, Asks, Advances}
 use Rattle.fq_pair.proofs.SideLemmas.{drawn, used}
 
@@ -104,10 +104,10 @@ module _ {F G : Type 0} (state : F → FeedState) (state' : G → FeedState) whe
   encoded old new (Ok false) is found end fault = let e = end refl in if_none new.current _ e.current
   encoded old new (Err why) is found end fault = if_none new.current _ fault.current
 
--- The same of one text.
+-- The same of an interleaved text.
 module _ {F : Type 0} (state : F → FeedState) where
-  same_in_one : (old new : MixedSourced F) → one.KeepsCounts state old new → KeepsSettings (interleaved_state state old) (interleaved_state state new)
-  same_in_one old new k =
+  same_interleaved : (old new : MixedSourced F) → interleaved.KeepsCounts state old new → KeepsSettings (interleaved_state state old) (interleaved_state state new)
+  same_interleaved old new k =
       let s = k.source in
       record {
         form = refl;
@@ -116,19 +116,19 @@ module _ {F : Type 0} (state : F → FeedState) where
         most_bytes = ap (λ n. n * new.source.chunk) s.max_reads ∙ ap (λ n. old.source.max_reads * n) s.chunk;
       }
 
-  pub advances_in_one : (old new : MixedSourced F) (r : Result Bool InputFault) →
-      (r ≡ Ok true → IsSomeAnd new.current (one.GivesPair state old new)) →
-      (r ≡ Ok false → one.EndsPairs state old new) →
-      IfErr r (one.StopsPairs state old new) →
-      (state new.source.feed).failures ≡ (state old.source.feed).failures + one.failed_in r →
-      one.KeepsCounts state old new →
+  pub advances_interleaved : (old new : MixedSourced F) (r : Result Bool InputFault) →
+      (r ≡ Ok true → IsSomeAnd new.current (interleaved.GivesPair state old new)) →
+      (r ≡ Ok false → interleaved.EndsPairs state old new) →
+      IfErr r (interleaved.StopsPairs state old new) →
+      (state new.source.feed).failures ≡ (state old.source.feed).failures + interleaved.failed_in r →
+      interleaved.KeepsCounts state old new →
       Advances (interleaved_state state old) (interleaved_state state new) r
-  advances_in_one old new (Ok true) found end fault failed k =
+  advances_interleaved old new (Ok true) found end fault failed k =
       let at : Draws (side_state state old.source) (side_state state new.source) 0 = drawn state old.source new.source 0 k.source failed in
       let ls = lines (rest_in state new.source) in
-      some_and new.current (one.GivesPair state old new) (λ m. Walks (interleaved_state state old) (interleaved_state state new) (m ∷ []))
+      some_and new.current (interleaved.GivesPair state old new) (λ m. Walks (interleaved_state state old) (interleaved_state state new) (m ∷ []))
       (λ m given. let two = given.records in record {
-        same = same_in_one old new k;
+        same = same_interleaved old new k;
         given = given.given;
         forward_records = two.given;
         reverse_records = two.given;
@@ -139,11 +139,11 @@ module _ {F : Type 0} (state : F → FeedState) where
         reverse_used = λ told. used state old.source new.source (two.tail told);
         leads = λ told same. (ls, ls, given.pair_is told, (refl, refl));
       }) (found refl)
-  advances_in_one old new (Ok false) found end fault failed k =
+  advances_interleaved old new (Ok false) found end fault failed k =
       let e = end refl in
       let at : Draws (side_state state old.source) (side_state state new.source) 0 = drawn state old.source new.source 0 k.source failed in
       (record { forward = at; reverse = at; end_is = λ told same. e.end_is told }, e.current)
-  advances_in_one old new (Err why) found end fault failed k = (
+  advances_interleaved old new (Err why) found end fault failed k = (
     record {
       forward = drawn state old.source new.source _ k.source failed;
       reverse = drawn state old.source new.source _ k.source failed;
@@ -154,13 +154,13 @@ module _ {F : Type 0} (state : F → FeedState) where
     fault.current,
   )
 
-  pub encoded_in_one : (old new : MixedSourced F) (r : Result Bool InputFault) →
-      (r ≡ Ok true → IsSomeAnd new.current (one.GivesPair state old new)) →
-      (r ≡ Ok false → one.EndsPairs state old new) →
-      IfErr r (one.StopsPairs state old new) →
+  pub encoded_interleaved : (old new : MixedSourced F) (r : Result Bool InputFault) →
+      (r ≡ Ok true → IsSomeAnd new.current (interleaved.GivesPair state old new)) →
+      (r ≡ Ok false → interleaved.EndsPairs state old new) →
+      IfErr r (interleaved.StopsPairs state old new) →
       IfSome new.current (λ m. (m.forward.encoding ≡ old.source.encoding) × (m.reverse.encoding ≡ old.source.encoding))
-  encoded_in_one old new (Ok true) found end fault =
-      if_some new.current (one.GivesPair state old new) (λ m. (m.forward.encoding ≡ old.source.encoding) × (m.reverse.encoding ≡ old.source.encoding))
+  encoded_interleaved old new (Ok true) found end fault =
+      if_some new.current (interleaved.GivesPair state old new) (λ m. (m.forward.encoding ≡ old.source.encoding) × (m.reverse.encoding ≡ old.source.encoding))
       (λ m given. let two = given.records in (two.forward_encoding, two.reverse_encoding)) (found refl)
-  encoded_in_one old new (Ok false) found end fault = let e = end refl in if_none new.current _ e.current
-  encoded_in_one old new (Err why) found end fault = if_none new.current _ fault.current
+  encoded_interleaved old new (Ok false) found end fault = let e = end refl in if_none new.current _ e.current
+  encoded_interleaved old new (Err why) found end fault = if_none new.current _ fault.current

@@ -93,8 +93,10 @@ impl<F: Feed, G: Feed> PairSource<F, G> {
         ensures encoding { self.old.forward.encoding ≡ self.old.reverse.encoding }
 
         // A feed fails where the answer says so, and what the feeds give is counted.
-        ensures forward_failures { self.old.last ≡ None → (F.state self.new.forward.feed).failures ≡ (F.state self.old.forward.feed).failures + failed_on Forward result }
-        ensures reverse_failures { self.old.last ≡ None → (G.state self.new.reverse.feed).failures ≡ (G.state self.old.reverse.feed).failures + failed_on Reverse result }
+        ensures forward_failures { self.old.last ≡ None
+            → (F.state self.new.forward.feed).failures ≡ (F.state self.old.forward.feed).failures + failed_on Forward result }
+        ensures reverse_failures { self.old.last ≡ None
+            → (G.state self.new.reverse.feed).failures ≡ (G.state self.old.reverse.feed).failures + failed_on Reverse result }
         ensures count { KeepsCounts F.state G.state self.old self.new }
         ensures forward_bound { IsBounded self.new.forward }
         ensures reverse_bound { IsBounded self.new.reverse }
@@ -144,8 +146,10 @@ impl<F: Feed, G: Feed> PairSource<F, G> {
         ensures in_hand { self.old.last ≡ None → self.new.current ≡ None }
 
         // A feed fails where the answer says so, and what the feeds give is counted.
-        ensures forward_failures { self.old.last ≡ None → (F.state self.new.forward.feed).failures ≡ (F.state self.old.forward.feed).failures + failed_on Forward result }
-        ensures reverse_failures { self.old.last ≡ None → (G.state self.new.reverse.feed).failures ≡ (G.state self.old.reverse.feed).failures + failed_on Reverse result }
+        ensures forward_failures { self.old.last ≡ None
+            → (F.state self.new.forward.feed).failures ≡ (F.state self.old.forward.feed).failures + failed_on Forward result }
+        ensures reverse_failures { self.old.last ≡ None
+            → (G.state self.new.reverse.feed).failures ≡ (G.state self.old.reverse.feed).failures + failed_on Reverse result }
         ensures count { KeepsCounts F.state G.state self.old self.new }
         ensures forward_bound { IsBounded self.new.forward }
         ensures reverse_bound { IsBounded self.new.reverse }
@@ -195,11 +199,14 @@ fn read_mates<F: Feed, G: Feed>(
     requires reverse_bound { IsBounded reverse.old }
     requires fits { given ≤ 2 ^ 60 }
     ensures found { IfOk result (λ o. IfSome o
-        (GivesPair F.state G.state (asked forward.old reverse.old check_names given has_pair.old) (asked forward.new reverse.new check_names (given + 1) false))) }
+        (GivesPair F.state G.state (asked forward.old reverse.old check_names given has_pair.old)
+        (asked forward.new reverse.new check_names (given + 1) false))) }
     ensures end { result ≡ Ok None →
-        EndsPairs F.state G.state (asked forward.old reverse.old check_names given has_pair.old) (stopped forward.new reverse.new check_names given (Ok tt)) }
+        EndsPairs F.state G.state (asked forward.old reverse.old check_names given has_pair.old)
+        (stopped forward.new reverse.new check_names given (Ok tt)) }
     ensures fault { IfErr result (λ why.
-        StopsPairs F.state G.state (asked forward.old reverse.old check_names given has_pair.old) (stopped forward.new reverse.new check_names given (Err why)) why) }
+        StopsPairs F.state G.state (asked forward.old reverse.old check_names given has_pair.old)
+        (stopped forward.new reverse.new check_names given (Err why)) why) }
     ensures in_hand { has_pair.new ≡ false }
     ensures forward_failures { (F.state forward.new.feed).failures ≡ (F.state forward.old.feed).failures + failed_on Forward result }
     ensures reverse_failures { (G.state reverse.new.feed).failures ≡ (G.state reverse.old.feed).failures + failed_on Reverse result }
@@ -241,11 +248,14 @@ fn advance_mates<F: Feed, G: Feed>(
     requires reverse_bound { IsBounded reverse.old }
     requires fits { given ≤ 2 ^ 60 }
     ensures found { result ≡ Ok true → IsSomeAnd (pair_of true forward.new.current reverse.new.current)
-        (GivesPair F.state G.state (asked forward.old reverse.old check_names given has_pair.old) (asked forward.new reverse.new check_names (given + 1) true)) }
+        (GivesPair F.state G.state (asked forward.old reverse.old check_names given has_pair.old)
+        (asked forward.new reverse.new check_names (given + 1) true)) }
     ensures end { result ≡ Ok false →
-        EndsPairs F.state G.state (asked forward.old reverse.old check_names given has_pair.old) (stopped forward.new reverse.new check_names given (Ok tt)) }
+        EndsPairs F.state G.state (asked forward.old reverse.old check_names given has_pair.old)
+        (stopped forward.new reverse.new check_names given (Ok tt)) }
     ensures fault { IfErr result (λ why.
-        StopsPairs F.state G.state (asked forward.old reverse.old check_names given has_pair.old) (stopped forward.new reverse.new check_names given (Err why)) why) }
+        StopsPairs F.state G.state (asked forward.old reverse.old check_names given has_pair.old)
+        (stopped forward.new reverse.new check_names given (Err why)) why) }
     ensures in_hand { IsTrue has_pair.new ↔ result ≡ Ok true }
     ensures forward_failures { (F.state forward.new.feed).failures ≡ (F.state forward.old.feed).failures + failed_on Forward result }
     ensures reverse_failures { (G.state reverse.new.feed).failures ≡ (G.state reverse.old.feed).failures + failed_on Reverse result }

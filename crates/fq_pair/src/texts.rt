@@ -99,7 +99,11 @@ impl Texts {
         ensures ok { OnOk result (self.new ≡ joined self.old (texts_of steps.now (mates_in pair.entry.forward pair.entry.reverse ∷ []))) }
         ensures err { OnErr result (self.new ≡ self.old) }
     {
-        let (forward_name, reverse_name) = names_of(pair.forward.title(), pair.reverse.title());
+        let forward_title = pair.forward.title();
+        let reverse_title = pair.reverse.title();
+        let (forward_name, reverse_name) = names_of(forward_title, reverse_title);
+        let forward_seq = pair.forward.seq();
+        let reverse_seq = pair.reverse.seq();
         let recode = steps.reencodes();
         self.log
             .reserve(line_room(forward_name) + line_room(reverse_name))?;
@@ -123,18 +127,8 @@ impl Texts {
             }
             (None, None) => self.counts.dropped += 1,
         }
-        put_line(
-            &mut self.log,
-            forward_name,
-            pair.forward.seq().len(),
-            forward,
-        );
-        put_line(
-            &mut self.log,
-            reverse_name,
-            pair.reverse.seq().len(),
-            reverse,
-        );
+        put_line(&mut self.log, forward_name, forward_seq.len(), forward);
+        put_line(&mut self.log, reverse_name, reverse_seq.len(), reverse);
         self.counts.pairs += 1;
         Ok(())
     }

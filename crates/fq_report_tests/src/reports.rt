@@ -2,8 +2,9 @@
 
 use fq_pair::{Counts, PairView};
 use fq_report::{Inputs, Report, report_text};
+use fq_samples::lawful_read;
 use fq_tally::Tally;
-use fq_text::{Encoding, ReadView, is_lawful};
+use fq_text::{Encoding, ReadView};
 use fq_trim::Steps;
 use std::alloc::{AllocError, Global};
 use std::process::Abort;
@@ -20,18 +21,9 @@ fn steps_of(rt: &impl Abort, words: &[&str]) -> Steps {
     Steps::parse(words).expect(rt, "steps")
 }
 
-fn lawful_read<'a>(
-    rt: &impl Abort,
-    title: &'a [u8],
-    seq: &'a [u8],
-    qual: &'a [u8],
-) -> ReadView<'a> {
-    assert!(rt; is_lawful(Encoding::Sanger, title, seq, qual), "lawful");
-    ReadView::new(Encoding::Sanger, title, seq, qual)
-}
-
 fn read_of<'a>(rt: &impl Abort, bases: Bases<'a>) -> ReadView<'a> {
-    lawful_read(rt, TITLE, bases.0.as_bytes(), bases.1.as_bytes())
+    let (seq, qual) = (bases.0.as_bytes(), bases.1.as_bytes());
+    lawful_read(Encoding::Sanger, TITLE, seq, qual).expect(rt, "lawful")
 }
 
 fn no_pairs(alloc: Global) -> Result<Tally, AllocError> {
@@ -188,23 +180,15 @@ fn a_fault_of_one_file(rt: HostRuntime) -> Result<(), Fail> {
     Ok(())
 }
 
-// So many bases, which are their quality too.
-fn long_read(alloc: Global, len: u64) -> Result<String, AllocError> {
-    let mut seq = String::new(alloc);
-    for _ in 0..len {
-        seq.push_str("A")?;
-    }
-    Ok(seq)
-}
-
+// Adds a read of so many bases, which are their quality too.
 fn add_long(
     rt: &impl Abort,
     alloc: Global,
     tally: &mut Tally,
     words: &[&str],
-    len: u64,
+    len: usize,
 ) -> Result<(), AllocError> {
-    let seq = long_read(alloc, len)?;
+    let seq = "A".repeat(alloc, len)?;
     let pairs = [((seq.as_str(), seq.as_str()), ("C", "I"))];
     let other = tally_of(rt, alloc, words, &pairs)?;
     add_all(tally, &other);

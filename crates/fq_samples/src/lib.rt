@@ -1,11 +1,13 @@
 //! Worked texts: pairs of which each trimmed base was counted by hand. Tests of the other crates read them, each at its own level.
 #![tactic(auto)]
 
+mod read;
 mod seven;
 mod source;
 mod two;
 mod written;
 
+pub use read::lawful_read;
 pub use seven::{
     ELEVEN_INTERLEAVED, FIVE_REVERSE, FIVE_WRITTEN, SEVEN_FORWARD, SEVEN_REVERSE, SEVEN_STEPS,
     SEVEN_WRITTEN, SIX_FORWARD,

@@ -75,3 +75,14 @@ fn a_source_of_one_record(rt: HostRuntime) -> Result<(), Fail> {
     assert!(rt; source.next()?.is_none());
     Ok(())
 }
+
+#[test]
+fn a_read_of_parts(rt: HostRuntime) {
+    let read = lawful_read(Encoding::Solexa, b"r", b"AC", b";~");
+    assert!(rt;
+        read.is_some_and(|r| r.encoding() == Encoding::Solexa && r.seq() == b"AC".as_slice())
+    );
+    // A sequence may be empty, but has no byte more than its quality.
+    assert!(rt; lawful_read(Encoding::Sanger, b"r", b"", b"").is_some());
+    assert!(rt; lawful_read(Encoding::Sanger, b"r", b"AC", b"I").is_none());
+}

@@ -68,7 +68,7 @@ module _ (check : Bool) (e : Encoding) where
     at_most n (m ∷ ms) forward reverse forward' reverse' p none =
         one_more n m ms forward reverse forward' reverse' p.0 p.1 p.2 p.3 none (λ fs rs. at_most (suc n) ms fs rs forward' reverse') (pair_front check e n forward reverse) refl
 
--- The same of one text in which mates take turns.
+-- The same of an interleaved text.
 module _ (check : Bool) (e : Encoding) where
   abbrev pub interleaved_at : ℕ → List (List ℕ) → List Mates
   interleaved_at n ls = (pairs_at InterleavedText check e n ls ls).mates

@@ -79,7 +79,7 @@ meets_interleaved check e n m fs rs (Found f ls) is = behind (front e ls) refl i
     behind (Faulty x) at there = absurd cc
     behind (Found r qs) at there = found_interleaved check e n m f r ls qs fs rs at there
 
--- the same of one list of lines, in which mates take turns
+-- the same of the lines of an interleaved text
 pub interleaved_met_more : (check : Bool) (e : Encoding) (n : ℕ) (m : Mates) (ls fs rs more : List (List ℕ)) → interleaved_front check e n ls ≡ Met m fs rs →
     interleaved_front check e n (ls ++ more) ≡ Met m (fs ++ more) (rs ++ more)
 interleaved_met_more check e n m ls fs rs more is =

@@ -24,7 +24,7 @@ use Rattle.fq_text.specs.Devices.{FeedState}
 use Rattle.fq_serial.specs.Devices.{gave, Fed, OutletStates, OutletsTook}
 use Rattle.fq_serial.specs.Fates.{Fate, FlushFailed, failed_outlet, block_begun, part_begun, IsCutShort}
 
--- A run: the form of its input, its feeds and outlets before and after it, its outcome, its counts and its tally. Where there is one text its feed
+-- A run: the form of its input, its feeds and outlets before and after it, its outcome, its counts and its tally. The feed of an interleaved text
 -- stands for both sides.
 pub record Run : Type 0 where
   pub form : Form

@@ -22,7 +22,7 @@ pub struct Ending<F, G> {
     pub unended: Option<NotEnded>,
 }
 
-/// The same of a run over one text in which mates take turns.
+/// The same of a run over an interleaved text.
 #[derive(Drop)]
 pub struct MixedEnding<F> {
     /// How the run ended.

@@ -1,4 +1,4 @@
-//! A run on one thread, over one text in which mates take turns.
+//! A run on one thread, over an interleaved text.
 
 ghost use Rattle.std.specs.Prelude.{◌≡◌, ◌≤◌, None, IsTrue, IsSome};
 ghost use Rattle.fq_pair.specs.Forms.{InterleavedText};
@@ -56,7 +56,7 @@ pub fn run_serial_mixed<F: Feed, O: Outlet>(
     }
 }
 
-// Reads and writes all pairs of one text.
+// Reads and writes all pairs of an interleaved text.
 fn pass<F: Feed, O: Outlet>(
     alloc: Global,
     settings: &Settings,

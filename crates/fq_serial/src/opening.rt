@@ -57,7 +57,7 @@ pub fn open<F: Feed, G: Feed>(
     }
 }
 
-/// The source of the pairs of one feed in which mates take turns, or the feed where memory was refused.
+/// The source of the pairs of an interleaved feed, or the feed where memory was refused.
 pub fn open_mixed<F: Feed>(alloc: Global, settings: &Settings, feed: F) -> Result<MixedSource<F>, F>
     requires { (F.state feed).failures ≡ 0 }
     ensures ok { IfOk result (λ source. interleaved_state F.state source

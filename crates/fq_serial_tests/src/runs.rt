@@ -5,7 +5,7 @@ ghost use Rattle.fq_serial.specs.Devices.{outlet_states, AreHealthy};
 
 use fq_pair::Counts;
 use fq_samples::{TWO_FORWARD, TWO_INTERLEAVED, TWO_REVERSE, TWO_STEPS, TWO_WRITTEN};
-use fq_serial::{Ending, MixedEnding, Outcome, Outlets, Settings, run_serial, run_serial_mixed};
+use fq_serial::{Outcome, Outlets, Settings, run_serial, run_serial_mixed};
 use fq_tally::{SideTally, Tally};
 use fq_text::{Encoding, ScriptFeed, ScriptOutlet};
 use fq_trim::Steps;
@@ -42,14 +42,17 @@ fn outlets(alloc: Global) -> Outlets<ScriptOutlet>
     }
 }
 
+// What a run of either form answers.
+type Left = (Outcome, Counts, Option<Tally>);
+
 // The second pair loses its reverse mate.
 fn assert_two_pairs(
     rt: &impl Abort,
-    outcome: Outcome,
-    counts: Counts,
+    left: &Left,
     outlets: &Outlets<ScriptOutlet>,
 ) -> Result<(), Fail> {
-    assert_eq!(rt; outcome, Outcome::Finished);
+    let (outcome, counts, _) = left;
+    assert_eq!(rt; *outcome, Outcome::Finished);
     assert_eq!(rt; (counts.pairs, counts.both, counts.forward_only), (2, 1, 1));
     let log = outlets.log.as_ref().ok_or("a log")?;
     let rows = [
@@ -71,23 +74,25 @@ fn run_two(
     alloc: Global,
     settings: &Settings,
     outlets: &mut Outlets<ScriptOutlet>,
-) -> Result<Ending<ScriptFeed, ScriptFeed>, Fail>
+) -> Result<Left, Fail>
     requires { AreHealthy (outlet_states (λ o. record { tells = true; taken = o.bytes; failures = o.failures }) outlets.old) }
 {
     let forward = feed(alloc, TWO_FORWARD)?;
     let reverse = feed(alloc, TWO_REVERSE)?;
-    Ok(run_serial(alloc, settings, forward, reverse, outlets))
+    let ending = run_serial(alloc, settings, forward, reverse, outlets);
+    Ok((ending.outcome, ending.counts, ending.tally))
 }
 
 fn run_interleaved(
     alloc: Global,
     settings: &Settings,
     outlets: &mut Outlets<ScriptOutlet>,
-) -> Result<MixedEnding<ScriptFeed>, Fail>
+) -> Result<Left, Fail>
     requires { AreHealthy (outlet_states (λ o. record { tells = true; taken = o.bytes; failures = o.failures }) outlets.old) }
 {
     let both = feed(alloc, TWO_INTERLEAVED)?;
-    Ok(run_serial_mixed(alloc, settings, both, outlets))
+    let ending = run_serial_mixed(alloc, settings, both, outlets);
+    Ok((ending.outcome, ending.counts, ending.tally))
 }
 
 // The reads of a side before and behind the steps, in pairs and alone. `fq_run` looks at the other counts.
@@ -104,71 +109,54 @@ fn assert_two_tallied(rt: &impl Abort, tally: &Tally) {
 fn assert_left(
     rt: &impl Abort,
     tallied: bool,
-    tally: &Option<Tally>,
-    pairs: (Outcome, Counts),
+    left: &Left,
     outlets: &Outlets<ScriptOutlet>,
 ) -> Result<(), Fail> {
+    let (_, _, tally) = left;
     assert_eq!(rt; tally.is_some(), tallied);
     if let Some(tally) = tally {
         assert_two_tallied(rt, tally);
     }
-    assert_two_pairs(rt, pairs.0, pairs.1, outlets)
+    assert_two_pairs(rt, left, outlets)
 }
 
-fn assert_two_texts(
+// The two pairs, interleaved or in two texts.
+fn assert_trimmed(
     rt: &impl Abort,
     alloc: Global,
+    interleaved: bool,
     settings: &Settings,
     tallied: bool,
 ) -> Result<(), Fail> {
     let mut outlets = outlets(alloc);
-    let ending = run_two(alloc, settings, &mut outlets)?;
-    assert_left(
-        rt,
-        tallied,
-        &ending.tally,
-        (ending.outcome, ending.counts),
-        &outlets,
-    )
-}
-
-fn assert_interleaved(
-    rt: &impl Abort,
-    alloc: Global,
-    settings: &Settings,
-    tallied: bool,
-) -> Result<(), Fail> {
-    let mut outlets = outlets(alloc);
-    let ending = run_interleaved(alloc, settings, &mut outlets)?;
-    assert_left(
-        rt,
-        tallied,
-        &ending.tally,
-        (ending.outcome, ending.counts),
-        &outlets,
-    )
+    let left = if interleaved {
+        run_interleaved(alloc, settings, &mut outlets)?
+    } else {
+        run_two(alloc, settings, &mut outlets)?
+    };
+    assert_left(rt, tallied, &left, &outlets)
 }
 
 #[test]
 fn two_pairs_of_two_texts(rt: HostRuntime) -> Result<(), Fail> {
-    assert_two_texts(&rt, rt.alloc(), &settings()?, false)
+    assert_trimmed(&rt, rt.alloc(), false, &settings()?, false)
 }
 
 #[test]
 fn two_interleaved_pairs(rt: HostRuntime) -> Result<(), Fail> {
-    assert_interleaved(&rt, rt.alloc(), &settings()?, false)
+    assert_trimmed(&rt, rt.alloc(), true, &settings()?, false)
 }
 
 #[test]
 fn pairs_of_two_texts_are_tallied_where_the_settings_ask_for_it(
     rt: HostRuntime,
 ) -> Result<(), Fail> {
-    assert_two_texts(&rt, rt.alloc(), &settings()?.with_tally(), true)
+    assert_trimmed(&rt, rt.alloc(), false, &settings()?.with_tally(), true)
 }
 
 #[test]
 fn interleaved_pairs_are_tallied_where_the_settings_ask_for_it(
     rt: HostRuntime,
 ) -> Result<(), Fail> {
-    assert_interleaved(&rt, rt.alloc(), &settings()?.with_tally(), true)
+    assert_trimmed(&rt, rt.alloc(), true, &settings()?.with_tally(), true)
 }

@@ -1,8 +1,9 @@
 //! Worked pairs.
 
 use fq_pair::PairView;
+use fq_samples::lawful_read;
 use fq_tally::{LAST_ROW, ReadsTally, SideTally, Tally, Trimmed};
-use fq_text::{Encoding, ReadView, is_lawful};
+use fq_text::{Encoding, ReadView};
 use fq_trim::Steps;
 use std::alloc::{AllocError, Global};
 use std::process::Abort;
@@ -17,17 +18,6 @@ const TITLE: &[u8] = b"r";
 
 fn steps_of(rt: &impl Abort, words: &[&str]) -> Steps {
     Steps::parse(words).expect(rt, "steps")
-}
-
-fn lawful_read<'a>(
-    rt: &impl Abort,
-    encoding: Encoding,
-    title: &'a [u8],
-    seq: &'a [u8],
-    qual: &'a [u8],
-) -> ReadView<'a> {
-    assert!(rt; is_lawful(encoding, title, seq, qual), "lawful");
-    ReadView::new(encoding, title, seq, qual)
 }
 
 fn no_pairs(alloc: Global) -> Result<Tally, AllocError> {
@@ -47,7 +37,8 @@ fn trimmed_by(read: &ReadView<'_>, steps: &Steps) -> Trimmed {
 }
 
 fn read_of<'a>(rt: &impl Abort, encoding: Encoding, bases: Bases<'a>) -> ReadView<'a> {
-    lawful_read(rt, encoding, TITLE, bases.0.as_bytes(), bases.1.as_bytes())
+    let (seq, qual) = (bases.0.as_bytes(), bases.1.as_bytes());
+    lawful_read(encoding, TITLE, seq, qual).expect(rt, "lawful")
 }
 
 fn add(rt: &impl Abort, tally: &mut Tally, steps: &Steps, forward: Bases<'_>, reverse: Bases<'_>) {
@@ -229,19 +220,11 @@ fn a_cleared_tally_counts_anew(rt: HostRuntime) -> Result<(), Fail> {
     Ok(())
 }
 
-// So many bases, which are their quality too.
-fn long_read(alloc: Global, len: u64) -> Result<String, AllocError> {
-    let mut seq = String::new(alloc);
-    for _ in 0..len {
-        seq.push_str("A")?;
-    }
-    Ok(seq)
-}
-
+// Adds reads of so many bases, which are their quality too.
 fn add_long(rt: &impl Abort, alloc: Global, tally: &mut Tally) -> Result<(), AllocError> {
     let steps = steps_of(rt, &["TOPHRED33"]);
     for len in [10_000, 10_001, 20_000] {
-        let seq = long_read(alloc, len)?;
+        let seq = "A".repeat(alloc, len)?;
         add(rt, tally, &steps, (&seq, &seq), ("C", "I"));
     }
     Ok(())

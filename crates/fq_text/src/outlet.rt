@@ -65,7 +65,14 @@ impl Model for ScriptOutlet {
 
     ghost Value = { Taken };
 
-    ghost view = { λ o. record { bytes = o.bytes.items; room = vec_capacity o.bytes; cut = o.cut; fails_in = o.fails_in; flush_fails = o.flush_fails; failures = o.failures } };
+    ghost view = { λ o. record {
+      bytes = o.bytes.items;
+      room = vec_capacity o.bytes;
+      cut = o.cut;
+      fails_in = o.fails_in;
+      flush_fails = o.flush_fails;
+      failures = o.failures;
+    } };
 
     ghost invariant = { λ o. 0 < o.cut };
 }
@@ -171,7 +178,8 @@ pub fn send<O: Outlet>(outlet: &mut O, bytes: &[u8]) -> Result<(), Sent>
     requires { (O.state outlet.old).failures < u64.MAX }
     ensures ok { OnOk result (IsTrue (O.state outlet.old).tells → (O.state outlet.new).taken ≡ (O.state outlet.old).taken ++ bytes.now) }
     ensures short { IfErr result (λ sent. sent.count < length bytes.now) }
-    ensures err { IfErr result (λ sent. IsTrue (O.state outlet.old).tells → (O.state outlet.new).taken ≡ (O.state outlet.old).taken ++ take sent.count bytes.now) }
+    ensures err { IfErr result (λ sent. IsTrue (O.state outlet.old).tells
+        → (O.state outlet.new).taken ≡ (O.state outlet.old).taken ++ take sent.count bytes.now) }
     ensures failures { (O.state outlet.new).failures ≡ (O.state outlet.old).failures + (if is_ok result then 0 else 1) }
     ensures told { (O.state outlet.new).tells ≡ (O.state outlet.old).tells }
     ensures empty { bytes.now ≡ [] → outlet.new ≡ outlet.old }

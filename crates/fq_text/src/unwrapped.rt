@@ -118,7 +118,8 @@ fn stands_first(encoding: Encoding, hand: &[u8], shape: Shape) -> bool
 fn shape_of(encoding: Encoding, hand: &[u8], title: FirstLine, bases: usize) -> Option<Shape>
     requires { IsFirstLine (drop 1 hand.now) title.len title.end }
     ensures found { IfSome result (StandsFirst encoding hand.now) }
-    ensures none { result ≡ None → (again : ℕ) → StandsFirst encoding hand.now (record { title = title.len; bases = bases; end = title.end; again = again }) → ⊥ }
+    ensures none { result ≡ None → (again : ℕ)
+        → StandsFirst encoding hand.now (record { title = title.len; bases = bases; end = title.end; again = again }) → ⊥ }
 {
     let FirstLine { len: title, end } = title;
     let bare = Shape {

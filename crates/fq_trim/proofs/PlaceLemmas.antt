@@ -1,7 +1,7 @@
 -- Places and the tests that select them.
 use Rattle.std.proofs.Common.{◌≡◌, ℕ, zero, suc, ◌+◌, ◌-◌, ◌*◌, ◌<◌, ◌≤◌, ◌⊎◌, inl, inr, Bool, true, false, List, [], ◌∷◌, ◌++◌, length, take, drop, get_or, map, sum, max, refl, ap, sym, subst, ◌∙◌, arith, add-one, take-add, ⊎_elim, leb}
 use Rattle.std.specs.List.{list_any, list_all}
-use Rattle.std.proofs.lemmas.List.{append-nil, length-drop, drop_more, take_more, length-take, length-take-le, length-map, get_or-map, get_or-drop, get_or-take, take-map, take-take, drop-map, drop-take}
+use Rattle.std.proofs.lemmas.List.{append-nil, length-drop, drop_more, take_more, length-take, length-take-le, length-map, get_or-map, get_or-drop, get_or-take, take-map, take-take, take_all, drop-map, drop-take}
 use Rattle.std.proofs.lemmas.List.Folds.{list_any_at, list_all-append}
 use Rattle.std.proofs.lemmas.List.Sums.{sum_by-cons, sum_by_push}
 use Rattle.std.proofs.lemmas.Bool.{cond-true, cond-false, or_left, or_right, or_from, and_from, and_left, and_right, and_parts, le-leb, lt-leb, leb-true, cases_Bool, cases_lt}
@@ -10,7 +10,7 @@ use Rattle.fq_trim.specs.declared.step.Step.TheVariants.{Leading, Trailing, Slid
 use Rattle.fq_text.specs.declared.encoding.Encoding.{Encoding}
 use Rattle.fq_text.specs.Scores.{is_scored, value_of}
 use Rattle.fq_text.proofs.ScoreLemmas.{value_small}
-use Rattle.fq_trim.specs.Keeping.{scores, places, select, keeps, is_good_end, is_good_window, IsBetween, kept_of}
+use Rattle.fq_trim.specs.Keeping.{scores, places, select, keeps, is_good_end, is_good_window, IsBetween, kept_of, kept}
 
 pub length-places : (a n : ℕ) → length (places a n) ≡ n
 length-places a zero = refl
@@ -69,6 +69,17 @@ pub step_keeps : (step : Step) (steps : List Step) (q : List ℕ) (start stop lo
 step_keeps step steps q start stop lo hi le within b =
     ap (λ xs. kept_of steps q (select (keeps step xs) 0 (places start (stop - start)))) (scores_at q start (stop - start) (omega arith))
     ∙ ap (kept_of steps q) (select_between _ start (stop - start) lo hi b)
+
+-- one step alone, of all bases
+pub step_alone : (step : Step) (e : Encoding) (qual : List ℕ) (lo hi : ℕ) → IsBetween (keeps step (scores e qual)) (length qual) lo hi →
+    kept (step ∷ []) (scores e qual) ≡ places lo (hi - lo)
+step_alone step e qual lo hi b =
+    let q = scores e qual in
+    let len = length-map qual (value_of e) in
+    ap (λ xs. select (keeps step xs) 0 (places 0 (length q))) (scores_at q 0 (length q) (omega arith) ∙ take_all (length q) q (omega arith))
+    ∙ ap (λ n. select (keeps step q) 0 (places 0 n)) len
+    ∙ select_between (keeps step q) 0 (length qual) lo hi b
+    ∙ ap (λ a. places a (hi - lo)) (omega arith)
 
 -- The first place of a score.
 pub any_from : (t : ℕ) (q : List ℕ) (lo j : ℕ) → lo ≤ j → lo < length q → t ≤ get_or q lo 0 → list_any (leb t) (take (suc j) q) ≡ true

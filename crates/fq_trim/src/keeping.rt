@@ -21,6 +21,8 @@ pub(crate) struct Span {
 }
 
 /// The bases that a step keeps.
+// Two functions call it. Without this hint, here and at the sliding window, each would cost calls more for every step.
+#[inline(always)]
 pub(crate) fn kept_by(step: Step, encoding: Encoding, qual: &[u8]) -> Span
     requires in_range { is_in_range step ≡ true }
     requires scored { list_all (is_scored encoding) qual.now ≡ true }
@@ -105,6 +107,7 @@ fn head_crop(bases: u32, qual: &[u8]) -> Span
 // Up to the last base of a score before the first bad window ends.
 //
 // Where a read begins with high scores the windows over them are good, so the first sum that is taken is that of the last of these.
+#[inline(always)]
 fn sliding_window(encoding: Encoding, width: u32, score: u32, qual: &[u8]) -> Span
     requires window { 0 < width }
     requires scored { list_all (is_scored encoding) qual.now ≡ true }

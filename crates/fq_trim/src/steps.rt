@@ -5,8 +5,9 @@ ghost use Rattle.std.specs.List.{list_all};
 ghost use Rattle.fq_text.specs.Scores.{is_scored};
 
 use crate::fault::{StepFault, StepFaultKind};
+use crate::keeping::kept_by;
 use crate::step::Step;
-use crate::trimming::{Kept, trim_by};
+use crate::trimming::{Kept, kept_between, trim_by};
 use crate::words::parse_word;
 use fq_text::Encoding;
 use std::marker::Model;
@@ -128,7 +129,8 @@ impl Steps {
             (λ k. kept (only place self.now) (scores encoding qual.now) ≡ places k.start (k.stop - k.start)) }
         ensures within { IfSome result (λ k. k.stop ≤ length qual.now) }
     {
-        trim_by(&self.as_slice()[place..place + 1], encoding, qual)
+        let left = kept_by(self.as_slice()[place], encoding, qual);
+        kept_between(left.start, left.stop)
     }
 
     /// Whether TOPHRED33 is in the list, so that the quality is to be written as score + 33.

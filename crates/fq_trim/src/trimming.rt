@@ -34,6 +34,15 @@ pub(crate) fn trim_by(steps: &[Step], encoding: Encoding, qual: &[u8]) -> Option
         stop = start + left.stop;
         start += left.start;
     }
+    kept_between(start, stop)
+}
+
+/// The bases from `start` up to `stop`, or `None` where there are none.
+pub(crate) fn kept_between(start: usize, stop: usize) -> Option<Kept>
+    ensures kept { MatchOption result (places start (stop - start) ≡ [])
+        (λ k. places start (stop - start) ≡ places k.start (k.stop - k.start)) }
+    ensures within { IfSome result (λ k. k.stop ≡ stop) }
+{
     if start < stop {
         Some(Kept { start, stop })
     } else {

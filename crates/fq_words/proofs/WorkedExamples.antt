@@ -59,6 +59,13 @@ late_parse : words_fault late_words ≡ []
 unfolding clap_on_literals program_app pairs_app interleaved_app words_fault
 late_parse = refl
 
+late_asked : pairs_asked late_words ≡ Some (record (asked 2 1024 true false None (two_files (codes "f") (codes "r"))) {
+  log = None;
+  steps = codes "LEADING:3" ∷ codes "MINLEN:2" ∷ [];
+})
+unfolding clap_on_literals program_app pairs_app interleaved_app asked pairs_asked asking_in
+late_asked = refl
+
 -- too few files
 few_words : words_fault (codes "fq" ∷ codes "PE" ∷ codes "f" ∷ []) ≡ MissingRequiredArgument ∷ []
 unfolding clap_on_literals program_app pairs_app interleaved_app words_fault

@@ -29,12 +29,12 @@ const MOST_ROOM: usize = 64;
 
 // The room of a return lane, where the others have room for `depth` items. Blocks or texts are made only where none has come back.
 // So with each worker go round at most those in a lane, one in the worker's hands, and one in those of the thread at the other
-// end. Whichever of them comes back, the lane has room for all others beside it, and none is let go to be made anew.
+// end. A lane has room for all of them, so none is let go to be made anew.
 fn room_back(depth: usize) -> usize
     requires depth { (1 ≤ depth) × (depth ≤ MOST_ROOM) }
     ensures { (1 ≤ result) × (result ≤ MOST_ROOM) }
 {
-    (depth + 1).min(MOST_ROOM)
+    (depth + 2).min(MOST_ROOM)
 }
 
 /// The lanes of so many workers. Those of blocks and of replies have room for `depth` items.
