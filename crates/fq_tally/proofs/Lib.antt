@@ -1,4 +1,5 @@
 pub mod RowLemmas
+pub mod VectorLemmas
 pub mod CourseLemmas
 pub mod PlusLaws
 pub mod WorkedExamples

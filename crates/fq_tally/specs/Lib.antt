@@ -1,4 +1,5 @@
 pub mod Rows
 pub mod Courses
+pub mod Vectors
 pub mod Tallies
 pub mod Laws

@@ -1,11 +1,13 @@
 //! Counts of bases and of their scores.
 
-ghost use Rattle.std.specs.Prelude.{◌≡◌, ◌≤◌, true, length, sum, count_by, nat_le};
+ghost use Rattle.std.specs.Prelude.{◌≡◌, ◌≤◌, ℕ, true, length, sum, count_by, nat_le};
 ghost use Rattle.std.specs.List.{list_all};
-ghost use Rattle.fq_text.specs.Scores.{is_scored};
+ghost use Rattle.fq_text.specs.Scores.{is_scored, value_of};
+ghost use Rattle.fq_text.specs.declared.encoding.Encoding.TheVariants.{Solexa};
 ghost use Rattle.fq_trim.specs.Keeping.{scores};
 ghost use Rattle.fq_tally.specs.Tallies.{is_gc, is_n};
 
+use crate::vectors::{WIDTH, at_least, gc_in, n_in, sum_of, vector_of};
 use fq_text::Encoding;
 
 /// Counts of bases and of their scores. A sum that is larger than `u64::MAX` is kept at that.
@@ -88,9 +90,6 @@ impl BaseTally {
     }
 }
 
-// So many bases are counted at a time, since a count of so many fits into a byte: counts of bytes are kept side by side.
-const CHUNK: usize = 255;
-
 // How many bases are G or C, and how many are N.
 #[derive(Drop)]
 struct Letters {
@@ -106,50 +105,13 @@ fn letters_of(seq: &[u8]) -> Letters
     let mut gc = 0;
     let mut n = 0;
     let mut rest = seq;
-    for _ in 0..seq.len() / CHUNK {
-        let (front, behind) = rest.split_at(CHUNK);
-        let some = few_letters(front);
-        gc += some.gc;
-        n += some.n;
-        rest = behind;
+    while !rest.is_empty() {
+        let vector = vector_of(rest);
+        gc += u64::from(gc_in(vector));
+        n += u64::from(n_in(vector));
+        rest = &rest[WIDTH.min(rest.len())..];
     }
-    let last = few_letters(rest);
-    Letters {
-        gc: gc + last.gc,
-        n: n + last.n,
-    }
-}
-
-// Those of at most so many bases as a byte counts.
-fn few_letters(seq: &[u8]) -> Letters
-    requires { length seq.now ≤ 255 }
-    ensures gc { result.gc ≡ count_by is_gc seq.now }
-    ensures n { result.n ≡ count_by is_n seq.now }
-{
-    let mut gc = 0u8;
-    let mut n = 0u8;
-    for base in seq {
-        gc += u8::from(is_gc(*base));
-        n += u8::from(is_n(*base));
-    }
-    Letters {
-        gc: u64::from(gc),
-        n: u64::from(n),
-    }
-}
-
-// Whether a base is G or C.
-fn is_gc(base: u8) -> bool
-    ensures { result ≡ is_gc base }
-{
-    (base == b'G' || base == b'C') || (base == b'g' || base == b'c')
-}
-
-// Whether a base is N.
-fn is_n(base: u8) -> bool
-    ensures { result ≡ is_n base }
-{
-    base == b'N' || base == b'n'
+    Letters { gc, n }
 }
 
 // How many scores are at least 20 and 30, and their sum.
@@ -168,46 +130,90 @@ fn scores_of(encoding: Encoding, qual: &[u8]) -> Scores
     ensures at_least_30 { result.at_least_30 ≡ count_by (nat_le 30) (scores encoding qual.now) }
     ensures sum { result.sum ≡ sum (scores encoding qual.now) }
 {
-    let mut at_least_20 = 0;
-    let mut at_least_30 = 0;
-    let mut sum = 0;
-    let mut rest = qual;
-    for _ in 0..qual.len() / CHUNK {
-        let (front, behind) = rest.split_at(CHUNK);
-        let some = few_scores(encoding, front);
-        at_least_20 += some.at_least_20;
-        at_least_30 += some.at_least_30;
-        sum += some.sum;
-        rest = behind;
-    }
-    let last = few_scores(encoding, rest);
+    let low = byte_of(encoding, 20);
+    let high = byte_of(encoding, 30);
+    let counted = bytes_of(qual, low, high);
     Scores {
-        at_least_20: at_least_20 + last.at_least_20,
-        at_least_30: at_least_30 + last.at_least_30,
-        sum: sum + last.sum,
+        at_least_20: counted.at_least_low,
+        at_least_30: counted.at_least_high,
+        sum: score_sum(encoding, qual, counted.sum),
     }
 }
 
-// Those of at most so many quality bytes as a byte counts.
-fn few_scores(encoding: Encoding, qual: &[u8]) -> Scores
-    requires few { length qual.now ≤ 255 }
+// The sum of the scores, by that of their bytes where a score is a distance between bytes.
+fn score_sum(encoding: Encoding, qual: &[u8], bytes: u64) -> u64
+    requires few { length qual.now ≤ 1048576 }
     requires scored { list_all (is_scored encoding) qual.now ≡ true }
-    ensures at_least_20 { result.at_least_20 ≡ count_by (nat_le 20) (scores encoding qual.now) }
-    ensures at_least_30 { result.at_least_30 ≡ count_by (nat_le 30) (scores encoding qual.now) }
-    ensures sum { result.sum ≡ sum (scores encoding qual.now) }
+    requires bytes { bytes ≡ sum qual.now }
+    ensures { result ≡ sum (scores encoding qual.now) }
 {
-    let mut at_least_20 = 0u8;
-    let mut at_least_30 = 0u8;
-    let mut sum = 0u16;
+    let len = qual.len() as u64;
+    match encoding {
+        Encoding::Sanger => bytes - 33 * len,
+        Encoding::Illumina13 => bytes - 64 * len,
+        Encoding::Solexa => solexa_sum(qual),
+    }
+}
+
+// The least byte with a score, where bytes with larger scores are larger.
+fn byte_of(encoding: Encoding, score: u8) -> u8
+    requires low { 11 ≤ score }
+    requires high { score ≤ 62 }
+    ensures least { (byte : ℕ) → nat_le score (value_of encoding byte) ≡ nat_le result byte }
+    ensures positive { 1 ≤ result }
+{
+    match encoding {
+        Encoding::Sanger => 33 + score,
+        Encoding::Illumina13 | Encoding::Solexa => 64 + score,
+    }
+}
+
+// How many bytes are at least so large as each of two, and the sum of all.
+#[derive(Drop)]
+struct Bytes {
+    at_least_low: u64,
+    at_least_high: u64,
+    sum: u64,
+}
+
+// Those of bytes.
+fn bytes_of(bytes: &[u8], low: u8, high: u8) -> Bytes
+    requires few { length bytes.now ≤ 1048576 }
+    requires low { 1 ≤ low }
+    requires high { 1 ≤ high }
+    ensures low { result.at_least_low ≡ count_by (nat_le low) bytes.now }
+    ensures high { result.at_least_high ≡ count_by (nat_le high) bytes.now }
+    ensures sum { result.sum ≡ sum bytes.now }
+{
+    let mut at_least_low = 0;
+    let mut at_least_high = 0;
+    let mut sum = 0;
+    let mut rest = bytes;
+    while !rest.is_empty() {
+        let vector = vector_of(rest);
+        let low_here = at_least(vector, low);
+        let high_here = at_least(vector, high);
+        at_least_low += u64::from(low_here);
+        at_least_high += u64::from(high_here);
+        sum += u64::from(sum_of(vector));
+        rest = &rest[WIDTH.min(rest.len())..];
+    }
+    Bytes {
+        at_least_low,
+        at_least_high,
+        sum,
+    }
+}
+
+// The sum of the Phred scores of Solexa's bytes, one by one.
+fn solexa_sum(qual: &[u8]) -> u64
+    requires few { length qual.now ≤ 1048576 }
+    requires scored { list_all (is_scored Solexa) qual.now ≡ true }
+    ensures { result ≡ sum (scores Solexa qual.now) }
+{
+    let mut sum = 0;
     for byte in qual {
-        let score = encoding.phred(*byte);
-        at_least_20 += u8::from(20 <= score);
-        at_least_30 += u8::from(30 <= score);
-        sum += u16::from(score);
+        sum += u64::from(Encoding::Solexa.phred(*byte));
     }
-    Scores {
-        at_least_20: u64::from(at_least_20),
-        at_least_30: u64::from(at_least_30),
-        sum: u64::from(sum),
-    }
+    sum
 }

@@ -15,6 +15,7 @@ mod side;
 mod steps;
 mod tally;
 mod trimmed;
+mod vectors;
 
 pub use bases::BaseTally;
 pub use reads::ReadsTally;
