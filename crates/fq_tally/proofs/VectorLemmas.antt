@@ -1,14 +1,18 @@
 -- Bytes in a vector. A comparison answers 255 for each byte for which it holds, and else 0.
-use Rattle.std.proofs.Common.{◌≡◌, ◌≤◌, Fits, w8, get_or, ◌+◌, ◌-◌, ◌*◌, ◌%◌, ◌^◌, sum, sym, min, ◌++◌, take, drop, replicate, ℕ, Bool, true, false, ◌||◌, cond, count_by, List, [], ◌∷◌, length, map, refl, ap, ap₂, ◌∙◌, arith}
+use Rattle.std.proofs.Common.{◌≡◌, ◌≤◌, ◌+◌, ◌-◌, ◌*◌, ◌%◌, ◌^◌, Fits, w8, ℕ, zero, suc, Bool, true, false, ◌||◌, cond, count_by, sum, List, [], ◌∷◌, ◌++◌, length, map, take, drop, replicate, refl, sym, ap, ap₂, ◌∙◌, arith}
 use Rattle.std.specs.List.{sum_by}
-use Rattle.std.proofs.lemmas.List.{length-map, take_min, take_all, length-drop, take-append-drop}
-use Rattle.std.proofs.lemmas.Simd.{mask_l-mod, ones-mask_l, bytes_below, sum_bound, Each1-from_get_or}
-use lib.Bits.{bit_or}
-use lib.Count.{ones}
-use lib.Lanes.{zip2, mask_l, top, sum_l}
+use Rattle.std.specs.Int.Bits.{and_zero_r}
+use Rattle.std.proofs.Math.Seq.{take-add}
+use Rattle.std.proofs.lemmas.List.{length-map, drop-drop}
 use Rattle.std.proofs.lemmas.List.Sums.{sum_by-cons, sum_by-append}
 use Rattle.std.proofs.lemmas.List.Folds.{sum_by-replicate}
-use Rattle.fq_tally.specs.Vectors.{in_vector}
+use Rattle.std.proofs.lemmas.Nat.{and_mask}
+use Rattle.std.proofs.lemmas.Simd.{mask_l-mod, ones-mask_l}
+use native.Mathlib.Nat.{mod-eq_of_lt}
+use lib.Bits.{bit_and, bit_or}
+use lib.Count.{ones}
+use lib.Lanes.{zip2, mask_l, top, sum_l, Each1}
+use Rattle.fq_tally.specs.Vectors.{Holds}
 
 abbrev pub flag : Bool → ℕ
 flag b = cond b 255 0
@@ -50,35 +54,91 @@ pub vector_summed : (v : List ℕ) → sum_l v ≡ sum v
 vector_summed [] = refl
 vector_summed (x ∷ xs) = ap (λ rest. x + rest) (vector_summed xs) ∙ sym (sum_by-cons (λ (y : ℕ). y) x xs)
 
--- a sum over a vector of the first bytes, in which zeros count nothing, and over the bytes behind them
-pub sum_in_vector : (f : ℕ → ℕ) → f 0 ≡ 0 → (bytes : List ℕ) (k : ℕ) → k ≡ min 32 (length bytes) →
-    sum_by f (in_vector bytes) + sum_by f (drop k bytes) ≡ sum_by f bytes
-sum_in_vector f nothing bytes k behind =
-    let front : List ℕ = take 32 bytes in
-    let filler : List ℕ = replicate (32 - length bytes) 0 in
-    let joined : sum_by f (front ++ filler) ≡ sum_by f front + sum_by f filler = sum_by-append f front filler in
-    let none : sum_by f filler ≡ (32 - length bytes) * f 0 = sum_by-replicate f (32 - length bytes) 0 in
-    let no : (32 - length bytes) * f 0 ≡ (32 - length bytes) * 0 = ap (λ n. (32 - length bytes) * n) nothing in
-    let first : sum_by f front ≡ sum_by f (take k bytes) = ap (sum_by f) (sym (take_min 32 bytes) ∙ ap (λ n. take n bytes) (sym behind)) in
-    let all : sum_by f (take k bytes ++ drop k bytes) ≡ sum_by f bytes = ap (sum_by f) (take-append-drop k bytes) in
-    let parts : sum_by f (take k bytes ++ drop k bytes) ≡ sum_by f (take k bytes) + sum_by f (drop k bytes) = sum_by-append f (take k bytes) (drop k bytes) in
+-- What masks keep. Where zeros stand behind other bytes, a vector that begins among these has the last of them and the first zeros.
+
+dropped : (a b m n k t : ℕ) → t ≡ k + m → drop k (replicate t a ++ replicate n b) ≡ replicate m a ++ replicate n b
+dropped a b m n zero t all = ap (λ i. replicate i a ++ replicate n b) (omega arith)
+dropped a b m n (suc k) zero all = absurd (omega arith)
+dropped a b m n (suc k) (suc t) all = dropped a b m n k t (omega arith)
+
+taken_same : (b r t n : ℕ) → n ≡ r → r ≤ t → take n (replicate t b) ≡ replicate r b
+taken_same b zero t zero all few = refl
+taken_same b zero t (suc n) all few = absurd (omega arith)
+taken_same b (suc r) t zero all few = absurd (omega arith)
+taken_same b (suc r) zero (suc n) all few = absurd (omega arith)
+taken_same b (suc r) (suc t) (suc n) all few = ap (λ xs. b ∷ xs) (taken_same b r t n (omega arith) (omega arith))
+
+taken : (a b m r t n : ℕ) → n ≡ m + r → r ≤ t → take n (replicate m a ++ replicate t b) ≡ replicate m a ++ replicate r b
+taken a b zero r t n all few = taken_same b r t n (omega arith) few
+taken a b (suc m) r t zero all few = absurd (omega arith)
+taken a b (suc m) r t (suc n) all few = ap (λ xs. a ∷ xs) (taken a b m r t n (omega arith) few)
+
+-- of 64 bytes, 32 of each
+pub edge : (a b k m : ℕ) → k + m ≡ 32 → take 32 (drop k (replicate 32 a ++ replicate 32 b)) ≡ replicate m a ++ replicate k b
+edge a b k m whole = ap (take 32) (dropped a b m 32 k 32 (omega arith)) ∙ taken a b m k 32 32 (omega arith) (omega arith)
+
+all_bits : (x : ℕ) → Fits w8 x → bit_and x 255 ≡ x
+all_bits x small = and_mask x 8 ∙ mod-eq_of_lt small.fits
+
+nothing_kept : (f : ℕ → ℕ) → f 0 ≡ 0 → (v : List ℕ) (k : ℕ) → length v ≡ k → sum_by f (zip2 bit_and v (replicate k 0)) ≡ 0
+nothing_kept f nothing [] k long = refl
+nothing_kept f nothing (x ∷ xs) zero long = absurd (omega arith)
+nothing_kept f nothing (x ∷ xs) (suc k) long =
+    let rest = nothing_kept f nothing xs k (omega arith) in
+    let first : f (bit_and x 0) ≡ 0 = ap f (and_zero_r x) ∙ nothing in
+    let both = sum_by-cons f (bit_and x 0) (zip2 bit_and xs (replicate k 0)) in
     omega arith
 
--- A loop over what is left of some bytes, whose first ones are looked at in a vector, counts on.
-pub summed_on : (f : ℕ → ℕ) → f 0 ≡ 0 → (rest vector : List ℕ) (n m k total : ℕ) → vector ≡ in_vector rest → m ≡ sum_by f vector → k ≡ min 32 (length rest) →
-    n + sum_by f rest ≡ total → n + m + sum_by f (take (length rest - k) (drop k rest)) ≡ total
-summed_on f nothing rest vector n m k total loaded here behind so_far =
-    let left : sum_by f (take (length rest - k) (drop k rest)) ≡ sum_by f (drop k rest) =
-    ap (sum_by f) (take_all (length rest - k) (drop k rest) (omega (arith, length-drop k rest))) in
-    let first : m ≡ sum_by f (in_vector rest) = here ∙ ap (sum_by f) loaded in
-    omega (arith, sum_in_vector f nothing rest k behind)
+all_kept : (v : List ℕ) (c : ℕ) → Each1 (Fits w8) v → length v ≡ c → zip2 bit_and v (replicate c 255) ≡ v
+all_kept [] c fits long = refl
+all_kept (x ∷ xs) zero fits long = absurd (omega arith)
+all_kept (x ∷ xs) (suc c) fits long = ap₂ (λ y ys. y ∷ ys) (all_bits x fits.0) (all_kept xs c fits.1 (omega arith))
 
-pub counted_on : (p : ℕ → Bool) → p 0 ≡ false → (rest vector : List ℕ) (n m k total : ℕ) → vector ≡ in_vector rest → m ≡ count_by p vector → k ≡ min 32 (length rest) →
-    n + count_by p rest ≡ total → n + m + count_by p (take (length rest - k) (drop k rest)) ≡ total
+-- the first bytes are kept
+pub first_kept : (f : ℕ → ℕ) → f 0 ≡ 0 → (v : List ℕ) (c k : ℕ) → Each1 (Fits w8) v → length v ≡ c + k →
+    sum_by f (zip2 bit_and v (replicate c 255 ++ replicate k 0)) ≡ sum_by f (take c v)
+first_kept f nothing v zero k fits long = nothing_kept f nothing v k (omega arith)
+first_kept f nothing [] (suc c) k fits long = absurd (omega arith)
+first_kept f nothing (x ∷ xs) (suc c) k fits long =
+    sum_by-cons f (bit_and x 255) (zip2 bit_and xs (replicate c 255 ++ replicate k 0))
+    ∙ ap₂ (λ y rest. f y + rest) (all_bits x fits.0) (first_kept f nothing xs c k fits.1 (omega arith))
+    ∙ sym (sum_by-cons f x (take c xs))
+
+-- the last bytes are kept
+pub last_kept : (f : ℕ → ℕ) → f 0 ≡ 0 → (v : List ℕ) (c k : ℕ) → Each1 (Fits w8) v → length v ≡ k + c →
+    sum_by f (zip2 bit_and v (replicate k 0 ++ replicate c 255)) ≡ sum_by f (drop k v)
+last_kept f nothing v c zero fits long = ap (sum_by f) (all_kept v c fits (omega arith))
+last_kept f nothing [] c (suc k) fits long = absurd (omega arith)
+last_kept f nothing (x ∷ xs) c (suc k) fits long =
+    let rest = last_kept f nothing xs c k fits.1 (omega arith) in
+    let first : f (bit_and x 0) ≡ 0 = ap f (and_zero_r x) ∙ nothing in
+    let both = sum_by-cons f (bit_and x 0) (zip2 bit_and xs (replicate k 0 ++ replicate c 255)) in
+    omega arith
+
+-- fewer bytes, with zeros behind them
+pub filled_up : (bytes filled : List ℕ) → filled ≡ bytes ++ replicate (32 - length bytes) 0 → Holds bytes filled
+filled_up bytes filled is f nothing =
+    let filler : List ℕ = replicate (32 - length bytes) 0 in
+    let joined : sum_by f (bytes ++ filler) ≡ sum_by f bytes + sum_by f filler = sum_by-append f bytes filler in
+    let none : sum_by f filler ≡ (32 - length bytes) * f 0 = sum_by-replicate f (32 - length bytes) 0 in
+    let no : (32 - length bytes) * f 0 ≡ (32 - length bytes) * 0 = ap (λ n. (32 - length bytes) * n) nothing in
+    let same : sum_by f filled ≡ sum_by f (bytes ++ filler) = ap (sum_by f) is in
+    omega arith
+
+-- A loop over the places from one to another, of which a vector holds some at a time, counts on.
+pub summed_on : (f : ℕ → ℕ) → f 0 ≡ 0 → (bytes vector : List ℕ) (from at stop n m : ℕ) → from ≤ at → at ≤ stop → Holds (take (stop - at) (drop at bytes)) vector →
+    m ≡ sum_by f vector → n ≡ sum_by f (take (at - from) (drop from bytes)) → n + m ≡ sum_by f (take (stop - from) (drop from bytes))
+summed_on f nothing bytes vector from at stop n m begun order holds here so_far =
+    let more : m ≡ sum_by f (take (stop - at) (drop at bytes)) = here ∙ holds f nothing in
+    let behind : drop (at - from) (drop from bytes) ≡ drop at bytes = drop-drop (at - from) from bytes ∙ ap (λ k. drop k bytes) (omega arith) in
+    let parts : take (stop - from) (drop from bytes) ≡ take (at - from) (drop from bytes) ++ take (stop - at) (drop at bytes) =
+    ap (λ k. take k (drop from bytes)) (omega arith)
+    ∙ take-add (at - from) (stop - at) (drop from bytes)
+    ∙ ap (λ xs. take (at - from) (drop from bytes) ++ take (stop - at) xs) behind in
+    let both : sum_by f (take (stop - from) (drop from bytes)) ≡ sum_by f (take (at - from) (drop from bytes)) + sum_by f (take (stop - at) (drop at bytes)) =
+    ap (sum_by f) parts ∙ sum_by-append f (take (at - from) (drop from bytes)) (take (stop - at) (drop at bytes)) in
+    omega arith
+
+pub counted_on : (p : ℕ → Bool) → p 0 ≡ false → (bytes vector : List ℕ) (from at stop n m : ℕ) → from ≤ at → at ≤ stop → Holds (take (stop - at) (drop at bytes)) vector →
+    m ≡ count_by p vector → n ≡ count_by p (take (at - from) (drop from bytes)) → n + m ≡ count_by p (take (stop - from) (drop from bytes))
 counted_on p never = summed_on (λ x. cond (p x) 1 0) (ap (λ b. cond b 1 0) never)
-
--- bytes are at most 255
-pub bytes_summed : (bytes : List ℕ) → ((i : ℕ) → Fits w8 (get_or bytes i 0)) → sum bytes ≤ 255 * length bytes
-bytes_summed bytes small =
-    let all = bytes_below bytes (Each1-from_get_or (Fits w8) bytes 0 (λ i _. small i)) in
-    omega (arith, sum_bound 255 bytes all, vector_summed bytes)

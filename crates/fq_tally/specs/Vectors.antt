@@ -1,6 +1,7 @@
--- Bytes in a vector of 32.
-use Rattle.std.specs.Prelude.{ℕ, ◌-◌, List, ◌++◌, length, take, replicate}
+-- Bytes in a vector.
+use Rattle.std.specs.Prelude.{◌≡◌, ℕ, List}
+use Rattle.std.specs.List.{sum_by}
 
--- the first 32 bytes; zeros stand behind fewer
-abbrev pub in_vector : List ℕ → List ℕ
-in_vector bytes = take 32 bytes ++ replicate (32 - length bytes) 0
+-- The vector holds these bytes, and zeros beside them: whatever is summed up, it sums up to the same where zero counts nothing.
+abbrev pub Holds : List ℕ → List ℕ → Type 0
+Holds bytes vector = (f : ℕ → ℕ) → f 0 ≡ 0 → sum_by f vector ≡ sum_by f bytes

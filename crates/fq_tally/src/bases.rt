@@ -1,6 +1,6 @@
 //! Counts of bases and of their scores.
 
-ghost use Rattle.std.specs.Prelude.{◌≡◌, ◌≤◌, ℕ, true, length, sum, count_by, nat_le};
+ghost use Rattle.std.specs.Prelude.{◌≡◌, ◌≤◌, ℕ, true, ◌-◌, length, take, drop, sum, count_by, nat_le};
 ghost use Rattle.std.specs.List.{list_all};
 ghost use Rattle.fq_text.specs.Scores.{is_scored, value_of};
 ghost use Rattle.fq_text.specs.declared.encoding.Encoding.TheVariants.{Solexa};
@@ -44,16 +44,25 @@ impl BaseTally {
         }
     }
 
-    // The counts of bases and their quality bytes.
-    pub(crate) fn of(encoding: Encoding, seq: &[u8], qual: &[u8]) -> BaseTally
+    // The counts of the bases from `from` up to `to`, and of their quality bytes.
+    pub(crate) fn of(
+        encoding: Encoding,
+        seq: &[u8],
+        qual: &[u8],
+        from: usize,
+        to: usize,
+    ) -> BaseTally
         requires few { length qual.now ≤ 1048576 }
         requires scored { list_all (is_scored encoding) qual.now ≡ true }
-        ensures { result ≡ bases_of (record { encoding = encoding; seq = seq.now; qual = qual.now }) }
+        requires same { length qual.now ≡ length seq.now }
+        requires order { from ≤ to }
+        requires within { to ≤ length seq.now }
+        ensures { result ≡ bases_of (record { encoding = encoding; seq = take (to - from) (drop from seq.now); qual = take (to - from) (drop from qual.now) }) }
     {
-        let letters = letters_of(seq);
-        let scores = scores_of(encoding, qual);
+        let letters = letters_of(seq, from, to);
+        let scores = scores_of(encoding, qual, from, to);
         BaseTally {
-            bases: seq.len() as u64,
+            bases: (to - from) as u64,
             at_least_20: scores.at_least_20,
             at_least_30: scores.at_least_30,
             score_sum: scores.sum,
@@ -63,16 +72,25 @@ impl BaseTally {
     }
 
     // These counts and those of more bases.
-    pub(crate) fn with(self, encoding: Encoding, seq: &[u8], qual: &[u8]) -> BaseTally
+    pub(crate) fn with(
+        self,
+        encoding: Encoding,
+        seq: &[u8],
+        qual: &[u8],
+        from: usize,
+        to: usize,
+    ) -> BaseTally
         requires few { length qual.now ≤ 1048576 }
-        requires same { length qual.now ≡ length seq.now }
         requires scored { list_all (is_scored encoding) qual.now ≡ true }
-        ensures { result ≡ bases_plus self (bases_of (record { encoding = encoding; seq = seq.now; qual = qual.now })) }
+        requires same { length qual.now ≡ length seq.now }
+        requires order { from ≤ to }
+        requires within { to ≤ length seq.now }
+        ensures { result ≡ bases_plus self (bases_of (record { encoding = encoding; seq = take (to - from) (drop from seq.now); qual = take (to - from) (drop from qual.now) })) }
     {
-        if seq.is_empty() {
+        if from == to {
             return self;
         }
-        self.plus(BaseTally::of(encoding, seq, qual))
+        self.plus(BaseTally::of(encoding, seq, qual, from, to))
     }
 
     // The counts of both together.
@@ -97,19 +115,22 @@ struct Letters {
     n: u64,
 }
 
-// Those of a sequence.
-fn letters_of(seq: &[u8]) -> Letters
-    ensures gc { result.gc ≡ count_by is_gc seq.now }
-    ensures n { result.n ≡ count_by is_n seq.now }
+// Those of a sequence from `from` up to `to`.
+fn letters_of(seq: &[u8], from: usize, to: usize) -> Letters
+    requires order { from ≤ to }
+    requires within { to ≤ length seq.now }
+    ensures gc { result.gc ≡ count_by is_gc (take (to - from) (drop from seq.now)) }
+    ensures n { result.n ≡ count_by is_n (take (to - from) (drop from seq.now)) }
 {
     let mut gc = 0;
     let mut n = 0;
-    let mut rest = seq;
-    while !rest.is_empty() {
-        let vector = vector_of(rest);
+    let mut at = from;
+    while at < to {
+        let stop = at + WIDTH.min(to - at);
+        let vector = vector_of(seq, at, stop);
         gc += u64::from(gc_in(vector));
         n += u64::from(n_in(vector));
-        rest = &rest[WIDTH.min(rest.len())..];
+        at = stop;
     }
     Letters { gc, n }
 }
@@ -122,21 +143,23 @@ struct Scores {
     sum: u64,
 }
 
-// Those of quality bytes.
-fn scores_of(encoding: Encoding, qual: &[u8]) -> Scores
+// Those of quality bytes from `from` up to `to`.
+fn scores_of(encoding: Encoding, qual: &[u8], from: usize, to: usize) -> Scores
     requires few { length qual.now ≤ 1048576 }
     requires scored { list_all (is_scored encoding) qual.now ≡ true }
-    ensures at_least_20 { result.at_least_20 ≡ count_by (nat_le 20) (scores encoding qual.now) }
-    ensures at_least_30 { result.at_least_30 ≡ count_by (nat_le 30) (scores encoding qual.now) }
-    ensures sum { result.sum ≡ sum (scores encoding qual.now) }
+    requires order { from ≤ to }
+    requires within { to ≤ length qual.now }
+    ensures at_least_20 { result.at_least_20 ≡ count_by (nat_le 20) (scores encoding (take (to - from) (drop from qual.now))) }
+    ensures at_least_30 { result.at_least_30 ≡ count_by (nat_le 30) (scores encoding (take (to - from) (drop from qual.now))) }
+    ensures sum { result.sum ≡ sum (scores encoding (take (to - from) (drop from qual.now))) }
 {
     let low = byte_of(encoding, 20);
     let high = byte_of(encoding, 30);
-    let counted = bytes_of(qual, low, high);
+    let counted = bytes_of(qual, from, to, low, high);
     Scores {
         at_least_20: counted.at_least_low,
         at_least_30: counted.at_least_high,
-        sum: score_sum(encoding, qual, counted.sum),
+        sum: score_sum(encoding, &qual[from..to], counted.sum),
     }
 }
 
@@ -176,27 +199,30 @@ struct Bytes {
     sum: u64,
 }
 
-// Those of bytes.
-fn bytes_of(bytes: &[u8], low: u8, high: u8) -> Bytes
+// Those of bytes from `from` up to `to`.
+fn bytes_of(bytes: &[u8], from: usize, to: usize, low: u8, high: u8) -> Bytes
     requires few { length bytes.now ≤ 1048576 }
+    requires order { from ≤ to }
+    requires within { to ≤ length bytes.now }
     requires low { 1 ≤ low }
     requires high { 1 ≤ high }
-    ensures low { result.at_least_low ≡ count_by (nat_le low) bytes.now }
-    ensures high { result.at_least_high ≡ count_by (nat_le high) bytes.now }
-    ensures sum { result.sum ≡ sum bytes.now }
+    ensures low { result.at_least_low ≡ count_by (nat_le low) (take (to - from) (drop from bytes.now)) }
+    ensures high { result.at_least_high ≡ count_by (nat_le high) (take (to - from) (drop from bytes.now)) }
+    ensures sum { result.sum ≡ sum (take (to - from) (drop from bytes.now)) }
 {
     let mut at_least_low = 0;
     let mut at_least_high = 0;
     let mut sum = 0;
-    let mut rest = bytes;
-    while !rest.is_empty() {
-        let vector = vector_of(rest);
+    let mut at = from;
+    while at < to {
+        let stop = at + WIDTH.min(to - at);
+        let vector = vector_of(bytes, at, stop);
         let low_here = at_least(vector, low);
         let high_here = at_least(vector, high);
         at_least_low += u64::from(low_here);
         at_least_high += u64::from(high_here);
         sum += u64::from(sum_of(vector));
-        rest = &rest[WIDTH.min(rest.len())..];
+        at = stop;
     }
     Bytes {
         at_least_low,

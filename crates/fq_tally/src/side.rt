@@ -71,8 +71,9 @@ impl SideTally {
         ensures { self.new ≡ with_left read.now (part_at [] (whole read.now)) 0 false self.old }
     {
         let _ = read.title();
-        let bases = BaseTally::of(read.encoding(), read.seq(), read.qual());
-        self.before.add(bases, read.seq().len());
+        let len = read.seq().len();
+        let bases = BaseTally::of(read.encoding(), read.seq(), read.qual(), 0, len);
+        self.before.add(bases, len);
     }
 
     // One read more of which bases are kept, and whether its mate survives.
@@ -125,9 +126,13 @@ fn kept_bases(read: &ReadView<'_>, kept: Kept) -> BaseTally
     ensures { result ≡ bases_of (part_at (places_of (Some kept)) (whole read.now)) }
 {
     let _ = read.title();
-    let seq = &read.seq()[kept.start..kept.stop];
-    let qual = &read.qual()[kept.start..kept.stop];
-    BaseTally::of(read.encoding(), seq, qual)
+    BaseTally::of(
+        read.encoding(),
+        read.seq(),
+        read.qual(),
+        kept.start,
+        kept.stop,
+    )
 }
 
 // The counts of all bases of a read, by those of the kept ones: so each base is counted once.
@@ -139,6 +144,6 @@ fn whole_bases(read: &ReadView<'_>, kept: Kept, left: BaseTally) -> BaseTally
     let _ = read.title();
     let encoding = read.encoding();
     let (seq, qual) = (read.seq(), read.qual());
-    left.with(encoding, &seq[..kept.start], &qual[..kept.start])
-        .with(encoding, &seq[kept.stop..], &qual[kept.stop..])
+    left.with(encoding, seq, qual, 0, kept.start)
+        .with(encoding, seq, qual, kept.stop, seq.len())
 }

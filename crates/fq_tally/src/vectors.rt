@@ -1,7 +1,7 @@
 //! Bytes that are counted side by side, in a vector (SIMD).
 
-ghost use Rattle.std.specs.Prelude.{◌≡◌, count_by, nat_le, sum};
-ghost use Rattle.fq_tally.specs.Vectors.{in_vector};
+ghost use Rattle.std.specs.Prelude.{◌≡◌, ◌+◌, ◌-◌, ◌≤◌, ◌++◌, length, take, drop, replicate, count_by, nat_le, sum};
+ghost use Rattle.fq_tally.specs.Vectors.{Holds};
 ghost use Rattle.fq_tally.specs.Tallies.{is_gc, is_n};
 
 use std::simd::prelude::*;
@@ -9,14 +9,82 @@ use std::simd::prelude::*;
 // How many bytes a vector has.
 pub(crate) const WIDTH: usize = 32;
 
-// The first bytes. Zeros stand behind fewer than fill the vector.
+// A vector of 255, in which each byte keeps all bits, and one of zeros. A vector that begins within the first keeps its first bytes.
+const KEEPS_FIRST: [u8; 2 * WIDTH] = [
+    255, 255, 255, 255, 255, 255, 255, 255, 255, 255, 255, 255, 255, 255, 255, 255, 255, 255, 255,
+    255, 255, 255, 255, 255, 255, 255, 255, 255, 255, 255, 255, 255, 0, 0, 0, 0, 0, 0, 0, 0, 0, 0,
+    0, 0, 0, 0, 0, 0, 0, 0, 0, 0, 0, 0, 0, 0, 0, 0, 0, 0, 0, 0, 0, 0,
+];
+
+// The same, the other way round: it keeps the last bytes.
+const KEEPS_LAST: [u8; 2 * WIDTH] = [
+    0, 0, 0, 0, 0, 0, 0, 0, 0, 0, 0, 0, 0, 0, 0, 0, 0, 0, 0, 0, 0, 0, 0, 0, 0, 0, 0, 0, 0, 0, 0, 0,
+    255, 255, 255, 255, 255, 255, 255, 255, 255, 255, 255, 255, 255, 255, 255, 255, 255, 255, 255,
+    255, 255, 255, 255, 255, 255, 255, 255, 255, 255, 255, 255, 255,
+];
+
+// The bytes from `at` up to `stop`, and zeros in the place of others.
 #[inline(always)]
-pub(crate) fn vector_of(bytes: &[u8]) -> u8x32
-    ensures { result ≡ in_vector bytes.now }
+pub(crate) fn vector_of(bytes: &[u8], at: usize, stop: usize) -> u8x32
+    requires order { at ≤ stop }
+    requires within { stop ≤ length bytes.now }
+    requires few { stop ≤ at + 32 }
+    ensures { Holds (take (stop - at) (drop at bytes.now)) result }
 {
-    if WIDTH <= bytes.len() {
-        return u8x32::from_slice(bytes);
+    if WIDTH <= stop - at {
+        u8x32::from_slice(&bytes[at..])
+    } else if WIDTH <= bytes.len() - at {
+        first_of(&bytes[at..], stop - at)
+    } else if stop == bytes.len() && WIDTH <= stop {
+        last_of(&bytes[stop - WIDTH..], stop - at)
+    } else {
+        all_of(&bytes[at..stop])
     }
+}
+
+// The first bytes, so many of them.
+#[inline(always)]
+fn first_of(bytes: &[u8], count: usize) -> u8x32
+    requires few { count ≤ 32 }
+    requires enough { 32 ≤ length bytes.now }
+    ensures { Holds (take count bytes.now) result }
+{
+    u8x32::from_slice(bytes) & keeps_first(count)
+}
+
+// The last of 32 bytes, so many of them.
+#[inline(always)]
+fn last_of(bytes: &[u8], count: usize) -> u8x32
+    requires few { count ≤ 32 }
+    requires all { length bytes.now ≡ 32 }
+    ensures { Holds (drop (32 - count) bytes.now) result }
+{
+    u8x32::from_slice(bytes) & keeps_last(count)
+}
+
+// A vector that keeps the first bytes of another.
+#[inline(always)]
+fn keeps_first(count: usize) -> u8x32
+    requires { count ≤ 32 }
+    ensures { result ≡ replicate count 255 ++ replicate (32 - count) 0 }
+{
+    u8x32::from_slice(&KEEPS_FIRST[WIDTH - count..])
+}
+
+// One that keeps the last.
+#[inline(always)]
+fn keeps_last(count: usize) -> u8x32
+    requires { count ≤ 32 }
+    ensures { result ≡ replicate (32 - count) 0 ++ replicate count 255 }
+{
+    u8x32::from_slice(&KEEPS_LAST[count..])
+}
+
+// Fewer bytes than fill a vector.
+fn all_of(bytes: &[u8]) -> u8x32
+    requires { length bytes.now ≤ 32 }
+    ensures { Holds bytes.now result }
+{
     let mut filled = [0; WIDTH];
     filled[..bytes.len()].copy_from_slice(bytes);
     u8x32::from_array(filled)

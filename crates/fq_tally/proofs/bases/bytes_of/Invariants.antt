@@ -1,12 +1,15 @@
-use Rattle.std.proofs.Common.{◌≡◌, ◌+◌, count_by, length, nat_le, sum}
+use Rattle.std.proofs.Common.{◌≡◌, ◌≤◌, ◌-◌, ◌*◌, count_by, nat_le, sum, take, drop}
 use Rattle.fq_tally.proofs.bases.bytes_of.Given as goal
 
-abbrev pub invariant-loop-rest : goal.invariant-loop-rest
-invariant-loop-rest l = record {
-  low : l.at_least_low + count_by (nat_le l.low) l.rest ≡ count_by (nat_le l.low) l.bytes;
-  high : l.at_least_high + count_by (nat_le l.high) l.rest ≡ count_by (nat_le l.high) l.bytes;
-  total : l.sum + sum l.rest ≡ sum l.bytes;
+abbrev pub invariant-loop-at : goal.invariant-loop-at
+invariant-loop-at l = record {
+  begun : l.fn.from ≤ l.at;
+  within : l.at ≤ l.fn.to;
+  low : l.at_least_low ≡ count_by (nat_le l.fn.low) (take (l.at - l.fn.from) (drop l.fn.from l.bytes));
+  high : l.at_least_high ≡ count_by (nat_le l.fn.high) (take (l.at - l.fn.from) (drop l.fn.from l.bytes));
+  most : l.sum ≤ 65536 * (l.at - l.fn.from);
+  total : l.sum ≡ sum (take (l.at - l.fn.from) (drop l.fn.from l.bytes));
 }
 
-abbrev pub decreases-loop-rest : goal.decreases-loop-rest
-decreases-loop-rest l = length l.rest
+abbrev pub decreases-loop-at : goal.decreases-loop-at
+decreases-loop-at l = l.fn.to - l.at

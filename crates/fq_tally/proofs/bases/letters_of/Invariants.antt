@@ -1,12 +1,14 @@
-use Rattle.std.proofs.Common.{◌≡◌, ◌+◌, count_by, length}
+use Rattle.std.proofs.Common.{◌≡◌, ◌≤◌, ◌-◌, count_by, take, drop}
 use Rattle.fq_tally.specs.Tallies.{is_gc, is_n}
 use Rattle.fq_tally.proofs.bases.letters_of.Given as goal
 
-abbrev pub invariant-loop-rest : goal.invariant-loop-rest
-invariant-loop-rest l = record {
-  gc : l.gc + count_by is_gc l.rest ≡ count_by is_gc l.seq;
-  n : l.n + count_by is_n l.rest ≡ count_by is_n l.seq;
+abbrev pub invariant-loop-at : goal.invariant-loop-at
+invariant-loop-at l = record {
+  begun : l.fn.from ≤ l.at;
+  within : l.at ≤ l.fn.to;
+  gc : l.gc ≡ count_by is_gc (take (l.at - l.fn.from) (drop l.fn.from l.seq));
+  n : l.n ≡ count_by is_n (take (l.at - l.fn.from) (drop l.fn.from l.seq));
 }
 
-abbrev pub decreases-loop-rest : goal.decreases-loop-rest
-decreases-loop-rest l = length l.rest
+abbrev pub decreases-loop-at : goal.decreases-loop-at
+decreases-loop-at l = l.fn.to - l.at

@@ -1,25 +1,10 @@
-use Rattle.std.proofs.Common.{◌≡◌, ◌-◌, drop, length, ap, sym, ◌∙◌, arith}
-use Rattle.fq_text.specs.Scores.{is_scored}
-use Rattle.fq_trim.proofs.PlaceLemmas.{all_taken, all_dropped}
+use Rattle.std.proofs.Common.{◌≡◌, ◌-◌, ℕ, take, drop, length, ap, sym, ◌∙◌, arith}
 use Rattle.fq_tally.specs.declared.bases.BaseTally.{BaseTally}
 use Rattle.fq_tally.specs.Courses.{whole}
 use Rattle.fq_tally.specs.Tallies.{bases_of, bases_plus}
 use Rattle.fq_tally.proofs.CourseLemmas.{part}
 use Rattle.fq_tally.proofs.SideLemmas.{kept_part, counted_in_parts, part_before, part_from}
 use Rattle.fq_tally.proofs.side.whole_bases.Goals as goal
-
-pub with-requires-clause-scored : goal.with-requires-clause-scored
-with-requires-clause-scored c =
-    let read = c.args.read.now in
-    let all = all_taken (is_scored read.encoding) read.qual c.args.kept.start c.title.ensures.lawful.scores in
-    rw (c.encoding-encoding.ensures, c.qual-qual.ensures) all
-
-pub with-requires-2-clause-scored : goal.with-requires-2-clause-scored
-with-requires-2-clause-scored c =
-    let read = c.args.read.now in
-    let stop = c.args.kept.stop in
-    let all = all_taken (is_scored read.encoding) (drop stop read.qual) (length read.qual - stop) (all_dropped (is_scored read.encoding) read.qual stop c.title.ensures.lawful.scores) in
-    rw (c.encoding-encoding.ensures, c.qual-qual.ensures) all
 
 pub returns : goal.returns
 returns c =
@@ -39,9 +24,13 @@ returns c =
     let seq_len = ap length seq_is in
     let qual_len = ap length qual_is in
     let left = c.requires.left ∙ ap bases_of (sym (kept_part read k e seq qual e_is seq_is qual_is within same_len)) in
+    let none_before : k.start - 0 ≡ k.start = omega arith in
+    let as_long : length seq - k.stop ≡ length qual - k.stop = omega arith in
     let read_is : part e seq qual ≡ whole read = cc in
     c.with-2.ensures
+    ∙ ap (λ (n : ℕ). bases_plus c.with.result (bases_of (part e (take (length seq - k.stop) (drop k.stop seq)) (take n (drop k.stop qual))))) as_long
     ∙ ap (λ (t : BaseTally). bases_plus t (bases_of (part_from e seq qual k.stop))) c.with.ensures
+    ∙ ap (λ (n : ℕ). bases_plus (bases_plus c.args.left (bases_of (part e (take n seq) (take n qual)))) (bases_of (part_from e seq qual k.stop))) none_before
     ∙ ap (λ (t : BaseTally). bases_plus (bases_plus t (bases_of (part_before e seq qual k.start))) (bases_of (part_from e seq qual k.stop))) left
     ∙ counted_in_parts e seq qual k.start k.stop (omega arith) (omega arith) (omega arith) (omega arith) (rw (e_is, qual_is) lawful.scores)
     ∙ ap bases_of read_is

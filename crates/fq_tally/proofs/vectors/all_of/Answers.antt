@@ -1,0 +1,9 @@
+use Rattle.std.proofs.Common.{ap₂, ◌++◌, length}
+use Rattle.std.proofs.lemmas.List.{drop-replicate}
+use Rattle.fq_tally.proofs.VectorLemmas.{filled_up}
+use Rattle.fq_tally.proofs.vectors.all_of.Goals as goal
+
+pub returns : goal.returns
+returns c =
+    let bytes = c.args.bytes.now in
+    filled_up bytes _ (ap₂ (λ front behind. front ++ behind) c.copy_from_slice.ensures.after (drop-replicate (length bytes) 32 0))
