@@ -1,7 +1,7 @@
 #!/usr/bin/env bash
 # The documents say what the program says. Help, README.md, docs/FORMAT.md and the manual page name the same steps, options
-# and statuses; the first run of README.md prints and writes what stands there; its lines that call the library run; each file
-# that a document leads to is there.
+# and statuses; the first run of README.md prints and writes what stands there; the lines of docs/LIBRARY.md that call the library
+# run; each file that a document leads to is there.
 # Every line of a document, outside tables and code, is at most 100 columns wide (DOCUMENTS_WIDTH sets another width, 0 none).
 set -uo pipefail
 cd "$(dirname "$0")/.." || exit 1
@@ -96,11 +96,11 @@ first_run() {
   [ -s "$work/run/trim.log" ] && shown "$work/run/trim.log" 'the log of its first run'
 }
 
-# Runs the lines of README.md that call the library, in a program of their own over the crates as they are built.
+# Runs the lines of docs/LIBRARY.md that call the library, in a program of their own over the crates as they are built.
 call_library() {
   local room=$work/library crate
-  awk -v RS='\f\n' '/run_threads\(/ && !found { found = 1; print }' "$work/code" > "$work/lines"
-  [ -s "$work/lines" ] || { fail 'README.md has no lines that call the library'; return; }
+  parts code docs/LIBRARY.md | awk -v RS='\f\n' '/run_threads\(/ && !found { found = 1; print }' > "$work/lines"
+  [ -s "$work/lines" ] || { fail 'docs/LIBRARY.md has no lines that call the library'; return; }
   mkdir -p "$room/crates/shown/src"
   # The libraries below the program, which its build has made.
   while IFS= read -r crate; do
@@ -115,7 +115,7 @@ call_library() {
   sed -e "/@LINES@/{r $work/lines" -e 'd}' tests/documents/main.rt.in > "$room/crates/shown/src/main.rt"
   if ! (cd "$room/crates/shown" && rt try) > "$work/log" 2>&1 || ! grep -qx 'Finished, 1 pair' "$work/log"; then
     tail -n 20 "$work/log"
-    fail 'the lines of README.md that call the library do not run'
+    fail 'the lines of docs/LIBRARY.md that call the library do not run'
   fi
 }
 
