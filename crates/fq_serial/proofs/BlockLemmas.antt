@@ -43,8 +43,8 @@ module _ (c : Choices) (old : SourceState) (before : OutletStates) where
   module _ (now next : SourceState) (after then : OutletStates) (counted : Total) (done : Done) (why : Option ReadingEnd) where
     -- a write failed in a block
     pub passes_broken : (failed : Out) → Wrote now after counted → Gathers now next c.tallied c.steps c.block_pairs done why → BreaksAt after then done.texts failed →
-        Passes c old next before then counted no_halt why (Some failed)
-    passes_broken failed w g p =
+        (total : Total) → total ≡ counted → Passes c old next before then total no_halt why (Some failed)
+    passes_broken failed w g p total is =
         let P : List Mates → Type 0 = λ ms. Reads old next ms why in
         let same = λ (out : Out). ap (λ (t : Outputs). text_of out (texts_of c.steps w.whole) ++ part_at failed p.sent out (text_of out t)) g.texts in
         let short : p.sent < length (text_of failed (texts_of c.steps g.block)) = let Q : Outputs → Type 0 = λ t. p.sent < length (text_of failed t) in subst Q g.texts p.short in
@@ -52,7 +52,7 @@ module _ (c : Choices) (old : SourceState) (before : OutletStates) where
           whole = w.whole;
           fate = WriteFailed failed p.sent g.block;
           missed = [];
-          counts = is_counted c w.whole no_halt why counted w.counts;
+          counts = is_counted c w.whole no_halt why total (is ∙ w.counts);
           reads = subst P (sym (append-nil (w.whole ++ g.block))) (reads_then old now next w.whole g.block why w.walks g.reads);
           took = all_took_same before then _ _ (Some failed) same
               (all_took_then before after then (λ out. text_of out (texts_of c.steps w.whole)) (λ out. part_at failed p.sent out (text_of out done.texts)) (Some failed) w.took p.took);

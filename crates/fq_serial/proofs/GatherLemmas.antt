@@ -1,7 +1,7 @@
 -- A block that is being gathered.
 use Rattle.std.proofs.Common.{◌≡◌, ℕ, ◌+◌, ◌<◌, ◌≤◌, Bool, true, false, Result, Ok, Err, OnOk, OnErr, Option, Some, None, List, [], ◌∷◌, ◌++◌, length, refl, sym, ap, subst, ◌∙◌, arith}
 use Rattle.std.specs.Result.{is_err}
-use Rattle.std.specs.Option.{is_some, option_map}
+use Rattle.std.specs.Option.{is_some}
 use Rattle.std.proofs.lemmas.List.{length-append}
 use Rattle.fq_trim.specs.declared.step.Step.{Step}
 use Rattle.fq_pair.specs.declared.fault.InputFault.{InputFault}
@@ -9,9 +9,8 @@ use Rattle.fq_text.specs.Grammar.{Read}
 use Rattle.fq_pair.specs.Mates.{Mates, mates_in}
 use Rattle.fq_pair.specs.Outputs.{texts_of}
 use Rattle.fq_tally.specs.declared.tally.Tally.{Tally}
-use Rattle.fq_tally.specs.Tallies.{no_tally}
 use Rattle.fq_work.specs.declared.done.Done.{Done}
-use Rattle.fq_work.specs.Replies.{tally_if, made_of, emptied, with_mates}
+use Rattle.fq_work.specs.Replies.{tally_if, made_of, with_mates}
 use Rattle.fq_work.proofs.WorkLemmas.{is_asked, made_more}
 use Rattle.fq_serial.specs.declared.reading_end.ReadingEnd.{ReadingEnd}
 use Rattle.fq_serial.specs.declared.reading_end.ReadingEnd.TheVariants as reading
@@ -105,7 +104,7 @@ module _ (tallied : Bool) (steps : List Step) where
       subst P (sym same) (gathers_stopped old now next done n most reading.Memory room g (m ∷ [], walks_then old now next g.block (m ∷ []) g.walks w))
 
 -- the same wish, the same steps and the same bound
-gathers_as : (old new : SourceState) (tallied tallied' : Bool) (steps steps' : List Step) (most most' : ℕ) (done : Done) (why : Option ReadingEnd) →
+pub gathers_as : (old new : SourceState) (tallied tallied' : Bool) (steps steps' : List Step) (most most' : ℕ) (done : Done) (why : Option ReadingEnd) →
     tallied' ≡ tallied → steps' ≡ steps → most' ≡ most → Gathers old new tallied' steps' most' done why → Gathers old new tallied steps most done why
 gathers_as old new tallied tallied' steps steps' most most' done why asked same bound g =
     let O : Bool → Type 0 = λ b. Gathers old new b steps most done why in
@@ -113,21 +112,7 @@ gathers_as old new tallied tallied' steps steps' most most' done why asked same 
     let Q : ℕ → Type 0 = λ n. Gathers old new tallied' steps' n done why in
     subst O asked (subst P same (subst Q bound g))
 
--- a cleared product is that of no pairs, and has a tally where it had one
-still_asked : (t : Option Tally) → is_some (option_map (λ (x : Tally). no_tally) t) ≡ is_some t
-still_asked None = refl
-still_asked (Some t) = refl
-
-cleared_asked : (was now : Done) → now ≡ emptied was → is_some now.tally ≡ is_some was.tally
-cleared_asked was now is = ap (λ (d : Done). is_some d.tally) is ∙ still_asked was.tally
-
--- what was gathered into a cleared product is what the settings ask for, where that product and what the call was given do
-pub gathers_asked : (old new : SourceState) (tallied : Bool) (steps steps' : List Step) (most most' : ℕ) (was now done : Done) (why : Option ReadingEnd) → now ≡ emptied was → is_some was.tally ≡ tallied →
-    steps' ≡ steps → most' ≡ most → Gathers old new (is_some now.tally) steps' most' done why → Gathers old new tallied steps most done why
-gathers_asked old new tallied steps steps' most most' was now done why clear asked same bound g =
-    gathers_as old new tallied (is_some now.tally) steps steps' most most' done why (cleared_asked was now clear ∙ asked) same bound g
-
--- so has one that was gathered into
+-- what was gathered has a tally where one was asked for
 pub gathered_asked : (old new : SourceState) (tallied : Bool) (steps : List Step) (most : ℕ) (done : Done) (why : Option ReadingEnd) → Gathers old new tallied steps most done why → is_some done.tally ≡ tallied
 gathered_asked old new tallied steps most done why g = ap (λ (t : Option Tally). is_some t) g.tally ∙ is_asked tallied steps g.block
 

@@ -1,10 +1,9 @@
 -- Totals of pairs, one list behind another.
-use Rattle.std.proofs.Common.{◌≡◌, ◌+◌, ◌<◌, ◌^◌, inl, Bool, true, false, Option, Some, None, List, [], ◌++◌, length, refl, sym, ap, ◌∙◌}
+use Rattle.std.proofs.Common.{◌≡◌, ◌+◌, ◌<◌, ◌^◌, inl, Bool, true, false, Option, Some, List, [], ◌++◌, length, refl, sym, ap, ◌∙◌}
 use Rattle.fq_trim.specs.declared.step.Step.{Step}
 use Rattle.fq_pair.specs.declared.counts.Counts.{Counts}
 use Rattle.fq_pair.specs.Mates.{Mates}
 use Rattle.fq_pair.specs.Outputs.{Outputs, texts_of, counts_of}
-use Rattle.fq_pair.specs.Summaries.{capped}
 use Rattle.fq_tally.specs.declared.tally.Tally.{Tally}
 use Rattle.fq_tally.specs.Courses.{alone}
 use Rattle.fq_tally.proofs.PlusLaws.{tally_of-append}

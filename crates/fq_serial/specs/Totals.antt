@@ -1,5 +1,5 @@
 -- What is counted of the pairs whose block was written whole.
-use Rattle.std.specs.Prelude.{◌≡◌, ◌⊎◌, Bool, Option, Some, None, List, []}
+use Rattle.std.specs.Prelude.{Bool, Option, Some, None, List, []}
 use Rattle.fq_trim.specs.declared.step.Step.{Step}
 use Rattle.fq_pair.specs.Mates.{Mates}
 use Rattle.fq_pair.specs.Outputs.{counts_of}

@@ -2,7 +2,7 @@
 use Rattle.std.proofs.Common.{◌≡◌, ◌-◌, is_some}
 use Rattle.fq_serial.specs.Devices.{outlet_states}
 use Rattle.fq_serial.proofs.BlockLemmas.{Wrote}
-use Rattle.fq_serial.proofs.writing.write_blocks.Given as goal
+use Rattle.fq_serial.proofs.writing.write_each.Given as goal
 
 abbrev pub invariant-writing : goal.invariant-writing
 invariant-writing g l =
