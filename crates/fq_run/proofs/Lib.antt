@@ -2,7 +2,7 @@ pub mod DealLemmas
 pub mod TurnLemmas
 pub mod LaneLemmas
 pub mod CrewLemmas
-pub mod StaffLemmas
+pub mod WorkerLemmas
 pub mod StartLemmas
 pub mod AttendLemmas
 pub mod MatchLemmas

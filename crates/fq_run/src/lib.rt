@@ -2,7 +2,7 @@
 #![tactic(auto)]
 
 // A run, by the form of its input.
-mod one_text;
+mod interleaved;
 mod two_texts;
 
 // What it needs before its threads.
@@ -24,5 +24,5 @@ pub mod laws;
 pub use fq_serial::{
     BadSetting, Ending, MixedEnding, Outcome, Outlets, Settings, run_serial, run_serial_mixed,
 };
-pub use one_text::run_threads_mixed;
+pub use interleaved::run_threads_mixed;
 pub use two_texts::run_threads;

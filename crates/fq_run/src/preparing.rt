@@ -41,7 +41,7 @@ pub(crate) fn prepare<F: Feed, G: Feed>(
     }
 }
 
-/// Makes all lanes, and then the source of one text. The feed comes back where memory was refused.
+/// Makes all lanes, and then the source of an interleaved text. The feed comes back where memory was refused.
 pub(crate) fn prepare_mixed<F: Feed>(
     alloc: Global,
     settings: &Settings,

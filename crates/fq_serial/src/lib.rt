@@ -5,8 +5,8 @@ mod ending;
 mod filling;
 mod gathering;
 mod halt;
+mod interleaved;
 mod occurred;
-mod one_text;
 mod opening;
 mod outcome;
 mod outlets;
@@ -19,7 +19,7 @@ mod writing;
 mod written;
 
 pub use ending::{Ending, MixedEnding};
-pub use one_text::run_serial_mixed;
+pub use interleaved::run_serial_mixed;
 pub use outcome::Outcome;
 pub use outlets::Outlets;
 pub use settings::{BadSetting, Settings};

@@ -10,7 +10,7 @@ use Rattle.fq_run.specs.Each.{Each3}
 use Rattle.fq_run.specs.Lanes.{names_of}
 use Rattle.fq_serial.specs.Writing.{FlushesAfter}
 use Rattle.fq_serial.proofs.OutletLemmas.{still_healthy}
-use Rattle.fq_run.proofs.StaffLemmas.{Answered, all_answered, replies_dealt, laid_length, can_confirm, matched}
+use Rattle.fq_run.proofs.WorkerLemmas.{Answered, all_answered, replies_dealt, laid_length, can_confirm, matched}
 use Rattle.fq_run.proofs.AttendLemmas.{threaded}
 use Rattle.fq_run.proofs.threads.attend.Goals as goal
 

@@ -3,7 +3,7 @@ use Rattle.std.proofs.Common.{refl, ap}
 use Rattle.fq_pair.specs.Forms.{InterleavedText}
 use Rattle.fq_pair.specs.Walks.{interleaved_state}
 use Rattle.fq_run.proofs.StartLemmas.{closed, refused}
-use Rattle.fq_run.proofs.one_text.begin.Goals as goal
+use Rattle.fq_run.proofs.interleaved.begin.Goals as goal
 
 pub returns-in-Ok : goal.returns-in-Ok
 returns-in-Ok g c =

@@ -1,7 +1,7 @@
 -- Memory was refused before the first pair.
 use Rattle.std.proofs.Common.{ap}
 use Rattle.fq_serial.proofs.PassLemmas.{runs_nothing}
-use Rattle.fq_serial.proofs.one_text.pass.Goals as goal
+use Rattle.fq_serial.proofs.interleaved.pass.Goals as goal
 
 pub returns-in-Err : goal.returns-in-Err
 returns-in-Err g c =

@@ -1,4 +1,4 @@
--- What the threads of a run hand back, worker for worker.
+-- The lanes of the workers as they are made, and what the workers hand back.
 use Rattle.std.proofs.Common.{◌≡◌, ℕ, zero, suc, ◌<◌, true, List, [], ◌∷◌, ◌++◌, length, get_or, refl, sym, ap, ◌∙◌, subst, arith, Option, Result, Ok, Err, IfOk, IsOkAnd, Bool}
 use Rattle.std.specs.List.{AllZip}
 use Rattle.std.specs.declared.thread.PromisedHandle.{PromisedHandle}

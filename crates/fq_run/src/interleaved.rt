@@ -1,4 +1,4 @@
-//! A run on several threads, over one text in which mates take turns.
+//! A run on several threads, over an interleaved text.
 
 ghost use Rattle.std.specs.Prelude.{◌≡◌, None, IsTrue, IsSome};
 ghost use Rattle.std.specs.Option.{option_map};

@@ -2,7 +2,7 @@
 use Rattle.std.proofs.Common.{refl, ap, ◌∙◌}
 use Rattle.fq_serial.specs.Outcomes.{outcome_of}
 use Rattle.fq_serial.proofs.RunLemmas.{runs_healthy, serial_rank, run_every, run_whole}
-use Rattle.fq_serial.proofs.one_text.run_serial_mixed.Goals as goal
+use Rattle.fq_serial.proofs.interleaved.run_serial_mixed.Goals as goal
 
 pub flush_after-failed-requires : goal.flush_after-failed-requires
 flush_after-failed-requires g c = runs_healthy _ c.args.settings.now _ _ _ _ _ _ _ _ _ _ c.pass-written.ensures c.requires.outlets
