@@ -24,12 +24,12 @@ use Rattle.fq_serial.specs.Writing.{with_stop}
 use Rattle.fq_run.specs.declared.collector.Collector.{Collector}
 use Rattle.fq_serial.specs.declared.halt.Halt.{Halt}
 use Rattle.fq_run.specs.declared.collector.phase.Phase.{Phase}
-use Rattle.fq_run.specs.declared.collector.phase.Phase.TheVariants.{Writing, Ended, Stopped, WriteFailed}
+use Rattle.fq_run.specs.declared.collector.phase.Phase.TheVariants.{Writing, AtMark, Stopped, WriteFailed}
 use Rattle.fq_run.proofs.DealLemmas.{turn_more}
-use Rattle.fq_run.proofs.LaneLemmas.{dealt_item, ended_closed, ended_takes, begun_takes, takes_length, takes_names}
+use Rattle.fq_run.proofs.LaneLemmas.{dealt_item, at_mark_closed, at_mark_takes, begun_takes, takes_length, takes_names}
 use Rattle.fq_serial.proofs.OutletLemmas.{all_took_then, all_took_same, still_healthy}
 use Rattle.fq_run.proofs.StopLemmas.{heard_at, stops_taken}
-use Rattle.fq_run.proofs.TurnLemmas.{begun_gather, ended_gather}
+use Rattle.fq_run.proofs.TurnLemmas.{begun_gather, at_mark_gather}
 
 -- One reply more.
 
@@ -58,8 +58,8 @@ before_one (d ∷ ds) why rest = ap (λ es. d ∷ es) (before_one ds why rest)
 pub written_gathers : (w : ℕ) (p : Phase) (before now : OutletStates) (ds : List Done) (k : Collector) → 0 < w → (p ≡ Writing → ⊥) → failed_in p ≡ None → Writes p w before now ds k →
     TookAll before now (before_stop (gather (lists_of k.replies.items)))
 written_gathers w Writing before now ds k pos over none h = absurd (over refl)
-written_gathers w Ended before now ds k pos over none h =
-    let e : before_stop (gather (lists_of k.replies.items)) ≡ ds = ap before_stop (ended_gather w (map done ds) k.replies.items pos h.0) ∙ before_none ds in
+written_gathers w AtMark before now ds k pos over none h =
+    let e : before_stop (gather (lists_of k.replies.items)) ≡ ds = ap before_stop (at_mark_gather w (map done ds) k.replies.items pos h.0) ∙ before_none ds in
     subst (λ es. TookAll before now es) (sym e) h.1
 written_gathers w Stopped before now ds k pos over none h =
     let p = begun_gather w (map done ds ++ Stop h.why ∷ []) k.replies.items pos h.begun in
@@ -148,9 +148,9 @@ module _ (tallied : Bool) (w : ℕ) (before old now : OutletStates) (k l : Colle
 
 module _ (tallied : Bool) (w : ℕ) (before now : OutletStates) (k l : Collector) where
   -- the lane whose turn it is is closed
-  pub collects_ended : Collects tallied w before now k → k.phase ≡ Writing → l.phase ≡ Ended → TakesAt Closed k.replies.items l.replies.items k.turn →
+  pub collects_at_mark : Collects tallied w before now k → k.phase ≡ Writing → l.phase ≡ AtMark → TakesAt Closed k.replies.items l.replies.items k.turn →
       l.total ≡ k.total → l.texts_back ≡ k.texts_back → l.turn ≡ k.turn → Collects tallied w before now l
-  collects_ended h at_k at_l t total backs turn =
+  collects_at_mark h at_k at_l t total backs turn =
       let ds = h.written in
       let k_writes = at_turn tallied w before now k h at_k in
       record {
@@ -160,7 +160,7 @@ module _ (tallied : Bool) (w : ℕ) (before now : OutletStates) (k l : Collector
         written = ds;
         total = total ∙ h.total;
         writes = subst (λ p. Writes p w before now ds l) (sym at_l)
-            (ended_closed w (map done ds) k.replies.items l.replies.items k.turn k_writes.1 t h.turn k_writes.0, k_writes.2);
+            (at_mark_closed w (map done ds) k.replies.items l.replies.items k.turn k_writes.1 t h.turn k_writes.0, k_writes.2);
       }
 
   -- the reply in turn is a stop
@@ -193,7 +193,7 @@ still_writes tallied w before now k sound h at_k = still_healthy before now _ so
 passes : (w : ℕ) (p : Phase) (r : Taken Reply) (before now : OutletStates) (ds : List Done) (k l : Collector) (j : ℕ) → (p ≡ Writing → ⊥) → j < w → Writes p w before now ds k →
     TakesAt r k.replies.items l.replies.items j → l.halt ≡ heard_at r k.halt → Writes p w before now ds l
 passes w Writing r before now ds k l j over lt h t halt = absurd (over refl)
-passes w Ended r before now ds k l j over lt h t halt = (ended_takes w r (map done ds) k.replies.items l.replies.items j h.0 t lt, h.1)
+passes w AtMark r before now ds k l j over lt h t halt = (at_mark_takes w r (map done ds) k.replies.items l.replies.items j h.0 t lt, h.1)
 passes w Stopped r before now ds k l j over lt h t halt = record {
   why = h.why;
   begun = begun_takes w r _ k.replies.items l.replies.items j h.begun t lt;

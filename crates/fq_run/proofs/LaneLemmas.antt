@@ -9,7 +9,7 @@ use Rattle.fq_lane.specs.Take.{Takes}
 use Rattle.fq_lane.specs.declared.taken.Taken.{Taken}
 use Rattle.fq_lane.specs.declared.taken.Taken.TheVariants.{Item, Empty, Closed}
 use Rattle.fq_run.specs.Dealing.{every}
-use Rattle.fq_run.specs.Lanes.{names_of, IsDealt, IsEnded, IsBegun, TakesAt}
+use Rattle.fq_run.specs.Lanes.{names_of, IsDealt, IsAtMark, IsBegun, TakesAt}
 use Rattle.fq_run.proofs.DealLemmas.{every_here, every_there}
 
 module _ {T : Type 0} where
@@ -71,8 +71,8 @@ module _ {T : Type 0} where
   prefix_trans : (xs ys zs : List T) → IsPrefix xs ys → IsPrefix ys zs → IsPrefix xs zs
   prefix_trans xs ys zs p q = (p.0 ++ q.0, sym (append_assoc xs p.0 q.0) ∙ ap (λ us. us ++ q.0) p.1 ∙ q.1)
 
-  pub ended_closed : (w : ℕ) (xs : List T) (old new : List (History T)) (j : ℕ) → IsDealt w xs old → TakesAt Closed old new j → j < w → j ≡ length xs % w → IsEnded w xs new
-  ended_closed w xs old new j h t lt turn =
+  pub at_mark_closed : (w : ℕ) (xs : List T) (old new : List (History T)) (j : ℕ) → IsDealt w xs old → TakesAt Closed old new j → j < w → j ≡ length xs % w → IsAtMark w xs new
+  at_mark_closed w xs old new j h t lt turn =
       let within : j < length old = omega (arith, h.lanes) in
       let at_j : (d : History T) → get_or new j d ≡ t.history = λ d. ap (λ ls. get_or ls j d) t.becomes ∙ get_or-set_same old j t.history d within in
       let items_j : t.history.items ≡ every j w xs = ap (λ l. l.items) t.takes ∙ h.items j t.history lt in
@@ -83,8 +83,8 @@ module _ {T : Type 0} where
         closed = λ d. (let P : ℕ → Type 0 = λ k. (get_or new k d).marked ≡ true in subst P turn (ap (λ l. l.marked) (at_j d) ∙ ap (λ l. l.marked) t.takes));
       }
 
-  pub ended_takes : (w : ℕ) (r : Taken T) (xs : List T) (old new : List (History T)) (j : ℕ) → IsEnded w xs old → TakesAt r old new j → j < w → IsEnded w xs new
-  ended_takes w r xs old new j h t lt =
+  pub at_mark_takes : (w : ℕ) (r : Taken T) (xs : List T) (old new : List (History T)) (j : ℕ) → IsAtMark w xs old → TakesAt r old new j → j < w → IsAtMark w xs new
+  at_mark_takes w r xs old new j h t lt =
       let within : j < length old = omega (arith, h.lanes) in
       let stays : (d : History T) → get_or new (length xs % w) d ≡ get_or old (length xs % w) d = λ d. (takes_follow r old new j t within (length xs % w) d).stays (h.closed d) in
       record {

@@ -17,7 +17,7 @@ use Rattle.fq_work.specs.declared.reply.Reply.TheVariants.{Done as done, Stop}
 use Rattle.fq_run.specs.Crews.{Matched}
 use Rattle.fq_run.specs.Dealing.{every}
 use Rattle.fq_run.specs.Dealt.{Closed}
-use Rattle.fq_run.specs.Lanes.{IsDealt, IsEnded, IsBegun}
+use Rattle.fq_run.specs.Lanes.{IsDealt, IsAtMark, IsBegun}
 use Rattle.fq_run.proofs.DealLemmas.{whole_from_turns, prefix_from_turns, every-map}
 
 -- A beginning of what was dealt.
@@ -103,8 +103,8 @@ module _ (tallied : Bool) (steps : List Step) where
     begun_first ds b = prefix_from_turns ds (answered bs) w some (λ j lt. first_at ds b.lanes j lt (b.begins j no_history lt))
 
     -- and up to a lane that had no more, those to all
-    pub ended_all : (ds : List Done) → IsEnded w (map done ds) fs → ds ≡ answered bs
-    ended_all ds k =
+    pub at_mark_all : (ds : List Done) → IsAtMark w (map done ds) fs → ds ≡ answered bs
+    at_mark_all ds k =
         let turn = mod_below (length ds) w some in
         let r = replied k.lanes (length ds % w) turn in
         let ends : (get_or fs (length ds % w) no_history).items ≡ every (length ds % w) w (map done ds) =

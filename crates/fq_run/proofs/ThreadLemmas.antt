@@ -20,7 +20,7 @@ use Rattle.fq_serial.specs.declared.halt.Halt.{Halt}
 use Rattle.fq_serial.specs.declared.total.Total.{Total}
 use Rattle.fq_serial.specs.Totals.{total_of, no_total, total_plus}
 use Rattle.fq_run.specs.declared.collector.phase.Phase.{Phase}
-use Rattle.fq_run.specs.declared.collector.phase.Phase.TheVariants.{Writing, Ended, Stopped, WriteFailed}
+use Rattle.fq_run.specs.declared.collector.phase.Phase.TheVariants.{Writing, AtMark, Stopped, WriteFailed}
 use Rattle.fq_serial.specs.declared.reading_end.ReadingEnd.{ReadingEnd}
 use Rattle.fq_serial.specs.Choices.{Choices}
 use Rattle.fq_run.specs.Collecting.{Collects, Writes, IsHeard, TookAll, written_text, counted_from, counted, failed_in}
@@ -36,7 +36,7 @@ use Rattle.fq_pair.specs.Forms.{Form}
 use Rattle.fq_pair.specs.Walks.{SourceState}
 use Rattle.fq_serial.specs.Walks.{Reads, fresh_source, feed_in}
 use Rattle.fq_serial.specs.Writing.{no_halt, Passes, Runs}
-use Rattle.fq_run.proofs.MatchLemmas.{answered, begun_before, begun_first, ended_all}
+use Rattle.fq_run.proofs.MatchLemmas.{answered, begun_before, begun_first, at_mark_all}
 use Rattle.fq_serial.proofs.OutletLemmas.{all_took_same}
 use Rattle.fq_serial.proofs.PassLemmas.{runs_passed}
 use Rattle.fq_serial.proofs.TextLemmas.{no_text, text_then, some_pair}
@@ -178,9 +178,9 @@ module _ (form : Form) (c : Choices) (f r : FeedState) (old new : SourceState) (
   -- the answers of the first blocks, by how far the collector came
   passes_by : (phase : Phase) (ds : List Done) → k.total ≡ counted c.tallied ds → Writes phase w before mid ds k → (phase ≡ Writing → ⊥) → Passes c old new before mid k.total k.halt why (failed_in phase)
   passes_by Writing ds totals writes over = absurd (over refl)
-  passes_by Ended ds totals writes over =
+  passes_by AtMark ds totals writes over =
       let cut = d.cut in
-      let all = ended_all c.tallied c.steps w d.blocks sent closings k.replies.items dealt_to ends matched some ds writes.0 in
+      let all = at_mark_all c.tallied c.steps w d.blocks sent closings k.replies.items dealt_to ends matched some ds writes.0 in
       passes_first c old new d.mates why d.blocks before mid d.reads d.few cut.cut stopped ds k.total k.halt d.blocks [] (sym (append-nil d.blocks)) all totals writes.1 (λ sound. refl)
   passes_by Stopped ds totals writes over =
       let cut = d.cut in

@@ -6,7 +6,7 @@ use Rattle.std.proofs.lemmas.Bool.{cases_lt}
 use denote.RawPtr.{null_ptr}
 use mathlib.Core.List.{IsPrefix}
 use Rattle.fq_lane.specs.History.{History}
-use Rattle.fq_run.specs.Lanes.{lists_of, IsEnded, IsBegun}
+use Rattle.fq_run.specs.Lanes.{lists_of, IsAtMark, IsBegun}
 use Rattle.fq_run.specs.Dealing.{every, gather_turns, gather, total_length}
 use Rattle.fq_run.proofs.DealLemmas.{next_wraps, next_within}
 
@@ -149,9 +149,9 @@ module _ {T : Type 0} where
       gathers_first n (total_length (lists_of ls)) xs (lists_of ls) (enough n xs (lists_of ls) t) t
 
   -- what was written in turn, up to a lane that had no more, is what is gathered
-  pub ended_gather : (w : ℕ) (xs : List T) (ls : List (History T)) → 0 < w → IsEnded w xs ls → gather (lists_of ls) ≡ xs
-  ended_gather zero xs ls pos h = absurd (omega arith)
-  ended_gather (suc n) xs ls pos h =
+  pub at_mark_gather : (w : ℕ) (xs : List T) (ls : List (History T)) → 0 < w → IsAtMark w xs ls → gather (lists_of ls) ≡ xs
+  at_mark_gather zero xs ls pos h = absurd (omega arith)
+  at_mark_gather (suc n) xs ls pos h =
       let t = begun_lists (suc n) xs ls (record { lanes = h.lanes; begins = h.begins }) in
       let ends = get-items ls (length xs % suc n) fresh_history (omega (arith, h.lanes, mod_below (length xs) (suc n) pos)) ∙ h.ends fresh_history in
       gathers n (total_length (lists_of ls)) xs (lists_of ls) (enough n xs (lists_of ls) t) (record { lists = t; ends = ends })

@@ -10,10 +10,10 @@ use Rattle.fq_work.specs.declared.reply.Reply.TheVariants.{Done as done, Stop}
 use Rattle.fq_serial.specs.declared.total.Total.{Total}
 use Rattle.fq_serial.specs.Totals.{no_total, total_plus}
 use Rattle.fq_serial.specs.Devices.{OutletStates, OutletsTook, part_at}
-use Rattle.fq_run.specs.Lanes.{IsDealt, IsEnded, IsBegun}
+use Rattle.fq_run.specs.Lanes.{IsDealt, IsAtMark, IsBegun}
 use Rattle.fq_run.specs.declared.collector.Collector.{Collector}
 use Rattle.fq_run.specs.declared.collector.phase.Phase.{Phase}
-use Rattle.fq_run.specs.declared.collector.phase.Phase.TheVariants.{Writing, Ended, Stopped, WriteFailed}
+use Rattle.fq_run.specs.declared.collector.phase.Phase.TheVariants.{Writing, AtMark, Stopped, WriteFailed}
 
 -- one of the five texts of some replies, one behind the other
 abbrev pub written_text : Out → List Done → List ℕ
@@ -63,7 +63,7 @@ pub record HasBroken (failed : Out) (w : ℕ) (before now : OutletStates) (ds : 
 -- what came before a write that failed
 abbrev pub Writes : Phase → ℕ → OutletStates → OutletStates → List Done → Collector → Type 0
 Writes Writing w before now ds k = (k.turn ≡ length ds % w) × IsDealt w (map done ds) k.replies.items × TookAll before now ds
-Writes Ended w before now ds k = IsEnded w (map done ds) k.replies.items × TookAll before now ds
+Writes AtMark w before now ds k = IsAtMark w (map done ds) k.replies.items × TookAll before now ds
 Writes Stopped w before now ds k = HasStopped w before now ds k
 Writes (WriteFailed failed) w before now ds k = HasBroken failed w before now ds k
 

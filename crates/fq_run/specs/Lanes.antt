@@ -20,7 +20,7 @@ module _ {T : Type 0} where
     pub items : (j : ℕ) (d : History T) → j < w → (slice_index_or ls j d).items ≡ every j w xs
 
   -- the items of each lane begin with those of xs that are dealt to it, and where the next of xs would come from, the lane is closed and has no more
-  pub record IsEnded (w : ℕ) (xs : List T) (ls : List (History T)) : Type 0 where
+  pub record IsAtMark (w : ℕ) (xs : List T) (ls : List (History T)) : Type 0 where
     pub lanes : length ls ≡ w
     pub begins : (j : ℕ) (d : History T) → j < w → IsPrefix (every j w xs) (slice_index_or ls j d).items
     pub ends : (d : History T) → (slice_index_or ls (length xs % w) d).items ≡ every (length xs % w) w xs

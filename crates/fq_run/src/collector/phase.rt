@@ -7,8 +7,8 @@ use fq_pair::Out;
 pub(crate) enum Phase {
     /// Replies are written in turn.
     Writing,
-    /// The lane whose turn it was is closed.
-    Ended,
+    /// The lane whose turn it was has come to its mark.
+    AtMark,
     /// The next reply in turn was a stop.
     Stopped,
     /// A write to this outlet failed.
@@ -25,7 +25,7 @@ impl Phase {
     {
         match self {
             Phase::WriteFailed(out) => Some(out),
-            Phase::Writing | Phase::Ended | Phase::Stopped => None,
+            Phase::Writing | Phase::AtMark | Phase::Stopped => None,
         }
     }
 }

@@ -6,8 +6,8 @@ use Rattle.fq_work.specs.declared.reply.Reply.{Reply}
 use Rattle.fq_run.specs.Lanes.{TakesAt}
 use Rattle.fq_run.specs.Stops.{HearsAll}
 use Rattle.fq_run.specs.declared.collector.Collector.{Collector}
-use Rattle.fq_run.specs.declared.collector.phase.Phase.TheVariants.{Ended, Stopped, WriteFailed}
-use Rattle.fq_run.proofs.CollectLemmas.{collects_written, collects_broken, collects_ended, collects_stopped, hears_take}
+use Rattle.fq_run.specs.declared.collector.phase.Phase.TheVariants.{AtMark, Stopped, WriteFailed}
+use Rattle.fq_run.proofs.CollectLemmas.{collects_written, collects_broken, collects_at_mark, collects_stopped, hears_take}
 use Rattle.fq_run.proofs.StopLemmas.{heard_at}
 use Rattle.fq_run.proofs.collector.Collector.write_next.Goals as goal
 
@@ -47,7 +47,7 @@ returns-in_default-clause-hears g c =
 pub returns-in-None-clause-collects : goal.returns-in-None-clause-collects
 returns-in-None-clause-collects g c = λ tallied before h.
     (let k = c.args.self.now in
-    collects_ended tallied _ before _ k (record k { replies = c.take_wait_at.new.replies; phase = Ended })
+    collects_at_mark tallied _ before _ k (record k { replies = c.take_wait_at.new.replies; phase = AtMark })
     h c.requires.writing refl (takes_as _ _ _ _ k.turn c.in-None.is c.take_wait_at.ensures.takes) refl refl refl)
 
 pub returns-in-None-clause-hears : goal.returns-in-None-clause-hears

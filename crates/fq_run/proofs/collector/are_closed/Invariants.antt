@@ -1,6 +1,6 @@
 -- The lanes so far are closed.
 use Rattle.std.proofs.Common.{◌≡◌, ◌<◌, ℕ, true, get_or}
-use Rattle.fq_run.proofs.collector.draining.are_closed.Given as goal
+use Rattle.fq_run.proofs.collector.are_closed.Given as goal
 
 abbrev pub invariant-loop-lane : goal.invariant-loop-lane
 invariant-loop-lane l = (j : ℕ) (d : _) → j < l.lane-index → (get_or l.replies.items j d).marked ≡ true
