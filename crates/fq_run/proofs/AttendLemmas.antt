@@ -14,9 +14,9 @@ use Rattle.fq_run.specs.declared.conclusion.Conclusion.{Conclusion}
 use Rattle.fq_serial.specs.declared.outcome.Outcome.TheVariants as outcome
 use Rattle.fq_run.specs.declared.collector.phase.Phase.TheVariants.{Writing}
 use Rattle.fq_serial.specs.Choices.{Choices}
-use Rattle.fq_run.specs.Collecting.{Collects, failed_in}
-use Rattle.fq_run.specs.Crews.{Confirmed, Matched}
-use Rattle.fq_run.specs.Dealt.{HasDealt}
+use Rattle.fq_run.specs.collector.Collecting.{Collects, failed_in}
+use Rattle.fq_run.specs.Confirming.{Confirmed, Matched}
+use Rattle.fq_run.specs.dealer.Dealt.{HasDealt}
 use Rattle.fq_text.specs.Devices.{FeedState}
 use Rattle.fq_serial.specs.Devices.{OutletStates}
 use Rattle.fq_run.specs.Each.{Each3}

@@ -1,12 +1,6 @@
 pub mod DealLemmas
-pub mod TurnLemmas
-pub mod LaneLemmas
-pub mod CrewLemmas
-pub mod WorkerLemmas
+pub mod EachLemmas
 pub mod StartLemmas
 pub mod AttendLemmas
 pub mod MatchLemmas
 pub mod ThreadLemmas
-pub mod DealerLemmas
-pub mod StopLemmas
-pub mod CollectLemmas

@@ -9,10 +9,10 @@ use Rattle.fq_serial.specs.declared.outcome.Outcome.{Outcome}
 use Rattle.fq_serial.specs.declared.outcome.Outcome.TheVariants as outcome
 use Rattle.fq_serial.specs.declared.reading_end.ReadingEnd.{ReadingEnd}
 use Rattle.fq_serial.specs.Choices.{Choices}
-use Rattle.fq_run.specs.Dealt.{CanDeal, HasDealt}
+use Rattle.fq_run.specs.dealer.Dealt.{CanDeal, HasDealt}
 use Rattle.fq_run.specs.declared.dealer.Dealer.{Dealer}
 use Rattle.fq_run.specs.declared.ready.Ready.{Ready}
-use Rattle.fq_run.proofs.WorkerLemmas.{to_dealt}
+use Rattle.fq_run.proofs.crew.WorkerLemmas.{to_dealt}
 use Rattle.fq_text.specs.Devices.{FeedState}
 use Rattle.fq_serial.specs.Devices.{OutletStates, OutletsTook}
 use Rattle.fq_serial.specs.Endings.{Run, all_pairs, ends_whole, IsHandedBack, IsUntouched, EveryEnding}

@@ -1,11 +1,10 @@
 pub mod Dealing
 pub mod Each
-pub mod Lanes
-pub mod DealingOut
-pub mod Dealt
-pub mod Collecting
-pub mod Stops
-pub mod Crews
+pub mod lanes
+pub mod dealer
+pub mod crew
+pub mod collector
+pub mod Confirming
 pub mod Threads
 -- What callers of a run name, of the crate below.
 pub use Rattle.fq_serial.specs.Choices

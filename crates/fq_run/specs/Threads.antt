@@ -9,7 +9,9 @@ use Rattle.fq_work.specs.declared.ends.WorkEnds.{WorkEnds}
 use Rattle.fq_work.specs.declared.ends.Worked.{Worked}
 use Rattle.fq_work.specs.declared.reply.Reply.{Reply}
 use Rattle.fq_serial.specs.Choices.{Choices}
-use Rattle.fq_run.specs.Crews.{fresh, Laid, IsLaid, AreFor, Seated, Confirmed}
+use Rattle.fq_run.specs.lanes.Laying.{fresh, Laid, IsLaid, AreFor}
+use Rattle.fq_run.specs.crew.Workers.{Seated}
+use Rattle.fq_run.specs.Confirming.{Confirmed}
 use Rattle.fq_serial.specs.Devices.{OutletStates}
 use Rattle.fq_run.specs.Each.{Each3}
 use Rattle.fq_serial.specs.Endings.{Run, AreTold, ends_whole, IsTrimmed, IsUntouched, EveryEnding}

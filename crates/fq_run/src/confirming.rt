@@ -2,7 +2,7 @@
 
 ghost use Rattle.std.specs.Prelude.{◌≡◌, true, IfOk, OnOk, IsOkAnd};
 ghost use Rattle.fq_run.specs.Each.{Each3};
-ghost use Rattle.fq_run.specs.Crews.{CanConfirm, Confirmed};
+ghost use Rattle.fq_run.specs.Confirming.{CanConfirm, Confirmed};
 
 use fq_block::Block;
 use fq_lane::{End, NotEnded, Rx};

@@ -2,8 +2,8 @@
 
 ghost use Rattle.std.specs.Prelude.{◌≡◌, ◌≤◌, ◌<◌, true, None, [], length, vec_len, vec_capacity};
 ghost use Rattle.std.specs.List.{AllZip};
-ghost use Rattle.fq_run.specs.DealingOut.{MayDeal, DealsOut};
-ghost use Rattle.fq_run.specs.Dealt.{CanDeal, HasDealt, Closed};
+ghost use Rattle.fq_run.specs.dealer.DealingOut.{MayDeal, DealsOut};
+ghost use Rattle.fq_run.specs.dealer.Dealt.{CanDeal, HasDealt, Closed};
 
 mod blocks;
 pub(crate) mod dealing;

@@ -1,7 +1,7 @@
 //! The threads of a run, over whatever source of pairs: they are started and waited for.
 
 ghost use Rattle.std.specs.Prelude.{◌≡◌, ◌≤◌, ◌^◌, true, IfOk, vec_len};
-ghost use Rattle.fq_run.specs.Crews.{CanConfirm};
+ghost use Rattle.fq_run.specs.Confirming.{CanConfirm};
 ghost use Rattle.fq_serial.specs.Totals.{no_total};
 ghost use Rattle.fq_serial.specs.Devices.{outlet_states, AreHealthy};
 ghost use Rattle.fq_run.specs.Each.{Each3};

@@ -17,7 +17,7 @@ pub(crate) enum Phase {
 
 impl Phase {
     ghost use Rattle.std.specs.Prelude.{◌≡◌};
-    ghost use Rattle.fq_run.specs.Collecting.{failed_in};
+    ghost use Rattle.fq_run.specs.collector.Collecting.{failed_in};
 
     /// The outlet to which a write failed.
     pub(crate) fn failed(self) -> Option<Out>

@@ -2,7 +2,7 @@
 
 ghost use Rattle.std.specs.Prelude.{◌≡◌, ◌≤◌, [], IfSome, IsTrue, vec_len, vec_capacity};
 ghost use Rattle.std.specs.List.{AllZip};
-ghost use Rattle.fq_run.specs.Crews.{Seated, Joined};
+ghost use Rattle.fq_run.specs.crew.Workers.{Seated, Joined};
 
 use crate::crew::job::Job;
 use fq_serial::Settings;

@@ -1,8 +1,8 @@
 //! Blocks are filled, and dealt out in turn.
 
 ghost use Rattle.std.specs.Prelude.{◌≡◌, ◌<◌, Some, [], vec_len};
-ghost use Rattle.fq_run.specs.DealingOut.{MayDeal, DealsOut, SendsFilled};
-ghost use Rattle.fq_run.specs.Lanes.{names_of};
+ghost use Rattle.fq_run.specs.dealer.DealingOut.{MayDeal, DealsOut, SendsFilled};
+ghost use Rattle.fq_run.specs.lanes.Lanes.{names_of};
 
 use crate::lanes::places::{next_turn, put_at};
 use fq_block::Block;

@@ -1,7 +1,7 @@
 //! A dealer is started, with what its join gives.
 
 ghost use Rattle.std.specs.Prelude.{◌≡◌, [], IfSome};
-ghost use Rattle.fq_run.specs.Dealt.{CanDeal};
+ghost use Rattle.fq_run.specs.dealer.Dealt.{CanDeal};
 
 use crate::dealer::dealt::Dealt;
 use crate::dealer::{Dealer, deal};
@@ -26,7 +26,7 @@ pub(crate) struct Dealing<S> {
 }
 
 impl<S: PairReader> Promise<Dealt<S>> for Dealing<S> {
-    ghost use Rattle.fq_run.specs.Dealt.{HasDealt};
+    ghost use Rattle.fq_run.specs.dealer.Dealt.{HasDealt};
 
     ghost kept_by = { λ dealing dealt. HasDealt dealing.settings (S.state dealing.source.value) (S.state dealt.source)
         dealing.start.value dealt.start dealing.to.value.items dealt.closings.items dealt.why };

@@ -1,7 +1,7 @@
 //! The lanes of all workers, before the threads are started.
 
 ghost use Rattle.std.specs.Prelude.{◌≡◌, ◌≤◌, IfOk};
-ghost use Rattle.fq_run.specs.Crews.{IsLaid, AreFor};
+ghost use Rattle.fq_run.specs.lanes.Laying.{IsLaid, AreFor};
 
 use fq_block::Block;
 use fq_lane::{Rx, Tx, lane};
@@ -52,7 +52,7 @@ pub(crate) fn lay(alloc: Global, workers: usize, depth: usize) -> Result<Seats, 
 
 impl Seats {
     ghost use Rattle.std.specs.Prelude.{◌≡◌, ◌≤◌, ◌<◌, ◌+◌, IfOk, OnOk, vec_len};
-    ghost use Rattle.fq_run.specs.Crews.{IsLaid, AreFor, HaveRoom, KeepRoom};
+    ghost use Rattle.fq_run.specs.lanes.Laying.{IsLaid, AreFor, HaveRoom, KeepRoom};
 
     // No lanes, with room for those of so many workers.
     fn new(alloc: Global, workers: usize) -> Result<Seats, OutOfMemory>

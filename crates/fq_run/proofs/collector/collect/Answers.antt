@@ -1,9 +1,9 @@
 -- What was written stays so while the rest is let go.
 use Rattle.std.proofs.Common.{is_some, sym, ◌∙◌, arith, subst, vec_len}
 use Rattle.fq_serial.specs.declared.total.Total.{Total}
-use Rattle.fq_run.specs.Collecting.{Collects}
+use Rattle.fq_run.specs.collector.Collecting.{Collects}
 use Rattle.fq_serial.specs.Devices.{outlet_states}
-use Rattle.fq_run.proofs.CollectLemmas.{written_gathers}
+use Rattle.fq_run.proofs.collector.CollectLemmas.{written_gathers}
 use Rattle.fq_run.proofs.collector.collect.Goals as goal
 
 pub write_all-requires-clause-collects : goal.write_all-requires-clause-collects

@@ -1,8 +1,8 @@
 -- Nothing is left.
 use Rattle.std.proofs.Common.{arith, sym, vec_len}
 use borrow.Author.Tests.{eqb-true}
-use Rattle.fq_run.specs.Crews.{CanConfirm, Confirmed}
-use Rattle.fq_run.proofs.CrewLemmas.{nothing_left}
+use Rattle.fq_run.specs.Confirming.{CanConfirm, Confirmed}
+use Rattle.fq_run.proofs.EachLemmas.{nothing_left}
 use Rattle.fq_run.proofs.confirming.confirm_workers.Goals as goal
 
 pub returns : goal.returns

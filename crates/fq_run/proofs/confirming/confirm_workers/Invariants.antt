@@ -1,7 +1,7 @@
 -- If what is left is confirmed, all is.
 use Rattle.std.proofs.Common.{vec_len}
 use Rattle.fq_run.specs.Each.{Each3}
-use Rattle.fq_run.specs.Crews.{CanConfirm, Confirmed}
+use Rattle.fq_run.specs.Confirming.{CanConfirm, Confirmed}
 use Rattle.fq_run.proofs.confirming.confirm_workers.Given as goal
 
 abbrev pub invariant-loop-closings : goal.invariant-loop-closings

@@ -1,6 +1,6 @@
 use Rattle.std.proofs.Common.{arith, ◌∙◌, length-append, [], ◌∷◌}
-use Rattle.fq_run.specs.Dealt.{Closed}
-use Rattle.fq_run.proofs.CrewLemmas.{zip_pushed}
+use Rattle.fq_run.specs.dealer.Dealt.{Closed}
+use Rattle.fq_run.proofs.EachLemmas.{zip_pushed}
 use Rattle.fq_run.proofs.dealer.close_all.Goals as goal
 
 pub loop-tx-preserved : goal.loop-tx-preserved

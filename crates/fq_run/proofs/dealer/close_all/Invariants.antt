@@ -1,7 +1,7 @@
 -- The lanes so far are closed, and there is room for the ends of the others.
 use Rattle.std.proofs.Common.{◌≡◌, length, vec_len, vec_capacity}
 use Rattle.std.specs.List.{AllZip}
-use Rattle.fq_run.specs.Dealt.{Closed}
+use Rattle.fq_run.specs.dealer.Dealt.{Closed}
 use Rattle.fq_run.proofs.dealer.close_all.Given as goal
 
 abbrev pub invariant-loop-tx : goal.invariant-loop-tx

@@ -1,8 +1,8 @@
 -- Without a start nothing is read.
 use Rattle.std.proofs.Common.{Option, sym, subst}
-use Rattle.fq_run.specs.DealingOut.{DealsOut}
+use Rattle.fq_run.specs.dealer.DealingOut.{DealsOut}
 use Rattle.fq_serial.specs.declared.reading_end.ReadingEnd.{ReadingEnd}
-use Rattle.fq_run.proofs.DealerLemmas.{deals_nothing}
+use Rattle.fq_run.proofs.dealer.DealerLemmas.{deals_nothing}
 use Rattle.fq_run.proofs.dealer.deal_from.Goals as goal
 
 pub returns-in_err-take_wait-clause-deals : goal.returns-in_err-take_wait-clause-deals

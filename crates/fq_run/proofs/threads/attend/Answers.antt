@@ -4,13 +4,13 @@ use Rattle.fq_pair.specs.declared.out.Out.{Out}
 use Rattle.fq_work.proofs.WorkLemmas.{is_asked}
 use Rattle.fq_serial.specs.declared.total.Total.{Total}
 use Rattle.fq_serial.specs.Totals.{no_total}
-use Rattle.fq_run.specs.Collecting.{Collects}
+use Rattle.fq_run.specs.collector.Collecting.{Collects}
 use Rattle.fq_serial.specs.Devices.{outlet_states}
 use Rattle.fq_run.specs.Each.{Each3}
-use Rattle.fq_run.specs.Lanes.{names_of}
+use Rattle.fq_run.specs.lanes.Lanes.{names_of}
 use Rattle.fq_serial.specs.Writing.{FlushesAfter}
 use Rattle.fq_serial.proofs.OutletLemmas.{still_healthy}
-use Rattle.fq_run.proofs.WorkerLemmas.{Answered, all_answered, replies_dealt, laid_length, can_confirm, matched}
+use Rattle.fq_run.proofs.crew.WorkerLemmas.{Answered, all_answered, replies_dealt, laid_length, can_confirm, matched}
 use Rattle.fq_run.proofs.AttendLemmas.{threaded}
 use Rattle.fq_run.proofs.threads.attend.Goals as goal
 

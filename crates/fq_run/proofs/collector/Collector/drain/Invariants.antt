@@ -1,5 +1,5 @@
 -- Whatever was taken from the lanes so far, nothing was written.
-use Rattle.fq_run.specs.Stops.{Drains}
+use Rattle.fq_run.specs.collector.Stops.{Drains}
 use Rattle.fq_run.proofs.collector.Collector.drain.Given as goal
 
 abbrev pub invariant-loop : goal.invariant-loop

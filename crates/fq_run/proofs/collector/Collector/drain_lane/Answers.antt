@@ -3,12 +3,12 @@ use Rattle.std.proofs.Common.{◌≡◌, ℕ, ◌<◌, length, refl, sym, ap, �
 use Rattle.fq_lane.specs.declared.taken.Taken.{Taken}
 use Rattle.fq_lane.specs.declared.taken.Taken.TheVariants.{Item}
 use Rattle.fq_work.specs.declared.reply.Reply.{Reply}
-use Rattle.fq_run.specs.Lanes.{TakesAt}
-use Rattle.fq_run.specs.Stops.{Drains}
+use Rattle.fq_run.specs.lanes.Lanes.{TakesAt}
+use Rattle.fq_run.specs.collector.Stops.{Drains}
 use Rattle.fq_run.specs.declared.collector.Collector.{Collector}
 use Rattle.fq_run.specs.declared.collector.phase.Phase.TheVariants.{Writing}
-use Rattle.fq_run.proofs.StopLemmas.{heard_at}
-use Rattle.fq_run.proofs.CollectLemmas.{drains_take}
+use Rattle.fq_run.proofs.collector.StopLemmas.{heard_at}
+use Rattle.fq_run.proofs.collector.CollectLemmas.{drains_take}
 use Rattle.fq_run.proofs.collector.Collector.drain_lane.Goals as goal
 
 -- what was taken, by what it was found to be, is let go

@@ -1,6 +1,6 @@
 -- Whatever was taken from the lanes so far, nothing was written.
 use Rattle.std.proofs.Common.{◌≡◌, vec_len}
-use Rattle.fq_run.specs.Stops.{Drains}
+use Rattle.fq_run.specs.collector.Stops.{Drains}
 use Rattle.fq_run.proofs.collector.Collector.drain_round.Given as goal
 
 abbrev pub invariant-loop-at : goal.invariant-loop-at

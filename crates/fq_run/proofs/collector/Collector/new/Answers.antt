@@ -1,7 +1,7 @@
 -- Nothing came yet.
 use Rattle.std.proofs.Common.{sym, subst, arith, length, ◌≡◌, []}
-use Rattle.fq_run.specs.Lanes.{IsDealt}
-use Rattle.fq_run.proofs.StopLemmas.{no_stops}
+use Rattle.fq_run.specs.lanes.Lanes.{IsDealt}
+use Rattle.fq_run.proofs.collector.StopLemmas.{no_stops}
 use Rattle.fq_run.proofs.collector.Collector.new.Goals as goal
 
 pub returns-clause-hears : goal.returns-clause-hears

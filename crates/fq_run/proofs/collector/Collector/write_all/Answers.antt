@@ -1,5 +1,5 @@
 -- While replies are written no outlet has failed.
-use Rattle.fq_run.proofs.CollectLemmas.{still_writes}
+use Rattle.fq_run.proofs.collector.CollectLemmas.{still_writes}
 use Rattle.fq_run.proofs.collector.Collector.write_all.Goals as goal
 
 pub write_next-requires-clause-outlets : goal.write_next-requires-clause-outlets

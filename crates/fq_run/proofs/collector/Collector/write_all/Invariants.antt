@@ -1,9 +1,9 @@
 -- Whatever was taken from the lanes so far is written.
 use Rattle.std.proofs.Common.{◌≡◌, is_some, vec_len}
-use Rattle.fq_run.specs.Collecting.{Collects}
+use Rattle.fq_run.specs.collector.Collecting.{Collects}
 use Rattle.fq_serial.specs.Devices.{outlet_states}
-use Rattle.fq_run.specs.Lanes.{names_of}
-use Rattle.fq_run.specs.Stops.{HearsAll}
+use Rattle.fq_run.specs.lanes.Lanes.{names_of}
+use Rattle.fq_run.specs.collector.Stops.{HearsAll}
 use Rattle.fq_run.proofs.collector.Collector.write_all.Given as goal
 
 abbrev pub invariant-loop : goal.invariant-loop

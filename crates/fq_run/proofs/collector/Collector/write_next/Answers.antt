@@ -3,12 +3,12 @@ use Rattle.std.proofs.Common.{◌≡◌, ℕ, ◌<◌, refl, ap, ◌∙◌, arit
 use Rattle.fq_lane.specs.History.{History}
 use Rattle.fq_lane.specs.Take.{taken_of}
 use Rattle.fq_work.specs.declared.reply.Reply.{Reply}
-use Rattle.fq_run.specs.Lanes.{TakesAt}
-use Rattle.fq_run.specs.Stops.{HearsAll}
+use Rattle.fq_run.specs.lanes.Lanes.{TakesAt}
+use Rattle.fq_run.specs.collector.Stops.{HearsAll}
 use Rattle.fq_run.specs.declared.collector.Collector.{Collector}
 use Rattle.fq_run.specs.declared.collector.phase.Phase.TheVariants.{AtMark, Stopped, WriteFailed}
-use Rattle.fq_run.proofs.CollectLemmas.{collects_written, collects_broken, collects_at_mark, collects_stopped, hears_take}
-use Rattle.fq_run.proofs.StopLemmas.{heard_at}
+use Rattle.fq_run.proofs.collector.CollectLemmas.{collects_written, collects_broken, collects_at_mark, collects_stopped, hears_take}
+use Rattle.fq_run.proofs.collector.StopLemmas.{heard_at}
 use Rattle.fq_run.proofs.collector.Collector.write_next.Goals as goal
 
 -- what was taken, by what it was found to be

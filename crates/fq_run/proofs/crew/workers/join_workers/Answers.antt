@@ -1,7 +1,7 @@
 -- Another is joined.
 use Rattle.std.proofs.Common.{arith, ◌∙◌, length-append, [], ◌∷◌}
-use Rattle.fq_run.specs.Crews.{Joined}
-use Rattle.fq_run.proofs.CrewLemmas.{zip_pushed}
+use Rattle.fq_run.specs.crew.Workers.{Joined}
+use Rattle.fq_run.proofs.EachLemmas.{zip_pushed}
 use Rattle.fq_run.proofs.crew.workers.join_workers.Goals as goal
 
 pub loop-hand-preserved : goal.loop-hand-preserved

@@ -1,7 +1,7 @@
 -- The workers so far are joined.
 use Rattle.std.proofs.Common.{◌≡◌, length, vec_len, vec_capacity}
 use Rattle.std.specs.List.{AllZip}
-use Rattle.fq_run.specs.Crews.{Joined}
+use Rattle.fq_run.specs.crew.Workers.{Joined}
 use Rattle.fq_run.proofs.crew.workers.join_workers.Given as goal
 
 abbrev pub invariant-loop-hand : goal.invariant-loop-hand

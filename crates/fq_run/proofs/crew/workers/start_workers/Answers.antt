@@ -1,7 +1,7 @@
 -- Another is started.
 use Rattle.std.proofs.Common.{arith, ◌∙◌, length-append, [], ◌∷◌}
-use Rattle.fq_run.specs.Crews.{Seated}
-use Rattle.fq_run.proofs.CrewLemmas.{zip_pushed}
+use Rattle.fq_run.specs.crew.Workers.{Seated}
+use Rattle.fq_run.proofs.EachLemmas.{zip_pushed}
 use Rattle.fq_run.proofs.crew.workers.start_workers.Goals as goal
 
 pub loop-ends-preserved : goal.loop-ends-preserved

@@ -1,7 +1,7 @@
 -- A worker is started for each of the seats so far.
 use Rattle.std.proofs.Common.{◌≡◌, length, vec_len, vec_capacity}
 use Rattle.std.specs.List.{AllZip}
-use Rattle.fq_run.specs.Crews.{Seated}
+use Rattle.fq_run.specs.crew.Workers.{Seated}
 use Rattle.fq_run.proofs.crew.workers.start_workers.Given as goal
 
 abbrev pub invariant-loop-ends : goal.invariant-loop-ends

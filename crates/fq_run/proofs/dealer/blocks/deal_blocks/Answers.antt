@@ -2,7 +2,7 @@
 use Rattle.std.proofs.Common.{◌≡◌, ◌%◌, suc, length, ap, ◌∙◌, arith}
 use Rattle.fq_block.specs.Blocks.{Numbered}
 use Rattle.fq_serial.proofs.FillLemmas.{fills_as}
-use Rattle.fq_run.proofs.DealerLemmas.{deals_none, deals_more, deals_last}
+use Rattle.fq_run.proofs.dealer.DealerLemmas.{deals_none, deals_more, deals_last}
 use Rattle.fq_run.proofs.dealer.blocks.deal_blocks.Goals as goal
 
 pub dealing-init : goal.dealing-init

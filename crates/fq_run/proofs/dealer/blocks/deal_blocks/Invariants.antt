@@ -1,6 +1,6 @@
 -- All blocks so far are full and dealt out. Each brings the end nearer, since it takes bytes.
 use Rattle.std.proofs.Common.{◌≡◌, ◌-◌, vec_len}
-use Rattle.fq_run.proofs.DealerLemmas.{DealsFull}
+use Rattle.fq_run.proofs.dealer.DealerLemmas.{DealsFull}
 use Rattle.fq_run.proofs.dealer.blocks.deal_blocks.Given as goal
 
 abbrev pub invariant-dealing : goal.invariant-dealing

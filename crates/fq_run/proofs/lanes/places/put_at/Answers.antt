@@ -1,5 +1,5 @@
 use Rattle.std.proofs.Common.{arith, ap}
-use Rattle.fq_run.proofs.LaneLemmas.{names_written}
+use Rattle.fq_run.proofs.lanes.LaneLemmas.{names_written}
 use Rattle.fq_run.proofs.lanes.places.put_at.Goals as goal
 
 pub returns-clause-names : goal.returns-clause-names

@@ -1,5 +1,5 @@
 use Rattle.std.proofs.Common.{arith}
-use Rattle.fq_run.proofs.LaneLemmas.{taken_names}
+use Rattle.fq_run.proofs.lanes.LaneLemmas.{taken_names}
 use Rattle.fq_run.proofs.lanes.places.take_at.Goals as goal
 
 pub returns-clause-names : goal.returns-clause-names

@@ -1,6 +1,6 @@
 use Rattle.std.proofs.Common.{arith}
 use Rattle.fq_lane.specs.Take.{taken_of}
-use Rattle.fq_run.proofs.LaneLemmas.{taken_names}
+use Rattle.fq_run.proofs.lanes.LaneLemmas.{taken_names}
 use Rattle.fq_run.proofs.lanes.places.take_wait_at.Goals as goal
 
 pub returns-clause-names : goal.returns-clause-names

@@ -1,5 +1,5 @@
 -- So many workers have their lanes.
-use Rattle.fq_run.specs.Crews.{IsLaid, AreFor, KeepRoom}
+use Rattle.fq_run.specs.lanes.Laying.{IsLaid, AreFor, KeepRoom}
 use Rattle.fq_run.proofs.lanes.seats.lay.Given as goal
 
 abbrev pub invariant-loop : goal.invariant-loop

@@ -1,7 +1,7 @@
 -- The lanes of the new worker are as they are made.
 use Rattle.std.proofs.Common.{refl, sym}
-use Rattle.fq_run.specs.Crews.{Laid}
-use Rattle.fq_run.proofs.CrewLemmas.{each3_pushed, fresh_is}
+use Rattle.fq_run.specs.lanes.Laying.{Laid}
+use Rattle.fq_run.proofs.EachLemmas.{each3_pushed, fresh_is}
 use Rattle.fq_run.proofs.lanes.seats.Seats.add.Goals as goal
 
 pub returns-clause-laid : goal.returns-clause-laid

@@ -17,19 +17,19 @@ use Rattle.fq_work.specs.declared.reply.Reply.TheVariants.{Done as done, Stop}
 use Rattle.fq_serial.specs.Devices.{OutletStates, AreHealthy, OutletsTook, part_at}
 use Rattle.fq_serial.specs.Sending.{BreaksAt}
 use Rattle.fq_run.specs.Dealing.{every, gather}
-use Rattle.fq_run.specs.Lanes.{lists_of, IsDealt, IsBegun, TakesAt}
-use Rattle.fq_run.specs.Collecting.{written_text, counted_from, counted, before_stop, TookAll, IsHeard, HasStopped, HasBroken, Writes, failed_in, Collects}
-use Rattle.fq_run.specs.Stops.{HearsAll, Drains}
+use Rattle.fq_run.specs.lanes.Lanes.{lists_of, IsDealt, IsBegun, TakesAt}
+use Rattle.fq_run.specs.collector.Collecting.{written_text, counted_from, counted, before_stop, TookAll, IsHeard, HasStopped, HasBroken, Writes, failed_in, Collects}
+use Rattle.fq_run.specs.collector.Stops.{HearsAll, Drains}
 use Rattle.fq_serial.specs.Writing.{with_stop}
 use Rattle.fq_run.specs.declared.collector.Collector.{Collector}
 use Rattle.fq_serial.specs.declared.halt.Halt.{Halt}
 use Rattle.fq_run.specs.declared.collector.phase.Phase.{Phase}
 use Rattle.fq_run.specs.declared.collector.phase.Phase.TheVariants.{Writing, AtMark, Stopped, WriteFailed}
 use Rattle.fq_run.proofs.DealLemmas.{turn_more}
-use Rattle.fq_run.proofs.LaneLemmas.{dealt_item, at_mark_closed, at_mark_takes, begun_takes, takes_length, takes_names}
+use Rattle.fq_run.proofs.lanes.LaneLemmas.{dealt_item, at_mark_closed, at_mark_takes, begun_takes, takes_length, takes_names}
 use Rattle.fq_serial.proofs.OutletLemmas.{all_took_then, all_took_same, still_healthy}
-use Rattle.fq_run.proofs.StopLemmas.{heard_at, stops_taken}
-use Rattle.fq_run.proofs.TurnLemmas.{begun_gather, at_mark_gather}
+use Rattle.fq_run.proofs.collector.StopLemmas.{heard_at, stops_taken}
+use Rattle.fq_run.proofs.collector.TurnLemmas.{begun_gather, at_mark_gather}
 
 -- One reply more.
 

@@ -3,7 +3,7 @@ use Rattle.std.proofs.Common.{◌≡◌, false, List, [], ◌∷◌, ◌++◌, l
 use Rattle.std.specs.List.{AllZip}
 use Rattle.fq_lane.specs.History.{History, Name}
 use Rattle.fq_run.specs.Each.{Each3}
-use Rattle.fq_run.specs.Crews.{fresh}
+use Rattle.fq_run.specs.lanes.Laying.{fresh}
 
 module _ {A B : Type 0} (R : A → B → Type 0) where
   pub zip_push : (xs : List A) (ys : List B) (x : A) (y : B) → AllZip R xs ys → R x y → AllZip R (xs ++ x ∷ []) (ys ++ y ∷ [])

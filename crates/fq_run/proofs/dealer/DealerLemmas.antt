@@ -10,13 +10,13 @@ use Rattle.fq_serial.specs.declared.reading_end.ReadingEnd.{ReadingEnd}
 use Rattle.fq_serial.specs.declared.reading_end.ReadingEnd.TheVariants as reading
 use Rattle.fq_serial.specs.Choices.{Choices}
 use Rattle.fq_run.specs.Dealing.{join, AreEven}
-use Rattle.fq_run.specs.DealingOut.{AreNumbered, AreBlocks, DealsOut, SendsFilled}
+use Rattle.fq_run.specs.dealer.DealingOut.{AreNumbered, AreBlocks, DealsOut, SendsFilled}
 use Rattle.fq_serial.specs.Filling.{Fills}
-use Rattle.fq_run.specs.Lanes.{names_of, IsDealt}
+use Rattle.fq_run.specs.lanes.Lanes.{names_of, IsDealt}
 use Rattle.fq_pair.specs.Walks.{SourceState, Walks, GoesOn}
 use Rattle.fq_serial.specs.Walks.{Reads}
 use Rattle.fq_run.proofs.DealLemmas.{turn_more}
-use Rattle.fq_run.proofs.LaneLemmas.{dealt_offer}
+use Rattle.fq_run.proofs.lanes.LaneLemmas.{dealt_offer}
 use Rattle.fq_serial.proofs.WalkLemmas.{walks_none, walks_then, reads_then}
 use Rattle.fq_pair.proofs.SideLemmas.{walked_records}
 

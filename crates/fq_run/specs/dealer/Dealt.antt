@@ -5,7 +5,7 @@ use Rattle.fq_lane.specs.History.{History, with_mark}
 use Rattle.fq_lane.specs.declared.tx.NotEnded.{NotEnded}
 use Rattle.fq_block.specs.Blocks.{Numbered}
 use Rattle.fq_serial.specs.Choices.{Choices}
-use Rattle.fq_run.specs.DealingOut.{MayDeal, DealsOut}
+use Rattle.fq_run.specs.dealer.DealingOut.{MayDeal, DealsOut}
 use Rattle.fq_run.specs.declared.dealer.Dealer.{Dealer}
 use Rattle.fq_pair.specs.Walks.{SourceState}
 use Rattle.fq_serial.specs.declared.reading_end.ReadingEnd.{ReadingEnd}

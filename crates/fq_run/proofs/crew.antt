@@ -1,0 +1,2 @@
+-- Lemmas on the threads that trim.
+pub mod WorkerLemmas

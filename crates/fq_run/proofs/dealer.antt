@@ -1,0 +1,2 @@
+-- Lemmas on the thread that reads.
+pub mod DealerLemmas

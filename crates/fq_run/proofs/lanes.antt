@@ -1,0 +1,2 @@
+-- Lemmas on the lanes.
+pub mod LaneLemmas

@@ -1,0 +1,3 @@
+-- The thread that writes.
+pub mod Collecting
+pub mod Stops

@@ -1,0 +1,2 @@
+-- The threads that trim.
+pub mod Workers

@@ -1,0 +1,3 @@
+-- The thread that reads.
+pub mod DealingOut
+pub mod Dealt
