@@ -1,5 +1,6 @@
 -- A run on several threads: what is ready before its threads, how it is concluded, and what it promises.
-use Rattle.std.specs.Prelude.{◌≡◌, ◌≤◌, ◌<◌, ℕ, IsTrue, ◌↔◌, Option, Some, None, IfSome, IsSome, Result, IsOkAnd, List, [], length, vec_len, vec_capacity}
+use Rattle.std.specs.Prelude.{◌≡◌, ◌≤◌, ◌<◌, ℕ, IsTrue, ◌↔◌, List, [], length, vec_len, vec_capacity}
+use Rattle.std.specs.Prelude.{Option, Some, None, IfSome, IsSome, Result, IsOkAnd}
 use Rattle.std.specs.List.{AllZip}
 use Rattle.std.specs.Option.{option_map}
 use Rattle.fq_lane.specs.declared.tx.NotEnded.{NotEnded}
@@ -71,7 +72,8 @@ pub record IsManned {S : Type 0} (crew : Crew S) (replies : List (History Reply)
   pub worked : (crew.worked.items ≡ []) × (vec_len crew.hands ≤ vec_capacity crew.worked)
 
 -- Behind the joins the ends of all lanes are confirmed, or one is not; then the first that occurred is answered.
-pub record Concludes {S : Type 0} (started : Result (History (Unit {0})) NotEnded) (dealt : Dealt S) (worked : List Worked) (k : Collector) (failed : Option Out) (ending : Conclusion S) : Type 0 where
+pub record Concludes {S : Type 0} (started : Result (History (Unit {0})) NotEnded) (dealt : Dealt S) (worked : List Worked)
+    (k : Collector) (failed : Option Out) (ending : Conclusion S) : Type 0 where
   pub total : ending.total ≡ k.total
   pub source : ending.source ≡ Some dealt.source
   pub lane : IfSome ending.unended (λ unended. ending.outcome ≡ outcome.Lane)

@@ -98,9 +98,11 @@ impl Collector {
 
     // Writes replies in turn, until nothing more is to be written.
     fn write_all<R: Wait, O: Outlet>(&mut self, rt: &R, outlets: &mut Outlets<O>)
-        requires collects { Collects (is_some self.old.total.tally) (vec_len self.old.replies) (outlet_states O.state outlets.old) (outlet_states O.state outlets.old) self.old }
+        requires collects { Collects (is_some self.old.total.tally) (vec_len self.old.replies)
+            (outlet_states O.state outlets.old) (outlet_states O.state outlets.old) self.old }
         requires outlets { AreHealthy (outlet_states O.state outlets.old) }
-        ensures collects { Collects (is_some self.old.total.tally) (vec_len self.old.replies) (outlet_states O.state outlets.old) (outlet_states O.state outlets.new) self.new }
+        ensures collects { Collects (is_some self.old.total.tally) (vec_len self.old.replies)
+            (outlet_states O.state outlets.old) (outlet_states O.state outlets.new) self.new }
         ensures names { names_of self.new.replies.items ≡ names_of self.old.replies.items }
         ensures over { self.new.phase ≡ Phase.Writing → ⊥ }
         ensures hears { HearsAll self.old → HearsAll self.new }
@@ -120,7 +122,8 @@ impl Collector {
         requires turn { self.old.turn < vec_len self.old.replies }
         requires backs { vec_len self.old.texts_back ≡ vec_len self.old.replies }
         requires outlets { AreHealthy (outlet_states O.state outlets.old) }
-        ensures collects { (tallied : Bool) (before : OutletStates) → Collects tallied (vec_len self.old.replies) before (outlet_states O.state outlets.old) self.old
+        ensures collects { (tallied : Bool) (before : OutletStates)
+            → Collects tallied (vec_len self.old.replies) before (outlet_states O.state outlets.old) self.old
             → Collects tallied (vec_len self.old.replies) before (outlet_states O.state outlets.new) self.new }
         ensures names { names_of self.new.replies.items ≡ names_of self.old.replies.items }
         ensures hears { HearsAll self.old → HearsAll self.new }

@@ -68,37 +68,22 @@ impl Lanes {
           texts_back = self.seats.texts_back;
         } }
     {
-        let Lanes {
-            starter,
-            start,
-            seats,
-            closings,
-            hands,
-            worked,
-            total,
-        } = self;
-        let Seats {
-            to,
-            blocks_back,
-            ends,
-            replies,
-            texts_back,
-        } = seats;
+        let seats = self.seats;
         let dealer = Dealer {
-            start,
+            start: self.start,
             source,
-            to,
-            blocks_back,
-            closings,
+            to: seats.to,
+            blocks_back: seats.blocks_back,
+            closings: self.closings,
         };
         let ready = Ready {
-            starter,
-            ends,
-            hands,
-            worked,
-            total,
-            replies,
-            texts_back,
+            starter: self.starter,
+            ends: seats.ends,
+            hands: self.hands,
+            worked: self.worked,
+            total: self.total,
+            replies: seats.replies,
+            texts_back: seats.texts_back,
         };
         (dealer, ready)
     }

@@ -32,7 +32,8 @@ use std::thread::Threads;
 /// In the end all threads are joined, and all lanes are confirmed: what came at one end is what left the other. Where more than one
 /// of the outcomes occurred the first in the order of [`Outcome`] is answered. At [`Outcome::Lane`] the ending has the lane's
 /// [`NotEnded`], and nothing is said of outputs and counts. At every other outcome the counts are those of the pairs whose block was
-/// written whole, and so is the tally, where the settings ask for one; where memory for it is refused nothing is read. Both feeds are handed back as they stand, but where the reading thread could not be started both are lost.
+/// written whole, and so is the tally, where the settings ask for one; where memory for it is refused nothing is read. Both feeds are
+/// handed back as they stand, but where the reading thread could not be started both are lost.
 /// Where memory was refused before the first thread nothing is read or written. Where a thread was refused nothing is read or written
 /// either: no outlet is called, and feeds that are handed back are as they were.
 ///

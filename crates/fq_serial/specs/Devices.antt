@@ -1,5 +1,6 @@
 -- Devices as contracts see them, and what a run does with them.
-use Rattle.std.specs.Prelude.{◌≡◌, ℕ, ◌+◌, ◌-◌, nat_lt, ◌==◌, IsTrue, Option, Some, None, IfSome, List, [], ◌++◌, length, take, if◌then◌else◌}
+use Rattle.std.specs.Prelude.{◌≡◌, ℕ, ◌+◌, ◌-◌, nat_lt, ◌==◌, IsTrue, if◌then◌else◌}
+use Rattle.std.specs.Prelude.{Option, Some, None, IfSome, List, [], ◌++◌, length, take}
 use Rattle.std.specs.Option.{option_map}
 use Rattle.fq_text.specs.Devices.{FeedState, OutletState}
 use Rattle.fq_pair.specs.declared.out.Out.{Out}

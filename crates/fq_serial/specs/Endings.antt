@@ -38,7 +38,8 @@ pub record Run : Type 0 where
   pub counts : Counts
   pub tally : Option Tally
 
-abbrev pub run_of : {F G O : Type 0} → (F → FeedState) → (G → FeedState) → (Outlets O → OutletStates) → F → G → Outlets O → Outlets O → Ending F G → Run
+abbrev pub run_of : {F G O : Type 0} → (F → FeedState) → (G → FeedState) → (Outlets O → OutletStates) →
+    F → G → Outlets O → Outlets O → Ending F G → Run
 run_of forward_state reverse_state states forward reverse outlets outlets_left ending = record {
   form = TwoTexts;
   forward = forward_state forward;
@@ -52,7 +53,8 @@ run_of forward_state reverse_state states forward reverse outlets outlets_left e
   tally = ending.tally;
 }
 
-abbrev pub interleaved_run_of : {F O : Type 0} → (F → FeedState) → (Outlets O → OutletStates) → F → Outlets O → Outlets O → MixedEnding F → Run
+abbrev pub interleaved_run_of : {F O : Type 0} → (F → FeedState) → (Outlets O → OutletStates) →
+    F → Outlets O → Outlets O → MixedEnding F → Run
 interleaved_run_of feed_state states feed outlets outlets_left ending = record {
   form = InterleavedText;
   forward = feed_state feed;
@@ -154,7 +156,8 @@ pub record IsJustified (c : Choices) (run : Run) (whole : List Mates) (fate : Fa
   pub spawn : run.outcome ≡ outcome.Spawn → whole ≡ []
   pub write : (out : Out) → run.outcome ≡ outcome.Write out → failed_outlet fate ≡ Some out
   pub read : (side : Side) → run.outcome ≡ outcome.Read side → failures_in (feed_left side run) ≡ 1
-  pub endless : (side : Side) → run.outcome ≡ outcome.Endless side → IsTrue (feed_of side run).tells → c.max_reads ≤ length (gave_to (feed_of side run) (feed_left side run))
+  pub endless : (side : Side) → run.outcome ≡ outcome.Endless side → IsTrue (feed_of side run).tells →
+      c.max_reads ≤ length (gave_to (feed_of side run) (feed_left side run))
   pub outlet_failed : (out : Out) → failed_outlet fate ≡ Some out → rank run.outcome ≤ 5
   pub feed_failed : (side : Side) → 0 < failures_in (feed_left side run) → rank run.outcome ≤ 6
   pub cut_at_read : AreTold run → (side : Side) → run.outcome ≡ outcome.Read side → length (pairs_given c run) ≤ length whole

@@ -40,7 +40,8 @@ pub record IsCounted (c : Choices) (whole : List Mates) (halt : Halt) (why : Opt
   pub tally : (total.tally ≡ tally_if c.tallied c.steps whole) ⊎ ((total.tally ≡ None) × (halt ≡ no_halt) × (why ≡ Some reading.Memory))
 
 -- Pairs were read, up to where the reading stopped, and written, up to where a write failed or a worker stopped: those behind these were missed.
-pub record Passes (c : Choices) (old new : SourceState) (before after : OutletStates) (counted : Total) (halt : Halt) (why : Option ReadingEnd) (broken : Option Out) : Type 0 where
+pub record Passes (c : Choices) (old new : SourceState) (before after : OutletStates)
+    (counted : Total) (halt : Halt) (why : Option ReadingEnd) (broken : Option Out) : Type 0 where
   pub whole : List Mates
   pub fate : Fate
   pub missed : List Mates
@@ -54,7 +55,8 @@ pub record Passes (c : Choices) (old new : SourceState) (before after : OutletSt
   pub missed_none : halt ≡ no_halt → broken ≡ None → missed ≡ []
 
 -- the same from the feeds on
-pub record Runs (form : Form) (c : Choices) (f r f' r' : FeedState) (before after : OutletStates) (counted : Total) (halt : Halt) (why : Option ReadingEnd) (broken : Option Out) : Type 0 where
+pub record Runs (form : Form) (c : Choices) (f r f' r' : FeedState) (before after : OutletStates)
+    (counted : Total) (halt : Halt) (why : Option ReadingEnd) (broken : Option Out) : Type 0 where
   pub new : SourceState
   pub passes : Passes c (fresh_source form c f r) new before after counted halt why broken
   pub forward : f' ≡ feed_in new.forward

@@ -1,6 +1,6 @@
 //! The settings of a run.
 
-ghost use Rattle.std.specs.Prelude.{◌≡◌, ◌≤◌, ◌^◌, false};
+ghost use Rattle.std.specs.Prelude.{◌≡◌, ◌≤◌, ◌^◌, true, false, OnOk, IfErr};
 ghost use Rattle.fq_serial.specs.Ranges.{within};
 
 use fq_text::Encoding;
@@ -134,24 +134,12 @@ impl Settings {
           tallied = false;
         }) }
     {
-        if !is_within(MOST_WORKERS, workers) {
-            return Err(BadSetting::Workers);
-        }
-        if !is_within(MOST_PAIRS, block_pairs) {
-            return Err(BadSetting::BlockPairs);
-        }
-        if !is_within(MOST_DEPTH, depth) {
-            return Err(BadSetting::Depth);
-        }
-        if !is_within(MOST_BYTES, chunk) {
-            return Err(BadSetting::Chunk);
-        }
-        if !is_within(MOST_TURNS, max_reads) {
-            return Err(BadSetting::MaxReads);
-        }
-        if !is_within(MOST_TURNS, gate_turns) {
-            return Err(BadSetting::GateTurns);
-        }
+        in_range(MOST_WORKERS, workers, BadSetting::Workers)?;
+        in_range(MOST_PAIRS, block_pairs, BadSetting::BlockPairs)?;
+        in_range(MOST_DEPTH, depth, BadSetting::Depth)?;
+        in_range(MOST_BYTES, chunk, BadSetting::Chunk)?;
+        in_range(MOST_TURNS, max_reads, BadSetting::MaxReads)?;
+        in_range(MOST_TURNS, gate_turns, BadSetting::GateTurns)?;
         Ok(Settings {
             encoding,
             steps,
@@ -259,9 +247,14 @@ impl Settings {
     }
 }
 
-// From 1 to the most.
-fn is_within(most: u64, number: u64) -> bool
-    ensures { result ≡ within most number }
+// Whether a number is from 1 to the most; this answer where it is not.
+fn in_range(most: u64, number: u64, bad: BadSetting) -> Result<(), BadSetting>
+    ensures ok { OnOk result (within most number ≡ true) }
+    ensures err { IfErr result (λ why. (why ≡ bad) × (within most number ≡ false)) }
 {
-    1 <= number && number <= most
+    if 1 <= number && number <= most {
+        Ok(())
+    } else {
+        Err(bad)
+    }
 }

@@ -1,5 +1,6 @@
 -- The blocks of all pairs, dealt out to the lanes of the workers.
-use Rattle.std.specs.Prelude.{◌≡◌, ℕ, suc, ◌+◌, ◌<◌, ◌≤◌, ◌^◌, Option, Some, List, [], ◌∷◌, map, length, slice_index_or, slice_set}
+use Rattle.std.specs.Prelude.{◌≡◌, ℕ, suc, ◌+◌, ◌<◌, ◌≤◌, ◌^◌, Option, Some}
+use Rattle.std.specs.Prelude.{List, [], ◌∷◌, map, length, slice_index_or, slice_set}
 use Rattle.fq_text.specs.declared.encoding.Encoding.{Encoding}
 use Rattle.fq_lane.specs.History.{History, with_item}
 use Rattle.fq_block.specs.Blocks.{Numbered}

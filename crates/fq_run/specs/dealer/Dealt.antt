@@ -20,14 +20,16 @@ pub record CanDeal {S : Type 0} (c : Choices) (s : SourceState) (dealer : Dealer
   pub deals : MayDeal c s (vec_len dealer.to) (vec_len dealer.blocks_back) dealer.to.items
 
 -- the blocks of the pairs that were read were dealt out to lanes, which are closed
-pub record Deals (c : Choices) (old new : SourceState) (to : List (History Numbered)) (closings : List (Result (History Numbered) NotEnded)) (why : Option ReadingEnd) : Type 0 where
+pub record Deals (c : Choices) (old new : SourceState) (to : List (History Numbered))
+    (closings : List (Result (History Numbered) NotEnded)) (why : Option ReadingEnd) : Type 0 where
   pub sent : List (History Numbered)
   pub out : DealsOut c old new to sent why
   pub ends : AllZip Closed sent closings
 
 -- The same, and the start lane is taken to its mark. Where there was a start, the reading has ended; where there was none, nothing was
 -- read, and nothing sent.
-pub record HasDealt (c : Choices) (old new : SourceState) (start start_left : History (Unit {0})) (to : List (History Numbered)) (closings : List (Result (History Numbered) NotEnded)) (why : Option ReadingEnd) : Type 0 where
+pub record HasDealt (c : Choices) (old new : SourceState) (start start_left : History (Unit {0})) (to : List (History Numbered))
+    (closings : List (Result (History Numbered) NotEnded)) (why : Option ReadingEnd) : Type 0 where
   pub name : start_left.name ≡ start.name
   pub closed : start_left.marked ≡ true
   pub started : 0 < length start_left.items → why ≡ None → ⊥

@@ -36,5 +36,6 @@ HaveRoom workers seats =
 -- the room stays
 abbrev pub KeepRoom : Seats → Seats → Type 0
 KeepRoom old new =
-    (vec_capacity new.to ≡ vec_capacity old.to) × (vec_capacity new.blocks_back ≡ vec_capacity old.blocks_back) × (vec_capacity new.ends ≡ vec_capacity old.ends)
+    (vec_capacity new.to ≡ vec_capacity old.to) × (vec_capacity new.blocks_back ≡ vec_capacity old.blocks_back)
+    × (vec_capacity new.ends ≡ vec_capacity old.ends)
     × (vec_capacity new.replies ≡ vec_capacity old.replies) × (vec_capacity new.texts_back ≡ vec_capacity old.texts_back)
