@@ -16,7 +16,7 @@ use Rattle.fq_job.specs.declared.refusal.Refusal.{Refusal}
 use Rattle.fq_words.specs.Requests.{Asking, input_name}
 use Rattle.fq_job.specs.Judging.{wrong_with}
 use Rattle.fq_job.specs.Refusals.{status_of, line_of}
-use Rattle.fq_job.specs.Faults.{outcome_status, outcome_line}
+use Rattle.fq_job.specs.Faults.{memory_words, outcome_status, outcome_line}
 use Rattle.fq_job.specs.Trimming.{HasDistinctFiles, TrimsFiles}
 use Rattle.fq_job.specs.Leaving.{RefusalLeaves, ReportLeft, HoldFirstPairs, AreLeft}
 use Rattle.fq_job.specs.Reporting.{HoldsReport, BeginsReport}
@@ -54,7 +54,7 @@ pub record EndsWhole (a : Asking) (old new : Holding) (out err : Device) (status
   pub told : TookText err (outcome_line outcome)
 
 abbrev pub memory_line : List ℕ
-memory_line = line (codes "out of memory")
+memory_line = line memory_words
 
 abbrev pub print_line : List ℕ
 print_line = line (codes "cannot print")

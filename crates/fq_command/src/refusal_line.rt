@@ -6,7 +6,7 @@ ghost use Rattle.std.specs.String.{string_bytes};
 ghost use Rattle.fq_words.specs.Requests.{asking_of};
 ghost use Rattle.fq_job.specs.Refusals.{status_of, line_of, step_fault_name, setting_name};
 
-use fq_job::Refusal;
+use fq_job::{MEMORY_LINE, Refusal};
 use fq_run::BadSetting;
 use fq_text::OutOfMemory;
 use fq_trim::StepFaultKind;
@@ -51,7 +51,7 @@ pub(crate) fn refusal_line(
         Refusal::Target(out) => unwritten_line(alloc, request.output_name(out)),
         Refusal::SameReport => same_name_line(alloc, report_name(request)),
         Refusal::Report => unwritten_line(alloc, report_name(request)),
-        Refusal::Memory => String::from_str(alloc, "out of memory\n"),
+        Refusal::Memory => String::from_str(alloc, MEMORY_LINE),
     }
 }
 

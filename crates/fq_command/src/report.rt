@@ -5,7 +5,7 @@ ghost use Rattle.fq_pair.specs.Summaries.{summary_of};
 ghost use Rattle.fq_command.specs.Answers.{device_of, TookText, TookPart, Reports, LacksMemory, memory_line, print_line, report_line};
 ghost use Rattle.fq_job.specs.Faults.{outcome_status, outcome_line};
 
-use fq_job::{Account, fault_line, status_of};
+use fq_job::{Account, MEMORY_LINE, fault_line, status_of};
 use fq_pair::{Counts, summary};
 use fq_run::Outcome;
 use fq_text::{OutOfMemory, Outlet, send};
@@ -87,7 +87,7 @@ pub fn out_of_memory<E: Outlet>(err: &mut E) -> u8
     requires { (E.state err.old).failures ≡ 0 }
     ensures { LacksMemory (device_of E.state err.old err.new) result }
 {
-    let _ = send(err, b"out of memory\n");
+    let _ = send(err, MEMORY_LINE.as_bytes());
     5
 }
 

@@ -61,12 +61,16 @@ input_words (Text side fault) = at_record side (record_and_name fault).0 (record
 input_words (MateMissing side k) = at_record side k (codes "MateMissing")
 input_words (NamesDiffer k) = codes "input: record " ++ decimal k ++ codes ": NamesDiffer"
 
+-- what is said of want of memory, wherever it came
+abbrev pub memory_words : List ℕ
+memory_words = codes "out of memory"
+
 -- The line of an outcome with its line end, and nothing where all is done.
 abbrev pub line_when : Outcome → List ℕ
 line_when Spawn = line (codes "cannot start a thread")
 line_when Lane = line (codes "lane not confirmed")
 line_when Gate = line (codes "gate closed")
-line_when Memory = line (codes "out of memory")
+line_when Memory = line memory_words
 line_when (Write out) = line (codes "write failed: " ++ out_name out)
 line_when (Read side) = line (codes "read failed: " ++ side_name side)
 line_when (Endless side) = line (codes "endless input: " ++ side_name side)

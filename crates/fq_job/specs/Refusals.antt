@@ -5,6 +5,7 @@ use Rattle.fq_trim.specs.declared.fault.StepFaultKind.{StepFaultKind}
 use Rattle.fq_trim.specs.declared.fault.StepFaultKind.TheVariants as step
 use Rattle.fq_run.specs.BadSetting.{BadSetting}
 use Rattle.fq_run.specs.BadSetting.TheVariants as setting
+use Rattle.fq_job.specs.Faults.{memory_words}
 use Rattle.fq_job.specs.declared.refusal.Refusal.{Refusal}
 use Rattle.fq_job.specs.declared.refusal.Refusal.TheVariants.{Encoding, Step, Setting, SameName, Source, Target, SameReport, Report, Memory}
 use Rattle.fq_words.specs.Requests.{Asking, input_name, output_name}
@@ -47,7 +48,7 @@ words_of a (Source side) = codes "cannot read " ++ input_name a.inputs side
 words_of a (Target out) = codes "cannot write " ++ unwrap_or (output_name a out) []
 words_of a SameReport = codes "same name: " ++ unwrap_or a.report []
 words_of a Report = codes "cannot write " ++ unwrap_or a.report []
-words_of a Memory = codes "out of memory"
+words_of a Memory = memory_words
 
 abbrev pub line_of : Asking → Refusal → List ℕ
 line_of a refusal = line (words_of a refusal)

@@ -12,7 +12,7 @@ mod refusal;
 mod reporting;
 mod trimming;
 
-pub use outcome_line::{fault_line, status_of};
+pub use outcome_line::{MEMORY_LINE, fault_line, status_of};
 pub use refusal::Refusal;
 pub use reporting::Reported;
 pub use trimming::{Account, Completed, trim_files};

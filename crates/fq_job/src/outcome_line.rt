@@ -10,6 +10,9 @@ use fq_run::Outcome;
 use fq_text::{OutOfMemory, TextFault};
 use std::alloc::Global;
 
+/// What is said of want of memory, wherever it came, with its line end.
+pub const MEMORY_LINE: &str = "out of memory\n";
+
 // The outcome as it is told: a text that could not be read on is no fault of the text.
 fn settled(outcome: &Outcome) -> Outcome
     ensures { result ≡ settled outcome.now }
@@ -59,7 +62,7 @@ fn made_line(alloc: Global, outcome: Outcome) -> Result<String, OutOfMemory>
         Outcome::Spawn => String::from_str(alloc, "cannot start a thread\n"),
         Outcome::Lane => String::from_str(alloc, "lane not confirmed\n"),
         Outcome::Gate => String::from_str(alloc, "gate closed\n"),
-        Outcome::Memory => String::from_str(alloc, "out of memory\n"),
+        Outcome::Memory => String::from_str(alloc, MEMORY_LINE),
         Outcome::Write(out) => format!(in alloc; "write failed: {out}\n"),
         Outcome::Read(side) => format!(in alloc; "read failed: {side}\n"),
         Outcome::Endless(side) => format!(in alloc; "endless input: {side}\n"),
