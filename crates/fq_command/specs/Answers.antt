@@ -83,13 +83,15 @@ pub record IsEnding (a : Asking) (tells : Bool) (old new : Holding) (status : �
   pub status_is : outcome_status outcome ≡ status
   pub text_is : outcome_line outcome ≡ text
   pub left : IsTrue tells → HasDistinctFiles a → outcome ≢ Lane → HoldFirstPairs a old new outcome
-  pub unreported : IsTrue tells → outcome_status outcome ≢ 0 → outcome_status outcome ≢ 3 → (name : List ℕ) → a.report ≡ Some name → new name ≡ Some []
+  pub unreported : IsTrue tells → outcome_status outcome ≢ 0 → outcome_status outcome ≢ 3 → (name : List ℕ) → a.report ≡ Some name →
+      new name ≡ Some []
 
 -- all pairs were trimmed, and the summary could not be printed
 pub record IsUnprinted (a : Asking) (tells : Bool) (old new : Holding) (status : ℕ) (text : List ℕ) : Type 0 where
   pub status_is : status ≡ 4
   pub text_is : text ≡ print_line
-  pub left : IsTrue tells → HasDistinctFiles a → (outcome : Outcome) × (counts : Counts) × (outcome_status outcome ≡ 0) × TrimsFiles a old new outcome counts
+  pub left : IsTrue tells → HasDistinctFiles a →
+      (outcome : Outcome) × (counts : Counts) × (outcome_status outcome ≡ 0) × TrimsFiles a old new outcome counts
   pub reported : IsTrue tells → (name : List ℕ) → a.report ≡ Some name → HoldsReport a old new name
 
 -- all pairs were trimmed, up to the end or to a fault of the inputs, and the report could not be written

@@ -85,7 +85,8 @@ fn shown(
     account: Account,
     outlets: &Outlets<ScriptOutlet>,
 ) -> Result<Vec<u8>, Unshown>
-    ensures text { IfOk result (λ text. (account.outcome ≡ Outcome.Finished) × ((log : List ℕ) × (option_map (λ l. l.bytes) outlets.now.log ≡ Some log)
+    ensures text { IfOk result (λ text. (account.outcome ≡ Outcome.Finished)
+        × ((log : List ℕ) × (option_map (λ l. l.bytes) outlets.now.log ≡ Some log)
         × (text.items ≡ sections outlets.now.forward_paired.bytes outlets.now.forward_unpaired.bytes
         outlets.now.reverse_paired.bytes outlets.now.reverse_unpaired.bytes log (summary_of account.counts)))) }
     ensures unrun { IfErr result (λ why. (unrun : Account) → why ≡ Unrun unrun → outcome_status unrun.outcome ≡ 6) }

@@ -73,11 +73,13 @@ pub(crate) fn store_report<T: Files>(
 ) -> Reported
     requires there { is_some target ≡ is_some (asking_of request.now).report }
     requires fresh { IfSome target (λ t. (T.Target.state t).failures ≡ 0) }
-    requires held { IsTrue (T.tells_bytes files.old) → (name : List ℕ) → (asking_of request.now).report ≡ Some name → IsSome (T.bytes_of files.old name) }
+    requires held { IsTrue (T.tells_bytes files.old) → (name : List ℕ) → (asking_of request.now).report ≡ Some name
+        → IsSome (T.bytes_of files.old name) }
     ensures due { result ≢ Reported.NotDue → (outcome_status account.now.outcome ≡ 0) ⊎ (outcome_status account.now.outcome ≡ 3) }
     ensures not_due { result ≡ Reported.NotDue → IsSome (asking_of request.now).report
         → (outcome_status account.now.outcome ≢ 0) × (outcome_status account.now.outcome ≢ 3) }
-    ensures took { IsTrue (T.tells_bytes files.old) → IfSome target (λ t. IsTrue (T.Target.state t).tells) → IfSome target (λ t. (T.Target.state t).taken ≡ [])
+    ensures took { IsTrue (T.tells_bytes files.old) → IfSome target (λ t. IsTrue (T.Target.state t).tells)
+        → IfSome target (λ t. (T.Target.state t).taken ≡ [])
         → (name : List ℕ) → (asking_of request.now).report ≡ Some name
         → (bytes : List ℕ) × (T.bytes_of files.new name ≡ Some bytes) × TookReport result (asking_of request.now) encoding account.now [] bytes }
     ensures others { IsTrue (T.tells_bytes files.old) → (name : List ℕ) → (asking_of request.now).report ≢ Some name
@@ -152,7 +154,8 @@ fn run_text<'a>(
     tally: &'a Tally,
 ) -> Result<String, OutOfMemory>
     requires { (outcome_status account.now.outcome ≡ 0) ⊎ (outcome_status account.now.outcome ≡ 3) }
-    ensures { IfOk result (λ text. string_bytes text ≡ text_of (run_facts (asking_of request.now) encoding account.now.outcome account.now.counts tally.now)) }
+    ensures { IfOk result (λ text. string_bytes text
+        ≡ text_of (run_facts (asking_of request.now) encoding account.now.outcome account.now.counts tally.now)) }
 {
     let mut line = String::new(alloc);
     fault_line(alloc, &mut line, &account.outcome)?;

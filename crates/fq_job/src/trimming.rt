@@ -86,7 +86,8 @@ pub fn trim_files<R: Threads + Wait + Copy + Send + 'static, T: Files>(
     ensures right { wrong_with (asking_of request.now) ≡ None → IfErr result (λ why. status_of why ≢ 2) }
 
     // What the files of the outputs hold at every ending but that of an unconfirmed lane, and where the run was refused.
-    ensures ended { IfOk result (λ trimmed. IsTrue (T.tells_bytes files.old) → HasDistinctFiles (asking_of request.now) → trimmed.account.outcome ≢ Outcome.Lane
+    ensures ended { IfOk result (λ trimmed. IsTrue (T.tells_bytes files.old) → HasDistinctFiles (asking_of request.now)
+        → trimmed.account.outcome ≢ Outcome.Lane
         → HoldFirstPairs (asking_of request.now) (T.bytes_of files.old) (T.bytes_of files.new) trimmed.account.outcome) }
     ensures refused { IfErr result (λ why. IsTrue (T.tells_bytes files.old) → HasDistinctFiles (asking_of request.now)
         → RefusalLeaves (asking_of request.now) why (T.bytes_of files.old) (T.bytes_of files.new)) }

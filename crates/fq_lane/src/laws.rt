@@ -18,7 +18,8 @@ pub fn lane_order<T>()
     // Each call is one event.
     ensures sends_item { (sent : History T) (got : History T) (x : T) → sent.marked ≡ false
         → after_event (lane_of sent got) (push_item x) ≡ lane_of (with_item sent x) got }
-    ensures sends_mark { (sent : History T) (got : History T) → sent.marked ≡ false → after_event (lane_of sent got) push_mark ≡ lane_of (with_mark sent) got }
+    ensures sends_mark { (sent : History T) (got : History T) → sent.marked ≡ false
+        → after_event (lane_of sent got) push_mark ≡ lane_of (with_mark sent) got }
     ensures gets_item { (sent : History T) (got : History T) (x : T) → got.marked ≡ false → next_slot (lane_of sent got) ≡ Item x ∷ []
         → after_event (lane_of sent got) pop ≡ lane_of sent (with_item got x) }
     ensures gets_mark { (sent : History T) (got : History T) → got.marked ≡ false → next_slot (lane_of sent got) ≡ Mark ∷ []

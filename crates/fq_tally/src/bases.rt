@@ -57,7 +57,11 @@ impl BaseTally {
         requires same { length qual.now ≡ length seq.now }
         requires order { from ≤ to }
         requires within { to ≤ length seq.now }
-        ensures { result ≡ bases_of (record { encoding = encoding; seq = take (to - from) (drop from seq.now); qual = take (to - from) (drop from qual.now) }) }
+        ensures { result ≡ bases_of (record {
+          encoding = encoding;
+          seq = take (to - from) (drop from seq.now);
+          qual = take (to - from) (drop from qual.now);
+        }) }
     {
         let letters = letters_of(seq, from, to);
         let scores = scores_of(encoding, qual, from, to);
@@ -85,7 +89,11 @@ impl BaseTally {
         requires same { length qual.now ≡ length seq.now }
         requires order { from ≤ to }
         requires within { to ≤ length seq.now }
-        ensures { result ≡ bases_plus self (bases_of (record { encoding = encoding; seq = take (to - from) (drop from seq.now); qual = take (to - from) (drop from qual.now) })) }
+        ensures { result ≡ bases_plus self (bases_of (record {
+          encoding = encoding;
+          seq = take (to - from) (drop from seq.now);
+          qual = take (to - from) (drop from qual.now);
+        })) }
     {
         if from == to {
             return self;

@@ -32,7 +32,10 @@ impl StepsTally {
 
     // What steps did to one read more.
     pub(crate) fn add(&mut self, trimmed: &Trimmed)
-        ensures { self.new ≡ record { shortened = counted_all trimmed.now.shortened self.old.shortened; dropped = counted_all trimmed.now.dropped self.old.dropped } }
+        ensures { self.new ≡ record {
+          shortened = counted_all trimmed.now.shortened self.old.shortened;
+          dropped = counted_all trimmed.now.dropped self.old.dropped;
+        } }
     {
         for number in trimmed.shortened() {
             self.shortened.count(usize::from(*number));

@@ -80,7 +80,8 @@ FindsTitle state old new encoding parts true = Goes state old new (front encodin
 
 -- the plus line has been found, behind the bases
 abbrev pub FindsPlus : {F : Type 0} → (F → FeedState) → Lined F → Lined F → Read → Read → Unit {0} → Type 0
-FindsPlus state old new before after done = Goes state old new (in_sequence before.encoding before.title []) (at_plus before.encoding before.title after.seq new.line)
+FindsPlus state old new before after done =
+    Goes state old new (in_sequence before.encoding before.title []) (at_plus before.encoding before.title after.seq new.line)
     × (after ≡ record before { seq = after.seq }) × (length after.seq ≤ limit) × (begins_with 43 new.line ≡ true) × (length new.line ≤ limit)
 
 -- the record has been found

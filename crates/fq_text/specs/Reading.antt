@@ -129,7 +129,8 @@ pub record MovesOr {F : Type 0} (state : F → FeedState) (old new : F) (before 
 
 -- one more read was made, or refused
 abbrev pub Fills : {F : Type 0} → (F → FeedState) → Lined F → Lined F → Result Unit ReadError → Type 0
-Fills state old new (res.Ok x) = Reads state old new [] × (length new.in_hand < length old.in_hand + new.chunk + 1) × (new.ended ≡ false → old.taken < new.taken)
+Fills state old new (res.Ok x) =
+    Reads state old new [] × (length new.in_hand < length old.in_hand + new.chunk + 1) × (new.ended ≡ false → old.taken < new.taken)
 Fills state old new (res.Err (error.Fault f)) = ⊥
 Fills state old new (res.Err error.Read) = Reads state old new [] × (new.ended ≡ false) × (new.in_hand ≡ old.in_hand)
 Fills state old new (res.Err error.Endless) = Reads state old new [] × (new.ended ≡ false) × (new.in_hand ≡ old.in_hand) × (new.max_reads ≤ new.taken)

@@ -37,7 +37,8 @@ Answers tallied steps [] [] None = Unit {0}
 Answers tallied steps [] [] (Some cause) = ⊥
 Answers tallied steps [] (reply ∷ replies) cause = ⊥
 Answers tallied steps (block ∷ blocks) [] cause = ⊥
-Answers tallied steps (block ∷ blocks) (done answer ∷ replies) cause = (answer ≡ done_of tallied steps block) × Answers tallied steps blocks replies cause
+Answers tallied steps (block ∷ blocks) (done answer ∷ replies) cause =
+    (answer ≡ done_of tallied steps block) × Answers tallied steps blocks replies cause
 Answers tallied steps (block ∷ blocks) (Stop why ∷ replies) cause = (replies ≡ []) × (cause ≡ Some why)
 
 -- On the way.
