@@ -63,15 +63,17 @@ impl BaseTally {
           qual = take (to - from) (drop from qual.now);
         }) }
     {
-        let letters = letters_of(seq, from, to);
-        let scores = scores_of(encoding, qual, from, to);
+        let low = byte_of(encoding, 20);
+        let high = byte_of(encoding, 30);
+        let counted = count_of(seq, qual, from, to, low, high);
+        let sum = score_sum(encoding, &qual[from..to], counted.sum);
         BaseTally {
             bases: (to - from) as u64,
-            at_least_20: scores.at_least_20,
-            at_least_30: scores.at_least_30,
-            score_sum: scores.sum,
-            gc: letters.gc,
-            n: letters.n,
+            at_least_20: counted.at_least_low,
+            at_least_30: counted.at_least_high,
+            score_sum: sum,
+            gc: counted.gc,
+            n: counted.n,
         }
     }
 
@@ -116,58 +118,55 @@ impl BaseTally {
     }
 }
 
-// How many bases are G or C, and how many are N.
+// What is counted of bases and of their quality bytes.
 #[derive(Drop)]
-struct Letters {
+struct Counted {
     gc: u64,
     n: u64,
-}
-
-// Those of a sequence from `from` up to `to`.
-fn letters_of(seq: &[u8], from: usize, to: usize) -> Letters
-    requires order { from ≤ to }
-    requires within { to ≤ length seq.now }
-    ensures gc { result.gc ≡ count_by is_gc (take (to - from) (drop from seq.now)) }
-    ensures n { result.n ≡ count_by is_n (take (to - from) (drop from seq.now)) }
-{
-    let mut gc = 0;
-    let mut n = 0;
-    let mut at = from;
-    while at < to {
-        let stop = at + WIDTH.min(to - at);
-        let vector = vector_of(seq, at, stop);
-        gc += u64::from(gc_in(vector));
-        n += u64::from(n_in(vector));
-        at = stop;
-    }
-    Letters { gc, n }
-}
-
-// How many scores are at least 20 and 30, and their sum.
-#[derive(Drop)]
-struct Scores {
-    at_least_20: u64,
-    at_least_30: u64,
+    at_least_low: u64,
+    at_least_high: u64,
     sum: u64,
 }
 
-// Those of quality bytes from `from` up to `to`.
-fn scores_of(encoding: Encoding, qual: &[u8], from: usize, to: usize) -> Scores
+// Counts bases from `from` up to `to`, how many of their quality bytes are at least so large as each of two, and the sum of these.
+fn count_of(seq: &[u8], qual: &[u8], from: usize, to: usize, low: u8, high: u8) -> Counted
     requires few { length qual.now ≤ 1048576 }
-    requires scored { list_all (is_scored encoding) qual.now ≡ true }
+    requires same { length qual.now ≡ length seq.now }
     requires order { from ≤ to }
-    requires within { to ≤ length qual.now }
-    ensures at_least_20 { result.at_least_20 ≡ count_by (nat_le 20) (scores encoding (take (to - from) (drop from qual.now))) }
-    ensures at_least_30 { result.at_least_30 ≡ count_by (nat_le 30) (scores encoding (take (to - from) (drop from qual.now))) }
-    ensures sum { result.sum ≡ sum (scores encoding (take (to - from) (drop from qual.now))) }
+    requires within { to ≤ length seq.now }
+    requires low { 1 ≤ low }
+    requires high { 1 ≤ high }
+    ensures gc { result.gc ≡ count_by is_gc (take (to - from) (drop from seq.now)) }
+    ensures n { result.n ≡ count_by is_n (take (to - from) (drop from seq.now)) }
+    ensures low { result.at_least_low ≡ count_by (nat_le low) (take (to - from) (drop from qual.now)) }
+    ensures high { result.at_least_high ≡ count_by (nat_le high) (take (to - from) (drop from qual.now)) }
+    ensures sum { result.sum ≡ sum (take (to - from) (drop from qual.now)) }
 {
-    let low = byte_of(encoding, 20);
-    let high = byte_of(encoding, 30);
-    let counted = bytes_of(qual, from, to, low, high);
-    Scores {
-        at_least_20: counted.at_least_low,
-        at_least_30: counted.at_least_high,
-        sum: score_sum(encoding, &qual[from..to], counted.sum),
+    let mut gc = 0;
+    let mut n = 0;
+    let mut at_least_low = 0;
+    let mut at_least_high = 0;
+    let mut sum = 0;
+    let mut at = from;
+    while at < to {
+        let stop = at + WIDTH.min(to - at);
+        let bases = vector_of(seq, at, stop);
+        let bytes = vector_of(qual, at, stop);
+        let low_here = at_least(bytes, low);
+        let high_here = at_least(bytes, high);
+        gc += u64::from(gc_in(bases));
+        n += u64::from(n_in(bases));
+        at_least_low += u64::from(low_here);
+        at_least_high += u64::from(high_here);
+        sum += u64::from(sum_of(bytes));
+        at = stop;
+    }
+    Counted {
+        gc,
+        n,
+        at_least_low,
+        at_least_high,
+        sum,
     }
 }
 
@@ -196,46 +195,6 @@ fn byte_of(encoding: Encoding, score: u8) -> u8
     match encoding {
         Encoding::Sanger => 33 + score,
         Encoding::Illumina13 | Encoding::Solexa => 64 + score,
-    }
-}
-
-// How many bytes are at least so large as each of two, and the sum of all.
-#[derive(Drop)]
-struct Bytes {
-    at_least_low: u64,
-    at_least_high: u64,
-    sum: u64,
-}
-
-// Those of bytes from `from` up to `to`.
-fn bytes_of(bytes: &[u8], from: usize, to: usize, low: u8, high: u8) -> Bytes
-    requires few { length bytes.now ≤ 1048576 }
-    requires order { from ≤ to }
-    requires within { to ≤ length bytes.now }
-    requires low { 1 ≤ low }
-    requires high { 1 ≤ high }
-    ensures low { result.at_least_low ≡ count_by (nat_le low) (take (to - from) (drop from bytes.now)) }
-    ensures high { result.at_least_high ≡ count_by (nat_le high) (take (to - from) (drop from bytes.now)) }
-    ensures sum { result.sum ≡ sum (take (to - from) (drop from bytes.now)) }
-{
-    let mut at_least_low = 0;
-    let mut at_least_high = 0;
-    let mut sum = 0;
-    let mut at = from;
-    while at < to {
-        let stop = at + WIDTH.min(to - at);
-        let vector = vector_of(bytes, at, stop);
-        let low_here = at_least(vector, low);
-        let high_here = at_least(vector, high);
-        at_least_low += u64::from(low_here);
-        at_least_high += u64::from(high_here);
-        sum += u64::from(sum_of(vector));
-        at = stop;
-    }
-    Bytes {
-        at_least_low,
-        at_least_high,
-        sum,
     }
 }
 

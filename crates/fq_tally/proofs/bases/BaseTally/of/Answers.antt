@@ -1,13 +1,14 @@
-use Rattle.std.proofs.Common.{◌≡◌, ◌+◌, ◌-◌, take, drop, ℕ, nat_le, cond, count_by, List, [], ◌∷◌, refl, ap₂, sym, ◌∙◌}
+use Rattle.std.proofs.Common.{◌≡◌, ◌+◌, ◌-◌, length, take, drop, arith, ℕ, nat_le, cond, count_by, List, [], ◌∷◌, refl, ap₂, sym, ◌∙◌}
+use Rattle.std.proofs.lemmas.List.{length-take-le, length-drop}
 use Rattle.std.proofs.lemmas.List.Sums.{sum_by-cons}
 use Rattle.fq_text.specs.declared.encoding.Encoding.{Encoding}
 use Rattle.fq_text.specs.Scores.{is_scored, value_of}
 use Rattle.fq_trim.specs.Keeping.{scores}
 use Rattle.fq_trim.proofs.PlaceLemmas.{all_taken, all_dropped}
-use Rattle.fq_tally.proofs.bases.scores_of.Goals as goal
+use Rattle.fq_tally.proofs.bases.BaseTally.of.Goals as goal
 
-pub score_sum-requires-clause-scored : goal.score_sum-requires-clause-scored
-score_sum-requires-clause-scored c =
+pub score_sum-sum-requires-clause-scored : goal.score_sum-sum-requires-clause-scored
+score_sum-sum-requires-clause-scored c =
     let scored = is_scored c.args.encoding in
     let qual = c.args.qual.now in
     all_taken scored (drop c.args.from qual) (c.args.to - c.args.from) (all_dropped scored qual c.args.from c.requires.scored)
@@ -24,9 +25,15 @@ counted e score least same (b ∷ others) =
 pub returns : goal.returns
 returns c =
     let e = c.args.encoding in
-    let qual = take (c.args.to - c.args.from) (drop c.args.from c.args.qual.now) in
-    record {
-      at_least_20 = c.bytes_of-counted.ensures.low ∙ counted e 20 _ c.byte_of-low.ensures.least qual;
-      at_least_30 = c.bytes_of-counted.ensures.high ∙ counted e 30 _ c.byte_of-high.ensures.least qual;
-      sum = c.score_sum.ensures;
-    }
+    let seq = c.args.seq.now in
+    let part = take (c.args.to - c.args.from) (drop c.args.from c.args.qual.now) in
+    let order = c.requires.order in
+    let within = c.requires.within in
+    let long : c.args.to - c.args.from ≡ length (take (c.args.to - c.args.from) (drop c.args.from seq)) =
+    sym (length-take-le (c.args.to - c.args.from) (drop c.args.from seq) (omega (arith, length-drop c.args.from seq))) in
+    let low = c.count_of-counted.ensures.low ∙ counted e 20 _ c.byte_of-low.ensures.least part in
+    let high = c.count_of-counted.ensures.high ∙ counted e 30 _ c.byte_of-high.ensures.least part in
+    let sum = c.score_sum-sum.ensures in
+    let gc = c.count_of-counted.ensures.gc in
+    let n = c.count_of-counted.ensures.n in
+    cc
