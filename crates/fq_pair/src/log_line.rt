@@ -1,10 +1,10 @@
 //! The lines of the trim log.
 
-ghost use Rattle.std.specs.Prelude.{◌≡◌, ◌+◌, ◌≤◌, ◌++◌, length, vec_len, vec_capacity};
+ghost use Rattle.std.specs.Prelude.{◌≡◌, ◌+◌, ◌≤◌, ◌++◌, length, drop, flat_map, vec_len, vec_capacity};
 ghost use Rattle.fq_pair.specs.Outputs.{places_of, IsWithin, log_numbers, log_line_of, field};
 
 use fq_trim::Kept;
-use itoa::Buffer;
+use itoa::write_digits;
 
 // The numbers of the log line of a read of so many bases: bases kept, removed in front, where the last one ends,
 // removed behind.
@@ -25,23 +25,41 @@ fn kept_numbers(bases: usize, kept: Option<Kept>) -> [usize; 4]
 // The most bytes that a number adds to a log line: a blank and 20 digits.
 const FIELD_ROOM: usize = 21;
 
-// Appends a blank and a number.
-fn put_field(log: &mut Vec<u8>, number: usize)
-    requires { vec_len log.old + FIELD_ROOM ≤ vec_capacity log.old }
-    ensures items { log.new.items ≡ log.old.items ++ field number }
-    ensures len { vec_len log.new ≤ vec_len log.old + FIELD_ROOM }
-    ensures capacity { vec_capacity log.old ≤ vec_capacity log.new }
+// The most bytes of a log line behind the name: four numbers and the line end.
+const NUMBERS_ROOM: usize = 4 * FIELD_ROOM + 1;
+
+// Writes a blank and a number so that they end at `end`. Gives the place where they begin.
+#[inline(always)]
+fn put_field(text: &mut [u8], end: usize, number: usize) -> usize
+    requires room { FIELD_ROOM ≤ end }
+    requires within { end ≤ length text.old }
+    ensures begin { result ≤ end }
+    ensures room { end ≤ result + FIELD_ROOM }
+    ensures text { drop result text.new ≡ field number ++ drop end text.old }
 {
-    log.push(b' ').unwrap();
-    log.extend_from_slice(Buffer::new().format(number).as_bytes())
-        .unwrap();
+    let at = write_digits(number as u64, text, end) - 1;
+    text[at] = b' ';
+    at
+}
+
+// Writes the four numbers of a log line so that they end at the last byte. Gives the place where they begin.
+#[inline(always)]
+fn put_numbers(text: &mut [u8; NUMBERS_ROOM], numbers: [usize; 4]) -> usize
+    ensures text { drop result text.new ≡ flat_map field numbers ++ drop 84 text.old }
+    ensures within { result ≤ 84 }
+{
+    let [kept, start, stop, end] = numbers;
+    let at = put_field(text, NUMBERS_ROOM - 1, end);
+    let at = put_field(text, at, stop);
+    let at = put_field(text, at, start);
+    put_field(text, at, kept)
 }
 
 /// The most bytes of the log line of a read of this name: the name, four numbers and the line end.
 pub(crate) fn line_room(name: &[u8]) -> usize
     ensures { result ≡ length name.now + 85 }
 {
-    name.len() + 4 * FIELD_ROOM + 1
+    name.len() + NUMBERS_ROOM
 }
 
 /// Appends the log line of a read of this name and so many bases, for which the log has room.
@@ -52,9 +70,8 @@ pub(crate) fn put_line(log: &mut Vec<u8>, name: &[u8], bases: usize, kept: Optio
     ensures len { vec_len log.new ≤ vec_len log.old + (length name.now + 85) }
     ensures capacity { vec_capacity log.old ≤ vec_capacity log.new }
 {
+    let mut text = [b'\n'; NUMBERS_ROOM];
+    let at = put_numbers(&mut text, kept_numbers(bases, kept));
     log.extend_from_slice(name).unwrap();
-    for number in kept_numbers(bases, kept) {
-        put_field(log, number);
-    }
-    log.push(b'\n').unwrap();
+    log.extend_from_slice(&text[at..]).unwrap();
 }

@@ -1,53 +1,24 @@
--- Bytes in a vector. A comparison answers 255 for each byte for which it holds, and else 0.
-use Rattle.std.proofs.Common.{◌≡◌, ◌≤◌, ◌+◌, ◌-◌, ◌*◌, ◌%◌, ◌^◌, Fits, w8, ℕ, zero, suc, Bool, true, false, ◌||◌, cond, count_by, sum, List, [], ◌∷◌, ◌++◌, length, map, take, drop, replicate, refl, sym, ap, ap₂, ◌∙◌, arith}
+-- Bytes that are counted in a vector.
+use Rattle.std.proofs.Common.{◌≡◌, ◌≤◌, ◌+◌, ◌-◌, ◌*◌, ◌%◌, ◌^◌, Fits, w8, ℕ, zero, suc, Bool, false, cond, count_by, sum, List, [], ◌∷◌, ◌++◌, length, map, take, drop, replicate, refl, sym, ap, ap₂, ◌∙◌, arith}
 use Rattle.std.specs.List.{sum_by}
 use Rattle.std.specs.Int.Bits.{and_zero_r}
 use Rattle.std.proofs.Math.Seq.{take-add}
-use Rattle.std.proofs.lemmas.List.{length-map, drop-drop}
+use Rattle.std.proofs.lemmas.List.{drop-drop}
 use Rattle.std.proofs.lemmas.List.Sums.{sum_by-cons, sum_by-append}
 use Rattle.std.proofs.lemmas.List.Folds.{sum_by-replicate}
 use Rattle.std.proofs.lemmas.Nat.{and_mask}
-use Rattle.std.proofs.lemmas.Simd.{mask_l-mod, ones-mask_l}
+use Rattle.std.proofs.lemmas.Simd.{ones-mask_l}
 use native.Mathlib.Nat.{mod-eq_of_lt}
-use lib.Bits.{bit_and, bit_or}
+use lib.Bits.{bit_and}
 use lib.Count.{ones}
 use lib.Lanes.{zip2, mask_l, top, sum_l, Each1}
+use Rattle.fq_text.proofs.VectorLemmas.{flag, mask_of}
 use Rattle.fq_tally.specs.Vectors.{Holds}
-
-abbrev pub flag : Bool → ℕ
-flag b = cond b 255 0
-
-flag_or : (a b : Bool) → bit_or (flag a) (flag b) ≡ flag (a || b)
-flag_or true true = refl
-flag_or true false = refl
-flag_or false true = refl
-flag_or false false = refl
-
-flag_top : (b : Bool) → top 7 (flag b) ≡ b
-flag_top true = refl
-flag_top false = refl
-
--- one or the other
-either_flags : (p q : ℕ → Bool) (v : List ℕ) → zip2 bit_or (map (λ x. flag (p x)) v) (map (λ x. flag (q x)) v) ≡ map (λ x. flag (p x || q x)) v
-either_flags p q [] = refl
-either_flags p q (x ∷ xs) = ap₂ (λ y ys. y ∷ ys) (flag_or (p x) (q x)) (either_flags p q xs)
-
-pub either : (p q : ℕ → Bool) (v : List ℕ) {a b : List ℕ} → a ≡ map (λ x. flag (p x)) v → b ≡ map (λ x. flag (q x)) v →
-    zip2 bit_or a b ≡ map (λ x. flag (p x || q x)) v
-either p q v left right = ap₂ (zip2 bit_or) left right ∙ either_flags p q v
-
-tops : (p : ℕ → Bool) (v : List ℕ) → map (top 7) (map (λ x. flag (p x)) v) ≡ map p v
-tops p [] = refl
-tops p (x ∷ xs) = ap₂ (λ y ys. y ∷ ys) (flag_top (p x)) (tops p xs)
 
 -- how many bytes pass, by the bits of their flags
 pub flags_counted : (p : ℕ → Bool) (v : List ℕ) {z : List ℕ} → length v ≤ 64 → z ≡ map (λ x. flag (p x)) v →
     ones (mask_l (map (top 7) z) % 2 ^ 64) ≡ count_by p v
-flags_counted p v short same =
-    ap (λ z. ones (mask_l (map (top 7) z) % 2 ^ 64)) same
-    ∙ ap (λ ms. ones (mask_l ms % 2 ^ 64)) (tops p v)
-    ∙ ap ones (mask_l-mod (map p v) 64 (omega (arith, length-map v p)))
-    ∙ ones-mask_l p v
+flags_counted p v short same = ap ones (mask_of p v short same) ∙ ones-mask_l p v
 
 -- the sum of a vector
 pub vector_summed : (v : List ℕ) → sum_l v ≡ sum v

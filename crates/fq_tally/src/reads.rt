@@ -40,6 +40,8 @@ impl ReadsTally {
     }
 
     // One read more, whose bases are counted, as many as this.
+    // Without this hint the counts would be copied on the way.
+    #[inline(always)]
     pub(crate) fn add(&mut self, bases: BaseTally, length: usize)
         requires { length ≡ bases.bases }
         ensures { self.new ≡ with_bases bases self.old }

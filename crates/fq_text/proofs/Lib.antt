@@ -11,3 +11,4 @@ pub mod ScoreLemmas
 pub mod WrittenLemmas
 pub mod UnwrappedLemmas
 pub mod RecordsLemmas
+pub mod VectorLemmas

@@ -5,6 +5,8 @@ ghost use Rattle.std.specs.List.{list_all};
 ghost use Rattle.fq_text.specs.Scores.{is_scored, value_of};
 ghost use Rattle.fq_text.specs.declared.encoding.Encoding.TheVariants.{Solexa};
 
+use crate::vectors::are_from;
+
 // The Phred scores of the bytes 59 to 126 in Solexa's encoding, which stand for the Solexa scores -5 to 62.
 const PHRED_OF_SOLEXA: [u8; 68] = [
     1, 1, 2, 2, 3, 3, 4, 4, 5, 5, 6, 7, 8, 9, 10, 10, 11, 12, 13, 14, 15, 16, 17, 18, 19, 20, 21,
@@ -71,16 +73,10 @@ impl Encoding {
     }
 
     /// Whether each of these quality bytes has a score. So it is with no bytes.
-    #[tactic(auto, using(std::proofs::lemmas::List::Folds::list_all_more, std::proofs::lemmas::List::take_all))]
     pub fn all_scored(self, bytes: &[u8]) -> bool
         ensures { result ≡ list_all (is_scored self) bytes.now }
     {
-        let lowest = self.lowest();
-        let mut all = true;
-        for byte in bytes {
-            all = all & ((lowest <= *byte) & (*byte <= 126));
-        }
-        all
+        are_from(self.lowest(), bytes)
     }
 
     // Writes each byte's score at offset 33.

@@ -6,6 +6,7 @@ ghost use Rattle.fq_text.specs.Grammar.{limit, is_base, begins_with as begins, t
 
 use crate::encoding::Encoding;
 use crate::fault::Fault;
+use crate::vectors::are_from;
 
 /// The most bytes of a line, and of a sequence whose lines are joined.
 pub(crate) const LIMIT: usize = 1_048_576;
@@ -24,11 +25,7 @@ pub(crate) fn begins_with(line: &[u8], mark: u8) -> bool
 pub(crate) fn all_bases(line: &[u8]) -> bool
     ensures { result ≡ list_all is_base line.now }
 {
-    let mut all = true;
-    for byte in line {
-        all = all & ((33 <= *byte) & (*byte <= 126));
-    }
-    all
+    are_from(33, line)
 }
 
 pub(crate) fn title_fault(line: &[u8]) -> Option<Fault>

@@ -15,6 +15,7 @@ mod parse;
 mod record;
 mod source;
 mod unwrapped;
+mod vectors;
 mod view;
 mod writing;
 

@@ -352,13 +352,11 @@ module _ (e : Encoding) (qual : List ℕ) (w t score front from total : ℕ) (sc
       (λ first. let here = from_sum in let start : from - w ≡ s = omega arith in let is = ap (λ n. sum (take w (drop n (scores e qual)))) start in omega arith)
       (window_up_to s le)
 
-  pub from_bad : total < w * score → IsBetween (keeps (SlidingWindow w t) (scores e qual)) (length qual) 0 0
+  pub from_bad : total < w * score → sum (take w (drop 0 (scores e qual))) < w * score
   from_bad bad =
       let q = scores e qual in
       let here = from_sum in
-      let least = least_is in
-      let first : sum (take w q) < w * t = ⊎_elim
+      ⊎_elim
       (λ good. absurd (omega arith))
       (λ first. let start : from - w ≡ 0 = omega arith in let is = ap (λ n. sum (take w (drop n q))) start in omega arith)
-      (window_up_to (from - w) (omega arith)) in
-      subst (λ n. IsBetween (keeps (SlidingWindow w t) q) n 0 0) (length-scores e qual) (window_bad w t q first)
+      (window_up_to (from - w) (omega arith))

@@ -1,3 +1,4 @@
 pub mod Keeping
 pub mod Words
 pub mod Steps
+pub mod Windows

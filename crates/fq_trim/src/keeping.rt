@@ -6,12 +6,11 @@ ghost use Rattle.fq_text.specs.Scores.{is_scored};
 ghost use Rattle.fq_trim.specs.Keeping.{scores, keeps, IsBetween, is_in_range};
 ghost use Rattle.fq_trim.specs.declared.step.Step.TheVariants.{Leading, Trailing, Crop, HeadCrop, SlidingWindow, AverageQuality, MinLen};
 
+use crate::low_end::behind_last;
 use crate::scoring::total_of;
 use crate::step::Step;
+use crate::windows::good_stop;
 use fq_text::Encoding;
-
-// How many bases are looked at together for a low score.
-const HIGH_CHUNK: usize = 16;
 
 /// The bases that one step keeps of those that it is given: from `start` up to `stop`, maybe none.
 #[derive(Clone, Copy)]
@@ -105,8 +104,6 @@ fn head_crop(bases: u32, qual: &[u8]) -> Span
 }
 
 // Up to the last base of a score before the first bad window ends.
-//
-// Where a read begins with high scores the windows over them are good, so the first sum that is taken is that of the last of these.
 #[inline(always)]
 fn sliding_window(encoding: Encoding, width: u32, score: u32, qual: &[u8]) -> Span
     requires window { 0 < width }
@@ -114,17 +111,14 @@ fn sliding_window(encoding: Encoding, width: u32, score: u32, qual: &[u8]) -> Sp
     ensures { IsBetween (keeps (SlidingWindow width score) (scores encoding qual.now))
         (length qual.now) result.start result.stop }
 {
-    if qual.len() < width as usize {
-        return stop_at(0);
-    }
     let width = width as usize;
-    let least = width as u64 * u64::from(score);
-    let from = high_stop(encoding, score, qual).max(width);
-    let first = total_of(encoding, &qual[from - width..from]) as u64;
-    if first < least {
+    if qual.len() < width {
         return stop_at(0);
     }
-    let good = good_stop(encoding, width, from, first, least, qual);
+    let good = good_stop(encoding, width, score, qual);
+    if good < width {
+        return stop_at(0);
+    }
     stop_at(behind_last(encoding, score, &qual[..good]))
 }
 
@@ -152,86 +146,4 @@ fn min_len(bases: u32, qual: &[u8]) -> Span
     } else {
         stop_at(0)
     }
-}
-
-// The place behind the last base with a score of at least `score`, or 0.
-fn behind_last(encoding: Encoding, score: u32, qual: &[u8]) -> usize
-    requires { list_all (is_scored encoding) qual.now ≡ true }
-    ensures within { result ≤ length qual.now }
-    ensures high { 0 < result → score ≤ slice_index (scores encoding qual.now) (result - 1) }
-    ensures low { (k : ℕ) → result ≤ k → k < length qual.now
-        → slice_index (scores encoding qual.now) k < score }
-{
-    for i in (0..qual.len()).rev() {
-        if score <= u32::from(encoding.phred(qual[i])) {
-            return i + 1;
-        }
-    }
-    0
-}
-
-// A place before which each base has a score of at least `score`: no window that ends at or before it is bad.
-//
-// Whole chunks are looked at, so there may be more such bases behind it.
-fn high_stop(encoding: Encoding, score: u32, qual: &[u8]) -> usize
-    requires { list_all (is_scored encoding) qual.now ≡ true }
-    ensures within { result ≤ length qual.now }
-    ensures high { list_all (nat_le score) (take result (scores encoding qual.now)) ≡ true }
-{
-    let mut stop = 0;
-    while HIGH_CHUNK <= qual.len() - stop
-        && are_high(encoding, score, &qual[stop..stop + HIGH_CHUNK])
-    {
-        stop += HIGH_CHUNK;
-    }
-    stop
-}
-
-// Whether each base has a score of at least `score`.
-fn are_high(encoding: Encoding, score: u32, qual: &[u8]) -> bool
-    requires { list_all (is_scored encoding) qual.now ≡ true }
-    ensures { result ≡ list_all (nat_le score) (scores encoding qual.now) }
-{
-    let mut all = true;
-    for byte in qual {
-        all = all & (score <= u32::from(encoding.phred(*byte)));
-    }
-    all
-}
-
-// The place of the last base of the first bad window, or the length where each window is good. Those that end at or before `from` are.
-//
-// The sum of a window is that of the one before, with one score added and one taken away.
-fn good_stop(
-    encoding: Encoding,
-    width: usize,
-    from: usize,
-    first: u64,
-    least: u64,
-    qual: &[u8],
-) -> usize
-    requires window { 0 < width }
-    requires reaches { width ≤ from }
-    requires fits { from ≤ length qual.now }
-    requires narrow { width < 2 ^ 32 }
-    requires sum { first ≡ sum (take width (drop (from - width) (scores encoding qual.now))) }
-    requires good { (s : ℕ) → s + width ≤ from → least ≤ sum (take width (drop s (scores encoding qual.now))) }
-    requires scored { list_all (is_scored encoding) qual.now ≡ true }
-    ensures within { result ≤ length qual.now }
-    ensures some { width ≤ result }
-    ensures windows { (s : ℕ) → s + width ≤ result
-        → least ≤ sum (take width (drop s (scores encoding qual.now))) }
-    ensures bad { result < length qual.now
-        → sum (take width (drop (result + 1 - width) (scores encoding qual.now))) < least }
-{
-    let mut sum = first;
-    for end in from..qual.len() {
-        let entering = encoding.phred(qual[end]);
-        let leaving = encoding.phred(qual[end - width]);
-        sum = sum + u64::from(entering) - u64::from(leaving);
-        if sum < least {
-            return end;
-        }
-    }
-    qual.len()
 }

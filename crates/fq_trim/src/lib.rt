@@ -8,10 +8,13 @@
 
 mod fault;
 mod keeping;
+mod low_end;
 mod scoring;
 mod step;
 mod steps;
 mod trimming;
+mod vectors;
+mod windows;
 mod words;
 
 pub use fault::{StepFault, StepFaultKind};

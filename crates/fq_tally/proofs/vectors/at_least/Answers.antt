@@ -1,6 +1,7 @@
 use Rattle.std.proofs.Common.{arith, ℕ, leb}
 use Rattle.std.proofs.lemmas.Simd.{zip2_splat_left}
-use Rattle.fq_tally.proofs.VectorLemmas.{flag, flags_counted}
+use Rattle.fq_text.proofs.VectorLemmas.{flag}
+use Rattle.fq_tally.proofs.VectorLemmas.{flags_counted}
 use Rattle.fq_tally.proofs.vectors.at_least.Goals as goal
 
 pub returns : goal.returns

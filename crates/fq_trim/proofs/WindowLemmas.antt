@@ -1,0 +1,157 @@
+-- Windows that are judged side by side, in a vector.
+use Rattle.std.proofs.Common.{◌≡◌, ℕ, suc, zero, ◌+◌, ◌-◌, ◌%◌, ◌<◌, ◌≤◌, Fits, w8, Bool, true, false, not, cond, ltb, List, [], ◌∷◌, length, take, drop, get_or, map, min, sum, refl, sym, ap, ap₂, ◌∙◌, arith, replicate, ⊎_elim}
+use Rattle.std.specs.List.{prefix_len}
+use Rattle.std.proofs.lemmas.Bool.{cases_Bool, cond-true, cond-false, ltb-true, ltb-false, cases_lt}
+use Rattle.std.proofs.lemmas.List.{length-map, length-drop, length-take-le, get_or-map, get_or-drop, drop-map, drop-drop, take_all, take_more}
+use Rattle.std.proofs.lemmas.List.Sums.{sum_by_push}
+use Rattle.std.proofs.lemmas.Simd.{get_or-chunk, get_or-zip2, run_in_chunk_le, run_in_chunk_fails, run_in_chunk_stops}
+use Rattle.fq_trim.specs.Windows.{distances, IsGoodStop}
+use native.Mathlib.Nat.{mod-eq_of_lt}
+use lib.Lanes.{Each1, zip2, sel_l, top}
+
+-- A vector of 255 at each place for which a comparison holds, and of 0 at others, chooses between two others.
+chosen : (b : Bool) (x y : ℕ) → cond (top 7 (cond b 255 0)) x y ≡ cond b x y
+chosen true x y = refl
+chosen false x y = refl
+
+-- the larger of two bytes less one of them
+less_one : (x o : ℕ) → Fits w8 x → Fits w8 o → (cond (ltb x o) o x + (256 - o)) % 256 ≡ x - o
+less_one x o small off =
+    let fx = small.fits in
+    let fo = off.fits in
+    ⊎_elim
+    (λ is.
+    let lt = ltb-true x o is in
+    let whole : o + (256 - o) ≡ 256 = omega arith in
+    ap (λ v. (v + (256 - o)) % 256) (cond-true (ltb x o) o x is) ∙ ap (λ v. v % 256) whole ∙ omega arith)
+    (λ is. let le = ltb-false x o is in ap (λ v. (v + (256 - o)) % 256) (cond-false (ltb x o) o x is) ∙ omega arith)
+    (cases_Bool (ltb x o))
+
+-- a byte and the smaller of another and what is left of 255
+plus_one : (x y : ℕ) → Fits w8 x → Fits w8 y → (x + cond (ltb y (255 - x)) y (255 - x)) % 256 ≡ min 255 (x + y)
+plus_one x y small other =
+    let fx = small.fits in
+    let fy = other.fits in
+    ⊎_elim
+    (λ is. let lt = ltb-true y (255 - x) is in ap (λ v. (x + v) % 256) (cond-true (ltb y (255 - x)) y (255 - x) is) ∙ mod-eq_of_lt (omega arith) ∙ omega arith)
+    (λ is. let le = ltb-false y (255 - x) is in ap (λ v. (x + v) % 256) (cond-false (ltb y (255 - x)) y (255 - x) is) ∙ mod-eq_of_lt (omega arith) ∙ omega arith)
+    (cases_Bool (ltb y (255 - x)))
+
+-- each byte less the same number
+pub each_less : (v : List ℕ) (o n : ℕ) → length v ≡ n → Each1 (Fits w8) v → Fits w8 o →
+    zip2 (λ a b. (a + (256 - b)) % 256) (sel_l (map (top 7) (zip2 (λ a b. cond (ltb a b) 255 0) v (replicate n o))) (replicate n o) v) (replicate n o) ≡ map (λ x. x - o) v
+each_less [] o n long fits off = refl
+each_less (x ∷ xs) o zero long fits off = absurd (omega arith)
+each_less (x ∷ xs) o (suc n) long fits off =
+    ap₂ (λ y ys. y ∷ ys) (ap (λ v. (v + (256 - o)) % 256) (chosen (ltb x o) o x) ∙ less_one x o fits.0 off) (each_less xs o n (omega arith) fits.1 off)
+
+-- two bytes, side by side
+pub each_plus : (v u : List ℕ) → length v ≡ length u → Each1 (Fits w8) v → Each1 (Fits w8) u →
+    zip2 (λ a b. (a + b) % 256) v (sel_l (map (top 7) (zip2 (λ a b. cond (ltb a b) 255 0) u (map (λ a. 255 - a) v))) u (map (λ a. 255 - a) v)) ≡ zip2 (λ x y. min 255 (x + y)) v u
+each_plus [] [] long fits others = refl
+each_plus [] (y ∷ ys) long fits others = refl
+each_plus (x ∷ xs) [] long fits others = absurd (omega arith)
+each_plus (x ∷ xs) (y ∷ ys) long fits others =
+    ap₂ (λ z zs. z ∷ zs) (ap (λ v. (x + v) % 256) (chosen (ltb y (255 - x)) y (255 - x)) ∙ plus_one x y fits.0 others.0) (each_plus xs ys (omega arith) fits.1 others.1)
+
+-- The first sum that is too small.
+module _ (sums : List ℕ) (least r : ℕ) (long : length sums ≡ 16) (counted : r ≡ prefix_len (λ x. not (ltb x least)) sums) where
+  room : 0 + 16 ≤ length sums
+  room = omega arith
+
+  of_all : r ≡ prefix_len (λ x. not (ltb x least)) (take 16 sums)
+  of_all = counted ∙ ap (prefix_len (λ x. not (ltb x least))) (sym (take_all 16 sums (omega arith)))
+
+  pub at_most : r ≤ 16
+  at_most = run_in_chunk_le (λ x. ltb x least) sums 0 16 r 0 room of_all
+
+  pub none_before : (k : ℕ) → k < r → least ≤ get_or sums k 0
+  none_before k lt = ltb-false (get_or sums k 0) least (run_in_chunk_fails (λ x. ltb x least) sums 0 16 r 0 room of_all k (omega arith) (omega arith))
+
+  pub there : r < 16 → get_or sums r 0 < least
+  there lt = let place : r ≡ 0 + r = omega arith in ltb-true (get_or sums r 0) least (ap (λ n. ltb (get_or sums n 0) least) place ∙ run_in_chunk_stops (λ x. ltb x least) sums 0 16 r 0 room of_all lt)
+
+-- the sum of a part that is one score longer
+one_more : (q : List ℕ) (i k : ℕ) → k + i < length q → sum (take (i + 1) (drop k q)) ≡ sum (take i (drop k q)) + get_or q (k + i) 0
+one_more q i k lt =
+    let rest = drop k q in
+    ap sum (take_more rest i 0 (omega (arith, length-drop k q)))
+    ∙ sum_by_push (λ x. x) (take i rest) (get_or rest i 0)
+    ∙ ap (λ v. sum (take i rest) + v) (get_or-drop k q i 0)
+
+-- so is each sum of a vector, kept at 255
+pub lane_more : (offset i k : ℕ) (qual sums scores : List ℕ) → length sums ≡ 16 → i + 16 ≤ length qual → k < 16 →
+    scores ≡ map (λ byte. byte - offset) (take 16 (drop i qual)) →
+    get_or sums k 0 ≡ min 255 (sum (take i (drop k (distances offset qual)))) →
+    get_or (zip2 (λ x y. min 255 (x + y)) sums scores) k 0 ≡ min 255 (sum (take (i + 1) (drop k (distances offset qual))))
+lane_more offset i k qual sums scores long room lt is so_far =
+    let q = distances offset qual in
+    let part = take 16 (drop i qual) in
+    let here : length part ≡ 16 = length-take-le 16 (drop i qual) (omega (arith, length-drop i qual)) in
+    let size : length scores ≡ 16 = ap length is ∙ length-map part (λ byte. byte - offset) ∙ here in
+    let all : length q ≡ length qual = length-map qual (λ byte. byte - offset) in
+    let place : i + k ≡ k + i = omega arith in
+    let read : get_or scores k 0 ≡ get_or q (k + i) 0 =
+    ap (λ s. get_or s k 0) is
+    ∙ get_or-map (λ byte. byte - offset) part k 0 0 (omega arith)
+    ∙ ap (λ byte. byte - offset) (get_or-chunk i 16 qual k 0 lt)
+    ∙ ap (λ n. get_or qual n 0 - offset) place
+    ∙ sym (get_or-map (λ byte. byte - offset) qual (k + i) 0 0 (omega arith)) in
+    let next = one_more q i k (omega arith) in
+    let both = get_or-zip2 (λ x y. min 255 (x + y)) sums scores k 0 0 0 (omega arith) (omega arith) in
+    omega arith
+
+-- a window of what is left behind `start`
+abbrev behind : List ℕ → ℕ → List ℕ
+behind qual start = take (length qual - start) (drop start qual)
+
+window_behind : (offset start k w : ℕ) (qual : List ℕ) → sum (take w (drop k (distances offset (behind qual start)))) ≡ sum (take w (drop (start + k) (distances offset qual)))
+window_behind offset start k w qual =
+    ap (λ xs. sum (take w (drop k (distances offset xs)))) (take_all (length qual - start) (drop start qual) (omega (arith, length-drop start qual)))
+    ∙ ap (λ xs. sum (take w (drop k xs))) (sym (drop-map (λ byte. byte - offset) start qual))
+    ∙ ap (λ xs. sum (take w xs)) (drop-drop k start (distances offset qual) ∙ ap (λ n. drop n (distances offset qual)) (omega arith))
+
+-- Windows from `start` on, of which the first `good` are good, behind others that are.
+module _ (offset w least start good : ℕ) (qual sums : List ℕ) (small : least < 256)
+    (each : (k : ℕ) → k < 16 → get_or sums k 0 ≡ min 255 (sum (take w (drop k (distances offset (behind qual start))))))
+    (few : good ≤ 16) (before : (s : ℕ) → s < start → least ≤ sum (take w (drop s (distances offset qual))))
+    (high : (k : ℕ) → k < good → least ≤ get_or sums k 0) where
+  pub good_up_to : (s : ℕ) → s < start + good → least ≤ sum (take w (drop s (distances offset qual)))
+  good_up_to s lt = ⊎_elim
+      (λ earlier. before s earlier)
+      (λ here.
+      let k = s - start in
+      let lane = each k (omega arith) in
+      let enough = high k (omega arith) in
+      let is = window_behind offset start k w qual in
+      let same : sum (take w (drop (start + k) (distances offset qual))) ≡ sum (take w (drop s (distances offset qual))) = ap (λ n. sum (take w (drop n (distances offset qual)))) (omega arith) in
+      omega arith)
+      (cases_lt s start)
+
+  pub bad_there : good < 16 → get_or sums good 0 < least → sum (take w (drop (start + good) (distances offset qual))) < least
+  bad_there lt low = let lane = each good lt in let is = window_behind offset start good w qual in omega arith
+
+  -- the window behind the good ones is bad: it ends in the read
+  pub stops_there : 0 < w → start + good + w ≤ length qual → good < 16 → get_or sums good 0 < least → IsGoodStop w least (distances offset qual) (start + good + w - 1)
+  stops_there some fits lt low =
+      let len = length-map qual (λ (byte : ℕ). byte - offset) in
+      record {
+        within = omega arith;
+        some = omega arith;
+        good = λ s le. good_up_to s (omega arith);
+        bad = λ within.
+            let is : sum (take w (drop (start + good + w - 1 + 1 - w) (distances offset qual))) ≡ sum (take w (drop (start + good) (distances offset qual))) = ap (λ n. sum (take w (drop n (distances offset qual)))) (omega arith) in
+            let low_there = bad_there lt low in
+            omega arith;
+      }
+
+  -- the last window is among the good ones
+  pub all_good : w ≤ length qual → length qual < start + good + w → IsGoodStop w least (distances offset qual) (length qual)
+  all_good fits last =
+      let len = length-map qual (λ (byte : ℕ). byte - offset) in
+      record {
+        within = omega arith;
+        some = omega arith;
+        good = λ s le. good_up_to s (omega arith);
+        bad = λ lt. absurd (omega arith);
+      }

@@ -1,7 +1,0 @@
-use Rattle.std.proofs.Common.{ℕ, ◌<◌, ◌≤◌, length, get_or}
-use Rattle.fq_trim.specs.Keeping.{scores}
-use Rattle.fq_trim.proofs.keeping.behind_last.Given as goal
-
--- no score from place i on is high enough
-abbrev pub invariant-loop-i : goal.invariant-loop-i
-invariant-loop-i l = (k : ℕ) → l.i ≤ k → k < length l.qual → get_or (scores l.fn.encoding l.qual) k 0 < l.score

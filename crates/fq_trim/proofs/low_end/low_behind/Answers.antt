@@ -1,0 +1,36 @@
+use Rattle.std.proofs.Common.{◌<◌, leb, sym, ◌∙◌, ap, arith, map}
+use Rattle.std.proofs.lemmas.Simd.{zip2_splat_left, leading_from_mask_l, trailing_mask_l}
+use lib.Count.{count_trailing_zeros}
+use lib.Lanes.{mask_l}
+use Rattle.fq_text.proofs.VectorLemmas.{flag, mask_of}
+use Rattle.fq_trim.proofs.LowEndLemmas.{few, low}
+use Rattle.fq_trim.proofs.low_end.low_behind.Goals as goal
+
+pub returns-then-high-eq0-clause-low : goal.returns-then-high-eq0-clause-low
+returns-then-high-eq0-clause-low c =
+    let score = c.args.score in
+    let turned = c.turned.result in
+    let long = c.turned.ensures.long in
+    let mask = mask_of (leb score) turned (omega arith) (zip2_splat_left (λ a b. flag (leb a b)) score 16 turned long) in
+    let none = leading_from_mask_l (leb score) turned (sym mask ∙ c.if-high-eq0.true) in
+    low c.args.scores turned score 16 long c.turned.ensures.each (sym (none ∙ long))
+
+pub returns-else-high-eq0-clause-within : goal.returns-else-high-eq0-clause-within
+returns-else-high-eq0-clause-within c =
+    let score = c.args.score in
+    let turned = c.turned.result in
+    let long = c.turned.ensures.long in
+    let mask = mask_of (leb score) turned (omega arith) (zip2_splat_left (λ a b. flag (leb a b)) score 16 turned long) in
+    let some = c.if-high-eq0.false in
+    let set : 0 < mask_l (map (leb score) turned) = omega arith in
+    few c.args.scores turned score _ long c.turned.ensures.each (ap (count_trailing_zeros 64) mask ∙ trailing_mask_l (leb score) 64 turned (omega arith) set)
+
+pub returns-else-high-eq0-clause-low : goal.returns-else-high-eq0-clause-low
+returns-else-high-eq0-clause-low c =
+    let score = c.args.score in
+    let turned = c.turned.result in
+    let long = c.turned.ensures.long in
+    let mask = mask_of (leb score) turned (omega arith) (zip2_splat_left (λ a b. flag (leb a b)) score 16 turned long) in
+    let some = c.if-high-eq0.false in
+    let set : 0 < mask_l (map (leb score) turned) = omega arith in
+    low c.args.scores turned score _ long c.turned.ensures.each (ap (count_trailing_zeros 64) mask ∙ trailing_mask_l (leb score) 64 turned (omega arith) set)

@@ -1,0 +1,28 @@
+use Rattle.std.proofs.Common.{◌≡◌, ◌-◌, ◌+◌, arith, ap, sym, ◌∙◌, true, nat_le, take, drop}
+use Rattle.std.specs.List.{list_all}
+use Rattle.fq_text.specs.Scores.{is_scored}
+use Rattle.fq_trim.specs.Keeping.{scores}
+use Rattle.fq_trim.specs.declared.windows.TheConstants.{HIGH_CHUNK}
+use Rattle.fq_trim.proofs.PlaceLemmas.{all_taken, all_dropped, scores_of_part, high_more}
+use Rattle.fq_trim.proofs.windows.high_stop.Goals as goal
+
+pub are_high-requires : goal.are_high-requires
+are_high-requires c =
+    let stop = c.loop-stop.stop in
+    all_taken (is_scored c.args.encoding) (drop stop c.args.qual.now) _ (all_dropped (is_scored c.args.encoding) c.args.qual.now stop c.requires)
+
+pub loop-stop-preserved : goal.loop-stop-preserved
+loop-stop-preserved c =
+    let stop = c.loop-stop.stop in
+    let q = scores c.args.encoding c.args.qual.now in
+    let room = c.loop-stop-test.true in
+    let within = c.loop-stop.invariant.within in
+    let size : stop + HIGH_CHUNK - stop ≡ HIGH_CHUNK = omega arith in
+    let next : list_all (nat_le c.args.score) (take HIGH_CHUNK (drop stop q)) ≡ true =
+    ap (λ n. list_all (nat_le c.args.score) (take n (drop stop q))) (sym size)
+    ∙ ap (list_all (nat_le c.args.score)) (sym (scores_of_part c.args.encoding c.args.qual.now stop (stop + HIGH_CHUNK - stop)))
+    ∙ sym c.are_high.ensures ∙ c.if-are_high.true in
+    record {
+      within = omega arith;
+      high = high_more c.args.score stop HIGH_CHUNK q c.loop-stop.invariant.high next;
+    }

@@ -1,0 +1,14 @@
+use Rattle.std.proofs.Common.{arith, ap, ◌∙◌, get_or}
+use Rattle.fq_trim.proofs.WindowLemmas.{lane_more}
+use Rattle.fq_trim.proofs.windows.sums_of.Goals as goal
+
+pub loop-i-preserved : goal.loop-i-preserved
+loop-i-preserved c =
+    let fits = c.requires.fits in
+    let old = c.loop-i.invariant in
+    let more = c.loop-i-test.true in
+    record {
+      long = c.type_inv.sums.0;
+      each = λ k lt. ap (λ sums. get_or sums k 0) c.plus-sums.ensures
+          ∙ lane_more c.args.offset c.loop-i.i k c.args.qual.now c.loop-i.sums c.less-scores.result old.long (omega arith) lt c.less-scores.ensures (old.each k lt);
+    }

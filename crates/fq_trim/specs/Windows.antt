@@ -1,0 +1,13 @@
+-- The windows of a read, side by side.
+use Rattle.std.specs.Prelude.{ℕ, ◌+◌, ◌-◌, ◌<◌, ◌≤◌, List, length, take, drop, map, sum}
+
+-- the scores of quality bytes, where each is its byte less the same number
+abbrev pub distances : ℕ → List ℕ → List ℕ
+distances offset qual = map (λ byte. byte - offset) qual
+
+-- The first window of w scores that sums to less than `least` ends at this place. Where no window does, the place is behind all scores.
+pub record IsGoodStop (w least : ℕ) (q : List ℕ) (stop : ℕ) : Type 0 where
+  pub within : stop ≤ length q
+  pub some : w ≤ stop + 1
+  pub good : (s : ℕ) → s + w ≤ stop → least ≤ sum (take w (drop s q))
+  pub bad : stop < length q → sum (take w (drop (stop + 1 - w) q)) < least

@@ -1,0 +1,75 @@
+//! The low scores at the end of a read.
+
+ghost use Rattle.std.specs.Prelude.{true, ◌≡◌, ℕ, ◌+◌, ◌-◌, ◌<◌, ◌≤◌, length, slice_index};
+ghost use Rattle.std.specs.List.{list_all};
+ghost use Rattle.fq_text.specs.Scores.{is_scored};
+ghost use Rattle.fq_trim.specs.Keeping.{scores};
+ghost use Rattle.fq_trim.specs.Windows.{distances};
+
+use crate::vectors::{TOGETHER, less, offset_of};
+use fq_text::Encoding;
+use std::simd::prelude::*;
+
+/// The place behind the last base with a score of at least `score`, or 0.
+#[inline(always)]
+pub(crate) fn behind_last(encoding: Encoding, score: u32, qual: &[u8]) -> usize
+    requires { list_all (is_scored encoding) qual.now ≡ true }
+    ensures within { result ≤ length qual.now }
+    ensures high { 0 < result → score ≤ slice_index (scores encoding qual.now) (result - 1) }
+    ensures low { (k : ℕ) → result ≤ k → k < length qual.now
+        → slice_index (scores encoding qual.now) k < score }
+{
+    let stop = match offset_of(encoding) {
+        Some(offset) if score <= 255 => low_from(offset, score as u8, qual),
+        _ => qual.len(),
+    };
+    for i in (0..stop).rev() {
+        if score <= u32::from(encoding.phred(qual[i])) {
+            return i + 1;
+        }
+    }
+    0
+}
+
+// A place from which on each score is below `score`. Where there are as many scores before it as a vector has, it is the first.
+#[inline(always)]
+fn low_from(offset: u8, score: u8, qual: &[u8]) -> usize
+    ensures within { result ≤ length qual.now }
+    ensures low { (k : ℕ) → result ≤ k → k < length qual.now → slice_index (distances offset qual.now) k < score }
+{
+    let mut stop = qual.len();
+    while TOGETHER <= stop {
+        let low = low_behind(
+            less(u8x16::from_slice(&qual[stop - TOGETHER..]), offset),
+            score,
+        );
+        if low < TOGETHER {
+            return stop - low;
+        }
+        stop -= TOGETHER;
+    }
+    stop
+}
+
+// How many scores stand behind the last that is at least `score`.
+#[inline(always)]
+fn low_behind(scores: u8x16, score: u8) -> usize
+    ensures within { result ≤ 16 }
+    ensures low { (k : ℕ) → 16 ≤ k + result → k < 16 → slice_index scores k < score }
+{
+    let high = turned(scores).simd_ge(u8x16::splat(score)).to_bitmask();
+    if high == 0 {
+        TOGETHER
+    } else {
+        high.trailing_zeros() as usize
+    }
+}
+
+// The last score first.
+#[inline(always)]
+fn turned(scores: u8x16) -> u8x16
+    ensures long { length result ≡ 16 }
+    ensures each { (k : ℕ) → k < 16 → slice_index result k ≡ slice_index scores (15 - k) }
+{
+    scores.reverse()
+}
