@@ -1,6 +1,6 @@
 //! Counts of bases and of their scores.
 
-ghost use Rattle.std.specs.Prelude.{◌≡◌, ◌≤◌, ℕ, true, ◌-◌, length, take, drop, sum, count_by, nat_le};
+ghost use Rattle.std.specs.Prelude.{◌≡◌, ◌≤◌, ℕ, true, ◌+◌, ◌-◌, length, take, drop, sum, count_by, nat_le};
 ghost use Rattle.std.specs.List.{list_all};
 ghost use Rattle.fq_text.specs.Scores.{is_scored, value_of};
 ghost use Rattle.fq_text.specs.declared.encoding.Encoding.TheVariants.{Solexa};
@@ -9,6 +9,7 @@ ghost use Rattle.fq_tally.specs.Tallies.{is_gc, is_n};
 
 use crate::vectors::{WIDTH, at_least, gc_in, n_in, sum_of, vector_of};
 use fq_text::Encoding;
+use std::simd::prelude::*;
 
 /// Counts of bases and of their scores. A sum that is larger than `u64::MAX` is kept at that.
 #[derive(Clone, Copy, Debug, PartialEq, Eq)]
@@ -45,6 +46,8 @@ impl BaseTally {
     }
 
     // The counts of the bases from `from` up to `to`, and of their quality bytes.
+    // Without this hint the counts would be copied on the way.
+    #[inline(always)]
     pub(crate) fn of(
         encoding: Encoding,
         seq: &[u8],
@@ -78,6 +81,7 @@ impl BaseTally {
     }
 
     // These counts and those of more bases.
+    #[inline(always)]
     pub(crate) fn with(
         self,
         encoding: Encoding,
@@ -101,6 +105,57 @@ impl BaseTally {
             return self;
         }
         self.plus(BaseTally::of(encoding, seq, qual, from, to))
+    }
+
+    // The same, for bases that few reads have.
+    #[inline(always)]
+    pub(crate) fn with_rare(
+        self,
+        encoding: Encoding,
+        seq: &[u8],
+        qual: &[u8],
+        from: usize,
+        to: usize,
+    ) -> BaseTally
+        requires few { length qual.now ≤ 1048576 }
+        requires scored { list_all (is_scored encoding) qual.now ≡ true }
+        requires same { length qual.now ≡ length seq.now }
+        requires order { from ≤ to }
+        requires within { to ≤ length seq.now }
+        ensures { result ≡ bases_plus self (bases_of (record {
+          encoding = encoding;
+          seq = take (to - from) (drop from seq.now);
+          qual = take (to - from) (drop from qual.now);
+        })) }
+    {
+        if from < to {
+            self.plus(BaseTally::of_rare(encoding, seq, qual, from, to))
+        } else {
+            self
+        }
+    }
+
+    // The counts of the bases from `from` up to `to`, where few reads have such bases. The code of it stands once.
+    #[inline(never)]
+    pub(crate) fn of_rare(
+        encoding: Encoding,
+        seq: &[u8],
+        qual: &[u8],
+        from: usize,
+        to: usize,
+    ) -> BaseTally
+        requires few { length qual.now ≤ 1048576 }
+        requires scored { list_all (is_scored encoding) qual.now ≡ true }
+        requires same { length qual.now ≡ length seq.now }
+        requires order { from ≤ to }
+        requires within { to ≤ length seq.now }
+        ensures { result ≡ bases_of (record {
+          encoding = encoding;
+          seq = take (to - from) (drop from seq.now);
+          qual = take (to - from) (drop from qual.now);
+        }) }
+    {
+        BaseTally::of(encoding, seq, qual, from, to)
     }
 
     // The counts of both together.
@@ -128,7 +183,34 @@ struct Counted {
     sum: u64,
 }
 
+impl Counted {
+    // These counts and those of one vector more.
+    #[inline(always)]
+    fn with(self, bases: u8x32, bytes: u8x32, low: u8, high: u8) -> Counted
+        requires gc { self.gc ≤ 1048576 }
+        requires n { self.n ≤ 1048576 }
+        requires low { self.at_least_low ≤ 1048576 }
+        requires high { self.at_least_high ≤ 1048576 }
+        requires sum { self.sum ≤ 68719476736 }
+        ensures gc { result.gc ≡ self.gc + count_by is_gc bases }
+        ensures n { result.n ≡ self.n + count_by is_n bases }
+        ensures low { result.at_least_low ≡ self.at_least_low + count_by (nat_le low) bytes }
+        ensures high { result.at_least_high ≡ self.at_least_high + count_by (nat_le high) bytes }
+        ensures sum { result.sum ≡ self.sum + sum bytes }
+        ensures most { result.sum ≤ self.sum + 65535 }
+    {
+        Counted {
+            gc: self.gc + u64::from(gc_in(bases)),
+            n: self.n + u64::from(n_in(bases)),
+            at_least_low: self.at_least_low + u64::from(at_least(bytes, low)),
+            at_least_high: self.at_least_high + u64::from(at_least(bytes, high)),
+            sum: self.sum + u64::from(sum_of(bytes)),
+        }
+    }
+}
+
 // Counts bases from `from` up to `to`, how many of their quality bytes are at least so large as each of two, and the sum of these.
+#[inline(always)]
 fn count_of(seq: &[u8], qual: &[u8], from: usize, to: usize, low: u8, high: u8) -> Counted
     requires few { length qual.now ≤ 1048576 }
     requires same { length qual.now ≡ length seq.now }
@@ -142,32 +224,27 @@ fn count_of(seq: &[u8], qual: &[u8], from: usize, to: usize, low: u8, high: u8) 
     ensures high { result.at_least_high ≡ count_by (nat_le high) (take (to - from) (drop from qual.now)) }
     ensures sum { result.sum ≡ sum (take (to - from) (drop from qual.now)) }
 {
-    let mut gc = 0;
-    let mut n = 0;
-    let mut at_least_low = 0;
-    let mut at_least_high = 0;
-    let mut sum = 0;
+    let mut counted = Counted {
+        gc: 0,
+        n: 0,
+        at_least_low: 0,
+        at_least_high: 0,
+        sum: 0,
+    };
     let mut at = from;
-    while at < to {
-        let stop = at + WIDTH.min(to - at);
+    while WIDTH <= to - at {
+        let stop = at + WIDTH;
         let bases = vector_of(seq, at, stop);
         let bytes = vector_of(qual, at, stop);
-        let low_here = at_least(bytes, low);
-        let high_here = at_least(bytes, high);
-        gc += u64::from(gc_in(bases));
-        n += u64::from(n_in(bases));
-        at_least_low += u64::from(low_here);
-        at_least_high += u64::from(high_here);
-        sum += u64::from(sum_of(bytes));
+        counted = counted.with(bases, bytes, low, high);
         at = stop;
     }
-    Counted {
-        gc,
-        n,
-        at_least_low,
-        at_least_high,
-        sum,
+    if at < to {
+        let bases = vector_of(seq, at, to);
+        let bytes = vector_of(qual, at, to);
+        counted = counted.with(bases, bytes, low, high);
     }
+    counted
 }
 
 // The sum of the scores, by that of their bytes where a score is a distance between bytes.

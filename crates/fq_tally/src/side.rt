@@ -72,7 +72,7 @@ impl SideTally {
     {
         let _ = read.title();
         let len = read.seq().len();
-        let bases = BaseTally::of(read.encoding(), read.seq(), read.qual(), 0, len);
+        let bases = BaseTally::of_rare(read.encoding(), read.seq(), read.qual(), 0, len);
         self.before.add(bases, len);
     }
 
@@ -120,7 +120,17 @@ impl SideTally {
     }
 }
 
+// The quality bytes of a read, as many as its bases: so the compiler looks at one length for both.
+#[inline(always)]
+fn qual_of<'a>(read: &'a ReadView<'_>) -> &'a [u8]
+    ensures { result.now ≡ read.now.qual }
+{
+    let _ = read.title();
+    &read.qual()[..read.seq().len()]
+}
+
 // The counts of the bases that are kept of a read.
+#[inline(always)]
 fn kept_bases(read: &ReadView<'_>, kept: Kept) -> BaseTally
     requires { kept.stop ≤ length read.now.seq }
     ensures { result ≡ bases_of (part_at (places_of (Some kept)) (whole read.now)) }
@@ -129,13 +139,14 @@ fn kept_bases(read: &ReadView<'_>, kept: Kept) -> BaseTally
     BaseTally::of(
         read.encoding(),
         read.seq(),
-        read.qual(),
+        qual_of(read),
         kept.start,
         kept.stop,
     )
 }
 
 // The counts of all bases of a read, by those of the kept ones: so each base is counted once.
+#[inline(always)]
 fn whole_bases(read: &ReadView<'_>, kept: Kept, left: BaseTally) -> BaseTally
     requires within { kept.stop ≤ length read.now.seq }
     requires left { left ≡ bases_of (part_at (places_of (Some kept)) (whole read.now)) }
@@ -143,7 +154,7 @@ fn whole_bases(read: &ReadView<'_>, kept: Kept, left: BaseTally) -> BaseTally
 {
     let _ = read.title();
     let encoding = read.encoding();
-    let (seq, qual) = (read.seq(), read.qual());
-    left.with(encoding, seq, qual, 0, kept.start)
+    let (seq, qual) = (read.seq(), qual_of(read));
+    left.with_rare(encoding, seq, qual, 0, kept.start)
         .with(encoding, seq, qual, kept.stop, seq.len())
 }

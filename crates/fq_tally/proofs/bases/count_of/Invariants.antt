@@ -6,12 +6,12 @@ abbrev pub invariant-loop-at : goal.invariant-loop-at
 invariant-loop-at l = record {
   begun : l.fn.from ≤ l.at;
   within : l.at ≤ l.fn.to;
-  gc : l.gc ≡ count_by is_gc (take (l.at - l.fn.from) (drop l.fn.from l.seq));
-  n : l.n ≡ count_by is_n (take (l.at - l.fn.from) (drop l.fn.from l.seq));
-  low : l.at_least_low ≡ count_by (nat_le l.fn.low) (take (l.at - l.fn.from) (drop l.fn.from l.qual));
-  high : l.at_least_high ≡ count_by (nat_le l.fn.high) (take (l.at - l.fn.from) (drop l.fn.from l.qual));
-  most : l.sum ≤ 65536 * (l.at - l.fn.from);
-  total : l.sum ≡ sum (take (l.at - l.fn.from) (drop l.fn.from l.qual));
+  gc : l.counted.gc ≡ count_by is_gc (take (l.at - l.fn.from) (drop l.fn.from l.seq));
+  n : l.counted.n ≡ count_by is_n (take (l.at - l.fn.from) (drop l.fn.from l.seq));
+  low : l.counted.at_least_low ≡ count_by (nat_le l.fn.low) (take (l.at - l.fn.from) (drop l.fn.from l.qual));
+  high : l.counted.at_least_high ≡ count_by (nat_le l.fn.high) (take (l.at - l.fn.from) (drop l.fn.from l.qual));
+  most : l.counted.sum ≤ 65536 * (l.at - l.fn.from);
+  total : l.counted.sum ≡ sum (take (l.at - l.fn.from) (drop l.fn.from l.qual));
 }
 
 abbrev pub decreases-loop-at : goal.decreases-loop-at

@@ -13,10 +13,10 @@ returns c =
     let lawful = c.title.ensures.lawful in
     let e = c.encoding-encoding.result in
     let seq = c.seq-seq.result.now in
-    let qual = c.qual-qual.result.now in
+    let qual = c.qual_of-qual.result.now in
     let e_is = c.encoding-encoding.ensures in
     let seq_is = c.seq-seq.ensures in
-    let qual_is = c.qual-qual.ensures in
+    let qual_is = c.qual_of-qual.ensures in
     let order = k.some in
     let within = c.requires.within in
     let same_len = lawful.same_len in
@@ -27,9 +27,9 @@ returns c =
     let none_before : k.start - 0 ≡ k.start = omega arith in
     let as_long : length seq - k.stop ≡ length qual - k.stop = omega arith in
     let read_is : part e seq qual ≡ whole read = cc in
-    c.with-2.ensures
-    ∙ ap (λ (n : ℕ). bases_plus c.with.result (bases_of (part e (take (length seq - k.stop) (drop k.stop seq)) (take n (drop k.stop qual))))) as_long
-    ∙ ap (λ (t : BaseTally). bases_plus t (bases_of (part_from e seq qual k.stop))) c.with.ensures
+    c.with.ensures
+    ∙ ap (λ (n : ℕ). bases_plus c.with_rare.result (bases_of (part e (take (length seq - k.stop) (drop k.stop seq)) (take n (drop k.stop qual))))) as_long
+    ∙ ap (λ (t : BaseTally). bases_plus t (bases_of (part_from e seq qual k.stop))) c.with_rare.ensures
     ∙ ap (λ (n : ℕ). bases_plus (bases_plus c.args.left (bases_of (part e (take n seq) (take n qual)))) (bases_of (part_from e seq qual k.stop))) none_before
     ∙ ap (λ (t : BaseTally). bases_plus (bases_plus t (bases_of (part_before e seq qual k.start))) (bases_of (part_from e seq qual k.stop))) left
     ∙ counted_in_parts e seq qual k.start k.stop (omega arith) (omega arith) (omega arith) (omega arith) (rw (e_is, qual_is) lawful.scores)
