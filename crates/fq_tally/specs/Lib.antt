@@ -3,3 +3,4 @@ pub mod Courses
 pub mod Vectors
 pub mod Tallies
 pub mod Laws
+pub mod Parts

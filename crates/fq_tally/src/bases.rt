@@ -5,7 +5,7 @@ ghost use Rattle.std.specs.List.{list_all};
 ghost use Rattle.fq_text.specs.Scores.{is_scored, value_of};
 ghost use Rattle.fq_text.specs.declared.encoding.Encoding.TheVariants.{Solexa};
 ghost use Rattle.fq_trim.specs.Keeping.{scores};
-ghost use Rattle.fq_tally.specs.Tallies.{is_gc, is_n};
+ghost use Rattle.fq_tally.specs.Parts.{IsCount, CountsOn};
 
 use crate::vectors::{WIDTH, at_least, gc_in, n_in, sum_of, vector_of};
 use fq_text::Encoding;
@@ -29,6 +29,7 @@ pub struct BaseTally {
 }
 
 impl BaseTally {
+    ghost use Rattle.fq_tally.specs.Parts.{HasPart, part_between};
     ghost use Rattle.fq_tally.specs.Tallies.{no_bases, bases_of, bases_plus};
 
     // No bases.
@@ -55,16 +56,8 @@ impl BaseTally {
         from: usize,
         to: usize,
     ) -> BaseTally
-        requires few { length qual.now ≤ 1048576 }
-        requires scored { list_all (is_scored encoding) qual.now ≡ true }
-        requires same { length qual.now ≡ length seq.now }
-        requires order { from ≤ to }
-        requires within { to ≤ length seq.now }
-        ensures { result ≡ bases_of (record {
-          encoding = encoding;
-          seq = take (to - from) (drop from seq.now);
-          qual = take (to - from) (drop from qual.now);
-        }) }
+        requires { HasPart encoding seq.now qual.now from to }
+        ensures { result ≡ bases_of (part_between encoding seq.now qual.now from to) }
     {
         let low = byte_of(encoding, 20);
         let high = byte_of(encoding, 30);
@@ -80,6 +73,21 @@ impl BaseTally {
         }
     }
 
+    // The same, for bases that few reads have: so its code stands once.
+    #[inline(never)]
+    pub(crate) fn of_rare(
+        encoding: Encoding,
+        seq: &[u8],
+        qual: &[u8],
+        from: usize,
+        to: usize,
+    ) -> BaseTally
+        requires { HasPart encoding seq.now qual.now from to }
+        ensures { result ≡ bases_of (part_between encoding seq.now qual.now from to) }
+    {
+        BaseTally::of(encoding, seq, qual, from, to)
+    }
+
     // These counts and those of more bases.
     #[inline(always)]
     pub(crate) fn with(
@@ -90,72 +98,13 @@ impl BaseTally {
         from: usize,
         to: usize,
     ) -> BaseTally
-        requires few { length qual.now ≤ 1048576 }
-        requires scored { list_all (is_scored encoding) qual.now ≡ true }
-        requires same { length qual.now ≡ length seq.now }
-        requires order { from ≤ to }
-        requires within { to ≤ length seq.now }
-        ensures { result ≡ bases_plus self (bases_of (record {
-          encoding = encoding;
-          seq = take (to - from) (drop from seq.now);
-          qual = take (to - from) (drop from qual.now);
-        })) }
+        requires { HasPart encoding seq.now qual.now from to }
+        ensures { result ≡ bases_plus self (bases_of (part_between encoding seq.now qual.now from to)) }
     {
         if from == to {
             return self;
         }
         self.plus(BaseTally::of(encoding, seq, qual, from, to))
-    }
-
-    // The same, for bases that few reads have.
-    #[inline(always)]
-    pub(crate) fn with_rare(
-        self,
-        encoding: Encoding,
-        seq: &[u8],
-        qual: &[u8],
-        from: usize,
-        to: usize,
-    ) -> BaseTally
-        requires few { length qual.now ≤ 1048576 }
-        requires scored { list_all (is_scored encoding) qual.now ≡ true }
-        requires same { length qual.now ≡ length seq.now }
-        requires order { from ≤ to }
-        requires within { to ≤ length seq.now }
-        ensures { result ≡ bases_plus self (bases_of (record {
-          encoding = encoding;
-          seq = take (to - from) (drop from seq.now);
-          qual = take (to - from) (drop from qual.now);
-        })) }
-    {
-        if from < to {
-            self.plus(BaseTally::of_rare(encoding, seq, qual, from, to))
-        } else {
-            self
-        }
-    }
-
-    // The counts of the bases from `from` up to `to`, where few reads have such bases. The code of it stands once.
-    #[inline(never)]
-    pub(crate) fn of_rare(
-        encoding: Encoding,
-        seq: &[u8],
-        qual: &[u8],
-        from: usize,
-        to: usize,
-    ) -> BaseTally
-        requires few { length qual.now ≤ 1048576 }
-        requires scored { list_all (is_scored encoding) qual.now ≡ true }
-        requires same { length qual.now ≡ length seq.now }
-        requires order { from ≤ to }
-        requires within { to ≤ length seq.now }
-        ensures { result ≡ bases_of (record {
-          encoding = encoding;
-          seq = take (to - from) (drop from seq.now);
-          qual = take (to - from) (drop from qual.now);
-        }) }
-    {
-        BaseTally::of(encoding, seq, qual, from, to)
     }
 
     // The counts of both together.
@@ -192,12 +141,7 @@ impl Counted {
         requires low { self.at_least_low ≤ 1048576 }
         requires high { self.at_least_high ≤ 1048576 }
         requires sum { self.sum ≤ 68719476736 }
-        ensures gc { result.gc ≡ self.gc + count_by is_gc bases }
-        ensures n { result.n ≡ self.n + count_by is_n bases }
-        ensures low { result.at_least_low ≡ self.at_least_low + count_by (nat_le low) bytes }
-        ensures high { result.at_least_high ≡ self.at_least_high + count_by (nat_le high) bytes }
-        ensures sum { result.sum ≡ self.sum + sum bytes }
-        ensures most { result.sum ≤ self.sum + 65535 }
+        ensures { CountsOn low high bases bytes self result }
     {
         Counted {
             gc: self.gc + u64::from(gc_in(bases)),
@@ -218,11 +162,7 @@ fn count_of(seq: &[u8], qual: &[u8], from: usize, to: usize, low: u8, high: u8) 
     requires within { to ≤ length seq.now }
     requires low { 1 ≤ low }
     requires high { 1 ≤ high }
-    ensures gc { result.gc ≡ count_by is_gc (take (to - from) (drop from seq.now)) }
-    ensures n { result.n ≡ count_by is_n (take (to - from) (drop from seq.now)) }
-    ensures low { result.at_least_low ≡ count_by (nat_le low) (take (to - from) (drop from qual.now)) }
-    ensures high { result.at_least_high ≡ count_by (nat_le high) (take (to - from) (drop from qual.now)) }
-    ensures sum { result.sum ≡ sum (take (to - from) (drop from qual.now)) }
+    ensures { IsCount low high (take (to - from) (drop from seq.now)) (take (to - from) (drop from qual.now)) result }
 {
     let mut counted = Counted {
         gc: 0,

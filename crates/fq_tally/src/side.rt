@@ -155,6 +155,11 @@ fn whole_bases(read: &ReadView<'_>, kept: Kept, left: BaseTally) -> BaseTally
     let _ = read.title();
     let encoding = read.encoding();
     let (seq, qual) = (read.seq(), qual_of(read));
-    left.with_rare(encoding, seq, qual, 0, kept.start)
+    let front = if kept.start == 0 {
+        BaseTally::zero()
+    } else {
+        BaseTally::of_rare(encoding, seq, qual, 0, kept.start)
+    };
+    left.plus(front)
         .with(encoding, seq, qual, kept.stop, seq.len())
 }

@@ -4,7 +4,7 @@ ghost use Rattle.std.specs.Prelude.{true, ◌≡◌, ℕ, ◌+◌, ◌-◌, ◌<
 ghost use Rattle.std.specs.List.{list_all};
 ghost use Rattle.fq_text.specs.Scores.{is_scored};
 ghost use Rattle.fq_trim.specs.Keeping.{scores};
-ghost use Rattle.fq_trim.specs.Windows.{distances};
+ghost use Rattle.fq_trim.specs.Windows.{distances, IsLowEnd};
 
 use crate::vectors::{TOGETHER, less, offset_of};
 use fq_text::Encoding;
@@ -54,8 +54,7 @@ fn low_from(offset: u8, score: u8, qual: &[u8]) -> usize
 // How many scores stand behind the last that is at least `score`.
 #[inline(always)]
 fn low_behind(scores: u8x16, score: u8) -> usize
-    ensures within { result ≤ 16 }
-    ensures low { (k : ℕ) → 16 ≤ k + result → k < 16 → slice_index scores k < score }
+    ensures { IsLowEnd score scores result }
 {
     let high = turned(scores).simd_ge(u8x16::splat(score)).to_bitmask();
     if high == 0 {

@@ -5,7 +5,7 @@ ghost use Rattle.std.specs.List.{list_all};
 ghost use Rattle.fq_text.specs.Scores.{is_scored};
 ghost use lib.Lanes.{zip2};
 ghost use Rattle.fq_trim.specs.Keeping.{scores};
-ghost use Rattle.fq_trim.specs.Windows.{distances, IsGoodStop};
+ghost use Rattle.fq_trim.specs.Windows.{distances, IsGoodStop, IsFirstBelow};
 
 use crate::scoring::total_of;
 use crate::vectors::{TOGETHER, less, offset_of};
@@ -83,9 +83,7 @@ fn plus(left: u8x16, right: u8x16) -> u8x16
 // How many sums stand before the first that is below `least`, or all of them.
 #[inline(always)]
 fn first_below(sums: u8x16, least: u8) -> usize
-    ensures within { result ≤ 16 }
-    ensures good { (k : ℕ) → k < result → least ≤ slice_index sums k }
-    ensures bad { result < 16 → slice_index sums result < least }
+    ensures { IsFirstBelow least sums result }
 {
     let below = sums.simd_lt(u8x16::splat(least)).to_bitmask();
     if below == 0 {

@@ -6,31 +6,28 @@ use Rattle.fq_text.proofs.VectorLemmas.{flag, mask_of}
 use Rattle.fq_trim.proofs.LowEndLemmas.{few, low}
 use Rattle.fq_trim.proofs.low_end.low_behind.Goals as goal
 
-pub returns-then-high-eq0-clause-low : goal.returns-then-high-eq0-clause-low
-returns-then-high-eq0-clause-low c =
+pub returns-then-high-eq0 : goal.returns-then-high-eq0
+returns-then-high-eq0 c =
     let score = c.args.score in
     let turned = c.turned.result in
     let long = c.turned.ensures.long in
     let mask = mask_of (leb score) turned (omega arith) (zip2_splat_left (λ a b. flag (leb a b)) score 16 turned long) in
     let none = leading_from_mask_l (leb score) turned (sym mask ∙ c.if-high-eq0.true) in
-    low c.args.scores turned score 16 long c.turned.ensures.each (sym (none ∙ long))
+    record {
+      within = omega arith;
+      low = low c.args.scores turned score 16 long c.turned.ensures.each (sym (none ∙ long));
+    }
 
-pub returns-else-high-eq0-clause-within : goal.returns-else-high-eq0-clause-within
-returns-else-high-eq0-clause-within c =
+pub returns-else-high-eq0 : goal.returns-else-high-eq0
+returns-else-high-eq0 c =
     let score = c.args.score in
     let turned = c.turned.result in
     let long = c.turned.ensures.long in
     let mask = mask_of (leb score) turned (omega arith) (zip2_splat_left (λ a b. flag (leb a b)) score 16 turned long) in
     let some = c.if-high-eq0.false in
     let set : 0 < mask_l (map (leb score) turned) = omega arith in
-    few c.args.scores turned score _ long c.turned.ensures.each (ap (count_trailing_zeros 64) mask ∙ trailing_mask_l (leb score) 64 turned (omega arith) set)
-
-pub returns-else-high-eq0-clause-low : goal.returns-else-high-eq0-clause-low
-returns-else-high-eq0-clause-low c =
-    let score = c.args.score in
-    let turned = c.turned.result in
-    let long = c.turned.ensures.long in
-    let mask = mask_of (leb score) turned (omega arith) (zip2_splat_left (λ a b. flag (leb a b)) score 16 turned long) in
-    let some = c.if-high-eq0.false in
-    let set : 0 < mask_l (map (leb score) turned) = omega arith in
-    low c.args.scores turned score _ long c.turned.ensures.each (ap (count_trailing_zeros 64) mask ∙ trailing_mask_l (leb score) 64 turned (omega arith) set)
+    let first = ap (count_trailing_zeros 64) mask ∙ trailing_mask_l (leb score) 64 turned (omega arith) set in
+    record {
+      within = few c.args.scores turned score _ long c.turned.ensures.each first;
+      low = low c.args.scores turned score _ long c.turned.ensures.each first;
+    }
