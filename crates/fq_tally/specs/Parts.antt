@@ -19,7 +19,7 @@ pub record HasPart (e : Encoding) (seq qual : List ℕ) (from to : ℕ) : Type 0
   pub order : from ≤ to
   pub within : to ≤ length seq
 
--- what is counted of bases and of their quality bytes: these that are at least so large as each of two, and their sum
+-- What is counted of bases and of their quality bytes: of these how many are at least `lower`, how many at least `upper`, and their sum.
 pub record IsCount (lower upper : ℕ) (seq qual : List ℕ) (c : Counted) : Type 0 where
   pub gc : c.gc ≡ count_by is_gc seq
   pub n : c.n ≡ count_by is_n seq
@@ -27,7 +27,7 @@ pub record IsCount (lower upper : ℕ) (seq qual : List ℕ) (c : Counted) : Typ
   pub high : c.at_least_high ≡ count_by (nat_le upper) qual
   pub sum : c.sum ≡ sum qual
 
--- what is counted of more bases and of their quality bytes is added, and the sum doesn't pass what the bytes of a vector sum up to
+-- The same of more bases is added. The sum grows by no more than 65,535: the bytes are those of a vector.
 pub record CountsOn (lower upper : ℕ) (seq qual : List ℕ) (old new : Counted) : Type 0 where
   pub gc : new.gc ≡ old.gc + count_by is_gc seq
   pub n : new.n ≡ old.n + count_by is_n seq
