@@ -40,11 +40,11 @@ module _ (c : Choices) (old : SourceState) (before : OutletStates) where
     goes = goes;
   }
 
-  module _ (now next : SourceState) (after then : OutletStates) (counted : Total) (done : Done) (why : Option ReadingEnd) where
+  module _ {now next : SourceState} {after : OutletStates} {counted : Total} {done : Done} {why : Option ReadingEnd} where
     -- a write failed in a block
-    pub passes_broken : (failed : Out) → Wrote now after counted → Gathers now next c.tallied c.steps c.block_pairs done why → BreaksAt after then done.texts failed →
+    pub passes_broken : {then : OutletStates} (failed : Out) → Wrote now after counted → Gathers now next c.tallied c.steps c.block_pairs done why → BreaksAt after then done.texts failed →
         (total : Total) → total ≡ counted → Passes c old next before then total no_halt why (Some failed)
-    passes_broken failed w g p total is =
+    passes_broken {then} failed w g p total is =
         let P : List Mates → Type 0 = λ ms. Reads old next ms why in
         let same = λ (out : Out). ap (λ (t : Outputs). text_of out (texts_of c.steps w.whole) ++ part_at failed p.sent out (text_of out t)) g.texts in
         let short : p.sent < length (text_of failed (texts_of c.steps g.block)) = let Q : Outputs → Type 0 = λ t. p.sent < length (text_of failed t) in subst Q g.texts p.short in
@@ -64,9 +64,9 @@ module _ (c : Choices) (old : SourceState) (before : OutletStates) where
         }
 
     -- both together
-    took_block : (w : Wrote now after counted) (g : Gathers now next c.tallied c.steps c.block_pairs done why) → OutletsTook after then (λ out. text_of out done.texts) None →
+    took_block : {then : OutletStates} (w : Wrote now after counted) (g : Gathers now next c.tallied c.steps c.block_pairs done why) → OutletsTook after then (λ out. text_of out done.texts) None →
         OutletsTook before then (λ out. text_of out (texts_of c.steps (w.whole ++ g.block))) None
-    took_block w g p =
+    took_block {then} w g p =
         let same = λ (out : Out). ap (λ (t : Outputs). text_of out (texts_of c.steps w.whole) ++ text_of out t) g.texts ∙ sym (text_then c.steps w.whole g.block out) in
         all_took_same before then _ _ None same (all_took_then before after then (λ out. text_of out (texts_of c.steps w.whole)) (λ out. text_of out done.texts) None w.took p)
 
@@ -77,10 +77,10 @@ module _ (c : Choices) (old : SourceState) (before : OutletStates) where
         total_added c.tallied c.steps w.whole g.block counted done w.counts g.texts g.tally (omega arith)
 
     -- the last block is written
-    pub passes_whole : Wrote now after counted → Gathers now next c.tallied c.steps c.block_pairs done why → OutletsTook after then (λ out. text_of out done.texts) None →
+    pub passes_whole : {then : OutletStates} → Wrote now after counted → Gathers now next c.tallied c.steps c.block_pairs done why → OutletsTook after then (λ out. text_of out done.texts) None →
         old.forward.given ≡ 0 → old.most_bytes ≤ 2 ^ 60 → c.block_pairs ≤ 65536 → (why ≡ None → ⊥) → (total : Total) → total ≡ total_plus counted done →
         Passes c old next before then total no_halt why None
-    passes_whole w g p none few most stopped total is =
+    passes_whole {then} w g p none few most stopped total is =
         let P : List Mates → Type 0 = λ ms. Reads old next ms why in
         record {
           whole = w.whole ++ g.block;
@@ -97,10 +97,10 @@ module _ (c : Choices) (old : SourceState) (before : OutletStates) where
         }
 
     -- another block is written, and more may come
-    pub wrote_more : Wrote now after counted → Gathers now next c.tallied c.steps c.block_pairs done why → OutletsTook after then (λ out. text_of out done.texts) None →
+    pub wrote_more : {then : OutletStates} → Wrote now after counted → Gathers now next c.tallied c.steps c.block_pairs done why → OutletsTook after then (λ out. text_of out done.texts) None →
         old.forward.given ≡ 0 → old.most_bytes ≤ 2 ^ 60 → c.block_pairs ≤ 65536 → why ≡ None → (total : Total) → total ≡ total_plus counted done →
         Wrote next then total
-    wrote_more w g p none few most going total is =
+    wrote_more {then} w g p none few most going total is =
         let P : Option ReadingEnd → Type 0 = λ o. Reads now next g.block o in
         record {
           whole = w.whole ++ g.block;
@@ -111,9 +111,9 @@ module _ (c : Choices) (old : SourceState) (before : OutletStates) where
         }
 
   -- it brings the end nearer
-  pub nearer : (now next : SourceState) (after : OutletStates) (counted : Total) (done : Done) (why : Option ReadingEnd) → Wrote now after counted → Gathers now next c.tallied c.steps c.block_pairs done why →
+  pub nearer : {now next : SourceState} {after : OutletStates} {counted : Total} {done : Done} {why : Option ReadingEnd} → Wrote now after counted → Gathers now next c.tallied c.steps c.block_pairs done why →
       1 ≤ c.block_pairs → why ≡ None → old.most_bytes - next.forward.given < old.most_bytes - now.forward.given
-  nearer now next after counted done why w g some going =
+  nearer {now} {next} {after} {counted} {done} {why} w g some going =
       let P : Option ReadingEnd → Type 0 = λ o. Reads now next g.block o in
       let reads : Walks now next g.block = subst P going g.reads in
       let full = g.full going in let goes = g.goes going in let within = goes.within in let records = walked_records now next g.block reads in

@@ -104,9 +104,9 @@ module _ (tallied : Bool) (steps : List Step) where
       subst P (sym same) (gathers_stopped old now next done n most reading.Memory room g (m ∷ [], walks_then old now next g.block (m ∷ []) g.walks w))
 
 -- the same wish, the same steps and the same bound
-pub gathers_as : (old new : SourceState) (tallied tallied' : Bool) (steps steps' : List Step) (most most' : ℕ) (done : Done) (why : Option ReadingEnd) →
+pub gathers_as : {old new : SourceState} {tallied tallied' : Bool} {steps steps' : List Step} {most most' : ℕ} {done : Done} {why : Option ReadingEnd} →
     tallied' ≡ tallied → steps' ≡ steps → most' ≡ most → Gathers old new tallied' steps' most' done why → Gathers old new tallied steps most done why
-gathers_as old new tallied tallied' steps steps' most most' done why asked same bound g =
+gathers_as {old} {new} {tallied} {tallied'} {steps} {steps'} {most} {most'} {done} {why} asked same bound g =
     let O : Bool → Type 0 = λ b. Gathers old new b steps most done why in
     let P : List Step → Type 0 = λ s. Gathers old new tallied' s most done why in
     let Q : ℕ → Type 0 = λ n. Gathers old new tallied' steps' n done why in

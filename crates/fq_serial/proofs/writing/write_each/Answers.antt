@@ -14,27 +14,27 @@ write_block-why-requires-clause-outlets g c = let w = c.writing.invariant.0 in s
 pub returns-in-Err : goal.returns-in-Err
 returns-in-Err g c =
     let block = c.write_block-why.ensures in
-    let gathered = gathers_as _ _ _ _ _ _ _ _ _ _ c.writing.invariant.1 c.steps-steps.ensures c.block_pairs-most.ensures.pairs block.gathers in
-    passes_broken c.args.settings.now _ _ _ _ _ _ _ _ _ c.in-Err.out c.writing.invariant.0 gathered (rw c.in-Err.is at block.sends) c.write_block-why.new.total (rw c.in-Err.is at block.uncounted)
+    let gathered = gathers_as c.writing.invariant.1 c.steps-steps.ensures c.block_pairs-most.ensures.pairs block.gathers in
+    passes_broken c.args.settings.now _ _ c.in-Err.out c.writing.invariant.0 gathered (rw c.in-Err.is at block.sends) c.write_block-why.new.total (rw c.in-Err.is at block.uncounted)
 
 pub returns-then-is_some : goal.returns-then-is_some
 returns-then-is_some g c =
     let block = c.write_block-why.ensures in
-    let gathered = gathers_as _ _ _ _ _ _ _ _ _ _ c.writing.invariant.1 c.steps-steps.ensures c.block_pairs-most.ensures.pairs block.gathers in
-    passes_whole c.args.settings.now _ _ _ _ _ _ _ _ _ c.writing.invariant.0 gathered (rw c.in_default.is at block.sends) c.requires.fresh c.requires.few
+    let gathered = gathers_as c.writing.invariant.1 c.steps-steps.ensures c.block_pairs-most.ensures.pairs block.gathers in
+    passes_whole c.args.settings.now _ _ c.writing.invariant.0 gathered (rw c.in_default.is at block.sends) c.requires.fresh c.requires.few
     (omega (arith, c.block_pairs-most.ensures.most, c.block_pairs-most.ensures.pairs)) (end_is _ _ c.is_some.ensures c.if-is_some.true) c.write_block-why.new.total (rw c.in_default.is at block.counted)
 
 pub writing-smaller : goal.writing-smaller
 writing-smaller g c =
     let block = c.write_block-why.ensures in
-    let gathered = gathers_as _ _ _ _ _ _ _ _ _ _ c.writing.invariant.1 c.steps-steps.ensures c.block_pairs-most.ensures.pairs block.gathers in
-    nearer c.args.settings.now _ _ _ _ _ _ _ _ c.writing.invariant.0 gathered (omega (arith, c.block_pairs-most.ensures.some, c.block_pairs-most.ensures.pairs)) (end_none _ _ c.is_some.ensures c.if-is_some.false)
+    let gathered = gathers_as c.writing.invariant.1 c.steps-steps.ensures c.block_pairs-most.ensures.pairs block.gathers in
+    nearer c.args.settings.now _ _ c.writing.invariant.0 gathered (omega (arith, c.block_pairs-most.ensures.some, c.block_pairs-most.ensures.pairs)) (end_none _ _ c.is_some.ensures c.if-is_some.false)
 
 pub writing-preserved : goal.writing-preserved
 writing-preserved g c =
     let block = c.write_block-why.ensures in
-    let gathered = gathers_as _ _ _ _ _ _ _ _ _ _ c.writing.invariant.1 c.steps-steps.ensures c.block_pairs-most.ensures.pairs block.gathers in (
-      wrote_more c.args.settings.now _ _ _ _ _ _ _ _ _ c.writing.invariant.0 gathered (rw c.in_default.is at block.sends) c.requires.fresh c.requires.few
+    let gathered = gathers_as c.writing.invariant.1 c.steps-steps.ensures c.block_pairs-most.ensures.pairs block.gathers in (
+      wrote_more c.args.settings.now _ _ c.writing.invariant.0 gathered (rw c.in_default.is at block.sends) c.requires.fresh c.requires.few
           (omega (arith, c.block_pairs-most.ensures.most, c.block_pairs-most.ensures.pairs)) (end_none _ _ c.is_some.ensures c.if-is_some.false) c.write_block-why.new.total (rw c.in_default.is at block.counted),
       gathered_asked _ _ c.args.settings.now.tallied _ _ _ _ gathered,
     )
