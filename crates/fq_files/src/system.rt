@@ -128,7 +128,8 @@ impl<'a, R: rt::Files<File = File>> Files for SystemFiles<'a, R> {
         let is_regular = metadata.is_file();
         if is_regular {
             self.outputs.push(identity).map_err(OutOfMemory::from)?;
-            if file.set_len(0).is_err() {
+            // An empty file is left as it is: where one has been cut, ext4 begins to write it to the disk as soon as it is closed.
+            if metadata.len() > 0 && file.set_len(0).is_err() {
                 return Err(FileFault::Refused);
             }
         }
