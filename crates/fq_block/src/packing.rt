@@ -57,32 +57,46 @@ fn append_pair(out: &mut Vec<u8>, pair: &PairView<'_>)
 }
 
 // Appends a read, for which there is room.
+// Without this hint the whole view would be copied to memory on the way.
+#[inline(always)]
 fn append_read(out: &mut Vec<u8>, read: &ReadView<'_>)
     requires { vec_len out.old + room_of read.now ≤ vec_capacity out.old }
     ensures items { out.new.items ≡ out.old.items ++ packed_read read.now }
     ensures len { vec_len out.new ≡ vec_len out.old + room_of read.now }
     ensures capacity { vec_capacity out.old ≤ vec_capacity out.new }
 {
-    let title = read.title();
-    let seq = read.seq();
-    append_length(out, title.len());
-    append_length(out, seq.len());
-    out.extend_from_slice(title).unwrap();
-    out.extend_from_slice(seq).unwrap();
-    out.extend_from_slice(read.qual()).unwrap();
+    append_parts(out, read.title(), read.seq(), read.qual());
 }
 
-// Appends a length in four bytes, for which there is room.
-#[tactic(auto, unfolding(crate::specs::Packing::packed_length))]
-fn append_length(out: &mut Vec<u8>, len: usize)
-    requires fits { len < 2 ^ 32 }
-    requires room { vec_len out.old + 4 ≤ vec_capacity out.old }
-    ensures items { out.new.items ≡ out.old.items ++ packed_length len }
-    ensures len { vec_len out.new ≡ vec_len out.old + 4 }
+// Appends the parts of a read, for which there is room.
+fn append_parts(out: &mut Vec<u8>, title: &[u8], seq: &[u8], qual: &[u8])
+    requires title { length title.now < 2 ^ 32 }
+    requires bases { length seq.now < 2 ^ 32 }
+    requires room { vec_len out.old + (length title.now + length seq.now + length qual.now + 8) ≤ vec_capacity out.old }
+    ensures items { out.new.items ≡ out.old.items
+        ++ (packed_length (length title.now) ++ packed_length (length seq.now) ++ title.now ++ seq.now ++ qual.now) }
+    ensures len { vec_len out.new ≡ vec_len out.old + (length title.now + length seq.now + length qual.now + 8) }
     ensures capacity { vec_capacity out.old ≤ vec_capacity out.new }
 {
-    let bytes = (len as u32).to_be_bytes();
-    out.extend_from_slice(&bytes).unwrap();
+    append_lengths(out, title.len(), seq.len());
+    out.extend_from_slice(title).unwrap();
+    out.extend_from_slice(seq).unwrap();
+    out.extend_from_slice(qual).unwrap();
+}
+
+// Appends two lengths, four bytes each, for which there is room.
+#[tactic(auto, unfolding(crate::specs::Packing::packed_length))]
+fn append_lengths(out: &mut Vec<u8>, title_len: usize, bases: usize)
+    requires title { title_len < 2 ^ 32 }
+    requires bases { bases < 2 ^ 32 }
+    requires room { vec_len out.old + 8 ≤ vec_capacity out.old }
+    ensures items { out.new.items ≡ out.old.items ++ (packed_length title_len ++ packed_length bases) }
+    ensures len { vec_len out.new ≡ vec_len out.old + 8 }
+    ensures capacity { vec_capacity out.old ≤ vec_capacity out.new }
+{
+    let [a, b, c, d] = (title_len as u32).to_be_bytes();
+    let [e, f, g, h] = (bases as u32).to_be_bytes();
+    out.extend_from_slice(&[a, b, c, d, e, f, g, h]).unwrap();
 }
 
 /// The bytes from the pair at place `i` on.

@@ -3,12 +3,17 @@ use Rattle.std.proofs.Common.{◌≡◌, ℕ, ◌+◌, ◌-◌, ◌<◌, ◌≤�
 use Rattle.std.specs.Borrow.{Bor}
 use Rattle.std.specs.List.{before_first, position_or_len, ends_with}
 use Rattle.std.specs.Cmp.Lexicographic.{pointwise}
+use Rattle.std.specs.Str.{bytes_eq}
 use Rattle.std.proofs.lemmas.Bool.{cond-true, cond-false, cond_both, cases_Bool, cases_lt, eqb-true, eq-eqb, false_from_ne_true}
+use Rattle.std.proofs.lemmas.Bool.Decides.{same_from_decides, Decides-eqb, Decides-like}
+use Rattle.std.proofs.lemmas.Grind.{same_number_lists}
 use Rattle.std.proofs.lemmas.List.{length-take, get_or-take}
 use Rattle.std.proofs.Math.Seq.{take-length}
+use Rattle.std.proofs.lemmas.Slice.Eq.{bytes_eq-Decides}
 use Rattle.std.proofs.lemmas.List.Sums.{position_or_len_is, fails_before_first}
 use Rattle.memchr.specs.Find.{IsFirstByte, is_byte2}
 use Rattle.fq_pair.specs.declared.side.Side.{Side}
+use Rattle.fq_pair.specs.declared.side.Side.TheVariants.{Forward, Reverse}
 use Rattle.fq_pair.specs.Mates.{is_gap, mark_of, without_end, name_of}
 
 -- the place of the first blank or tab, or the length
@@ -81,12 +86,57 @@ stripped mark word None d is cases =
 stripped mark word (Some x) d is cases =
     cases.1 ∙ sym (cond-true _ (take (length word - length mark) word) word (pointwise_sym mark (drop (length word - length mark) word) ∙ cases.0))
 
+-- A word without an ending is the front of it.
+get_or-without_end : (ending word : List ℕ) (k : ℕ) → k < length (without_end ending word) → get_or (without_end ending word) k 0 ≡ get_or word k 0
+get_or-without_end ending word k =
+    let short = length-take (length word - length ending) word in
+    cond_both (ends_with nat_eq word ending) (take (length word - length ending) word) word (λ (name : List ℕ). k < length name → get_or name k 0 ≡ get_or word k 0)
+    (λ ends lt. get_or-take (length word - length ending) word k 0 (omega arith))
+    (λ other lt. refl)
+
+length-without_end : (ending word : List ℕ) → length (without_end ending word) ≤ length word
+length-without_end ending word =
+    cond_both (ends_with nat_eq word ending) (take (length word - length ending) word) word (λ (name : List ℕ). length name ≤ length word)
+    (λ ends. omega (arith, length-take (length word - length ending) word))
+    (λ other. omega arith)
+
 -- a name is no longer than its title
 pub name_short : (side : Side) (title : List ℕ) → length (name_of side title) ≤ length title
 name_short side title =
-    let word = before_first is_gap title in
-    let front : length word ≤ length title = omega (arith, length-take (position_or_len is_gap title) title) in
-    let Short : List ℕ → Type 0 = λ name. length name ≤ length title in
-    cond_both (ends_with nat_eq word (mark_of side)) (take (length word - length (mark_of side)) word) word Short
-    (λ ends. omega (arith, length-take (length word - length (mark_of side)) word))
-    (λ other. front)
+    omega (arith, length-without_end (mark_of side) (before_first is_gap title), length-take (position_or_len is_gap title) title)
+
+-- The names in two words that are alike but for their last bytes.
+module _ (word mate : List ℕ) (some : 0 < length word) (like : take (length word - 1) mate ≡ take (length word - 1) word) where
+  abbrev forward_name : List ℕ
+  forward_name = without_end (mark_of Forward) word
+
+  abbrev reverse_name : List ℕ
+  reverse_name = without_end (mark_of Reverse) mate
+
+  front_like : (k : ℕ) → k < length word - 1 → get_or word k 0 ≡ get_or mate k 0
+  front_like k lt =
+      let last = length word - 1 in
+      sym (get_or-take last word k 0 lt) ∙ ap (λ (bytes : List ℕ). get_or bytes k 0) (sym like) ∙ get_or-take last mate k 0 lt
+
+  -- names of one length are one where the words are alike so far
+  same_names : length forward_name ≡ length reverse_name → ((k : ℕ) → k < length forward_name → get_or word k 0 ≡ get_or mate k 0) → forward_name ≡ reverse_name
+  same_names long alike = same_number_lists forward_name reverse_name long
+      (λ k lt. get_or-without_end (mark_of Forward) word k lt ∙ alike k lt ∙ sym (get_or-without_end (mark_of Reverse) mate k (omega arith)))
+
+  -- names shorter than the words
+  pub short_names : length forward_name ≡ length reverse_name → length forward_name ≤ length word - 1 → bytes_eq forward_name reverse_name ≡ true
+  short_names long short = (bytes_eq-Decides forward_name reverse_name).1 (same_names long (λ k lt. front_like k (omega arith)))
+
+  -- names as long as the words are one where the last bytes are
+  pub whole_names : length forward_name ≡ length reverse_name → length word - 1 < length forward_name →
+      eqb (get_or word (length word - 1) 0) (get_or mate (length word - 1) 0) ≡ bytes_eq forward_name reverse_name
+  whole_names long whole =
+      let last = length word - 1 in
+      same_from_decides _ _ (Decides-eqb (get_or word last 0) (get_or mate last 0))
+      (Decides-like (bytes_eq forward_name reverse_name)
+      (λ same. sym (get_or-without_end (mark_of Forward) word last whole) ∙ ap (λ (name : List ℕ). get_or name last 0) same ∙ get_or-without_end (mark_of Reverse) mate last (omega arith))
+      (λ one. same_names long (λ k lt. elim (cases_lt k last) [
+        | inl front ↦ front_like k front
+        | inr past ↦ let at : k ≡ last = omega (arith, length-without_end (mark_of Forward) word) in ap (λ (j : ℕ). get_or word j 0) at ∙ one ∙ ap (λ (j : ℕ). get_or mate j 0) (sym at)
+      ]))
+      (bytes_eq-Decides forward_name reverse_name))

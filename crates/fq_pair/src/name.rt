@@ -2,6 +2,7 @@
 
 ghost use Rattle.std.specs.Prelude.{◌≡◌, ◌-◌, ◌<◌, ◌≤◌, true, false, IsTrue, length, take, get_or};
 ghost use Rattle.std.specs.List.{before_first};
+ghost use Rattle.std.specs.Str.{bytes_eq};
 ghost use Rattle.fq_pair.specs.declared.side.Side.TheVariants.{Forward, Reverse};
 ghost use Rattle.fq_pair.specs.Mates.{is_gap as gap, mark_of as mark, without_end, name_of as name, names_match as same_names};
 
@@ -96,6 +97,22 @@ fn mark_of(side: Side) -> &'static [u8]
 pub fn names_match(forward: &[u8], reverse: &[u8]) -> bool
     ensures { result ≡ same_names forward.now reverse.now }
 {
-    let (forward_name, reverse_name) = names_of(forward, reverse);
-    forward_name == reverse_name
+    let word = first_word(forward);
+    if begins_like(reverse, word) {
+        return ends_match(word, &reverse[..word.len()]);
+    }
+    without_mark(word, Side::Forward) == name_of(reverse, Side::Reverse)
+}
+
+// Whether two words, of a forward and of a reverse mate, have one name, where they are alike but for their last bytes.
+fn ends_match(word: &[u8], mate: &[u8]) -> bool
+    requires some { 0 < length word.now }
+    requires len { length mate.now ≡ length word.now }
+    requires like { take (length word.now - 1) mate.now ≡ take (length word.now - 1) word.now }
+    ensures { result ≡ bytes_eq (without_end (mark Forward) word.now) (without_end (mark Reverse) mate.now) }
+{
+    let last = word.len() - 1;
+    let forward_len = without_mark(word, Side::Forward).len();
+    let reverse_len = without_mark(mate, Side::Reverse).len();
+    forward_len == reverse_len && (forward_len <= last || word[last] == mate[last])
 }

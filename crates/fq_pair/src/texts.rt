@@ -167,6 +167,8 @@ impl Texts {
 }
 
 // The bases of a read that the steps keep.
+// Without this hint, here and below, the whole view would be copied to memory on the way.
+#[inline(always)]
 fn trimmed(read: &ReadView<'_>, steps: &Steps) -> Option<Kept>
     requires { IsLawful read.now }
     ensures places { kept_places steps.now read.now ≡ places_of result }
@@ -176,6 +178,7 @@ fn trimmed(read: &ReadView<'_>, steps: &Steps) -> Option<Kept>
 }
 
 // Makes room for the record of the kept bases of a read.
+#[inline(always)]
 fn make_room(out: &mut Vec<u8>, read: &ReadView<'_>, kept: Kept) -> Result<(), OutOfMemory>
     requires { IsWithin (length read.now.seq) (Some kept) }
     ensures items { out.new.items ≡ out.old.items }
@@ -185,6 +188,7 @@ fn make_room(out: &mut Vec<u8>, read: &ReadView<'_>, kept: Kept) -> Result<(), O
 }
 
 // Appends the record of the kept bases of a read, for which the text has room.
+#[inline(always)]
 fn put_kept(out: &mut Vec<u8>, read: &ReadView<'_>, kept: Kept, recode: bool)
     requires within { IsWithin (length read.now.seq) (Some kept) }
     requires room { vec_len out.old + (length read.now.title + 2 * (kept.stop - kept.start) + 6) ≤ vec_capacity out.old }

@@ -3,11 +3,10 @@ use Rattle.std.proofs.Common.{◌≡◌, ◌≤◌, ◌<◌, ◌+◌, ◌*◌, �
 use Rattle.std.specs.List.{list_all}
 use Rattle.std.proofs.lemmas.List.{length-map, length-drop, take_all, take-take, take-append-drop}
 use Rattle.std.proofs.lemmas.List.Folds.{list_all-append}
-use Rattle.std.proofs.lemmas.Bool.{and_left, and_right, and_from, and_parts, cases_lt, lt-ltb, le-ltb, le-leb, lt-leb, eq-eqb, ne_eqb}
-use Rattle.std.proofs.lemmas.Simd.{mask_l-mod}
+use Rattle.std.proofs.lemmas.Bool.{and_left, and_right, and_from, and_parts, cases_Bool, cases_lt, lt-ltb, le-ltb, le-leb, lt-leb, eq-eqb, ne_eqb}
+use Rattle.std.proofs.lemmas.Simd.{mask_l-mod, length-chunk}
 use lib.Bits.{bit_or}
-use lib.Lanes.{chunk, zip2, mask_l, top}
-use Rattle.fq_text.specs.Scores.{is_from}
+use lib.Lanes.{chunk, zip2, sel_l, mask_l, top}
 
 abbrev pub flag : Bool → ℕ
 flag b = cond b 255 0
@@ -57,33 +56,97 @@ none_set : (p : ℕ → Bool) (v : List ℕ) → eqb (mask_l (map p v)) 0 ≡ li
 none_set p [] = refl
 none_set p (x ∷ xs) = one_set (p x) (mask_l (map p xs)) ∙ ap (λ b. not (p x) && b) (none_set p xs)
 
--- a byte that is no lower than one and no higher than another
-not_outside : (low high x : ℕ) → not (ltb x low || ltb high x) ≡ leb low x && leb x high
-not_outside low high x = ⊎_elim
-    (λ (below : x < low). ap (λ b. not (b || ltb high x)) (lt-ltb x low below) ∙ sym (and_left (leb low x) (leb x high) (lt-leb low x below)))
-    (λ (from : low ≤ x). ⊎_elim
-    (λ (above : high < x). ap₂ (λ a b. not (a || b)) (le-ltb x low from) (lt-ltb high x above) ∙ sym (and_right (leb low x) (leb x high) (lt-leb x high above)))
-    (λ (within : x ≤ high). ap₂ (λ a b. not (a || b)) (le-ltb x low from) (le-ltb high x within) ∙ sym (and_from (leb low x) (leb x high) (le-leb low x from) (le-leb x high within)))
-    (cases_lt high x))
-    (cases_lt x low)
-
-each_not_outside : (low high : ℕ) (v : List ℕ) → list_all (λ x. not (ltb x low || ltb high x)) v ≡ list_all (λ x. leb low x && leb x high) v
-each_not_outside low high [] = refl
-each_not_outside low high (x ∷ xs) = ap₂ (λ a b. a && b) (not_outside low high x) (each_not_outside low high xs)
-
 not_not : (b : Bool) → not (not b) ≡ b
 not_not true = refl
 not_not false = refl
 
--- whether each byte is one from `low` to 126, by the mask of those that are not
-pub all_within : (low : ℕ) (v : List ℕ) {below above : List ℕ} → length v ≤ 64 → below ≡ map (λ x. flag (ltb x low)) v → above ≡ map (λ x. flag (ltb 126 x)) v →
-    not (not (eqb (mask_l (map (top 7) (zip2 bit_or below above)) % 2 ^ 64) 0)) ≡ list_all (is_from low) v
-all_within low v short is_below is_above =
-    let p : ℕ → Bool = λ x. ltb x low || ltb 126 x in
-    not_not (eqb (mask_l (map (top 7) (zip2 bit_or _ _)) % 2 ^ 64) 0)
-    ∙ ap (λ m. eqb m 0) (mask_of p v short (either (λ x. ltb x low) (λ x. ltb 126 x) v is_below is_above))
-    ∙ none_set p v
-    ∙ each_not_outside low 126 v
+none_by_mask : (p : ℕ → Bool) (v : List ℕ) {z : List ℕ} → length v ≤ 64 → z ≡ map (λ x. flag (p x)) v → not (not (eqb (mask_l (map (top 7) z) % 2 ^ 64) 0)) ≡ list_all (λ x. not (p x)) v
+none_by_mask p v short is = not_not (eqb (mask_l (map (top 7) _) % 2 ^ 64) 0) ∙ ap (λ m. eqb m 0) (mask_of p v short is) ∙ none_set p v
+
+not_less : (x y : ℕ) → not (ltb x y) ≡ leb y x
+not_less x y = ⊎_elim
+    (λ (below : x < y). ap not (lt-ltb x y below) ∙ sym (lt-leb y x below))
+    (λ (from : y ≤ x). ap not (le-ltb x y from) ∙ sym (le-leb y x from))
+    (cases_lt x y)
+
+same_of_each : (p q : ℕ → Bool) → ((x : ℕ) → p x ≡ q x) → (v : List ℕ) → list_all p v ≡ list_all q v
+same_of_each p q same [] = refl
+same_of_each p q same (x ∷ xs) = ap₂ (λ a b. a && b) (same x) (same_of_each p q same xs)
+
+-- whether each byte is at least `low`, by the mask of those that are not
+pub all_at_least : (low : ℕ) (v : List ℕ) {below : List ℕ} → length v ≤ 64 → below ≡ map (λ x. flag (ltb x low)) v →
+    not (not (eqb (mask_l (map (top 7) below) % 2 ^ 64) 0)) ≡ list_all (λ x. leb low x) v
+all_at_least low v short is = none_by_mask (λ x. ltb x low) v short is ∙ same_of_each (λ x. not (ltb x low)) (λ x. leb low x) (λ x. not_less x low) v
+
+-- whether each byte is at most `high`, by the mask of those that are not
+pub all_at_most : (high : ℕ) (v : List ℕ) {above : List ℕ} → length v ≤ 64 → above ≡ map (λ x. flag (ltb high x)) v →
+    not (not (eqb (mask_l (map (top 7) above) % 2 ^ 64) 0)) ≡ list_all (λ x. leb x high) v
+all_at_most high v short is = none_by_mask (λ x. ltb high x) v short is ∙ same_of_each (λ x. not (ltb high x)) (λ x. leb x high) (λ x. not_less high x) v
+
+-- Conditions that are joined in another order.
+both_in : (a b c d : Bool) → (a && b) && (c && d) ≡ (a && c) && (b && d)
+both_in false b c d = refl
+both_in true false false d = refl
+both_in true false true d = refl
+both_in true true c d = refl
+
+last_in_front : (t l c : Bool) → (t && l) && c ≡ (t && c) && l
+last_in_front false l c = refl
+last_in_front true false false = refl
+last_in_front true false true = refl
+last_in_front true true false = refl
+last_in_front true true true = refl
+
+pub in_both : (p q : ℕ → Bool) (v : List ℕ) → list_all (λ x. p x && q x) v ≡ list_all p v && list_all q v
+in_both p q [] = refl
+in_both p q (x ∷ xs) = ap (λ b. (p x && q x) && b) (in_both p q xs) ∙ both_in (p x) (q x) (list_all p xs) (list_all q xs)
+
+-- The smaller of two bytes is at least `low` where both are.
+smaller : (low x y : ℕ) → leb low (cond (top 7 (flag (ltb x y))) x y) ≡ leb low x && leb low y
+smaller low x y = ⊎_elim
+    (λ (less : x < y). ap (λ b. leb low (cond (top 7 (flag b)) x y)) (lt-ltb x y less) ∙ ⊎_elim
+    (λ (below : x < low). lt-leb low x below ∙ sym (and_left (leb low x) (leb low y) (lt-leb low x below)))
+    (λ (from : low ≤ x). le-leb low x from ∙ sym (and_from (leb low x) (leb low y) (le-leb low x from) (le-leb low y (omega arith))))
+    (cases_lt x low))
+    (λ (more : y ≤ x). ap (λ b. leb low (cond (top 7 (flag b)) x y)) (le-ltb x y more) ∙ ⊎_elim
+    (λ (below : y < low). lt-leb low y below ∙ sym (and_right (leb low x) (leb low y) (lt-leb low y below)))
+    (λ (from : low ≤ y). le-leb low y from ∙ sym (and_from (leb low x) (leb low y) (le-leb low x (omega arith)) (le-leb low y from)))
+    (cases_lt y low))
+    (cases_lt x y)
+
+-- The larger of two bytes is at most `high` where both are.
+larger : (high x y : ℕ) → leb (cond (top 7 (flag (ltb x y))) y x) high ≡ leb x high && leb y high
+larger high x y = ⊎_elim
+    (λ (less : x < y). ap (λ b. leb (cond (top 7 (flag b)) y x) high) (lt-ltb x y less) ∙ ⊎_elim
+    (λ (above : high < y). lt-leb y high above ∙ sym (and_right (leb x high) (leb y high) (lt-leb y high above)))
+    (λ (within : y ≤ high). le-leb y high within ∙ sym (and_from (leb x high) (leb y high) (le-leb x high (omega arith)) (le-leb y high within)))
+    (cases_lt high y))
+    (λ (more : y ≤ x). ap (λ b. leb (cond (top 7 (flag b)) y x) high) (le-ltb x y more) ∙ ⊎_elim
+    (λ (above : high < x). lt-leb x high above ∙ sym (and_left (leb x high) (leb y high) (lt-leb x high above)))
+    (λ (within : x ≤ high). le-leb x high within ∙ sym (and_from (leb x high) (leb y high) (le-leb x high within) (le-leb y high (omega arith))))
+    (cases_lt high x))
+    (cases_lt x y)
+
+-- the smaller and the larger bytes of two vectors, place for place
+abbrev pub smallest : List ℕ → List ℕ → List ℕ
+smallest a b = sel_l (map (top 7) (zip2 (λ x y. flag (ltb x y)) a b)) a b
+
+abbrev pub largest : List ℕ → List ℕ → List ℕ
+largest a b = sel_l (map (top 7) (zip2 (λ x y. flag (ltb x y)) a b)) b a
+
+all_smallest : (low : ℕ) (a b : List ℕ) → length a ≡ length b → list_all (λ x. leb low x) (smallest a b) ≡ list_all (λ x. leb low x) a && list_all (λ x. leb low x) b
+all_smallest low [] [] long = refl
+all_smallest low [] (y ∷ ys) long = absurd (omega arith)
+all_smallest low (x ∷ xs) [] long = absurd (omega arith)
+all_smallest low (x ∷ xs) (y ∷ ys) long =
+    ap₂ (λ c d. c && d) (smaller low x y) (all_smallest low xs ys (omega arith)) ∙ both_in (leb low x) (leb low y) (list_all (λ z. leb low z) xs) (list_all (λ z. leb low z) ys)
+
+all_largest : (high : ℕ) (a b : List ℕ) → length a ≡ length b → list_all (λ x. leb x high) (largest a b) ≡ list_all (λ x. leb x high) a && list_all (λ x. leb x high) b
+all_largest high [] [] long = refl
+all_largest high [] (y ∷ ys) long = absurd (omega arith)
+all_largest high (x ∷ xs) [] long = absurd (omega arith)
+all_largest high (x ∷ xs) (y ∷ ys) long =
+    ap₂ (λ c d. c && d) (larger high x y) (all_largest high xs ys (omega arith)) ∙ both_in (leb x high) (leb y high) (list_all (λ z. leb z high) xs) (list_all (λ z. leb z high) ys)
 
 -- Parts of which each byte passes.
 module _ (p : ℕ → Bool) where
@@ -95,14 +158,34 @@ module _ (p : ℕ → Bool) where
   in_parts : (n : ℕ) (xs : List ℕ) → list_all p xs ≡ list_all p (take n xs) && list_all p (drop n xs)
   in_parts n xs = ap (list_all p) (sym (take-append-drop n xs)) ∙ list_all-append p (take n xs) (drop n xs)
 
-  pub fails_in : (start n : ℕ) (xs : List ℕ) → list_all p (chunk start n xs) ≡ false → false ≡ list_all p xs
-  fails_in start n xs bad = sym (in_parts start xs ∙ and_right _ _ (in_parts n (drop start xs) ∙ and_left _ _ bad))
+  more_in_front : (start n : ℕ) (xs : List ℕ) → list_all p (take (start + n) xs) ≡ list_all p (take start xs) && list_all p (chunk start n xs)
+  more_in_front start n xs = ap (list_all p) (take-add start n xs) ∙ list_all-append p (take start xs) (take n (drop start xs))
 
-  pub passes_on : (start n : ℕ) (xs : List ℕ) → list_all p (take start xs) ≡ true → list_all p (chunk start n xs) ≡ true → list_all p (take (start + n) xs) ≡ true
-  passes_on start n xs front here = ap (list_all p) (take-add start n xs) ∙ list_all-append p (take start xs) (take n (drop start xs)) ∙ and_from _ _ front here
-
-  pub by_the_last : (start last n : ℕ) (xs : List ℕ) → last + n ≡ length xs → last ≤ start → list_all p (take start xs) ≡ true → list_all p (chunk last n xs) ≡ list_all p xs
+  by_the_last : (start last n : ℕ) (xs : List ℕ) → last + n ≡ length xs → last ≤ start → list_all p (take start xs) ≡ true → list_all p (chunk last n xs) ≡ list_all p xs
   by_the_last start last n xs whole passed front =
       let before : list_all p (take last xs) ≡ true = ap (list_all p) (sym (take-take last start xs passed)) ∙ all_of_front last (take start xs) front in
       ap (list_all p) (take_all n (drop last xs) (omega (arith, length-drop last xs)))
       ∙ sym (in_parts last xs ∙ ap (λ b. b && list_all p (drop last xs)) before)
+
+  -- those before a place, and the last ones, which begin there or before
+  pub with_the_last : (start last n : ℕ) (xs : List ℕ) → last + n ≡ length xs → last ≤ start → list_all p (take start xs) && list_all p (chunk last n xs) ≡ list_all p xs
+  with_the_last start last n xs whole passed = ⊎_elim
+      (λ (front : list_all p (take start xs) ≡ true). ap (λ b. b && list_all p (chunk last n xs)) front ∙ by_the_last start last n xs whole passed front)
+      (λ (bad : list_all p (take start xs) ≡ false). ap (λ b. b && list_all p (chunk last n xs)) bad ∙ sym (in_parts start xs ∙ ap (λ b. b && list_all p (drop start xs)) bad))
+      (cases_Bool (list_all p (take start xs)))
+
+-- The least and the most bytes so far, and those of one vector more.
+pub one_more : (low high start n : ℕ) (xs least most : List ℕ) (last : Bool) → length least ≡ n → length most ≡ n → start + n ≤ length xs →
+    list_all (λ x. leb low x) least && list_all (λ x. leb x high) most ≡ list_all (λ x. leb low x && leb x high) (take start xs) && last →
+    list_all (λ x. leb low x) (smallest least (chunk start n xs)) && list_all (λ x. leb x high) (largest most (chunk start n xs)) ≡ list_all (λ x. leb low x && leb x high) (take (start + n) xs) && last
+one_more low high start n xs least most last long most_long room so_far =
+    let p : ℕ → Bool = λ x. leb low x && leb x high in
+    let from : ℕ → Bool = λ x. leb low x in
+    let to : ℕ → Bool = λ x. leb x high in
+    let next = chunk start n xs in
+    let size : length next ≡ n = length-chunk start n xs room in
+    ap₂ (λ a b. a && b) (all_smallest low least next (omega arith)) (all_largest high most next (omega arith))
+    ∙ both_in (list_all from least) (list_all from next) (list_all to most) (list_all to next)
+    ∙ ap₂ (λ a b. a && b) so_far (sym (in_both from to next))
+    ∙ last_in_front (list_all p (take start xs)) last (list_all p next)
+    ∙ ap (λ b. b && last) (sym (more_in_front p start n xs))

@@ -174,6 +174,7 @@ fn first_line(text: &[u8]) -> Option<FirstLine>
 /// or one with the title behind it. Where it is `None` there is none, and may be a record of another form.
 ///
 /// The end of the title is searched for. So is that of the sequence, but where as many bases as guessed make a record.
+#[inline(always)]
 pub(crate) fn first_record(encoding: Encoding, hand: &[u8], guess: usize) -> Option<Shape>
     ensures found { IfSome result (StandsFirst encoding hand.now) }
     ensures none { result ≡ None → (shape : Shape) → StandsFirst encoding hand.now shape → ⊥ }

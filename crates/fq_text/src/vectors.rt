@@ -1,6 +1,6 @@
 //! Bytes that are judged side by side, in a vector (SIMD).
 
-ghost use Rattle.std.specs.Prelude.{◌≡◌};
+ghost use Rattle.std.specs.Prelude.{◌≡◌, ◌&&◌, nat_le};
 ghost use Rattle.std.specs.List.{list_all};
 ghost use Rattle.fq_text.specs.Scores.{is_from};
 
@@ -9,7 +9,8 @@ use std::simd::prelude::*;
 // How many bytes a vector has.
 const WIDTH: usize = 32;
 
-/// Whether each byte is one from `lowest` to 126. The last bytes are judged with some of those before them, which have been judged.
+/// Whether each byte is one from `lowest` to 126. Of the bytes at each place of a vector the least and the most are kept, and judged
+/// at the end. The last bytes are looked at first, and some of them once more with those before them.
 pub(crate) fn are_from(lowest: u8, bytes: &[u8]) -> bool
     ensures { result ≡ list_all (is_from lowest) bytes.now }
 {
@@ -17,22 +18,26 @@ pub(crate) fn are_from(lowest: u8, bytes: &[u8]) -> bool
         return each_is_from(lowest, bytes);
     }
     let last = bytes.len() - WIDTH;
+    let mut least = u8x32::from_slice(&bytes[last..]);
+    let mut most = least;
     let mut start = 0;
     while start < last {
-        if !vector_is_from(lowest, u8x32::from_slice(&bytes[start..])) {
-            return false;
-        }
+        let next = u8x32::from_slice(&bytes[start..]);
+        least = least.simd_min(next);
+        most = most.simd_max(next);
         start += WIDTH;
     }
-    vector_is_from(lowest, u8x32::from_slice(&bytes[last..]))
+    are_between(lowest, least, most)
 }
 
+// Whether the least bytes are all at least `lowest`, and the most at most 126.
 #[inline(always)]
-fn vector_is_from(lowest: u8, bytes: u8x32) -> bool
-    ensures { result ≡ list_all (is_from lowest) bytes }
+fn are_between(lowest: u8, least: u8x32, most: u8x32) -> bool
+    ensures { result ≡ list_all (λ b. nat_le lowest b) least && list_all (λ b. nat_le b 126) most }
 {
-    let outside = bytes.simd_lt(u8x32::splat(lowest)) | bytes.simd_gt(u8x32::splat(126));
-    !outside.any()
+    let below = least.simd_lt(u8x32::splat(lowest));
+    let above = most.simd_gt(u8x32::splat(126));
+    !below.any() & !above.any()
 }
 
 #[tactic(auto, using(std::proofs::lemmas::List::Folds::list_all_more, std::proofs::lemmas::List::take_all))]

@@ -270,7 +270,7 @@ high_sum t (x ∷ xs) all =
     omega arith
 
 -- a window of high scores is good
-high_window : (w t front s : ℕ) (q : List ℕ) → front ≤ length q → list_all (leb t) (take front q) ≡ true → s + w ≤ front → w * t ≤ sum (take w (drop s q))
+pub high_window : (w t front s : ℕ) (q : List ℕ) → front ≤ length q → list_all (leb t) (take front q) ≡ true → s + w ≤ front → w * t ≤ sum (take w (drop s q))
 high_window w t front s q within high le =
     let window = take w (drop s q) in
     let fits = ap (list_all (leb t)) (sym (take-take (s + w) front q le)) ∙ all_taken (leb t) (take front q) (s + w) high in

@@ -1,13 +1,16 @@
 -- Windows that are judged side by side, in a vector.
-use Rattle.std.proofs.Common.{◌≡◌, ℕ, suc, zero, ◌+◌, ◌-◌, ◌%◌, ◌<◌, ◌≤◌, Fits, w8, Bool, true, false, not, cond, ltb, List, [], ◌∷◌, length, take, drop, get_or, map, min, sum, refl, sym, ap, ap₂, ◌∙◌, arith, replicate, ⊎_elim}
-use Rattle.std.specs.List.{prefix_len}
-use Rattle.std.proofs.lemmas.Bool.{cases_Bool, cond-true, cond-false, ltb-true, ltb-false, cases_lt}
-use Rattle.std.proofs.lemmas.List.{length-map, length-drop, length-take-le, get_or-map, get_or-drop, drop-map, drop-drop, take_all, take_more}
+use Rattle.std.proofs.Common.{◌≡◌, ℕ, suc, zero, ◌+◌, ◌-◌, ◌%◌, ◌*◌, ◌^◌, ◌<◌, ◌≤◌, Fits, w8, Bool, true, false, not, ◌&&◌, cond, ltb, leb, eqb, List, [], ◌∷◌, length, take, drop, get_or, map, min, sum, refl, sym, ap, ap₂, ◌∙◌, arith, replicate, take-add, ⊎_elim}
+use Rattle.std.specs.List.{prefix_len, list_all}
+use Rattle.std.proofs.lemmas.Bool.{cases_Bool, cond-true, cond-false, ltb-true, ltb-false, lt-leb, le-leb, and_left, and_right, and_from, eq-eqb, ne_eqb, cases_eq, cases_lt}
+use Rattle.std.proofs.lemmas.List.{length-map, length-drop, length-take-le, get_or-map, get_or-drop, take-map, drop-map, drop-drop, take_all, take_more}
+use Rattle.std.proofs.lemmas.List.Folds.{list_all-append}
 use Rattle.std.proofs.lemmas.List.Sums.{sum_by_push}
 use Rattle.std.proofs.lemmas.Simd.{get_or-chunk, get_or-zip2, run_in_chunk_le, run_in_chunk_fails, run_in_chunk_stops}
 use Rattle.fq_trim.specs.Windows.{distances, IsGoodStop}
-use native.Mathlib.Nat.{mod-eq_of_lt}
-use lib.Lanes.{Each1, zip2, sel_l, top}
+use Rattle.fq_trim.proofs.PlaceLemmas.{high_window}
+use Rattle.fq_text.proofs.VectorLemmas.{flag, mask_of}
+use native.Mathlib.Nat.{mod-eq_of_lt, one-le-pow, two-pow-succ}
+use lib.Lanes.{Each1, zip2, sel_l, mask_l, chunk, top}
 
 -- A vector of 255 at each place for which a comparison holds, and of 0 at others, chooses between two others.
 chosen : (b : Bool) (x y : ℕ) → cond (top 7 (cond b 255 0)) x y ≡ cond b x y
@@ -54,22 +57,94 @@ each_plus (x ∷ xs) [] long fits others = absurd (omega arith)
 each_plus (x ∷ xs) (y ∷ ys) long fits others =
     ap₂ (λ z zs. z ∷ zs) (ap (λ v. (x + v) % 256) (chosen (ltb y (255 - x)) y (255 - x)) ∙ plus_one x y fits.0 others.0) (each_plus xs ys (omega arith) fits.1 others.1)
 
+-- the lower of each two bytes
+pub each_lower : (v u : List ℕ) → sel_l (map (top 7) (zip2 (λ a b. cond (ltb a b) 255 0) v u)) v u ≡ zip2 min v u
+each_lower [] u = refl
+each_lower (x ∷ xs) [] = refl
+each_lower (x ∷ xs) (y ∷ ys) = ap₂ (λ z zs. z ∷ zs) (chosen (ltb x y) x y ∙ lower x y) (each_lower xs ys)
+  where
+    lower : (x y : ℕ) → cond (ltb x y) x y ≡ min x y
+    lower x y = ⊎_elim
+        (λ is. let lt = ltb-true x y is in cond-true (ltb x y) x y is ∙ omega arith)
+        (λ is. let le = ltb-false x y is in cond-false (ltb x y) x y is ∙ omega arith)
+        (cases_Bool (ltb x y))
+
+-- Whether the lower of two bytes has a score that is high: so have both.
+both_high : (score o x y : ℕ) → leb score (min x y - o) ≡ leb score (x - o) && leb score (y - o)
+both_high score o x y = ⊎_elim
+    (λ (low : min x y - o < score). lt-leb score (min x y - o) low ∙ ⊎_elim
+    (λ (left : x < y). sym (and_left (leb score (x - o)) (leb score (y - o)) (lt-leb score (x - o) (omega arith))))
+    (λ (right : y ≤ x). sym (and_right (leb score (x - o)) (leb score (y - o)) (lt-leb score (y - o) (omega arith))))
+    (cases_lt x y))
+    (λ (high : score ≤ min x y - o).
+    le-leb score (min x y - o) high ∙ sym (and_from (leb score (x - o)) (leb score (y - o)) (le-leb score (x - o) (omega arith)) (le-leb score (y - o) (omega arith))))
+    (cases_lt (min x y - o) score)
+
+in_pairs : (a b c d : Bool) → ((a && b) && (c && d)) ≡ ((a && c) && (b && d))
+in_pairs true true c d = refl
+in_pairs true false true d = refl
+in_pairs true false false d = refl
+in_pairs false b c d = refl
+
+all_both_high : (score o : ℕ) (v u : List ℕ) → length v ≡ length u → list_all (leb score) (distances o (zip2 min v u)) ≡ list_all (leb score) (distances o v) && list_all (leb score) (distances o u)
+all_both_high score o [] [] long = refl
+all_both_high score o [] (y ∷ ys) long = absurd (omega arith)
+all_both_high score o (x ∷ xs) [] long = absurd (omega arith)
+all_both_high score o (x ∷ xs) (y ∷ ys) long =
+    ap₂ (λ a b. a && b) (both_high score o x y) (all_both_high score o xs ys (omega arith))
+    ∙ in_pairs (leb score (x - o)) (leb score (y - o)) (list_all (leb score) (distances o xs)) (list_all (leb score) (distances o ys))
+
+-- so of 32 bytes those that stand 16 apart are judged by the lower
+pub all_high_by_lower : (offset score : ℕ) (qual : List ℕ) {lower scores : List ℕ} → 32 ≤ length qual → lower ≡ zip2 min (chunk 0 16 qual) (chunk 16 16 qual) → scores ≡ distances offset lower →
+    list_all (leb score) scores ≡ list_all (leb score) (take 32 (distances offset qual))
+all_high_by_lower offset score qual room lower_is scores_is =
+    let q = distances offset qual in
+    let left = length-take-le 16 qual (omega arith) in
+    let right = length-take-le 16 (drop 16 qual) (omega (arith, length-drop 16 qual)) in
+    let behind : distances offset (take 16 (drop 16 qual)) ≡ take 16 (drop 16 q) = sym (take-map (λ byte. byte - offset) 16 (drop 16 qual)) ∙ ap (take 16) (sym (drop-map (λ byte. byte - offset) 16 qual)) in
+    ap (list_all (leb score)) (scores_is ∙ ap (distances offset) lower_is)
+    ∙ all_both_high score offset (take 16 qual) (take 16 (drop 16 qual)) (omega arith)
+    ∙ ap₂ (λ v u. list_all (leb score) v && list_all (leb score) u) (sym (take-map (λ byte. byte - offset) 16 qual)) behind
+    ∙ sym (ap (list_all (leb score)) (take-add 16 16 q) ∙ list_all-append (leb score) (take 16 q) (take 16 (drop 16 q)))
+
 -- The first sum that is too small.
-module _ (sums : List ℕ) (least r : ℕ) (long : length sums ≡ 16) (counted : r ≡ prefix_len (λ x. not (ltb x least)) sums) where
-  room : 0 + 16 ≤ length sums
+module _ (sums : List ℕ) (least r : ℕ) (counted : r ≡ prefix_len (λ x. not (ltb x least)) sums) where
+  room : 0 + length sums ≤ length sums
   room = omega arith
 
-  of_all : r ≡ prefix_len (λ x. not (ltb x least)) (take 16 sums)
-  of_all = counted ∙ ap (prefix_len (λ x. not (ltb x least))) (sym (take_all 16 sums (omega arith)))
+  of_all : r ≡ prefix_len (λ x. not (ltb x least)) (take (length sums) sums)
+  of_all = counted ∙ ap (prefix_len (λ x. not (ltb x least))) (sym (take_all (length sums) sums (omega arith)))
 
-  pub at_most : r ≤ 16
-  at_most = run_in_chunk_le (λ x. ltb x least) sums 0 16 r 0 room of_all
+  pub at_most : r ≤ length sums
+  at_most = run_in_chunk_le (λ x. ltb x least) sums 0 (length sums) r 0 room of_all
 
   pub none_before : (k : ℕ) → k < r → least ≤ get_or sums k 0
-  none_before k lt = ltb-false (get_or sums k 0) least (run_in_chunk_fails (λ x. ltb x least) sums 0 16 r 0 room of_all k (omega arith) (omega arith))
+  none_before k lt = ltb-false (get_or sums k 0) least (run_in_chunk_fails (λ x. ltb x least) sums 0 (length sums) r 0 room of_all k (omega arith) (omega arith))
 
-  pub there : r < 16 → get_or sums r 0 < least
-  there lt = let place : r ≡ 0 + r = omega arith in ltb-true (get_or sums r 0) least (ap (λ n. ltb (get_or sums n 0) least) place ∙ run_in_chunk_stops (λ x. ltb x least) sums 0 16 r 0 room of_all lt)
+  pub there : r < length sums → get_or sums r 0 < least
+  there lt = let place : r ≡ 0 + r = omega arith in ltb-true (get_or sums r 0) least (ap (λ n. ltb (get_or sums n 0) least) place ∙ run_in_chunk_stops (λ x. ltb x least) sums 0 (length sums) r 0 room of_all lt)
+
+-- Whether each byte of a vector passes, by the mask of those that do: it has a bit for each.
+each_bit : (b : Bool) (m full : ℕ) → 0 < full → eqb (cond b 1 0 + 2 * m) (2 * full - 1) ≡ b && eqb m (full - 1)
+each_bit true m full some = ⊎_elim
+    (λ is. eq-eqb (1 + 2 * m) (2 * full - 1) (omega arith) ∙ sym (eq-eqb m (full - 1) is))
+    (λ other. ne_eqb (1 + 2 * m) (2 * full - 1) (λ e. other (omega arith)) ∙ sym (ne_eqb m (full - 1) other))
+    (cases_eq m (full - 1))
+each_bit false m full some = ne_eqb (0 + 2 * m) (2 * full - 1) (λ e. omega arith)
+
+all_set : (p : ℕ → Bool) (v : List ℕ) → eqb (mask_l (map p v)) (2 ^ length v - 1) ≡ list_all p v
+all_set p [] = refl
+all_set p (x ∷ xs) =
+    let some : 0 < 2 ^ length xs = one-le-pow (length xs) 2 (omega arith) in
+    let twice : 2 ^ suc (length xs) ≡ 2 * 2 ^ length xs = omega (arith, two-pow-succ (length xs)) in
+    ap (λ n. eqb (cond (p x) 1 0 + 2 * mask_l (map p xs)) (n - 1)) twice
+    ∙ each_bit (p x) (mask_l (map p xs)) (2 ^ length xs) some
+    ∙ ap (λ b. p x && b) (all_set p xs)
+
+pub all_pass : (p : ℕ → Bool) (v : List ℕ) {z : List ℕ} → length v ≡ 16 → z ≡ map (λ x. flag (p x)) v → eqb (mask_l (map (top 7) z) % 2 ^ 64) 65535 ≡ list_all p v
+all_pass p v long same =
+    let all : 65535 ≡ 2 ^ length v - 1 = ap (λ n. 2 ^ n - 1) (sym long) in
+    ap₂ eqb (mask_of p v (omega arith) same) all ∙ all_set p v
 
 -- the sum of a part that is one score longer
 one_more : (q : List ℕ) (i k : ℕ) → k + i < length q → sum (take (i + 1) (drop k q)) ≡ sum (take i (drop k q)) + get_or q (k + i) 0
@@ -80,21 +155,21 @@ one_more q i k lt =
     ∙ ap (λ v. sum (take i rest) + v) (get_or-drop k q i 0)
 
 -- so is each sum of a vector, kept at 255
-pub lane_more : (offset i k : ℕ) (qual sums scores : List ℕ) → length sums ≡ 16 → i + 16 ≤ length qual → k < 16 →
-    scores ≡ map (λ byte. byte - offset) (take 16 (drop i qual)) →
+pub lane_more : (offset i k : ℕ) (qual sums scores : List ℕ) → length sums ≡ 32 → i + 32 ≤ length qual → k < 32 →
+    scores ≡ map (λ byte. byte - offset) (take 32 (drop i qual)) →
     get_or sums k 0 ≡ min 255 (sum (take i (drop k (distances offset qual)))) →
     get_or (zip2 (λ x y. min 255 (x + y)) sums scores) k 0 ≡ min 255 (sum (take (i + 1) (drop k (distances offset qual))))
 lane_more offset i k qual sums scores long room lt is so_far =
     let q = distances offset qual in
-    let part = take 16 (drop i qual) in
-    let here : length part ≡ 16 = length-take-le 16 (drop i qual) (omega (arith, length-drop i qual)) in
-    let size : length scores ≡ 16 = ap length is ∙ length-map part (λ byte. byte - offset) ∙ here in
+    let part = take 32 (drop i qual) in
+    let here : length part ≡ 32 = length-take-le 32 (drop i qual) (omega (arith, length-drop i qual)) in
+    let size : length scores ≡ 32 = ap length is ∙ length-map part (λ byte. byte - offset) ∙ here in
     let all : length q ≡ length qual = length-map qual (λ byte. byte - offset) in
     let place : i + k ≡ k + i = omega arith in
     let read : get_or scores k 0 ≡ get_or q (k + i) 0 =
     ap (λ s. get_or s k 0) is
     ∙ get_or-map (λ byte. byte - offset) part k 0 0 (omega arith)
-    ∙ ap (λ byte. byte - offset) (get_or-chunk i 16 qual k 0 lt)
+    ∙ ap (λ byte. byte - offset) (get_or-chunk i 32 qual k 0 lt)
     ∙ ap (λ n. get_or qual n 0 - offset) place
     ∙ sym (get_or-map (λ byte. byte - offset) qual (k + i) 0 0 (omega arith)) in
     let next = one_more q i k (omega arith) in
@@ -111,10 +186,27 @@ window_behind offset start k w qual =
     ∙ ap (λ xs. sum (take w (drop k xs))) (sym (drop-map (λ byte. byte - offset) start qual))
     ∙ ap (λ xs. sum (take w xs)) (drop-drop k start (distances offset qual) ∙ ap (λ n. drop n (distances offset qual)) (omega arith))
 
+-- windows over scores that are all high, behind others that are good
+pub good_over_high : (offset w score least start : ℕ) (qual : List ℕ) → least ≡ w * score → start + 32 ≤ length qual →
+    list_all (leb score) (take 32 (distances offset (behind qual start))) ≡ true →
+    ((s : ℕ) → s < start → least ≤ sum (take w (drop s (distances offset qual)))) →
+    (s : ℕ) → s + w ≤ start + 32 → least ≤ sum (take w (drop s (distances offset qual)))
+good_over_high offset w score least start qual least_is fits high before s le = ⊎_elim
+    (λ earlier. before s earlier)
+    (λ here.
+    let part = behind qual start in
+    let len : length part ≡ length qual - start = length-take-le (length qual - start) (drop start qual) (omega (arith, length-drop start qual)) in
+    let all = length-map part (λ byte. byte - offset) in
+    let good = high_window w score 32 (s - start) (distances offset part) (omega arith) high (omega arith) in
+    let is = window_behind offset start (s - start) w qual in
+    let same : sum (take w (drop (start + (s - start)) (distances offset qual))) ≡ sum (take w (drop s (distances offset qual))) = ap (λ n. sum (take w (drop n (distances offset qual)))) (omega arith) in
+    omega arith)
+    (cases_lt s start)
+
 -- Windows from `start` on, of which the first `good` are good, behind others that are.
 module _ (offset w least start good : ℕ) (qual sums : List ℕ) (small : least < 256)
-    (each : (k : ℕ) → k < 16 → get_or sums k 0 ≡ min 255 (sum (take w (drop k (distances offset (behind qual start))))))
-    (few : good ≤ 16) (before : (s : ℕ) → s < start → least ≤ sum (take w (drop s (distances offset qual))))
+    (each : (k : ℕ) → k < 32 → get_or sums k 0 ≡ min 255 (sum (take w (drop k (distances offset (behind qual start))))))
+    (few : good ≤ 32) (before : (s : ℕ) → s < start → least ≤ sum (take w (drop s (distances offset qual))))
     (high : (k : ℕ) → k < good → least ≤ get_or sums k 0) where
   pub good_up_to : (s : ℕ) → s < start + good → least ≤ sum (take w (drop s (distances offset qual)))
   good_up_to s lt = ⊎_elim
@@ -128,11 +220,11 @@ module _ (offset w least start good : ℕ) (qual sums : List ℕ) (small : least
       omega arith)
       (cases_lt s start)
 
-  pub bad_there : good < 16 → get_or sums good 0 < least → sum (take w (drop (start + good) (distances offset qual))) < least
+  pub bad_there : good < 32 → get_or sums good 0 < least → sum (take w (drop (start + good) (distances offset qual))) < least
   bad_there lt low = let lane = each good lt in let is = window_behind offset start good w qual in omega arith
 
   -- the window behind the good ones is bad: it ends in the read
-  pub stops_there : 0 < w → start + good + w ≤ length qual → good < 16 → get_or sums good 0 < least → IsGoodStop w least (distances offset qual) (start + good + w - 1)
+  pub stops_there : 0 < w → start + good + w ≤ length qual → good < 32 → get_or sums good 0 < least → IsGoodStop w least (distances offset qual) (start + good + w - 1)
   stops_there some fits lt low =
       let len = length-map qual (λ (byte : ℕ). byte - offset) in
       record {
@@ -145,13 +237,14 @@ module _ (offset w least start good : ℕ) (qual sums : List ℕ) (small : least
             omega arith;
       }
 
-  -- the last window is among the good ones
-  pub all_good : w ≤ length qual → length qual < start + good + w → IsGoodStop w least (distances offset qual) (length qual)
-  all_good fits last =
-      let len = length-map qual (λ (byte : ℕ). byte - offset) in
-      record {
-        within = omega arith;
-        some = omega arith;
-        good = λ s le. good_up_to s (omega arith);
-        bad = λ lt. absurd (omega arith);
-      }
+-- no window begins later than those that are good
+pub all_good : (offset w least next : ℕ) (qual : List ℕ) → w ≤ length qual → length qual < next + w →
+    ((s : ℕ) → s < next → least ≤ sum (take w (drop s (distances offset qual)))) → IsGoodStop w least (distances offset qual) (length qual)
+all_good offset w least next qual fits last before =
+    let len = length-map qual (λ (byte : ℕ). byte - offset) in
+    record {
+      within = omega arith;
+      some = omega arith;
+      good = λ s le. before s (omega arith);
+      bad = λ lt. absurd (omega arith);
+    }

@@ -12,11 +12,11 @@ pub record IsGoodStop (w least : ℕ) (q : List ℕ) (stop : ℕ) : Type 0 where
   pub good : (s : ℕ) → s + w ≤ stop → least ≤ sum (take w (drop s q))
   pub bad : stop < length q → sum (take w (drop (stop + 1 - w) q)) < least
 
--- So many of 16 sums stand before the first that is less than `least`. Where none is, that is all of them.
+-- So many sums stand before the first that is less than `least`. Where none is, that is all of them.
 pub record IsFirstBelow (least : ℕ) (sums : List ℕ) (count : ℕ) : Type 0 where
-  pub within : count ≤ 16
+  pub within : count ≤ length sums
   pub good : (k : ℕ) → k < count → least ≤ slice_index sums k
-  pub bad : count < 16 → slice_index sums count < least
+  pub bad : count < length sums → slice_index sums count < least
 
 -- so many of 16 scores, the last ones, are less than `score`
 pub record IsLowEnd (score : ℕ) (q : List ℕ) (count : ℕ) : Type 0 where

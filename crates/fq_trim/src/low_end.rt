@@ -6,9 +6,12 @@ ghost use Rattle.fq_text.specs.Scores.{is_scored};
 ghost use Rattle.fq_trim.specs.Keeping.{scores};
 ghost use Rattle.fq_trim.specs.Windows.{distances, IsLowEnd};
 
-use crate::vectors::{TOGETHER, less, offset_of};
+use crate::vectors::{less_16, offset_of};
 use fq_text::Encoding;
 use std::simd::prelude::*;
+
+// How many scores are judged together, each in a byte of a vector.
+const TOGETHER: usize = 16;
 
 /// The place behind the last base with a score of at least `score`, or 0.
 #[inline(always)]
@@ -40,7 +43,7 @@ fn low_from(offset: u8, score: u8, qual: &[u8]) -> usize
     let mut stop = qual.len();
     while TOGETHER <= stop {
         let low = low_behind(
-            less(u8x16::from_slice(&qual[stop - TOGETHER..]), offset),
+            less_16(u8x16::from_slice(&qual[stop - TOGETHER..]), offset),
             score,
         );
         if low < TOGETHER {

@@ -8,9 +8,6 @@ ghost use Rattle.fq_trim.specs.Windows.{distances};
 use fq_text::Encoding;
 use std::simd::prelude::*;
 
-/// How many scores are judged together, each in a byte of a vector.
-pub(crate) const TOGETHER: usize = 16;
-
 /// What a quality byte is more than its score, where that is the same for each.
 #[inline(always)]
 pub(crate) fn offset_of(encoding: Encoding) -> Option<u8>
@@ -24,10 +21,18 @@ pub(crate) fn offset_of(encoding: Encoding) -> Option<u8>
     }
 }
 
-/// Each byte less the same number, or 0 where it is smaller.
+/// Each of 16 bytes less the same number, or 0 where it is smaller.
 #[inline(always)]
-pub(crate) fn less(bytes: u8x16, offset: u8) -> u8x16
+pub(crate) fn less_16(bytes: u8x16, offset: u8) -> u8x16
     ensures { result ≡ map (λ byte. byte - offset) bytes }
 {
     bytes.saturating_sub(u8x16::splat(offset))
+}
+
+/// The same, of 32 bytes.
+#[inline(always)]
+pub(crate) fn less_32(bytes: u8x32, offset: u8) -> u8x32
+    ensures { result ≡ map (λ byte. byte - offset) bytes }
+{
+    bytes.saturating_sub(u8x32::splat(offset))
 }

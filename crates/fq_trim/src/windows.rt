@@ -1,6 +1,6 @@
 //! The windows of a read, and where the first bad one ends.
 
-ghost use Rattle.std.specs.Prelude.{true, ◌≡◌, ℕ, ◌+◌, ◌-◌, ◌*◌, ◌<◌, ◌≤◌, ◌^◌, nat_le, length, map, min, sum, take, drop, slice_index, IfSome};
+ghost use Rattle.std.specs.Prelude.{true, ◌≡◌, ℕ, ◌+◌, ◌-◌, ◌*◌, ◌<◌, ◌≤◌, ◌^◌, nat_le, length, map, min, sum, take, drop, slice_index, IfSome, IfOk, IfErr};
 ghost use Rattle.std.specs.List.{list_all};
 ghost use Rattle.fq_text.specs.Scores.{is_scored};
 ghost use lib.Lanes.{zip2};
@@ -8,9 +8,12 @@ ghost use Rattle.fq_trim.specs.Keeping.{scores};
 ghost use Rattle.fq_trim.specs.Windows.{distances, IsGoodStop, IsFirstBelow};
 
 use crate::scoring::total_of;
-use crate::vectors::{TOGETHER, less, offset_of};
+use crate::vectors::{less_16, less_32, offset_of};
 use fq_text::Encoding;
 use std::simd::prelude::*;
+
+// How many windows are judged together, each by a byte of a vector.
+const TOGETHER: usize = 32;
 
 // The widest windows that are summed side by side: each base of a window costs a turn of a loop.
 const WIDEST: usize = 16;
@@ -30,7 +33,7 @@ pub(crate) fn good_stop(encoding: Encoding, width: usize, score: u32, qual: &[u8
     let least = width as u64 * u64::from(score);
     match offset_of(encoding) {
         Some(offset) if least <= 255 && width <= WIDEST && width + TOGETHER <= qual.len() + 1 => {
-            stop_together(offset, width, least as u8, qual)
+            stop_together(offset, width, score as u8, least as u8, qual)
         }
         _ => stop_one_by_one(encoding, width, score, least, qual),
     }
@@ -38,35 +41,97 @@ pub(crate) fn good_stop(encoding: Encoding, width: usize, score: u32, qual: &[u8
 
 // The same as `good_stop`, by vectors. The last windows are judged with some of those before them, which are known to be good.
 #[inline(always)]
-fn stop_together(offset: u8, width: usize, least: u8, qual: &[u8]) -> usize
+fn stop_together(offset: u8, width: usize, score: u8, least: u8, qual: &[u8]) -> usize
     requires window { 0 < width }
-    requires fits { width + 16 ≤ length qual.now + 1 }
+    requires narrow { width ≤ 16 }
+    requires least { least ≡ width * score }
+    requires fits { width + 32 ≤ length qual.now + 1 }
     ensures { IsGoodStop width least (distances offset qual.now) result }
 {
-    let last = qual.len() + 1 - width - TOGETHER;
+    let last = qual.len() - width;
     let mut start = 0;
     loop {
-        let good = first_below(sums_of(offset, width, &qual[start..]), least);
-        if good < TOGETHER {
-            return start + good + width - 1;
-        }
-        if start == last {
+        let next = match pass_good(offset, width, score, least, start, qual) {
+            Ok(next) => next,
+            Err(stop) => return stop,
+        };
+        if last < next {
             return qual.len();
         }
-        start = last.min(start + TOGETHER);
+        start = next.min(qual.len() - TOGETHER);
     }
 }
 
-// The sums of the scores of sixteen windows, of which each begins a base behind the one before. A sum larger than 255 is kept at that.
+// A place further on than `start` such that each window that begins before it is good, as each before `start` is; or the place of the
+// last base of the first bad window.
+//
+// Where the scores of a vector are all high, each window over them alone is good, and none of these is summed.
 #[inline(always)]
-fn sums_of(offset: u8, width: usize, qual: &[u8]) -> u8x16
-    requires fits { width + 16 ≤ length qual.now + 1 }
-    ensures long { length result ≡ 16 }
-    ensures each { (k : ℕ) → k < 16 → slice_index result k ≡ min 255 (sum (take width (drop k (distances offset qual.now)))) }
+fn pass_good(
+    offset: u8,
+    width: usize,
+    score: u8,
+    least: u8,
+    start: usize,
+    qual: &[u8],
+) -> Result<usize, usize>
+    requires window { 0 < width }
+    requires narrow { width ≤ 16 }
+    requires least { least ≡ width * score }
+    requires fits { start + 32 ≤ length qual.now }
+    requires long { width + 32 ≤ length qual.now + 1 }
+    requires good { (s : ℕ) → s < start → least ≤ sum (take width (drop s (distances offset qual.now))) }
+    ensures next { IfOk result (λ next. (start < next) × (length qual.now ≤ start + 32 → length qual.now < next + width)
+        × ((s : ℕ) → s < next → least ≤ sum (take width (drop s (distances offset qual.now))))) }
+    ensures stop { IfErr result (λ stop. IsGoodStop width least (distances offset qual.now) stop) }
 {
-    let mut sums = u8x16::splat(0);
+    if are_all_high(offset, score, &qual[start..]) {
+        return Ok(start + TOGETHER + 1 - width);
+    }
+    let from = start.min(qual.len() + 1 - width - TOGETHER);
+    let good = first_below(sums_of(offset, width, &qual[from..]), least);
+    if good < TOGETHER {
+        return Err(from + good + width - 1);
+    }
+    Ok(from + TOGETHER)
+}
+
+// Whether each of the first 32 bytes has a score of at least `score`. Of two that stand 16 apart the lower alone is looked at.
+#[inline(always)]
+fn are_all_high(offset: u8, score: u8, qual: &[u8]) -> bool
+    requires long { 32 ≤ length qual.now }
+    ensures { result ≡ list_all (nat_le score) (take 32 (distances offset qual.now)) }
+{
+    let lower = lower_of(u8x16::from_slice(qual), u8x16::from_slice(&qual[16..]));
+    are_at_least(score, less_16(lower, offset))
+}
+
+// The lower of each two bytes that stand at the same place.
+#[inline(always)]
+fn lower_of(left: u8x16, right: u8x16) -> u8x16
+    ensures { result ≡ zip2 min left right }
+{
+    left.simd_min(right)
+}
+
+// Whether no score is below `score`.
+#[inline(always)]
+fn are_at_least(score: u8, scores: u8x16) -> bool
+    ensures { result ≡ list_all (nat_le score) scores }
+{
+    scores.simd_ge(u8x16::splat(score)).all()
+}
+
+// The sums of the scores of 32 windows, of which each begins a base behind the one before. A sum larger than 255 is kept at that.
+#[inline(always)]
+fn sums_of(offset: u8, width: usize, qual: &[u8]) -> u8x32
+    requires fits { width + 32 ≤ length qual.now + 1 }
+    ensures long { length result ≡ 32 }
+    ensures each { (k : ℕ) → k < 32 → slice_index result k ≡ min 255 (sum (take width (drop k (distances offset qual.now)))) }
+{
+    let mut sums = u8x32::splat(0);
     for i in 0..width {
-        let scores = less(u8x16::from_slice(&qual[i..]), offset);
+        let scores = less_32(u8x32::from_slice(&qual[i..]), offset);
         sums = plus(sums, scores);
     }
     sums
@@ -74,7 +139,7 @@ fn sums_of(offset: u8, width: usize, qual: &[u8]) -> u8x16
 
 // Each byte and the one beside it, or 255 where their sum is larger.
 #[inline(always)]
-fn plus(left: u8x16, right: u8x16) -> u8x16
+fn plus(left: u8x32, right: u8x32) -> u8x32
     ensures { result ≡ zip2 (λ x y. min 255 (x + y)) left right }
 {
     left.saturating_add(right)
@@ -82,10 +147,10 @@ fn plus(left: u8x16, right: u8x16) -> u8x16
 
 // How many sums stand before the first that is below `least`, or all of them.
 #[inline(always)]
-fn first_below(sums: u8x16, least: u8) -> usize
+fn first_below(sums: u8x32, least: u8) -> usize
     ensures { IsFirstBelow least sums result }
 {
-    let below = sums.simd_lt(u8x16::splat(least)).to_bitmask();
+    let below = sums.simd_lt(u8x32::splat(least)).to_bitmask();
     if below == 0 {
         TOGETHER
     } else {

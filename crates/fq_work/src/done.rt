@@ -75,12 +75,12 @@ impl Done {
         match &mut self.tally {
             None => self.texts.add(pair, steps),
             Some(tally) => {
-                let forward = Trimmed::new(&pair.forward, steps);
-                let reverse = Trimmed::new(&pair.reverse, steps);
                 let counted = PairView {
                     forward: again(&pair.forward),
                     reverse: again(&pair.reverse),
                 };
+                let forward = Trimmed::new(&counted.forward, steps);
+                let reverse = Trimmed::new(&counted.reverse, steps);
                 self.texts
                     .add_kept(pair, steps, forward.kept(), reverse.kept())?;
                 tally.add_trimmed(counted, steps, &forward, &reverse);
@@ -90,7 +90,9 @@ impl Done {
     }
 }
 
-// The same read, lent once more.
+// The same read, lent once more. What counts is given this one and never the first, so where nothing is counted no view is copied
+// to memory.
+#[inline(always)]
 fn again<'a>(read: &ReadView<'a>) -> ReadView<'a>
     ensures { result ≡ read.now }
 {

@@ -1,13 +1,15 @@
-use Rattle.std.proofs.Common.{◌≡◌, ◌-◌, ◌≤◌, length, take, true}
+use Rattle.std.proofs.Common.{◌≡◌, ◌-◌, ◌≤◌, ◌&&◌, length, take, nat_le}
 use Rattle.std.specs.List.{list_all}
+use lib.Lanes.{chunk}
 use Rattle.fq_text.specs.Scores.{is_from}
 use Rattle.fq_text.proofs.vectors.are_from.Given as goal
 
--- each byte before `start` is one of those
+-- the least and the most bytes are in range where the last bytes and those before `start` are
 abbrev pub invariant-loop-start : goal.invariant-loop-start
 invariant-loop-start l = record {
   room : l.start ≤ length l.bytes;
-  all : list_all (is_from l.fn.lowest) (take l.start l.bytes) ≡ true;
+  judged : list_all (λ b. nat_le l.fn.lowest b) l.least && list_all (λ b. nat_le b 126) l.most
+      ≡ list_all (is_from l.fn.lowest) (take l.start l.bytes) && list_all (is_from l.fn.lowest) (chunk l.last 32 l.bytes);
 }
 
 abbrev pub decreases-loop-start : goal.decreases-loop-start

@@ -1,6 +1,13 @@
-use Rattle.std.proofs.Common.{arith, ap, ◌∙◌, get_or}
+use Rattle.std.proofs.Common.{refl, arith, ap, ◌∙◌, get_or}
+use Rattle.std.proofs.lemmas.List.{get_or-replicate}
 use Rattle.fq_trim.proofs.WindowLemmas.{lane_more}
 use Rattle.fq_trim.proofs.windows.sums_of.Goals as goal
+
+pub loop-i-init : goal.loop-i-init
+loop-i-init c = record {
+  long = refl;
+  each = λ k lt. get_or-replicate 32 k 0 0 lt;
+}
 
 pub loop-i-preserved : goal.loop-i-preserved
 loop-i-preserved c =
@@ -10,5 +17,5 @@ loop-i-preserved c =
     record {
       long = c.type_inv.sums.0;
       each = λ k lt. ap (λ sums. get_or sums k 0) c.plus-sums.ensures
-          ∙ lane_more c.args.offset c.loop-i.i k c.args.qual.now c.loop-i.sums c.less-scores.result old.long (omega arith) lt c.less-scores.ensures (old.each k lt);
+          ∙ lane_more c.args.offset c.loop-i.i k c.args.qual.now c.loop-i.sums c.less_32-scores.result old.long (omega arith) lt c.less_32-scores.ensures (old.each k lt);
     }

@@ -1,0 +1,15 @@
+use Rattle.std.proofs.Common.{arith, ap₂, ◌&&◌, ltb, ℕ}
+use Rattle.std.proofs.lemmas.Simd.{zip2_splat, zip2_splat_left}
+use Rattle.fq_text.proofs.VectorLemmas.{flag, all_at_least, all_at_most}
+use Rattle.fq_text.proofs.vectors.are_between.Goals as goal
+
+pub returns : goal.returns
+returns c =
+    let least = c.args.least in
+    let most = c.args.most in
+    let low = c.args.lowest in
+    let long = c.fits-least.0 in
+    let most_long = c.fits-most.0 in
+    ap₂ (λ a b. a && b)
+    (all_at_least low least (omega arith) (zip2_splat (λ (a b : ℕ). flag (ltb a b)) least 32 low long))
+    (all_at_most 126 most (omega arith) (zip2_splat_left (λ (a b : ℕ). flag (ltb a b)) 126 32 most most_long))

@@ -1,0 +1,5 @@
+use Rattle.fq_trim.proofs.WindowLemmas.{each_lower}
+use Rattle.fq_trim.proofs.windows.lower_of.Goals as goal
+
+pub returns : goal.returns
+returns c = each_lower c.args.left c.args.right
