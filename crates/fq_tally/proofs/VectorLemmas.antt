@@ -1,5 +1,5 @@
 -- Bytes that are counted in a vector.
-use Rattle.std.proofs.Common.{◌≡◌, ◌≤◌, ◌+◌, ◌-◌, ◌*◌, ◌%◌, ◌^◌, Fits, w8, ℕ, zero, suc, Bool, false, cond, count_by, sum, List, [], ◌∷◌, ◌++◌, length, map, take, drop, replicate, refl, sym, ap, ap₂, ◌∙◌, arith}
+use Rattle.std.proofs.Common.{◌≡◌, ◌≤◌, ◌+◌, ◌-◌, ◌*◌, ◌%◌, ◌^◌, Fits, w8, ℕ, zero, suc, Bool, true, false, ◌||◌, cond, count_by, sum, List, [], ◌∷◌, ◌++◌, length, map, take, drop, replicate, refl, sym, ap, ap₂, ◌∙◌, arith}
 use Rattle.std.specs.List.{sum_by}
 use Rattle.std.specs.Int.Bits.{and_zero_r}
 use Rattle.std.proofs.Math.Seq.{take-add}
@@ -9,7 +9,7 @@ use Rattle.std.proofs.lemmas.List.Folds.{sum_by-replicate}
 use Rattle.std.proofs.lemmas.Nat.{and_mask}
 use Rattle.std.proofs.lemmas.Simd.{ones-mask_l}
 use native.Mathlib.Nat.{mod-eq_of_lt}
-use lib.Bits.{bit_and}
+use lib.Bits.{bit_and, bit_or}
 use lib.Count.{ones}
 use lib.Lanes.{zip2, mask_l, top, sum_l, Each1}
 use Rattle.fq_text.proofs.VectorLemmas.{flag, mask_of}
@@ -19,6 +19,21 @@ use Rattle.fq_tally.specs.Vectors.{Holds}
 pub flags_counted : (p : ℕ → Bool) (v : List ℕ) {z : List ℕ} → length v ≤ 64 → z ≡ map (λ x. flag (p x)) v →
     ones (mask_l (map (top 7) z) % 2 ^ 64) ≡ count_by p v
 flags_counted p v short same = ap ones (mask_of p v short same) ∙ ones-mask_l p v
+
+flag_or : (a b : Bool) → bit_or (flag a) (flag b) ≡ flag (a || b)
+flag_or true true = refl
+flag_or true false = refl
+flag_or false true = refl
+flag_or false false = refl
+
+-- one or the other
+either_flags : (p q : ℕ → Bool) (v : List ℕ) → zip2 bit_or (map (λ x. flag (p x)) v) (map (λ x. flag (q x)) v) ≡ map (λ x. flag (p x || q x)) v
+either_flags p q [] = refl
+either_flags p q (x ∷ xs) = ap₂ (λ y ys. y ∷ ys) (flag_or (p x) (q x)) (either_flags p q xs)
+
+pub either : (p q : ℕ → Bool) (v : List ℕ) {a b : List ℕ} → a ≡ map (λ x. flag (p x)) v → b ≡ map (λ x. flag (q x)) v →
+    zip2 bit_or a b ≡ map (λ x. flag (p x || q x)) v
+either p q v left right = ap₂ (zip2 bit_or) left right ∙ either_flags p q v
 
 -- the sum of a vector
 pub vector_summed : (v : List ℕ) → sum_l v ≡ sum v

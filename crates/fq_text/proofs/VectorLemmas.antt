@@ -1,34 +1,18 @@
 -- Bytes that are compared side by side, in a vector. A comparison answers 255 for each byte for which it holds, and else 0.
-use Rattle.std.proofs.Common.{◌≡◌, ◌≤◌, ◌<◌, ◌+◌, ◌*◌, ◌%◌, ◌^◌, ℕ, zero, suc, Bool, true, false, not, ◌&&◌, ◌||◌, cond, ltb, leb, eqb, List, [], ◌∷◌, length, map, take, drop, refl, sym, ap, ap₂, ◌∙◌, arith, take-add, ⊎_elim}
+use Rattle.std.proofs.Common.{◌≡◌, ◌≤◌, ◌<◌, ◌+◌, ◌*◌, ◌%◌, ◌^◌, ℕ, zero, suc, Bool, true, false, not, ◌&&◌, cond, ltb, leb, eqb, List, [], ◌∷◌, length, map, take, drop, refl, sym, ap, ap₂, ◌∙◌, arith, take-add, ⊎_elim}
 use Rattle.std.specs.List.{list_all}
 use Rattle.std.proofs.lemmas.List.{length-map, length-drop, take_all, take-take, take-append-drop}
 use Rattle.std.proofs.lemmas.List.Folds.{list_all-append}
 use Rattle.std.proofs.lemmas.Bool.{and_left, and_right, and_from, and_parts, cases_Bool, cases_lt, lt-ltb, le-ltb, le-leb, lt-leb, eq-eqb, ne_eqb}
 use Rattle.std.proofs.lemmas.Simd.{mask_l-mod, length-chunk}
-use lib.Bits.{bit_or}
 use lib.Lanes.{chunk, zip2, sel_l, mask_l, top}
 
 abbrev pub flag : Bool → ℕ
 flag b = cond b 255 0
 
-flag_or : (a b : Bool) → bit_or (flag a) (flag b) ≡ flag (a || b)
-flag_or true true = refl
-flag_or true false = refl
-flag_or false true = refl
-flag_or false false = refl
-
 flag_top : (b : Bool) → top 7 (flag b) ≡ b
 flag_top true = refl
 flag_top false = refl
-
--- one or the other
-either_flags : (p q : ℕ → Bool) (v : List ℕ) → zip2 bit_or (map (λ x. flag (p x)) v) (map (λ x. flag (q x)) v) ≡ map (λ x. flag (p x || q x)) v
-either_flags p q [] = refl
-either_flags p q (x ∷ xs) = ap₂ (λ y ys. y ∷ ys) (flag_or (p x) (q x)) (either_flags p q xs)
-
-pub either : (p q : ℕ → Bool) (v : List ℕ) {a b : List ℕ} → a ≡ map (λ x. flag (p x)) v → b ≡ map (λ x. flag (q x)) v →
-    zip2 bit_or a b ≡ map (λ x. flag (p x || q x)) v
-either p q v left right = ap₂ (zip2 bit_or) left right ∙ either_flags p q v
 
 tops : (p : ℕ → Bool) (v : List ℕ) → map (top 7) (map (λ x. flag (p x)) v) ≡ map p v
 tops p [] = refl
