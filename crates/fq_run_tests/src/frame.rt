@@ -4,6 +4,7 @@ ghost use Rattle.fq_serial.specs.Devices.{outlet_states, AreHealthy};
 use fq_pair::{Counts, Out};
 use fq_run::{Ending, Outcome, Outlets, Settings, run_serial, run_threads};
 use fq_samples::Written;
+use fq_tally::Tally;
 use fq_text::{Encoding, Feed, Outlet, ScriptFeed, ScriptOutlet};
 use fq_trim::Steps;
 use fq_work::{Gate, OpenGate};
@@ -32,8 +33,10 @@ pub struct Given<'a> {
     pub fails_at_read: u64,
     /// An outlet, and the write of it that fails.
     pub fails_at_write: Option<(Out, u64)>,
-    /// Another one that fails so.
+    /// An outlet whose flush fails.
     pub fails_at_flush: Option<Out>,
+    /// Whether there is a log.
+    pub logs: bool,
 }
 
 /// What a run leaves.
@@ -63,6 +66,7 @@ pub fn with_defaults<'a>(forward: &'a [u8], reverse: &'a [u8], steps: &'a [&'a s
         fails_at_read: 0,
         fails_at_write: None,
         fails_at_flush: None,
+        logs: true,
     }
 }
 
@@ -158,7 +162,7 @@ pub fn settings_with(
     Ok(settings?)
 }
 
-/// The five outlets in memory.
+/// The outlets in memory, of the log where there is one.
 pub fn outlets(rt: &impl Abort, alloc: Global, given: &Given<'_>) -> Outlets<ScriptOutlet>
     ensures { AreHealthy (outlet_states (λ o. record { tells = true; taken = o.bytes; failures = o.failures }) result) }
 {
@@ -167,35 +171,50 @@ pub fn outlets(rt: &impl Abort, alloc: Global, given: &Given<'_>) -> Outlets<Scr
         forward_unpaired: outlet(rt, alloc, given, Out::ForwardUnpaired),
         reverse_paired: outlet(rt, alloc, given, Out::ReversePaired),
         reverse_unpaired: outlet(rt, alloc, given, Out::ReverseUnpaired),
-        log: Some(outlet(rt, alloc, given, Out::Log)),
+        log: if given.logs {
+            Some(outlet(rt, alloc, given, Out::Log))
+        } else {
+            None
+        },
     }
 }
 
-/// Compares what a run has left.
-pub fn assert_left(
-    rt: &impl Abort,
-    ending: &Ending<ScriptFeed, ScriptFeed>,
-    outlets: &Outlets<ScriptOutlet>,
-    wanted: &Wanted<'_>,
-) -> Result<(), Fail> {
-    assert_written(rt, ending.outcome, ending.counts, outlets, wanted)?;
-    assert!(rt; ending.forward.is_some() && ending.reverse.is_some());
-    assert!(rt; ending.unended.is_none());
-    Ok(())
+/// What a run left. Functions hand it on in a `Box`: it has so many parts that each function that owns it on its stack has a long
+/// proof.
+#[derive(Drop)]
+pub struct Left {
+    pub outcome: Outcome,
+    pub counts: Counts,
+    pub tally: Option<Tally>,
+    /// Whether each feed came back, and each lane was confirmed.
+    pub is_intact: bool,
+    pub outlets: Outlets<ScriptOutlet>,
 }
 
-/// Compares the outcome, the counts and the texts.
-pub fn assert_written(
-    rt: &impl Abort,
-    outcome: Outcome,
-    counts: Counts,
-    outlets: &Outlets<ScriptOutlet>,
-    wanted: &Wanted<'_>,
-) -> Result<(), Fail> {
-    assert_ended(rt, outcome, counts, wanted);
-    assert_reads(rt, outlets, wanted);
-    let log = outlets.log.as_ref().ok_or("a log")?;
+/// What a run over two texts left.
+pub fn left_of(
+    alloc: Global,
+    ending: Ending<ScriptFeed, ScriptFeed>,
+    outlets: Outlets<ScriptOutlet>,
+) -> Result<Box<Left>, Fail> {
+    let are_back = ending.forward.is_some() && ending.reverse.is_some();
+    let left = Left {
+        outcome: ending.outcome,
+        counts: ending.counts,
+        is_intact: are_back && ending.unended.is_none(),
+        tally: ending.tally,
+        outlets,
+    };
+    Ok(Box::new(alloc, left)?)
+}
+
+/// Compares what a run has left.
+pub fn assert_left(rt: &impl Abort, left: &Left, wanted: &Wanted<'_>) -> Result<(), Fail> {
+    assert_ended(rt, left.outcome, left.counts, wanted);
+    assert_reads(rt, &left.outlets, wanted);
+    let log = left.outlets.log.as_ref().ok_or("a log")?;
     assert_eq!(rt; log.bytes(), wanted.log);
+    assert!(rt; left.is_intact);
     Ok(())
 }
 
@@ -257,21 +276,35 @@ pub fn threaded<
 }
 
 /// Runs with a log on one thread.
-pub fn leaves_alone(
+fn run_alone(
     rt: &impl Abort,
     alloc: Global,
     given: &Given<'_>,
-    wanted: &Wanted<'_>,
-) -> Result<(), Fail> {
-    let settings = settings_of(given, 4, 4)?;
+    settings: &Settings,
+) -> Result<Box<Left>, Fail> {
     let forward = feed(rt, alloc, given.forward, given.cut, given.fails_at_read)?;
     let reverse = feed(rt, alloc, given.reverse, given.cut, 0)?;
     let mut outlets = outlets(rt, alloc, given);
-    let ending = serial(alloc, &settings, forward, reverse, &mut outlets);
-    assert_left(rt, &ending, &outlets, wanted)
+    let ending = serial(alloc, settings, forward, reverse, &mut outlets);
+    left_of(alloc, ending, outlets)
 }
 
 /// Runs with a log on so many workers' threads, behind a gate.
+pub fn run_behind<R: Abort + Threads + Wait + Copy + Send + 'static, H: Gate + 'static>(
+    rt: &R,
+    alloc: Global,
+    given: &Given<'_>,
+    settings: &Settings,
+    gate: H,
+) -> Result<Box<Left>, Fail> {
+    let forward = feed(rt, alloc, given.forward, given.cut, given.fails_at_read)?;
+    let reverse = feed(rt, alloc, given.reverse, given.cut, 0)?;
+    let mut outlets = outlets(rt, alloc, given);
+    let ending = threaded(rt, alloc, settings, gate, forward, reverse, &mut outlets)?;
+    left_of(alloc, ending, outlets)
+}
+
+/// Runs with a log on so many workers' threads, behind a gate, and compares what the run leaves.
 pub fn leaves_behind<R: Abort + Threads + Wait + Copy + Send + 'static, H: Gate + 'static>(
     rt: &R,
     alloc: Global,
@@ -280,11 +313,8 @@ pub fn leaves_behind<R: Abort + Threads + Wait + Copy + Send + 'static, H: Gate 
     gate: H,
     wanted: &Wanted<'_>,
 ) -> Result<(), Fail> {
-    let forward = feed(rt, alloc, given.forward, given.cut, given.fails_at_read)?;
-    let reverse = feed(rt, alloc, given.reverse, given.cut, 0)?;
-    let mut outlets = outlets(rt, alloc, given);
-    let ending = threaded(rt, alloc, settings, gate, forward, reverse, &mut outlets)?;
-    assert_left(rt, &ending, &outlets, wanted)
+    let left = run_behind(rt, alloc, given, settings, gate)?;
+    assert_left(rt, &left, wanted)
 }
 
 /// Runs with a log on one thread, and then on those of 1 to 5 workers, and compares what each run leaves.
@@ -294,7 +324,8 @@ pub fn leaves<R: Abort + Threads + Wait + Copy + Send + 'static>(
     given: &Given<'_>,
     wanted: &Wanted<'_>,
 ) -> Result<(), Fail> {
-    leaves_alone(rt, alloc, given, wanted)?;
+    let alone = run_alone(rt, alloc, given, &settings_of(given, 4, 4)?)?;
+    assert_left(rt, &alone, wanted)?;
     for workers in 1..6 {
         let settings = settings_of(given, workers, 4)?;
         leaves_behind(rt, alloc, given, &settings, OpenGate, wanted)?;

@@ -4,7 +4,7 @@ ghost use Rattle.std.specs.Prelude.{◌≡◌, true};
 ghost use Rattle.fq_serial.specs.Devices.{outlet_states, AreHealthy};
 
 use super::frame::{
-    Given, Wanted, assert_written, counts, feed, nothing, outlets, settings_of, with_defaults,
+    Given, Left, Wanted, assert_left, counts, feed, nothing, outlets, settings_of, with_defaults,
 };
 use super::fronts::{Front, OUTS, front_of};
 use super::rows::{first_pair, five_pairs, two_pairs};
@@ -35,7 +35,7 @@ fn serial_interleaved(
 }
 
 /// The run on several threads, behind an open gate.
-pub fn threaded_interleaved<R: Threads + Wait + Copy + Send + 'static>(
+fn threaded_interleaved<R: Threads + Wait + Copy + Send + 'static>(
     rt: &R,
     alloc: Global,
     settings: &Settings,
@@ -49,19 +49,20 @@ pub fn threaded_interleaved<R: Threads + Wait + Copy + Send + 'static>(
     Ok(run_threads_mixed(alloc, rt, settings, gate, text, outlets))
 }
 
-/// What a run over one text left.
-#[derive(Drop)]
-struct Left {
+/// What a run over an interleaved text left.
+fn left_of_interleaved(
+    alloc: Global,
     ending: MixedEnding<ScriptFeed>,
     outlets: Outlets<ScriptOutlet>,
-}
-
-/// Compares what a run has left.
-fn assert_left_interleaved(rt: &impl Abort, left: &Left, wanted: &Wanted<'_>) -> Result<(), Fail> {
-    let ending = &left.ending;
-    assert_written(rt, ending.outcome, ending.counts, &left.outlets, wanted)?;
-    assert!(rt; ending.feed.is_some() && ending.unended.is_none());
-    Ok(())
+) -> Result<Box<Left>, Fail> {
+    let left = Left {
+        outcome: ending.outcome,
+        counts: ending.counts,
+        is_intact: ending.feed.is_some() && ending.unended.is_none(),
+        tally: ending.tally,
+        outlets,
+    };
+    Ok(Box::new(alloc, left)?)
 }
 
 /// Runs with a log on one thread. The text is that of the forward side.
@@ -70,24 +71,24 @@ fn run_alone(
     alloc: Global,
     settings: &Settings,
     given: &Given<'_>,
-) -> Result<Left, Fail> {
+) -> Result<Box<Left>, Fail> {
     let text = feed(rt, alloc, given.forward, given.cut, given.fails_at_read)?;
     let mut outlets = outlets(rt, alloc, given);
     let ending = serial_interleaved(alloc, settings, text, &mut outlets);
-    Ok(Left { ending, outlets })
+    left_of_interleaved(alloc, ending, outlets)
 }
 
 /// The same on several threads.
-fn run_threaded<R: Abort + Threads + Wait + Copy + Send + 'static>(
+pub fn run_threaded<R: Abort + Threads + Wait + Copy + Send + 'static>(
     rt: &R,
     alloc: Global,
     settings: &Settings,
     given: &Given<'_>,
-) -> Result<Left, Fail> {
+) -> Result<Box<Left>, Fail> {
     let text = feed(rt, alloc, given.forward, given.cut, given.fails_at_read)?;
     let mut outlets = outlets(rt, alloc, given);
     let ending = threaded_interleaved(rt, alloc, settings, text, &mut outlets)?;
-    Ok(Left { ending, outlets })
+    left_of_interleaved(alloc, ending, outlets)
 }
 
 fn leaves_alone(
@@ -98,7 +99,7 @@ fn leaves_alone(
 ) -> Result<(), Fail> {
     let settings = settings_of(given, 4, 4)?;
     let left = run_alone(rt, alloc, &settings, given)?;
-    assert_left_interleaved(rt, &left, wanted)
+    assert_left(rt, &left, wanted)
 }
 
 /// Runs with a log on so many workers' threads.
@@ -111,7 +112,7 @@ fn leaves_threaded<R: Abort + Threads + Wait + Copy + Send + 'static>(
 ) -> Result<(), Fail> {
     let settings = settings_of(given, workers, 4)?;
     let left = run_threaded(rt, alloc, &settings, given)?;
-    assert_left_interleaved(rt, &left, wanted)
+    assert_left(rt, &left, wanted)
 }
 
 /// Runs on one thread, and then on those of 1 to 5 workers, and compares what each run leaves.
@@ -194,7 +195,7 @@ fn run_interleaved<R: Abort + Threads + Wait + Copy + Send + 'static>(
     alloc: Global,
     given: &Given<'_>,
     way: Way,
-) -> Result<Left, Fail> {
+) -> Result<Box<Left>, Fail> {
     let settings = settings_of(given, 2, 4)?;
     match way {
         Way::Serial => run_alone(rt, alloc, &settings, given),
@@ -202,7 +203,7 @@ fn run_interleaved<R: Abort + Threads + Wait + Copy + Send + 'static>(
     }
 }
 
-/// A run over one text, in small blocks, reads and writes: its outcome, and the front of the seven pairs that its outputs are.
+/// A run over an interleaved text, in small blocks, reads and writes: its outcome, and the front of the seven pairs that its outputs are.
 fn front_interleaved<R: Abort + Threads + Wait + Copy + Send + 'static>(
     rt: &R,
     alloc: Global,
@@ -210,8 +211,8 @@ fn front_interleaved<R: Abort + Threads + Wait + Copy + Send + 'static>(
     way: Way,
 ) -> Result<(Outcome, Front), Fail> {
     let left = run_interleaved(rt, alloc, given, way)?;
-    let front = front_of(&left.outlets, left.ending.counts, BLOCK_PAIRS)?;
-    Ok((left.ending.outcome, front))
+    let front = front_of(&left.outlets, left.counts, BLOCK_PAIRS)?;
+    Ok((left.outcome, front))
 }
 
 /// The eleven records, in small blocks, reads and writes.

@@ -4,11 +4,11 @@ ghost use Rattle.std.specs.Prelude.{◌≡◌, ◌+◌, ◌<◌, ◌^◌, None, 
 ghost use Rattle.fq_serial.specs.Devices.{outlet_states, AreHealthy};
 
 use super::frame::{
-    Given, assert_ended, assert_reads, feed, leaves_behind, nothing, outlets, settings_with,
-    threaded, with_defaults,
+    Given, Left, Wanted, assert_ended, assert_reads, feed, leaves_behind, nothing, outlets,
+    run_behind, settings_with, threaded, with_defaults,
 };
 use super::rows::{seven_pairs, two_pairs};
-use super::sweeps::{WAYS, Way, run_between};
+use super::sweeps::{WAYS, run};
 use fq_pair::Out;
 use fq_run::{Ending, Outcome, Settings};
 use fq_samples::{SEVEN_FORWARD, SEVEN_REVERSE, SEVEN_STEPS, TWO_FORWARD, TWO_REVERSE, TWO_STEPS};
@@ -66,15 +66,10 @@ fn outlets_are_flushed_behind_a_stop(rt: HostRuntime) -> Result<(), Fail> {
         fails_at_flush: Some(Out::ForwardUnpaired),
         ..with_defaults(TWO_FORWARD, TWO_REVERSE, TWO_STEPS)
     };
-    let alloc = rt.alloc();
     let settings = with(&given, 1, 1)?;
-    let forward = feed(&rt, alloc, given.forward, given.cut, 0)?;
-    let reverse = feed(&rt, alloc, given.reverse, given.cut, 0)?;
-    let mut outlets = outlets(&rt, alloc, &given);
-    let gate = late(u64::MAX);
-    let ending = threaded(&rt, alloc, &settings, gate, forward, reverse, &mut outlets)?;
-    assert_eq!(rt; ending.outcome, Outcome::Gate);
-    assert_eq!(rt; outlets.forward_unpaired.failures(), 1);
+    let left = run_behind(&rt, rt.alloc(), &given, &settings, late(u64::MAX))?;
+    assert_eq!(rt; left.outcome, Outcome::Gate);
+    assert_eq!(rt; left.outlets.forward_unpaired.failures(), 1);
     Ok(())
 }
 
@@ -166,12 +161,13 @@ fn counted_run<R: Abort + Threads + Wait + Copy + Send + 'static>(
     settings: &Settings,
     gate: JustSoManyReads,
     forward: CountedFeed,
-) -> Result<Ending<CountedFeed, ScriptFeed>, Fail>
+) -> Result<Box<Ending<CountedFeed, ScriptFeed>>, Fail>
     requires { forward.failures ≡ 0 }
 {
     let reverse = feed(rt, alloc, given.reverse, given.cut, 0)?;
     let mut outlets = outlets(rt, alloc, given);
-    threaded(rt, alloc, settings, gate, forward, reverse, &mut outlets)
+    let ending = threaded(rt, alloc, settings, gate, forward, reverse, &mut outlets)?;
+    Ok(Box::new(alloc, ending)?)
 }
 
 // While the one worker has block 0, `depth` blocks lie in its lane, and one more is in the dealer's hand. A record is a read.
@@ -189,29 +185,21 @@ fn just_as_much_is_read_ahead_as_the_lanes_hold(rt: HostRuntime) -> Result<(), F
     Ok(())
 }
 
-fn leaves_no_log<R: Abort + Threads + Wait + Copy + Send + 'static>(
-    rt: &R,
-    alloc: Global,
-    given: &Given<'_>,
-    way: Way,
-) -> Result<(), Fail> {
-    let forward = feed(rt, alloc, given.forward, given.cut, 0)?;
-    let reverse = feed(rt, alloc, given.reverse, given.cut, 0)?;
-    let mut outlets = outlets(rt, alloc, given);
-    outlets.log = None;
-    let ending = run_between(rt, alloc, given, way, forward, reverse, &mut outlets)?;
-    let wanted = two_pairs();
-    assert_ended(rt, ending.outcome, ending.counts, &wanted);
-    assert_reads(rt, &outlets, &wanted);
-    assert!(rt; outlets.log.is_none());
-    Ok(())
+fn assert_left_without_log(rt: &impl Abort, left: &Left, wanted: &Wanted<'_>) {
+    assert_ended(rt, left.outcome, left.counts, wanted);
+    assert_reads(rt, &left.outlets, wanted);
+    assert!(rt; left.outlets.log.is_none());
 }
 
 #[test]
 fn runs_without_a_log(rt: HostRuntime) -> Result<(), Fail> {
-    let given = with_defaults(TWO_FORWARD, TWO_REVERSE, TWO_STEPS);
+    let given = Given {
+        logs: false,
+        ..with_defaults(TWO_FORWARD, TWO_REVERSE, TWO_STEPS)
+    };
     for way in WAYS {
-        leaves_no_log(&rt, rt.alloc(), &given, way)?;
+        let left = run(&rt, rt.alloc(), &given, way, None)?;
+        assert_left_without_log(&rt, &left, &two_pairs());
     }
     Ok(())
 }

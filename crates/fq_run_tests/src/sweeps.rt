@@ -4,7 +4,8 @@ ghost use Rattle.std.specs.Prelude.{◌≡◌, true};
 ghost use Rattle.fq_serial.specs.Devices.{outlet_states, AreHealthy};
 
 use super::frame::{
-    Given, Wanted, assert_left, feed, leaves, outlets, serial, settings_of, threaded, with_defaults,
+    Given, Left, Wanted, assert_left, feed, leaves, left_of, outlets, serial, settings_of,
+    threaded, with_defaults,
 };
 use super::fronts::{Front, OUTS, front_of};
 use super::rows::seven_pairs;
@@ -37,20 +38,6 @@ pub enum Way {
 
 pub const WAYS: [Way; 2] = [Way::Serial, Way::TwoWorkers];
 
-/// What a run left.
-#[derive(Drop)]
-pub struct Left {
-    pub ending: Ending<ScriptFeed, ScriptFeed>,
-    pub outlets: Outlets<ScriptOutlet>,
-}
-
-impl Left {
-    /// The front of the seven pairs that the outputs are.
-    pub fn front(&self) -> Result<Front, Fail> {
-        Ok(front_of(&self.outlets, self.ending.counts, BLOCK_PAIRS)?)
-    }
-}
-
 /// The seven pairs, in small blocks, reads and writes.
 pub fn seven_in_twos() -> Given<'static> {
     Given {
@@ -67,7 +54,7 @@ pub fn run<R: Abort + Threads + Wait + Copy + Send + 'static>(
     given: &Given<'_>,
     way: Way,
     failing_read: Option<(Side, u64)>,
-) -> Result<Left, Fail> {
+) -> Result<Box<Left>, Fail> {
     let (fails_forward, fails_reverse) = match failing_read {
         None => (0, 0),
         Some((Side::Forward, number)) => (number, 0),
@@ -84,16 +71,16 @@ fn run_failing<R: Abort + Threads + Wait + Copy + Send + 'static>(
     way: Way,
     fails_forward: u64,
     fails_reverse: u64,
-) -> Result<Left, Fail> {
+) -> Result<Box<Left>, Fail> {
     let forward = feed(rt, alloc, given.forward, given.cut, fails_forward)?;
     let reverse = feed(rt, alloc, given.reverse, given.cut, fails_reverse)?;
     let mut outlets = outlets(rt, alloc, given);
     let ending = run_between(rt, alloc, given, way, forward, reverse, &mut outlets)?;
-    Ok(Left { ending, outlets })
+    left_of(alloc, ending, outlets)
 }
 
 /// A run between these devices.
-pub fn run_between<R: Threads + Wait + Copy + Send + 'static>(
+fn run_between<R: Threads + Wait + Copy + Send + 'static>(
     rt: &R,
     alloc: Global,
     given: &Given<'_>,
@@ -115,10 +102,10 @@ pub fn run_between<R: Threads + Wait + Copy + Send + 'static>(
 
 /// Whether a run met no failure. Then all has to be there.
 fn met_none(rt: &impl Abort, left: &Left) -> Result<bool, Fail> {
-    if left.ending.outcome != Outcome::Finished {
+    if left.outcome != Outcome::Finished {
         return Ok(false);
     }
-    assert_left(rt, &left.ending, &left.outlets, &seven_pairs())?;
+    assert_left(rt, left, &seven_pairs())?;
     Ok(true)
 }
 
@@ -129,8 +116,8 @@ pub fn front_behind(
     outcome: Outcome,
     number: u64,
 ) -> Result<Front, Fail> {
-    assert_eq!(rt; left.ending.outcome, outcome, "call {number}");
-    left.front()
+    assert_eq!(rt; left.outcome, outcome, "call {number}");
+    Ok(front_of(&left.outlets, left.counts, BLOCK_PAIRS)?)
 }
 
 // Whether a run met its read of this number, which fails.

@@ -1,16 +1,12 @@
 //! Tallies of runs, by the same numbers for every crew.
 
-ghost use Rattle.std.specs.Prelude.{◌≡◌, ◌<◌, true};
-ghost use Rattle.fq_serial.specs.Devices.{outlet_states, AreHealthy};
-
-use super::frame::{Given, assert_left, feed, outlets, settings_of, threaded, with_defaults};
-use super::interleaved::threaded_interleaved;
+use super::frame::{Given, assert_left, run_behind, settings_of, with_defaults};
+use super::interleaved::run_threaded;
 use super::rows::two_pairs;
 use fq_pair::Out;
-use fq_run::{Ending, Outcome, Outlets, Settings};
+use fq_run::{Outcome, Settings};
 use fq_samples::{TWO_FORWARD, TWO_INTERLEAVED, TWO_REVERSE, TWO_STEPS};
 use fq_tally::Tally;
-use fq_text::{ScriptFeed, ScriptOutlet};
 use fq_work::OpenGate;
 use std::alloc::Global;
 use std::process::Abort;
@@ -52,30 +48,14 @@ fn assert_two_tallied(rt: &impl Abort, tally: &Tally) {
     assert_eq!(rt; reverse.steps.dropped.as_slice(), [1].as_slice());
 }
 
-// One run over two texts on so many workers' threads.
-fn run<R: Abort + Threads + Wait + Copy + Send + 'static>(
-    rt: &R,
-    alloc: Global,
-    given: &Given<'_>,
-    settings: &Settings,
-    outlets: &mut Outlets<ScriptOutlet>,
-) -> Result<Ending<ScriptFeed, ScriptFeed>, Fail>
-    requires { AreHealthy (outlet_states (λ o. record { tells = true; taken = o.bytes; failures = o.failures }) outlets.old) }
-{
-    let forward = feed(rt, alloc, given.forward, given.cut, 0)?;
-    let reverse = feed(rt, alloc, given.reverse, given.cut, 0)?;
-    threaded(rt, alloc, settings, OpenGate, forward, reverse, outlets)
-}
-
 fn tallies_none<R: Abort + Threads + Wait + Copy + Send + 'static>(
     rt: &R,
     alloc: Global,
     given: &Given<'_>,
     settings: &Settings,
 ) -> Result<(), Fail> {
-    let mut outlets = outlets(rt, alloc, given);
-    let ending = run(rt, alloc, given, settings, &mut outlets)?;
-    assert!(rt; ending.tally.is_none());
+    let left = run_behind(rt, alloc, given, settings, OpenGate)?;
+    assert!(rt; left.tally.is_none());
     Ok(())
 }
 
@@ -85,10 +65,9 @@ fn tallies_two<R: Abort + Threads + Wait + Copy + Send + 'static>(
     given: &Given<'_>,
     settings: &Settings,
 ) -> Result<(), Fail> {
-    let mut outlets = outlets(rt, alloc, given);
-    let ending = run(rt, alloc, given, settings, &mut outlets)?;
-    assert_left(rt, &ending, &outlets, &two_pairs())?;
-    assert_two_tallied(rt, ending.tally.as_ref().ok_or("a tally")?);
+    let left = run_behind(rt, alloc, given, settings, OpenGate)?;
+    assert_left(rt, &left, &two_pairs())?;
+    assert_two_tallied(rt, left.tally.as_ref().ok_or("a tally")?);
     Ok(())
 }
 
@@ -107,16 +86,14 @@ fn two_pairs_are_tallied_alike_by_every_crew(rt: HostRuntime) -> Result<(), Fail
 
 #[test]
 fn a_block_that_was_not_written_is_not_tallied(rt: HostRuntime) -> Result<(), Fail> {
-    let alloc = rt.alloc();
     let given = Given {
         fails_at_write: Some((Out::Log, 2)),
         ..given(1)
     };
     let settings = settings_of(&given, 2, 4)?.with_tally();
-    let mut outlets = outlets(&rt, alloc, &given);
-    let ending = run(&rt, alloc, &given, &settings, &mut outlets)?;
-    assert_eq!(rt; ending.outcome, Outcome::Write(Out::Log));
-    let tally = ending.tally.as_ref().ok_or("a tally")?;
+    let left = run_behind(&rt, rt.alloc(), &given, &settings, OpenGate)?;
+    assert_eq!(rt; left.outcome, Outcome::Write(Out::Log));
+    let tally = left.tally.as_ref().ok_or("a tally")?;
     assert_eq!(rt;
         (
             tally.forward.before.reads,
@@ -130,13 +107,13 @@ fn a_block_that_was_not_written_is_not_tallied(rt: HostRuntime) -> Result<(), Fa
 
 #[test]
 fn two_interleaved_pairs_are_tallied(rt: HostRuntime) -> Result<(), Fail> {
-    let alloc = rt.alloc();
-    let given = given(1);
+    let given = Given {
+        forward: TWO_INTERLEAVED,
+        ..given(1)
+    };
     let settings = settings_of(&given, 2, 4)?.with_tally();
-    let text = feed(&rt, alloc, TWO_INTERLEAVED, given.cut, 0)?;
-    let mut outlets = outlets(&rt, alloc, &given);
-    let ending = threaded_interleaved(&rt, alloc, &settings, text, &mut outlets)?;
-    assert_eq!(rt; ending.outcome, Outcome::Finished);
-    assert_two_tallied(&rt, ending.tally.as_ref().ok_or("a tally")?);
+    let left = run_threaded(&rt, rt.alloc(), &settings, &given)?;
+    assert_eq!(rt; left.outcome, Outcome::Finished);
+    assert_two_tallied(&rt, left.tally.as_ref().ok_or("a tally")?);
     Ok(())
 }

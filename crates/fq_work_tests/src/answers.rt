@@ -22,6 +22,12 @@ const TWO_BLOCKS: Case<'static> = Case {
     used: 2,
 };
 
+// Works on a block.
+fn make(block: &Block, steps: &Steps, done: &mut Done) -> Result<(), Fail> {
+    work_block(block, steps, done)?;
+    Ok(())
+}
+
 // What is made of block 4, whose two pairs these are.
 fn assert_two_pairs(
     rt: &impl Abort,
@@ -36,22 +42,34 @@ fn assert_two_pairs(
         reverse_only: 0,
         dropped: 0,
     };
-    work_block(block, steps, done)?;
+    make(block, steps, done)?;
     assert_eq!(rt; done.number, 4);
     assert_written(rt, &done.texts, &TWO_WRITTEN, counts);
     Ok(())
 }
 
+// The same twice, the second time with texts that were used.
+fn assert_two_pairs_twice(
+    rt: &impl Abort,
+    alloc: Global,
+    block: &Block,
+    steps: &Steps,
+) -> Result<(), Fail> {
+    let mut done = Done::new(alloc, 0);
+    assert_two_pairs(rt, block, steps, &mut done)?;
+    assert_two_pairs(rt, block, steps, &mut done)
+}
+
+// The block of the two pairs, number 4.
+fn two_pairs(rt: &impl Abort, alloc: Global) -> Result<Block, Fail> {
+    block_of(rt, alloc, 4, TWO_FORWARD, TWO_REVERSE)
+}
+
 #[test]
 fn a_block_of_two_pairs_has_their_texts(rt: HostRuntime) -> Result<(), Fail> {
     let steps = Steps::parse(TWO_STEPS)?;
-    let block = block_of(&rt, rt.alloc(), 4, TWO_FORWARD, TWO_REVERSE)?;
-    let mut done = Done::new(rt.alloc(), 0);
-    // Twice, the second time with texts that were used.
-    for _ in 0..2 {
-        assert_two_pairs(&rt, &block, &steps, &mut done)?;
-    }
-    Ok(())
+    let block = two_pairs(&rt, rt.alloc())?;
+    assert_two_pairs_twice(&rt, rt.alloc(), &block, &steps)
 }
 
 #[test]
@@ -65,7 +83,7 @@ fn used_texts(rt: &impl Abort, alloc: Global) -> Result<Done, Fail> {
     let steps = Steps::parse(TWO_STEPS)?;
     let block = block_of(rt, alloc, 7, SECOND.forward, SECOND.reverse)?;
     let mut done = Done::new(alloc, 0);
-    work_block(&block, &steps, &mut done)?;
+    make(&block, &steps, &mut done)?;
     Ok(done)
 }
 
@@ -145,7 +163,7 @@ fn assert_no_tally(
     steps: &Steps,
     done: &mut Done,
 ) -> Result<(), Fail> {
-    work_block(block, steps, done)?;
+    make(block, steps, done)?;
     assert!(rt; done.tally.is_none());
     Ok(())
 }
@@ -156,22 +174,47 @@ fn assert_tally(
     steps: &Steps,
     done: &mut Done,
 ) -> Result<(), Fail> {
-    work_block(block, steps, done)?;
+    make(block, steps, done)?;
     assert_two_tallied(rt, done.tally.as_ref().ok_or("a tally")?);
     Ok(())
+}
+
+// Asks for a tally, or for none.
+fn ask(alloc: Global, tallied: bool, done: &mut Done) -> Result<(), Fail> {
+    done.ask(alloc, tallied)?;
+    Ok(())
+}
+
+// There is a tally while one is asked for, the second time one that was used.
+fn assert_asked(
+    rt: &impl Abort,
+    alloc: Global,
+    block: &Block,
+    steps: &Steps,
+    done: &mut Done,
+) -> Result<(), Fail> {
+    assert_no_tally(rt, block, steps, done)?;
+    ask(alloc, true, done)?;
+    assert_tally(rt, block, steps, done)?;
+    assert_tally(rt, block, steps, done)?;
+    ask(alloc, false, done)?;
+    assert_no_tally(rt, block, steps, done)
+}
+
+// The same, with new texts.
+fn assert_asked_anew(
+    rt: &impl Abort,
+    alloc: Global,
+    block: &Block,
+    steps: &Steps,
+) -> Result<(), Fail> {
+    let mut done = Done::new(alloc, 0);
+    assert_asked(rt, alloc, block, steps, &mut done)
 }
 
 #[test]
 fn a_block_is_tallied_where_that_is_asked_for(rt: HostRuntime) -> Result<(), Fail> {
     let steps = Steps::parse(TWO_STEPS)?;
-    let block = block_of(&rt, rt.alloc(), 4, TWO_FORWARD, TWO_REVERSE)?;
-    let mut done = Done::new(rt.alloc(), 0);
-    assert_no_tally(&rt, &block, &steps, &mut done)?;
-    done.ask(rt.alloc(), true)?;
-    // Twice, the second time with a tally that was used.
-    for _ in 0..2 {
-        assert_tally(&rt, &block, &steps, &mut done)?;
-    }
-    done.ask(rt.alloc(), false)?;
-    assert_no_tally(&rt, &block, &steps, &mut done)
+    let block = two_pairs(&rt, rt.alloc())?;
+    assert_asked_anew(&rt, rt.alloc(), &block, &steps)
 }

@@ -2,12 +2,12 @@ ghost use Rattle.std.specs.Prelude.{◌≡◌, true, IfOk, OnOk};
 
 use fq_block::Block;
 use fq_lane::{End, Rx, Taken, Tx, lane};
-use fq_pair::{Counts, Out, PairSource, Texts};
+use fq_pair::{Counts, Out, Pair, PairSource, Texts};
 use fq_samples::{
     FIRST_FORWARD, FIRST_REVERSE, FIRST_WRITTEN, SECOND_FORWARD, SECOND_REVERSE, SECOND_WRITTEN,
     TWO_STEPS, Written, source_of,
 };
-use fq_text::Encoding;
+use fq_text::{Encoding, ScriptFeed};
 use fq_trim::Steps;
 use fq_work::{Cause, Done, Gate, Reply, WorkEnds, Worked, work, work_tallied};
 use std::alloc::Global;
@@ -69,6 +69,42 @@ pub(super) struct Case<'a> {
     pub(super) used: u64,
 }
 
+// The next pair.
+fn next(pairs: &mut PairSource<ScriptFeed, ScriptFeed>) -> Result<Option<Pair>, Fail> {
+    Ok(pairs.next()?)
+}
+
+// Appends a copy of a pair.
+fn push(rt: &impl Abort, block: &mut Block, pair: &Pair) -> Result<(), Fail> {
+    assert!(rt; pair.encoding() == block.encoding());
+    assert!(rt; block.len() < 65_536);
+    block.push(pair)?;
+    Ok(())
+}
+
+// Appends the next pair, if there is one.
+fn push_next(
+    rt: &impl Abort,
+    pairs: &mut PairSource<ScriptFeed, ScriptFeed>,
+    block: &mut Block,
+) -> Result<(), Fail> {
+    match next(pairs)? {
+        Some(pair) => push(rt, block, &pair),
+        None => Ok(()),
+    }
+}
+
+// The pairs of two texts, their names checked.
+fn pairs_of(
+    alloc: Global,
+    forward: &[u8],
+    reverse: &[u8],
+) -> Result<PairSource<ScriptFeed, ScriptFeed>, Fail> {
+    let forward = source_of(alloc, forward, Encoding::Sanger)?;
+    let reverse = source_of(alloc, reverse, Encoding::Sanger)?;
+    Ok(PairSource::new(forward, reverse, true))
+}
+
 // A block of the pairs of two texts, which have two at most.
 pub(super) fn block_of(
     rt: &impl Abort,
@@ -77,18 +113,10 @@ pub(super) fn block_of(
     forward: &[u8],
     reverse: &[u8],
 ) -> Result<Block, Fail> {
-    let forward = source_of(alloc, forward, Encoding::Sanger)?;
-    let reverse = source_of(alloc, reverse, Encoding::Sanger)?;
-    let mut pairs = PairSource::new(forward, reverse, true);
+    let mut pairs = pairs_of(alloc, forward, reverse)?;
     let mut block = Block::new(alloc, number, Encoding::Sanger);
     for _ in 0..2 {
-        let Some(pair) = pairs.next()? else {
-            break;
-        };
-        let encoding = pair.encoding();
-        assert!(rt; encoding == block.encoding());
-        assert!(rt; block.len() < 65_536);
-        block.push(&pair)?;
+        push_next(rt, &mut pairs, &mut block)?;
     }
     Ok(block)
 }
@@ -222,20 +250,57 @@ fn assert_replies(rt: &impl Abort, replies: &mut Rx<Reply>, case: Case<'_>) -> R
     ensures closed { OnOk result (replies.new.marked ≡ true) }
 {
     for (number, pair) in case.pairs.iter().take(case.answered).enumerate() {
-        let reply = take_reply(replies)?;
-        assert_done(rt, reply, number as u64, pair, case.tallied);
+        assert_answered(rt, replies, number as u64, pair, case.tallied)?;
     }
     if case.cause.is_some() {
-        let reply = take_reply(replies)?;
-        assert!(rt; matches!(reply, Reply::Stop(why) if Some(why) == case.cause));
+        assert_stopped(rt, replies, case.cause)?;
     }
     take_mark(replies)
+}
+
+// The next reply answers the block of one pair that has this number.
+fn assert_answered(
+    rt: &impl Abort,
+    replies: &mut Rx<Reply>,
+    number: u64,
+    pair: &Sample,
+    tallied: bool,
+) -> Result<(), Fail>
+    ensures { replies.new.name ≡ replies.old.name }
+{
+    let reply = take_reply(replies)?;
+    assert_done(rt, reply, number, pair, tallied);
+    Ok(())
+}
+
+// The next reply is a stop for this cause.
+fn assert_stopped(
+    rt: &impl Abort,
+    replies: &mut Rx<Reply>,
+    cause: Option<Cause>,
+) -> Result<(), Fail>
+    ensures { replies.new.name ≡ replies.old.name }
+{
+    let reply = take_reply(replies)?;
+    assert!(rt; is_stop(&reply, cause));
+    Ok(())
+}
+
+fn is_stop(reply: &Reply, cause: Option<Cause>) -> bool {
+    matches!(reply, Reply::Stop(why) if Some(*why) == cause)
+}
+
+// What comes next.
+fn take(replies: &mut Rx<Reply>) -> Taken<Reply>
+    ensures { replies.new.name ≡ replies.old.name }
+{
+    replies.take()
 }
 
 fn take_reply(replies: &mut Rx<Reply>) -> Result<Reply, Fail>
     ensures { replies.new.name ≡ replies.old.name }
 {
-    match replies.take() {
+    match take(replies) {
         Taken::Item(reply) => Ok(reply),
         Taken::Empty => Err("nothing came")?,
         Taken::Closed => Err("the lane is closed")?,
@@ -261,13 +326,16 @@ fn reads_tallied(done: &Done) -> Option<u64> {
 
 fn assert_done(rt: &impl Abort, reply: Reply, number: u64, pair: &Sample, tallied: bool) {
     match reply {
-        Reply::Done(done) => {
-            assert_eq!(rt; done.number, number);
-            assert_written(rt, &done.texts, &pair.written, pair.counts);
-            assert_eq!(rt; reads_tallied(&done), tallied.then_some(1));
-        }
+        Reply::Done(done) => assert_made(rt, &done, number, pair, tallied),
         Reply::Stop(cause) => panic!(rt; "stopped by {cause:?}"),
     }
+}
+
+// What was made of the block of one pair that has this number.
+fn assert_made(rt: &impl Abort, done: &Done, number: u64, pair: &Sample, tallied: bool) {
+    assert_eq!(rt; done.number, number);
+    assert_written(rt, &done.texts, &pair.written, pair.counts);
+    assert_eq!(rt; reads_tallied(done), tallied.then_some(1));
 }
 
 pub(super) fn assert_written(rt: &impl Abort, texts: &Texts, want: &Written, counts: Counts) {
