@@ -1,6 +1,6 @@
 //! A forward text that breaks off.
 
-use super::frame::{PLAIN, Way, pairs, trimmed};
+use super::frame::{Left, PLAIN, Way, trimmed};
 use fq_pair::*;
 use fq_samples::{SEVEN_FORWARD, SEVEN_REVERSE, SEVEN_STEPS, SEVEN_WRITTEN};
 use fq_text::TextFault;
@@ -13,6 +13,9 @@ const RECORD: usize = 18;
 
 /// The bytes of the two lines of a pair in the log.
 const LOG_OF_A_PAIR: usize = 22;
+
+// How many pairs there are, the fault behind them, and their log.
+type Wanted = (u64, Option<InputFault>, &'static [u8]);
 
 // How many pairs a forward text of so many bytes gives, with the seven pairs' reverse text whole, and the fault behind them.
 fn pairs_and_fault(bytes: usize) -> (u64, Option<InputFault>) {
@@ -38,18 +41,26 @@ fn pairs_and_fault(bytes: usize) -> (u64, Option<InputFault>) {
     }
 }
 
+// The same, with the log of these pairs.
+fn wanted(bytes: usize) -> Result<Wanted, Fail> {
+    let (pairs, fault) = pairs_and_fault(bytes);
+    let log = SEVEN_WRITTEN
+        .log
+        .get(..(pairs as usize).saturating_mul(LOG_OF_A_PAIR));
+    Ok((pairs, fault, log.ok_or("a log")?))
+}
+
+fn assert_cut(rt: &impl Abort, left: &Left, bytes: usize, wanted: Wanted) {
+    let pairs = left.texts.counts().pairs;
+    let found = (pairs, left.fault, left.texts.text(Out::Log));
+    assert_eq!(rt; found, wanted, "{bytes} bytes");
+}
+
 fn check(rt: &impl Abort, alloc: Global, chunk: usize, bytes: usize) -> Result<(), Fail> {
     let forward = SEVEN_FORWARD.get(..bytes).ok_or("a text")?;
     let way = Way { chunk, ..PLAIN };
-    let source = pairs(rt, alloc, forward, SEVEN_REVERSE, way)?;
-    let (texts, fault) = trimmed(rt, alloc, source, SEVEN_STEPS)?;
-    let (wanted, wanted_fault) = pairs_and_fault(bytes);
-    assert_eq!(rt; fault, wanted_fault, "{bytes} bytes");
-    assert_eq!(rt; texts.counts().pairs, wanted, "{bytes} bytes");
-    let log = SEVEN_WRITTEN
-        .log
-        .get(..(wanted as usize).saturating_mul(LOG_OF_A_PAIR));
-    assert_eq!(rt; texts.text(Out::Log), log.ok_or("a log")?, "{bytes} bytes");
+    let left = trimmed(rt, alloc, forward, SEVEN_REVERSE, way, SEVEN_STEPS)?;
+    assert_cut(rt, &left, bytes, wanted(bytes)?);
     Ok(())
 }
 

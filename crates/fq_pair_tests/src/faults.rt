@@ -1,6 +1,8 @@
 //! Faults of two texts, in their order.
 
-use super::frame::{PLAIN, UNCHECKED, Way, failing_pairs, failures, next, pairs, trimmed};
+use super::frame::{
+    Left, PLAIN, Pairs, UNCHECKED, Way, assert_text, failing_pairs, failures, next, trimmed,
+};
 use fq_pair::*;
 use fq_samples::{FIVE_REVERSE, SIX_FORWARD, TWO_FORWARD, TWO_REVERSE};
 use fq_text::TextFault;
@@ -96,18 +98,21 @@ const ROWS: [Row; 10] = [
     ),
 ];
 
-fn check(rt: &impl Abort, alloc: Global, row: Row) -> Result<(), Fail> {
-    let (forward, reverse, way, want, before) = row;
-    let source = pairs(rt, alloc, forward, reverse, way)?;
-    let (texts, fault) = trimmed(rt, alloc, source, &["LEADING:3"])?;
-    assert_eq!(rt; fault, Some(want));
-    assert_eq!(rt; texts.counts().pairs, before, "before {want}");
+fn assert_fault(rt: &impl Abort, left: &Left, fault: InputFault, before: u64) {
+    let found = (left.texts.counts().pairs, left.fault);
+    assert_eq!(rt; found, (before, Some(fault)));
+}
+
+fn check(rt: &impl Abort, alloc: Global, row: &Row) -> Result<(), Fail> {
+    let (forward, reverse, way, want, before) = *row;
+    let left = trimmed(rt, alloc, forward, reverse, way, &["LEADING:3"])?;
+    assert_fault(rt, &left, want, before);
     Ok(())
 }
 
 #[test]
 fn faults_in_their_order(rt: HostRuntime) -> Result<(), Fail> {
-    for row in ROWS {
+    for row in &ROWS {
         check(&rt, rt.alloc(), row)?;
     }
     Ok(())
@@ -115,17 +120,30 @@ fn faults_in_their_order(rt: HostRuntime) -> Result<(), Fail> {
 
 #[test]
 fn unchecked_names(rt: HostRuntime) -> Result<(), Fail> {
-    let source = pairs(
+    let left = trimmed(
         &rt,
         rt.alloc(),
         b"@b/1\nA\n+\nI\n",
         b"@c/2\nA\n+\nI\n",
         UNCHECKED,
+        &["LEADING:3"],
     )?;
-    let (texts, fault) = trimmed(&rt, rt.alloc(), source, &["LEADING:3"])?;
-    assert_eq!(rt; fault, None);
-    assert_eq!(rt; texts.text(Out::Log), b"b 1 0 1 0\nc 1 0 1 0\n".as_slice());
+    assert_text(&rt, &left, Out::Log, b"b 1 0 1 0\nc 1 0 1 0\n");
     Ok(())
+}
+
+// Whether a further pair comes.
+fn comes(pairs: &mut Pairs) -> Result<bool, InputFault> {
+    Ok(next(pairs)?.is_some())
+}
+
+// So many pairs come before the forward text's fault.
+fn assert_forward_fault(rt: &impl Abort, pairs: &mut Pairs, before: u64) {
+    for _ in 0..before {
+        assert_eq!(rt; comes(pairs), Ok(true));
+    }
+    let fault = InputFault::Text(Side::Forward, TextFault::Read);
+    assert_eq!(rt; comes(pairs), Err(fault));
 }
 
 // Both feeds fail at the same read: the forward text's fault is answered, and the reverse text isn't read.
@@ -138,15 +156,7 @@ fn the_forward_text_is_read_first(rt: HostRuntime) -> Result<(), Fail> {
             ..PLAIN
         };
         let mut pairs = failing_pairs(&rt, rt.alloc(), TWO_FORWARD, TWO_REVERSE, way, fail_at)?;
-        for _ in 0..before {
-            assert!(rt; matches!(next(&mut pairs), Ok(Some(_))));
-        }
-        assert!(rt;
-            matches!(
-                next(&mut pairs),
-                Err(InputFault::Text(Side::Forward, TextFault::Read))
-            )
-        );
+        assert_forward_fault(&rt, &mut pairs, before);
         assert_eq!(rt; failures(pairs), (1, 0));
     }
     Ok(())

@@ -1,7 +1,7 @@
 //! How the tests read texts, and what they compare. The contracts behind what they call are not passed on, so no test is proved with
 //! what it doesn't need.
 
-ghost use Rattle.std.specs.Prelude.{◌≡◌, IfOk};
+ghost use Rattle.std.specs.Prelude.{◌≡◌, true, Ok, IfOk, IsSome};
 ghost use Rattle.fq_pair.specs.PairSources.{IsUnasked};
 
 use fq_pair::*;
@@ -14,9 +14,19 @@ use std::test::Fail;
 
 const LONG: u64 = 1 << 40;
 
+/// Pairs of two texts. Functions hand a source on in a `Box`, and what is written too: these have so many parts that each function that
+/// owns one on its stack has a long proof.
 pub type Pairs = PairSource<ScriptFeed, ScriptFeed>;
 
 pub type Mixed = MixedSource<ScriptFeed>;
+
+/// What is written of pairs.
+#[derive(Drop)]
+pub struct Left {
+    pub texts: Texts,
+    /// The fault behind the pairs.
+    pub fault: Option<InputFault>,
+}
 
 /// How pairs come: given whole, or lent.
 #[derive(Clone, Copy)]
@@ -75,7 +85,7 @@ pub fn pairs(
     forward: &[u8],
     reverse: &[u8],
     way: Way,
-) -> Result<Pairs, Fail> {
+) -> Result<Box<Pairs>, Fail> {
     failing_pairs(rt, alloc, forward, reverse, way, 0)
 }
 
@@ -87,16 +97,23 @@ pub fn failing_pairs(
     reverse: &[u8],
     way: Way,
     reverse_fail_at: u64,
-) -> Result<Pairs, Fail> {
+) -> Result<Box<Pairs>, Fail> {
     let forward = source(rt, alloc, forward, way.fail_at, way)?;
     let reverse = source(rt, alloc, reverse, reverse_fail_at, way)?;
-    Ok(PairSource::new(forward, reverse, way.check_names))
+    let pairs = PairSource::new(forward, reverse, way.check_names);
+    Ok(Box::new(alloc, pairs)?)
 }
 
 /// Pairs of an interleaved text.
-pub fn interleaved(rt: &impl Abort, alloc: Global, text: &[u8], way: Way) -> Result<Mixed, Fail> {
+pub fn interleaved(
+    rt: &impl Abort,
+    alloc: Global,
+    text: &[u8],
+    way: Way,
+) -> Result<Box<Mixed>, Fail> {
     let source = source(rt, alloc, text, way.fail_at, way)?;
-    Ok(MixedSource::new(source, way.check_names))
+    let pairs = MixedSource::new(source, way.check_names);
+    Ok(Box::new(alloc, pairs)?)
 }
 
 /// The next pair.
@@ -104,9 +121,16 @@ pub fn next(pairs: &mut Pairs) -> Result<Option<Pair>, InputFault> {
     pairs.next()
 }
 
+// Goes on to the next pair, which is in hand then.
+fn advance(pairs: &mut Pairs) -> Result<bool, InputFault>
+    ensures { result ≡ Ok true → IsSome pairs.new.current }
+{
+    pairs.advance()
+}
+
 /// How often the feeds failed.
-pub fn failures(pairs: Pairs) -> (u64, u64) {
-    let (forward, reverse) = pairs.into_feeds();
+pub fn failures(pairs: Box<Pairs>) -> (u64, u64) {
+    let (forward, reverse) = Box::into_inner(pairs).into_feeds();
     (forward.failures(), reverse.failures())
 }
 
@@ -123,6 +147,18 @@ pub fn add(
     Ok(())
 }
 
+// Adds a pair that was given. It says that a pair came.
+fn add_pair(
+    rt: &impl Abort,
+    texts: &mut Texts,
+    pair: &Pair,
+    steps: &Steps,
+) -> Result<Result<bool, InputFault>, Fail> {
+    assert_eq!(rt; pair.encoding(), pair.view().reverse.encoding());
+    add(rt, texts, pair.view(), steps)?;
+    Ok(Ok(true))
+}
+
 // Adds the pair that is given next, where there is one.
 fn add_given(
     rt: &impl Abort,
@@ -131,11 +167,7 @@ fn add_given(
     steps: &Steps,
 ) -> Result<Result<bool, InputFault>, Fail> {
     match next(pairs) {
-        Ok(Some(pair)) => {
-            assert_eq!(rt; pair.encoding(), pair.view().reverse.encoding());
-            add(rt, texts, pair.view(), steps)?;
-            Ok(Ok(true))
-        }
+        Ok(Some(pair)) => add_pair(rt, texts, &pair, steps),
         Ok(None) => Ok(Ok(false)),
         Err(fault) => Ok(Err(fault)),
     }
@@ -148,7 +180,7 @@ fn add_lent(
     pairs: &mut Pairs,
     steps: &Steps,
 ) -> Result<Result<bool, InputFault>, Fail> {
-    let answer = pairs.advance();
+    let answer = advance(pairs);
     if let Ok(true) = answer {
         add(rt, texts, pairs.pair(), steps)?;
     }
@@ -195,36 +227,78 @@ pub fn assert_last(rt: &impl Abort, answer: Result<bool, InputFault>, fault: Opt
     }
 }
 
-/// The texts of the pairs, in this form, and the fault behind them. The last answer is the answer from then on.
+// Adds the pairs to the texts. The fault behind them is answered, and the last answer is the answer from then on.
+fn add_to_end(
+    rt: &impl Abort,
+    texts: &mut Texts,
+    pairs: &mut Pairs,
+    steps: &Steps,
+    form: Form,
+) -> Result<Option<InputFault>, Fail> {
+    let fault = add_all(rt, texts, pairs, steps, form)?;
+    assert_last(rt, add_next(rt, texts, pairs, steps, form)?, fault);
+    Ok(fault)
+}
+
+// What is written of no pairs.
+fn nothing(alloc: Global) -> Result<Box<Left>, Fail> {
+    let left = Left {
+        texts: Texts::new(alloc),
+        fault: None,
+    };
+    Ok(Box::new(alloc, left)?)
+}
+
+// Trims the pairs to their end, in this form.
+fn trim(
+    rt: &impl Abort,
+    form: Form,
+    pairs: &mut Pairs,
+    words: &[&str],
+    left: &mut Left,
+) -> Result<(), Fail> {
+    let steps = Steps::parse(words)?;
+    left.fault = add_to_end(rt, &mut left.texts, pairs, &steps, form)?;
+    Ok(())
+}
+
+/// What is written of the pairs of two texts, which come in this form.
 pub fn trimmed_in(
     rt: &impl Abort,
     alloc: Global,
     form: Form,
-    mut pairs: Pairs,
+    forward: &[u8],
+    reverse: &[u8],
+    way: Way,
     words: &[&str],
-) -> Result<(Texts, Option<InputFault>), Fail> {
-    let steps = Steps::parse(words)?;
-    let mut texts = Texts::new(alloc);
-    let fault = add_all(rt, &mut texts, &mut pairs, &steps, form)?;
-    let again = add_next(rt, &mut texts, &mut pairs, &steps, form)?;
-    assert_last(rt, again, fault);
+) -> Result<Box<Left>, Fail> {
+    let mut pairs = pairs(rt, alloc, forward, reverse, way)?;
+    let mut left = nothing(alloc)?;
+    trim(rt, form, &mut pairs, words, &mut left)?;
     let (forward, reverse) = failures(pairs);
     assert!(rt; forward <= 1 && reverse == 0);
-    Ok((texts, fault))
+    Ok(left)
 }
 
 /// The same of pairs that are given.
 pub fn trimmed(
     rt: &impl Abort,
     alloc: Global,
-    pairs: Pairs,
+    forward: &[u8],
+    reverse: &[u8],
+    way: Way,
     words: &[&str],
-) -> Result<(Texts, Option<InputFault>), Fail> {
-    trimmed_in(rt, alloc, Form::Given, pairs, words)
+) -> Result<Box<Left>, Fail> {
+    trimmed_in(rt, alloc, Form::Given, forward, reverse, way, words)
 }
 
-/// The texts are those that are to be written, and the counts are these.
-pub fn assert_written(rt: &impl Abort, texts: &Texts, wanted: &Written, counts: Counts) {
+/// This is written to one output.
+pub fn assert_output(rt: &impl Abort, texts: &Texts, out: Out, text: &[u8]) {
+    assert_eq!(rt; texts.text(out), text, "{out}");
+}
+
+// The texts are those that are to be written, and the counts are these.
+fn assert_written(rt: &impl Abort, texts: &Texts, wanted: &Written, counts: Counts) {
     for (out, text) in [
         (Out::ForwardPaired, wanted.forward_paired),
         (Out::ForwardUnpaired, wanted.forward_unpaired),
@@ -232,7 +306,19 @@ pub fn assert_written(rt: &impl Abort, texts: &Texts, wanted: &Written, counts: 
         (Out::ReverseUnpaired, wanted.reverse_unpaired),
         (Out::Log, wanted.log),
     ] {
-        assert_eq!(rt; texts.text(out), text, "{out}");
+        assert_output(rt, texts, out, text);
     }
     assert_eq!(rt; texts.counts(), counts);
+}
+
+/// There is no fault behind the pairs, and their texts and counts are these.
+pub fn assert_left(rt: &impl Abort, left: &Left, wanted: &Written, counts: Counts) {
+    assert_eq!(rt; left.fault, None);
+    assert_written(rt, &left.texts, wanted, counts);
+}
+
+/// There is no fault behind the pairs, and this is what is written of them to one output.
+pub fn assert_text(rt: &impl Abort, left: &Left, out: Out, wanted: &[u8]) {
+    assert_eq!(rt; left.fault, None);
+    assert_output(rt, &left.texts, out, wanted);
 }

@@ -1,5 +1,7 @@
 //! Pairs out of an interleaved text.
 
+ghost use Rattle.std.specs.Prelude.{◌≡◌, true, Ok, IsSome};
+
 use super::frame::{Form, Mixed, PLAIN, UNCHECKED, Way, assert_last, interleaved, pairs};
 use fq_pair::*;
 use fq_samples::{ELEVEN_INTERLEAVED, TWO_FORWARD, TWO_INTERLEAVED, TWO_REVERSE};
@@ -27,16 +29,26 @@ fn next<S: PairReader>(pairs: &mut S) -> Result<Option<Pair>, InputFault> {
     pairs.next_pair()
 }
 
+// Goes on to the next pair, which is in hand then.
+fn advance<S: PairReader>(pairs: &mut S) -> Result<bool, InputFault>
+    ensures { result ≡ Ok true → IsSome (S.state pairs.new).current }
+{
+    pairs.advance_pair()
+}
+
+// Appends the two titles of a pair that was given. It says that a pair came.
+fn push_pair(titles: &mut Vec<u8>, pair: &Pair) -> Result<Result<bool, InputFault>, Fail> {
+    push_titles(titles, pair.view())?;
+    Ok(Ok(true))
+}
+
 // Appends the two titles of the pair that is given next, where there is one.
 fn push_given<S: PairReader>(
     pairs: &mut S,
     titles: &mut Vec<u8>,
 ) -> Result<Result<bool, InputFault>, Fail> {
     match next(pairs) {
-        Ok(Some(pair)) => {
-            push_titles(titles, pair.view())?;
-            Ok(Ok(true))
-        }
+        Ok(Some(pair)) => push_pair(titles, &pair),
         Ok(None) => Ok(Ok(false)),
         Err(fault) => Ok(Err(fault)),
     }
@@ -47,7 +59,7 @@ fn push_lent<S: PairReader>(
     pairs: &mut S,
     titles: &mut Vec<u8>,
 ) -> Result<Result<bool, InputFault>, Fail> {
-    let answer = pairs.advance_pair();
+    let answer = advance(pairs);
     if let Ok(true) = answer {
         push_titles(titles, pairs.pair_in_hand())?;
     }
@@ -108,53 +120,77 @@ fn ask<S: PairReader>(
     Ok((titles, fault))
 }
 
-// How often the feed failed.
-fn failures(pairs: Mixed) -> u64 {
-    pairs.into_feed().failures()
-}
-
-fn check_in(rt: &impl Abort, alloc: Global, row: Row, form: Form) -> Result<(), Fail> {
-    let (text, way, want, fault) = row;
-    let mut pairs = interleaved(rt, alloc, text, way)?;
-    let (titles, met) = ask(rt, alloc, &mut pairs, form)?;
-    assert_eq!(rt; titles.as_slice(), want);
+// The pairs have these titles, and this is the fault behind them.
+fn assert_asked<S: PairReader>(
+    rt: &impl Abort,
+    alloc: Global,
+    pairs: &mut S,
+    form: Form,
+    wanted: &[u8],
+    fault: Option<InputFault>,
+) -> Result<(), Fail> {
+    let (titles, met) = ask(rt, alloc, pairs, form)?;
+    assert_eq!(rt; titles.as_slice(), wanted);
     assert_eq!(rt; met, fault);
-    let failed = u64::from(matches!(fault, Some(InputFault::Text(_, TextFault::Read))));
-    assert_eq!(rt; failures(pairs), failed);
     Ok(())
 }
 
-fn check(rt: &impl Abort, alloc: Global, row: Row) -> Result<(), Fail> {
+// How often the feed failed.
+fn failures(pairs: Box<Mixed>) -> u64 {
+    Box::into_inner(pairs).into_feed().failures()
+}
+
+// How often the feed fails before this fault.
+fn failures_before(fault: Option<InputFault>) -> u64 {
+    u64::from(matches!(fault, Some(InputFault::Text(_, TextFault::Read))))
+}
+
+fn check_in(rt: &impl Abort, alloc: Global, row: &Row, form: Form) -> Result<(), Fail> {
+    let (text, way, wanted, fault) = *row;
+    let mut pairs = interleaved(rt, alloc, text, way)?;
+    assert_asked(rt, alloc, &mut *pairs, form, wanted, fault)?;
+    assert_eq!(rt; failures(pairs), failures_before(fault));
+    Ok(())
+}
+
+fn check(rt: &impl Abort, alloc: Global, row: &Row) -> Result<(), Fail> {
     check_in(rt, alloc, row, Form::Given)?;
     check_in(rt, alloc, row, Form::Lent)
+}
+
+fn check_all(rt: &impl Abort, alloc: Global, rows: &[Row]) -> Result<(), Fail> {
+    for row in rows {
+        check(rt, alloc, row)?;
+    }
+    Ok(())
 }
 
 #[test]
 fn two_texts_asked_alike(rt: HostRuntime) -> Result<(), Fail> {
     let mut pairs = pairs(&rt, rt.alloc(), TWO_FORWARD, TWO_REVERSE, PLAIN)?;
-    let (titles, fault) = ask(&rt, rt.alloc(), &mut pairs, Form::Given)?;
-    assert_eq!(rt; titles.as_slice(), b"p1/1 p1/2\np2/1 p2/2\n".as_slice());
-    assert_eq!(rt; fault, None);
-    Ok(())
+    assert_asked(
+        &rt,
+        rt.alloc(),
+        &mut *pairs,
+        Form::Given,
+        b"p1/1 p1/2\np2/1 p2/2\n",
+        None,
+    )
 }
 
 #[test]
 fn interleaved_mates(rt: HostRuntime) -> Result<(), Fail> {
     let both: &[u8] = b"p1/1 p1/2\np2/1 p2/2\n";
     for chunk in 1..8usize {
-        check(
-            &rt,
-            rt.alloc(),
-            (TWO_INTERLEAVED, Way { chunk, ..PLAIN }, both, None),
-        )?;
+        let way = Way { chunk, ..PLAIN };
+        check(&rt, rt.alloc(), &(TWO_INTERLEAVED, way, both, None))?;
     }
-    check(&rt, rt.alloc(), (b"", PLAIN, b"", None))?;
-    check(&rt, rt.alloc(), (b"\n\r\n", PLAIN, b"", None))?;
-    check(
-        &rt,
-        rt.alloc(),
+    let rows: [Row; 3] = [
+        (b"", PLAIN, b"", None),
+        (b"\n\r\n", PLAIN, b"", None),
         (OTHER_NAMES, UNCHECKED, b"a/1 a/2 x\nb/1 c/2\n", None),
-    )
+    ];
+    check_all(&rt, rt.alloc(), &rows)
 }
 
 fn missing(number: u64) -> Option<InputFault> {
@@ -190,10 +226,7 @@ fn a_mate_is_missing_or_has_another_name(rt: HostRuntime) -> Result<(), Fail> {
             Some(InputFault::NamesDiffer(1)),
         ),
     ];
-    for row in rows {
-        check(&rt, rt.alloc(), row)?;
-    }
-    Ok(())
+    check_all(&rt, rt.alloc(), &rows)
 }
 
 #[test]
@@ -237,10 +270,7 @@ fn a_fault_has_the_side_and_the_number_of_its_record(rt: HostRuntime) -> Result<
             reverse(TextFault::QualityShort(4)),
         ),
     ];
-    for row in rows {
-        check(&rt, rt.alloc(), row)?;
-    }
-    Ok(())
+    check_all(&rt, rt.alloc(), &rows)
 }
 
 // Each read gives one record, and one of them fails.
@@ -283,8 +313,5 @@ fn a_text_that_cannot_be_read_on(rt: HostRuntime) -> Result<(), Fail> {
             forward(TextFault::Endless),
         ),
     ];
-    for row in rows {
-        check(&rt, rt.alloc(), row)?;
-    }
-    Ok(())
+    check_all(&rt, rt.alloc(), &rows)
 }

@@ -1,6 +1,8 @@
 //! Pairs that are lent.
 
-use super::frame::{Form, PLAIN, UNCHECKED, Way, assert_written, pairs, trimmed, trimmed_in};
+use super::frame::{
+    Form, Left, PLAIN, UNCHECKED, Way, assert_left, assert_output, trimmed, trimmed_in,
+};
 use fq_pair::*;
 use fq_samples::{SEVEN_FORWARD, SEVEN_REVERSE, TWO_FORWARD, TWO_REVERSE, TWO_STEPS, TWO_WRITTEN};
 use std::alloc::Global;
@@ -24,6 +26,20 @@ const ROWS: [(&[u8], &[u8], Way); 8] = [
     ),
 ];
 
+fn assert_alike(rt: &impl Abort, lent: &Left, given: &Left) {
+    assert_eq!(rt; lent.fault, given.fault);
+    assert_eq!(rt; lent.texts.counts(), given.texts.counts());
+    for out in [
+        Out::ForwardPaired,
+        Out::ForwardUnpaired,
+        Out::ReversePaired,
+        Out::ReverseUnpaired,
+        Out::Log,
+    ] {
+        assert_output(rt, &lent.texts, out, given.texts.text(out));
+    }
+}
+
 // The pairs are lent as they are given.
 fn check(
     rt: &impl Abort,
@@ -33,43 +49,37 @@ fn check(
     way: Way,
 ) -> Result<(), Fail> {
     let steps = ["LEADING:3", "TRAILING:3", "MINLEN:2"];
-    let given = pairs(rt, alloc, forward, reverse, way)?;
-    let (given, why) = trimmed(rt, alloc, given, &steps)?;
-    let lent = pairs(rt, alloc, forward, reverse, way)?;
-    let (lent, fault) = trimmed_in(rt, alloc, Form::Lent, lent, &steps)?;
-    assert_eq!(rt; fault, why);
-    assert_eq!(rt; lent.counts(), given.counts());
-    for out in [
-        Out::ForwardPaired,
-        Out::ForwardUnpaired,
-        Out::ReversePaired,
-        Out::ReverseUnpaired,
-        Out::Log,
-    ] {
-        assert!(rt; lent.text(out) == given.text(out), "{out}");
-    }
+    let given = trimmed(rt, alloc, forward, reverse, way, &steps)?;
+    let lent = trimmed_in(rt, alloc, Form::Lent, forward, reverse, way, &steps)?;
+    assert_alike(rt, &lent, &given);
     Ok(())
 }
 
 #[test]
 fn lent_pairs_are_those_that_are_given(rt: HostRuntime) -> Result<(), Fail> {
-    for (forward, reverse, way) in ROWS {
-        check(&rt, rt.alloc(), forward, reverse, way)?;
+    for (forward, reverse, way) in &ROWS {
+        check(&rt, rt.alloc(), forward, reverse, *way)?;
     }
     Ok(())
 }
 
 #[test]
 fn two_pairs_lent(rt: HostRuntime) -> Result<(), Fail> {
-    let source = pairs(&rt, rt.alloc(), TWO_FORWARD, TWO_REVERSE, PLAIN)?;
-    let (texts, fault) = trimmed_in(&rt, rt.alloc(), Form::Lent, source, TWO_STEPS)?;
+    let left = trimmed_in(
+        &rt,
+        rt.alloc(),
+        Form::Lent,
+        TWO_FORWARD,
+        TWO_REVERSE,
+        PLAIN,
+        TWO_STEPS,
+    )?;
     let counts = Counts {
         pairs: 2,
         both: 1,
         forward_only: 1,
         ..Counts::ZERO
     };
-    assert_eq!(rt; fault, None);
-    assert_written(&rt, &texts, &TWO_WRITTEN, counts);
+    assert_left(&rt, &left, &TWO_WRITTEN, counts);
     Ok(())
 }

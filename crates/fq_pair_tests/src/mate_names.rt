@@ -24,7 +24,7 @@ const TITLES: [(&[u8], &[u8], bool); 18] = [
 
 #[test]
 fn names_of_mates_are_told_by_the_fronts_of_titles(rt: HostRuntime) {
-    for (forward, reverse, one_name) in TITLES {
-        assert_eq!(rt; names_match(forward, reverse), one_name);
+    for (forward, reverse, one_name) in &TITLES {
+        assert_eq!(rt; names_match(forward, reverse), *one_name);
     }
 }

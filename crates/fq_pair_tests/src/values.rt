@@ -2,7 +2,14 @@
 
 use fq_pair::*;
 use fq_text::TextFault;
+use std::alloc::Global;
+use std::fmt;
+use std::process::Abort;
 use std::test::Fail;
+
+fn assert_name(rt: &impl Abort, title: &[u8], side: Side, wanted: &[u8]) {
+    assert_eq!(rt; name_of(title, side), wanted);
+}
 
 #[test]
 fn names(rt: HostRuntime) {
@@ -17,45 +24,62 @@ fn names(rt: HostRuntime) {
         (b"", Side::Forward, b""),
         (b"a/2 x", Side::Reverse, b"a"),
     ];
-    for (title, side, want) in rows {
-        assert_eq!(rt; name_of(title, side), want);
+    for (title, side, wanted) in &rows {
+        assert_name(&rt, title, *side, wanted);
     }
     assert!(rt; names_match(b"M1:7:FC 1:N:0:ACGT", b"M1:7:FC 2:N:0:ACGT"));
     assert!(rt; !names_match(b"b/1", b"c/2"));
 }
 
+fn assert_printed<T: fmt::Display>(
+    rt: &impl Abort,
+    alloc: Global,
+    value: &T,
+    wanted: &str,
+) -> Result<(), Fail> {
+    let text = format!(in alloc; "{value}")?;
+    assert_eq!(rt; text.as_str(), wanted);
+    Ok(())
+}
+
+fn assert_all_printed<T: fmt::Display>(
+    rt: &impl Abort,
+    alloc: Global,
+    rows: &[(T, &str)],
+) -> Result<(), Fail> {
+    for (value, wanted) in rows {
+        assert_printed(rt, alloc, value, wanted)?;
+    }
+    Ok(())
+}
+
 #[test]
 fn printed(rt: HostRuntime) -> Result<(), Fail> {
-    let names = [
+    let outs = [
         (Out::ForwardPaired, "forward paired"),
         (Out::ForwardUnpaired, "forward unpaired"),
         (Out::ReversePaired, "reverse paired"),
         (Out::ReverseUnpaired, "reverse unpaired"),
         (Out::Log, "trim log"),
     ];
-    for (out, name) in names {
-        assert_eq!(rt; format!(in rt.alloc(); "{out}")?.as_str(), name);
-    }
-    assert_eq!(rt;
-        format!(in rt.alloc(); "{} {}", Side::Forward, Side::Reverse)?.as_str(),
-        "forward reverse"
-    );
-    let fault = InputFault::Text(Side::Reverse, TextFault::NoPlus(2));
-    assert_eq!(rt;
-        format!(in rt.alloc(); "{fault}")?.as_str(),
-        "reverse input: record 2: the text ends before the + line"
-    );
-    let fault = InputFault::MateMissing(Side::Forward, 6);
-    assert_eq!(rt;
-        format!(in rt.alloc(); "{fault}")?.as_str(),
-        "forward input: record 6 is missing"
-    );
-    let fault = InputFault::NamesDiffer(3);
-    assert_eq!(rt;
-        format!(in rt.alloc(); "{fault}")?.as_str(),
-        "record 3: the names of the mates differ"
-    );
-    Ok(())
+    assert_all_printed(&rt, rt.alloc(), &outs)?;
+    let sides = [(Side::Forward, "forward"), (Side::Reverse, "reverse")];
+    assert_all_printed(&rt, rt.alloc(), &sides)?;
+    let faults = [
+        (
+            InputFault::Text(Side::Reverse, TextFault::NoPlus(2)),
+            "reverse input: record 2: the text ends before the + line",
+        ),
+        (
+            InputFault::MateMissing(Side::Forward, 6),
+            "forward input: record 6 is missing",
+        ),
+        (
+            InputFault::NamesDiffer(3),
+            "record 3: the names of the mates differ",
+        ),
+    ];
+    assert_all_printed(&rt, rt.alloc(), &faults)
 }
 
 #[test]

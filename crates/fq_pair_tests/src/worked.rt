@@ -1,12 +1,14 @@
 //! Texts and counts of pairs that were worked by hand.
 
-use super::frame::{PLAIN, Way, assert_written, pairs, trimmed};
+use super::frame::{Left, PLAIN, Way, assert_left, assert_text, trimmed};
 use fq_pair::*;
 use fq_samples::{
     SEVEN_FORWARD, SEVEN_REVERSE, SEVEN_STEPS, SEVEN_WRITTEN, TWO_FORWARD, TWO_REVERSE, TWO_STEPS,
     TWO_WRITTEN, Written,
 };
 use fq_text::Encoding;
+use std::alloc::Global;
+use std::process::Abort;
 use std::test::Fail;
 
 const NOTHING: Written = Written {
@@ -16,6 +18,13 @@ const NOTHING: Written = Written {
     reverse_unpaired: b"",
     log: b"",
 };
+
+// The texts of the two pairs, and none when they are cleared.
+fn assert_two_pairs(rt: &impl Abort, left: &mut Left, counts: Counts) {
+    assert_left(rt, left, &TWO_WRITTEN, counts);
+    left.texts.clear();
+    assert_left(rt, left, &NOTHING, Counts::ZERO);
+}
 
 #[test]
 fn two_pairs(rt: HostRuntime) -> Result<(), Fail> {
@@ -27,26 +36,28 @@ fn two_pairs(rt: HostRuntime) -> Result<(), Fail> {
     };
     for chunk in 1..8usize {
         let way = Way { chunk, ..PLAIN };
-        let source = pairs(&rt, rt.alloc(), TWO_FORWARD, TWO_REVERSE, way)?;
-        let (mut texts, fault) = trimmed(&rt, rt.alloc(), source, TWO_STEPS)?;
-        assert_eq!(rt; fault, None);
-        assert_written(&rt, &texts, &TWO_WRITTEN, counts);
-        texts.clear();
-        assert_written(&rt, &texts, &NOTHING, Counts::ZERO);
+        let mut left = trimmed(&rt, rt.alloc(), TWO_FORWARD, TWO_REVERSE, way, TWO_STEPS)?;
+        assert_two_pairs(&rt, &mut left, counts);
     }
     Ok(())
 }
 
 #[test]
 fn empty_inputs(rt: HostRuntime) -> Result<(), Fail> {
-    let (texts, fault) = trimmed(
-        &rt,
-        rt.alloc(),
-        pairs(&rt, rt.alloc(), b"", b"", PLAIN)?,
-        &["LEADING:3"],
-    )?;
-    assert_eq!(rt; fault, None);
-    assert_written(&rt, &texts, &NOTHING, Counts::ZERO);
+    let left = trimmed(&rt, rt.alloc(), b"", b"", PLAIN, &["LEADING:3"])?;
+    assert_left(&rt, &left, &NOTHING, Counts::ZERO);
+    Ok(())
+}
+
+// The summary of these counts.
+fn assert_summary(
+    rt: &impl Abort,
+    alloc: Global,
+    counts: &Counts,
+    wanted: &str,
+) -> Result<(), Fail> {
+    let text = summary(alloc, counts)?;
+    assert_eq!(rt; text.as_str(), wanted);
     Ok(())
 }
 
@@ -58,16 +69,21 @@ fn seven_pairs(rt: HostRuntime) -> Result<(), Fail> {
         forward_only: 2,
         ..Counts::ZERO
     };
-    let source = pairs(&rt, rt.alloc(), SEVEN_FORWARD, SEVEN_REVERSE, PLAIN)?;
-    let (texts, fault) = trimmed(&rt, rt.alloc(), source, SEVEN_STEPS)?;
-    assert_eq!(rt; fault, None);
-    assert_written(&rt, &texts, &SEVEN_WRITTEN, counts);
-    let text = summary(rt.alloc(), &texts.counts())?;
-    assert_eq!(rt;
-        text.as_str(),
-        "Input Read Pairs: 7\nBoth Surviving: 5\nForward Only Surviving: 2\nReverse Only Surviving: 0\nDropped: 0\n"
-    );
-    Ok(())
+    let left = trimmed(
+        &rt,
+        rt.alloc(),
+        SEVEN_FORWARD,
+        SEVEN_REVERSE,
+        PLAIN,
+        SEVEN_STEPS,
+    )?;
+    assert_left(&rt, &left, &SEVEN_WRITTEN, counts);
+    assert_summary(
+        &rt,
+        rt.alloc(),
+        &left.texts.counts(),
+        "Input Read Pairs: 7\nBoth Surviving: 5\nForward Only Surviving: 2\nReverse Only Surviving: 0\nDropped: 0\n",
+    )
 }
 
 #[test]
@@ -91,14 +107,8 @@ fn logs(rt: HostRuntime) -> Result<(), Fail> {
         (b"@\n\n+\n\n", "MINLEN:0", b" 0 0 0 0\n 0 0 0 0\n"),
     ];
     for (text, word, log) in rows {
-        let (texts, fault) = trimmed(
-            &rt,
-            rt.alloc(),
-            pairs(&rt, rt.alloc(), text, text, PLAIN)?,
-            &[word],
-        )?;
-        assert_eq!(rt; fault, None);
-        assert_eq!(rt; texts.text(Out::Log), log);
+        let left = trimmed(&rt, rt.alloc(), text, text, PLAIN, &[word])?;
+        assert_text(&rt, &left, Out::Log, log);
     }
     Ok(())
 }
@@ -112,13 +122,10 @@ fn recoded(rt: HostRuntime) -> Result<(), Fail> {
         (Encoding::Solexa, "MINLEN:1", b'@'),
     ] {
         let way = Way { encoding, ..PLAIN };
-        let source = pairs(&rt, rt.alloc(), b"@q\nA\n+\n@\n", b"@q\nA\n+\n~\n", way)?;
-        let (texts, fault) = trimmed(&rt, rt.alloc(), source, &[word])?;
-        assert_eq!(rt; fault, None);
-        assert_eq!(rt;
-            texts.text(Out::ForwardPaired),
-            [b'@', b'q', b'\n', b'A', b'\n', b'+', b'\n', quality, b'\n'].as_slice()
-        );
+        let (forward, reverse) = (b"@q\nA\n+\n@\n", b"@q\nA\n+\n~\n");
+        let left = trimmed(&rt, rt.alloc(), forward, reverse, way, &[word])?;
+        let text = [b'@', b'q', b'\n', b'A', b'\n', b'+', b'\n', quality, b'\n'];
+        assert_text(&rt, &left, Out::ForwardPaired, &text);
     }
     Ok(())
 }

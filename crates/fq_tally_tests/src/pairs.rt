@@ -14,14 +14,15 @@ type Bases<'a> = (&'a str, &'a str);
 
 const TITLE: &[u8] = b"r";
 
-// The calls, without their promise.
+// The calls, without their promise. A tally is handed on in a `Box`: it has so many parts that each function that owns one on its
+// stack has a long proof.
 
 fn steps_of(rt: &impl Abort, words: &[&str]) -> Steps {
     Steps::parse(words).expect(rt, "steps")
 }
 
-fn no_pairs(alloc: Global) -> Result<Tally, AllocError> {
-    Tally::new(alloc)
+fn no_pairs(alloc: Global) -> Result<Box<Tally>, AllocError> {
+    Ok(Box::new(alloc, Tally::new(alloc)?)?)
 }
 
 fn add_pair(tally: &mut Tally, pair: PairView<'_>, steps: &Steps) {
@@ -73,47 +74,68 @@ fn removed(side: &SideTally) -> [u64; 2] {
 }
 
 // The scores of the pair are 2, 20, 30, 29, 40 and 2, 19, 93.
-fn one_pair(rt: &impl Abort, alloc: Global) -> Result<Tally, AllocError> {
+fn one_pair(rt: &impl Abort, alloc: Global) -> Result<Box<Tally>, AllocError> {
     let steps = steps_of(rt, &["LEADING:3", "MINLEN:3"]);
     let mut tally = no_pairs(alloc)?;
     add(rt, &mut tally, &steps, ("GcANn", "#5?>I"), ("gTC", "#4~"));
     Ok(tally)
 }
 
-fn assert_reads(rt: &impl Abort, side: &SideTally, before: [u64; 9], unpaired: [u64; 9]) {
-    assert_eq!(rt; numbers(&side.before), before);
-    assert_eq!(rt; numbers(&side.paired), NONE);
-    assert_eq!(rt; numbers(&side.unpaired), unpaired);
+fn assert_numbers(rt: &impl Abort, reads: &ReadsTally, wanted: &[u64; 9]) {
+    assert_eq!(rt; numbers(reads), *wanted);
+}
+
+// The numbers of the reads before, of the paired and of the unpaired ones.
+fn assert_reads(rt: &impl Abort, side: &SideTally, wanted: &[[u64; 9]; 3]) {
+    let [before, paired, unpaired] = wanted;
+    assert_numbers(rt, &side.before, before);
+    assert_numbers(rt, &side.paired, paired);
+    assert_numbers(rt, &side.unpaired, unpaired);
+}
+
+fn assert_rows(rt: &impl Abort, rows: &[u64], wanted: &[u64]) {
+    assert_eq!(rt; rows, wanted);
 }
 
 fn assert_lengths(rt: &impl Abort, reads: &ReadsTally, rows: &[u64]) {
-    assert_eq!(rt; reads.lengths.as_slice(), rows);
+    assert_rows(rt, reads.lengths.as_slice(), rows);
+}
+
+fn assert_one_pair(rt: &impl Abort, tally: &Tally) {
+    let Tally { forward, reverse } = tally;
+    let left = [1, 4, 4, 2, 119, 1, 2, 4, 4];
+    assert_reads(rt, forward, &[[1, 5, 4, 2, 121, 2, 2, 5, 5], NONE, left]);
+    assert_reads(rt, reverse, &[[1, 3, 1, 1, 114, 2, 0, 3, 3], NONE, NONE]);
+    assert_eq!(rt; removed(forward), [1, 0]);
+    assert_eq!(rt; removed(reverse), [0, 0]);
+    assert_lengths(rt, &forward.before, &[0, 0, 0, 0, 0, 1]);
+    assert_lengths(rt, &forward.unpaired, &[0, 0, 0, 0, 1]);
+    assert_lengths(rt, &forward.paired, &[]);
 }
 
 #[test]
 fn a_pair_is_counted_before_and_after(rt: HostRuntime) -> Result<(), Fail> {
     let tally = one_pair(&rt, rt.alloc())?;
-    let Tally { forward, reverse } = &tally;
-    let left = [1, 4, 4, 2, 119, 1, 2, 4, 4];
-    assert_reads(&rt, forward, [1, 5, 4, 2, 121, 2, 2, 5, 5], left);
-    assert_reads(&rt, reverse, [1, 3, 1, 1, 114, 2, 0, 3, 3], NONE);
-    assert_eq!(rt; removed(forward), [1, 0]);
-    assert_eq!(rt; removed(reverse), [0, 0]);
-    assert_lengths(&rt, &forward.before, &[0, 0, 0, 0, 0, 1]);
-    assert_lengths(&rt, &forward.unpaired, &[0, 0, 0, 0, 1]);
-    assert_lengths(&rt, &forward.paired, &[]);
+    assert_one_pair(&rt, &tally);
     Ok(())
 }
 
-// What steps do to a reverse read: the reads that each shortened and dropped, and the bases removed in front and behind.
-fn check_steps(
-    rt: &impl Abort,
-    alloc: Global,
-    read: Bases<'_>,
-    shortened: &[u64],
-    dropped: &[u64],
-    removed_bases: [u64; 2],
-) -> Result<(), AllocError> {
+// A read, the reads that each step shortened and dropped, and the bases removed in front and behind.
+type Row = (Bases<'static>, &'static [u64], &'static [u64], [u64; 2]);
+
+const ROWS: [Row; 7] = [
+    (("ACGT", "IIII"), &[], &[], [0, 0]),
+    (("ACGT", "#III"), &[1], &[], [1, 0]),
+    (("ACGT", "II##"), &[0, 1], &[], [0, 2]),
+    (("ACGT", "#II#"), &[1, 1], &[], [1, 1]),
+    (("ACGT", "####"), &[], &[1], [0, 0]),
+    (("ACGT", "##I#"), &[1, 1], &[0, 0, 1], [0, 0]),
+    (("", ""), &[], &[1], [0, 0]),
+];
+
+// The steps do this to a reverse read.
+fn check_steps(rt: &impl Abort, alloc: Global, row: &Row) -> Result<(), AllocError> {
+    let (read, shortened, dropped, removed_bases) = *row;
     let steps = steps_of(rt, &["LEADING:3", "TRAILING:3", "MINLEN:2"]);
     let mut tally = no_pairs(alloc)?;
     add(rt, &mut tally, &steps, ("AC", "II"), read);
@@ -128,21 +150,16 @@ fn assert_steps(
     dropped: &[u64],
     removed_bases: [u64; 2],
 ) {
-    assert_eq!(rt; side.steps.shortened.as_slice(), shortened);
-    assert_eq!(rt; side.steps.dropped.as_slice(), dropped);
+    assert_rows(rt, side.steps.shortened.as_slice(), shortened);
+    assert_rows(rt, side.steps.dropped.as_slice(), dropped);
     assert_eq!(rt; removed(side), removed_bases);
 }
 
 #[test]
 fn steps_are_told_apart(rt: HostRuntime) -> Result<(), Fail> {
-    let alloc = rt.alloc();
-    check_steps(&rt, alloc, ("ACGT", "IIII"), &[], &[], [0, 0])?;
-    check_steps(&rt, alloc, ("ACGT", "#III"), &[1], &[], [1, 0])?;
-    check_steps(&rt, alloc, ("ACGT", "II##"), &[0, 1], &[], [0, 2])?;
-    check_steps(&rt, alloc, ("ACGT", "#II#"), &[1, 1], &[], [1, 1])?;
-    check_steps(&rt, alloc, ("ACGT", "####"), &[], &[1], [0, 0])?;
-    check_steps(&rt, alloc, ("ACGT", "##I#"), &[1, 1], &[0, 0, 1], [0, 0])?;
-    check_steps(&rt, alloc, ("", ""), &[], &[1], [0, 0])?;
+    for row in &ROWS {
+        check_steps(&rt, rt.alloc(), row)?;
+    }
     Ok(())
 }
 
@@ -154,12 +171,16 @@ fn kept_of(rt: &impl Abort, read: Bases<'_>) -> Option<(usize, usize)> {
 }
 
 #[test]
-fn what_is_kept_is_known_before_it_is_counted(rt: HostRuntime) -> Result<(), Fail> {
-    assert_eq!(rt; kept_of(&rt, ("ACGT", "IIII")), Some((0, 4)));
-    assert_eq!(rt; kept_of(&rt, ("ACGT", "#II#")), Some((1, 3)));
-    assert_eq!(rt; kept_of(&rt, ("ACGT", "##I#")), None);
-    assert_eq!(rt; kept_of(&rt, ("", "")), None);
-    Ok(())
+fn what_is_kept_is_known_before_it_is_counted(rt: HostRuntime) {
+    let rows: [(Bases<'_>, Option<(usize, usize)>); 4] = [
+        (("ACGT", "IIII"), Some((0, 4))),
+        (("ACGT", "#II#"), Some((1, 3))),
+        (("ACGT", "##I#"), None),
+        (("", ""), None),
+    ];
+    for (read, kept) in &rows {
+        assert_eq!(rt; kept_of(&rt, *read), *kept);
+    }
 }
 
 fn add_two(
@@ -176,7 +197,7 @@ fn add_two(
 }
 
 // One pair, and two others behind it.
-fn three_pairs(rt: &impl Abort, alloc: Global) -> Result<Tally, AllocError> {
+fn three_pairs(rt: &impl Abort, alloc: Global) -> Result<Box<Tally>, AllocError> {
     let steps = steps_of(rt, &["CROP:3"]);
     let mut tally = no_pairs(alloc)?;
     add(rt, &mut tally, &steps, ("ACGT", "IIII"), ("A", "I"));
@@ -184,39 +205,54 @@ fn three_pairs(rt: &impl Abort, alloc: Global) -> Result<Tally, AllocError> {
     Ok(tally)
 }
 
+fn assert_three_forward(rt: &impl Abort, side: &SideTally) {
+    let wanted = [
+        [3, 8, 8, 8, 320, 6, 0, 2, 4],
+        [2, 5, 5, 5, 200, 4, 0, 2, 3],
+        [1, 2, 2, 2, 80, 2, 0, 2, 2],
+    ];
+    assert_reads(rt, side, &wanted);
+    assert_eq!(rt; removed(side), [0, 1]);
+    assert_lengths(rt, &side.before, &[0, 0, 2, 0, 1]);
+    assert_rows(rt, side.steps.shortened.as_slice(), &[1]);
+}
+
 #[test]
 fn forward_reads_add_up(rt: HostRuntime) -> Result<(), Fail> {
-    let side = three_pairs(&rt, rt.alloc())?.forward;
-    assert_eq!(rt; numbers(&side.before), [3, 8, 8, 8, 320, 6, 0, 2, 4]);
-    assert_eq!(rt; numbers(&side.paired), [2, 5, 5, 5, 200, 4, 0, 2, 3]);
-    assert_eq!(rt; numbers(&side.unpaired), [1, 2, 2, 2, 80, 2, 0, 2, 2]);
-    assert_eq!(rt; removed(&side), [0, 1]);
-    assert_eq!(rt; side.before.lengths.as_slice(), [0, 0, 2, 0, 1].as_slice());
-    assert_eq!(rt; side.steps.shortened.as_slice(), [1].as_slice());
+    let tally = three_pairs(&rt, rt.alloc())?;
+    assert_three_forward(&rt, &tally.forward);
     Ok(())
+}
+
+fn assert_three_reverse(rt: &impl Abort, side: &SideTally) {
+    let wanted = [
+        [3, 6, 6, 6, 240, 2, 0, 0, 5],
+        [2, 4, 4, 4, 160, 2, 0, 1, 3],
+        NONE,
+    ];
+    assert_reads(rt, side, &wanted);
+    assert_eq!(rt; removed(side), [0, 2]);
+    assert_lengths(rt, &side.before, &[1, 1, 0, 0, 0, 1]);
+    assert_rows(rt, side.steps.dropped.as_slice(), &[1]);
 }
 
 #[test]
 fn reverse_reads_add_up(rt: HostRuntime) -> Result<(), Fail> {
-    let side = three_pairs(&rt, rt.alloc())?.reverse;
-    assert_eq!(rt; numbers(&side.before), [3, 6, 6, 6, 240, 2, 0, 0, 5]);
-    assert_eq!(rt; numbers(&side.paired), [2, 4, 4, 4, 160, 2, 0, 1, 3]);
-    assert_eq!(rt; numbers(&side.unpaired), NONE);
-    assert_eq!(rt; removed(&side), [0, 2]);
-    assert_eq!(rt;
-        side.before.lengths.as_slice(),
-        [1, 1, 0, 0, 0, 1].as_slice()
-    );
-    assert_eq!(rt; side.steps.dropped.as_slice(), [1].as_slice());
+    let tally = three_pairs(&rt, rt.alloc())?;
+    assert_three_reverse(&rt, &tally.reverse);
     Ok(())
+}
+
+fn assert_clears(rt: &impl Abort, tally: &mut Tally) {
+    tally.clear();
+    assert_numbers(rt, &tally.forward.before, &NONE);
+    assert_lengths(rt, &tally.reverse.before, &[]);
 }
 
 #[test]
 fn a_cleared_tally_counts_anew(rt: HostRuntime) -> Result<(), Fail> {
     let mut tally = three_pairs(&rt, rt.alloc())?;
-    tally.clear();
-    assert_eq!(rt; numbers(&tally.forward.before), NONE);
-    assert_eq!(rt; tally.reverse.before.lengths.as_slice(), [].as_slice());
+    assert_clears(&rt, &mut tally);
     Ok(())
 }
 

@@ -2,7 +2,7 @@
 
 ghost use Rattle.std.specs.Prelude.{◌<◌, ◌≤◌};
 
-use super::frame::{InMemory, next, push_run, source, titled};
+use super::frame::{InMemory, ends, faults, next, push_run, source, titled};
 use fq_text::*;
 use std::alloc::Global;
 use std::process::Abort;
@@ -40,42 +40,48 @@ fn has_longest_title(read: &FastqRecord) -> bool {
     is_run(read.title(), b't', LONGEST_TITLE)
 }
 
-fn is_at_end(source: &mut InMemory) -> bool {
-    matches!(next(source), Ok(None))
+// A source over a text, in chunks.
+fn source_over(alloc: Global, text: &[u8]) -> Result<InMemory, Fail> {
+    source(alloc, text, Encoding::Sanger, 1 << 30, CHUNK)
 }
 
-// The record of a text that has one.
-fn only_record(alloc: Global, text: &[u8]) -> Result<FastqRecord, Fail> {
-    let mut source = source(alloc, text, Encoding::Sanger, 1 << 30, CHUNK)?;
-    let record = next(&mut source)?.ok_or("a record")?;
-    if is_at_end(&mut source) {
-        Ok(record)
-    } else {
-        Err("more than a record")?
+fn gives_longest_sequence(source: &mut InMemory) -> bool {
+    match next(source) {
+        Ok(Some(record)) => has_longest_sequence(&record),
+        _ => false,
+    }
+}
+
+fn gives_longest_title(source: &mut InMemory) -> bool {
+    match next(source) {
+        Ok(Some(record)) => has_longest_title(&record),
+        _ => false,
     }
 }
 
 #[test]
 fn the_longest_sequence(rt: HostRuntime) -> Result<(), Fail> {
     let text = long_record(rt.alloc(), b"")?;
-    let record = only_record(rt.alloc(), &text)?;
-    assert!(rt; has_longest_sequence(&record));
+    let mut source = source_over(rt.alloc(), &text)?;
+    assert!(rt; gives_longest_sequence(&mut source));
+    assert!(rt; ends(&mut source));
     Ok(())
 }
 
 #[test]
 fn a_sequence_that_is_too_long(rt: HostRuntime) -> Result<(), Fail> {
     let text = long_record(rt.alloc(), b"\nA")?;
-    let mut longer = source(rt.alloc(), &text, Encoding::Sanger, 1 << 30, CHUNK)?;
-    assert!(rt; matches!(next(&mut longer), Err(TextFault::TooLong(1))));
+    let mut longer = source_over(rt.alloc(), &text)?;
+    assert!(rt; faults(&mut longer, TextFault::TooLong(1)));
     Ok(())
 }
 
 #[test]
 fn the_longest_title_line_before_a_cr(rt: HostRuntime) -> Result<(), Fail> {
     let text = titled(rt.alloc(), LONGEST_TITLE, b"\r\n")?;
-    let record = only_record(rt.alloc(), &text)?;
-    assert!(rt; has_longest_title(&record));
+    let mut source = source_over(rt.alloc(), &text)?;
+    assert!(rt; gives_longest_title(&mut source));
+    assert!(rt; ends(&mut source));
     Ok(())
 }
 

@@ -39,6 +39,19 @@ pub fn advance(source: &mut InMemory) -> Result<bool, TextFault> {
     source.advance()
 }
 
+/// Whether the text is at its end.
+pub fn ends(source: &mut InMemory) -> bool {
+    matches!(next(source), Ok(None))
+}
+
+/// Whether this fault comes.
+pub fn faults(source: &mut InMemory, wanted: TextFault) -> bool {
+    match next(source) {
+        Ok(_) => false,
+        Err(fault) => fault == wanted,
+    }
+}
+
 /// Appends a byte so many times.
 pub fn push_run(text: &mut Vec<u8>, byte: u8, count: usize) -> Result<(), Fail> {
     let len = text.len().saturating_add(count);

@@ -3,7 +3,7 @@
 
 ghost use Rattle.std.specs.Prelude.{◌<◌, ◌≤◌};
 
-use super::frame::{InMemory, next, source};
+use super::frame::{InMemory, ends, faults, next, source};
 use fq_text::*;
 use std::alloc::Global;
 use std::process::Abort;
@@ -19,6 +19,9 @@ struct Plain {
     qual: Vec<u8>,
     lines: usize,
 }
+
+/// What is at the front of a text: a record, the end or a fault.
+type Front = Result<Option<Plain>, TextFault>;
 
 // The lines of a text, each without its line end and without one CR before that.
 fn lines(alloc: Global, text: &[u8]) -> Result<Vec<Vec<u8>>, Fail> {
@@ -180,12 +183,7 @@ fn before(lines: &[Vec<u8>], end: usize) -> &[Vec<u8>] {
 }
 
 // The record at the front of the lines, numbered k, or `None` at the end.
-fn front(
-    alloc: Global,
-    encoding: Encoding,
-    lines: &[Vec<u8>],
-    k: u64,
-) -> Result<Result<Option<Plain>, TextFault>, Fail> {
+fn front(alloc: Global, encoding: Encoding, lines: &[Vec<u8>], k: u64) -> Result<Front, Fail> {
     let skipped = empty_lines(lines);
     let Some((title, rest)) = behind(lines, skipped).split_first() else {
         return Ok(Ok(None));
@@ -219,16 +217,72 @@ fn front(
     })))
 }
 
-// The next record is the plain one.
-fn assert_same(rt: &impl Abort, source: &mut InMemory, plain: &Plain) -> Result<(), Fail> {
-    let record = next(source)?.ok_or("a record")?;
-    assert_eq!(rt; record.title(), plain.title.as_slice());
-    assert_eq!(rt; record.seq(), plain.seq.as_slice());
-    assert_eq!(rt; record.qual(), plain.qual.as_slice());
-    Ok(())
+fn is_plain(record: &FastqRecord, plain: &Plain) -> bool {
+    record.title() == plain.title.as_slice()
+        && record.seq() == plain.seq.as_slice()
+        && record.qual() == plain.qual.as_slice()
+}
+
+// Whether the plain record comes next.
+fn gives(source: &mut InMemory, plain: &Plain) -> bool {
+    match next(source) {
+        Ok(Some(record)) => is_plain(&record, plain),
+        _ => false,
+    }
+}
+
+// Whether the source answers as the plain reader does.
+fn answers(source: &mut InMemory, front: &Front) -> bool {
+    match front {
+        Ok(Some(plain)) => gives(source, plain),
+        Ok(None) => ends(source),
+        Err(fault) => faults(source, *fault),
+    }
+}
+
+// How many lines a record takes. `None` where there is none.
+fn lines_of(front: &Front) -> Option<usize> {
+    match front {
+        Ok(Some(plain)) => Some(plain.lines),
+        _ => None,
+    }
+}
+
+// Both readers give the same next. How many lines it takes, or `None` behind the last record.
+fn same_next(
+    rt: &impl Abort,
+    alloc: Global,
+    lines: &[Vec<u8>],
+    k: u64,
+    source: &mut InMemory,
+    encoding: Encoding,
+) -> Result<Option<usize>, Fail> {
+    let front = front(alloc, encoding, lines, k)?;
+    assert!(rt; answers(source, &front));
+    Ok(lines_of(&front))
 }
 
 // Both readers give the same records, and end in the same way.
+fn same_records(
+    rt: &impl Abort,
+    alloc: Global,
+    lines: &[Vec<u8>],
+    source: &mut InMemory,
+    encoding: Encoding,
+) -> Result<usize, Fail> {
+    let mut rest = lines;
+    let mut records = 0usize;
+    for k in 1..u64::MAX {
+        let Some(taken) = same_next(rt, alloc, rest, k, source, encoding)? else {
+            break;
+        };
+        rest = behind(rest, taken);
+        records = records.saturating_add(1);
+    }
+    Ok(records)
+}
+
+// The same of a text.
 fn same(
     rt: &impl Abort,
     alloc: Global,
@@ -241,26 +295,7 @@ fn same(
 {
     let lines = lines(alloc, text)?;
     let mut source = source(alloc, text, encoding, 1 << 20, chunk)?;
-    let mut rest = lines.as_slice();
-    let mut records = 0usize;
-    for k in 1..u64::MAX {
-        match front(alloc, encoding, rest, k)? {
-            Ok(Some(plain)) => {
-                assert_same(rt, &mut source, &plain)?;
-                rest = behind(rest, plain.lines);
-                records = records.saturating_add(1);
-            }
-            Ok(None) => {
-                assert!(rt; matches!(next(&mut source), Ok(None)));
-                break;
-            }
-            Err(fault) => {
-                assert!(rt; matches!(next(&mut source), Err(other) if other == fault));
-                break;
-            }
-        }
-    }
-    Ok(records)
+    same_records(rt, alloc, &lines, &mut source, encoding)
 }
 
 // Numbers that look drawn at random, the same in each run.

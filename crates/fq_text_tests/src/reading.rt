@@ -1,6 +1,8 @@
 //! Worked texts: the records that are read of them, and how they end, in chunks of each small size.
 
-use super::frame::{InMemory, advance, next, source, titled};
+ghost use Rattle.std.specs.Prelude.{◌<◌, ◌≤◌};
+
+use super::frame::{InMemory, advance, ends, faults, next, source, titled};
 use fq_text::*;
 use std::alloc::Global;
 use std::process::Abort;
@@ -178,6 +180,19 @@ const SOLEXA: &[Row] = &[
     },
 ];
 
+// Each table stands in one function, since a function that names a table is proved with all its rows.
+fn sanger() -> &'static [Row] {
+    SANGER
+}
+
+fn illumina() -> &'static [Row] {
+    ILLUMINA
+}
+
+fn solexa() -> &'static [Row] {
+    SOLEXA
+}
+
 fn has_parts(read: &FastqRecord, parts: &Parts) -> bool {
     let (title, seq, qual) = parts;
     read.title() == title.as_bytes()
@@ -185,39 +200,50 @@ fn has_parts(read: &FastqRecord, parts: &Parts) -> bool {
         && read.view().qual() == qual.as_bytes()
 }
 
-// The next record has these parts.
-fn assert_record(
-    rt: &impl Abort,
-    source: &mut InMemory,
-    parts: &Parts,
-    name: &'static str,
-    chunk: usize,
-) -> Result<(), Fail> {
-    let record = next(source)?.ok_or(name)?;
-    assert!(rt; has_parts(&record, parts), "{name}, chunk {chunk}");
-    Ok(())
+const CHUNKS: [usize; 8] = [1, 2, 3, 4, 5, 6, 7, 1000];
+
+// A source over a row's text.
+fn source_over(alloc: Global, row: &Row, chunk: usize) -> Result<InMemory, Fail>
+    requires some { 0 < chunk }
+    requires small { chunk ≤ 1048576 }
+{
+    source(alloc, row.text.as_bytes(), row.encoding, 1000, chunk)
 }
 
-// No record comes: the row's last answer.
-fn assert_last(rt: &impl Abort, source: &mut InMemory, row: &Row, chunk: usize) {
-    let name = row.name;
+// Whether a record with these parts comes next.
+fn gives(source: &mut InMemory, parts: &Parts) -> bool {
     match next(source) {
-        Ok(None) => assert!(rt; row.last.is_none(), "{name}, chunk {chunk}"),
-        Ok(Some(_)) => assert!(rt; false, "a further record: {name}, chunk {chunk}"),
-        Err(fault) => assert_eq!(rt; Some(fault), row.last, "{name}, chunk {chunk}"),
+        Ok(Some(record)) => has_parts(&record, parts),
+        _ => false,
+    }
+}
+
+// Whether no record comes, but the row's last answer.
+fn gives_last(source: &mut InMemory, row: &Row) -> bool {
+    match row.last {
+        None => ends(source),
+        Some(fault) => faults(source, fault),
+    }
+}
+
+fn assert_reads(rt: &impl Abort, source: &mut InMemory, row: &Row, chunk: usize) {
+    let name = row.name;
+    for parts in row.records {
+        assert!(rt; gives(source, parts), "{name}, chunk {chunk}");
+    }
+    // The last answer stays.
+    for _ in 0..2u8 {
+        assert!(rt;
+            gives_last(source, row),
+            "the last of {name}, chunk {chunk}"
+        );
     }
 }
 
 fn reads_as_the_row_says(rt: &impl Abort, alloc: Global, row: &Row) -> Result<(), Fail> {
-    for chunk in [1, 2, 3, 4, 5, 6, 7, 1000] {
-        let mut source = source(alloc, row.text.as_bytes(), row.encoding, 1000, chunk)?;
-        for parts in row.records {
-            assert_record(rt, &mut source, parts, row.name, chunk)?;
-        }
-        // The last answer stays.
-        for _ in 0..2u8 {
-            assert_last(rt, &mut source, row, chunk);
-        }
+    for chunk in CHUNKS {
+        let mut source = source_over(alloc, row, chunk)?;
+        assert_reads(rt, &mut source, row, chunk);
     }
     Ok(())
 }
@@ -237,30 +263,45 @@ fn lends(source: &mut InMemory, parts: &Parts) -> Result<bool, TextFault> {
     Ok(is_read(source.record(), parts))
 }
 
-fn lends_as_the_row_says(rt: &impl Abort, alloc: Global, row: &Row) -> Result<(), Fail> {
+// Whether none is lent, and the row's last answer comes.
+fn lends_last(source: &mut InMemory, row: &Row) -> bool {
+    match advance(source) {
+        Ok(more) => !more && row.last.is_none(),
+        Err(fault) => Some(fault) == row.last,
+    }
+}
+
+fn assert_lends(rt: &impl Abort, source: &mut InMemory, row: &Row, chunk: usize) {
     let name = row.name;
-    for chunk in [1, 2, 3, 4, 5, 6, 7, 1000] {
-        let mut source = source(alloc, row.text.as_bytes(), row.encoding, 1000, chunk)?;
-        for parts in row.records {
-            assert!(rt; lends(&mut source, parts)?, "{name}, chunk {chunk}");
-        }
-        let ends = match advance(&mut source) {
-            Ok(more) => !more && row.last.is_none(),
-            Err(fault) => Some(fault) == row.last,
-        };
-        assert!(rt; ends, "{name}, chunk {chunk}");
+    for parts in row.records {
+        assert!(rt; lends(source, parts) == Ok(true), "{name}, chunk {chunk}");
+    }
+    assert!(rt;
+        lends_last(source, row),
+        "the last of {name}, chunk {chunk}"
+    );
+}
+
+fn lends_as_the_row_says(rt: &impl Abort, alloc: Global, row: &Row) -> Result<(), Fail> {
+    for chunk in CHUNKS {
+        let mut source = source_over(alloc, row, chunk)?;
+        assert_lends(rt, &mut source, row, chunk);
+    }
+    Ok(())
+}
+
+fn lend_as_the_rows_say(rt: &impl Abort, alloc: Global, rows: &[Row]) -> Result<(), Fail> {
+    for row in rows {
+        lends_as_the_row_says(rt, alloc, row)?;
     }
     Ok(())
 }
 
 #[test]
 fn each_text_is_lent_as_it_is_given(rt: HostRuntime) -> Result<(), Fail> {
-    for rows in [SANGER, ILLUMINA, SOLEXA] {
-        for row in rows {
-            lends_as_the_row_says(&rt, rt.alloc(), row)?;
-        }
-    }
-    Ok(())
+    lend_as_the_rows_say(&rt, rt.alloc(), sanger())?;
+    lend_as_the_rows_say(&rt, rt.alloc(), illumina())?;
+    lend_as_the_rows_say(&rt, rt.alloc(), solexa())
 }
 
 fn copy_into(kept: &mut FastqRecord, read: &ReadView<'_>) -> Result<(), OutOfMemory> {
@@ -288,73 +329,98 @@ fn next_copies(alloc: Global, source: &mut InMemory) -> Result<(FastqRecord, Fas
     copies(alloc, source.record())
 }
 
+// Whether these are copies of the first record of two.
+fn are_first(kept: &FastqRecord, copy: &FastqRecord) -> bool {
+    kept.seq() == b"ACGT".as_slice() && copy.qual() == b"IIII".as_slice()
+}
+
+// Whether copies of the first record stay what they are, when the second is lent.
+fn copies_stay(alloc: Global, source: &mut InMemory) -> Result<bool, Fail> {
+    let (kept, copy) = next_copies(alloc, source)?;
+    let more = advance(source) == Ok(true);
+    Ok(more && are_first(&kept, &copy))
+}
+
 #[test]
 fn a_copy_stays_where_its_lender_goes_on(rt: HostRuntime) -> Result<(), Fail> {
     let text = b"@a\nACGT\n+\nIIII\n@b\nAC\n+\n##\n";
     let mut source = source(rt.alloc(), text, Encoding::Sanger, 1000, 1000)?;
-    let (kept, copy) = next_copies(rt.alloc(), &mut source)?;
-    assert!(rt; advance(&mut source)?);
-    assert_eq!(rt; kept.seq(), "ACGT".as_bytes());
-    assert_eq!(rt; copy.qual(), "IIII".as_bytes());
+    assert!(rt; copies_stay(rt.alloc(), &mut source)?);
+    Ok(())
+}
+
+fn read_as_the_rows_say(rt: &impl Abort, alloc: Global, rows: &[Row]) -> Result<(), Fail> {
+    for row in rows {
+        reads_as_the_row_says(rt, alloc, row)?;
+    }
     Ok(())
 }
 
 #[test]
 fn sanger_texts(rt: HostRuntime) -> Result<(), Fail> {
-    for row in SANGER {
-        reads_as_the_row_says(&rt, rt.alloc(), row)?;
-    }
-    Ok(())
+    read_as_the_rows_say(&rt, rt.alloc(), sanger())
 }
 
 #[test]
 fn illumina_texts(rt: HostRuntime) -> Result<(), Fail> {
-    for row in ILLUMINA {
-        reads_as_the_row_says(&rt, rt.alloc(), row)?;
-    }
-    Ok(())
+    read_as_the_rows_say(&rt, rt.alloc(), illumina())
 }
 
 #[test]
 fn solexa_texts(rt: HostRuntime) -> Result<(), Fail> {
-    for row in SOLEXA {
-        reads_as_the_row_says(&rt, rt.alloc(), row)?;
-    }
-    Ok(())
+    read_as_the_rows_say(&rt, rt.alloc(), solexa())
 }
 
-// The length of the first title, or the fault.
-fn first_title(alloc: Global, text: &[u8]) -> Result<Result<usize, TextFault>, Fail> {
-    let mut source = source(alloc, text, Encoding::Sanger, 1 << 30, 65_536)?;
-    match next(&mut source) {
-        Ok(Some(record)) => Ok(Ok(record.title().len())),
-        Ok(None) => Err("a record")?,
-        Err(fault) => Ok(Err(fault)),
+// The length of the first title, or the fault. `None` where there is no record.
+fn title_len(source: &mut InMemory) -> Result<Option<usize>, TextFault> {
+    match next(source)? {
+        Some(record) => Ok(Some(record.title().len())),
+        None => Ok(None),
     }
+}
+
+// The same of a text.
+fn first_title(alloc: Global, text: &[u8]) -> Result<Result<Option<usize>, TextFault>, Fail> {
+    let mut source = source(alloc, text, Encoding::Sanger, 1 << 30, 65_536)?;
+    Ok(title_len(&mut source))
+}
+
+// The first title of a text whose title has so many bytes.
+fn title_of(alloc: Global, len: usize) -> Result<Result<Option<usize>, TextFault>, Fail> {
+    first_title(alloc, &titled(alloc, len, b"\n")?)
 }
 
 #[test]
 fn the_longest_title_line(rt: HostRuntime) -> Result<(), Fail> {
-    let text = titled(rt.alloc(), 1_048_575, b"\n")?;
-    assert_eq!(rt; first_title(rt.alloc(), &text)?, Ok(1_048_575));
-    let text = titled(rt.alloc(), 1_048_576, b"\n")?;
-    assert_eq!(rt; first_title(rt.alloc(), &text)?, Err(TextFault::TooLong(1)));
+    let longest = title_of(rt.alloc(), 1_048_575)?;
+    assert_eq!(rt; longest, Ok(Some(1_048_575)));
+    let longer = title_of(rt.alloc(), 1_048_576)?;
+    assert_eq!(rt; longer, Err(TextFault::TooLong(1)));
     Ok(())
+}
+
+// An encoding, a title, a sequence and a quality, and whether they are lawful.
+type Judged = (Encoding, &'static [u8], &'static [u8], &'static [u8], bool);
+
+const JUDGED: [Judged; 8] = [
+    (Encoding::Sanger, b"r 1", b"ACGT", b"!~II", true),
+    (Encoding::Sanger, b"", b"", b"", true),
+    (Encoding::Sanger, b"r\n", b"A", b"I", false),
+    (Encoding::Sanger, b"r", b"+A", b"II", false),
+    (Encoding::Sanger, b"r", b"@A", b"II", false),
+    (Encoding::Sanger, b"r", b"A C", b"III", false),
+    (Encoding::Sanger, b"r", b"AC", b"I", false),
+    (Encoding::Illumina13, b"r", b"A", b"?", false),
+];
+
+fn is_judged_so(row: &Judged) -> bool {
+    let (encoding, title, seq, qual, lawful) = *row;
+    is_lawful(encoding, title, seq, qual) == lawful
 }
 
 #[test]
 fn lawful_parts(rt: HostRuntime) {
-    let rows: [(Encoding, &[u8], &[u8], &[u8], bool); 8] = [
-        (Encoding::Sanger, b"r 1", b"ACGT", b"!~II", true),
-        (Encoding::Sanger, b"", b"", b"", true),
-        (Encoding::Sanger, b"r\n", b"A", b"I", false),
-        (Encoding::Sanger, b"r", b"+A", b"II", false),
-        (Encoding::Sanger, b"r", b"@A", b"II", false),
-        (Encoding::Sanger, b"r", b"A C", b"III", false),
-        (Encoding::Sanger, b"r", b"AC", b"I", false),
-        (Encoding::Illumina13, b"r", b"A", b"?", false),
-    ];
-    for (encoding, title, seq, qual, lawful) in rows {
-        assert_eq!(rt; is_lawful(encoding, title, seq, qual), lawful);
+    for (number, row) in JUDGED.iter().enumerate() {
+        assert!(rt; is_judged_so(row), "row {number}");
     }
 }

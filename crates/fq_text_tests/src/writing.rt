@@ -3,6 +3,7 @@
 ghost use Rattle.std.specs.Prelude.{◌≤◌, length};
 
 use fq_text::*;
+use std::alloc::Global;
 use std::io;
 use std::io::{ErrorKind, Read, Write};
 use std::process::Abort;
@@ -89,27 +90,55 @@ fn writes_recoded(
     put_record(out, title, seq, qual, Some(encoding))
 }
 
+/// A record to write, and how.
+type Given = (
+    &'static [u8],
+    &'static [u8],
+    &'static [u8],
+    Option<Encoding>,
+);
+
+/// What stands there, what is written behind it, and what stands there then.
+type Row = (&'static [u8], &'static [Given], &'static [u8]);
+
+fn writes_all(rt: &impl Abort, out: &mut Vec<u8>, records: &[Given]) -> Result<(), OutOfMemory> {
+    for (title, seq, qual, recode) in records {
+        writes(rt, out, title, seq, qual, *recode)?;
+    }
+    Ok(())
+}
+
+fn assert_written(rt: &impl Abort, alloc: Global, row: &Row) -> Result<(), Fail> {
+    let (before, records, text) = row;
+    let mut out = Vec::from_slice(alloc, before)?;
+    writes_all(rt, &mut out, records)?;
+    assert_eq!(rt; out.as_slice(), *text);
+    Ok(())
+}
+
+const ILLUMINA: Option<Encoding> = Some(Encoding::Illumina13);
+
+const WRITTEN: [Row; 4] = [
+    (b"x", &[(b"t", b"AC", b"hB", None)], b"x@t\nAC\n+\nhB\n"),
+    (b"x", &[(b"t", b"AC", b"hB", ILLUMINA)], b"x@t\nAC\n+\nI#\n"),
+    (b"", &[(b"q", b"A", b"@", ILLUMINA)], b"@q\nA\n+\n!\n"),
+    (
+        b"",
+        &[
+            (b"q", b"A", b"@", ILLUMINA),
+            (b"", b"A", b"~", ILLUMINA),
+            (b"s 1", b"AN", b"!~", Some(Encoding::Sanger)),
+            (b"e", b"", b"", ILLUMINA),
+        ],
+        b"@q\nA\n+\n!\n@\nA\n+\n_\n@s 1\nAN\n+\n!~\n@e\n\n+\n\n",
+    ),
+];
+
 #[test]
 fn records_are_written_behind_a_text(rt: HostRuntime) -> Result<(), Fail> {
-    let illumina = Some(Encoding::Illumina13);
-    let mut out = Vec::from_slice(rt.alloc(), b"x")?;
-    writes(&rt, &mut out, b"t", b"AC", b"hB", None)?;
-    assert_eq!(rt; out.as_slice(), b"x@t\nAC\n+\nhB\n".as_slice());
-
-    let mut out = Vec::from_slice(rt.alloc(), b"x")?;
-    writes(&rt, &mut out, b"t", b"AC", b"hB", illumina)?;
-    assert_eq!(rt; out.as_slice(), b"x@t\nAC\n+\nI#\n".as_slice());
-
-    let mut out = Vec::new(rt.alloc());
-    writes(&rt, &mut out, b"q", b"A", b"@", illumina)?;
-    assert_eq!(rt; out.as_slice(), b"@q\nA\n+\n!\n".as_slice());
-    writes(&rt, &mut out, b"", b"A", b"~", illumina)?;
-    writes(&rt, &mut out, b"s 1", b"AN", b"!~", Some(Encoding::Sanger))?;
-    writes(&rt, &mut out, b"e", b"", b"", illumina)?;
-    assert_eq!(rt;
-        out.as_slice(),
-        b"@q\nA\n+\n!\n@\nA\n+\n_\n@s 1\nAN\n+\n!~\n@e\n\n+\n\n".as_slice()
-    );
+    for row in &WRITTEN {
+        assert_written(&rt, rt.alloc(), row)?;
+    }
     Ok(())
 }
 
@@ -126,61 +155,78 @@ fn solexa_bytes_have_phred_scores(rt: HostRuntime) {
     }
 }
 
+const SOLEXA: Option<Encoding> = Some(Encoding::Solexa);
+
+const WRITTEN_SOLEXA: [Row; 2] = [
+    (
+        b"",
+        &[(b"s", b"ACGT", b";@JI", SOLEXA)],
+        b"@s\nACGT\n+\n\"$++\n",
+    ),
+    (
+        b"",
+        &[(b"s", b"A", b"~", SOLEXA), (b"s", b"ACGT", b";@JI", None)],
+        b"@s\nA\n+\n_\n@s\nACGT\n+\n;@JI\n",
+    ),
+];
+
 #[test]
 fn solexa_scores_are_written_as_phred_scores(rt: HostRuntime) -> Result<(), Fail> {
-    let solexa = Some(Encoding::Solexa);
-    let mut out = Vec::new(rt.alloc());
-    writes(&rt, &mut out, b"s", b"ACGT", b";@JI", solexa)?;
-    assert_eq!(rt; out.as_slice(), b"@s\nACGT\n+\n\"$++\n".as_slice());
-    let mut out = Vec::new(rt.alloc());
-    writes(&rt, &mut out, b"s", b"A", b"~", solexa)?;
-    writes(&rt, &mut out, b"s", b"ACGT", b";@JI", None)?;
-    assert_eq!(rt;
-        out.as_slice(),
-        b"@s\nA\n+\n_\n@s\nACGT\n+\n;@JI\n".as_slice()
-    );
+    for row in &WRITTEN_SOLEXA {
+        assert_written(&rt, rt.alloc(), row)?;
+    }
     Ok(())
 }
 
-// What a send of these bytes answers, and how many failures the outlet counts then.
-fn sent<O: Outlet>(rt: &impl Abort, outlet: &mut O, bytes: &[u8]) -> (Result<(), Sent>, u64) {
+// A send of these bytes gives this answer, and the outlet counts so many failures then.
+fn assert_sent<O: Outlet>(
+    rt: &impl Abort,
+    outlet: &mut O,
+    bytes: &[u8],
+    answer: Result<(), Sent>,
+    failures: u64,
+) {
     assert!(rt; outlet.failures() < 9);
-    (send(outlet, bytes), outlet.failures())
+    assert_eq!(rt; send(outlet, bytes), answer);
+    assert_eq!(rt; outlet.failures(), failures);
 }
 
 #[test]
 fn a_send_stops_at_the_first_failure(rt: HostRuntime) {
     let mut outlet = ScriptOutlet::new(rt.alloc(), 2, 3, false);
-    assert_eq!(rt;
-        sent(&rt, &mut outlet, b"abcdef"),
-        (Err(Sent { count: 4 }), 1)
-    );
-    assert_eq!(rt; outlet.bytes(), b"abcd".as_slice());
+    assert_sent(&rt, &mut outlet, b"abcdef", Err(Sent { count: 4 }), 1);
+    assert!(rt; outlet.bytes() == b"abcd".as_slice());
 
     let mut outlet = ScriptOutlet::new(rt.alloc(), 4, 0, false);
-    assert_eq!(rt; sent(&rt, &mut outlet, b"abcdef"), (Ok(()), 0));
-    assert_eq!(rt; outlet.bytes(), b"abcdef".as_slice());
+    assert_sent(&rt, &mut outlet, b"abcdef", Ok(()), 0);
+    assert!(rt; outlet.bytes() == b"abcdef".as_slice());
 }
 
 #[test]
 fn no_bytes_make_no_write(rt: HostRuntime) {
     let mut outlet = ScriptOutlet::new(rt.alloc(), 1, 1, false);
-    assert_eq!(rt; sent(&rt, &mut outlet, b""), (Ok(()), 0));
-    assert_eq!(rt; sent(&rt, &mut outlet, b"a"), (Err(Sent { count: 0 }), 1));
+    assert_sent(&rt, &mut outlet, b"", Ok(()), 0);
+    assert_sent(&rt, &mut outlet, b"a", Err(Sent { count: 0 }), 1);
 }
 
 // The same of a flush.
-fn flushed<O: Outlet>(rt: &impl Abort, outlet: &mut O) -> (Result<(), OutletFailed>, u64) {
+fn assert_flushed<O: Outlet>(
+    rt: &impl Abort,
+    outlet: &mut O,
+    answer: Result<(), OutletFailed>,
+    failures: u64,
+) {
     assert!(rt; outlet.failures() < 9);
-    (outlet.flush(), outlet.failures())
+    assert_eq!(rt; outlet.flush(), answer);
+    assert_eq!(rt; outlet.failures(), failures);
 }
 
 #[test]
 fn a_flush_fails_where_it_is_told_to(rt: HostRuntime) {
     let mut outlet = ScriptOutlet::new(rt.alloc(), 1, 0, true);
-    assert_eq!(rt; flushed(&rt, &mut outlet), (Err(OutletFailed), 1));
+    assert_flushed(&rt, &mut outlet, Err(OutletFailed), 1);
     let mut outlet = ScriptOutlet::new(rt.alloc(), 1, 0, false);
-    assert_eq!(rt; flushed(&rt, &mut outlet), (Ok(()), 0));
+    assert_flushed(&rt, &mut outlet, Ok(()), 0);
 }
 
 #[test]
@@ -249,24 +295,27 @@ fn a_readers_error_is_a_failure(rt: HostRuntime) {
 }
 
 // The same of a write.
-fn written<O: Outlet>(
+fn assert_write<O: Outlet>(
     rt: &impl Abort,
     outlet: &mut O,
     bytes: &[u8],
-) -> (Result<usize, OutletFailed>, u64) {
+    answer: Result<usize, OutletFailed>,
+    failures: u64,
+) {
     assert!(rt; outlet.failures() < 9);
-    (outlet.write(bytes), outlet.failures())
+    assert_eq!(rt; outlet.write(bytes), answer);
+    assert_eq!(rt; outlet.failures(), failures);
 }
 
 #[test]
 fn a_writers_error_and_a_write_of_nothing_are_failures(rt: HostRuntime) {
     let mut outlet = FromWrite::new(Signalled { calls: 0 });
-    assert_eq!(rt; flushed(&rt, &mut outlet), (Err(OutletFailed), 1));
-    assert_eq!(rt; written(&rt, &mut outlet, b"a"), (Err(OutletFailed), 2));
-    assert_eq!(rt; written(&rt, &mut outlet, b""), (Ok(0), 2));
-    assert_eq!(rt; flushed(&rt, &mut outlet), (Ok(()), 2));
+    assert_flushed(&rt, &mut outlet, Err(OutletFailed), 1);
+    assert_write(&rt, &mut outlet, b"a", Err(OutletFailed), 2);
+    assert_write(&rt, &mut outlet, b"", Ok(0), 2);
+    assert_flushed(&rt, &mut outlet, Ok(()), 2);
     let mut outlet = FromWrite::new(Signalled { calls: 0 });
-    assert_eq!(rt; written(&rt, &mut outlet, b"a"), (Err(OutletFailed), 1));
+    assert_write(&rt, &mut outlet, b"a", Err(OutletFailed), 1);
 }
 
 #[test]
@@ -280,6 +329,6 @@ fn bytes_pass_through_readers(rt: HostRuntime) {
 #[test]
 fn bytes_pass_through_writers(rt: HostRuntime) {
     let mut outlet = FromWrite::new(Vec::new(rt.alloc()));
-    assert_eq!(rt; sent(&rt, &mut outlet, b"abcdef"), (Ok(()), 0));
-    assert_eq!(rt; outlet.into_inner().as_slice(), b"abcdef".as_slice());
+    assert_sent(&rt, &mut outlet, b"abcdef", Ok(()), 0);
+    assert!(rt; outlet.into_inner().as_slice() == b"abcdef".as_slice());
 }
