@@ -3,7 +3,7 @@
 PREFIX ?= /usr/local
 PROGRAM = crates/fq_prog/out/fq_prog
 JUDGE = crates/fq_judge/out/fq_judge
-LANE_TESTS = crates/fq_lane/out/fq_lane_tests
+LANE_TESTS = crates/fq_lane/out/fq_lane_tests crates/fq_lane_tests/out/fq_lane_tests_tests
 SOURCES := HANDLES crates.txt $(shell find crates -name out -prune -o '(' -name '*.rt' -o -name '*.antt' ')' -print)
 VERSION := $(shell sed -n 's/^pub const VERSION: &str = "\([0-9.]*\)";/\1/p' crates/fq_words/src/words.rt)
 BIN = $(DESTDIR)$(PREFIX)/bin
@@ -32,7 +32,7 @@ $(JUDGE): $(SOURCES)
 	@touch $@
 
 $(LANE_TESTS): $(SOURCES)
-	@cd crates/fq_lane && rt test
+	@cd $(dir $(@D)) && rt test
 	@touch $@
 
 # Prints what becomes of two built-in pairs.

@@ -14,21 +14,27 @@ if [ ! -d crates/fq_lane ]; then
 fi
 room=$(mktemp -d)
 trap 'rm -rf "$room"' EXIT
-if ! make -s crates/fq_lane/out/fq_lane_tests >"$room/log" 2>&1; then
+programs=(crates/fq_lane/out/fq_lane_tests crates/fq_lane_tests/out/fq_lane_tests_tests)
+if ! make -s "${programs[@]}" >"$room/log" 2>&1; then
     tail -n 20 "$room/log"
     echo "lane_processors: FAILED: the tests of fq_lane do not pass"
     exit 1
 fi
-cp crates/fq_lane/out/fq_lane_tests "$room/tests"
+cp "${programs[@]}" "$room/"
 
 # The processors that this shell may run on, one number a line.
 allowed=$(taskset -cp $$ | sed 's/.*: //' | tr ',' '\n' | while IFS=- read -r from to; do seq "$from" "${to:-$from}"; done)
 count=$(echo "$allowed" | wc -l)
-tests=$("$room/tests" --list | sed -n 's/: test$//p' | grep -E 'waking::|threads')
-if [ -z "$tests" ]; then
-    echo "lane_processors: FAILED: no test was found"
-    exit 1
-fi
+# A line for each test: its program and its name.
+tests=
+for program in "${programs[@]##*/}"; do
+    found=$("$room/$program" --list | sed -n 's/: test$//p' | grep -E 'waking::|threads|wakes' | sed "s/^/$program /")
+    if [ -z "$found" ]; then
+        echo "lane_processors: FAILED: no test was found in $program"
+        exit 1
+    fi
+    tests+=$found$'\n'
+done
 
 failed=0
 ran=0
@@ -38,9 +44,9 @@ for pinned in 1 2 4; do
         continue
     fi
     set=$(echo "$allowed" | head -n "$pinned" | paste -sd,)
-    for name in $tests; do
+    while read -r program name; do
         for round in $(seq "$rounds"); do
-            if ! timeout "$seconds" taskset -c "$set" "$room/tests" "$name" >"$room/log" 2>&1; then
+            if ! timeout "$seconds" taskset -c "$set" "$room/$program" "$name" </dev/null >"$room/log" 2>&1; then
                 echo "FAILED on processors $set, round $round: $name"
                 tail -n 5 "$room/log"
                 failed=1
@@ -48,7 +54,7 @@ for pinned in 1 2 4; do
             fi
             ran=$((ran + 1))
         done
-    done
+    done <<<"${tests%$'\n'}"
     echo "$pinned processors ($set): done"
 done
 

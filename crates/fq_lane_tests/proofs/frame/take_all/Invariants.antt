@@ -1,5 +1,5 @@
 use Rattle.std.proofs.Common.{◌≡◌}
-use Rattle.fq_lane.proofs.tests.take_all.Given as goal
+use Rattle.fq_lane_tests.proofs.frame.take_all.Given as goal
 
 abbrev pub invariant-loop : goal.invariant-loop
 invariant-loop g l = l.rx.name ≡ l.fn.rx.name

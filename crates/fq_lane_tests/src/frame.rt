@@ -1,0 +1,139 @@
+//! What the tests call. Of the contracts behind it only what a later call requires is passed on, so no test is proved with what it
+//! doesn't need.
+
+ghost use Rattle.std.specs.Prelude.{◌≡◌, ◌≤◌, true, IfOk};
+
+use fq_lane::{End, Full, NotEnded, Rx, Taken, Tx, lane};
+use std::alloc::{AllocError, Global};
+use std::process::Abort;
+use std::sync::Wait;
+
+pub const DEPTHS: [usize; 3] = [1, 2, 64];
+
+/// A lane of numbers, of which no confirmation is asked.
+pub fn lane_of(alloc: Global, depth: usize) -> Result<(Tx<u64>, Rx<u64>), AllocError>
+    requires { (1 ≤ depth) × (depth ≤ 64) }
+{
+    lane(alloc, depth)
+}
+
+/// Both ends of two such lanes, each of one item.
+#[derive(Drop)]
+pub struct TwoLanes {
+    pub one_tx: Tx<u64>,
+    pub one_rx: Rx<u64>,
+    pub other_tx: Tx<u64>,
+    pub other_rx: Rx<u64>,
+}
+
+pub fn two_lanes(alloc: Global) -> Result<TwoLanes, AllocError> {
+    let (one_tx, one_rx) = lane_of(alloc, 1)?;
+    let (other_tx, other_rx) = lane_of(alloc, 1)?;
+    Ok(TwoLanes {
+        one_tx,
+        one_rx,
+        other_tx,
+        other_rx,
+    })
+}
+
+/// Whether there is room for the item, which is sent then.
+pub fn accepts(tx: &mut Tx<u64>, item: u64) -> bool
+    ensures { tx.new.name ≡ tx.old.name }
+{
+    tx.offer(item) == Ok(())
+}
+
+/// Whether the item comes back.
+pub fn refuses(tx: &mut Tx<u64>, item: u64) -> bool
+    ensures { tx.new.name ≡ tx.old.name }
+{
+    tx.offer(item) == Err(Full { item })
+}
+
+/// What comes next.
+pub fn take(rx: &mut Rx<u64>) -> Taken<u64>
+    ensures { rx.new.name ≡ rx.old.name }
+{
+    rx.take()
+}
+
+/// Whether this item comes next.
+pub fn gives(rx: &mut Rx<u64>, item: u64) -> bool
+    ensures { rx.new.name ≡ rx.old.name }
+{
+    take(rx) == Taken::Item(item)
+}
+
+/// Whether the mark comes next, or came before.
+pub fn finds_mark(rx: &mut Rx<u64>) -> bool
+    ensures { rx.new.name ≡ rx.old.name }
+{
+    take(rx) == Taken::Closed
+}
+
+/// The mark comes, now or again.
+pub fn assert_mark(rt: &impl Abort, rx: &mut Rx<u64>)
+    ensures name { rx.new.name ≡ rx.old.name }
+    ensures closed { rx.new.marked ≡ true }
+{
+    assert!(rt; finds_mark(rx));
+    assert!(rt; rx.is_closed());
+}
+
+/// Sends the item, once there is room.
+pub fn put(rt: &impl Wait, tx: &mut Tx<u64>, item: u64) {
+    tx.put(rt, item);
+}
+
+/// The next item, once it is there.
+pub fn take_wait(rt: &impl Wait, rx: &mut Rx<u64>) -> Option<u64> {
+    rx.take_wait(rt)
+}
+
+/// Closes a lane whose receiver is there.
+pub fn close(rt: &impl Abort, tx: Tx<u64>) -> End<u64>
+    ensures { result.name ≡ tx.name }
+{
+    tx.close().expect(rt, "the receiver is there")
+}
+
+/// Whether closing gives an end.
+pub fn gives_an_end(tx: Tx<u64>) -> bool {
+    tx.close().is_ok()
+}
+
+/// Puts 1 to `last`, and closes.
+pub fn put_all(rt: &impl Wait, tx: Tx<u64>, last: u64) -> Result<End<u64>, NotEnded>
+    ensures { IfOk result (λ end. end.name ≡ tx.name) }
+{
+    let mut tx = tx;
+    for n in 1..=last {
+        tx.put(rt, n);
+    }
+    tx.close()
+}
+
+/// Takes up to the mark, into a vector. An item for which memory is refused is left out, and the receiver goes on: one that
+/// stopped would leave the sender waiting.
+pub fn take_all(rt: &impl Wait, alloc: Global, rx: Rx<u64>) -> (Vec<u64>, Rx<u64>)
+    ensures name { result.1.name ≡ rx.name }
+    ensures closed { result.1.marked ≡ true }
+{
+    let mut rx = rx;
+    let mut items = Vec::new(alloc);
+    for _ in rt.forever() {
+        match rx.take_wait(rt) {
+            Some(item) => {
+                let _ = items.push(item);
+            }
+            None => return (items, rx),
+        }
+    }
+    unreachable!()
+}
+
+/// Whether these are the numbers from 1 to `last`.
+pub fn are_up_to(items: &[u64], last: u64) -> bool {
+    items.iter().copied().eq(1..=last)
+}
