@@ -14,7 +14,7 @@ ghost use Rattle.clap.specs.declared.error.kind.ErrorKind.TheVariants.{DisplayHe
 
 use crate::example::example;
 use crate::refusal_line::{refusal_line, refusal_status};
-use crate::report::{cannot_print, cannot_report, out_of_memory, report};
+use crate::telling::{cannot_print, cannot_report, out_of_memory, tell_account};
 use crate::unshown::Unshown;
 use clap::Error;
 use clap::error::ErrorKind;
@@ -130,7 +130,7 @@ fn tell<O: Outlet, E: Outlet>(alloc: Global, completed: &Completed, out: &mut O,
     ensures known { (result ≢ 1) × (result ≢ 2) }
 {
     match completed.reported {
-        Reported::NotDue | Reported::Written => report(alloc, &completed.account, out, err),
+        Reported::NotDue | Reported::Written => tell_account(alloc, &completed.account, out, err),
         Reported::Failed => cannot_report(err),
         Reported::OutOfMemory => out_of_memory(err),
     }
@@ -172,7 +172,7 @@ fn print_example<R: Threads + Wait + Copy + Send + 'static, O: Outlet, E: Outlet
             Ok(()) => 0,
             Err(_) => cannot_print(err),
         },
-        Err(Unshown::Unrun(account)) => report(alloc, &account, out, err),
+        Err(Unshown::Unrun(account)) => tell_account(alloc, &account, out, err),
         Err(Unshown::Memory) => out_of_memory(err),
     }
 }

@@ -9,7 +9,7 @@ ghost use Rattle.fq_run.specs.Endings.{ends_whole};
 ghost use Rattle.fq_command.specs.Example.{example_choices, example_text, sections};
 ghost use Rattle.fq_job.specs.Faults.{outcome_status};
 ghost use Rattle.fq_job.specs.Trimming.{pairs_of, TrimsPairs};
-ghost use Rattle.fq_job.specs.declared.trimming.Account.{Account};
+ghost use Rattle.fq_job.specs.declared.account.Account.{Account};
 ghost use Rattle.fq_command.specs.declared.unshown.Unshown.TheVariants.{Unrun};
 
 use crate::unshown::Unshown;
@@ -68,12 +68,17 @@ pub(crate) fn example<R: Threads + Wait + Copy + Send + 'static>(
     };
     let forward = ScriptFeed::new(alloc, FORWARD, CUT, 0)?;
     let reverse = ScriptFeed::new(alloc, REVERSE, CUT, 0)?;
+    let forward_paired = outlet(alloc);
+    let forward_unpaired = outlet(alloc);
+    let reverse_paired = outlet(alloc);
+    let reverse_unpaired = outlet(alloc);
+    let log = outlet(alloc);
     let mut outlets = Outlets {
-        forward_paired: outlet(alloc),
-        forward_unpaired: outlet(alloc),
-        reverse_paired: outlet(alloc),
-        reverse_unpaired: outlet(alloc),
-        log: Some(outlet(alloc)),
+        forward_paired,
+        forward_unpaired,
+        reverse_paired,
+        reverse_unpaired,
+        log: Some(log),
     };
     let account = run(alloc, rt, &settings(), gate, forward, reverse, &mut outlets);
     shown(alloc, account, &outlets)
@@ -137,27 +142,15 @@ fn labelled(
         outlets.now.reverse_paired.bytes outlets.now.reverse_unpaired.bytes log.now (summary_of counts.now)) }
 {
     let summary = summary(alloc, counts)?;
+    let forward_paired = outlets.forward_paired.bytes();
+    let forward_unpaired = outlets.forward_unpaired.bytes();
+    let reverse_paired = outlets.reverse_paired.bytes();
+    let reverse_unpaired = outlets.reverse_unpaired.bytes();
     let mut text = Vec::new(alloc);
-    put_section(
-        &mut text,
-        b"[forward paired]\n",
-        outlets.forward_paired.bytes(),
-    )?;
-    put_section(
-        &mut text,
-        b"[forward unpaired]\n",
-        outlets.forward_unpaired.bytes(),
-    )?;
-    put_section(
-        &mut text,
-        b"[reverse paired]\n",
-        outlets.reverse_paired.bytes(),
-    )?;
-    put_section(
-        &mut text,
-        b"[reverse unpaired]\n",
-        outlets.reverse_unpaired.bytes(),
-    )?;
+    put_section(&mut text, b"[forward paired]\n", forward_paired)?;
+    put_section(&mut text, b"[forward unpaired]\n", forward_unpaired)?;
+    put_section(&mut text, b"[reverse paired]\n", reverse_paired)?;
+    put_section(&mut text, b"[reverse unpaired]\n", reverse_unpaired)?;
     put_section(&mut text, b"[trim log]\n", log)?;
     put_section(&mut text, b"[summary]\n", summary.as_bytes())?;
     Ok(text)

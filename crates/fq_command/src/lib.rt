@@ -8,8 +8,8 @@
 mod answering;
 mod example;
 mod refusal_line;
-mod report;
+mod telling;
 mod unshown;
 
 pub use answering::program;
-pub use report::out_of_memory;
+pub use telling::out_of_memory;

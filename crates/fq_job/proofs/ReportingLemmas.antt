@@ -19,7 +19,7 @@ use Rattle.fq_report.specs.Reports.{text_of}
 use Rattle.fq_words.specs.Requests.{Asking}
 use Rattle.fq_job.specs.Faults.{settled, status_when, line_when, outcome_status, outcome_line, input_words}
 use Rattle.fq_job.specs.Reporting.{words_when, fault_words, run_facts, report_of, IsReport, IsTextOf, TookReport, ReportHeld}
-use Rattle.fq_job.specs.declared.trimming.Account.{Account}
+use Rattle.fq_job.specs.declared.account.Account.{Account}
 use Rattle.fq_job.specs.declared.reporting.Reported.{Reported}
 use Rattle.fq_job.specs.declared.reporting.Reported.TheVariants.{NotDue, Written, Failed, OutOfMemory}
 

@@ -19,7 +19,7 @@ use Rattle.fq_words.specs.Requests.{Asking, InputNames}
 use Rattle.fq_job.specs.Faults.{settled, input_words}
 use Rattle.fq_job.specs.Judging.{settings_of}
 use Rattle.fq_job.specs.Trimming.{pairs_of}
-use Rattle.fq_job.specs.declared.trimming.Account.{Account}
+use Rattle.fq_job.specs.declared.account.Account.{Account}
 use Rattle.fq_job.specs.declared.reporting.Reported.{Reported}
 use Rattle.fq_job.specs.declared.reporting.Reported.TheVariants.{Written, Failed}
 
@@ -36,7 +36,7 @@ fault_words outcome = words_when (settled outcome)
 -- the names of the inputs, in their form
 abbrev pub inputs_in : Form → List ℕ → List ℕ → facts.InputNames
 inputs_in TwoTexts forward reverse = facts.TwoFiles forward reverse
-inputs_in InterleavedText forward reverse = facts.OneFile forward
+inputs_in InterleavedText forward reverse = facts.InterleavedFile forward
 
 abbrev pub report_inputs : InputNames → facts.InputNames
 report_inputs names = inputs_in names.form names.forward names.reverse

@@ -5,6 +5,7 @@
 //! Whoever trims from a program of their own begins with `fq_run`.
 #![tactic(auto)]
 
+mod account;
 mod judging;
 mod outcome_line;
 mod outputs;
@@ -12,7 +13,8 @@ mod refusal;
 mod reporting;
 mod trimming;
 
-pub use outcome_line::{MEMORY_LINE, fault_line, status_of};
+pub use account::Account;
+pub use outcome_line::{LANE_LINE, MEMORY_LINE, fault_line, status_of};
 pub use refusal::Refusal;
 pub use reporting::Reported;
-pub use trimming::{Account, Completed, trim_files};
+pub use trimming::{Completed, trim_files};

@@ -13,6 +13,9 @@ use std::alloc::Global;
 /// What is said of want of memory, wherever it came, with its line end.
 pub const MEMORY_LINE: &str = "out of memory\n";
 
+/// What is said where a lane was not confirmed, with its line end.
+pub const LANE_LINE: &str = "lane not confirmed\n";
+
 // The outcome as it is told: a text that could not be read on is no fault of the text.
 fn settled(outcome: &Outcome) -> Outcome
     ensures { result ≡ settled outcome.now }
@@ -60,7 +63,7 @@ fn made_line(alloc: Global, outcome: Outcome) -> Result<String, OutOfMemory>
 {
     match outcome {
         Outcome::Spawn => String::from_str(alloc, "cannot start a thread\n"),
-        Outcome::Lane => String::from_str(alloc, "lane not confirmed\n"),
+        Outcome::Lane => String::from_str(alloc, LANE_LINE),
         Outcome::Gate => String::from_str(alloc, "gate closed\n"),
         Outcome::Memory => String::from_str(alloc, MEMORY_LINE),
         Outcome::Write(out) => format!(in alloc; "write failed: {out}\n"),

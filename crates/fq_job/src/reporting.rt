@@ -11,9 +11,9 @@ ghost use Rattle.fq_job.specs.declared.refusal.Refusal.{Refusal as Refused};
 ghost use Rattle.fq_job.specs.Faults.{outcome_status};
 ghost use Rattle.fq_job.specs.Reporting.{report_inputs, run_facts, IsTextOf, TookReport};
 
+use crate::account::Account;
 use crate::outcome_line::{fault_line, status_of};
 use crate::refusal::{Refusal, file_refused};
-use crate::trimming::Account;
 use fq_files::Files;
 use fq_report::{Inputs as NamedInputs, Report, report_text};
 use fq_tally::Tally;

@@ -14,31 +14,20 @@ ghost use Rattle.fq_work.specs.Replies.{tally_if};
 ghost use Rattle.fq_job.specs.Faults.{outcome_status};
 ghost use Rattle.fq_job.specs.Reporting.{ReportHeld};
 
+use crate::account::Account;
 use crate::judging::settings_of;
 use crate::outputs::{outputs, store};
 use crate::refusal::{Refusal, file_refused};
 use crate::reporting::{Reported, report_target, store_report};
 use fq_files::Files;
-use fq_pair::{Counts, Out, Side};
+use fq_pair::{Out, Side};
 use fq_run::{Outcome, Outlets, Settings, run_threads, run_threads_mixed};
-use fq_tally::Tally;
 use fq_text::{Feed, Outlet};
 use fq_words::{Inputs, Request, report_is_input, same_name};
 use fq_work::OpenGate;
 use std::alloc::Global;
 use std::sync::{Arc, Wait};
 use std::thread::Threads;
-
-/// What is told of a run.
-#[derive(Drop)]
-pub struct Account {
-    /// How the run ended.
-    pub outcome: Outcome,
-    /// The counts of the pairs whose block was written whole.
-    pub counts: Counts,
-    /// The tally of these pairs, where one was asked for.
-    pub tally: Option<Tally>,
-}
 
 /// A call that was done: its run, and what became of its report.
 #[derive(Drop)]

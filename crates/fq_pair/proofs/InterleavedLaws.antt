@@ -96,10 +96,6 @@ module _ {F : Type 0} (state : F → FeedState) (old : MixedSourced F) where
       ∙ ap (λ check. P check new.source.encoding (suc old.given)) (sym check_names)
       ∙ ap (P new.check_names new.source.encoding) (sym (given ∙ add-one old.given))
 
-  -- where nothing stands in front no pair is left, and no fault
-  pub interleaved_left_ended : front_of state old ≡ Ended → pairs_left state old ≡ record { mates = []; fault = None }
-  interleaved_left_ended front = interleaved_pairs_of-ended old.check_names old.source.encoding old.given text front
-
   -- where a fault stands in front no pair is left, and they end by it
   pub interleaved_left_stopped : (why : InputFault) → front_of state old ≡ Stopped why → pairs_left state old ≡ record { mates = []; fault = Some why }
   interleaved_left_stopped why front = interleaved_pairs_of-stopped old.check_names old.source.encoding old.given text why front

@@ -12,9 +12,8 @@ use Rattle.std.proofs.Math.Seq.{take-length}
 use Rattle.std.proofs.lemmas.Slice.Eq.{bytes_eq-Decides}
 use Rattle.std.proofs.lemmas.List.Sums.{position_or_len_is, fails_before_first}
 use Rattle.memchr.specs.Find.{IsFirstByte, is_byte2}
-use Rattle.fq_pair.specs.declared.side.Side.{Side}
 use Rattle.fq_pair.specs.declared.side.Side.TheVariants.{Forward, Reverse}
-use Rattle.fq_pair.specs.Mates.{is_gap, mark_of, without_end, name_of}
+use Rattle.fq_pair.specs.Mates.{is_gap, mark_of, without_end}
 
 -- the place of the first blank or tab, or the length
 word_end : (title : List ℕ) (r : Option ℕ) → IsFirstByte (is_byte2 32 9) title r → position_or_len is_gap title ≡ unwrap_or r (length title)
@@ -99,11 +98,6 @@ length-without_end ending word =
     cond_both (ends_with nat_eq word ending) (take (length word - length ending) word) word (λ (name : List ℕ). length name ≤ length word)
     (λ ends. omega (arith, length-take (length word - length ending) word))
     (λ other. omega arith)
-
--- a name is no longer than its title
-pub name_short : (side : Side) (title : List ℕ) → length (name_of side title) ≤ length title
-name_short side title =
-    omega (arith, length-without_end (mark_of side) (before_first is_gap title), length-take (position_or_len is_gap title) title)
 
 -- The names in two words that are alike but for their last bytes.
 module _ (word mate : List ℕ) (some : 0 < length word) (like : take (length word - 1) mate ≡ take (length word - 1) word) where

@@ -1,11 +1,11 @@
 -- The texts of pairs are those of some of them and those of the others behind them.
-use Rattle.std.proofs.Common.{◌≡◌, ◌+◌, Bool, List, [], ◌∷◌, ◌++◌, length, filter, flat_map, refl, ap, sym, ◌∙◌, append_assoc, add_assoc, add-zero, zero-add, ⊎_elim}
-use Rattle.std.proofs.lemmas.List.{append-nil, length-append}
+use Rattle.std.proofs.Common.{◌≡◌, ◌+◌, Bool, List, [], ◌∷◌, ◌++◌, length, filter, flat_map, refl, ap, sym, ◌∙◌, append_assoc, add_assoc, ⊎_elim}
+use Rattle.std.proofs.lemmas.List.{length-append}
 use Rattle.std.proofs.lemmas.List.Concat.{flat_map-append}
 use Rattle.std.proofs.lemmas.Bool.{cond-true, cond-false, cases_Bool}
 use Rattle.fq_trim.specs.declared.step.Step.{Step}
 use Rattle.fq_pair.specs.Mates.{Mates}
-use Rattle.fq_pair.specs.Outputs.{Outputs, record_text, log_lines, both_survive, forward_alone, reverse_alone, none_survive, forward_records, reverse_records, counts_of, texts_of, no_texts, sum_of, joined}
+use Rattle.fq_pair.specs.Outputs.{Outputs, record_text, log_lines, both_survive, forward_alone, reverse_alone, none_survive, forward_records, reverse_records, counts_of, texts_of, sum_of, joined}
 
 filter-append : (test : Mates → Bool) (xs ys : List Mates) → filter test (xs ++ ys) ≡ filter test xs ++ filter test ys
 filter-append test [] ys = refl
@@ -51,50 +51,6 @@ module _ (steps : List Step) (xs ys : List Mates) where
       let e = flat_map-append (log_lines steps) xs ys in
       let f = counts_of-append in
       cc
-
--- no pairs have no texts
-pub texts_of-none : (steps : List Step) → texts_of steps [] ≡ no_texts
-texts_of-none steps = refl
-
--- a value of texts by its parts
-abbrev parts_of : Outputs → Outputs
-parts_of texts = record {
-  forward_paired = texts.forward_paired;
-  forward_unpaired = texts.forward_unpaired;
-  reverse_paired = texts.reverse_paired;
-  reverse_unpaired = texts.reverse_unpaired;
-  log = texts.log;
-  counts = record {
-    pairs = texts.counts.pairs;
-    both = texts.counts.both;
-    forward_only = texts.counts.forward_only;
-    reverse_only = texts.counts.reverse_only;
-    dropped = texts.counts.dropped;
-  };
-}
-
-pub joined-none : (texts : Outputs) → joined texts no_texts ≡ texts
-joined-none texts =
-    let a = append-nil texts.forward_paired in
-    let b = append-nil texts.forward_unpaired in
-    let c = append-nil texts.reverse_paired in
-    let d = append-nil texts.reverse_unpaired in
-    let e = append-nil texts.log in
-    let f = add-zero texts.counts.pairs in
-    let g = add-zero texts.counts.both in
-    let h = add-zero texts.counts.forward_only in
-    let i = add-zero texts.counts.reverse_only in
-    let j = add-zero texts.counts.dropped in
-    let same : joined texts no_texts ≡ parts_of texts = cc in same
-
-pub none-joined : (texts : Outputs) → joined no_texts texts ≡ texts
-none-joined texts =
-    let f = zero-add texts.counts.pairs in
-    let g = zero-add texts.counts.both in
-    let h = zero-add texts.counts.forward_only in
-    let i = zero-add texts.counts.reverse_only in
-    let j = zero-add texts.counts.dropped in
-    let same : joined no_texts texts ≡ parts_of texts = cc in same
 
 pub joined_assoc : (a b c : Outputs) → joined (joined a b) c ≡ joined a (joined b c)
 joined_assoc a b c =

@@ -1,5 +1,5 @@
 -- The pairs that are left to a source of two texts, by what stands in front of them.
-use Rattle.std.proofs.Common.{◌≡◌, ℕ, suc, ◌+◌, Bool, not, ◌||◌, true, IsTrue, Option, Some, None, MatchOption, List, [], refl, ap, sym, subst, ◌∙◌, add-one}
+use Rattle.std.proofs.Common.{◌≡◌, ℕ, suc, ◌+◌, Bool, not, ◌||◌, true, IsTrue, Option, Some, None, MatchOption, List, refl, ap, sym, subst, ◌∙◌, add-one}
 use Rattle.std.specs.Option.{IsSome, IsSomeAnd}
 use Rattle.std.proofs.lemmas.Bool.{cond-true}
 use Rattle.fq_text.specs.Devices.{FeedState}
@@ -7,12 +7,11 @@ use Rattle.fq_text.specs.declared.encoding.Encoding.{Encoding}
 use Rattle.fq_text.specs.Lines.{lines}
 use Rattle.fq_text.specs.Grammar.{Read, Front, Found, front}
 use Rattle.fq_text.specs.Sources.{Sourced, rest_in, GivesRecord}
-use Rattle.fq_pair.specs.declared.fault.InputFault.{InputFault}
 use Rattle.fq_pair.specs.declared.fault.InputFault.TheVariants.{NamesDiffer}
 use Rattle.fq_pair.specs.Mates.{Mates, mates_in, names_match}
-use Rattle.fq_pair.specs.Pairing.{Pairs, Ended, Stopped, Met, belong, meeting, pairs_of, records_of, with_pair}
+use Rattle.fq_pair.specs.Pairing.{Pairs, Stopped, Met, belong, meeting, pairs_of, records_of, with_pair}
 use Rattle.fq_pair.specs.PairSources.{PairSourced, front_of, pairs_left, GivesPair, pair_of, asked}
-use Rattle.fq_pair.proofs.PairLaws.{pairs_of-met, pairs_of-stopped, pairs_of-ended}
+use Rattle.fq_pair.proofs.PairLaws.{pairs_of-met}
 
 module _ {F G : Type 0} (state : F → FeedState) (state' : G → FeedState) (old : PairSourced F G) where
   abbrev forward : List (List ℕ)
@@ -33,14 +32,6 @@ module _ {F G : Type 0} (state : F → FeedState) (state' : G → FeedState) (ol
       ∙ ap (λ e. P old.check_names e (suc old.given)) (sym encoding)
       ∙ ap (λ check. P check new.forward.encoding (suc old.given)) (sym check_names)
       ∙ ap (P new.check_names new.forward.encoding) (sym (given ∙ add-one old.given))
-
-  -- where nothing stands in front no pair is left, and no fault
-  pub pairs_left_ended : front_of state state' old ≡ Ended → pairs_left state state' old ≡ record { mates = []; fault = None }
-  pairs_left_ended front = pairs_of-ended old.check_names old.forward.encoding old.given forward reverse front
-
-  -- where a fault stands in front no pair is left, and they end by it
-  pub pairs_left_stopped : (why : InputFault) → front_of state state' old ≡ Stopped why → pairs_left state state' old ≡ record { mates = []; fault = Some why }
-  pairs_left_stopped why front = pairs_of-stopped old.check_names old.forward.encoding old.given forward reverse why front
 
 -- two records that were given make a pair, where their names allow it
 pub two_given : {F G : Type 0} (state : F → FeedState) (state' : G → FeedState) (a b : Sourced F) (a' b' : Sourced G) (check : Bool) (given : ℕ)

@@ -8,7 +8,7 @@ use Rattle.serde_json.specs.Data.{Data, null}
 use Rattle.serde_json.specs.View.{items_of}
 use Rattle.serde_json.specs.Written.{has_float, items_have_float}
 use Rattle.fq_report.specs.Values.{count, list, optional_text}
-use Rattle.fq_report.specs.Facts.{InputNames, TwoFiles, OneFile, Facts}
+use Rattle.fq_report.specs.Facts.{InputNames, TwoFiles, InterleavedFile, Facts}
 use Rattle.fq_report.specs.Reports.{inputs_value, outputs_value, pairs_value, length_value, lengths_from, reads_value, removed_value, side_value, sides_value, done_value, step_value, steps_from, report_value}
 
 text_no_float : (text : Option (List ℕ)) → has_float (optional_text text) ≡ false
@@ -18,7 +18,7 @@ text_no_float None = refl
 inputs_no_float : (inputs : InputNames) → has_float (inputs_value inputs) ≡ false
 unfolding inputs_value
 inputs_no_float (TwoFiles forward reverse) = refl
-inputs_no_float (OneFile both) = refl
+inputs_no_float (InterleavedFile both) = refl
 
 outputs_no_float : (f : Facts) → has_float (outputs_value f) ≡ false
 unfolding outputs_value

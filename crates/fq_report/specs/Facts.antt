@@ -11,11 +11,11 @@ use Rattle.fq_report.specs.declared.report.Report.{Report}
 -- the inputs, by name
 pub data InputNames : Type 0 where
   TwoFiles : List ℕ → List ℕ → InputNames
-  OneFile : List ℕ → InputNames
+  InterleavedFile : List ℕ → InputNames
 
 abbrev pub names_of : Inputs → InputNames
 names_of (Apart forward reverse) = TwoFiles forward.now reverse.now
-names_of (Interleaved both) = OneFile both.now
+names_of (Interleaved both) = InterleavedFile both.now
 
 pub record Facts : Type 0 where
   pub program : List ℕ

@@ -11,14 +11,14 @@ use Rattle.fq_tally.specs.declared.tally.Tally.{Tally}
 use Rattle.serde_json.specs.Data.{Data, null, boolean, string}
 use Rattle.serde_json.specs.Written.{compact_text}
 use Rattle.fq_report.specs.Values.{count, optional_text, list, fields}
-use Rattle.fq_report.specs.Facts.{InputNames, TwoFiles, OneFile, Facts}
+use Rattle.fq_report.specs.Facts.{InputNames, TwoFiles, InterleavedFile, Facts}
 
 -- Of the call.
 
 -- the command that takes such inputs
 abbrev pub command_of : InputNames → List ℕ
 command_of (TwoFiles forward reverse) = codes "PE"
-command_of (OneFile both) = codes "IL"
+command_of (InterleavedFile both) = codes "IL"
 
 abbrev pub encoding_name : Encoding → List ℕ
 encoding_name Sanger = codes "sanger"
@@ -34,7 +34,7 @@ unfoldable pub inputs_value : InputNames → Data
 inputs_value (TwoFiles forward reverse) = fields (
     (codes "forward", string forward)
     ∷ (codes "reverse", string reverse) ∷ [])
-inputs_value (OneFile both) = fields (
+inputs_value (InterleavedFile both) = fields (
     (codes "interleaved", string both) ∷ [])
 
 unfoldable pub outputs_value : Facts → Data

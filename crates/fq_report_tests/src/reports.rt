@@ -166,7 +166,7 @@ fn told_of_fault(alloc: Global, words: &[&str]) -> Result<String, Fail> {
 }
 
 #[test]
-fn a_fault_of_one_file(rt: HostRuntime) -> Result<(), Fail> {
+fn a_fault_of_an_interleaved_file(rt: HostRuntime) -> Result<(), Fail> {
     let text = told_of_fault(rt.alloc(), &["TOPHRED33"])?;
     for part in [
         r#"{"command":"IL","encoding":"illumina13","fault":"input: reverse record 6: MateMissing","inputs":{"interleaved":"#,

@@ -24,7 +24,7 @@ use Rattle.fq_serial.specs.Endings.{Run, AreTold, ends_whole, IsTrimmed, EveryEn
 use Rattle.fq_serial.specs.Outcomes.{rank}
 use Rattle.fq_run.specs.Threads.{IsFresh, Concludes, run_from, IsThreaded}
 use Rattle.fq_pair.specs.Walks.{SourceState}
-use Rattle.fq_serial.specs.Walks.{feed_in}
+use Rattle.fq_serial.specs.PairsRead.{feed_in}
 use Rattle.fq_serial.specs.Writing.{Runs, FlushesAfter}
 use Rattle.fq_run.proofs.StartLemmas.{of_one}
 use Rattle.fq_serial.proofs.RunLemmas.{run_rank, run_every, run_whole}

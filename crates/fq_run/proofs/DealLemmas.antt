@@ -3,7 +3,7 @@ use Rattle.std.proofs.Math.Nat.{suc-mod, mod-eq_of_lt, mod_self, zero-mod}
 use Rattle.std.proofs.lemmas.Nat.{mod_below}
 use Rattle.std.proofs.lemmas.Bool.{cases_lt}
 use mathlib.Core.List.{IsPrefix}
-use Rattle.fq_run.specs.Dealing.{every, dealt_to, deal, gather_turns, gather, total_length}
+use Rattle.fq_run.specs.Shares.{every, dealt_to, deal, gather_turns, gather, total_length}
 
 -- the place after place n of w
 pub next_wraps : (n w : ℕ) → 0 < w → suc (n % w) ≡ w → suc n % w ≡ 0

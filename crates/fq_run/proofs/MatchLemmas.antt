@@ -15,9 +15,9 @@ use Rattle.fq_work.specs.declared.reply.Cause.{Cause}
 use Rattle.fq_work.specs.declared.reply.Reply.{Reply}
 use Rattle.fq_work.specs.declared.reply.Reply.TheVariants.{Done as done, Stop}
 use Rattle.fq_run.specs.Confirming.{Matched}
-use Rattle.fq_run.specs.Dealing.{every}
+use Rattle.fq_run.specs.Shares.{every}
 use Rattle.fq_run.specs.dealer.Dealt.{Closed}
-use Rattle.fq_run.specs.lanes.Lanes.{IsDealt, IsAtMark, IsBegun}
+use Rattle.fq_run.specs.lanes.Items.{IsDealt, IsAtMark, IsBegun}
 use Rattle.fq_run.proofs.DealLemmas.{whole_from_turns, prefix_from_turns, every-map}
 
 -- A beginning of what was dealt.

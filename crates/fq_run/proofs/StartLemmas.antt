@@ -23,7 +23,7 @@ use Rattle.fq_run.specs.Threads.{IsReady, IsFresh, IsThreaded, run_from}
 use Rattle.fq_run.specs.declared.conclusion.Conclusion.{Conclusion}
 use Rattle.fq_pair.specs.Forms.{Form}
 use Rattle.fq_pair.specs.Walks.{SourceState, GoesOn}
-use Rattle.fq_serial.specs.Walks.{fresh_source, feed_in}
+use Rattle.fq_serial.specs.PairsRead.{fresh_source, feed_in}
 use Rattle.fq_serial.proofs.OutletLemmas.{all_took_none, all_took_same}
 use Rattle.fq_serial.proofs.TextLemmas.{no_text}
 use Rattle.fq_serial.proofs.PassLemmas.{runs_refused}
@@ -33,7 +33,7 @@ use Rattle.fq_serial.specs.Writing.{FlushesAfter, no_halt}
 use Rattle.fq_work.specs.Replies.{tally_if}
 use Rattle.fq_serial.specs.declared.total.Total.{Total}
 use Rattle.fq_serial.proofs.TotalLemmas.{no_total_is}
-use Rattle.fq_serial.proofs.PassLemmas as passing
+use Rattle.fq_serial.specs.Totals.{no_total}
 
 -- two things of one source are there, or neither is
 pub of_one : {S A B : Type 0} (f : S → A) (h : S → B) (o : Option S) → (option_map f o ≡ None) ↔ (option_map h o ≡ None)
@@ -126,7 +126,7 @@ module _ (c : Choices) (run : Run) (e : run.outcome ≡ outcome.Spawn) (none : r
   }
 
 -- where memory was refused before the threads the outlets were flushed, and no more
-pub refused : (form : Form) (c : Choices) (f r f' r' : FeedState) (before after : OutletStates) (counted : Total) (failed : Option Out) → f' ≡ f → r' ≡ r → counted ≡ passing.nothing → FlushesAfter None before after failed → f.failures ≡ 0 → r.failures ≡ 0 →
+pub refused : (form : Form) (c : Choices) (f r f' r' : FeedState) (before after : OutletStates) (counted : Total) (failed : Option Out) → f' ≡ f → r' ≡ r → counted ≡ no_total false → FlushesAfter None before after failed → f.failures ≡ 0 → r.failures ≡ 0 →
     IsThreaded c (record { form = form; forward = f; reverse = r; outlets = before; forward_left = Some f'; reverse_left = Some r'; outlets_left = after; outcome = outcome.Memory; counts = counted.counts; tally = counted.tally }) None
 refused form c f r f' r' before after counted failed same also none flushed sound sound' =
     let p = runs_refused form c f r f' r' before counted same also none in

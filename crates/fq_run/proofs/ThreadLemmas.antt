@@ -25,16 +25,16 @@ use Rattle.fq_serial.specs.declared.reading_end.ReadingEnd.{ReadingEnd}
 use Rattle.fq_serial.specs.Choices.{Choices}
 use Rattle.fq_run.specs.collector.Collecting.{Collects, Writes, IsHeard, TookAll, written_text, counted_from, counted, failed_in}
 use Rattle.fq_run.specs.Confirming.{Matched}
-use Rattle.fq_run.specs.Dealing.{AreEven, IsCut, join}
+use Rattle.fq_run.specs.Shares.{AreEven, IsCut, join}
 use Rattle.fq_run.specs.dealer.Dealt.{Closed}
 use Rattle.fq_run.specs.dealer.DealingOut.{DealsOut}
 use Rattle.fq_text.specs.Devices.{FeedState}
 use Rattle.fq_serial.specs.Devices.{OutletStates, OutletsTook, part_at}
 use Rattle.fq_serial.specs.Fates as fate
-use Rattle.fq_run.specs.lanes.Lanes.{IsDealt}
+use Rattle.fq_run.specs.lanes.Items.{IsDealt}
 use Rattle.fq_pair.specs.Forms.{Form}
 use Rattle.fq_pair.specs.Walks.{SourceState}
-use Rattle.fq_serial.specs.Walks.{Reads, fresh_source, feed_in}
+use Rattle.fq_serial.specs.PairsRead.{Reads, fresh_source, feed_in}
 use Rattle.fq_serial.specs.Writing.{no_halt, Passes, Runs}
 use Rattle.fq_run.proofs.MatchLemmas.{answered, begun_before, begun_first, at_mark_all}
 use Rattle.fq_serial.proofs.OutletLemmas.{all_took_same}

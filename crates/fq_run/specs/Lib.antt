@@ -1,4 +1,4 @@
-pub mod Dealing
+pub mod Shares
 pub mod Each
 pub mod lanes
 pub mod dealer

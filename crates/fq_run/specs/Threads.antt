@@ -18,7 +18,7 @@ use Rattle.fq_run.specs.Each.{Each3}
 use Rattle.fq_serial.specs.Endings.{Run, AreTold, ends_whole, IsTrimmed, IsUntouched, EveryEnding}
 use Rattle.fq_serial.specs.Outcomes.{outcome_of}
 use Rattle.fq_pair.specs.Walks.{SourceState}
-use Rattle.fq_serial.specs.Walks.{fresh_source, feed_in}
+use Rattle.fq_serial.specs.PairsRead.{fresh_source, feed_in}
 use Rattle.fq_serial.specs.Writing.{occurred}
 use Rattle.fq_run.specs.declared.collector.Collector.{Collector}
 use Rattle.fq_run.specs.declared.dealer.Dealer.{Dealer}

@@ -1,3 +1,3 @@
 -- The lanes between the threads of a run.
-pub mod Lanes
+pub mod Items
 pub mod Laying

@@ -2,10 +2,10 @@
 
 ghost use Rattle.std.specs.Prelude.{◌≡◌, ◌+◌, ◌<◌, [], None, Bool, IsTrue, is_some, min, if◌then◌else◌, vec_len};
 ghost use Rattle.fq_run.specs.collector.Collecting.{Collects, TookAll, before_stop, failed_in};
-ghost use Rattle.fq_run.specs.Dealing.{gather};
+ghost use Rattle.fq_run.specs.Shares.{gather};
 ghost use Rattle.fq_serial.specs.Totals.{no_total};
 ghost use Rattle.fq_serial.specs.Devices.{OutletStates, outlet_states, AreHealthy};
-ghost use Rattle.fq_run.specs.lanes.Lanes.{names_of, lists_of, AllClosed, IsDealt};
+ghost use Rattle.fq_run.specs.lanes.Items.{names_of, lists_of, AllClosed, IsDealt};
 ghost use Rattle.fq_run.specs.collector.Stops.{HearsAll, Drains};
 
 pub(crate) mod phase;

@@ -7,7 +7,7 @@ ghost use Rattle.fq_serial.specs.Endings.{interleaved_run_of, AreTold, ends_whol
 ghost use Rattle.fq_run.specs.Threads.{IsThreaded};
 
 use crate::conclusion::Conclusion;
-use crate::preparing::prepare_mixed;
+use crate::preparing::prepare_interleaved;
 use crate::threads::start;
 use fq_pair::{Counts, MixedSource};
 use fq_serial::{MixedEnding, Outcome, Outlets, Settings};
@@ -71,7 +71,7 @@ fn begin<
     requires outlets { AreHealthy (outlet_states O.state outlets.old) }
     ensures { IsThreaded settings.now (interleaved_run_of F.state (outlet_states O.state) feed outlets.old outlets.new result) result.unended }
 {
-    match prepare_mixed(alloc, settings, feed) {
+    match prepare_interleaved(alloc, settings, feed) {
         Ok((dealer, ready)) => ending_of(start(alloc, rt, settings, gate, dealer, ready, outlets)),
         Err(feed) => {
             // A failed flush comes behind want of memory in the order of `Outcome`.

@@ -5,14 +5,14 @@ ghost use Rattle.fq_pair.specs.Forms.{TwoTexts, InterleavedText};
 ghost use Rattle.fq_run.specs.Threads.{IsReady};
 ghost use Rattle.fq_pair.specs.Walks.{source_state, interleaved_state};
 ghost use Rattle.fq_serial.specs.Totals.{no_total};
-ghost use Rattle.fq_serial.specs.Walks.{fresh_source};
+ghost use Rattle.fq_serial.specs.PairsRead.{fresh_source};
 
 use crate::dealer::Dealer;
 use crate::lanes::Lanes;
 use crate::ready::Ready;
 use fq_pair::{MixedSource, PairSource};
 use fq_serial::Settings;
-use fq_serial::shared::{open, open_mixed};
+use fq_serial::shared::{open, open_interleaved};
 use fq_text::Feed;
 use std::alloc::Global;
 
@@ -42,7 +42,7 @@ pub(crate) fn prepare<F: Feed, G: Feed>(
 }
 
 /// Makes all lanes, and then the source of an interleaved text. The feed comes back where memory was refused.
-pub(crate) fn prepare_mixed<F: Feed>(
+pub(crate) fn prepare_interleaved<F: Feed>(
     alloc: Global,
     settings: &Settings,
     feed: F,
@@ -58,7 +58,7 @@ pub(crate) fn prepare_mixed<F: Feed>(
     let Ok(lanes) = Lanes::new(alloc, settings) else {
         return Err(feed);
     };
-    match open_mixed(alloc, settings, feed) {
+    match open_interleaved(alloc, settings, feed) {
         Ok(source) => Ok(lanes.over(source)),
         Err(feed) => Err(feed),
     }

@@ -13,7 +13,7 @@ use Rattle.fq_serial.specs.Devices.{OutletStates, OutletsTook, part_at}
 use Rattle.fq_serial.specs.Sending.{BreaksAt}
 use Rattle.fq_serial.specs.Fates.{Unbroken, WriteFailed}
 use Rattle.fq_pair.specs.Walks.{SourceState, Walks, GoesOn}
-use Rattle.fq_serial.specs.Walks.{Reads}
+use Rattle.fq_serial.specs.PairsRead.{Reads}
 use Rattle.fq_serial.specs.Gathering.{Gathers}
 use Rattle.fq_serial.specs.Writing.{no_halt, Passes}
 use Rattle.fq_serial.proofs.OutletLemmas.{all_took_none, all_took_then, all_took_same}

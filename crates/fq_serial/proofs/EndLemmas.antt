@@ -25,7 +25,7 @@ use Rattle.fq_text.specs.Devices.{FeedState}
 use Rattle.fq_serial.specs.Devices.{gave, OutletStates, OutletsTook}
 use Rattle.fq_serial.specs.Fates.{Fate, Unbroken, FlushFailed, WriteFailed, failed_outlet, block_begun, part_begun, IsCutShort}
 use Rattle.fq_pair.specs.Walks.{SourceState, fed}
-use Rattle.fq_serial.specs.Walks.{Reads, fresh_side, fresh_source, feed_in}
+use Rattle.fq_serial.specs.PairsRead.{Reads, fresh_side, fresh_source, feed_in}
 use Rattle.fq_serial.specs.Writing.{no_halt, IsCounted, Passes, FlushesAfter, is_flush}
 use Rattle.fq_serial.specs.Endings.{Run, AreTold, all_pairs, trimmed_outcome, IsTrimmed, ends_whole, feed_of, feed_left, gave_to, failures_in, IsCutOff, pairs_given, IsAllThatCame, AreFirst, IsJustified, EveryEnding}
 use Rattle.fq_serial.proofs.OutletLemmas.{all_took_then, all_took_same}

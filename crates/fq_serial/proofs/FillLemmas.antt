@@ -8,7 +8,7 @@ use Rattle.fq_serial.specs.declared.reading_end.ReadingEnd.{ReadingEnd}
 use Rattle.fq_serial.specs.declared.reading_end.ReadingEnd.TheVariants as reading
 use Rattle.fq_serial.specs.Filling.{Fills}
 use Rattle.fq_pair.specs.Walks.{SourceState, Walks, MeetsEnd, MeetsFault, GoesOn}
-use Rattle.fq_serial.specs.Walks.{Reads}
+use Rattle.fq_serial.specs.PairsRead.{Reads}
 use Rattle.fq_serial.proofs.WalkLemmas.{walks_none, walks_then}
 use Rattle.fq_pair.proofs.SideLemmas.{walked_records}
 

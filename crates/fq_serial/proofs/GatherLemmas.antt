@@ -15,7 +15,7 @@ use Rattle.fq_work.proofs.WorkLemmas.{is_asked, made_more}
 use Rattle.fq_serial.specs.declared.reading_end.ReadingEnd.{ReadingEnd}
 use Rattle.fq_serial.specs.declared.reading_end.ReadingEnd.TheVariants as reading
 use Rattle.fq_pair.specs.Walks.{SourceState, Walks, MeetsEnd, MeetsFault, GoesOn}
-use Rattle.fq_serial.specs.Walks.{Reads}
+use Rattle.fq_serial.specs.PairsRead.{Reads}
 use Rattle.fq_serial.specs.Gathering.{Gathers}
 use Rattle.fq_serial.proofs.WalkLemmas.{walks_none, walks_then}
 

@@ -1,7 +1,7 @@
 -- From the feeds to the outlets.
-use Rattle.std.proofs.Common.{◌≡◌, inr, Option, Some, None, [], ◌++◌, refl, sym, ap, subst}
+use Rattle.std.proofs.Common.{◌≡◌, false, inr, Option, Some, None, [], ◌++◌, refl, sym, ap, subst}
 use Rattle.fq_pair.specs.declared.out.Out.{Out}
-use Rattle.fq_pair.specs.Outputs.{text_of, texts_of, no_counts}
+use Rattle.fq_pair.specs.Outputs.{text_of, texts_of}
 use Rattle.fq_serial.specs.declared.halt.Halt.{Halt}
 use Rattle.fq_serial.specs.declared.total.Total.{Total}
 use Rattle.fq_serial.specs.declared.written.Written.{Written}
@@ -13,18 +13,15 @@ use Rattle.fq_serial.specs.Devices.{OutletStates}
 use Rattle.fq_serial.specs.Fates.{Unbroken}
 use Rattle.fq_pair.specs.Forms.{Form}
 use Rattle.fq_pair.specs.Walks.{SourceState}
-use Rattle.fq_serial.specs.Walks.{fresh_source, feed_in}
+use Rattle.fq_serial.specs.PairsRead.{fresh_source, feed_in}
+use Rattle.fq_serial.specs.Totals.{no_total}
 use Rattle.fq_serial.specs.Writing.{no_halt, Passes, Runs}
 use Rattle.fq_serial.proofs.OutletLemmas.{all_took_none, all_took_same}
 use Rattle.fq_serial.proofs.TextLemmas.{no_text}
 use Rattle.fq_serial.proofs.WalkLemmas.{walks_none}
 
--- no counts and no tally
-abbrev pub nothing : Total
-nothing = record { counts = no_counts; tally = None }
-
 -- memory was refused before anything was read
-pub passes_refused : (c : Choices) (old : SourceState) (o : OutletStates) (counted : Total) → old.last ≡ None → counted ≡ nothing → Passes c old old o o counted no_halt (Some reading.Memory) None
+pub passes_refused : (c : Choices) (old : SourceState) (o : OutletStates) (counted : Total) → old.last ≡ None → counted ≡ no_total false → Passes c old old o o counted no_halt (Some reading.Memory) None
 passes_refused c old o counted goes none = record {
   whole = [];
   fate = Unbroken;
@@ -42,23 +39,23 @@ passes_refused c old o counted goes none = record {
     no_more : (out : Out) → text_of out (texts_of c.steps []) ++ [] ≡ []
     no_more out = let e = no_text c.steps out in rw e refl
 
-pub runs_refused : (form : Form) (c : Choices) (f r f' r' : FeedState) (o : OutletStates) (counted : Total) → f' ≡ f → r' ≡ r → counted ≡ nothing → Runs form c f r f' r' o o counted no_halt (Some reading.Memory) None
+pub runs_refused : (form : Form) (c : Choices) (f r f' r' : FeedState) (o : OutletStates) (counted : Total) → f' ≡ f → r' ≡ r → counted ≡ no_total false → Runs form c f r f' r' o o counted no_halt (Some reading.Memory) None
 runs_refused form c f r f' r' o counted same also none =
     record { new = fresh_source form c f r; passes = passes_refused c (fresh_source form c f r) o counted refl none; forward = same; reverse = also }
 
 abbrev pub written_nothing : Written
-written_nothing = record { total = nothing; why = Some reading.Memory; failed = None }
+written_nothing = record { total = no_total false; why = Some reading.Memory; failed = None }
 
 pub passes_nothing : (c : Choices) (old : SourceState) (o : OutletStates) (w : Written) → old.last ≡ None → w ≡ written_nothing → Passes c old old o o w.total no_halt w.why w.failed
 passes_nothing c old o w goes is =
     let P : Written → Type 0 = λ x. Passes c old old o o x.total no_halt x.why x.failed in
-    subst P (sym is) (passes_refused c old o nothing goes refl)
+    subst P (sym is) (passes_refused c old o (no_total false) goes refl)
 
 pub runs_nothing : (form : Form) (c : Choices) (f r f' r' : FeedState) (o : OutletStates) (w : Written) → w ≡ written_nothing → f' ≡ f → r' ≡ r →
     Runs form c f r f' r' o o w.total no_halt w.why w.failed
 runs_nothing form c f r f' r' o w is same also =
     let P : Written → Type 0 = λ x. Runs form c f r f' r' o o x.total no_halt x.why x.failed in
-    subst P (sym is) (runs_refused form c f r f' r' o nothing same also refl)
+    subst P (sym is) (runs_refused form c f r f' r' o (no_total false) same also refl)
 
 -- what was passed from a fresh source on
 pub runs_passed : (form : Form) (c : Choices) (f r f' r' : FeedState) (old new : SourceState) (before after : OutletStates) (counted : Total) (halt : Halt) (why : Option ReadingEnd) (failed : Option Out) →

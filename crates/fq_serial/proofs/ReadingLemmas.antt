@@ -18,7 +18,7 @@ use Rattle.fq_serial.specs.Choices.{Choices}
 use Rattle.fq_text.specs.Devices.{FeedState}
 use Rattle.fq_serial.specs.Devices.{gave, Fed}
 use Rattle.fq_pair.specs.Walks.{SideState, SourceState, rest, fed, Draws, Leads, next_front, Walks, faulty}
-use Rattle.fq_serial.specs.Walks.{Reads, fresh_side, fresh_source, feed_in}
+use Rattle.fq_serial.specs.PairsRead.{Reads, fresh_side, fresh_source, feed_in}
 use Rattle.fq_serial.specs.Endings.{AreFirst}
 use Rattle.fq_serial.proofs.FormLemmas.{pairs_at, pairs_in-lines, pairs_at-met, pairs_at-stopped, pairs_at-ended}
 use Rattle.fq_serial.proofs.CutLemmas.{mates_at, no_forward, no_reverse, at_most, interleaved_at, no_interleaved, interleaved_at_most}

@@ -12,7 +12,7 @@ use Rattle.fq_text.specs.Devices.{FeedState}
 use Rattle.fq_serial.specs.Devices.{OutletStates, AreHealthy, OutletsTook}
 use Rattle.fq_serial.specs.Fates.{part_begun}
 use Rattle.fq_pair.specs.Forms.{Form}
-use Rattle.fq_serial.specs.Walks.{fresh_source, feed_in}
+use Rattle.fq_serial.specs.PairsRead.{fresh_source, feed_in}
 use Rattle.fq_serial.specs.Writing.{no_halt, Runs, FlushesAfter, occurred}
 use Rattle.fq_serial.specs.Endings.{Run, AreTold, ends_whole, IsTrimmed, EveryEnding}
 use Rattle.fq_serial.proofs.OutletLemmas.{still_healthy}

@@ -10,7 +10,7 @@ use Rattle.fq_serial.specs.declared.reading_end.ReadingEnd.{ReadingEnd}
 use Rattle.fq_serial.specs.declared.reading_end.ReadingEnd.TheVariants as reading
 use Rattle.fq_pair.specs.Walks.{SideState, SourceState, rest, fed, Draws, Uses, KeepsSettings, Leads, Walks}
 use Rattle.fq_pair.proofs.SideLemmas.{draws_then, uses_then, records_then}
-use Rattle.fq_serial.specs.Walks.{Reads}
+use Rattle.fq_serial.specs.PairsRead.{Reads}
 
 -- One side.
 

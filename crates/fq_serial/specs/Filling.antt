@@ -2,7 +2,7 @@
 use Rattle.std.specs.Prelude.{◌≡◌, ℕ, ◌+◌, ◌≤◌, Option, Some, None, length}
 use Rattle.fq_block.specs.Blocks.{Numbered}
 use Rattle.fq_pair.specs.Walks.{SourceState, GoesOn}
-use Rattle.fq_serial.specs.Walks.{Reads}
+use Rattle.fq_serial.specs.PairsRead.{Reads}
 use Rattle.fq_serial.specs.declared.reading_end.ReadingEnd.{ReadingEnd}
 use Rattle.fq_serial.specs.declared.reading_end.ReadingEnd.TheVariants as reading
 

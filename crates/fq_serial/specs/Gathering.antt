@@ -6,7 +6,7 @@ use Rattle.fq_pair.specs.Outputs.{texts_of}
 use Rattle.fq_pair.specs.Walks.{SourceState, GoesOn}
 use Rattle.fq_work.specs.declared.done.Done.{Done}
 use Rattle.fq_work.specs.Replies.{tally_if}
-use Rattle.fq_serial.specs.Walks.{Reads}
+use Rattle.fq_serial.specs.PairsRead.{Reads}
 use Rattle.fq_serial.specs.declared.reading_end.ReadingEnd.{ReadingEnd}
 
 -- up to so many pairs were read, and are trimmed, and tallied where a tally is asked for

@@ -3,7 +3,7 @@ pub mod Choices
 pub mod Outcomes
 pub mod Devices
 pub mod Sending
-pub mod Walks
+pub mod PairsRead
 pub mod Gathering
 pub mod Totals
 pub mod Filling

@@ -18,7 +18,7 @@ use Rattle.fq_serial.specs.Devices.{OutletStates, OutletsTook}
 use Rattle.fq_serial.specs.Fates.{Fate, FlushFailed, failed_outlet, block_begun, part_begun, IsCutShort}
 use Rattle.fq_pair.specs.Forms.{Form}
 use Rattle.fq_pair.specs.Walks.{SourceState}
-use Rattle.fq_serial.specs.Walks.{Reads, fresh_source, feed_in}
+use Rattle.fq_serial.specs.PairsRead.{Reads, fresh_source, feed_in}
 
 -- an outlet failed at its flush
 abbrev pub is_flush : Fate → Bool

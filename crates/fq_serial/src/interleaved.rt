@@ -10,7 +10,7 @@ ghost use Rattle.fq_serial.specs.Endings.{interleaved_run_of, AreTold, ends_whol
 use crate::ending::MixedEnding;
 use crate::halt::Halt;
 use crate::occurred::Occurred;
-use crate::opening::open_mixed;
+use crate::opening::open_interleaved;
 use crate::outlets::Outlets;
 use crate::settings::Settings;
 use crate::writing::write_blocks;
@@ -70,7 +70,7 @@ fn pass<F: Feed, O: Outlet>(
         (outlet_states O.state outlets.old) (outlet_states O.state outlets.new)
         result.written.total no_halt result.written.why result.written.failed }
 {
-    match open_mixed(alloc, settings, feed) {
+    match open_interleaved(alloc, settings, feed) {
         Ok(mut source) => Pass {
             written: write_blocks(alloc, settings, &mut source, outlets),
             feeds: source.into_feed(),

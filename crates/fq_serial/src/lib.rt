@@ -1,22 +1,29 @@
 //! Runs of the trimmer on one thread, and what a run on several threads shares with them.
 #![tactic(auto)]
 
-mod ending;
-mod filling;
-mod gathering;
-mod halt;
+// A run on one thread, by the form of its input.
 mod interleaved;
-mod occurred;
-mod opening;
-mod outcome;
-mod outlets;
-mod reading_end;
-mod settings;
-pub mod shared;
-mod total;
 mod two_texts;
+
+// Its way: sources are opened, pairs are gathered block for block, and written.
+mod gathering;
+mod opening;
 mod writing;
 mod written;
+
+// What a run on several threads shares with it.
+mod filling;
+mod halt;
+mod occurred;
+mod reading_end;
+pub mod shared;
+mod total;
+
+// What a run is given, and what it leaves.
+mod ending;
+mod outcome;
+mod outlets;
+mod settings;
 
 pub use ending::{Ending, MixedEnding};
 pub use interleaved::run_serial_mixed;

@@ -3,7 +3,7 @@
 ghost use Rattle.std.specs.Prelude.{◌≡◌, ◌≤◌, ◌*◌, ◌^◌, [], None, IfOk, IfErr};
 ghost use Rattle.fq_pair.specs.Forms.{TwoTexts, InterleavedText};
 ghost use Rattle.fq_pair.specs.Walks.{source_state, interleaved_state};
-ghost use Rattle.fq_serial.specs.Walks.{fresh_source};
+ghost use Rattle.fq_serial.specs.PairsRead.{fresh_source};
 
 use crate::settings::Settings;
 use fq_pair::{MixedSource, PairSource};
@@ -58,7 +58,11 @@ pub fn open<F: Feed, G: Feed>(
 }
 
 /// The source of the pairs of an interleaved feed, or the feed where memory was refused.
-pub fn open_mixed<F: Feed>(alloc: Global, settings: &Settings, feed: F) -> Result<MixedSource<F>, F>
+pub fn open_interleaved<F: Feed>(
+    alloc: Global,
+    settings: &Settings,
+    feed: F,
+) -> Result<MixedSource<F>, F>
     requires { (F.state feed).failures ≡ 0 }
     ensures ok { IfOk result (λ source. interleaved_state F.state source
         ≡ fresh_source InterleavedText settings.now (F.state feed) (F.state feed)) }

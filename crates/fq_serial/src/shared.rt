@@ -3,6 +3,6 @@
 pub use crate::filling::fill;
 pub use crate::halt::Halt;
 pub use crate::occurred::Occurred;
-pub use crate::opening::{open, open_mixed};
+pub use crate::opening::{open, open_interleaved};
 pub use crate::reading_end::ReadingEnd;
 pub use crate::total::Total;

@@ -16,8 +16,7 @@ pub struct Total {
 }
 
 impl Total {
-    ghost use Rattle.std.specs.Prelude.{◌≡◌, None, IfOk};
-    ghost use Rattle.fq_pair.specs.Outputs.{no_counts};
+    ghost use Rattle.std.specs.Prelude.{◌≡◌, false, IfOk};
     ghost use Rattle.fq_serial.specs.Totals.{no_total, total_plus};
 
     /// That of no pairs. Memory for a tally is taken where one is asked for, and may be refused.
@@ -33,7 +32,7 @@ impl Total {
 
     /// That of no pairs, without a tally.
     pub fn without_tally() -> Total
-        ensures { result ≡ record { counts = no_counts; tally = None } }
+        ensures { result ≡ no_total false }
     {
         Total {
             counts: Counts::ZERO,

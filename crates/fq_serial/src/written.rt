@@ -23,12 +23,12 @@ pub(crate) struct Pass<T> {
 }
 
 impl Written {
-    ghost use Rattle.std.specs.Prelude.{◌≡◌, Some, None};
-    ghost use Rattle.fq_pair.specs.Outputs.{no_counts};
+    ghost use Rattle.std.specs.Prelude.{◌≡◌, false, Some, None};
+    ghost use Rattle.fq_serial.specs.Totals.{no_total};
 
     /// Nothing, since memory was refused before the first pair.
     pub(crate) fn nothing() -> Written
-        ensures { result ≡ record { total = record { counts = no_counts; tally = None }; why = Some ReadingEnd.Memory; failed = None } }
+        ensures { result ≡ record { total = no_total false; why = Some ReadingEnd.Memory; failed = None } }
     {
         Written {
             total: Total::without_tally(),

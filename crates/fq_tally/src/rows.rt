@@ -65,7 +65,9 @@ impl Rows {
     pub(crate) fn add_all(&mut self, other: &Rows)
         ensures { self.new ≡ rows_plus self.old other.now }
     {
-        let shared = self.counts.len().min(other.counts.len());
+        let mine = self.counts.len();
+        let others = other.counts.len();
+        let shared = mine.min(others);
         for i in 0..shared {
             self.counts[i] = self.counts[i].saturating_add(other.counts[i]);
         }

@@ -81,16 +81,17 @@ impl SideTally {
         requires { kept.stop ≤ length read.now.seq }
         ensures { self.new ≡ with_left read.now (part_at (places_of (Some kept)) (whole read.now)) kept.start mate self.old }
     {
+        let seq = read.seq();
         let len = kept.stop - kept.start;
         let left = kept_bases(read, kept);
         let whole = whole_bases(read, kept, left);
-        self.before.add(whole, read.seq().len());
+        self.before.add(whole, seq.len());
         if mate {
             self.paired.add(left, len);
         } else {
             self.unpaired.add(left, len);
         }
-        let behind = read.seq().len() - kept.stop;
+        let behind = seq.len() - kept.stop;
         self.front = self.front.saturating_add(kept.start as u64);
         self.behind = self.behind.saturating_add(behind as u64);
     }

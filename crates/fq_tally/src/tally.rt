@@ -54,10 +54,10 @@ impl Tally {
         requires reverse { reverse.now ≡ passage steps.now pair.reverse }
         ensures { self.new ≡ with_pair (alone steps.now) self.old (mates_in pair.entry.forward pair.entry.reverse) }
     {
-        self.forward
-            .add(&pair.forward, steps, forward, reverse.survives());
-        self.reverse
-            .add(&pair.reverse, steps, reverse, forward.survives());
+        let has_reverse = reverse.survives();
+        let has_forward = forward.survives();
+        self.forward.add(&pair.forward, steps, forward, has_reverse);
+        self.reverse.add(&pair.reverse, steps, reverse, has_forward);
     }
 
     /// The counts of both together. So pairs may be counted apart, in any cut, and added up in their order.

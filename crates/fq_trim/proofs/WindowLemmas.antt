@@ -236,15 +236,3 @@ module _ (offset w least start good : ℕ) (qual sums : List ℕ) (small : least
             let low_there = bad_there lt low in
             omega arith;
       }
-
--- no window begins later than those that are good
-pub all_good : (offset w least next : ℕ) (qual : List ℕ) → w ≤ length qual → length qual < next + w →
-    ((s : ℕ) → s < next → least ≤ sum (take w (drop s (distances offset qual)))) → IsGoodStop w least (distances offset qual) (length qual)
-all_good offset w least next qual fits last before =
-    let len = length-map qual (λ (byte : ℕ). byte - offset) in
-    record {
-      within = omega arith;
-      some = omega arith;
-      good = λ s le. before s (omega arith);
-      bad = λ lt. absurd (omega arith);
-    }

@@ -1,7 +1,7 @@
 -- What is asked in words that are written out.
 use Rattle.std.proofs.Common.{◌≡◌, ℕ, Bool, true, false, Option, Some, None, List, [], ◌∷◌, refl, codes}
 use Rattle.clap.proofs.OnLiterals.{clap_on_literals}
-use Rattle.fq_words.specs.Requests.{Asking, InputNames, one_file, two_files}
+use Rattle.fq_words.specs.Requests.{Asking, InputNames, interleaved_file, two_files}
 use Rattle.clap.specs.declared.error.kind.ErrorKind.TheVariants.{DisplayVersion, MissingRequiredArgument, MissingSubcommand}
 use Rattle.fq_words.specs.Words.{asking_in, interleaved_app, pairs_app, pairs_asked, program_app, words_fault}
 
@@ -26,17 +26,17 @@ asked threads block check_names sync report inputs = record {
 }
 
 -- `fq IL --trimlog log --no-name-check --sync --report json i fp fu rp ru LEADING:3`
-abbrev one_file_words : List (List ℕ)
-one_file_words = codes "fq" ∷ codes "IL" ∷ codes "--trimlog" ∷ codes "log" ∷ codes "--no-name-check" ∷ codes "--sync" ∷ codes "--report" ∷ codes "json"
+abbrev interleaved_words : List (List ℕ)
+interleaved_words = codes "fq" ∷ codes "IL" ∷ codes "--trimlog" ∷ codes "log" ∷ codes "--no-name-check" ∷ codes "--sync" ∷ codes "--report" ∷ codes "json"
     ∷ codes "i" ∷ codes "fp" ∷ codes "fu" ∷ codes "rp" ∷ codes "ru" ∷ codes "LEADING:3" ∷ []
 
-one_file_parses : words_fault one_file_words ≡ []
+interleaved_parses : words_fault interleaved_words ≡ []
 unfolding clap_on_literals program_app pairs_app interleaved_app words_fault
-one_file_parses = refl
+interleaved_parses = refl
 
-one_file_asked : pairs_asked one_file_words ≡ Some (asked 4 1024 false true (Some (codes "json")) (one_file (codes "i")))
+interleaved_asked : pairs_asked interleaved_words ≡ Some (asked 4 1024 false true (Some (codes "json")) (interleaved_file (codes "i")))
 unfolding clap_on_literals program_app pairs_app interleaved_app asked pairs_asked asking_in
-one_file_asked = refl
+interleaved_asked = refl
 
 -- `fq PE --threads 2 --block 1 --trimlog log f r fp fu rp ru LEADING:3`
 abbrev two_files_words : List (List ℕ)

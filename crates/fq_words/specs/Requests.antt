@@ -22,12 +22,12 @@ pub record InputNames : Type 0 where
 abbrev pub two_files : List ℕ → List ℕ → InputNames
 two_files forward reverse = record { form = TwoTexts; forward = forward; reverse = reverse }
 
-abbrev pub one_file : List ℕ → InputNames
-one_file both = record { form = InterleavedText; forward = both; reverse = both }
+abbrev pub interleaved_file : List ℕ → InputNames
+interleaved_file both = record { form = InterleavedText; forward = both; reverse = both }
 
 abbrev pub names_of : Inputs → InputNames
 names_of (Apart forward reverse) = two_files forward.now reverse.now
-names_of (Interleaved both) = one_file both.now
+names_of (Interleaved both) = interleaved_file both.now
 
 -- What is to be trimmed, as the words give it.
 pub record Asking : Type 0 where

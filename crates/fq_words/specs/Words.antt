@@ -13,7 +13,7 @@ use Rattle.clap.specs.declared.builder.value_parser.ValueParser.TheVariants as p
 use Rattle.clap.specs.declared.builder.arg.Arg.{Arg}
 use Rattle.clap.specs.declared.builder.command.Command.{Command}
 use Rattle.clap.specs.declared.builder.command.Command.TheViews.{out-Command as fields_of}
-use Rattle.fq_words.specs.Requests.{Asking, InputNames, two_files, one_file, asking_of}
+use Rattle.fq_words.specs.Requests.{Asking, InputNames, two_files, interleaved_file, asking_of}
 use Rattle.fq_words.specs.declared.words.Asked.{Asked}
 use Rattle.fq_words.specs.declared.words.Asked.TheVariants.{Example, Pairs}
 
@@ -125,7 +125,7 @@ flag_in rows id = bytes_eq (unwrap_or (one_of id rows) []) (codes "true")
 abbrev pub inputs_in : Text → List Row → Option InputNames
 inputs_in name rows =
     if bytes_eq name (codes "PE") then Some (two_files (text_in rows (codes "F")) (text_in rows (codes "R")))
-    else (if bytes_eq name (codes "IL") then Some (one_file (text_in rows (codes "I")))
+    else (if bytes_eq name (codes "IL") then Some (interleaved_file (text_in rows (codes "I")))
     else None)
 
 -- what the words ask to be trimmed, with these inputs

@@ -88,14 +88,14 @@ fn pairs_command<'a>(alloc: Global) -> Result<Command<'a>, AllocError>
     trimming_command(alloc, "PE", help::ABOUT_PAIRS, help::PAIRS, inputs)
 }
 
-// The command that trims the pairs of one file.
+// The command that trims the pairs of an interleaved file.
 fn interleaved_command<'a>(alloc: Global) -> Result<Command<'a>, AllocError>
     ensures { IfOk result (IsCommand interleaved_app) }
 {
     let both = file(
         alloc,
         "I",
-        "Reads of both sides in turn (FASTQ), a forward read before its reverse mate",
+        "Interleaved reads (FASTQ), a forward read before its reverse mate",
     );
     let inputs = vec![in alloc; both]?;
     trimming_command(

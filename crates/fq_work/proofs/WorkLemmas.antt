@@ -16,21 +16,13 @@ use Rattle.fq_work.specs.declared.done.Done.{Done}
 use Rattle.fq_work.specs.declared.reply.Cause.{Cause}
 use Rattle.fq_work.specs.declared.reply.Reply.{Reply}
 use Rattle.fq_work.specs.declared.reply.Reply.TheVariants.{Done as done, Stop}
-use Rattle.fq_work.specs.Replies.{tally_if, made_of, done_of, emptied, with_mates, Answers}
+use Rattle.fq_work.specs.Replies.{tally_if, made_of, done_of, with_mates, Answers}
 use Rattle.fq_work.specs.Work.{with_items, HasAnswered, HasDrained}
 
 -- whether there is a tally
 pub is_asked : (tallied : Bool) (steps : List Step) (ms : List Mates) → is_some (tally_if tallied steps ms) ≡ tallied
 is_asked true steps ms = refl
 is_asked false steps ms = refl
-
-no_tally_is : (steps : List Step) (t : Option Tally) → option_map (λ (x : Tally). no_tally) t ≡ tally_if (is_some t) steps []
-no_tally_is steps None = refl
-no_tally_is steps (Some t) = refl
-
--- what was emptied is what is made of no pairs
-pub emptied_is : (steps : List Step) (d : Done) → emptied d ≡ made_of (is_some d.tally) steps d.number []
-emptied_is steps d = ap (λ (t : Option Tally). let e : Done = record { number = d.number; texts = texts_of steps []; tally = t } in e) (no_tally_is steps d.tally)
 
 -- with one pair more
 tally_more : (tallied : Bool) (steps : List Step) (ms : List Mates) (m : Mates) →

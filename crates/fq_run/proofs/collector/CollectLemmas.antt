@@ -16,8 +16,8 @@ use Rattle.fq_work.specs.declared.reply.Reply.{Reply}
 use Rattle.fq_work.specs.declared.reply.Reply.TheVariants.{Done as done, Stop}
 use Rattle.fq_serial.specs.Devices.{OutletStates, AreHealthy, OutletsTook, part_at}
 use Rattle.fq_serial.specs.Sending.{BreaksAt}
-use Rattle.fq_run.specs.Dealing.{every, gather}
-use Rattle.fq_run.specs.lanes.Lanes.{lists_of, IsDealt, IsBegun, TakesAt}
+use Rattle.fq_run.specs.Shares.{every, gather}
+use Rattle.fq_run.specs.lanes.Items.{lists_of, IsDealt, IsBegun, TakesAt}
 use Rattle.fq_run.specs.collector.Collecting.{written_text, counted_from, counted, before_stop, TookAll, IsHeard, HasStopped, HasBroken, Writes, failed_in, Collects}
 use Rattle.fq_run.specs.collector.Stops.{HearsAll, Drains}
 use Rattle.fq_serial.specs.Writing.{with_stop}

@@ -6,8 +6,8 @@ use Rattle.std.proofs.lemmas.Bool.{cases_lt}
 use denote.RawPtr.{null_ptr}
 use mathlib.Core.List.{IsPrefix}
 use Rattle.fq_lane.specs.History.{History}
-use Rattle.fq_run.specs.lanes.Lanes.{lists_of, IsAtMark, IsBegun}
-use Rattle.fq_run.specs.Dealing.{every, gather_turns, gather, total_length}
+use Rattle.fq_run.specs.lanes.Items.{lists_of, IsAtMark, IsBegun}
+use Rattle.fq_run.specs.Shares.{every, gather_turns, gather, total_length}
 use Rattle.fq_run.proofs.DealLemmas.{next_wraps, next_within}
 
 module _ {T : Type 0} where

@@ -17,7 +17,7 @@ use Rattle.fq_run.specs.crew.Workers.{Seated, Joined}
 use Rattle.fq_run.specs.Confirming.{CanConfirm, Confirmed, Matched}
 use Rattle.fq_run.specs.dealer.Dealt.{Closed}
 use Rattle.fq_run.specs.Each.{Each3}
-use Rattle.fq_run.specs.lanes.Lanes.{names_of, IsDealt, AllClosed}
+use Rattle.fq_run.specs.lanes.Items.{names_of, IsDealt, AllClosed}
 use Rattle.fq_run.specs.declared.crew.job.Job.{Job}
 use Rattle.fq_run.proofs.EachLemmas.{weaker}
 

@@ -9,12 +9,12 @@ use Rattle.fq_pair.specs.Mates.{Mates}
 use Rattle.fq_serial.specs.declared.reading_end.ReadingEnd.{ReadingEnd}
 use Rattle.fq_serial.specs.declared.reading_end.ReadingEnd.TheVariants as reading
 use Rattle.fq_serial.specs.Choices.{Choices}
-use Rattle.fq_run.specs.Dealing.{join, AreEven}
+use Rattle.fq_run.specs.Shares.{join, AreEven}
 use Rattle.fq_run.specs.dealer.DealingOut.{AreNumbered, AreBlocks, DealsOut, SendsFilled}
 use Rattle.fq_serial.specs.Filling.{Fills}
-use Rattle.fq_run.specs.lanes.Lanes.{names_of, IsDealt}
+use Rattle.fq_run.specs.lanes.Items.{names_of, IsDealt}
 use Rattle.fq_pair.specs.Walks.{SourceState, Walks, GoesOn}
-use Rattle.fq_serial.specs.Walks.{Reads}
+use Rattle.fq_serial.specs.PairsRead.{Reads}
 use Rattle.fq_run.proofs.DealLemmas.{turn_more}
 use Rattle.fq_run.proofs.lanes.LaneLemmas.{dealt_offer}
 use Rattle.fq_serial.proofs.WalkLemmas.{walks_none, walks_then, reads_then}

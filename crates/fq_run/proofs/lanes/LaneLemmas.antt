@@ -8,8 +8,8 @@ use Rattle.fq_lane.specs.History.{History, with_item, with_mark}
 use Rattle.fq_lane.specs.Take.{Takes}
 use Rattle.fq_lane.specs.declared.taken.Taken.{Taken}
 use Rattle.fq_lane.specs.declared.taken.Taken.TheVariants.{Item, Empty, Closed}
-use Rattle.fq_run.specs.Dealing.{every}
-use Rattle.fq_run.specs.lanes.Lanes.{names_of, IsDealt, IsAtMark, IsBegun, TakesAt}
+use Rattle.fq_run.specs.Shares.{every}
+use Rattle.fq_run.specs.lanes.Items.{names_of, IsDealt, IsAtMark, IsBegun, TakesAt}
 use Rattle.fq_run.proofs.DealLemmas.{every_here, every_there}
 
 module _ {T : Type 0} where

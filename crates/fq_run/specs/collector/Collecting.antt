@@ -10,7 +10,7 @@ use Rattle.fq_work.specs.declared.reply.Reply.TheVariants.{Done as done, Stop}
 use Rattle.fq_serial.specs.declared.total.Total.{Total}
 use Rattle.fq_serial.specs.Totals.{no_total, total_plus}
 use Rattle.fq_serial.specs.Devices.{OutletStates, OutletsTook, part_at}
-use Rattle.fq_run.specs.lanes.Lanes.{IsDealt, IsAtMark, IsBegun}
+use Rattle.fq_run.specs.lanes.Items.{IsDealt, IsAtMark, IsBegun}
 use Rattle.fq_run.specs.declared.collector.Collector.{Collector}
 use Rattle.fq_run.specs.declared.collector.phase.Phase.{Phase}
 use Rattle.fq_run.specs.declared.collector.phase.Phase.TheVariants.{Writing, AtMark, Stopped, WriteFailed}

@@ -8,7 +8,7 @@ use Rattle.fq_work.specs.declared.reply.Reply.{Reply}
 use Rattle.fq_work.specs.declared.reply.Reply.TheVariants.{Stop}
 use Rattle.fq_run.specs.collector.Collecting.{Collects}
 use Rattle.fq_serial.specs.Devices.{OutletStates}
-use Rattle.fq_run.specs.lanes.Lanes.{names_of}
+use Rattle.fq_run.specs.lanes.Items.{names_of}
 use Rattle.fq_run.specs.declared.collector.Collector.{Collector}
 use Rattle.fq_serial.specs.declared.halt.Halt.{Halt}
 

@@ -2,7 +2,7 @@
 
 ghost use Rattle.std.specs.Prelude.{◌≡◌, ◌<◌, Some, [], vec_len};
 ghost use Rattle.fq_run.specs.dealer.DealingOut.{MayDeal, DealsOut, SendsFilled};
-ghost use Rattle.fq_run.specs.lanes.Lanes.{names_of};
+ghost use Rattle.fq_run.specs.lanes.Items.{names_of};
 
 use crate::lanes::places::{next_turn, put_at};
 use fq_block::Block;

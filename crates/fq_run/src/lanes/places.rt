@@ -4,7 +4,7 @@ ghost use Rattle.std.specs.Prelude.{◌≡◌, ◌<◌, ◌%◌, suc, vec_len, s
 ghost use Rattle.fq_lane.specs.History.{History, with_item};
 ghost use Rattle.fq_lane.specs.Take.{taken_of};
 ghost use Rattle.fq_block.specs.Blocks.{Numbered};
-ghost use Rattle.fq_run.specs.lanes.Lanes.{TakesAt, names_of};
+ghost use Rattle.fq_run.specs.lanes.Items.{TakesAt, names_of};
 
 use fq_block::Block;
 use fq_lane::{Rx, Taken, Tx};

@@ -14,10 +14,10 @@ returns-clause-text g c = IfOk-weaker c.shown.result _ _ (λ text left.
     let forward_is = ap (λ f. f.bytes) c.in_ok-forward.ensures in
     let reverse_is = ap (λ f. f.bytes) c.in_ok-reverse.ensures in
     let output = output_is c.settings.result _ _ c.settings.ensures forward_is reverse_is in
-    let fp = took_all _ _ _ _ c.outlet.ensures.0 refl (trimmed.took ForwardPaired) (output ForwardPaired) in
-    let fu = took_all _ _ _ _ c.outlet-2.ensures.0 refl (trimmed.took ForwardUnpaired) (output ForwardUnpaired) in
-    let rp = took_all _ _ _ _ c.outlet-3.ensures.0 refl (trimmed.took ReversePaired) (output ReversePaired) in
-    let ru = took_all _ _ _ _ c.outlet-4.ensures.0 refl (trimmed.took ReverseUnpaired) (output ReverseUnpaired) in
-    let log = log_took _ _ _ _ _ c.outlet-5.ensures.0 refl (trimmed.took Log) left.1.1 ∙ output Log in
+    let fp = took_all _ _ _ _ c.outlet-forward_paired.ensures.0 refl (trimmed.took ForwardPaired) (output ForwardPaired) in
+    let fu = took_all _ _ _ _ c.outlet-forward_unpaired.ensures.0 refl (trimmed.took ForwardUnpaired) (output ForwardUnpaired) in
+    let rp = took_all _ _ _ _ c.outlet-reverse_paired.ensures.0 refl (trimmed.took ReversePaired) (output ReversePaired) in
+    let ru = took_all _ _ _ _ c.outlet-reverse_unpaired.ensures.0 refl (trimmed.took ReverseUnpaired) (output ReverseUnpaired) in
+    let log = log_took _ _ _ _ _ c.outlet-log.ensures.0 refl (trimmed.took Log) left.1.1 ∙ output Log in
     let summary = ap summary_of trimmed.counts_are ∙ summary_is c.settings.result _ _ c.settings.ensures forward_is reverse_is in
     left.1.2 ∙ (λ i. sections (fp i) (fu i) (rp i) (ru i) (log i) (summary i))) c.shown.ensures.text

@@ -7,7 +7,7 @@ use Rattle.fq_serial.specs.Totals.{no_total}
 use Rattle.fq_run.specs.collector.Collecting.{Collects}
 use Rattle.fq_serial.specs.Devices.{outlet_states}
 use Rattle.fq_run.specs.Each.{Each3}
-use Rattle.fq_run.specs.lanes.Lanes.{names_of}
+use Rattle.fq_run.specs.lanes.Items.{names_of}
 use Rattle.fq_serial.specs.Writing.{FlushesAfter}
 use Rattle.fq_serial.proofs.OutletLemmas.{still_healthy}
 use Rattle.fq_run.proofs.crew.WorkerLemmas.{Answered, all_answered, replies_dealt, laid_length, can_confirm, matched}

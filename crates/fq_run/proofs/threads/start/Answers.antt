@@ -2,7 +2,7 @@
 use Rattle.std.proofs.Common.{refl, sym, ap, subst, arith}
 use Rattle.fq_serial.specs.declared.total.Total.{Total}
 use Rattle.fq_serial.specs.Devices.{outlet_states}
-use Rattle.fq_serial.specs.Walks.{feed_in}
+use Rattle.fq_serial.specs.PairsRead.{feed_in}
 use Rattle.fq_run.specs.Threads.{IsThreaded, run_from}
 use Rattle.fq_run.specs.declared.conclusion.Conclusion.{Conclusion}
 use Rattle.fq_run.proofs.StartLemmas.{of_one, unread, idle, unstarted, can_deal}

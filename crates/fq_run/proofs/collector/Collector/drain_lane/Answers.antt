@@ -3,7 +3,7 @@ use Rattle.std.proofs.Common.{◌≡◌, ℕ, ◌<◌, length, refl, sym, ap, �
 use Rattle.fq_lane.specs.declared.taken.Taken.{Taken}
 use Rattle.fq_lane.specs.declared.taken.Taken.TheVariants.{Item}
 use Rattle.fq_work.specs.declared.reply.Reply.{Reply}
-use Rattle.fq_run.specs.lanes.Lanes.{TakesAt}
+use Rattle.fq_run.specs.lanes.Items.{TakesAt}
 use Rattle.fq_run.specs.collector.Stops.{Drains}
 use Rattle.fq_run.specs.declared.collector.Collector.{Collector}
 use Rattle.fq_run.specs.declared.collector.phase.Phase.TheVariants.{Writing}

@@ -1,6 +1,6 @@
 -- Nothing came yet.
 use Rattle.std.proofs.Common.{sym, subst, arith, length, ◌≡◌, []}
-use Rattle.fq_run.specs.lanes.Lanes.{IsDealt}
+use Rattle.fq_run.specs.lanes.Items.{IsDealt}
 use Rattle.fq_run.proofs.collector.StopLemmas.{no_stops}
 use Rattle.fq_run.proofs.collector.Collector.new.Goals as goal
 

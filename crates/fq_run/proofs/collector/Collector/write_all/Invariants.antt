@@ -2,7 +2,7 @@
 use Rattle.std.proofs.Common.{◌≡◌, is_some, vec_len}
 use Rattle.fq_run.specs.collector.Collecting.{Collects}
 use Rattle.fq_serial.specs.Devices.{outlet_states}
-use Rattle.fq_run.specs.lanes.Lanes.{names_of}
+use Rattle.fq_run.specs.lanes.Items.{names_of}
 use Rattle.fq_run.specs.collector.Stops.{HearsAll}
 use Rattle.fq_run.proofs.collector.Collector.write_all.Given as goal
 

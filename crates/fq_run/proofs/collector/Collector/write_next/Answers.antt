@@ -3,7 +3,7 @@ use Rattle.std.proofs.Common.{◌≡◌, ℕ, ◌<◌, refl, ap, ◌∙◌, arit
 use Rattle.fq_lane.specs.History.{History}
 use Rattle.fq_lane.specs.Take.{taken_of}
 use Rattle.fq_work.specs.declared.reply.Reply.{Reply}
-use Rattle.fq_run.specs.lanes.Lanes.{TakesAt}
+use Rattle.fq_run.specs.lanes.Items.{TakesAt}
 use Rattle.fq_run.specs.collector.Stops.{HearsAll}
 use Rattle.fq_run.specs.declared.collector.Collector.{Collector}
 use Rattle.fq_run.specs.declared.collector.phase.Phase.TheVariants.{AtMark, Stopped, WriteFailed}

@@ -4,7 +4,7 @@ use mathlib.Core.List.{IsPrefix}
 use Rattle.fq_lane.specs.History.{History, Name}
 use Rattle.fq_lane.specs.Take.{Takes}
 use Rattle.fq_lane.specs.declared.taken.Taken.{Taken}
-use Rattle.fq_run.specs.Dealing.{every}
+use Rattle.fq_run.specs.Shares.{every}
 
 module _ {T : Type 0} where
   abbrev pub names_of : List (History T) → List Name

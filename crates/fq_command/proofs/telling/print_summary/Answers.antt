@@ -1,6 +1,6 @@
 use Rattle.std.proofs.Common.{ℕ, List, subst, ◌∙◌, arith}
 use Rattle.fq_command.specs.Answers.{TookPart, device_of}
-use Rattle.fq_command.proofs.report.print_summary.Goals as goal
+use Rattle.fq_command.proofs.telling.print_summary.Goals as goal
 
 -- the text that was sent is the summary, and the outlet failed once in it
 pub returns-clause-printed : goal.returns-clause-printed

@@ -5,14 +5,14 @@ ghost use Rattle.fq_pair.specs.Summaries.{summary_of};
 ghost use Rattle.fq_command.specs.Answers.{device_of, TookText, TookPart, Reports, LacksMemory, memory_line, print_line, report_line};
 ghost use Rattle.fq_job.specs.Faults.{outcome_status, outcome_line};
 
-use fq_job::{Account, MEMORY_LINE, fault_line, status_of};
+use fq_job::{Account, LANE_LINE, MEMORY_LINE, fault_line, status_of};
 use fq_pair::{Counts, summary};
 use fq_run::Outcome;
 use fq_text::{OutOfMemory, Outlet, send};
 use std::alloc::Global;
 
 /// Prints the summary of a run that ended whole to `out`, and the line of a fault to `err`. Answers the exit status.
-pub(crate) fn report<O: Outlet, E: Outlet>(
+pub(crate) fn tell_account<O: Outlet, E: Outlet>(
     alloc: Global,
     account: &Account,
     out: &mut O,
@@ -40,7 +40,7 @@ pub(crate) fn report<O: Outlet, E: Outlet>(
 {
     if matches!(account.outcome, Outcome::Lane) {
         // It is told without memory: what is told of want of memory holds of every other outcome.
-        let _ = send(err, b"lane not confirmed\n");
+        let _ = send(err, LANE_LINE.as_bytes());
         return 6;
     }
     let mut line = String::new(alloc);

@@ -1,0 +1,16 @@
+//! How a run went.
+
+use fq_pair::Counts;
+use fq_run::Outcome;
+use fq_tally::Tally;
+
+/// What is told of a run.
+#[derive(Drop)]
+pub struct Account {
+    /// How the run ended.
+    pub outcome: Outcome,
+    /// The counts of the pairs whose block was written whole.
+    pub counts: Counts,
+    /// The tally of these pairs, where one was asked for.
+    pub tally: Option<Tally>,
+}
