@@ -2,7 +2,7 @@
 # The gate, and behind it the scripts of this folder, each of which counts as one test. A script that ends with status 77 was skipped, since
 # a package is missing, and says which. The last line sums up.
 set -u
-cd "$(dirname "$0")/.."
+cd "$(dirname "$0")/.." || exit 1
 log=$(mktemp)
 trap 'rm -f "$log"' EXIT
 rt ci | tee "$log"

@@ -2,7 +2,8 @@
 # The documents say what the program says. Help, README.md, docs/FORMAT.md and the manual page name the same steps, options
 # and statuses; the first run of README.md prints and writes what stands there; the lines of docs/LIBRARY.md that call the library
 # run; each file that a document leads to is there.
-# Every line of a document, outside tables and code, is at most 100 columns wide (DOCUMENTS_WIDTH sets another width, 0 none).
+# Every line of a document, outside tables and code, is at most 100 columns wide (DOCUMENTS_WIDTH sets another width, 0 none), and no
+# sentence there has more than 40 words.
 set -uo pipefail
 cd "$(dirname "$0")/.." || exit 1
 top=$PWD
@@ -158,11 +159,33 @@ measure_width() {
   fi
 }
 
+# Sentences of more than 40 words, by the line on which they begin. One ends at . ? or ! before a blank, and with its paragraph or its
+# place in a list. Headings and quotes (behind >) are left out.
+measure_sentences() {
+  local document
+  while IFS= read -r document; do
+    parts text "$document" | awk -v document="$document" '
+      function end() { if (count > 40) print document ":" begun " " count " words"; count = 0 }
+      NF == 1 || $2 ~ /^(#+|>|[-*]|[0-9]+\.)$/ { end() }
+      $2 ~ /^(#+|>)$/ { next }
+      { for (i = 2; i <= NF; i++) {
+          if (!count) begun = $1
+          if ($i ~ /[[:alnum:]]/) count++
+          if ($i ~ /[^.][.?!][]")*_`\047]*$/) end() } }
+      END { end() }'
+  done < <(documents) > "$work/long"
+  if [ -s "$work/long" ]; then
+    cat "$work/long"
+    fail "$(wc -l < "$work/long") sentences have more than 40 words"
+  fi
+}
+
 compare_names
 compare_statuses
 first_run
 call_library
 follow_links
 if [ "$width" -gt 0 ]; then measure_width; fi
+measure_sentences
 [ "$failed" -eq 0 ] && echo 'documents: as the program says'
 exit "$failed"

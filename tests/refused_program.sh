@@ -39,7 +39,7 @@ sweep() {
         *) wrong "$number" "$1" "status $status, '$(cat err)'" ;;
         esac
     done
-    [ "$number" -gt 1 ] && [ "$number" -lt 10000 ] || wrong "$number" "$1" "not every growth was refused"
+    if [ "$number" -le 1 ] || [ "$number" -ge 10000 ]; then wrong "$number" "$1" "not every growth was refused"; fi
     [ "$unseen" -le 1 ] || wrong "$number" "$1" "$unseen refusals were not seen"
     echo "$1: $((number - 1)) growths refused, $unseen unseen"
 }

@@ -26,6 +26,7 @@ pub struct TwoLanes {
     pub other_rx: Rx<u64>,
 }
 
+/// Makes them.
 pub fn two_lanes(alloc: Global) -> Result<TwoLanes, AllocError> {
     let (one_tx, one_rx) = lane_of(alloc, 1)?;
     let (other_tx, other_rx) = lane_of(alloc, 1)?;
