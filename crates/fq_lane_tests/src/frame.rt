@@ -26,7 +26,7 @@ pub struct TwoLanes {
     pub other_rx: Rx<u64>,
 }
 
-/// Makes them.
+/// Two lanes of one item each.
 pub fn two_lanes(alloc: Global) -> Result<TwoLanes, AllocError> {
     let (one_tx, one_rx) = lane_of(alloc, 1)?;
     let (other_tx, other_rx) = lane_of(alloc, 1)?;
