@@ -6,15 +6,16 @@
 //! it may, `Whole` is printed, or the outcome where it did not end whole and what became of its feeds; else the status is 1.
 #![tactic(auto)]
 
-ghost use Rattle.std.specs.Prelude.{◌≡◌, ◌<◌, ◌^◌, false, []};
+ghost use Rattle.std.specs.Prelude.{◌≡◌, ◌<◌, ◌^◌, false, [], IfSome};
 ghost use Rattle.fq_run.specs.Devices.{outlet_states, AreHealthy};
 
-use anyhow::{Result, anyhow, bail};
+use anyhow::{Result, bail};
 use fq_pair::{Counts, InputFault, Side};
 use fq_run::{
-    Outcome, Outlets, Settings, run_serial, run_serial_mixed, run_threads, run_threads_mixed,
+    Ending, MixedEnding, Outcome, Outlets, Settings, run_serial, run_serial_mixed, run_threads,
+    run_threads_mixed,
 };
-use fq_run_tests::fronts::{Front, front_of};
+use fq_run_tests::fronts::{Front, front_in_order};
 use fq_samples::{ELEVEN_INTERLEAVED, SEVEN_FORWARD, SEVEN_REVERSE, SEVEN_STEPS};
 use fq_text::{Encoding, Feed, Outlet, OutletFailed, ScriptFeed, ScriptOutlet};
 use fq_trim::Steps;
@@ -55,8 +56,17 @@ struct Left {
     feeds: Feeds,
 }
 
+// How a run ended, and what became of each feed: of the one of an interleaved text twice.
+#[derive(Clone, Copy)]
+struct Ended {
+    outcome: Outcome,
+    counts: Counts,
+    forward: Feeds,
+    reverse: Feeds,
+}
+
 // How many bytes a feed gives still.
-fn bytes_left(mut feed: ScriptFeed) -> usize {
+fn bytes_left(feed: &mut ScriptFeed) -> usize {
     let mut left = 0usize;
     let mut buf = [0; CUT];
     for _ in 0..1000u64 {
@@ -72,8 +82,8 @@ fn bytes_left(mut feed: ScriptFeed) -> usize {
 }
 
 // What became of a feed over so many bytes.
-fn feed_left(feed: Option<ScriptFeed>, bytes: usize) -> Feeds {
-    match feed.map(bytes_left) {
+fn feed_left(feed: &mut Option<ScriptFeed>, bytes: usize) -> Feeds {
+    match feed.as_mut().map(bytes_left) {
         None => Feeds::Lost,
         Some(left) if left == bytes => Feeds::Unread,
         Some(_) => Feeds::Read,
@@ -131,33 +141,52 @@ fn outlet(alloc: Global) -> FlushedOutlet
     }
 }
 
-// The outlets, and how often each was flushed.
-fn taken_apart(outlets: Outlets<FlushedOutlet>) -> Result<(Outlets<ScriptOutlet>, [u64; 5])> {
-    let Outlets {
-        forward_paired,
-        forward_unpaired,
-        reverse_paired,
-        reverse_unpaired,
-        log,
-    } = outlets;
-    let Some(log) = log else {
-        bail!("there is no log")
-    };
-    let flushes = [
-        forward_paired.flushes,
-        forward_unpaired.flushes,
-        reverse_paired.flushes,
-        reverse_unpaired.flushes,
+fn new_outlets(alloc: Global) -> Outlets<FlushedOutlet>
+    ensures { AreHealthy (outlet_states (λ o. record { tells = false; taken = []; failures = o.failures }) result) }
+{
+    Outlets {
+        forward_paired: outlet(alloc),
+        forward_unpaired: outlet(alloc),
+        reverse_paired: outlet(alloc),
+        reverse_unpaired: outlet(alloc),
+        log: Some(outlet(alloc)),
+    }
+}
+
+// Outlets that have taken nothing, in a `Box`: they have so many parts that each function that owns them on its stack has a long proof.
+// `None` where memory is refused.
+fn outlets(alloc: Global) -> Option<Box<Outlets<FlushedOutlet>>>
+    ensures { IfSome result (λ outlets. AreHealthy
+        (outlet_states (λ o. record { tells = false; taken = []; failures = o.failures }) outlets.value)) }
+{
+    Box::new(alloc, new_outlets(alloc)).ok()
+}
+
+// How often each outlet was flushed.
+fn flushes(outlets: &Outlets<FlushedOutlet>, log: &FlushedOutlet) -> [u64; 5] {
+    [
+        outlets.forward_paired.flushes,
+        outlets.forward_unpaired.flushes,
+        outlets.reverse_paired.flushes,
+        outlets.reverse_unpaired.flushes,
         log.flushes,
+    ]
+}
+
+// The front of the seven pairs that the outlets have.
+fn front(
+    outlets: &Outlets<FlushedOutlet>,
+    log: &FlushedOutlet,
+    counts: Counts,
+) -> std::result::Result<Front, &'static str> {
+    let outlets = [
+        &outlets.forward_paired.outlet,
+        &outlets.forward_unpaired.outlet,
+        &outlets.reverse_paired.outlet,
+        &outlets.reverse_unpaired.outlet,
+        &log.outlet,
     ];
-    let outlets = Outlets {
-        forward_paired: forward_paired.outlet,
-        forward_unpaired: forward_unpaired.outlet,
-        reverse_paired: reverse_paired.outlet,
-        reverse_unpaired: reverse_unpaired.outlet,
-        log: Some(log.outlet),
-    };
-    Ok((outlets, flushes))
+    front_in_order(outlets, counts, BLOCK_PAIRS)
 }
 
 fn settings() -> Result<Settings> {
@@ -175,6 +204,105 @@ fn settings() -> Result<Settings> {
     )?)
 }
 
+// A feed that has given nothing. `None` where memory is refused.
+fn feed(alloc: Global, bytes: &[u8]) -> Option<ScriptFeed>
+    ensures { IfSome result (λ feed. feed.failures ≡ 0) }
+{
+    ScriptFeed::new(alloc, bytes, CUT, 0).ok()
+}
+
+fn ended_interleaved(ending: &mut MixedEnding<ScriptFeed>) -> Ended {
+    let feed = feed_left(&mut ending.feed, ELEVEN_INTERLEAVED.len());
+    Ended {
+        outcome: ending.outcome,
+        counts: ending.counts,
+        forward: feed,
+        reverse: feed,
+    }
+}
+
+fn ended_mates(ending: &mut Ending<ScriptFeed, ScriptFeed>) -> Ended {
+    Ended {
+        outcome: ending.outcome,
+        counts: ending.counts,
+        forward: feed_left(&mut ending.forward, SEVEN_FORWARD.len()),
+        reverse: feed_left(&mut ending.reverse, SEVEN_REVERSE.len()),
+    }
+}
+
+// The run over an interleaved text.
+fn end_interleaved<R: Threads + Wait + Copy + Send + 'static>(
+    alloc: Global,
+    rt: &R,
+    way: Way,
+    settings: &Settings,
+    gate: Arc<OpenGate>,
+    text: ScriptFeed,
+    outlets: &mut Outlets<FlushedOutlet>,
+) -> Ended
+    requires text { text.failures ≡ 0 }
+    requires outlets { AreHealthy (outlet_states (λ o. record { tells = false; taken = []; failures = o.failures }) outlets.old) }
+{
+    let mut ending = if way.threads {
+        run_threads_mixed(alloc, rt, settings, gate, text, outlets)
+    } else {
+        run_serial_mixed(alloc, settings, text, outlets)
+    };
+    ended_interleaved(&mut ending)
+}
+
+// That over two texts.
+fn end_mates<R: Threads + Wait + Copy + Send + 'static>(
+    alloc: Global,
+    rt: &R,
+    way: Way,
+    settings: &Settings,
+    gate: Arc<OpenGate>,
+    forward: ScriptFeed,
+    reverse: ScriptFeed,
+    outlets: &mut Outlets<FlushedOutlet>,
+) -> Ended
+    requires forward { forward.failures ≡ 0 }
+    requires reverse { reverse.failures ≡ 0 }
+    requires outlets { AreHealthy (outlet_states (λ o. record { tells = false; taken = []; failures = o.failures }) outlets.old) }
+{
+    let mut ending = if way.threads {
+        run_threads(alloc, rt, settings, gate, forward, reverse, outlets)
+    } else {
+        run_serial(alloc, settings, forward, reverse, outlets)
+    };
+    ended_mates(&mut ending)
+}
+
+// The run over the text or the texts. `None` where memory was refused before it.
+fn end<R: Threads + Wait + Copy + Send + 'static>(
+    alloc: Global,
+    rt: &R,
+    way: Way,
+    settings: &Settings,
+    outlets: &mut Outlets<FlushedOutlet>,
+) -> Option<Ended>
+    requires { AreHealthy (outlet_states (λ o. record { tells = false; taken = []; failures = o.failures }) outlets.old) }
+{
+    let gate = Arc::new(alloc, OpenGate).ok()?;
+    if way.interleaved {
+        let text = feed(alloc, ELEVEN_INTERLEAVED)?;
+        return Some(end_interleaved(alloc, rt, way, settings, gate, text, outlets));
+    }
+    let forward = feed(alloc, SEVEN_FORWARD)?;
+    let reverse = feed(alloc, SEVEN_REVERSE)?;
+    Some(end_mates(alloc, rt, way, settings, gate, forward, reverse, outlets))
+}
+
+// What a run left, whose feeds came back together.
+fn left_of(ended: Ended) -> Result<Left> {
+    Ok(Left {
+        outcome: ended.outcome,
+        counts: ended.counts,
+        feeds: feeds_left(ended.forward, ended.reverse)?,
+    })
+}
+
 // The run, and what it left. An error, or nothing, comes before it.
 fn run<R: Threads + Wait + Copy + Send + 'static>(
     alloc: Global,
@@ -185,68 +313,10 @@ fn run<R: Threads + Wait + Copy + Send + 'static>(
     requires { AreHealthy (outlet_states (λ o. record { tells = false; taken = []; failures = o.failures }) outlets.old) }
 {
     let settings = settings()?;
-    if way.interleaved {
-        Ok(run_interleaved(alloc, rt, way, &settings, outlets))
-    } else {
-        run_mates(alloc, rt, way, &settings, outlets)
+    match end(alloc, rt, way, &settings, outlets) {
+        Some(ended) => Ok(Some(left_of(ended)?)),
+        None => Ok(None),
     }
-}
-
-// That over an interleaved text.
-fn run_interleaved<R: Threads + Wait + Copy + Send + 'static>(
-    alloc: Global,
-    rt: &R,
-    way: Way,
-    settings: &Settings,
-    outlets: &mut Outlets<FlushedOutlet>,
-) -> Option<Left>
-    requires { AreHealthy (outlet_states (λ o. record { tells = false; taken = []; failures = o.failures }) outlets.old) }
-{
-    let gate = Arc::new(alloc, OpenGate).ok()?;
-    let text = ScriptFeed::new(alloc, ELEVEN_INTERLEAVED, CUT, 0).ok()?;
-    let ending = if way.threads {
-        run_threads_mixed(alloc, rt, settings, gate, text, outlets)
-    } else {
-        run_serial_mixed(alloc, settings, text, outlets)
-    };
-    Some(Left {
-        outcome: ending.outcome,
-        counts: ending.counts,
-        feeds: feed_left(ending.feed, ELEVEN_INTERLEAVED.len()),
-    })
-}
-
-// That over two texts.
-fn run_mates<R: Threads + Wait + Copy + Send + 'static>(
-    alloc: Global,
-    rt: &R,
-    way: Way,
-    settings: &Settings,
-    outlets: &mut Outlets<FlushedOutlet>,
-) -> Result<Option<Left>>
-    requires { AreHealthy (outlet_states (λ o. record { tells = false; taken = []; failures = o.failures }) outlets.old) }
-{
-    let Ok(gate) = Arc::new(alloc, OpenGate) else {
-        return Ok(None);
-    };
-    let Ok(forward) = ScriptFeed::new(alloc, SEVEN_FORWARD, CUT, 0) else {
-        return Ok(None);
-    };
-    let Ok(reverse) = ScriptFeed::new(alloc, SEVEN_REVERSE, CUT, 0) else {
-        return Ok(None);
-    };
-    let ending = if way.threads {
-        run_threads(alloc, rt, settings, gate, forward, reverse, outlets)
-    } else {
-        run_serial(alloc, settings, forward, reverse, outlets)
-    };
-    let forward = feed_left(ending.forward, SEVEN_FORWARD.len());
-    let reverse = feed_left(ending.reverse, SEVEN_REVERSE.len());
-    Ok(Some(Left {
-        outcome: ending.outcome,
-        counts: ending.counts,
-        feeds: feeds_left(forward, reverse)?,
-    }))
 }
 
 // How a run ends to which no memory was refused, and how many pairs it has then written.
@@ -279,44 +349,71 @@ fn judge(way: Way, left: Left, front: Front, flushes: [u64; 5]) -> Result<()> {
     Ok(())
 }
 
-fn main(rt: HostRuntime) -> Result<()> {
-    let Ok(words) = env::args(&rt) else {
-        println!(rt; "Refused before the run")?;
-        return Ok(());
+// Judges the outlets, and what else a run left.
+fn judge_run(way: Way, left: Left, outlets: &Outlets<FlushedOutlet>) -> Result<()> {
+    let Some(log) = &outlets.log else {
+        bail!("there is no log")
     };
+    match front(outlets, log, left.counts) {
+        Ok(front) => judge(way, left, front, flushes(outlets, log)),
+        Err(why) => bail!("{why}"),
+    }
+}
+
+// Runs and judges. `None` where memory was refused before the run.
+fn run_and_judge<R: Threads + Wait + Copy + Send + 'static>(
+    alloc: Global,
+    rt: &R,
+    way: Way,
+) -> Result<Option<Left>> {
+    let Some(mut outlets) = outlets(alloc) else {
+        return Ok(None);
+    };
+    let Some(left) = run(alloc, rt, way, &mut outlets)? else {
+        return Ok(None);
+    };
+    judge_run(way, left, &outlets)?;
+    Ok(Some(left))
+}
+
+// A word of the call.
+fn take_word(way: &mut Way, word: &str) {
+    match word {
+        "threads" => way.threads = true,
+        "interleaved" => way.interleaved = true,
+        _ => {}
+    }
+}
+
+// The way that the words of the call tell of. `None` where memory is refused.
+fn way_of_words(rt: HostRuntime) -> Option<Way> {
+    let words = env::args(&rt).ok()?;
     let mut way = Way {
         threads: false,
         interleaved: false,
     };
     for word in words {
-        match word.as_str() {
-            "threads" => way.threads = true,
-            "interleaved" => way.interleaved = true,
-            _ => {}
+        take_word(&mut way, &word);
+    }
+    Some(way)
+}
+
+// Tells how a run ended that left what it may.
+fn tell(rt: HostRuntime, way: Way, left: Left) -> Result<()> {
+    if left.outcome == whole(way).0 {
+        println!(rt; "Whole")?;
+    } else {
+        println!(rt; "{:?}({:?})", left.outcome, left.feeds)?;
+    }
+    Ok(())
+}
+
+fn main(rt: HostRuntime) -> Result<()> {
+    if let Some(way) = way_of_words(rt) {
+        if let Some(left) = run_and_judge(rt.alloc(), &rt, way)? {
+            return tell(rt, way, left);
         }
     }
-    let alloc = rt.alloc();
-    let mut outlets = Outlets {
-        forward_paired: outlet(alloc),
-        forward_unpaired: outlet(alloc),
-        reverse_paired: outlet(alloc),
-        reverse_unpaired: outlet(alloc),
-        log: Some(outlet(alloc)),
-    };
-    match run(alloc, &rt, way, &mut outlets)? {
-        Some(left) => {
-            let (outlets, flushes) = taken_apart(outlets)?;
-            let front = front_of(&outlets, left.counts, BLOCK_PAIRS).map_err(|why| anyhow!(
-                "{why}"
-            ))?;
-            judge(way, left, front, flushes)?;
-            if left.outcome == whole(way).0 {
-                println!(rt; "Whole")?;
-            } else {
-                println!(rt; "{:?}({:?})", left.outcome, left.feeds)?;
-            }
-        }
-        None => println!(rt; "Refused before the run")?,
-    }
+    println!(rt; "Refused before the run")?;
     Ok(())
 }

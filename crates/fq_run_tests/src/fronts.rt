@@ -106,6 +106,15 @@ pub fn front_of(
         &outlets.reverse_unpaired,
         log,
     ];
+    front_in_order(outlets, counts, block_pairs)
+}
+
+/// The same of the outlets in the order of [`OUTS`].
+pub fn front_in_order(
+    outlets: [&ScriptOutlet; 5],
+    counts: Counts,
+    block_pairs: usize,
+) -> Result<Front, &'static str> {
     let pairs = counted(counts).ok_or("the counts are not those of the first pairs")?;
     let mut failed = None;
     for (place, outlet) in outlets.iter().enumerate() {

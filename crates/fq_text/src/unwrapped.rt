@@ -43,7 +43,7 @@ fn repeats(hand: &[u8], place: usize, len: usize) -> bool
     requires within { place + len ≤ length hand.now }
     ensures { IsTrue result ↔ take len (drop place hand.now) ≡ take len (drop 1 hand.now) }
 {
-    hand[place..place + len] == hand[1..1 + len]
+    len == 0 || hand[place..place + len] == hand[1..1 + len]
 }
 
 // Whether each of four lines of this shape ends where it does.

@@ -178,55 +178,59 @@ fn solexa_scores_are_written_as_phred_scores(rt: HostRuntime) -> Result<(), Fail
     Ok(())
 }
 
-// A send of these bytes gives this answer, and the outlet counts so many failures then.
-fn assert_sent<O: Outlet>(
-    rt: &impl Abort,
-    outlet: &mut O,
-    bytes: &[u8],
-    answer: Result<(), Sent>,
-    failures: u64,
-) {
+// What an outlet is asked for, with the answer to that.
+enum Asked<'a> {
+    Send(&'a [u8], Result<(), Sent>),
+    Write(&'a [u8], Result<usize, OutletFailed>),
+    Flush(Result<(), OutletFailed>),
+}
+
+// The outlet answers so, and counts so many failures then.
+fn assert_answer<O: Outlet>(rt: &impl Abort, outlet: &mut O, asked: Asked<'_>, failures: u64) {
     assert!(rt; outlet.failures() < 9);
-    assert_eq!(rt; send(outlet, bytes), answer);
+    let is_so = match asked {
+        Asked::Send(bytes, answer) => send(outlet, bytes) == answer,
+        Asked::Write(bytes, answer) => outlet.write(bytes) == answer,
+        Asked::Flush(answer) => outlet.flush() == answer,
+    };
+    assert!(rt; is_so);
     assert_eq!(rt; outlet.failures(), failures);
 }
 
 #[test]
 fn a_send_stops_at_the_first_failure(rt: HostRuntime) {
     let mut outlet = ScriptOutlet::new(rt.alloc(), 2, 3, false);
-    assert_sent(&rt, &mut outlet, b"abcdef", Err(Sent { count: 4 }), 1);
+    assert_answer(
+        &rt,
+        &mut outlet,
+        Asked::Send(b"abcdef", Err(Sent { count: 4 })),
+        1,
+    );
     assert!(rt; outlet.bytes() == b"abcd".as_slice());
 
     let mut outlet = ScriptOutlet::new(rt.alloc(), 4, 0, false);
-    assert_sent(&rt, &mut outlet, b"abcdef", Ok(()), 0);
+    assert_answer(&rt, &mut outlet, Asked::Send(b"abcdef", Ok(())), 0);
     assert!(rt; outlet.bytes() == b"abcdef".as_slice());
 }
 
 #[test]
 fn no_bytes_make_no_write(rt: HostRuntime) {
     let mut outlet = ScriptOutlet::new(rt.alloc(), 1, 1, false);
-    assert_sent(&rt, &mut outlet, b"", Ok(()), 0);
-    assert_sent(&rt, &mut outlet, b"a", Err(Sent { count: 0 }), 1);
-}
-
-// The same of a flush.
-fn assert_flushed<O: Outlet>(
-    rt: &impl Abort,
-    outlet: &mut O,
-    answer: Result<(), OutletFailed>,
-    failures: u64,
-) {
-    assert!(rt; outlet.failures() < 9);
-    assert_eq!(rt; outlet.flush(), answer);
-    assert_eq!(rt; outlet.failures(), failures);
+    assert_answer(&rt, &mut outlet, Asked::Send(b"", Ok(())), 0);
+    assert_answer(
+        &rt,
+        &mut outlet,
+        Asked::Send(b"a", Err(Sent { count: 0 })),
+        1,
+    );
 }
 
 #[test]
 fn a_flush_fails_where_it_is_told_to(rt: HostRuntime) {
     let mut outlet = ScriptOutlet::new(rt.alloc(), 1, 0, true);
-    assert_flushed(&rt, &mut outlet, Err(OutletFailed), 1);
+    assert_answer(&rt, &mut outlet, Asked::Flush(Err(OutletFailed)), 1);
     let mut outlet = ScriptOutlet::new(rt.alloc(), 1, 0, false);
-    assert_flushed(&rt, &mut outlet, Ok(()), 0);
+    assert_answer(&rt, &mut outlet, Asked::Flush(Ok(())), 0);
 }
 
 #[test]
@@ -294,28 +298,15 @@ fn a_readers_error_is_a_failure(rt: HostRuntime) {
     assert_eq!(rt; feed.into_inner().calls, 1);
 }
 
-// The same of a write.
-fn assert_write<O: Outlet>(
-    rt: &impl Abort,
-    outlet: &mut O,
-    bytes: &[u8],
-    answer: Result<usize, OutletFailed>,
-    failures: u64,
-) {
-    assert!(rt; outlet.failures() < 9);
-    assert_eq!(rt; outlet.write(bytes), answer);
-    assert_eq!(rt; outlet.failures(), failures);
-}
-
 #[test]
 fn a_writers_error_and_a_write_of_nothing_are_failures(rt: HostRuntime) {
     let mut outlet = FromWrite::new(Signalled { calls: 0 });
-    assert_flushed(&rt, &mut outlet, Err(OutletFailed), 1);
-    assert_write(&rt, &mut outlet, b"a", Err(OutletFailed), 2);
-    assert_write(&rt, &mut outlet, b"", Ok(0), 2);
-    assert_flushed(&rt, &mut outlet, Ok(()), 2);
+    assert_answer(&rt, &mut outlet, Asked::Flush(Err(OutletFailed)), 1);
+    assert_answer(&rt, &mut outlet, Asked::Write(b"a", Err(OutletFailed)), 2);
+    assert_answer(&rt, &mut outlet, Asked::Write(b"", Ok(0)), 2);
+    assert_answer(&rt, &mut outlet, Asked::Flush(Ok(())), 2);
     let mut outlet = FromWrite::new(Signalled { calls: 0 });
-    assert_write(&rt, &mut outlet, b"a", Err(OutletFailed), 1);
+    assert_answer(&rt, &mut outlet, Asked::Write(b"a", Err(OutletFailed)), 1);
 }
 
 #[test]
@@ -329,6 +320,6 @@ fn bytes_pass_through_readers(rt: HostRuntime) {
 #[test]
 fn bytes_pass_through_writers(rt: HostRuntime) {
     let mut outlet = FromWrite::new(Vec::new(rt.alloc()));
-    assert_sent(&rt, &mut outlet, b"abcdef", Ok(()), 0);
+    assert_answer(&rt, &mut outlet, Asked::Send(b"abcdef", Ok(())), 0);
     assert!(rt; outlet.into_inner().as_slice() == b"abcdef".as_slice());
 }

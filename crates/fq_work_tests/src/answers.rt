@@ -1,14 +1,16 @@
-use super::frame::{Case, FIRST, SECOND, assert_work, assert_written, block_of, no_texts};
+use super::frame::{
+    Case, FIRST, SECOND, assert_work, assert_written, block_of, no_texts, text_lane,
+};
 use fq_block::Block;
-use fq_lane::{Tx, lane};
+use fq_lane::{Rx, Tx};
 use fq_pair::Counts;
 use fq_samples::{TWO_FORWARD, TWO_REVERSE, TWO_STEPS, TWO_WRITTEN};
-use fq_tally::{ReadsTally, Tally};
+use fq_tally::{ReadsTally, SideTally, Tally};
 use fq_trim::Steps;
 use fq_work::*;
 use std::alloc::Global;
 use std::process::Abort;
-use std::sync::Arc;
+use std::sync::{Arc, Wait};
 use std::test::Fail;
 
 // Two blocks, both answered.
@@ -21,6 +23,11 @@ const TWO_BLOCKS: Case<'static> = Case {
     cause: None,
     used: 2,
 };
+
+// Nothing made yet. It is handed on in a `Box`: it has so many parts that each function that owns one on its stack has a long proof.
+fn nothing_done(alloc: Global) -> Result<Box<Done>, Fail> {
+    Ok(Box::new(alloc, Done::new(alloc, 0))?)
+}
 
 // Works on a block.
 fn make(block: &Block, steps: &Steps, done: &mut Done) -> Result<(), Fail> {
@@ -55,13 +62,13 @@ fn assert_two_pairs_twice(
     block: &Block,
     steps: &Steps,
 ) -> Result<(), Fail> {
-    let mut done = Done::new(alloc, 0);
+    let mut done = nothing_done(alloc)?;
     assert_two_pairs(rt, block, steps, &mut done)?;
     assert_two_pairs(rt, block, steps, &mut done)
 }
 
 // The block of the two pairs, number 4.
-fn two_pairs(rt: &impl Abort, alloc: Global) -> Result<Block, Fail> {
+fn two_pairs(rt: &impl Abort, alloc: Global) -> Result<Box<Block>, Fail> {
     block_of(rt, alloc, 4, TWO_FORWARD, TWO_REVERSE)
 }
 
@@ -72,38 +79,55 @@ fn a_block_of_two_pairs_has_their_texts(rt: HostRuntime) -> Result<(), Fail> {
     assert_two_pairs_twice(&rt, rt.alloc(), &block, &steps)
 }
 
+// The worker's run leaves what the case says, behind a gate that lets each block pass.
+fn assert_works<R: Abort + Wait>(
+    rt: &R,
+    alloc: Global,
+    case: &Case<'_>,
+    texts_back: Rx<Done>,
+) -> Result<(), Fail> {
+    let gate = Arc::new(alloc, OpenGate)?;
+    assert_work(rt, alloc, case, texts_back, gate)
+}
+
 #[test]
 fn two_blocks_are_answered_in_order(rt: HostRuntime) -> Result<(), Fail> {
-    let gate = Arc::new(rt.alloc(), OpenGate)?;
-    assert_work(&rt, rt.alloc(), TWO_BLOCKS, no_texts(rt.alloc())?, gate)
+    assert_works(&rt, rt.alloc(), &TWO_BLOCKS, no_texts(rt.alloc())?)
 }
 
 // What was made of the second pair.
-fn used_texts(rt: &impl Abort, alloc: Global) -> Result<Done, Fail> {
+fn used_texts(rt: &impl Abort, alloc: Global) -> Result<Box<Done>, Fail> {
     let steps = Steps::parse(TWO_STEPS)?;
     let block = block_of(rt, alloc, 7, SECOND.forward, SECOND.reverse)?;
-    let mut done = Done::new(alloc, 0);
+    let mut done = nothing_done(alloc)?;
     make(&block, &steps, &mut done)?;
     Ok(done)
 }
 
-// Whether there is room for it.
-fn offers(texts: &mut Tx<Done>, done: Done) -> bool {
-    texts.offer(done).is_ok()
+// Whether there is room for it. Of any type, since a proof of texts and tallies would be a long one.
+fn offers<T: Drop>(lane: &mut Tx<T>, item: Box<T>) -> bool {
+    lane.offer(Box::into_inner(item)).is_ok()
+}
+
+// There is room for used texts, and then for no others.
+fn fill(rt: &impl Abort, alloc: Global, texts: &mut Tx<Done>) -> Result<(), Fail> {
+    assert!(rt; offers(texts, used_texts(rt, alloc)?));
+    assert!(rt; !offers(texts, nothing_done(alloc)?));
+    Ok(())
+}
+
+fn assert_room(rt: &impl Abort, alloc: Global, texts: &mut Tx<Done>) -> Result<(), Fail> {
+    assert!(rt; offers(texts, nothing_done(alloc)?));
+    Ok(())
 }
 
 #[test]
 fn used_texts_are_taken_and_emptied(rt: HostRuntime) -> Result<(), Fail> {
-    let alloc = rt.alloc();
-    let (mut texts, texts_back) = lane(alloc, 1)?;
-    let used = used_texts(&rt, alloc)?;
-    assert!(rt; offers(&mut texts, used));
-    assert!(rt; !offers(&mut texts, Done::new(alloc, 0)));
+    let (mut texts, texts_back) = text_lane(rt.alloc())?;
+    fill(&rt, rt.alloc(), &mut texts)?;
     // The first answer has nothing of what the texts held, and their place is free.
-    let gate = Arc::new(alloc, OpenGate)?;
-    assert_work(&rt, alloc, TWO_BLOCKS, texts_back, gate)?;
-    assert!(rt; offers(&mut texts, Done::new(alloc, 0)));
-    Ok(())
+    assert_works(&rt, rt.alloc(), &TWO_BLOCKS, texts_back)?;
+    assert_room(&rt, rt.alloc(), &mut texts)
 }
 
 #[test]
@@ -114,8 +138,7 @@ fn no_blocks_have_no_replies(rt: HostRuntime) -> Result<(), Fail> {
         used: 0,
         ..TWO_BLOCKS
     };
-    let gate = Arc::new(rt.alloc(), OpenGate)?;
-    assert_work(&rt, rt.alloc(), case, no_texts(rt.alloc())?, gate)
+    assert_works(&rt, rt.alloc(), &case, no_texts(rt.alloc())?)
 }
 
 #[test]
@@ -124,8 +147,7 @@ fn two_blocks_are_tallied_where_that_is_asked_for(rt: HostRuntime) -> Result<(),
         tallied: true,
         ..TWO_BLOCKS
     };
-    let gate = Arc::new(rt.alloc(), OpenGate)?;
-    assert_work(&rt, rt.alloc(), case, no_texts(rt.alloc())?, gate)
+    assert_works(&rt, rt.alloc(), &case, no_texts(rt.alloc())?)
 }
 
 // Reads, bases, those of a score of at least 20 and 30, the sum of the scores, G or C, the shortest and the longest.
@@ -143,18 +165,46 @@ fn numbers(reads: &ReadsTally) -> [u64; 8] {
     ]
 }
 
+fn assert_numbers(rt: &impl Abort, reads: &ReadsTally, wanted: &[u64; 8]) {
+    assert_eq!(rt; numbers(reads), *wanted);
+}
+
+// The numbers of the reads before, of the paired and of the unpaired ones.
+fn assert_reads(rt: &impl Abort, side: &SideTally, wanted: &[[u64; 8]; 3]) {
+    let [before, paired, unpaired] = wanted;
+    assert_numbers(rt, &side.before, before);
+    assert_numbers(rt, &side.paired, paired);
+    assert_numbers(rt, &side.unpaired, unpaired);
+}
+
+fn assert_rows(rt: &impl Abort, rows: &[u64], wanted: &[u64]) {
+    assert_eq!(rt; rows, wanted);
+}
+
+fn assert_two_forward(rt: &impl Abort, side: &SideTally) {
+    let wanted = [
+        [2, 8, 6, 6, 242, 6, 4, 4],
+        [1, 2, 2, 2, 80, 1, 2, 2],
+        [1, 4, 4, 4, 160, 4, 4, 4],
+    ];
+    assert_reads(rt, side, &wanted);
+    assert_eq!(rt; (side.front, side.behind), (2, 0));
+    assert_rows(rt, side.steps.shortened.as_slice(), &[1]);
+}
+
+fn assert_two_reverse(rt: &impl Abort, side: &SideTally) {
+    let wanted = [
+        [2, 8, 4, 4, 161, 0, 4, 4],
+        [1, 4, 4, 4, 160, 0, 4, 4],
+        [0, 0, 0, 0, 0, 0, u64::MAX, 0],
+    ];
+    assert_reads(rt, side, &wanted);
+    assert_rows(rt, side.steps.dropped.as_slice(), &[1]);
+}
+
 fn assert_two_tallied(rt: &impl Abort, tally: &Tally) {
-    let none = [0, 0, 0, 0, 0, 0, u64::MAX, 0];
-    let Tally { forward, reverse } = tally;
-    assert_eq!(rt; numbers(&forward.before), [2, 8, 6, 6, 242, 6, 4, 4]);
-    assert_eq!(rt; numbers(&forward.paired), [1, 2, 2, 2, 80, 1, 2, 2]);
-    assert_eq!(rt; numbers(&forward.unpaired), [1, 4, 4, 4, 160, 4, 4, 4]);
-    assert_eq!(rt; (forward.front, forward.behind), (2, 0));
-    assert_eq!(rt; forward.steps.shortened.as_slice(), [1].as_slice());
-    assert_eq!(rt; numbers(&reverse.before), [2, 8, 4, 4, 161, 0, 4, 4]);
-    assert_eq!(rt; numbers(&reverse.paired), [1, 4, 4, 4, 160, 0, 4, 4]);
-    assert_eq!(rt; numbers(&reverse.unpaired), none);
-    assert_eq!(rt; reverse.steps.dropped.as_slice(), [1].as_slice());
+    assert_two_forward(rt, &tally.forward);
+    assert_two_reverse(rt, &tally.reverse);
 }
 
 fn assert_no_tally(
@@ -208,7 +258,7 @@ fn assert_asked_anew(
     block: &Block,
     steps: &Steps,
 ) -> Result<(), Fail> {
-    let mut done = Done::new(alloc, 0);
+    let mut done = nothing_done(alloc)?;
     assert_asked(rt, alloc, block, steps, &mut done)
 }
 

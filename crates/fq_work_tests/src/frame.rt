@@ -99,10 +99,16 @@ fn pairs_of(
     alloc: Global,
     forward: &[u8],
     reverse: &[u8],
-) -> Result<PairSource<ScriptFeed, ScriptFeed>, Fail> {
+) -> Result<Box<PairSource<ScriptFeed, ScriptFeed>>, Fail> {
     let forward = source_of(alloc, forward, Encoding::Sanger)?;
     let reverse = source_of(alloc, reverse, Encoding::Sanger)?;
-    Ok(PairSource::new(forward, reverse, true))
+    Ok(Box::new(alloc, PairSource::new(forward, reverse, true))?)
+}
+
+// A block of no pairs. Functions hand a block on in a `Box`, and so they do the source of its pairs and a reply: these have so many
+// parts that each function that owns one on its stack has a long proof.
+fn no_pairs(alloc: Global, number: u64) -> Result<Box<Block>, Fail> {
+    Ok(Box::new(alloc, Block::new(alloc, number, Encoding::Sanger))?)
 }
 
 // A block of the pairs of two texts, which have two at most.
@@ -112,18 +118,23 @@ pub(super) fn block_of(
     number: u64,
     forward: &[u8],
     reverse: &[u8],
-) -> Result<Block, Fail> {
+) -> Result<Box<Block>, Fail> {
     let mut pairs = pairs_of(alloc, forward, reverse)?;
-    let mut block = Block::new(alloc, number, Encoding::Sanger);
+    let mut block = no_pairs(alloc, number)?;
     for _ in 0..2 {
         push_next(rt, &mut pairs, &mut block)?;
     }
     Ok(block)
 }
 
+// A lane with room for the texts of one block.
+pub(super) fn text_lane(alloc: Global) -> Result<(Tx<Done>, Rx<Done>), Fail> {
+    Ok(lane(alloc, 1)?)
+}
+
 // No texts come back.
 pub(super) fn no_texts(alloc: Global) -> Result<Rx<Done>, Fail> {
-    let (_texts, texts_back) = lane(alloc, 1)?;
+    let (_texts, texts_back) = text_lane(alloc)?;
     Ok(texts_back)
 }
 
@@ -157,11 +168,11 @@ fn lay_lanes(rt: &impl Abort, alloc: Global, room: usize) -> Result<Lanes, Fail>
     })
 }
 
-// Deals the pairs, works on them, looks at each reply and at each block that comes back, and confirms both lanes.
+// Deals the pairs, works on them, looks at each reply, confirms both lanes, and looks at each block that comes back.
 pub(super) fn assert_work<R: Abort + Wait, G: Gate>(
     rt: &R,
     alloc: Global,
-    case: Case<'_>,
+    case: &Case<'_>,
     texts_back: Rx<Done>,
     gate: Arc<G>,
 ) -> Result<(), Fail> {
@@ -180,34 +191,35 @@ pub(super) fn assert_work<R: Abort + Wait, G: Gate>(
         blocks_back,
         texts_back,
     };
-    let worked = work_on(rt, alloc, case, ends, gate)?;
-    assert_used(rt, used, case.used);
-    assert_worked(rt, case, worked, dealt, replies)
+    let worked = work_on(rt, alloc, case, ends, gate);
+    assert_worked(rt, alloc, case, worked, dealt, replies)?;
+    assert_used(rt, alloc, used, case.used)
 }
 
 // Works on what was dealt.
-fn work_on<R: Wait, G: Gate>(
+fn work_on<R: Abort + Wait, G: Gate>(
     rt: &R,
     alloc: Global,
-    case: Case<'_>,
+    case: &Case<'_>,
     ends: WorkEnds,
     gate: Arc<G>,
-) -> Result<Worked, Fail>
-    ensures blocks { IfOk result (λ worked. (worked.rx.name ≡ ends.rx.name) × (worked.rx.marked ≡ true)) }
-    ensures replies { IfOk result (λ worked. IfOk worked.closing (λ end. end.name ≡ ends.tx.name)) }
+) -> Worked
+    ensures blocks { (result.rx.name ≡ ends.rx.name) × (result.rx.marked ≡ true) }
+    ensures replies { IfOk result.closing (λ end. end.name ≡ ends.tx.name) }
 {
-    let steps = Steps::parse(TWO_STEPS)?;
+    let steps = Steps::parse(TWO_STEPS).expect(rt, "steps");
     if case.tallied {
-        Ok(work_tallied(alloc, rt, ends, steps, true, gate, case.gate_turns))
+        work_tallied(alloc, rt, ends, steps, true, gate, case.gate_turns)
     } else {
-        Ok(work(alloc, rt, ends, steps, gate, case.gate_turns))
+        work(alloc, rt, ends, steps, gate, case.gate_turns)
     }
 }
 
 // Looks at each reply, and confirms both lanes.
 fn assert_worked(
     rt: &impl Abort,
-    case: Case<'_>,
+    alloc: Global,
+    case: &Case<'_>,
     worked: Worked,
     dealt: End<Block>,
     mut replies: Rx<Reply>,
@@ -222,7 +234,7 @@ fn assert_worked(
         cause,
     } = worked;
     assert_eq!(rt; cause, case.cause);
-    assert_replies(rt, &mut replies, case)?;
+    assert_replies(rt, alloc, &mut replies, case)?;
     rx.confirm(dealt);
     replies.confirm(closing.expect(rt, "the receiver is there"));
     Ok(())
@@ -239,28 +251,34 @@ fn deal<R: Abort + Wait>(
 {
     for (number, pair) in pairs.iter().enumerate() {
         let block = block_of(rt, alloc, number as u64, pair.forward, pair.reverse)?;
-        tx.put(rt, block);
+        tx.put(rt, Box::into_inner(block));
     }
     Ok(tx.close().expect(rt, "the receiver is there"))
 }
 
 // Takes the replies to the blocks that are answered, a stop where there is a cause, and the mark.
-fn assert_replies(rt: &impl Abort, replies: &mut Rx<Reply>, case: Case<'_>) -> Result<(), Fail>
+fn assert_replies(
+    rt: &impl Abort,
+    alloc: Global,
+    replies: &mut Rx<Reply>,
+    case: &Case<'_>,
+) -> Result<(), Fail>
     ensures name { replies.new.name ≡ replies.old.name }
     ensures closed { OnOk result (replies.new.marked ≡ true) }
 {
     for (number, pair) in case.pairs.iter().take(case.answered).enumerate() {
-        assert_answered(rt, replies, number as u64, pair, case.tallied)?;
+        assert_answered(rt, alloc, replies, number as u64, pair, case.tallied)?;
     }
     if case.cause.is_some() {
-        assert_stopped(rt, replies, case.cause)?;
+        assert_stopped(rt, alloc, replies, case.cause)?;
     }
-    take_mark(replies)
+    take_mark(alloc, replies)
 }
 
 // The next reply answers the block of one pair that has this number.
 fn assert_answered(
     rt: &impl Abort,
+    alloc: Global,
     replies: &mut Rx<Reply>,
     number: u64,
     pair: &Sample,
@@ -268,20 +286,21 @@ fn assert_answered(
 ) -> Result<(), Fail>
     ensures { replies.new.name ≡ replies.old.name }
 {
-    let reply = take_reply(replies)?;
-    assert_done(rt, reply, number, pair, tallied);
+    let reply = take(alloc, replies)?;
+    assert_done(rt, &reply, number, pair, tallied);
     Ok(())
 }
 
 // The next reply is a stop for this cause.
 fn assert_stopped(
     rt: &impl Abort,
+    alloc: Global,
     replies: &mut Rx<Reply>,
     cause: Option<Cause>,
 ) -> Result<(), Fail>
     ensures { replies.new.name ≡ replies.old.name }
 {
-    let reply = take_reply(replies)?;
+    let reply = take(alloc, replies)?;
     assert!(rt; is_stop(&reply, cause));
     Ok(())
 }
@@ -290,29 +309,36 @@ fn is_stop(reply: &Reply, cause: Option<Cause>) -> bool {
     matches!(reply, Reply::Stop(why) if Some(*why) == cause)
 }
 
-// What comes next.
-fn take(replies: &mut Rx<Reply>) -> Taken<Reply>
-    ensures { replies.new.name ≡ replies.old.name }
+// What comes next, if something is there. Of any type, since a proof of blocks or replies would be a long one.
+fn next_item<T: Drop>(alloc: Global, lane: &mut Rx<T>) -> Result<Option<Box<T>>, Fail>
+    ensures { lane.new.name ≡ lane.old.name }
 {
-    replies.take()
-}
-
-fn take_reply(replies: &mut Rx<Reply>) -> Result<Reply, Fail>
-    ensures { replies.new.name ≡ replies.old.name }
-{
-    match take(replies) {
-        Taken::Item(reply) => Ok(reply),
-        Taken::Empty => Err("nothing came")?,
-        Taken::Closed => Err("the lane is closed")?,
+    match lane.take() {
+        Taken::Item(item) => Ok(Some(Box::new(alloc, item)?)),
+        Taken::Empty | Taken::Closed => Ok(None),
     }
 }
 
-fn take_mark(replies: &mut Rx<Reply>) -> Result<(), Fail>
-    ensures name { replies.new.name ≡ replies.old.name }
-    ensures closed { OnOk result (replies.new.marked ≡ true) }
+// Whether nothing is there, and something may come.
+fn is_empty<T: Drop>(lane: &mut Rx<T>) -> bool {
+    matches!(lane.take(), Taken::Empty)
+}
+
+fn take<T: Drop>(alloc: Global, lane: &mut Rx<T>) -> Result<Box<T>, Fail>
+    ensures { lane.new.name ≡ lane.old.name }
 {
-    let _ = replies.take();
-    if !replies.is_closed() {
+    match next_item(alloc, lane)? {
+        Some(item) => Ok(item),
+        None => Err("nothing came")?,
+    }
+}
+
+fn take_mark<T: Drop>(alloc: Global, lane: &mut Rx<T>) -> Result<(), Fail>
+    ensures name { lane.new.name ≡ lane.old.name }
+    ensures closed { OnOk result (lane.new.marked ≡ true) }
+{
+    let further = next_item(alloc, lane)?;
+    if further.is_some() || !lane.is_closed() {
         Err("the mark did not come")?;
     }
     Ok(())
@@ -324,9 +350,9 @@ fn reads_tallied(done: &Done) -> Option<u64> {
     Some(tally.forward.before.reads)
 }
 
-fn assert_done(rt: &impl Abort, reply: Reply, number: u64, pair: &Sample, tallied: bool) {
+fn assert_done(rt: &impl Abort, reply: &Reply, number: u64, pair: &Sample, tallied: bool) {
     match reply {
-        Reply::Done(done) => assert_made(rt, &done, number, pair, tallied),
+        Reply::Done(done) => assert_made(rt, done, number, pair, tallied),
         Reply::Stop(cause) => panic!(rt; "stopped by {cause:?}"),
     }
 }
@@ -338,26 +364,41 @@ fn assert_made(rt: &impl Abort, done: &Done, number: u64, pair: &Sample, tallied
     assert_eq!(rt; reads_tallied(done), tallied.then_some(1));
 }
 
+fn assert_text(rt: &impl Abort, texts: &Texts, out: Out, text: &[u8]) {
+    assert_eq!(rt; texts.text(out), text);
+}
+
 pub(super) fn assert_written(rt: &impl Abort, texts: &Texts, want: &Written, counts: Counts) {
-    for (out, text) in [
-        (Out::ForwardPaired, want.forward_paired),
-        (Out::ForwardUnpaired, want.forward_unpaired),
-        (Out::ReversePaired, want.reverse_paired),
-        (Out::ReverseUnpaired, want.reverse_unpaired),
-        (Out::Log, want.log),
-    ] {
-        assert_eq!(rt; texts.text(out), text);
-    }
+    assert_text(rt, texts, Out::ForwardPaired, want.forward_paired);
+    assert_text(rt, texts, Out::ForwardUnpaired, want.forward_unpaired);
+    assert_text(rt, texts, Out::ReversePaired, want.reverse_paired);
+    assert_text(rt, texts, Out::ReverseUnpaired, want.reverse_unpaired);
+    assert_text(rt, texts, Out::Log, want.log);
     assert_eq!(rt; texts.counts(), counts);
 }
 
+// The next block that came back has this number.
+fn assert_next_used(
+    rt: &impl Abort,
+    alloc: Global,
+    used: &mut Rx<Block>,
+    number: u64,
+) -> Result<(), Fail> {
+    let block = take(alloc, used)?;
+    assert_eq!(rt; block.number(), number);
+    Ok(())
+}
+
 // Takes so many blocks that came back, from number 0. No further one is there.
-fn assert_used(rt: &impl Abort, mut used: Rx<Block>, count: u64) {
+fn assert_used(
+    rt: &impl Abort,
+    alloc: Global,
+    mut used: Rx<Block>,
+    count: u64,
+) -> Result<(), Fail> {
     for number in 0..count {
-        match used.take() {
-            Taken::Item(block) => assert_eq!(rt; block.number(), number),
-            Taken::Empty | Taken::Closed => panic!(rt; "block {number} did not come back"),
-        }
+        assert_next_used(rt, alloc, &mut used, number)?;
     }
-    assert!(rt; matches!(used.take(), Taken::Empty));
+    assert!(rt; is_empty(&mut used));
+    Ok(())
 }

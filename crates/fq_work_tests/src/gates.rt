@@ -1,7 +1,9 @@
 use super::frame::{Case, FIRST, SECOND, assert_work, no_texts};
 use fq_work::*;
-use std::sync::Arc;
+use std::alloc::Global;
+use std::process::Abort;
 use std::sync::atomic::{AtomicU64, Ordering};
+use std::sync::{Arc, Wait};
 use std::test::Fail;
 
 // A gate that refuses so many times, and counts how often it's asked.
@@ -38,33 +40,46 @@ impl Gate for GateBut {
     }
 }
 
+// Two blocks, both answered.
+const ANSWERED: Case<'static> = Case {
+    pairs: &[FIRST, SECOND],
+    gate_turns: 3,
+    room: 4,
+    answered: 2,
+    tallied: false,
+    cause: None,
+    used: 2,
+};
+
+// The same two, of which none is.
+const STOPPED: Case<'static> = Case {
+    // So the second block is let go.
+    room: 1,
+    answered: 0,
+    cause: Some(Cause::Gate),
+    used: 1,
+    ..ANSWERED
+};
+
+// Where the gate refuses so many times, it is asked so often.
+fn assert_asked<R: Abort + Wait>(
+    rt: &R,
+    alloc: Global,
+    refusals: u64,
+    case: &Case<'_>,
+    asked: u64,
+) -> Result<(), Fail> {
+    let gate = Arc::new(alloc, LateGate::new(refusals))?;
+    let texts_back = no_texts(alloc)?;
+    assert_work(rt, alloc, case, texts_back, Arc::try_clone(&gate)?)?;
+    assert_eq!(rt; gate.asked.load(Ordering::SeqCst), asked);
+    Ok(())
+}
+
 #[test]
 fn a_gate_is_asked_until_it_passes_or_as_often_as_is_set(rt: HostRuntime) -> Result<(), Fail> {
-    let answered = Case {
-        pairs: &[FIRST, SECOND],
-        gate_turns: 3,
-        room: 4,
-        answered: 2,
-        tallied: false,
-        cause: None,
-        used: 2,
-    };
-    let stopped = Case {
-        // So the second block is let go.
-        room: 1,
-        answered: 0,
-        cause: Some(Cause::Gate),
-        used: 1,
-        ..answered
-    };
-    let alloc = rt.alloc();
-    for (refusals, case, asked) in [(2, answered, 4), (u64::MAX, stopped, 3)] {
-        let gate = Arc::new(alloc, LateGate::new(refusals))?;
-        let texts_back = no_texts(alloc)?;
-        assert_work(&rt, alloc, case, texts_back, Arc::try_clone(&gate)?)?;
-        assert_eq!(rt; gate.asked.load(Ordering::SeqCst), asked);
-    }
-    Ok(())
+    assert_asked(&rt, rt.alloc(), 2, &ANSWERED, 4)?;
+    assert_asked(&rt, rt.alloc(), u64::MAX, &STOPPED, 3)
 }
 
 #[test]
@@ -79,5 +94,5 @@ fn behind_a_refused_block_none_is_answered(rt: HostRuntime) -> Result<(), Fail> 
         used: 3,
     };
     let gate = Arc::new(rt.alloc(), GateBut { refused: 1 })?;
-    assert_work(&rt, rt.alloc(), case, no_texts(rt.alloc())?, gate)
+    assert_work(&rt, rt.alloc(), &case, no_texts(rt.alloc())?, gate)
 }

@@ -1,5 +1,5 @@
 -- The two records of a pair are those in front of the two texts.
-use Rattle.std.proofs.Common.{false, sym}
+use Rattle.std.proofs.Common.{false, sym, rules}
 use Rattle.fq_pair.proofs.SourceLaws.{two_given}
 use Rattle.fq_pair.proofs.pair_source.read_mates.Goals as goal
 
@@ -11,3 +11,21 @@ returns-in-Ok-Some-clause-found g c =
     let kept = c.next.ensures.count in
     two_given g.F.Feed.state g.G.Feed.state _ _ _ _ c.args.check_names c.args.given c.args.has_pair.now false c.in-Ok-Some.first c.in-Ok-Some-next.second _ pair.ok
     c.requires.encoding kept.encoding (one.found c.requires.ready.forward_last) (two.found c.requires.ready.reverse_last) (sym pair.names)
+
+pub returns-in-Ok-None-next-clause-fault : goal.returns-in-Ok-None-next-clause-fault
+returns-in-Ok-None-next-clause-fault g c = search rules
+
+pub returns-in_err-matched-in-Ok-Some-next-clause-fault : goal.returns-in_err-matched-in-Ok-Some-next-clause-fault
+returns-in_err-matched-in-Ok-Some-next-clause-fault g c = search rules
+
+pub returns-clause-fault : goal.returns-clause-fault
+returns-clause-fault g c = search rules
+
+pub returns-in-Err-clause-fault : goal.returns-in-Err-clause-fault
+returns-in-Err-clause-fault g c = search rules
+
+pub returns-in-Err-next-clause-fault : goal.returns-in-Err-next-clause-fault
+returns-in-Err-next-clause-fault g c = search rules
+
+pub returns-in-Err-next-2-clause-fault : goal.returns-in-Err-next-2-clause-fault
+returns-in-Err-next-2-clause-fault g c = search rules
