@@ -43,7 +43,7 @@ example: build
 try:
 	@bash packaging/try.sh $(CRATE)
 
-# Proves what changed since the last check, and the crates above it: of one crate with CRATE=fq_trim, else of every crate.
+# Proves what changed since the last check, and the crates above it. With CRATE=fq_trim: that crate, and those below it.
 check:
 ifdef CRATE
 	@cd crates/$(CRATE) && bash ../../packaging/progress.sh rt check
@@ -51,7 +51,8 @@ else
 	@$(SHOW) rt all check
 endif
 
-# The whole gate: every proof from nothing, the edits that must fail, the tests, the program's stored run, and the scripts.
+# The whole gate: every proof, the edits that must fail, the tests, the program's stored run, and the scripts. What passed on this
+# machine before, and did not change, is not proved again.
 test:
 	@bash tests/all.sh
 

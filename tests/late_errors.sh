@@ -1,8 +1,8 @@
 #!/usr/bin/env bash
-# Fails the wait for the disk of each output in turn, as a file system over a network may do at the end of a run whose writes were all
-# taken: the program has to name that output and to print no summary. It waits for each output once and in order: where no block device
-# is behind the files' device, and with --sync everywhere. On a disk without --sync it doesn't wait. A kind of folder that the machine
-# lacks is skipped.
+# Fails the wait for the disk of each output in turn, and of a report, as a file system over a network may do at the end of a run whose
+# writes were all taken: the program has to name that output and to print no summary. It waits for each output once and in order, and
+# for the report last: where no block device is behind the files' device, and with --sync everywhere. On a disk without --sync it
+# doesn't wait. A kind of folder that the machine lacks is skipped.
 set -uo pipefail
 
 cd "$(dirname "$0")/.." || exit 2
@@ -35,28 +35,40 @@ enter() {
     cd "$new" || exit 2
     printf '@p1/1\nACGT\n+\n#!II\n' >f
     printf '@p1/2\nTTTT\n+\nIIII\n' >r
+    cat f r >i
 }
 
-# expect NUMBER STATUS LINE [OPTION]: what a run answers where this wait fails.
+# expect NUMBER STATUS LINE WORDS..: what this call answers where this wait fails.
 expect() {
-    local said status
-    said=$(timeout 60 env FAILED_SYNC="$1" LD_PRELOAD="$room/fail_sync.so" \
-        "$program" PE ${4:+"$4"} --trimlog log f r fp fu rp ru LEADING:3 2>err)
+    local number=$1 wanted=$2 line=$3 said status
+    shift 3
+    said=$(timeout 60 env FAILED_SYNC="$number" LD_PRELOAD="$room/fail_sync.so" "$program" "$@" 2>err)
     status=$?
-    if [ $status -ne "$2" ] || [ "$(cat err)" != "$3" ] || { [ "$2" -ne 0 ] && [ -n "$said" ]; }; then
-        echo "WRONG: in $PWD, ${4:-no option}, wait $1: status $status, '$(cat err)', printed '$said'"
+    if [ $status -ne "$wanted" ] || [ "$(cat err)" != "$line" ] || { [ "$wanted" -ne 0 ] && [ -n "$said" ]; }; then
+        echo "WRONG: in $PWD, $*, wait $number: status $status, '$(cat err)', printed '$said'"
         failed=1
     fi
 }
 
-# each_fails [OPTION]: each of the five waits fails in turn, and there is no sixth.
+outputs=('forward paired' 'forward unpaired' 'reverse paired' 'reverse unpaired' 'trim log')
+
+# each_fails WORDS..: each wait of this call fails in turn, those of `outputs` in their order, and there is no further one.
 each_fails() {
     local number=0 output
-    for output in 'forward paired' 'forward unpaired' 'reverse paired' 'reverse unpaired' 'trim log'; do
+    for output in "${outputs[@]}"; do
         number=$((number + 1))
         expect $number 4 "write failed: $output" "$@"
     done
-    expect 6 0 '' "$@"
+    expect $((number + 1)) 0 '' "$@"
+}
+
+# all_fail [OPTION]: so it is with this option, of two texts, with a report too, and of an interleaved one.
+all_fail() {
+    each_fails PE "$@" --trimlog log f r fp fu rp ru LEADING:3
+    each_fails IL "$@" --trimlog log i fp fu rp ru LEADING:3
+    outputs+=(report)
+    each_fails PE "$@" --trimlog log --report report f r fp fu rp ru LEADING:3
+    unset 'outputs[-1]'
 }
 
 failed=0
@@ -67,16 +79,16 @@ for folder in "${TMPDIR:-/tmp}" /var/tmp /dev/shm "$PWD" "$HOME"; do
 done
 if [ -n "$other" ]; then
     enter "$other"
-    each_fails
-    each_fails --sync
+    all_fail
+    all_fail --sync
 else
     echo "late_errors: skipped: no folder without a block device"
 fi
 if [ -n "$disk" ]; then
     enter "$disk"
-    each_fails --sync
+    all_fail --sync
     # No wait is made, or the first one failed.
-    expect 1 0 ''
+    expect 1 0 '' PE --trimlog log --report report f r fp fu rp ru LEADING:3
 else
     echo "late_errors: skipped: no folder on a disk"
 fi

@@ -79,11 +79,13 @@ for side in 1 2; do
     draw "@p/$side" AC GT + IIII >"joined$side"
 done
 draw @p/1 ACGT + IIII @p/2 ACGT + IIII >interleaved
+draw @p/1 AC GT + IIII @p/2 AC GT + IIII >interleaved_joined
 steps=(LEADING:3 MINLEN:2)
 grow_seldom PE --threads 1 --block 100 --depth 1 --trimlog log plain1 plain2 fp fu rp ru "${steps[@]}"
 grow_seldom PE --threads 1 --block 100 --depth 1 --trimlog log joined1 joined2 fp fu rp ru "${steps[@]}"
 grow_seldom PE --threads 1 --block 100 --depth 1 --report report plain1 plain2 fp fu rp ru "${steps[@]}"
 grow_seldom IL --threads 1 --block 100 --depth 1 --trimlog log interleaved fp fu rp ru "${steps[@]}"
+grow_seldom IL --threads 1 --block 100 --depth 1 --trimlog log interleaved_joined fp fu rp ru "${steps[@]}"
 echo "50,000 pairs: fewer than 1,000 growths"
 if [ $failed -ne 0 ]; then
     echo "refused_program: FAILED"

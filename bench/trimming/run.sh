@@ -1,5 +1,6 @@
 #!/usr/bin/env bash
-# Times the built program on drawn pairs, beside a loop that only copies lines, cat, and the trimmers that are installed.
+# Times the built program on drawn pairs, beside a loop that only copies lines, threads that only pass pairs on, cat, and the trimmers
+# that are installed.
 # bench/README.md says what is measured.
 #
 #     bench/trimming/run.sh [MODE] [OPTION]..
@@ -68,7 +69,7 @@ done
 program=$(realpath "$program")
 built=$(mktemp -d)
 trap 'rm -rf "$built" ${room:+"$room"}' EXIT
-for tool in pairs copy thread_times; do
+for tool in pairs copy passing thread_times; do
     cc -std=c11 -O2 -Wall -Wextra -pthread -o "$built/$tool" "$here/$tool.c"
 done
 # shellcheck source=/dev/null
@@ -145,6 +146,10 @@ at_1=0 at_2=1 at_4=2 at_alone=3 at_loop=4 at_loop_alone=5 at_cat=6
 list_rows() {
     list_own_rows
     row 'loop' 2 run_loop
+    row 'passing' 1 run_passing
+    row 'passing' 2 run_passing
+    row 'passing' 4 run_passing
+    row 'passing, one processor' 1 run_passing_alone
     row 'fq_prog' 1 run_ours
     row 'fq_prog' 4 run_ours
     [ -z "$serial" ] || row 'run_serial, log' 1 run_ours_serial

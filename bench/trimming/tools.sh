@@ -47,6 +47,16 @@ run_loop_alone() {
     pairs_read=$(($(number_in "$room/said" lines) / 8))
 }
 
+run_passing() {
+    timed "$built/passing" "$1" "$forward" "$reverse" fp rp
+    pairs_read=$(number_in "$room/said" pairs)
+}
+
+run_passing_alone() {
+    timed "${alone[@]}" "$built/passing" "$1" "$forward" "$reverse" fp rp
+    pairs_read=$(number_in "$room/said" pairs)
+}
+
 run_ours() {
     timed "$program" PE --threads "$1" "$forward" "$reverse" fp fu rp ru "${steps[@]}"
     pairs_read=$(number_in "$room/said" 'Input Read Pairs')

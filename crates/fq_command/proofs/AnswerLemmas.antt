@@ -14,7 +14,7 @@ use Rattle.fq_job.specs.Faults.{outcome_status, outcome_line}
 use Rattle.fq_words.specs.Requests.{Asking, input_name}
 use Rattle.fq_job.specs.Judging.{wrong_with}
 use Rattle.fq_job.specs.Trimming.{HasDistinctFiles, TrimsFiles}
-use Rattle.fq_job.specs.Leaving.{RefusalLeaves, ReportLeft, HoldFirstPairs, AreLeft}
+use Rattle.fq_job.specs.Leaving.{RefusalLeaves, ReportLeft, HoldFirstPairs, AreLeft, TellsInputs}
 use Rattle.fq_job.proofs.EndingLemmas.{done_is_whole, ends_so}
 use Rattle.fq_job.proofs.LeavingLemmas.{left_or_nothing, refusal_untrimmed, whole_first}
 use Rattle.fq_job.specs.Refusals.{status_of, line_of}
@@ -38,8 +38,9 @@ refusal_fails why.Report = ((λ e. absurd (omega (arith, e))), (λ e. absurd (om
 refusal_fails why.Memory = ((λ e. absurd (omega (arith, e))), (λ e. absurd (omega (arith, e))), (λ e. absurd (omega (arith, e))))
 
 -- want of memory has its line
-lacks_line : (a : Asking) (told : Bool) (old new : Holding) (err : Device) (status : ℕ) → LacksMemory err status → (IsTrue told → HasDistinctFiles a → AreLeft a old new) → TookLine a told old new err status
-lacks_line a told old new err status lacks left = record {
+lacks_line : (a : Asking) (told : Bool) (old new : Holding) (out err : Device) (status : ℕ) → LacksMemory err status → (IsTrue told → HasDistinctFiles a → AreLeft a old new)
+    → TookLine a told old new out err status
+lacks_line a told old new out err status lacks left = record {
   text = memory_line;
   fits = inr (inr (inl (record { status_is = lacks.status_is; text_is = refl; left = left })));
   took = lacks.told;
@@ -55,7 +56,7 @@ lacks_answer a told old new out err status lacks left report_left unopened =
       whole = λ ends. absurd (⊎_elim (λ zero. omega (arith, zero, five)) (λ three. omega (arith, three, five)) ends);
       wrong = λ refusal is. inr lacks;
       right = λ two. absurd (omega (arith, two, five));
-      line = λ other. lacks_line a told old new err status lacks left;
+      line = λ other. lacks_line a told old new out err status lacks left;
       known = λ one. absurd (omega (arith, one, five));
       left = λ other. left;
       reported = λ ends. absurd (⊎_elim (λ zero. omega (arith, zero, five)) (λ three. omega (arith, three, five)) ends);
@@ -70,24 +71,24 @@ there_is (Some x) none = refl
 -- or by a refusal
 pub refused_answer : (a : Asking) (told : Bool) (old new : Holding) (out err : Device) (status : ℕ) (refusal : Refusal) → Refuses a refusal err status
     → ((other : Refusal) → wrong_with a ≡ Some other → refusal ≡ other) → (wrong_with a ≡ None → status_of refusal ≢ 2)
-    → (IsTrue told → HasDistinctFiles a → RefusalLeaves a refusal old new)
+    → (IsTrue told → TellsInputs a.inputs refusal old) → (IsTrue told → HasDistinctFiles a → RefusalLeaves a refusal old new)
     → (IsTrue told → HasDistinctFiles a → (name : List ℕ) → a.report ≡ Some name → ReportLeft refusal (old name) (new name))
     → (IsTrue told → (side : Side) → old (input_name a.inputs side) ≡ None → IsUnchanged old new) → PairsAnswered a told old new out err status
-refused_answer a told old new out err status refusal (inl refuses) first late left report_left unopened =
+refused_answer a told old new out err status refusal (inl refuses) first late inputs left report_left unopened =
     let own = refusal_fails refusal in
     let is = refuses.0 in
     record {
       whole = λ ends. absurd (⊎_elim (λ zero. own.0 (sym is ∙ zero)) (λ three. own.2 (sym is ∙ three)) ends);
       wrong = λ other named. let P : Refusal → Type 0 = λ r. Refuses a r err status in subst P (first other named) (inl refuses);
       right = λ two. there_is (wrong_with a) (λ none. late none (sym is ∙ two));
-      line = λ other. record { text = line_of a refusal; fits = inl (inl (record { why = refusal; status_is = sym is; text_is = refl; left = left; report_left = report_left })); took = refuses.1 };
+      line = λ other. record { text = line_of a refusal; fits = inl (inl (record { why = refusal; status_is = sym is; text_is = refl; inputs = inputs; left = left; report_left = report_left })); took = refuses.1 };
       known = λ one. own.1 (sym is ∙ one);
       left = λ other tells distinct. inl (refusal_untrimmed a refusal old new (left tells distinct));
       reported = λ ends. absurd (⊎_elim (λ zero. own.0 (sym is ∙ zero)) (λ three. own.2 (sym is ∙ three)) ends);
       report_left = λ tells distinct name named. inl (left_or_nothing refusal (old name) (new name) (report_left tells distinct name named));
       unopened = unopened;
     }
-refused_answer a told old new out err status refusal (inr lacks) first late left report_left unopened =
+refused_answer a told old new out err status refusal (inr lacks) first late inputs left report_left unopened =
     lacks_answer a told old new out err status lacks (λ tells distinct. inl (refusal_untrimmed a refusal old new (left tells distinct)))
     (λ tells distinct name named. inl (left_or_nothing refusal (old name) (new name) (report_left tells distinct name named))) unopened
 
@@ -131,25 +132,26 @@ module _ (a : Asking) (told : Bool) (old new : Holding) (outcome : Outcome) (cou
       absurd (⊎_elim some other (due_as report.Written written (λ e. absurd (cc e))))
 
   -- the line of a run that was made
-  pub told_line : (err : Device) (status : ℕ) → Tells outcome reported err status → TookLine a told old new err status
-  told_line err status (inl (which, inl ending)) = record {
+  pub told_line : (out err : Device) (status : ℕ) → Tells outcome reported out err status → TookLine a told old new out err status
+  told_line out err status (inl (which, inl ending)) = record {
     text = outcome_line outcome;
     fits = inl (inr (record { outcome = outcome; status_is = sym ending.0; text_is = refl; left = run.ended; unreported = is_empty which }));
     took = ending.1;
   }
-  told_line err status (inl (which, inr (inl unprinted))) = record {
+  told_line out err status (inl (which, inr (inl unprinted))) = record {
     text = print_line;
     fits = inr (inl (record {
-      status_is = unprinted.1;
+      status_is = unprinted.1.1;
+      failed = unprinted.1.0;
       text_is = refl;
       left = λ tells distinct. (outcome, counts, unprinted.0, run.trims tells distinct (done_is_whole outcome unprinted.0));
       reported = is_held which (inl unprinted.0);
     }));
-    took = unprinted.2;
+    took = unprinted.1.2;
   }
-  told_line err status (inl (which, inr (inr untold))) =
-      lacks_line a told old new err status untold.1 (λ tells distinct. inr (outcome, run.ended tells distinct untold.0))
-  told_line err status (inr (inl failed)) =
+  told_line out err status (inl (which, inr (inr untold))) =
+      lacks_line a told old new out err status untold.1 (λ tells distinct. inr (outcome, run.ended tells distinct untold.0))
+  told_line out err status (inr (inl failed)) =
       let due = due_as report.Failed failed.0 (λ e. absurd (cc e)) in record {
         text = report_line;
         fits = inr (inr (inr (record {
@@ -160,9 +162,9 @@ module _ (a : Asking) (told : Bool) (old new : Holding) (outcome : Outcome) (cou
         })));
         took = failed.2;
       }
-  told_line err status (inr (inr lacks)) =
+  told_line out err status (inr (inr lacks)) =
       let due = due_as report.OutOfMemory lacks.0 (λ e. absurd (cc e)) in
-      lacks_line a told old new err status lacks.1 (λ tells distinct. inr (outcome, run.ended tells distinct (not_lane outcome due)))
+      lacks_line a told old new out err status lacks.1 (λ tells distinct. inr (outcome, run.ended tells distinct (not_lane outcome due)))
 
 -- a whole report is a first part of itself
 pub is_left : (a : Asking) (old new : Holding) (name : List ℕ) (reported : Reported) → ReportHeld reported a old new name → IsReportLeft a old new name
@@ -172,15 +174,15 @@ is_left a old new name report.Failed begins = inr begins
 is_left a old new name report.OutOfMemory empty = inl (inr empty)
 
 -- what the line of a run says of the files
-fits_left : (a : Asking) (told : Bool) (old new : Holding) (status : ℕ) (text : List ℕ) → (IsRefusal a told old new status text ⊎ IsEnding a told old new status text)
-    ⊎ (IsUnprinted a told old new status text ⊎ (IsUntold a told old new status text ⊎ IsUnreported a told old new status text)) → status ≢ 6 → IsTrue told → HasDistinctFiles a → AreLeft a old new
-fits_left a told old new status text (inl (inl refusal)) other tells distinct = inl (refusal_untrimmed a refusal.why old new (refusal.left tells distinct))
-fits_left a told old new status text (inl (inr ending)) other tells distinct =
+fits_left : (a : Asking) (told : Bool) (old new : Holding) (out : Device) (status : ℕ) (text : List ℕ) → (IsRefusal a told old new status text ⊎ IsEnding a told old new status text)
+    ⊎ (IsUnprinted a told old new out status text ⊎ (IsUntold a told old new status text ⊎ IsUnreported a told old new status text)) → status ≢ 6 → IsTrue told → HasDistinctFiles a → AreLeft a old new
+fits_left a told old new out status text (inl (inl refusal)) other tells distinct = inl (refusal_untrimmed a refusal.why old new (refusal.left tells distinct))
+fits_left a told old new out status text (inl (inr ending)) other tells distinct =
     inr (ending.outcome, ending.left tells distinct (λ lane. other (sym ending.status_is ∙ ap outcome_status lane)))
-fits_left a told old new status text (inr (inl unprinted)) other tells distinct =
+fits_left a told old new out status text (inr (inl unprinted)) other tells distinct =
     let all = unprinted.left tells distinct in inr (all.0, whole_first a old new all.0 all.1 all.3)
-fits_left a told old new status text (inr (inr (inl untold))) other tells distinct = untold.left tells distinct
-fits_left a told old new status text (inr (inr (inr unreported))) other tells distinct =
+fits_left a told old new out status text (inr (inr (inl untold))) other tells distinct = untold.left tells distinct
+fits_left a told old new out status text (inr (inr (inr unreported))) other tells distinct =
     let all = unreported.left tells distinct in inr (all.0, whole_first a old new all.0 all.1 all.2)
 
 zero_or : (n : ℕ) → (n ≡ 0) ⊎ (n ≢ 0)
@@ -188,11 +190,11 @@ zero_or n = grind arith
 
 -- at every status but that of an unconfirmed lane
 pub left_so : (a : Asking) (told : Bool) (old new : Holding) (out err : Device) (status : ℕ)
-    → ((status ≡ 0) ⊎ (status ≡ 3) → IsTrue told → HasDistinctFiles a → EndsWhole a old new out err status) → (status ≢ 0 → TookLine a told old new err status)
+    → ((status ≡ 0) ⊎ (status ≡ 3) → IsTrue told → HasDistinctFiles a → EndsWhole a old new out err status) → (status ≢ 0 → TookLine a told old new out err status)
     → status ≢ 6 → IsTrue told → HasDistinctFiles a → AreLeft a old new
 left_so a told old new out err status whole line other tells distinct = ⊎_elim
     (λ zero. let ends = whole (inl zero) tells distinct in inr (ends.outcome, whole_first a old new ends.outcome ends.counts ends.trims))
-    (λ some. let took = line some in fits_left a told old new status took.text took.fits other tells distinct)
+    (λ some. let took = line some in fits_left a told old new out status took.text took.fits other tells distinct)
     (zero_or status)
 
 -- what is there

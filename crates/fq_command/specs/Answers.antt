@@ -18,7 +18,7 @@ use Rattle.fq_job.specs.Judging.{wrong_with}
 use Rattle.fq_job.specs.Refusals.{status_of, line_of}
 use Rattle.fq_job.specs.Faults.{memory_words, outcome_status, outcome_line}
 use Rattle.fq_job.specs.Trimming.{HasDistinctFiles, TrimsFiles}
-use Rattle.fq_job.specs.Leaving.{RefusalLeaves, ReportLeft, HoldFirstPairs, AreLeft}
+use Rattle.fq_job.specs.Leaving.{RefusalLeaves, ReportLeft, HoldFirstPairs, AreLeft, TellsInputs}
 use Rattle.fq_job.specs.Reporting.{HoldsReport, BeginsReport}
 use Rattle.fq_job.specs.declared.reporting.Reported.{Reported}
 use Rattle.fq_job.specs.declared.reporting.Reported.TheVariants as report
@@ -74,6 +74,7 @@ pub record IsRefusal (a : Asking) (tells : Bool) (old new : Holding) (status : �
   pub why : Refusal
   pub status_is : status_of why ≡ status
   pub text_is : line_of a why ≡ text
+  pub inputs : IsTrue tells → TellsInputs a.inputs why old
   pub left : IsTrue tells → HasDistinctFiles a → RefusalLeaves a why old new
   pub report_left : IsTrue tells → HasDistinctFiles a → (name : List ℕ) → a.report ≡ Some name → ReportLeft why (old name) (new name)
 
@@ -86,9 +87,10 @@ pub record IsEnding (a : Asking) (tells : Bool) (old new : Holding) (status : �
   pub unreported : IsTrue tells → outcome_status outcome ≢ 0 → outcome_status outcome ≢ 3 → (name : List ℕ) → a.report ≡ Some name →
       new name ≡ Some []
 
--- all pairs were trimmed, and the summary could not be printed
-pub record IsUnprinted (a : Asking) (tells : Bool) (old new : Holding) (status : ℕ) (text : List ℕ) : Type 0 where
+-- all pairs were trimmed, and standard output failed, so that the summary was not printed
+pub record IsUnprinted (a : Asking) (tells : Bool) (old new : Holding) (out : Device) (status : ℕ) (text : List ℕ) : Type 0 where
   pub status_is : status ≡ 4
+  pub failed : out.failures ≢ 0
   pub text_is : text ≡ print_line
   pub left : IsTrue tells → HasDistinctFiles a →
       (outcome : Outcome) × (counts : Counts) × (outcome_status outcome ≡ 0) × TrimsFiles a old new outcome counts
@@ -108,23 +110,27 @@ pub record IsUntold (a : Asking) (tells : Bool) (old new : Holding) (status : �
   pub left : IsTrue tells → HasDistinctFiles a → AreLeft a old new
 
 -- standard error took the line of one of these, which has this status, and nothing else
-pub record TookLine (a : Asking) (tells : Bool) (old new : Holding) (err : Device) (status : ℕ) : Type 0 where
+pub record TookLine (a : Asking) (tells : Bool) (old new : Holding) (out err : Device) (status : ℕ) : Type 0 where
   pub text : List ℕ
   pub fits : (IsRefusal a tells old new status text ⊎ IsEnding a tells old new status text)
-      ⊎ (IsUnprinted a tells old new status text ⊎ (IsUntold a tells old new status text ⊎ IsUnreported a tells old new status text))
+      ⊎ (IsUnprinted a tells old new out status text ⊎ (IsUntold a tells old new status text ⊎ IsUnreported a tells old new status text))
   pub took : TookText err text
 
+-- standard output failed, which is told
+abbrev pub LacksPrint : Device → Device → ℕ → Type 0
+LacksPrint out err status = (out.failures ≢ 0) × (status ≡ 4) × TookText err print_line
+
 -- an outcome was told, or that the summary of pairs that were all trimmed was not printed, or memory was refused for either
-abbrev pub Reports : Outcome → Device → ℕ → Type 0
-Reports outcome err status =
+abbrev pub Reports : Outcome → Device → Device → ℕ → Type 0
+Reports outcome out err status =
     ((status ≡ outcome_status outcome) × TookText err (outcome_line outcome))
-    ⊎ (((outcome_status outcome ≡ 0) × (status ≡ 4) × TookText err print_line)
+    ⊎ (((outcome_status outcome ≡ 0) × LacksPrint out err status)
     ⊎ ((outcome ≢ Lane) × LacksMemory err status))
 
 -- the same of a run with a report, where that was written or none was due; else that it was not written, or that memory was refused for it
-abbrev pub Tells : Outcome → Reported → Device → ℕ → Type 0
-Tells outcome reported err status =
-    (((reported ≡ report.NotDue) ⊎ (reported ≡ report.Written)) × Reports outcome err status)
+abbrev pub Tells : Outcome → Reported → Device → Device → ℕ → Type 0
+Tells outcome reported out err status =
+    (((reported ≡ report.NotDue) ⊎ (reported ≡ report.Written)) × Reports outcome out err status)
     ⊎ (((reported ≡ report.Failed) × (status ≡ 4) × TookText err report_line)
     ⊎ ((reported ≡ report.OutOfMemory) × LacksMemory err status))
 
@@ -141,12 +147,19 @@ pub record PairsAnswered (a : Asking) (told : Bool) (old new : Holding) (out err
   pub whole : (status ≡ 0) ⊎ (status ≡ 3) → IsTrue told → HasDistinctFiles a → EndsWhole a old new out err status
   pub wrong : (why : Refusal) → wrong_with a ≡ Some why → Refuses a why err status
   pub right : status ≡ 2 → IsSome (wrong_with a)
-  pub line : status ≢ 0 → TookLine a told old new err status
+  pub line : status ≢ 0 → TookLine a told old new out err status
   pub known : status ≢ 1
   pub left : status ≢ 6 → IsTrue told → HasDistinctFiles a → AreLeft a old new
   pub reported : (status ≡ 0) ⊎ (status ≡ 3) → IsTrue told → (name : List ℕ) → a.report ≡ Some name → HoldsReport a old new name
   pub report_left : IsTrue told → HasDistinctFiles a → (name : List ℕ) → a.report ≡ Some name → IsReportLeft a old new name
   pub unopened : IsTrue told → (side : Side) → old (input_name a.inputs side) ≡ None → IsUnchanged old new
+
+-- Why the example was not printed: standard output failed, memory was refused, or a thread was, or a lane was not confirmed.
+abbrev pub IsUnshown : Device → Device → ℕ → Type 0
+IsUnshown out err status =
+    LacksPrint out err status
+    ⊎ (LacksMemory err status
+    ⊎ ((outcome : Outcome) × (outcome_status outcome ≡ 6) × (status ≡ 6) × TookText err (outcome_line outcome)))
 
 -- a call for help or for the version
 abbrev pub IsCall : ErrorKind → Type 0

@@ -5,7 +5,7 @@ ghost use Rattle.fq_words.specs.Requests.{Asking, asking_of};
 ghost use Rattle.fq_job.specs.Judging.{wrong_with};
 ghost use Rattle.fq_job.specs.Trimming.{KeepsUnnamed};
 ghost use Rattle.fq_words.specs.Words.{AskedFor, words_fault};
-ghost use Rattle.fq_command.specs.Answers.{device_of, TookText, TookPart, LacksMemory, Refuses, Tells, PairsAnswered, AreRefused, IsCall, AreCalls, print_line};
+ghost use Rattle.fq_command.specs.Answers.{device_of, TookText, TookPart, LacksMemory, LacksPrint, IsUnshown, Refuses, Tells, PairsAnswered, AreRefused, IsCall, AreCalls, print_line};
 ghost use Rattle.fq_command.specs.Example.{example_text};
 ghost use Rattle.fq_job.specs.Faults.{outcome_status, outcome_line};
 ghost use Rattle.fq_pair.specs.Summaries.{summary_of};
@@ -69,10 +69,14 @@ pub fn program<'a, R: Threads + Wait + Copy + Send + 'static, T: Files, O: Outle
         → (files.new ≡ files.old) × ((result ≡ 0) ⊎ ((result ≡ 4) ⊎ ((result ≡ 5) ⊎ (result ≡ 6)))) }
     ensures shown { AskedFor (map (λ word. word.now) words.entry.now) None → result ≡ 0 → IsTrue (O.state out.old).tells
         → (O.state out.new).taken ≡ (O.state out.old).taken ++ example_text }
+    ensures unshown { AskedFor (map (λ word. word.now) words.entry.now) None → result ≢ 0
+        → IsUnshown (device_of O.state out.old out.new) (device_of E.state err.old err.new) result }
     ensures refused { words_fault (map (λ word. word.now) words.entry.now) ≢ [] → files.new ≡ files.old }
     ensures usage { AreRefused (words_fault (map (λ word. word.now) words.entry.now)) → (result ≡ 1) ⊎ (result ≡ 5) }
     ensures called { AreCalls (words_fault (map (λ word. word.now) words.entry.now)) → result ≢ 1 }
     ensures usage_only { result ≡ 1 → (words_fault (map (λ word. word.now) words.entry.now) ≢ []) × (out.new ≡ out.old) }
+    ensures unprinted { words_fault (map (λ word. word.now) words.entry.now) ≢ [] → result ≡ 4
+        → LacksPrint (device_of O.state out.old out.new) (device_of E.state err.old err.new) result }
 
     // Where all is done nothing is told, and `out` has taken all. Where it fails the status says so, or tells of the input; nothing is
     // printed at any other status, and want of memory is told as such.
@@ -123,7 +127,8 @@ fn tell<O: Outlet, E: Outlet>(alloc: Global, completed: &Completed, out: &mut O,
     ensures printed { (result ≡ 0) ⊎ (result ≡ 3) → TookPart (device_of O.state out.old out.new) (summary_of completed.now.account.counts) }
     ensures finished { result ≡ 0 → ((O.state out.new).failures ≡ 0) × (err.new ≡ err.old) }
     ensures told { (result ≡ 0) ⊎ (result ≡ 3) → TookText (device_of E.state err.old err.new) (outcome_line completed.now.account.outcome) }
-    ensures line { result ≢ 0 → Tells completed.now.account.outcome completed.now.reported (device_of E.state err.old err.new) result }
+    ensures line { result ≢ 0 → Tells completed.now.account.outcome completed.now.reported
+        (device_of O.state out.old out.new) (device_of E.state err.old err.new) result }
     ensures memory { result ≡ 5 → (out.new ≡ out.old) × LacksMemory (device_of E.state err.old err.new) result }
     ensures quiet { result ≢ 0 → result ≢ 3 → (O.state out.new).failures ≡ 0 → out.new ≡ out.old }
     ensures failed { (O.state out.new).failures ≢ 0 → (result ≡ 3) ⊎ ((result ≡ 4) × TookText (device_of E.state err.old err.new) print_line) }
@@ -162,6 +167,7 @@ fn print_example<R: Threads + Wait + Copy + Send + 'static, O: Outlet, E: Outlet
     requires err { (E.state err.old).failures ≡ 0 }
     ensures status { (result ≡ 0) ⊎ ((result ≡ 4) ⊎ ((result ≡ 5) ⊎ (result ≡ 6))) }
     ensures shown { result ≡ 0 → IsTrue (O.state out.old).tells → (O.state out.new).taken ≡ (O.state out.old).taken ++ example_text }
+    ensures unshown { result ≢ 0 → IsUnshown (device_of O.state out.old out.new) (device_of E.state err.old err.new) result }
     ensures finished { result ≡ 0 → ((O.state out.new).failures ≡ 0) × (err.new ≡ err.old) }
     ensures quiet { result ≢ 0 → (O.state out.new).failures ≡ 0 → out.new ≡ out.old }
     ensures failed { (O.state out.new).failures ≢ 0 → (result ≡ 4) × TookText (device_of E.state err.old err.new) print_line }

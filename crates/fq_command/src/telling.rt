@@ -30,7 +30,7 @@ pub(crate) fn tell_account<O: Outlet, E: Outlet>(
 
     // The line of the outcome.
     ensures told { (result ≡ 0) ⊎ (result ≡ 3) → TookText (device_of E.state err.old err.new) (outcome_line account.now.outcome) }
-    ensures line { result ≢ 0 → Reports account.now.outcome (device_of E.state err.old err.new) result }
+    ensures line { result ≢ 0 → Reports account.now.outcome (device_of O.state out.old out.new) (device_of E.state err.old err.new) result }
     ensures memory { result ≡ 5 → (out.new ≡ out.old) × LacksMemory (device_of E.state err.old err.new) result }
 
     // Where `out` failed the status says so, and otherwise nothing but the summary is printed.

@@ -55,7 +55,8 @@ impl MemoryFiles {
 }
 
 impl Files for MemoryFiles {
-    ghost use Rattle.std.specs.Prelude.{true};
+    ghost use Rattle.std.specs.Prelude.{◌≡◌, true, Some, None, Err, IfOk};
+    ghost use Rattle.fq_files.specs.Holding.{IsUnchanged};
     ghost use Rattle.fq_files.specs.Memory.{bytes_in};
 
     type In = ScriptFeed;
@@ -66,7 +67,15 @@ impl Files for MemoryFiles {
 
     ghost bytes_of = { bytes_in };
 
-    fn source(&mut self, name: &str) -> Result<ScriptFeed, FileFault> {
+    fn source(&mut self, name: &str) -> Result<ScriptFeed, FileFault>
+        // A feed of the name's bytes, which no read cuts short and no read fails to give.
+        ensures given { IfOk result (λ feed. bytes_in self.old name.now ≡ Some feed.bytes) }
+        ensures uncut { IfOk result (λ feed. feed ≡ record { bytes = feed.bytes; cut = usize.MAX; fails_in = 0; failures = 0 }) }
+
+        // What all files do that tell their bytes.
+        ensures refused { result ≡ Err FileFault.Refused → bytes_in self.old name.now ≡ None }
+        ensures unchanged { IsUnchanged (bytes_in self.old) (bytes_in self.new) }
+    {
         match self.held.get(name) {
             Some(bytes) => Ok(ScriptFeed::new(self.alloc, bytes, usize::MAX, 0)?),
             None => Err(FileFault::Refused),
@@ -114,11 +123,23 @@ impl MemoryTarget {
 }
 
 impl Outlet for MemoryTarget {
-    ghost use Rattle.std.specs.Prelude.{true};
+    ghost use Rattle.std.specs.Prelude.{◌≡◌, ◌+◌, ◌<◌, ◌++◌, true, length, take, vec_capacity, IsOk, IfOk, OnErr, is_ok, if◌then◌else◌};
 
     ghost state = { λ t. record { tells = true; taken = t.bytes.items; failures = t.failures } };
 
-    fn write(&mut self, bytes: &[u8]) -> Result<usize, OutletFailed> {
+    fn write(&mut self, bytes: &[u8]) -> Result<usize, OutletFailed>
+        requires { self.old.failures < u64.MAX }
+
+        // It takes all the bytes, and fails only where more memory is needed.
+        ensures full { OnErr result (vec_capacity self.old.bytes < length self.old.bytes.items + length bytes.now) }
+        ensures count { IfOk result (λ n. n ≡ length bytes.now) }
+
+        // What each outlet does.
+        ensures some { IfOk result (λ n. 0 < length bytes.now → 0 < n) }
+        ensures moved { IfOk result (λ n. self.new.bytes.items ≡ self.old.bytes.items ++ take n bytes.now) }
+        ensures err { OnErr result (self.new.bytes.items ≡ self.old.bytes.items) }
+        ensures failures { self.new.failures ≡ self.old.failures + (if is_ok result then 0 else 1) }
+    {
         match self.bytes.extend_from_slice(bytes) {
             Ok(()) => Ok(bytes.len()),
             Err(_) => {
@@ -128,7 +149,13 @@ impl Outlet for MemoryTarget {
         }
     }
 
-    fn flush(&mut self) -> Result<(), OutletFailed> {
+    fn flush(&mut self) -> Result<(), OutletFailed>
+        requires { self.old.failures < u64.MAX }
+
+        // It has nothing to wait for.
+        ensures ok { IsOk result }
+        ensures kept { self.new ≡ self.old }
+    {
         Ok(())
     }
 

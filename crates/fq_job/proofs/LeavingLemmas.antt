@@ -1,5 +1,5 @@
 -- What the files of the outputs hold where the program ends otherwise than whole.
-use Rattle.std.proofs.Common.{◌≡◌, ◌≢◌, ℕ, IsTrue, Option, Some, None, Result, Ok, Err, List, [], ◌++◌, refl, sym, ap, subst, ◌∙◌, inl, inr, ◌⊎◌, ⊎_elim}
+use Rattle.std.proofs.Common.{◌≡◌, ◌≢◌, ℕ, IsTrue, IsSome, Option, Some, None, Result, Ok, Err, List, [], ◌++◌, refl, sym, ap, subst, ◌∙◌, inl, inr, ◌⊎◌, ⊎_elim}
 use Rattle.std.proofs.lemmas.List.{append-nil}
 use Rattle.fq_files.specs.Holding.{Holding, IsUnchanged}
 use Rattle.fq_trim.specs.declared.step.Step.{Step}
@@ -18,10 +18,10 @@ use Rattle.fq_run.specs.Endings.{Run, AreTold, EveryEnding, all_pairs, trimmed_o
 use Rattle.fq_run.specs.Fates.{Unbroken}
 use Rattle.fq_job.specs.declared.refusal.Refusal.{Refusal}
 use Rattle.fq_job.specs.declared.refusal.Refusal.TheVariants as why
-use Rattle.fq_words.specs.Requests.{Asking, encoding_of}
+use Rattle.fq_words.specs.Requests.{Asking, InputNames, encoding_of}
 use Rattle.fq_job.specs.Judging.{judged, with_steps, with_encoding, settings_of, choices_of}
 use Rattle.fq_job.specs.Trimming.{TrimsFiles, pairs_of}
-use Rattle.fq_job.specs.Leaving.{AreUntrimmed, RefusalLeaves, ReportLeft, is_early, TrimsFirst, HoldFirstPairs}
+use Rattle.fq_job.specs.Leaving.{AreUntrimmed, RefusalLeaves, ReportLeft, TellsInputs, is_early, is_late, TrimsFirst, HoldFirstPairs}
 use Rattle.fq_job.proofs.MakingLemmas.{stops_untrimmed}
 
 -- what a run promises of every ending, of its outlets
@@ -65,6 +65,19 @@ leaves_unchanged a (why.Target out) old new early same = absurd (cc early)
 leaves_unchanged a why.SameReport old new early same = same
 leaves_unchanged a why.Report old new early same = absurd (cc early)
 leaves_unchanged a why.Memory old new early same = λ out name named. inl (same name)
+
+-- and one behind the inputs tells nothing else of them than that both are there
+pub tells_late : (inputs : InputNames) (refusal : Refusal) (old : Holding) (forward reverse : List ℕ) → IsTrue (is_late refusal)
+    → old inputs.forward ≡ Some forward → old inputs.reverse ≡ Some reverse → TellsInputs inputs refusal old
+tells_late inputs (why.Target out) old forward reverse late first second = (subst IsSome (sym first) refl, subst IsSome (sym second) refl)
+tells_late inputs why.Report old forward reverse late first second = (subst IsSome (sym first) refl, subst IsSome (sym second) refl)
+tells_late inputs why.Memory old forward reverse late first second = tt
+tells_late inputs why.Encoding old forward reverse late first second = absurd (cc late)
+tells_late inputs (why.Step fault) old forward reverse late first second = absurd (cc late)
+tells_late inputs (why.Setting bad) old forward reverse late first second = absurd (cc late)
+tells_late inputs (why.SameName out) old forward reverse late first second = absurd (cc late)
+tells_late inputs (why.Source side) old forward reverse late first second = absurd (cc late)
+tells_late inputs why.SameReport old forward reverse late first second = absurd (cc late)
 
 -- nothing was trimmed where something was refused
 pub refusal_untrimmed : (a : Asking) (refusal : Refusal) (old new : Holding) → RefusalLeaves a refusal old new → AreUntrimmed a old new

@@ -1,7 +1,8 @@
 -- What the files of the outputs hold where the program ends otherwise than whole.
-use Rattle.std.specs.Prelude.{◌≡◌, ◌<◌, ◌≤◌, ◌⊎◌, ℕ, Bool, true, false, Option, Some, Ok, List, [], ◌++◌}
+use Rattle.std.specs.Prelude.{◌≡◌, ◌<◌, ◌≤◌, ◌⊎◌, ℕ, Bool, true, false, Option, Some, None, IsSome, Ok, List, [], ◌++◌}
 use Rattle.fq_files.specs.Holding.{Holding, IsUnchanged}
 use Rattle.fq_pair.specs.declared.out.Out.{Out}
+use Rattle.fq_pair.specs.declared.side.Side.TheVariants as side
 use Rattle.fq_pair.specs.Mates.{Mates}
 use Rattle.fq_pair.specs.Pairing.{Pairs}
 use Rattle.fq_pair.specs.Outputs.{texts_of, text_of}
@@ -14,7 +15,7 @@ use Rattle.fq_run.specs.Fates.{Fate, failed_outlet, block_begun, part_begun, IsC
 use Rattle.fq_run.specs.Outcomes.{rank}
 use Rattle.fq_job.specs.declared.refusal.Refusal.{Refusal}
 use Rattle.fq_job.specs.declared.refusal.Refusal.TheVariants as why
-use Rattle.fq_words.specs.Requests.{Asking, output_name}
+use Rattle.fq_words.specs.Requests.{Asking, InputNames, output_name}
 use Rattle.fq_job.specs.Judging.{settings_of}
 use Rattle.fq_job.specs.Trimming.{pairs_of}
 
@@ -78,11 +79,32 @@ ReportLeft why.Report old new = (new ≡ old) ⊎ (new ≡ Some [])
 ReportLeft why.Memory old new = (new ≡ old) ⊎ (new ≡ Some [])
 ReportLeft _ old new = new ≡ old
 
+-- What a refusal tells of the inputs.
+
+-- both are there
+abbrev pub AreThere : InputNames → Holding → Type 0
+AreThere inputs old = IsSome (old inputs.forward) × IsSome (old inputs.reverse)
+
+-- the input that is named is not there, the forward one being opened first; an output, or the report, is refused only where both are
+abbrev pub TellsInputs : InputNames → Refusal → Holding → Type 0
+TellsInputs inputs (why.Source side.Forward) old = old inputs.forward ≡ None
+TellsInputs inputs (why.Source side.Reverse) old = IsSome (old inputs.forward) × (old inputs.reverse ≡ None)
+TellsInputs inputs (why.Target out) old = AreThere inputs old
+TellsInputs inputs why.Report old = AreThere inputs old
+TellsInputs inputs _ old = Unit {0}
+
 -- a refusal that may come before the first output is made
 abbrev pub is_early : Refusal → Bool
 is_early (why.Target out) = false
 is_early why.Report = false
 is_early _ = true
+
+-- and one that may come once both inputs are opened and none of them is written to
+abbrev pub is_late : Refusal → Bool
+is_late (why.Target out) = true
+is_late why.Report = true
+is_late why.Memory = true
+is_late _ = false
 
 -- Both.
 

@@ -7,6 +7,7 @@ ghost use Rattle.fq_words.specs.Requests.{asking_of, output_name};
 ghost use Rattle.fq_job.specs.declared.refusal.Refusal.{Refusal as Refused};
 ghost use Rattle.fq_job.specs.Refusals.{status_of};
 ghost use Rattle.fq_job.specs.Trimming.{AreHeld, AreEmpty};
+ghost use Rattle.fq_job.specs.Leaving.{is_late};
 ghost use Rattle.fq_job.specs.Making.{Made, Unmade, Stored};
 
 use crate::refusal::{Refusal, file_refused};
@@ -27,6 +28,7 @@ pub(crate) fn outputs<T: Files>(
     ensures made { OnOk result (Made (asking_of request.now) (T.bytes_of files.old) 5 (T.tells_bytes files.new) (T.bytes_of files.new)) }
     ensures unmade { IfErr result (λ why. Unmade (asking_of request.now) why (T.bytes_of files.old) (T.tells_bytes files.new) (T.bytes_of files.new)) }
     ensures told { T.tells_bytes files.new ≡ T.tells_bytes files.old }
+    ensures opened { IfErr result (λ why. IsTrue (is_late why)) }
     ensures late { IfErr result (λ why. status_of why ≢ 2) }
 {
     let forward_paired = output(request, files, Out::ForwardPaired)?;
@@ -57,6 +59,7 @@ fn output<T: Files>(request: &Request<'_>, files: &mut T, out: Out) -> Result<T:
     ensures unmade { IfErr result (λ why. (start : Holding) → Made (asking_of request.now) start (place out) (T.tells_bytes files.old) (T.bytes_of files.old)
         → Unmade (asking_of request.now) why start (T.tells_bytes files.new) (T.bytes_of files.new)) }
     ensures why { IfErr result (λ why. (why ≡ Refused.Target out) ⊎ (why ≡ Refused.Memory)) }
+    ensures opened { IfErr result (λ why. IsTrue (is_late why)) }
     ensures told { T.tells_bytes files.new ≡ T.tells_bytes files.old }
 {
     match files.target(request.output_name(out)) {

@@ -109,6 +109,7 @@ fn write_report<O: Outlet>(
     ensures not_due { result ≡ Reported.NotDue → (outcome_status account.now.outcome ≢ 0) × (outcome_status account.now.outcome ≢ 3) }
     ensures took { IsTrue (O.state target.old).tells
         → TookReport result (asking_of request.now) encoding account.now (O.state target.old).taken (O.state target.new).taken }
+    ensures written { result ≡ Reported.Written → (O.state target.new).failures ≡ 0 }
     ensures failed { result ≡ Reported.Failed → (O.state target.new).failures ≢ 0 }
     ensures told { (O.state target.new).tells ≡ (O.state target.old).tells }
 {
@@ -136,6 +137,7 @@ fn put_text<O: Outlet>(target: &mut O, text: &[u8]) -> bool
     ensures whole { result ≡ true → IsTrue (O.state target.old).tells → (O.state target.new).taken ≡ (O.state target.old).taken ++ text.now }
     ensures part { result ≡ false → IsTrue (O.state target.old).tells
         → (count : ℕ) × ((O.state target.new).taken ≡ (O.state target.old).taken ++ take count text.now) }
+    ensures sent { result ≡ true → (O.state target.new).failures ≡ 0 }
     ensures failed { result ≡ false → (O.state target.new).failures ≢ 0 }
     ensures told { (O.state target.new).tells ≡ (O.state target.old).tells }
 {

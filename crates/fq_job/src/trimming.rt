@@ -8,7 +8,7 @@ ghost use Rattle.fq_job.specs.Refusals.{status_of};
 ghost use Rattle.fq_words.specs.Requests.{asking_of, input_name};
 ghost use Rattle.fq_job.specs.Judging.{wrong_with};
 ghost use Rattle.fq_job.specs.Trimming.{HasDistinctFiles, KeepsUnnamed, IsFed, opened_of, AreFresh, AreFed, pairs_of, TrimsPairs, TrimsFiles};
-ghost use Rattle.fq_job.specs.Leaving.{TrimsFirst, HoldFirstPairs, RefusalLeaves, ReportLeft, is_early};
+ghost use Rattle.fq_job.specs.Leaving.{TrimsFirst, HoldFirstPairs, RefusalLeaves, ReportLeft, TellsInputs, is_early};
 ghost use Rattle.fq_files.specs.Holding.{IsUnchanged};
 ghost use Rattle.fq_work.specs.Replies.{tally_if};
 ghost use Rattle.fq_job.specs.Faults.{outcome_status};
@@ -82,7 +82,9 @@ pub fn trim_files<R: Threads + Wait + Copy + Send + 'static, T: Files>(
         → RefusalLeaves (asking_of request.now) why (T.bytes_of files.old) (T.bytes_of files.new)) }
     ensures report_left { IfErr result (λ why. IsTrue (T.tells_bytes files.old) → HasDistinctFiles (asking_of request.now)
         → (name : List ℕ) → (asking_of request.now).report ≡ Some name → ReportLeft why (T.bytes_of files.old name) (T.bytes_of files.new name)) }
-    // No output is made where an input is not there.
+    // An input that can't be read is not there, and no output is made then.
+    ensures inputs { IfErr result (λ why. IsTrue (T.tells_bytes files.old)
+        → TellsInputs (asking_of request.now).inputs why (T.bytes_of files.old)) }
     ensures unopened { IsTrue (T.tells_bytes files.old) → (side : Side) → T.bytes_of files.old (input_name (asking_of request.now).inputs side) ≡ None
         → IsUnchanged (T.bytes_of files.old) (T.bytes_of files.new) }
 {
@@ -194,6 +196,8 @@ fn inputs<T: Files>(request: &Request<'_>, files: &mut T) -> Result<Feeds<T::In>
         → AreFed (opened_of T.In.state feeds) (asking_of request.now).inputs (T.bytes_of files.old)) }
     ensures unchanged { IsTrue (T.tells_bytes files.old) → IsUnchanged (T.bytes_of files.old) (T.bytes_of files.new) }
     ensures told { T.tells_bytes files.new ≡ T.tells_bytes files.old }
+    ensures inputs { IfErr result (λ why. IsTrue (T.tells_bytes files.old)
+        → TellsInputs (asking_of request.now).inputs why (T.bytes_of files.old)) }
     ensures early { IfErr result (λ why. IsTrue (is_early why)) }
     ensures late { IfErr result (λ why. status_of why ≢ 2) }
 {
@@ -218,6 +222,8 @@ fn input<T: Files>(request: &Request<'_>, files: &mut T, side: Side) -> Result<T
         → IsFed (T.In.state feed).tells (T.In.state feed).to_come (T.bytes_of files.old (input_name (asking_of request.now).inputs side))) }
     ensures unchanged { IsTrue (T.tells_bytes files.old) → IsUnchanged (T.bytes_of files.old) (T.bytes_of files.new) }
     ensures told { T.tells_bytes files.new ≡ T.tells_bytes files.old }
+    ensures missing { IfErr result (λ why. (why ≡ Refusal.Memory) ⊎ ((why ≡ Refusal.Source side) × (IsTrue (T.tells_bytes files.old)
+        → T.bytes_of files.old (input_name (asking_of request.now).inputs side) ≡ None))) }
     ensures early { IfErr result (λ why. IsTrue (is_early why)) }
     ensures late { IfErr result (λ why. status_of why ≢ 2) }
 {

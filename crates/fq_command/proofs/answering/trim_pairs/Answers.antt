@@ -20,8 +20,8 @@ returns-in-Ok-clause-pairs g c =
       not_due = c.in-Ok.ensures.not_due;
       held = c.in-Ok.ensures.report;
     } in
-    let line : c.tell.result ≢ 0 → TookLine a _ _ _ _ c.tell.result =
-    λ some. told_line a _ _ _ account.outcome account.counts reported run _ _ (c.tell.ensures.line some) in
+    let line : c.tell.result ≢ 0 → TookLine a _ _ _ _ _ c.tell.result =
+    λ some. told_line a _ _ _ account.outcome account.counts reported run _ _ _ (c.tell.ensures.line some) in
     let whole : (c.tell.result ≡ 0) ⊎ (c.tell.result ≡ 3) → IsTrue (g.T.Files.tells_bytes c.args.files.now) → HasDistinctFiles a → EndsWhole a _ _ _ _ c.tell.result =
     λ ends told distinct.
     let status = c.tell.ensures.whole ends in
@@ -55,7 +55,7 @@ returns-in-Ok-clause-wrong g c = λ wrong.
 pub returns-in-Err-clause-pairs : goal.returns-in-Err-clause-pairs
 returns-in-Err-clause-pairs g c = refused_answer _ _ _ _ _ _ _ c.in-Err.refusal c.refuse.ensures
     (λ why is. let same = (c.in-Err.ensures.wrong why is).0 in cc same) (λ none. c.in-Err.ensures.right none)
-    c.in-Err.ensures.refused c.in-Err.ensures.report_left c.in-Err.ensures.unopened
+    c.in-Err.ensures.inputs c.in-Err.ensures.refused c.in-Err.ensures.report_left c.in-Err.ensures.unopened
 
 pub returns-in-Err-clause-wrong : goal.returns-in-Err-clause-wrong
 returns-in-Err-clause-wrong g c = λ wrong.

@@ -10,7 +10,7 @@ use Rattle.fq_work.specs.Replies.{tally_if}
 use Rattle.fq_job.specs.Reporting.{TookReport}
 use Rattle.fq_job.specs.Trimming.{HoldTaken, TrimsPairs, opened_of, pairs_of}
 use Rattle.fq_job.specs.Leaving.{TrimsFirst}
-use Rattle.fq_job.proofs.LeavingLemmas.{leaves_since, leaves_unchanged, report_behind, report_refused, settings_early, unchanged_or_nothing}
+use Rattle.fq_job.proofs.LeavingLemmas.{leaves_since, leaves_unchanged, report_behind, report_refused, settings_early, tells_late, unchanged_or_nothing}
 use Rattle.fq_job.proofs.MakingLemmas.{along, five_empty, five_held, report_unmade}
 use Rattle.fq_job.proofs.StoreLemmas.{all_hold}
 use Rattle.fq_job.proofs.EndingLemmas.{ends_so}
@@ -120,6 +120,13 @@ returns-in_err-outlets-clause-report_left g c =
     rw (p.1, p.2) (λ told distinct name named.
     let told_2 = along _ _ c.in_err-outlets.ensures.told (along _ _ c.in_ok-feeds.ensures.told told) in
     report_behind _ _ _ ((c.in_err-outlets.ensures.unmade told_2).rest name (λ out is. distinct.report out name is named) ∙ c.in_ok-feeds.ensures.unchanged told name))
+
+pub returns-in_err-outlets-clause-inputs : goal.returns-in_err-outlets-clause-inputs
+returns-in_err-outlets-clause-inputs g c =
+    let p = err_from_is_err_and c.from_residual-in_err-outlets.result c.from_residual-in_err-outlets.ensures.1 in
+    rw (p.1, p.2) (λ told.
+    let fed = c.in_ok-feeds.ensures.fed told in
+    tells_late (asking_of c.args.request.now).inputs _ (g.T.Files.bytes_of c.args.files.now) _ _ c.in_err-outlets.ensures.opened fed.forward.bytes_are fed.reverse.bytes_are)
 
 pub returns-in_err-outlets-clause-rest : goal.returns-in_err-outlets-clause-rest
 returns-in_err-outlets-clause-rest g c = λ told name free other.
