@@ -73,6 +73,8 @@ module _ {F G : Type 0} (state : F → FeedState) (state' : G → FeedState) whe
         reverse = drawn state' old.reverse new.reverse _ k.reverse fr;
         fault_is = fault.fault_is;
         lacks = fault.lacks;
+        next = λ one. absurd cc;
+        going = λ one. absurd cc;
         endless = fault.endless;
       }
 
@@ -149,6 +151,8 @@ module _ {F : Type 0} (state : F → FeedState) where
       reverse = drawn state old.source new.source _ k.source failed;
       fault_is = λ told same. fault.fault_is told;
       lacks = λ cut told same. fault.lacks cut told;
+      next = λ one. fault.next;
+      going = λ one. fault.going;
       endless = fault.endless;
     },
     fault.current,

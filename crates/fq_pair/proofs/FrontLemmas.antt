@@ -7,7 +7,7 @@ use Rattle.fq_text.specs.Grammar.{Read, Found, front, begins_with, before_plus, 
 use Rattle.fq_text.proofs.LawfulLemmas.{passed, complete}
 
 module _ (more : List (List ℕ)) where
-  no_quality : (n : ℕ) (ls : List (List ℕ)) → eqb n 0 ≡ true → (quality_lines n ls ≡ []) × (behind_quality n ls ≡ Some ls)
+  pub no_quality : (n : ℕ) (ls : List (List ℕ)) → eqb n 0 ≡ true → (quality_lines n ls ≡ []) × (behind_quality n ls ≡ Some ls)
   no_quality n [] none = (refl, cond-true (eqb n 0) (Some []) None none)
   no_quality n (l ∷ ls) none = (cond-true (eqb n 0) [] (l ∷ quality_lines (n - length l) ls) none, cond-true (eqb n 0) (Some (l ∷ ls)) (behind_quality (n - length l) ls) none)
 

@@ -1,25 +1,28 @@
 -- Two records of one source, one after the other.
-use Rattle.std.proofs.Common.{◌≡◌, ℕ, suc, ◌+◌, ◌*◌, ◌⊎◌, ⊎_elim, Bool, true, false, IsTrue, None, Err, List, [], ◌++◌, refl, ap, sym, subst, ◌∙◌, add-one, arith}
-use Rattle.std.proofs.lemmas.Bool.{cond-true, cond-false}
+use Rattle.std.proofs.Common.{◌≡◌, ℕ, suc, ◌+◌, ◌*◌, ◌⊎◌, ⊎_elim, Bool, true, false, IsTrue, None, Err, List, [], ◌++◌, length, refl, ap, sym, subst, ◌∙◌, add-one, arith}
+use Rattle.std.proofs.lemmas.Bool.{cond-true, cond-false, cases_Bool}
 use Rattle.std.proofs.lemmas.List.{length-append}
 use Rattle.fq_text.specs.Devices.{FeedState}
 use Rattle.fq_text.specs.declared.encoding.Encoding.{Encoding}
 use Rattle.fq_text.specs.Grammar.{Read, Front, End, Faulty, Found, front}
 use Rattle.fq_text.specs.Lines.{lines, whole_part}
+use Rattle.fq_text.specs.Records.{records}
 use Rattle.fq_text.specs.declared.fault.TextFault.{TextFault}
 use Rattle.fq_text.specs.declared.fault.TextFault.TheVariants as text
 use Rattle.fq_text.specs.Sources.{Sourced, rest_in, held, IsTail, KeepsCount, GivesRecord, EndsText, StopsText, LacksRecord, FaultIs, if_read, if_endless as endless_text}
+use Rattle.fq_pair.specs.declared.side.Side.{Side}
 use Rattle.fq_pair.specs.declared.side.Side.TheVariants.{Reverse}
 use Rattle.fq_pair.specs.declared.fault.InputFault.{InputFault}
 use Rattle.fq_pair.specs.declared.fault.InputFault.TheVariants.{Text, MateMissing, NamesDiffer}
 use Rattle.fq_pair.specs.Mates.{Mates, mates_in}
 use Rattle.fq_pair.specs.Pairing.{Pairs, belong, Stopped, Met}
-use Rattle.fq_pair.specs.Interleaved.{interleaved_pairs, meeting_behind, interleaved_meeting}
-use Rattle.fq_pair.specs.PairSources.{is_outside, is_cut, if_endless}
-use Rattle.fq_pair.specs.MixedSources.{front_of, GivesPair, StopsPairs, IsReady, asked, stopped}
+use Rattle.fq_pair.specs.Interleaved.{side_behind, interleaved_pairs, meeting_behind, interleaved_meeting}
+use Rattle.fq_pair.specs.PairSources.{is_outside, is_cut, if_cut, if_endless}
+use Rattle.fq_pair.specs.MixedSources.{front_of, GivesPair, IsNext, StopsPairs, IsReady, asked, stopped}
 use Rattle.fq_pair.proofs.FrontLemmas.{front_more}
+use Rattle.fq_pair.proofs.TakenLemmas.{front_fewer, no_records, one_record}
 use Rattle.fq_pair.specs.Walks.{SideState, side_state, Draws, Uses}
-use Rattle.fq_pair.proofs.SideLemmas.{draws_then, uses_then, more_lines, lines_before, lines_left}
+use Rattle.fq_pair.proofs.SideLemmas.{draws_then, uses_then, more_lines, lines_before, lines_left, lines_behind}
 use Rattle.fq_pair.proofs.InterleavedLaws.{interleaved_pairs_of-stopped, interleaved_pairs_of-ended, interleaved_left_met, interleaved_left_stopped}
 
 -- Of three states of a source, what its feed gave up to the second and up to the third.
@@ -29,9 +32,9 @@ module _ {F : Type 0} (state : F → FeedState) (a b c : Sourced F) (p : KeepsCo
   side s = record (side_state state s) { failures = 0 }
 
   abbrev drawn_in : (old new : Sourced F) → KeepsCount state old new → Draws (side old) (side new) 0
-  drawn_in old new k = record { told = k.told; max_reads = k.max_reads; grows = k.grows; bytes = k.fed; size = k.length; failures = refl }
+  drawn_in old new k = record { told = k.told; max_reads = k.max_reads; grows = k.grows; ended = k.ended; bytes = k.fed; size = k.length; failures = refl }
 
-  abbrev used_in : (old new : Sourced F) → IsTail (rest_in state old) (rest_in state new) → Uses (side old) (side new)
+  abbrev used_in : (old new : Sourced F) → IsTail (rest_in state old) (rest_in state new) new.ended → Uses (side old) (side new)
   used_in old new t = record { used = t.before; split = t.split; at_line = t.at_line }
 
   pub keeps_then : KeepsCount state a c
@@ -43,14 +46,15 @@ module _ {F : Type 0} (state : F → FeedState) (a b c : Sourced F) (p : KeepsCo
         max_reads = d.max_reads;
         told = d.told;
         grows = d.grows;
+        ended = d.ended;
         fed = d.bytes;
         length = d.size;
       }
 
   -- a rest of a rest of a text
-  tail_then : IsTail (rest_in state a) (rest_in state b) → IsTail (rest_in state b) (rest_in state c) → IsTail (rest_in state a) (rest_in state c)
+  tail_then : IsTail (rest_in state a) (rest_in state b) b.ended → IsTail (rest_in state b) (rest_in state c) c.ended → IsTail (rest_in state a) (rest_in state c) c.ended
   tail_then t u =
-      let both = uses_then (side a) (side b) (side c) (used_in a b t) (used_in b c u) in
+      let both = uses_then (side a) (side b) (side c) q.ended (used_in a b t) (used_in b c u) in
       let some = t.some in
       record { before = t.before ++ u.before; some = omega (arith, length-append t.before u.before); split = both.split; at_line = both.at_line }
 
@@ -85,7 +89,7 @@ module _ {F : Type 0} (state : F → FeedState) (a b c : Sourced F) (p : KeepsCo
         last = refl;
       })
 
-  module _ (told : IsTrue (state a.feed).tells) (t : IsTail (rest_in state a) (rest_in state b)) where
+  module _ (told : IsTrue (state a.feed).tells) (t : IsTail (rest_in state a) (rest_in state b) b.ended) where
     abbrev came : List ℕ
     came = held state a c
 
@@ -132,6 +136,16 @@ module _ {F : Type 0} (state : F → FeedState) (a b c : Sourced F) (p : KeepsCo
       pub no_pair : HasNone
       no_pair = by_first (front a.encoding whole_lines) refl
 
+      -- where the feed had not told its end they make one record
+      pub one_came : b.ended ≡ false → length (records a.encoding (whole_part came)).reads ≡ 1
+      one_came going =
+          let behind = lines (whole_part (held state b c)) in
+          let left_is : lines (rest_in state b) ≡ behind ++ more = lines_behind (side a) (side b) (side c) 0 (drawn_in a b p) (drawn_in b c q) told (used_in a b t) going in
+          let found : front a.encoding whole_lines ≡ Found f behind =
+          front_fewer a.encoding f whole_lines behind more (ap (front a.encoding) (sym before) ∙ first ∙ ap (Found f) left_is) in
+          one_record a.encoding f whole_lines behind found
+          ∙ ap suc (no_records a.encoding behind (λ r rest is. lacks (p.told ∙ told) r rest (ap (λ (e : Encoding). front e behind) p.encoding ∙ is)))
+
 -- a fault of the text is that of the record in front of it, with its number
 stops_behind : (check : Bool) (n : ℕ) (f : Read) (x : Front) (k : ℕ) (why : TextFault) → k ≡ 2 * n → is_outside why ≡ false → FaultIs x k why → meeting_behind check n f x ≡ Stopped (Text Reverse why)
 stops_behind check n f x k (text.NoTitle j) is inside p = ap (meeting_behind check n f) p.0 ∙ ap (λ i. Stopped (Text Reverse (text.NoTitle i))) (sym (p.1 ∙ is))
@@ -159,6 +173,20 @@ cut_lacks P (text.QualityLong n) cut p = absurd cc
 cut_lacks P (text.QualityShort n) cut p = absurd cc
 cut_lacks P (text.TooLong n) cut p = absurd cc
 
+-- the side of a cut
+cut_side : (P : Side → Type 0) (s : Side) (why : TextFault) → (is_cut why ≡ true → P s) → if_cut P (Text s why)
+cut_side P s text.Read p = p refl
+cut_side P s text.Endless p = p refl
+cut_side P s text.OutOfMemory p = tt
+cut_side P s (text.NoTitle n) p = tt
+cut_side P s (text.BadSequence n) p = tt
+cut_side P s (text.NoPlus n) p = tt
+cut_side P s (text.PlusDiffers n) p = tt
+cut_side P s (text.BadQuality n) p = tt
+cut_side P s (text.QualityLong n) p = tt
+cut_side P s (text.QualityShort n) p = tt
+cut_side P s (text.TooLong n) p = tt
+
 endless_behind : (P : Type 0) (why : TextFault) → endless_text P why → if_endless P P (Text Reverse why)
 endless_behind P text.Endless p = p
 endless_behind P text.Read p = tt
@@ -172,11 +200,15 @@ endless_behind P (text.QualityLong n) p = tt
 endless_behind P (text.QualityShort n) p = tt
 endless_behind P (text.TooLong n) p = tt
 
+-- what stays, and is not so later, was not so before
+not_before : {before later : Bool} → (before ≡ true → later ≡ true) → later ≡ false → before ≡ false
+not_before {before} {later} stays none = ⊎_elim (λ over. absurd (let h = sym (stays over) ∙ none in cc)) (λ going. going) (cases_Bool before)
+
 module _ {F : Type 0} (state : F → FeedState) (a b c : Sourced F) (p : KeepsCount state a b) (q : KeepsCount state b c) (kept : Read) (check : Bool) (given : ℕ) (before : Bool) (f : Read) (first : GivesRecord state a b f) where
   -- a fault behind a forward mate
   second_stops : (why : TextFault) → a.given ≡ 2 * given → StopsText state b c why →
       StopsPairs state (asked a kept check given before) (stopped c check given (Err (Text Reverse why))) (Text Reverse why)
-  second_stops why records stops =
+  second_stops why even stops =
       let one = first.given in
       let n = suc given in
       let number : b.given + 1 ≡ 2 * n = omega arith in
@@ -188,6 +220,9 @@ module _ {F : Type 0} (state : F → FeedState) (a b c : Sourced F) (p : KeepsCo
         fault_is = fault_is;
         left = λ told inside. interleaved_left_stopped state (asked a kept check given before) (Text Reverse why) (fault_is told inside);
         lacks = λ cut told. no_pair state a b c p q told (first.tail told) check given f (first.record_is told) (cut_lacks _ why cut stops.lacks);
+        next = cut_side (IsNext state a c) Reverse why (λ cut told.
+            ap side_behind (one_came state a b c p q told (first.tail told) check given f (first.record_is told) (cut_lacks _ why cut stops.lacks) (cut_lacks _ why cut stops.going)));
+        going = λ cut. not_before p.ended (cut_lacks _ why cut stops.going);
         endless = endless_behind _ why stops.endless;
         reading = (stops.last, stops.given ∙ first.given);
         given = refl;
@@ -209,6 +244,8 @@ module _ {F : Type 0} (state : F → FeedState) (a b c : Sourced F) (p : KeepsCo
         fault_is = fault_is;
         left = λ told inside. interleaved_left_stopped state (asked a kept check given before) (MateMissing Reverse (given + 1)) (fault_is told inside);
         lacks = λ cut. absurd cc;
+        next = tt;
+        going = λ cut. absurd cc;
         endless = tt;
         reading = tt;
         given = refl;
@@ -233,6 +270,8 @@ module _ {F : Type 0} (state : F → FeedState) (a b c : Sourced F) (p : KeepsCo
         fault_is = fault_is;
         left = λ told inside. interleaved_left_stopped state (asked a kept check given before) (NamesDiffer (given + 1)) (fault_is told inside);
         lacks = λ cut. absurd cc;
+        next = tt;
+        going = λ cut. absurd cc;
         endless = tt;
         reading = tt;
         given = refl;

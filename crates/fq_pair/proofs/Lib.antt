@@ -7,6 +7,7 @@ pub mod TextLemmas
 pub mod AddLemmas
 pub mod SourceLaws
 pub mod FrontLemmas
+pub mod TakenLemmas
 pub mod WholeLemmas
 pub mod SideLemmas
 pub mod AskLemmas

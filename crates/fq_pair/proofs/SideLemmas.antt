@@ -1,5 +1,5 @@
 -- One side of a source of pairs, in three states one after the other, and the records of pairs.
-use Rattle.std.proofs.Common.{◌≡◌, ℕ, ◌+◌, ◌-◌, ◌≤◌, ◌⊎◌, inl, inr, ⊎_elim, true, IsTrue, List, [], ◌++◌, length, take, refl, ap, sym, ◌∙◌, arith, append_assoc}
+use Rattle.std.proofs.Common.{◌≡◌, ℕ, ◌+◌, ◌-◌, ◌≤◌, ◌⊎◌, inl, inr, ⊎_elim, true, false, IsTrue, List, [], ◌++◌, length, take, refl, ap, sym, ◌∙◌, arith, append_assoc}
 use Rattle.std.proofs.lemmas.List.{append_cancel_left, append_cancel_right, length-append, length-take-le, nil_from_length, take_at}
 use Rattle.fq_text.specs.Devices.{FeedState}
 use Rattle.fq_text.specs.Lines.{lines, is_whole, whole_part}
@@ -14,10 +14,10 @@ use Rattle.fq_pair.proofs.WholeLemmas.{behind_whole, whole_split, is_whole-whole
 module _ {F : Type 0} (state : F → FeedState) (old new : Sourced F) where
   -- what its feed gave in a call, in which it failed so often
   pub drawn : (n : ℕ) → KeepsCount state old new → (state new.feed).failures ≡ (state old.feed).failures + n → Draws (side_state state old) (side_state state new) n
-  drawn n k failed = record { told = k.told; max_reads = k.max_reads; grows = k.grows; bytes = k.fed; size = k.length; failures = failed }
+  drawn n k failed = record { told = k.told; max_reads = k.max_reads; grows = k.grows; ended = k.ended; bytes = k.fed; size = k.length; failures = failed }
 
   -- the bytes that a record was
-  abbrev pub used : IsTail (rest_in state old) (rest_in state new) → Uses (side_state state old) (side_state state new)
+  abbrev pub used : IsTail (rest_in state old) (rest_in state new) new.ended → Uses (side_state state old) (side_state state new)
   used t = record { used = t.before; split = t.split; at_line = t.at_line }
 
 -- what a feed gave in two calls
@@ -37,6 +37,7 @@ draws_then a b c n p q =
       told = q.told ∙ p.told;
       max_reads = q.max_reads ∙ p.max_reads;
       grows = omega arith;
+      ended = λ over. q.ended (p.ended over);
       bytes = λ told. p.bytes told ∙ ap (λ xs. fed a b ++ xs) (q.bytes (p.told ∙ told)) ∙ sym (append_assoc (fed a b) (fed b c) c.to_come) ∙ ap (λ xs. xs ++ c.to_come) (sym (fed_then a b c n p q told));
       size = λ told.
           let first = ap length (p.bytes told) in let fits = p.size told in let more = q.size (p.told ∙ told) in let m = length-take-le (b.taken - a.taken) a.to_come fits in
@@ -47,13 +48,14 @@ draws_then a b c n p q =
 pub nothing_left : (xs ys zs : List ℕ) → zs ≡ [] → zs ≡ xs ++ ys → ys ≡ []
 nothing_left xs ys zs none is = let len = ap length (sym none ∙ is) in nil_from_length ys (omega (arith, length-append xs ys))
 
-abbrev pub uses_then : (a b c : SideState) → Uses a b → Uses b c → Uses a c
-uses_then a b c p q = record {
+-- of two moves the second has kept an end that was told
+abbrev pub uses_then : (a b c : SideState) → (b.ended ≡ true → c.ended ≡ true) → Uses a b → Uses b c → Uses a c
+uses_then a b c stays p q = record {
   used = p.used ++ q.used;
   split = p.split ∙ ap (λ xs. p.used ++ xs) q.split ∙ sym (append_assoc p.used q.used (rest c));
   at_line = ⊎_elim
-      (λ (whole : is_whole p.used ≡ true). ⊎_elim (λ (then : is_whole q.used ≡ true). inl (whole-append p.used q.used whole then)) (λ (none : rest c ≡ []). inr none) q.at_line)
-      (λ (none : rest b ≡ []). inr (nothing_left q.used (rest c) (rest b) none q.split))
+      (λ (whole : is_whole p.used ≡ true). ⊎_elim (λ (then : is_whole q.used ≡ true). inl (whole-append p.used q.used whole then)) (λ (over : (rest c ≡ []) × (c.ended ≡ true)). inr over) q.at_line)
+      (λ (over : (rest b ≡ []) × (b.ended ≡ true)). inr (nothing_left q.used (rest c) (rest b) over.0 q.split, stays over.1))
       p.at_line;
 }
 
@@ -89,15 +91,20 @@ module _ (old mid new : SideState) (n : ℕ) (a : Draws old mid 0) (b : Draws mi
       ∙ ap (λ xs. xs ++ behind_whole (came old new)) (whole_part-whole u.used (came mid new) whole)
       ∙ append_assoc u.used (whole_part (came mid new)) (behind_whole (came old new)))
 
+  behind_used : is_whole u.used ≡ true → lines (rest mid) ≡ lines (whole_part (came mid new)) ++ more_lines
+  behind_used whole = split_lines (came mid new) (behind_whole (came old new) ++ new.to_come) (rest mid)
+      (rest_then ∙ ap (λ xs. xs ++ new.to_come) (came_whole whole) ∙ append_assoc (whole_part (came mid new)) (behind_whole (came old new)) new.to_come)
+
   -- what is left of the lines that came whole, behind those that were used
   pub lines_left : (ls : List (List ℕ)) → ls ++ more_lines ≡ lines (rest mid) → (ls ≡ lines (whole_part (came mid new))) ⊎ (ls ≡ [])
   lines_left ls is = ⊎_elim
-      (λ (whole : is_whole u.used ≡ true).
-      inl (append_cancel_right ls (lines (whole_part (came mid new))) more_lines
-      (is ∙ split_lines (came mid new) (behind_whole (came old new) ++ new.to_come) (rest mid)
-      (rest_then ∙ ap (λ xs. xs ++ new.to_come) (came_whole whole) ∙ append_assoc (whole_part (came mid new)) (behind_whole (came old new)) new.to_come))))
-      (λ (none : rest mid ≡ []). inr (none_before ls more_lines (is ∙ ap lines none)))
+      (λ (whole : is_whole u.used ≡ true). inl (append_cancel_right ls (lines (whole_part (came mid new))) more_lines (is ∙ behind_used whole)))
+      (λ (over : (rest mid ≡ []) × (mid.ended ≡ true)). inr (none_before ls more_lines (is ∙ ap lines over.0)))
       u.at_line
+
+  -- where the end had not been told they are those that came whole behind it
+  pub lines_behind : mid.ended ≡ false → lines (rest mid) ≡ lines (whole_part (came mid new)) ++ more_lines
+  lines_behind going = ⊎_elim behind_used (λ (over : (rest mid ≡ []) × (mid.ended ≡ true)). absurd (let h = sym going ∙ over.1 in cc)) u.at_line
 
 -- in either form there are as many records as pairs, or more
 pub some_records : (form : Form) (n : ℕ) → n ≤ records_of_pairs form n

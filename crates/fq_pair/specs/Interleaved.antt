@@ -1,14 +1,21 @@
 -- The pairs of an interleaved text, in which mates take turns, and how they end: its records of odd numbers are forward, those of even numbers reverse.
-use Rattle.std.specs.Prelude.{ℕ, suc, ◌+◌, ◌-◌, ◌*◌, Bool, Option, List, [], ◌∷◌, length, drop, take_while}
+use Rattle.std.specs.Prelude.{ℕ, zero, suc, ◌+◌, ◌-◌, ◌*◌, Bool, Option, List, [], ◌∷◌, length, drop, take_while}
 use Rattle.fq_text.specs.declared.encoding.Encoding.{Encoding}
 use Rattle.fq_text.specs.Grammar.{Read, Front, End, Faulty, Found, front}
 use Rattle.fq_text.specs.Records.{Records, records}
 use Rattle.fq_text.specs.Sources.{numbered}
+use Rattle.fq_pair.specs.declared.side.Side.{Side}
 use Rattle.fq_pair.specs.declared.side.Side.TheVariants.{Forward, Reverse}
 use Rattle.fq_pair.specs.declared.fault.InputFault.{InputFault}
 use Rattle.fq_pair.specs.declared.fault.InputFault.TheVariants.{Text, MateMissing}
 use Rattle.fq_pair.specs.Mates.{Mates, mates_in}
 use Rattle.fq_pair.specs.Pairing.{Pairs, belong, fault_behind, text_fault, mate_fault, first_fault, behind, PairFront, Ended, Stopped, met}
+
+-- the side of the record that comes next in an interleaved text, behind so many
+abbrev pub side_behind : ℕ → Side
+side_behind zero = Forward
+side_behind (suc zero) = Reverse
+side_behind (suc (suc n)) = side_behind n
 
 -- the pairs of mates that follow one another in a list
 abbrev pub interleaved_mates : List Read → List Mates

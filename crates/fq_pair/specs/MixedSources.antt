@@ -4,14 +4,16 @@ use Rattle.std.specs.declared.result.Result.TheVariants as res
 use Rattle.fq_text.specs.Devices.{FeedState}
 use Rattle.fq_text.specs.Lines.{lines, whole_part}
 use Rattle.fq_text.specs.Grammar.{Read, IsLawful}
+use Rattle.fq_text.specs.Records.{records}
 use Rattle.fq_text.specs.Sources.{Sourced, rest_in, held, IsTail, KeepsCount, EndsText}
+use Rattle.fq_pair.specs.declared.side.Side.{Side}
 use Rattle.fq_pair.specs.declared.side.Side.TheVariants.{Forward, Reverse}
 use Rattle.fq_pair.specs.declared.fault.InputFault.{InputFault}
 use Rattle.fq_pair.specs.declared.fault.InputFault.TheVariants.{Text}
 use Rattle.fq_pair.specs.Mates.{Mates}
 use Rattle.fq_pair.specs.Pairing.{Pairs, PairFront, Ended, Stopped, Met, belong, with_pair}
-use Rattle.fq_pair.specs.Interleaved.{interleaved_pairs, interleaved_front}
-use Rattle.fq_pair.specs.PairSources.{is_from_outside, is_cut_short, if_endless, failed_on, pair_of}
+use Rattle.fq_pair.specs.Interleaved.{side_behind, interleaved_pairs, interleaved_front}
+use Rattle.fq_pair.specs.PairSources.{is_from_outside, is_cut_short, if_cut, if_endless, failed_on, pair_of}
 
 -- A source of pairs: the source of both mates, whether names are checked, how many pairs were given, once that is a fault or
 -- the end its last answer, and the pair in hand.
@@ -41,7 +43,7 @@ pub record GivesTwo {F : Type 0} (state : F → FeedState) (old new : Sourced F)
   pub reverse : IsLawful m.reverse
   pub forward_encoding : m.forward.encoding ≡ old.encoding
   pub reverse_encoding : m.reverse.encoding ≡ old.encoding
-  pub tail : IsTrue (state old.feed).tells → IsTail (rest_in state old) (rest_in state new)
+  pub tail : IsTrue (state old.feed).tells → IsTail (rest_in state old) (rest_in state new) new.ended
   pub given : new.given ≡ old.given + 2
   pub last : new.last ≡ None
   pub in_hand : length new.in_hand < new.chunk
@@ -70,6 +72,11 @@ abbrev pub LacksPair : {F : Type 0} → (F → FeedState) → MixedSourced F →
 LacksPair state old new = IsTrue (state old.source.feed).tells →
     (interleaved_pairs old.check_names old.source.encoding old.given (whole_part (held state old.source new.source))).mates ≡ []
 
+-- this is the side of the record that comes next, behind those that stand in the whole lines of the bytes in hand before a call and those that
+-- the feed gave in it
+abbrev pub IsNext : {F : Type 0} → (F → FeedState) → Sourced F → Sourced F → Side → Type 0
+IsNext state old new side = IsTrue (state old.feed).tells → side_behind (length (records old.encoding (whole_part (held state old new))).reads) ≡ side
+
 -- The fault of the text, of whatever kind, is the last answer of its source, and its side is that of the record that was being read: at
 -- one of the reverse side the forward record had been given.
 abbrev pub WasReading : {F : Type 0} → Sourced F → Sourced F → InputFault → Type 0
@@ -77,11 +84,14 @@ WasReading old new (Text Forward fault) = (new.last ≡ Some (res.Err fault)) ×
 WasReading old new (Text Reverse fault) = (new.last ≡ Some (res.Err fault)) × (new.given ≡ old.given + 1)
 WasReading old new _ = Unit {0}
 
--- A fault was answered: where it is one of the text no pair was left, and they end by it.
+-- A fault was answered: where it is one of the text no pair was left, and they end by it. A read that failed, or was one too many, was made for
+-- the record that comes next, and the feed had not told its end.
 pub record StopsPairs {F : Type 0} (state : F → FeedState) (old new : MixedSourced F) (why : InputFault) : Type 0 where
   pub fault_is : IsTrue (state old.source.feed).tells → is_from_outside why ≡ false → front_of state old ≡ Stopped why
   pub left : IsTrue (state old.source.feed).tells → is_from_outside why ≡ false → pairs_left state old ≡ record { mates = []; fault = Some why }
   pub lacks : is_cut_short why ≡ true → LacksPair state old new
+  pub next : if_cut (IsNext state old.source new.source) why
+  pub going : is_cut_short why ≡ true → old.source.ended ≡ false
   pub endless : (let most : Type 0 = new.source.max_reads ≤ new.source.taken in if_endless most most why)
   pub reading : WasReading old.source new.source why
   pub given : new.given ≡ old.given

@@ -101,6 +101,12 @@ abbrev pub is_cut_short : InputFault → Bool
 is_cut_short (Text side fault) = is_cut fault
 is_cut_short _ = false
 
+-- what holds of the side whose text could not be read on
+abbrev pub if_cut : (Side → Type 0) → InputFault → Type 0
+if_cut P (Text side text.Read) = P side
+if_cut P (Text side text.Endless) = P side
+if_cut P _ = Unit {0}
+
 -- the whole lines of the bytes in hand before a call and those that the feeds gave in it make no pair
 abbrev pub LacksPair : {F G : Type 0} → (F → FeedState) → (G → FeedState) → PairSourced F G → PairSourced F G → Type 0
 LacksPair state state' old new = IsTrue (state old.forward.feed).tells → IsTrue (state' old.reverse.feed).tells →

@@ -5,19 +5,23 @@ use Rattle.std.specs.declared.result.Result.TheVariants as res
 use Rattle.fq_text.specs.Devices.{FeedState}
 use Rattle.fq_text.specs.declared.encoding.Encoding.{Encoding}
 use Rattle.fq_text.specs.Lines.{lines, is_whole, whole_part}
+use Rattle.fq_text.specs.Records.{records}
 use Rattle.fq_text.specs.Sources.{Sourced}
+use Rattle.fq_pair.specs.declared.side.Side.{Side}
 use Rattle.fq_pair.specs.declared.side.Side.TheVariants.{Forward, Reverse}
 use Rattle.fq_pair.specs.declared.fault.InputFault.{InputFault}
 use Rattle.fq_pair.specs.Mates.{Mates}
 use Rattle.fq_pair.specs.Pairing.{PairFront, Ended, Stopped, Met}
-use Rattle.fq_pair.specs.PairSources.{PairSourced, is_from_outside, is_cut_short, if_endless}
+use Rattle.fq_pair.specs.Interleaved.{side_behind}
+use Rattle.fq_pair.specs.PairSources.{PairSourced, is_from_outside, is_cut_short, if_cut, if_endless}
 use Rattle.fq_pair.specs.MixedSources.{MixedSourced}
 use Rattle.fq_pair.specs.Forms.{Form, TwoTexts, InterleavedText, pairs_in, front_in, records_of_pairs, failed_at}
 
--- one side of a source of pairs: its feed, and the bytes in hand, taken, and records given so far
+-- one side of a source of pairs: its feed, the bytes in hand, whether the feed has told its end, and the bytes taken and records given so far
 pub record SideState : Type 0 where
   pub tells : Bool
   pub in_hand : List ℕ
+  pub ended : Bool
   pub to_come : List ℕ
   pub failures : ℕ
   pub taken : ℕ
@@ -28,6 +32,7 @@ abbrev pub side_state : {F : Type 0} → (F → FeedState) → Sourced F → Sid
 side_state state s = record {
   tells = (state s.feed).tells;
   in_hand = s.in_hand;
+  ended = s.ended;
   to_come = (state s.feed).to_come;
   failures = (state s.feed).failures;
   taken = s.taken;
@@ -86,20 +91,21 @@ fed old new = take (new.taken - old.taken) old.to_come
 abbrev pub came : SideState → SideState → List ℕ
 came old new = old.in_hand ++ fed old new
 
--- a side's feed gave bytes, which were counted, and failed so often
+-- a side's feed gave bytes, which were counted, and failed so often, and an end that it told stays
 pub record Draws (old new : SideState) (failed : ℕ) : Type 0 where
   pub told : new.tells ≡ old.tells
   pub max_reads : new.max_reads ≡ old.max_reads
   pub grows : old.taken ≤ new.taken
+  pub ended : old.ended ≡ true → new.ended ≡ true
   pub bytes : IsTrue old.tells → old.to_come ≡ fed old new ++ new.to_come
   pub size : IsTrue old.tells → new.taken - old.taken ≤ length old.to_come
   pub failures : new.failures ≡ old.failures + failed
 
--- bytes were used up: whole lines, or all
+-- bytes were used up: whole lines, or all behind which the feed has told its end
 pub record Uses (old new : SideState) : Type 0 where
   pub used : List ℕ
   pub split : rest old ≡ used ++ rest new
-  pub at_line : (is_whole used ≡ true) ⊎ (rest new ≡ [])
+  pub at_line : (is_whole used ≡ true) ⊎ ((rest new ≡ []) × (new.ended ≡ true))
 
 -- what no call changes
 pub record KeepsSettings (old new : SourceState) : Type 0 where
@@ -141,7 +147,12 @@ pub record MeetsEnd (old new : SourceState) : Type 0 where
 abbrev pub faulty : InputFault → Result (Option Mates) InputFault
 faulty why = res.Err why
 
--- a fault was met
+-- this is the side of the record that comes next in an interleaved text, behind those that stand in the whole lines that came
+abbrev pub IsNext : SourceState → SourceState → Side → Type 0
+IsNext old new side = IsTrue old.forward.tells → side_behind (length (records old.encoding (whole_part (came old.forward new.forward))).reads) ≡ side
+
+-- A fault was met. In an interleaved text a read that failed, or was one too many, was made for the record that comes next, and the feed had
+-- not told its end.
 pub record MeetsFault (old new : SourceState) (why : InputFault) : Type 0 where
   pub forward : Draws old.forward new.forward (failed_at old.form Forward (faulty why))
   pub reverse : Draws old.reverse new.reverse (failed_at old.form Reverse (faulty why))
@@ -149,6 +160,8 @@ pub record MeetsFault (old new : SourceState) (why : InputFault) : Type 0 where
   pub lacks : is_cut_short why ≡ true → IsTrue old.forward.tells → IsTrue old.reverse.tells →
       (pairs_in old.form old.check_names old.encoding old.given
       (whole_part (came old.forward new.forward)) (whole_part (came old.reverse new.reverse))).mates ≡ []
+  pub next : old.form ≡ InterleavedText → if_cut (IsNext old new) why
+  pub going : old.form ≡ InterleavedText → is_cut_short why ≡ true → old.forward.ended ≡ false
   pub endless : if_endless (new.forward.max_reads ≤ new.forward.taken) (new.reverse.max_reads ≤ new.reverse.taken) why
 
 -- what a call of a source that goes on answers

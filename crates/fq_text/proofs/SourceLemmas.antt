@@ -3,7 +3,7 @@ use Rattle.std.proofs.Common.{◌≡◌, ℕ, suc, ◌+◌, ◌-◌, ◌<◌, �
 use Rattle.std.specs.List.{list_any}
 use Rattle.std.proofs.lemmas.List.{append-nil, length-append, take_at}
 use Rattle.std.proofs.lemmas.List.Folds.{list_any-append}
-use Rattle.std.proofs.lemmas.Bool.{cond-true, cond-false, or_left, or_right, or_from, ne_eqb}
+use Rattle.std.proofs.lemmas.Bool.{cond-true, cond-false, or_left, or_right, or_from, ne_eqb, cases_Bool}
 use Rattle.fq_text.specs.Devices.{FeedState}
 use Rattle.fq_text.specs.declared.encoding.Encoding.{Encoding}
 use Rattle.fq_text.specs.declared.fault.Fault.{Fault}
@@ -56,6 +56,7 @@ module _ {F : Type 0} (state : F → FeedState) (e : Encoding) where
     chunk = r.chunk;
     max_reads = r.max_reads;
     in_hand = r.in_hand;
+    ended = r.ended;
     taken = r.taken;
     given = k;
     last = last;
@@ -87,7 +88,7 @@ module _ {F : Type 0} (state : F → FeedState) (e : Encoding) where
       some = some_used e r p.used (p.answer []);
       split = rest_is state a b p.used p.reads told;
       at_line = ⊎_elim (λ whole. inl whole)
-          (λ (end : (b.ended ≡ true) × (b.in_hand ≡ [])). inr (ap (λ xs. xs ++ (state b.feed).to_come) end.1 ∙ sound.nothing end.0 (p.reads.told ∙ told))) p.closed;
+          (λ (end : (b.ended ≡ true) × (b.in_hand ≡ [])). inr (ap (λ xs. xs ++ (state b.feed).to_come) end.1 ∙ sound.nothing end.0 (p.reads.told ∙ told), end.0)) p.closed;
     };
     given = refl;
     last = none;
@@ -102,6 +103,10 @@ module _ {F : Type 0} (state : F → FeedState) (e : Encoding) where
       LacksRecord state (source_of a k l before) (source_of b m n after)
   lacks_record a b k m l n before after p = λ told read ls is. p.answer read ls
       (ap (λ xs. front e (lines xs)) (sym (ap whole_part (ap (λ xs. a.in_hand ++ xs) (gave_is a b p.used p.reads told) ∙ p.reads.hand) ∙ whole_part-append p.used b.in_hand p.whole p.no_line)) ∙ is)
+
+  -- an end that was told stays, so it had not been told
+  still_going : (a b : Lined F) → Waits state a b (front e) → a.ended ≡ false
+  still_going a b p = ⊎_elim (λ over. absurd (let q = p.reads.quiet over in let h = sym q.1 ∙ p.going in cc)) (λ going. going) (cases_Bool a.ended)
 
   pub stops_used : (a b : Lined F) (why : ReadError) → Stops state a b (front e) why → (used : List ℕ) × Reads state a b used
   stops_used a b (error.Fault f) p = (p.used, p.reads)
@@ -137,8 +142,9 @@ module _ {F : Type 0} (state : F → FeedState) (e : Encoding) where
     last = refl;
     current = refl;
     lacks = (no_device _ (k + 1) f).0;
+    going = (no_device (a.ended ≡ false) (k + 1) f).0;
     endless = (no_device _ (k + 1) f).1;
   }
-  stops_text a b k l before error.Read p = record { fault_is = λ told. tt; given = refl; last = refl; current = refl; lacks = lacks_record a b k k l None before None p; endless = tt }
-  stops_text a b k l before error.Endless p = record { fault_is = λ told. tt; given = refl; last = refl; current = refl; lacks = lacks_record a b k k l None before None p.0; endless = p.1 }
-  stops_text a b k l before error.OutOfMemory p = record { fault_is = λ told. tt; given = refl; last = refl; current = refl; lacks = tt; endless = tt }
+  stops_text a b k l before error.Read p = record { fault_is = λ told. tt; given = refl; last = refl; current = refl; lacks = lacks_record a b k k l None before None p; going = still_going a b p; endless = tt }
+  stops_text a b k l before error.Endless p = record { fault_is = λ told. tt; given = refl; last = refl; current = refl; lacks = lacks_record a b k k l None before None p.0; going = still_going a b p.0; endless = p.1 }
+  stops_text a b k l before error.OutOfMemory p = record { fault_is = λ told. tt; given = refl; last = refl; current = refl; lacks = tt; going = tt; endless = tt }

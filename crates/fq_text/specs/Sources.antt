@@ -12,14 +12,15 @@ use Rattle.fq_text.specs.declared.fault.TextFault.TheVariants as text
 use Rattle.fq_text.specs.Lines.{lines, is_whole, whole_part}
 use Rattle.fq_text.specs.Grammar.{Read, Front, End, Faulty, Found, front, IsLawful}
 
--- A source: its feed, the bytes in hand, how many bytes were taken and records given, once that is a fault or the end
--- its last answer, and the record in hand.
+-- A source: its feed, the bytes in hand, whether the feed has told its end, how many bytes were taken and records given, once that is a
+-- fault or the end its last answer, and the record in hand.
 pub record Sourced (F : Type 0) : Type 0 where
   pub feed : F
   pub encoding : Encoding
   pub chunk : ℕ
   pub max_reads : ℕ
   pub in_hand : List ℕ
+  pub ended : Bool
   pub taken : ℕ
   pub given : ℕ
   pub last : Option (Result (Unit {0}) TextFault)
@@ -64,20 +65,21 @@ front_of state s = front s.encoding (lines (rest_in state s))
 abbrev pub held : {F : Type 0} → (F → FeedState) → Sourced F → Sourced F → List ℕ
 held state old new = old.in_hand ++ take (new.taken - old.taken) (state old.feed).to_come
 
--- a text is a rest of another, from the start of a line on
-pub record IsTail (whole tail : List ℕ) : Type 0 where
+-- a text is a rest of another, from the start of a line on, or nothing is left and the end was told
+pub record IsTail (whole tail : List ℕ) (ended : Bool) : Type 0 where
   pub before : List ℕ
   pub some : 0 < length before
   pub split : whole ≡ before ++ tail
-  pub at_line : (is_whole before ≡ true) ⊎ (tail ≡ [])
+  pub at_line : (is_whole before ≡ true) ⊎ ((tail ≡ []) × (ended ≡ true))
 
--- What every call keeps: the number of bytes taken grows by those that the feed gave.
+-- What every call keeps: the number of bytes taken grows by those that the feed gave, and an end that was told stays.
 pub record KeepsCount {F : Type 0} (state : F → FeedState) (old new : Sourced F) : Type 0 where
   pub encoding : new.encoding ≡ old.encoding
   pub chunk : new.chunk ≡ old.chunk
   pub max_reads : new.max_reads ≡ old.max_reads
   pub told : (state new.feed).tells ≡ (state old.feed).tells
   pub grows : old.taken ≤ new.taken
+  pub ended : old.ended ≡ true → new.ended ≡ true
   pub fed : IsTrue (state old.feed).tells → (state old.feed).to_come ≡ take (new.taken - old.taken) (state old.feed).to_come ++ (state new.feed).to_come
   pub length : IsTrue (state old.feed).tells → new.taken - old.taken ≤ length (state old.feed).to_come
 
@@ -86,7 +88,7 @@ pub record GivesRecord {F : Type 0} (state : F → FeedState) (old new : Sourced
   pub lawful : IsLawful read
   pub encoding : read.encoding ≡ old.encoding
   pub record_is : IsTrue (state old.feed).tells → front_of state old ≡ Found read (lines (rest_in state new))
-  pub tail : IsTrue (state old.feed).tells → IsTail (rest_in state old) (rest_in state new)
+  pub tail : IsTrue (state old.feed).tells → IsTail (rest_in state old) (rest_in state new) new.ended
   pub given : new.given ≡ old.given + 1
   pub last : new.last ≡ None
   pub current : new.current ≡ Some read
@@ -126,13 +128,14 @@ abbrev pub if_endless : Type 0 → TextFault → Type 0
 if_endless P text.Endless = P
 if_endless P _ = Unit {0}
 
--- a fault was answered
+-- A fault was answered. No read fails, and none is one too many, where the feed has told its end.
 pub record StopsText {F : Type 0} (state : F → FeedState) (old new : Sourced F) (why : TextFault) : Type 0 where
   pub fault_is : IsTrue (state old.feed).tells → FaultIs (front_of state old) (old.given + 1) why
   pub given : new.given ≡ old.given
   pub last : new.last ≡ Some (res.Err why)
   pub current : new.current ≡ None
   pub lacks : if_read (LacksRecord state old new) why
+  pub going : if_read (old.ended ≡ false) why
   pub endless : if_endless (new.max_reads ≤ new.taken) why
 
 -- how often the feed failed in a call

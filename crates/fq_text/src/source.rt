@@ -54,6 +54,7 @@ impl<F: Feed> Model for Source<F> {
       chunk = s.lines.chunk;
       max_reads = s.lines.max_reads;
       in_hand = s.lines.in_hand;
+      ended = s.lines.ended;
       taken = s.lines.taken;
       given = s.given;
       last = s.last;
@@ -93,6 +94,7 @@ impl<F: Feed> Source<F> {
           chunk = chunk;
           max_reads = max_reads;
           in_hand = [];
+          ended = false;
           taken = 0;
           given = 0;
           last = None;
