@@ -109,6 +109,8 @@ module _ (c : Choices) (run : Run) (e : run.outcome ≡ outcome.Spawn) (none : r
       feed_failed = λ side some. let n = ap rank e in omega arith;
       cut_at_read = λ told side at. absurd (apart run e (outcome.Read side) (λ q. cc) at);
       cut_at_endless = λ told side at. absurd (apart run e (outcome.Endless side) (λ q. cc) at);
+      next_at_read = λ one told side at. absurd (apart run e (outcome.Read side) (λ q. cc) at);
+      next_at_endless = λ one told side at. absurd (apart run e (outcome.Endless side) (λ q. cc) at);
       flushed = λ told out is at. absurd (apart run e (outcome.Write out) (λ q. cc) at);
     };
   }

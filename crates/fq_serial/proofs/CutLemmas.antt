@@ -1,16 +1,18 @@
 -- The pairs of texts of which only a first part came.
-use Rattle.std.proofs.Common.{◌≡◌, ℕ, suc, ◌+◌, ◌≤◌, Bool, List, [], ◌∷◌, ◌++◌, length, refl, ap, sym, subst, ◌∙◌, arith}
+use Rattle.std.proofs.Common.{◌≡◌, ℕ, suc, ◌+◌, ◌≤◌, Bool, List, [], ◌∷◌, ◌++◌, length, refl, ap, sym, subst, ◌∙◌, arith, append_assoc}
+use Rattle.std.proofs.lemmas.List.{append_cancel_right}
 use Rattle.fq_text.specs.declared.encoding.Encoding.{Encoding}
 use Rattle.fq_text.specs.Grammar.{Front, End, Faulty, Found, front}
 use Rattle.fq_pair.specs.Mates.{Mates}
-use Rattle.fq_pair.specs.Pairing.{Pairs, PairFront, Ended, Stopped, Met, meeting, pair_front}
-use Rattle.fq_pair.specs.Interleaved.{interleaved_front}
+use Rattle.fq_pair.specs.Pairing.{Pairs, PairFront, Ended, Stopped, Met, meeting, pair_front, records_of}
+use Rattle.fq_pair.specs.Interleaved.{side_behind, interleaved_front}
 use Rattle.fq_pair.specs.Forms.{TwoTexts, InterleavedText}
 use Rattle.fq_pair.specs.Walks.{Leads}
 use Rattle.fq_pair.proofs.PairLaws.{pairs_of-met, pairs_of-stopped, pairs_of-ended}
 use Rattle.fq_pair.proofs.InterleavedLaws.{interleaved_pairs_of-met, interleaved_pairs_of-stopped, interleaved_pairs_of-ended}
 use Rattle.fq_serial.proofs.FormLemmas.{pairs_at}
-use Rattle.fq_serial.proofs.FrontLemmas.{met_more, interleaved_met_more}
+use Rattle.fq_pair.proofs.TakenLemmas.{front_takes, front_fewer, one_record}
+use Rattle.fq_serial.proofs.FrontLemmas.{met_more, interleaved_met_more, MeetsInterleaved, meets_interleaved}
 
 module _ (check : Bool) (e : Encoding) where
   abbrev pub mates_at : ℕ → List (List ℕ) → List (List ℕ) → List Mates
@@ -107,3 +109,34 @@ module _ (check : Bool) (e : Encoding) where
         subst P zero_more (none ls p.0)
     interleaved_at_most n (m ∷ ms) ls same ls' same' p none =
         interleaved_one_more n m ms ls same ls' same' p.0 p.1 p.2 p.3 none (λ fs rs. interleaved_at_most (suc n) ms fs rs ls' same') (interleaved_front check e n ls) refl
+
+-- The records of the first lines of an interleaved text, up to lines behind its pairs.
+module _ (check : Bool) (e : Encoding) where
+  -- what is left behind pairs was the last part of what was there before them
+  leads_end : (n : ℕ) (ms : List Mates) (ls same ls' same' : List (List ℕ)) → Leads InterleavedText check e n ms ls same ls' same' → (before : List (List ℕ)) × (ls ≡ before ++ ls')
+  leads_end n [] ls same ls' same' p = ([], p.0)
+  leads_end n (m ∷ ms) ls same ls' same' p =
+      let q = meets_interleaved check e (suc n) m p.0 p.1 (front e ls) p.2 in
+      let f = front_takes e q.f ls q.ls q.first in let r = front_takes e q.r q.ls p.0 q.second in
+      let behind = leads_end (suc n) ms p.0 p.1 ls' same' p.3 in (
+        f.taken ++ (r.taken ++ behind.0),
+        f.split ∙ ap (λ xs. f.taken ++ xs) (r.split ∙ ap (λ xs. r.taken ++ xs) behind.1 ∙ sym (append_assoc r.taken behind.0 ls')) ∙ sym (append_assoc f.taken (r.taken ++ behind.0) ls'),
+      )
+
+  module _ (more behind : List (List ℕ)) where
+    -- two records to a pair leave the turn of the sides as it was
+    pub turn_kept : (n : ℕ) (ms : List Mates) (ls same same' : List (List ℕ)) → Leads InterleavedText check e n ms (ls ++ more) same (behind ++ more) same' →
+        side_behind (length (records_of e ls).reads) ≡ side_behind (length (records_of e behind).reads)
+    turn_kept n [] ls same same' p = ap (λ xs. side_behind (length (records_of e xs).reads)) (append_cancel_right ls behind more p.0)
+    turn_kept n (m ∷ ms) ls same same' p =
+        let q = meets_interleaved check e (suc n) m p.0 p.1 (front e (ls ++ more)) p.2 in
+        let last = leads_end (suc n) ms p.0 p.1 (behind ++ more) same' p.3 in
+        let fs = last.0 ++ behind in
+        let left : p.0 ≡ fs ++ more = last.1 ∙ sym (append_assoc last.0 behind more) in
+        let r = front_takes e q.r q.ls p.0 q.second in
+        let rs = r.taken ++ fs in
+        let between : q.ls ≡ rs ++ more = r.split ∙ ap (λ xs. r.taken ++ xs) left ∙ sym (append_assoc r.taken fs more) in
+        let first = front_fewer e q.f ls rs more (q.first ∙ ap (Found q.f) between) in
+        let P : List (List ℕ) → Type 0 = λ xs. Leads InterleavedText check e (suc n) ms xs p.1 (behind ++ more) same' in
+        ap side_behind (one_record e q.f ls rs first ∙ ap suc (one_record e q.r rs fs (r.always fs)))
+        ∙ turn_kept (suc n) ms fs p.1 same' (subst P left p.3)

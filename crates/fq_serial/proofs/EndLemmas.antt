@@ -2,6 +2,8 @@
 use Rattle.std.proofs.Common.{◌≡◌, ◌≤◌, ◌⊎◌, inl, inr, true, false, IsTrue, Option, Some, None, List, [], ◌++◌, length, ⊎_elim, refl, sym, ap, subst, ◌∙◌, arith, append_assoc}
 use Rattle.std.proofs.lemmas.List.{append-nil}
 use Rattle.fq_text.specs.Lines.{whole_part}
+use Rattle.fq_text.specs.Records.{records}
+use Rattle.fq_text.specs.declared.fault.TextFault.{TextFault}
 use Rattle.fq_text.specs.declared.fault.TextFault.TheVariants as text
 use Rattle.fq_pair.specs.declared.out.Out.{Out}
 use Rattle.fq_pair.specs.declared.side.Side.{Side}
@@ -9,9 +11,10 @@ use Rattle.fq_pair.specs.declared.side.Side.TheVariants.{Forward, Reverse}
 use Rattle.fq_pair.specs.declared.fault.InputFault.{InputFault}
 use Rattle.fq_pair.specs.declared.fault.InputFault.TheVariants.{Text}
 use Rattle.fq_pair.specs.Mates.{Mates}
-use Rattle.fq_pair.specs.Forms.{Form, pairs_in}
+use Rattle.fq_pair.specs.Interleaved.{side_behind}
+use Rattle.fq_pair.specs.Forms.{Form, InterleavedText, pairs_in}
 use Rattle.fq_pair.specs.Pairing.{Pairs}
-use Rattle.fq_pair.specs.PairSources.{is_cut_short}
+use Rattle.fq_pair.specs.PairSources.{is_cut, is_cut_short, if_cut}
 use Rattle.fq_pair.specs.Outputs.{texts_of, text_of, counts_of}
 use Rattle.fq_serial.specs.declared.outcome.Outcome.{Outcome}
 use Rattle.fq_serial.specs.declared.outcome.Outcome.TheVariants as outcome
@@ -27,9 +30,9 @@ use Rattle.fq_serial.specs.Fates.{Fate, Unbroken, FlushFailed, WriteFailed, fail
 use Rattle.fq_pair.specs.Walks.{SourceState, fed}
 use Rattle.fq_serial.specs.PairsRead.{Reads, fresh_side, fresh_source, feed_in}
 use Rattle.fq_serial.specs.Writing.{no_halt, IsCounted, Passes, FlushesAfter, is_flush}
-use Rattle.fq_serial.specs.Endings.{Run, AreTold, all_pairs, trimmed_outcome, IsTrimmed, ends_whole, feed_of, feed_left, gave_to, failures_in, IsCutOff, pairs_given, IsAllThatCame, AreFirst, IsJustified, EveryEnding}
+use Rattle.fq_serial.specs.Endings.{Run, AreTold, all_pairs, trimmed_outcome, IsTrimmed, ends_whole, feed_of, feed_left, gave_to, failures_in, IsCutOff, pairs_given, IsNext, IsAllThatCame, AreFirst, IsJustified, EveryEnding}
 use Rattle.fq_serial.proofs.OutletLemmas.{all_took_then, all_took_same}
-use Rattle.fq_serial.proofs.ReadingLemmas.{failed_by, gave_is, gave_length, fed_back, reads_first, reads_end, reads_fault, reads_forward, reads_reverse, reads_cut}
+use Rattle.fq_serial.proofs.ReadingLemmas.{failed_by, gave_is, gave_length, fed_back, reads_first, reads_end, reads_fault, reads_forward, reads_reverse, reads_cut, reads_next}
 use Rattle.fq_serial.proofs.VerdictLemmas.{Kind, OfText, OfRead, OfEndless, OfMemory, kind, Verdict, IsRefused, WantsMemory, FailedAt, CannotRead, HasNoEnd, HasFault, IsOver, read_once, failed_once, not_spawn, at_write, at_read, at_endless, outlet_first, feed_first, lacks_memory, at_refusal}
 
 -- pairs were read and written, and the outlets flushed
@@ -170,6 +173,14 @@ module _ (form : Form) (c : Choices) (f r : FeedState) (new : SourceState) (befo
   cut_whole : AreTold run → (fault : InputFault) → why ≡ Some (reading.Fault fault) → is_cut_short fault ≡ true → all_read ≡ p.whole → length (pairs_given c run) ≤ length p.whole
   cut_whole told fault is short whole = let most = cut_pairs told fault is short in let len = ap length whole in omega arith
 
+  -- in an interleaved text the read was made for the record that comes next
+  next_side : form ≡ InterleavedText → AreTold run → (side : Side) (fault : TextFault) → why ≡ Some (reading.Fault (Text side fault)) → is_cut fault ≡ true →
+      ((P : Side → Type 0) → if_cut P (Text side fault) → P side) → IsNext c run side
+  next_side one told side fault is cut of_side =
+      let R : Form → Type 0 = λ x. Reads (fresh_source x c f r) new all_read (Some (reading.Fault (Text side fault))) in
+      ap (λ xs. side_behind (length (records c.encoding (whole_part xs)).reads)) (forward_gave told.forward)
+      ∙ reads_next c f r new all_read side fault (subst R one (reads_at (reading.Fault (Text side fault)) is)) cut of_side told.forward told.reverse
+
   -- what was written where a flush failed
   came_by : (fault : InputFault) → Kind fault → why ≡ Some (reading.Fault fault) → AreTold run → all_read ≡ p.whole → (out : Out) → o ≡ outcome.Write out → IsAllThatCame c run p.whole
   came_by fault (OfText inside) is told whole out at =
@@ -208,6 +219,8 @@ module _ (form : Form) (c : Choices) (f r : FeedState) (new : SourceState) (befo
     feed_failed = λ side some. let e = failures_are side in feed_first halt why failed o form v side (omega arith);
     cut_at_read = λ told side at. let q = at_read halt why failed o v side at in cut_whole told (Text side text.Read) q.0 refl (whole_is q.2 Unbroken (sound_fate q.1) refl);
     cut_at_endless = λ told side at. let q = at_endless halt why failed o v side at in cut_whole told (Text side text.Endless) q.0 refl (whole_is q.2 Unbroken (sound_fate q.1) refl);
+    next_at_read = λ one told side at. let q = at_read halt why failed o v side at in next_side one told side text.Read q.0 refl (λ P holds. holds);
+    next_at_endless = λ one told side at. let q = at_endless halt why failed o v side at in next_side one told side text.Endless q.0 refl (λ P holds. holds);
     flushed = λ told out is at. let q = at_write halt why failed o v out at in came why refl told (ap is_flush is) (whole_is q.1 (FlushFailed out) is refl) out at;
   }
 

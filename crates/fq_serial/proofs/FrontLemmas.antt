@@ -49,15 +49,15 @@ met_more check e n m forward reverse fs rs more more' is =
     ∙ ap (λ x. Met x (fs ++ more) (rs ++ more')) p.pair
 
 -- two records that make a pair, one behind the other
-record MeetsInterleaved (check : Bool) (e : Encoding) (m : Mates) (fs rs : List (List ℕ)) (x : Front) : Type 0 where
-  f : Read
-  r : Read
-  ls : List (List ℕ)
-  first : x ≡ Found f ls
-  second : front e ls ≡ Found r fs
-  same : rs ≡ fs
-  together : belong check (mates_in f r) ≡ true
-  pair : mates_in f r ≡ m
+pub record MeetsInterleaved (check : Bool) (e : Encoding) (m : Mates) (fs rs : List (List ℕ)) (x : Front) : Type 0 where
+  pub f : Read
+  pub r : Read
+  pub ls : List (List ℕ)
+  pub first : x ≡ Found f ls
+  pub second : front e ls ≡ Found r fs
+  pub same : rs ≡ fs
+  pub together : belong check (mates_in f r) ≡ true
+  pub pair : mates_in f r ≡ m
 
 found_interleaved : (check : Bool) (e : Encoding) (n : ℕ) (m : Mates) (f r : Read) (ls qs fs rs : List (List ℕ)) → front e ls ≡ Found r qs → met check n (mates_in f r) qs qs ≡ Met m fs rs →
     MeetsInterleaved check e m fs rs (Found f ls)
@@ -69,7 +69,7 @@ found_interleaved check e n m f r ls qs fs rs second is = ⊎_elim
     (λ apart. absurd (let h = sym (cond-false (belong check (mates_in f r)) (Met (mates_in f r) qs qs) (Stopped (NamesDiffer n)) apart) ∙ is in cc))
     (cases_Bool (belong check (mates_in f r)))
 
-meets_interleaved : (check : Bool) (e : Encoding) (n : ℕ) (m : Mates) (fs rs : List (List ℕ)) (x : Front) → interleaved_meeting check e n x ≡ Met m fs rs → MeetsInterleaved check e m fs rs x
+pub meets_interleaved : (check : Bool) (e : Encoding) (n : ℕ) (m : Mates) (fs rs : List (List ℕ)) (x : Front) → interleaved_meeting check e n x ≡ Met m fs rs → MeetsInterleaved check e m fs rs x
 meets_interleaved check e n m fs rs End is = absurd cc
 meets_interleaved check e n m fs rs (Faulty x) is = absurd cc
 meets_interleaved check e n m fs rs (Found f ls) is = behind (front e ls) refl is

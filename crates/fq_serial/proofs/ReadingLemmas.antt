@@ -3,25 +3,29 @@ use Rattle.std.proofs.Common.{◌≡◌, ℕ, suc, ◌+◌, ◌-◌, ◌≤◌, 
 use Rattle.std.proofs.lemmas.List.{append-nil, length-append, length-take-le}
 use Rattle.fq_text.specs.declared.encoding.Encoding.{Encoding}
 use Rattle.fq_text.specs.Lines.{lines, whole_part}
+use Rattle.fq_text.specs.Records.{records}
+use Rattle.fq_text.specs.declared.fault.TextFault.{TextFault}
 use Rattle.fq_pair.specs.declared.side.Side.TheVariants.{Forward, Reverse}
 use Rattle.fq_pair.specs.declared.side.Side.{Side}
 use Rattle.fq_pair.specs.declared.fault.InputFault.{InputFault}
+use Rattle.fq_pair.specs.declared.fault.InputFault.TheVariants.{Text}
 use Rattle.fq_pair.specs.Mates.{Mates}
 use Rattle.fq_pair.specs.Forms.{Form, TwoTexts, InterleavedText, pairs_in, front_in, failed_at}
 use Rattle.fq_pair.specs.Pairing.{Pairs, with_pair, PairFront, Ended, Stopped}
-use Rattle.fq_pair.specs.PairSources.{is_from_outside, is_cut_short}
+use Rattle.fq_pair.specs.PairSources.{is_from_outside, is_cut, is_cut_short, if_cut}
+use Rattle.fq_pair.specs.Interleaved.{side_behind}
 use Rattle.fq_pair.proofs.WholeLemmas.{behind_whole}
-use Rattle.fq_pair.proofs.SideLemmas.{draws_then, lines_before, lines_left}
+use Rattle.fq_pair.proofs.SideLemmas.{draws_then, lines_before, lines_left, lines_behind}
 use Rattle.fq_serial.specs.declared.reading_end.ReadingEnd.{ReadingEnd}
 use Rattle.fq_serial.specs.declared.reading_end.ReadingEnd.TheVariants as reading
 use Rattle.fq_serial.specs.Choices.{Choices}
 use Rattle.fq_text.specs.Devices.{FeedState}
 use Rattle.fq_serial.specs.Devices.{gave, Fed}
-use Rattle.fq_pair.specs.Walks.{SideState, SourceState, rest, fed, Draws, Leads, next_front, Walks, faulty}
+use Rattle.fq_pair.specs.Walks.{SideState, SourceState, rest, fed, came, Draws, Leads, next_front, Walks, IsNext, faulty}
 use Rattle.fq_serial.specs.PairsRead.{Reads, fresh_side, fresh_source, feed_in}
 use Rattle.fq_serial.specs.Endings.{AreFirst}
 use Rattle.fq_serial.proofs.FormLemmas.{pairs_at, pairs_in-lines, pairs_at-met, pairs_at-stopped, pairs_at-ended}
-use Rattle.fq_serial.proofs.CutLemmas.{mates_at, no_forward, no_reverse, at_most, interleaved_at, no_interleaved, interleaved_at_most}
+use Rattle.fq_serial.proofs.CutLemmas.{mates_at, no_forward, no_reverse, at_most, interleaved_at, no_interleaved, interleaved_at_most, turn_kept}
 
 -- pairs before others
 abbrev pub put_before : List Mates → Pairs → Pairs
@@ -188,3 +192,20 @@ module _ (c : Choices) (f r : FeedState) where
       length (pairs_in form c.check_names c.encoding 0 (whole_part (fed (fresh_side c f) s.forward)) (whole_part (fed (fresh_side c r) s.reverse))).mates ≤ length ms
   reads_cut TwoTexts = cut_two
   reads_cut InterleavedText = cut_one
+
+  -- in an interleaved text the read was made for the record that comes next
+  pub reads_next : (s : SourceState) (ms : List Mates) (side : Side) (fault : TextFault) → Reads (fresh_source InterleavedText c f r) s ms (Some (reading.Fault (Text side fault))) → is_cut fault ≡ true →
+      ((P : Side → Type 0) → if_cut P (Text side fault) → P side) → IsTrue f.tells → IsTrue r.tells → side_behind (length (records c.encoding (whole_part (fed (fresh_side c f) s.forward))).reads) ≡ side
+  reads_next s ms side fault p cut of_side tf tr =
+      let m = p.0 in let w = p.1 in let e = p.2 in let d = w.forward in let same = w.same in
+      let F = lines_before (fresh_side c f) m.forward s.forward _ w.forward e.forward tf (w.forward_used tf) in
+      let B = lines_behind (fresh_side c f) m.forward s.forward _ w.forward e.forward tf (w.forward_used tf) (e.going same.form cut) in
+      let more = lines (behind_whole (fed (fresh_side c f) s.forward) ++ s.forward.to_come) in
+      let behind = lines (whole_part (came m.forward s.forward)) in
+      let P : List (List ℕ) → Type 0 = λ ls. Leads InterleavedText c.check_names c.encoding 0 ms ls (lines (rest (fresh_side c r))) (lines (rest m.forward)) (lines (rest m.reverse)) in
+      let Q : List (List ℕ) → Type 0 =
+      λ ls. Leads InterleavedText c.check_names c.encoding 0 ms (lines (whole_part (fed (fresh_side c f) s.forward)) ++ more) (lines (rest (fresh_side c r))) ls (lines (rest m.reverse)) in
+      turn_kept c.check_names c.encoding more behind 0 ms (lines (whole_part (fed (fresh_side c f) s.forward))) (lines (rest (fresh_side c r))) (lines (rest m.reverse))
+      (subst Q B (subst P F (w.leads tf tr)))
+      ∙ ap (λ (x : Encoding). side_behind (length (records x (whole_part (came m.forward s.forward))).reads)) (sym same.encoding)
+      ∙ of_side (IsNext m s) (e.next same.form) (d.told ∙ tf)

@@ -18,7 +18,7 @@ fed_none : (s : SideState) → s.to_come ≡ fed s s ++ s.to_come
 fed_none s = let none : s.taken - s.taken ≡ 0 = omega arith in ap (λ n. take n s.to_come ++ s.to_come) (sym none)
 
 draws_none : (s : SideState) → Draws s s 0
-draws_none s = record { told = refl; max_reads = refl; grows = omega arith; bytes = λ told. fed_none s; size = λ told. omega arith; failures = omega arith }
+draws_none s = record { told = refl; max_reads = refl; grows = omega arith; ended = λ over. over; bytes = λ told. fed_none s; size = λ told. omega arith; failures = omega arith }
 
 uses_none : (s : SideState) → Uses s s
 uses_none s = record { used = []; split = refl; at_line = inl refl }
@@ -74,7 +74,7 @@ walks_none s going = record {
 
 pub walks_then : (a b c : SourceState) (ms ns : List Mates) → Walks a b ms → Walks b c ns → Walks a c (ms ++ ns)
 walks_then a b c ms ns p q =
-    let given = p.given in let more = q.given in let s = p.same in let f = p.forward in let r = p.reverse in
+    let given = p.given in let more = q.given in let s = p.same in let f = p.forward in let r = p.reverse in let f' = q.forward in let r' = q.reverse in
     record {
       same = same_then a b c p.same q.same;
       given = omega (arith, length-append ms ns);
@@ -83,8 +83,8 @@ walks_then a b c ms ns p q =
       last = q.last;
       forward = draws_then a.forward b.forward c.forward 0 p.forward q.forward;
       reverse = draws_then a.reverse b.reverse c.reverse 0 p.reverse q.reverse;
-      forward_used = λ told. uses_then a.forward b.forward c.forward (p.forward_used told) (q.forward_used (f.told ∙ told));
-      reverse_used = λ told. uses_then a.reverse b.reverse c.reverse (p.reverse_used told) (q.reverse_used (r.told ∙ told));
+      forward_used = λ told. uses_then a.forward b.forward c.forward f'.ended (p.forward_used told) (q.forward_used (f.told ∙ told));
+      reverse_used = λ told. uses_then a.reverse b.reverse c.reverse r'.ended (p.reverse_used told) (q.reverse_used (r.told ∙ told));
       leads = λ tf tr. leads_then a.form a.check_names a.encoding a.given b.given ms ns _ _ (lines (rest b.forward)) (lines (rest b.reverse)) _ _ p.given (p.leads tf tr)
           (leads_as a.form b.form a.check_names b.check_names a.encoding b.encoding b.given ns _ _ _ _ s.form s.check_names s.encoding (q.leads (f.told ∙ tf) (r.told ∙ tr)));
     }

@@ -2,6 +2,7 @@
 use Rattle.std.specs.Prelude.{◌≡◌, ℕ, ◌<◌, ◌≤◌, ◌⊎◌, Bool, true, false, IsTrue, Option, Some, None, IfSome, List, [], ◌++◌, length}
 use Rattle.std.specs.Option.{option_map}
 use Rattle.fq_text.specs.Lines.{whole_part}
+use Rattle.fq_text.specs.Records.{records}
 use Rattle.fq_pair.specs.declared.out.Out.{Out}
 use Rattle.fq_pair.specs.declared.side.Side.{Side}
 use Rattle.fq_pair.specs.declared.side.Side.TheVariants.{Forward, Reverse}
@@ -9,6 +10,7 @@ use Rattle.fq_pair.specs.declared.counts.Counts.{Counts}
 use Rattle.fq_pair.specs.declared.fault.InputFault.{InputFault}
 use Rattle.fq_pair.specs.Mates.{Mates}
 use Rattle.fq_pair.specs.Pairing.{Pairs}
+use Rattle.fq_pair.specs.Interleaved.{side_behind}
 use Rattle.fq_pair.specs.Forms.{Form, TwoTexts, InterleavedText, pairs_in}
 use Rattle.fq_pair.specs.Outputs.{texts_of, text_of, counts_of}
 use Rattle.fq_tally.specs.declared.tally.Tally.{Tally}
@@ -137,6 +139,10 @@ abbrev pub pairs_given : Choices → Run → List Mates
 pairs_given c run =
     (pairs_in run.form c.check_names c.encoding 0 (whole_part (gave_to run.forward run.forward_left)) (whole_part (gave_to run.reverse run.reverse_left))).mates
 
+-- this is the side of the record that comes next in an interleaved text, behind those that stand in the whole lines that the feed gave
+abbrev pub IsNext : Choices → Run → Side → Type 0
+IsNext c run side = side_behind (length (records c.encoding (whole_part (gave_to run.forward run.forward_left))).reads) ≡ side
+
 -- these are all pairs, or a feed was cut off and they are at least those of the whole lines that came
 abbrev pub IsAllThatCame : Choices → Run → List Mates → Type 0
 IsAllThatCame c run whole =
@@ -162,6 +168,8 @@ pub record IsJustified (c : Choices) (run : Run) (whole : List Mates) (fate : Fa
   pub feed_failed : (side : Side) → 0 < failures_in (feed_left side run) → rank run.outcome ≤ 6
   pub cut_at_read : AreTold run → (side : Side) → run.outcome ≡ outcome.Read side → length (pairs_given c run) ≤ length whole
   pub cut_at_endless : AreTold run → (side : Side) → run.outcome ≡ outcome.Endless side → length (pairs_given c run) ≤ length whole
+  pub next_at_read : run.form ≡ InterleavedText → AreTold run → (side : Side) → run.outcome ≡ outcome.Read side → IsNext c run side
+  pub next_at_endless : run.form ≡ InterleavedText → AreTold run → (side : Side) → run.outcome ≡ outcome.Endless side → IsNext c run side
   pub flushed : AreTold run → (out : Out) → fate ≡ FlushFailed out → run.outcome ≡ outcome.Write out → IsAllThatCame c run whole
 
 -- Where a run ends otherwise than by an unconfirmed lane, there are pairs whose block was written whole, the first of all,

@@ -1,5 +1,5 @@
 -- The pairs that a run reads.
-use Rattle.std.specs.Prelude.{◌*◌, Option, Some, None, List, [], ◌++◌}
+use Rattle.std.specs.Prelude.{◌*◌, false, Option, Some, None, List, [], ◌++◌}
 use Rattle.fq_pair.specs.Forms.{Form}
 use Rattle.fq_pair.specs.Mates.{Mates}
 use Rattle.fq_pair.specs.Walks.{SideState, SourceState, Walks, MeetsEnd, MeetsFault}
@@ -17,7 +17,7 @@ Reads old new ms (Some reading.Memory) = (lost : List Mates) × Walks old new (m
 
 -- a source that has not been asked, over feeds in these states
 abbrev pub fresh_side : Choices → FeedState → SideState
-fresh_side c feed = record { tells = feed.tells; in_hand = []; to_come = feed.to_come; failures = feed.failures; taken = 0; given = 0; max_reads = c.max_reads }
+fresh_side c feed = record { tells = feed.tells; in_hand = []; ended = false; to_come = feed.to_come; failures = feed.failures; taken = 0; given = 0; max_reads = c.max_reads }
 
 abbrev pub fresh_source : Form → Choices → FeedState → FeedState → SourceState
 fresh_source form c forward reverse = record {

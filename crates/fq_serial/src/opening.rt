@@ -1,6 +1,6 @@
 //! The sources of the pairs of a run.
 
-ghost use Rattle.std.specs.Prelude.{◌≡◌, ◌≤◌, ◌*◌, ◌^◌, [], None, IfOk, IfErr};
+ghost use Rattle.std.specs.Prelude.{◌≡◌, ◌≤◌, ◌*◌, ◌^◌, [], false, None, IfOk, IfErr};
 ghost use Rattle.fq_pair.specs.Forms.{TwoTexts, InterleavedText};
 ghost use Rattle.fq_pair.specs.Walks.{source_state, interleaved_state};
 ghost use Rattle.fq_serial.specs.PairsRead.{fresh_source};
@@ -19,6 +19,7 @@ fn source_of<F: Feed>(alloc: Global, settings: &Settings, feed: F) -> Result<Sou
       chunk = settings.now.chunk;
       max_reads = settings.now.max_reads;
       in_hand = [];
+      ended = false;
       taken = 0;
       given = 0;
       last = None;
