@@ -85,6 +85,7 @@ pub struct PairView<'a> {
 
 /// Nothing where two titles, of a forward and of a reverse mate, have one name or names aren't checked; the fault of pair `number`
 /// otherwise.
+#[inline(always)]
 pub(crate) fn check_mates(
     check_names: bool,
     forward: &[u8],

@@ -10,7 +10,7 @@ use crate::log_line::{line_room, put_line};
 use crate::name::names_of;
 use crate::out::Out;
 use crate::pair::PairView;
-use fq_text::{OutOfMemory, ReadView, put_record};
+use fq_text::{OutOfMemory, ReadView, append_record};
 use fq_trim::{Kept, Steps};
 use std::alloc::Global;
 use std::marker::Model;
@@ -198,5 +198,5 @@ fn put_kept(out: &mut Vec<u8>, read: &ReadView<'_>, kept: Kept, recode: bool)
     let seq = &read.seq()[kept.start..kept.stop];
     let qual = &read.qual()[kept.start..kept.stop];
     let recode = recode.then_some(read.encoding());
-    put_record(out, title, seq, qual, recode).unwrap();
+    append_record(out, title, seq, qual, recode);
 }

@@ -28,4 +28,4 @@ pub use outlet::{Outlet, OutletFailed, ScriptOutlet, Sent, send};
 pub use record::FastqRecord;
 pub use source::{NoSource, Source};
 pub use view::{ReadView, is_lawful};
-pub use writing::put_record;
+pub use writing::{append_record, put_record};

@@ -122,6 +122,9 @@ fn shape_of(encoding: Encoding, hand: &[u8], title: FirstLine, bases: usize) -> 
         → StandsFirst encoding hand.now (record { title = title.len; bases = bases; end = title.end; again = again }) → ⊥ }
 {
     let FirstLine { len: title, end } = title;
+    if title >= LIMIT || bases > LIMIT || hand.get(title + bases + 2 * end + 1) != Some(&b'+') {
+        return None;
+    }
     let bare = Shape {
         title,
         bases,

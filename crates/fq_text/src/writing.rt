@@ -26,7 +26,7 @@ pub fn put_record(
     ensures room { vec_len out.old + written_len title.now seq.now qual.now ≤ vec_capacity out.old → IsOk result }
 {
     out.reserve(len_written(title, seq, qual))?;
-    append(out, title, seq, qual, recode);
+    append_record(out, title, seq, qual, recode);
     Ok(())
 }
 
@@ -41,7 +41,15 @@ fn len_written(title: &[u8], seq: &[u8], qual: &[u8]) -> usize
         .saturating_add(6)
 }
 
-fn append(out: &mut Vec<u8>, title: &[u8], seq: &[u8], qual: &[u8], recode: Option<Encoding>)
+/// The same, where `out` is known to have the room: the bytes of title, sequence and quality, and 6 more. It asks for no memory.
+#[inline(always)]
+pub fn append_record(
+    out: &mut Vec<u8>,
+    title: &[u8],
+    seq: &[u8],
+    qual: &[u8],
+    recode: Option<Encoding>,
+)
     requires scored { CanRecode recode qual.now }
     requires room { vec_len out.old + written_len title.now seq.now qual.now ≤ vec_capacity out.old }
     ensures { out.new.items ≡ out.old.items ++ written title.now seq.now (written_quality recode qual.now) }

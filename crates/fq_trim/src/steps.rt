@@ -112,13 +112,15 @@ impl Steps {
     ///
     /// Each step is taken on the bases that the one before left, so their order counts. An empty
     /// read is dropped by every list. It takes no memory, and a read may have any length.
+    #[inline(always)]
     pub fn trim(&self, encoding: Encoding, qual: &[u8]) -> Option<Kept>
         requires { list_all (is_scored encoding) qual.now ≡ true }
         ensures kept { MatchOption result (kept self.now (scores encoding qual.now) ≡ [])
             (λ k. kept self.now (scores encoding qual.now) ≡ places k.start (k.stop - k.start)) }
         ensures within { IfSome result (λ k. k.stop ≤ length qual.now) }
     {
-        trim_by(self.as_slice(), encoding, qual)
+        let kept = trim_by(self.as_slice(), encoding, qual);
+        kept_between(kept.start, kept.stop)
     }
 
     /// The same by one step of the list alone, that at `place`, counted from 0.

@@ -5,7 +5,7 @@ ghost use Rattle.std.specs.List.{list_all};
 ghost use Rattle.fq_text.specs.Scores.{is_scored};
 ghost use Rattle.fq_trim.specs.Keeping.{places, scores, kept, is_in_range};
 
-use crate::keeping::kept_by;
+use crate::keeping::{Span, kept_by};
 use crate::step::Step;
 use fq_text::Encoding;
 
@@ -19,13 +19,13 @@ pub struct Kept {
     ghost some: { start < stop },
 }
 
-/// The bases that a list of steps keeps, each step taken on what the one before left.
-pub(crate) fn trim_by(steps: &[Step], encoding: Encoding, qual: &[u8]) -> Option<Kept>
+/// The bases that a list of steps keeps, each step taken on what the one before left. A span is two numbers, which go back in
+/// registers; a value with a tag besides would go through memory.
+pub(crate) fn trim_by(steps: &[Step], encoding: Encoding, qual: &[u8]) -> Span
     requires in_range { list_all is_in_range steps.now ≡ true }
     requires scored { list_all (is_scored encoding) qual.now ≡ true }
-    ensures kept { MatchOption result (kept steps.now (scores encoding qual.now) ≡ [])
-        (λ k. kept steps.now (scores encoding qual.now) ≡ places k.start (k.stop - k.start)) }
-    ensures within { IfSome result (λ k. k.stop ≤ length qual.now) }
+    ensures kept { kept steps.now (scores encoding qual.now) ≡ places result.start (result.stop - result.start) }
+    ensures within { result.stop ≤ length qual.now }
 {
     let mut start = 0;
     let mut stop = qual.len();
@@ -34,10 +34,11 @@ pub(crate) fn trim_by(steps: &[Step], encoding: Encoding, qual: &[u8]) -> Option
         stop = start + left.stop;
         start += left.start;
     }
-    kept_between(start, stop)
+    Span { start, stop }
 }
 
 /// The bases from `start` up to `stop`, or `None` where there are none.
+#[inline(always)]
 pub(crate) fn kept_between(start: usize, stop: usize) -> Option<Kept>
     ensures kept { MatchOption result (places start (stop - start) ≡ [])
         (λ k. places start (stop - start) ≡ places k.start (k.stop - k.start)) }

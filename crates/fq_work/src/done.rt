@@ -1,7 +1,10 @@
 //! What is made of a block.
 
-ghost use Rattle.std.specs.Prelude.{◌≡◌};
+ghost use Rattle.std.specs.Prelude.{◌≡◌, ◌<◌, ◌∷◌, [], OnOk, OnErr};
 ghost use Rattle.fq_pair.specs.Mates.{mates_in};
+ghost use Rattle.fq_pair.specs.Outputs.{joined, texts_of};
+ghost use Rattle.fq_tally.specs.Courses.{alone};
+ghost use Rattle.fq_tally.specs.Tallies.{with_pair};
 
 use fq_pair::{PairView, Texts};
 use fq_tally::{Tally, Trimmed};
@@ -22,7 +25,7 @@ pub struct Done {
 }
 
 impl Done {
-    ghost use Rattle.std.specs.Prelude.{◌≡◌, ◌<◌, None, is_some, IfOk, OnOk, OnErr};
+    ghost use Rattle.std.specs.Prelude.{◌≡◌, ◌<◌, None, is_some, OnOk, OnErr};
     ghost use Rattle.fq_pair.specs.Outputs.{no_texts};
     ghost use Rattle.fq_work.specs.Replies.{emptied, with_mates};
 
@@ -74,20 +77,34 @@ impl Done {
     {
         match &mut self.tally {
             None => self.texts.add(pair, steps),
-            Some(tally) => {
-                let counted = PairView {
-                    forward: again(&pair.forward),
-                    reverse: again(&pair.reverse),
-                };
-                let forward = Trimmed::new(&counted.forward, steps);
-                let reverse = Trimmed::new(&counted.reverse, steps);
-                self.texts
-                    .add_kept(pair, steps, forward.kept(), reverse.kept())?;
-                tally.add_trimmed(counted, steps, &forward, &reverse);
-                Ok(())
-            }
+            Some(tally) => add_counted(&mut self.texts, tally, pair, steps),
         }
     }
+}
+
+// Adds what is to be written of one pair, and counts it. It stands by itself, so that what it needs costs nothing where nothing is counted.
+#[inline(never)]
+fn add_counted(
+    texts: &mut Texts,
+    tally: &mut Tally,
+    pair: PairView<'_>,
+    steps: &Steps,
+) -> Result<(), OutOfMemory>
+    requires { texts.old.counts.pairs < u64.MAX }
+    ensures texts { OnOk result (texts.new ≡ joined texts.old (texts_of steps.now (mates_in pair.entry.forward pair.entry.reverse ∷ []))) }
+    ensures tally { OnOk result (tally.new ≡ with_pair (alone steps.now) tally.old (mates_in pair.entry.forward pair.entry.reverse)) }
+    ensures kept_texts { OnErr result (texts.new ≡ texts.old) }
+    ensures kept_tally { OnErr result (tally.new ≡ tally.old) }
+{
+    let counted = PairView {
+        forward: again(&pair.forward),
+        reverse: again(&pair.reverse),
+    };
+    let forward = Trimmed::new(&counted.forward, steps);
+    let reverse = Trimmed::new(&counted.reverse, steps);
+    texts.add_kept(pair, steps, forward.kept(), reverse.kept())?;
+    tally.add_trimmed(counted, steps, &forward, &reverse);
+    Ok(())
 }
 
 // The same read, lent once more. What counts is given this one and never the first, so where nothing is counted no view is copied

@@ -5,8 +5,8 @@ use Rattle.fq_text.specs.Written.{CanRecode}
 use Rattle.fq_pair.proofs.TextLemmas.{can_recode, record_of_kept}
 use Rattle.fq_pair.proofs.texts.put_kept.Goals as goal
 
-pub put_record-requires : goal.put_record-requires
-put_record-requires c =
+pub append_record-requires-clause-scored : goal.append_record-requires-clause-scored
+append_record-requires-clause-scored c =
     let start = c.args.kept.start in
     let n = c.args.kept.stop - c.args.kept.start in
     let read = c.args.read.now in
@@ -23,5 +23,5 @@ returns c =
     let title = c.title-title.ensures.title in
     let seq = c.seq.ensures in
     let qual = c.qual.ensures in
-    let new = rw c.unwrap.ensures at c.put_record.ensures.ok in
+    let new = c.append_record.ensures in
     cc
