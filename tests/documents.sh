@@ -1,7 +1,7 @@
 #!/usr/bin/env bash
 # The documents say what the program says. Help, README.md, docs/FORMAT.md and the manual page name the same steps, options
 # and statuses; the first run of README.md prints and writes what stands there; the lines of docs/LIBRARY.md that call the library
-# run; each file that a document leads to is there.
+# run; each file, and each heading, that a document leads to is there.
 # Every line of a document, outside tables and code, is at most 100 columns wide (DOCUMENTS_WIDTH sets another width, 0 none), and no
 # sentence there has more than 40 words.
 set -uo pipefail
@@ -124,8 +124,14 @@ documents() {
   git ls-files --cached --others --exclude-standard -- '*.md' 2> /dev/null || find . -name '*.md' -not -path '*/out/*' -printf '%P\n'
 }
 
-# Where the links of a document lead, without those to other places of the net and within the document.
-links() { parts text "$1" | grep -oE '\]\([^) ]+\)' | sed 's/^](//; s/)$//; s/#.*//' | grep -vE '^([a-z]+:|$)'; }
+# Where the links of a document lead, without those to other places of the net.
+links() { grep -oE '\]\([^) ]+\)' "$1" | sed 's/^](//; s/)$//' | grep -vE '^[a-z]+:'; }
+
+# The places of a document that a link may name behind #: its headings in small letters, with dashes for blanks, without other marks.
+headings() {
+  parts text "$1" | sed -nE 's/^[0-9]+: #{1,6} +//p' | sed -E 's/\[([^]]*)\]\([^)]*\)/\1/g' |
+    tr '[:upper:]' '[:lower:]' | sed 's/[^[:alnum:] _-]//g; s/ /-/g'
+}
 
 # The names in a document's backticks that begin with a folder of the tree.
 # shellcheck disable=SC2016  # the backticks are those of the document
@@ -135,10 +141,17 @@ named_files() {
 
 # Links and names lead to something. A name may also be that of a file beside the document, or of a crate's tests.
 follow_links() {
-  local document link
+  local document link target place
   while IFS= read -r document; do
     while IFS= read -r link; do
-      [ -e "$(dirname "$document")/$link" ] || fail "$document leads to $link, which isn't there"
+      target=$(dirname "$document")/${link%%#*}
+      [ -n "${link%%#*}" ] || target=$document
+      place=${link#"${link%%#*}"}
+      if [ ! -e "$target" ]; then
+        fail "$document leads to $link, which isn't there"
+      elif [ -n "$place" ]; then
+        grep -qxF -- "${place#\#}" <(headings "$target") || fail "$document leads to $link, and no heading is there"
+      fi
     done < <(links "$document")
     while IFS= read -r link; do
       [ -e "$link" ] || [ -e "$(dirname "$document")/$link" ] || compgen -G "crates/*/src/$link" > /dev/null ||
