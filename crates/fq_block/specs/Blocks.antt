@@ -2,7 +2,8 @@
 use Rattle.std.specs.Prelude.{◌≡◌, ℕ, ◌+◌, ◌≤◌, List, [], ◌∷◌, length, drop, map}
 use Rattle.fq_text.specs.declared.encoding.Encoding.{Encoding}
 use Rattle.fq_text.specs.Grammar.{IsLawful}
-use Rattle.fq_pair.specs.Mates.{Mates}
+use Rattle.fq_pair.specs.declared.name.NameLengths.{NameLengths}
+use Rattle.fq_pair.specs.Mates.{Mates, name_lengths}
 use Rattle.fq_block.specs.Packing.{packed_pair, packed_pairs, pair_in}
 
 -- a number, an encoding and a list of pairs
@@ -15,7 +16,7 @@ pub record Numbered : Type 0 where
 abbrev pub IsOf : Encoding → Mates → Type 0
 IsOf encoding m = (m.forward.encoding ≡ encoding) × (m.reverse.encoding ≡ encoding)
 
--- How a block keeps its pairs: their bytes, and where each begins.
+-- How a block keeps its pairs: their bytes, where each begins, and how long their names are.
 
 -- the pairs that begin at these places
 abbrev pub pairs_at : Encoding → List ℕ → List ℕ → List Mates
@@ -42,3 +43,7 @@ pub record IsPacked (encoding : Encoding) (bytes starts : List ℕ) : Type 0 whe
   pub placed : starts ≡ starts_from 0 (pairs_at encoding bytes starts)
   pub fit : AllFit encoding (pairs_at encoding bytes starts)
   pub few : length starts ≤ 65536
+
+-- these are the lengths of the names of each pair
+abbrev pub AreNamed : List Mates → List NameLengths → Type 0
+AreNamed pairs names = names ≡ map name_lengths pairs

@@ -1,10 +1,10 @@
 //! A block of pairs.
 
-ghost use Rattle.std.specs.Prelude.{◌≡◌, ◌<◌, ◌≤◌, ◌++◌, ◌∷◌, [], Some, length, slice_get, OnOk, OnErr};
-ghost use Rattle.fq_pair.specs.Mates.{mates_in};
+ghost use Rattle.std.specs.Prelude.{◌≡◌, ◌<◌, ◌≤◌, ◌++◌, ◌∷◌, [], Some, length, slice_get, IfSome, OnOk, OnErr};
+ghost use Rattle.fq_pair.specs.Mates.{mates_in, name_lengths};
 
 use crate::packing::{append, packed_at, unpack_pair};
-use fq_pair::{Pair, PairView};
+use fq_pair::{NameLengths, Pair, PairView};
 use fq_text::{Encoding, OutOfMemory};
 use std::alloc::Global;
 use std::marker::Model;
@@ -20,10 +20,12 @@ pub struct Block {
     bytes: Vec<u8>,
     // Where each pair begins in `bytes`.
     starts: Vec<usize>,
+    // How long the names of each pair are.
+    names: Vec<NameLengths>,
 }
 
 impl Model for Block {
-    ghost use Rattle.fq_block.specs.Blocks.{Numbered, pairs_at, IsPacked};
+    ghost use Rattle.fq_block.specs.Blocks.{Numbered, pairs_at, IsPacked, AreNamed};
 
     ghost Value = { Numbered };
 
@@ -33,7 +35,8 @@ impl Model for Block {
       pairs = pairs_at b.encoding b.bytes.items b.starts.items;
     } };
 
-    ghost invariant = { λ b. IsPacked b.encoding b.bytes.items b.starts.items };
+    ghost invariant = { λ b. IsPacked b.encoding b.bytes.items b.starts.items
+        × AreNamed (pairs_at b.encoding b.bytes.items b.starts.items) b.names.items };
 }
 
 impl Block {
@@ -50,6 +53,7 @@ impl Block {
             encoding,
             bytes: Vec::new(alloc),
             starts: Vec::new(alloc),
+            names: Vec::new(alloc),
         }
     }
 
@@ -66,17 +70,36 @@ impl Block {
         self.push_view(&lent)
     }
 
-    /// Appends a copy of a pair that is lent, as [`push`](Block::push) does. Where the block has grown before, and has room for
-    /// the pair, no memory is asked for.
-    ///
-    /// The conditions are that both reads are in the block's encoding, and that the block has fewer than 65,536 pairs.
+    /// Appends a copy of a pair that is lent, as [`push`](Block::push) does. The conditions are the same.
     pub fn push_view(&mut self, pair: &PairView<'_>) -> Result<(), OutOfMemory>
         requires encoding { IsOf self.old.encoding (mates_in pair.now.forward pair.now.reverse) }
         requires room { length self.old.pairs < 65536 }
         ensures ok { OnOk result (self.new ≡ record self.old { pairs = self.old.pairs ++ mates_in pair.now.forward pair.now.reverse ∷ [] }) }
         ensures err { OnErr result (self.new ≡ self.old) }
     {
-        append(&mut self.bytes, &mut self.starts, pair)?;
+        self.push_named(pair, pair.name_lengths())
+    }
+
+    /// Appends a copy of a pair that is lent, where it is known already how long its names are. So a source that has compared
+    /// them spares the search. Where the block has grown before, and has room for the pair, no memory is asked for.
+    ///
+    /// The conditions are that both reads are in the block's encoding, that the block has fewer than 65,536 pairs, and that
+    /// these are the lengths.
+    #[inline(always)]
+    pub fn push_named(&mut self, pair: &PairView<'_>, names: NameLengths) -> Result<(), OutOfMemory>
+        requires encoding { IsOf self.old.encoding (mates_in pair.now.forward pair.now.reverse) }
+        requires room { length self.old.pairs < 65536 }
+        requires names { names ≡ name_lengths (mates_in pair.now.forward pair.now.reverse) }
+        ensures ok { OnOk result (self.new ≡ record self.old { pairs = self.old.pairs ++ mates_in pair.now.forward pair.now.reverse ∷ [] }) }
+        ensures err { OnErr result (self.new ≡ self.old) }
+    {
+        append(
+            &mut self.bytes,
+            &mut self.starts,
+            &mut self.names,
+            pair,
+            names,
+        )?;
         Ok(())
     }
 
@@ -119,6 +142,15 @@ impl Block {
         unpack_pair(self.encoding, packed)
     }
 
+    /// How long the names of the pair at place `i` are, in bytes. They are not searched for. The condition is that `i` is less
+    /// than [`len`](Block::len).
+    pub fn names(&self, i: usize) -> NameLengths
+        requires { i < length self.now.pairs }
+        ensures { IfSome (slice_get self.now.pairs i) (λ m. result ≡ name_lengths m) }
+    {
+        self.names[i]
+    }
+
     /// The bytes of its pairs, one pair behind the other, each its forward read and then its reverse read. A read is the
     /// length of its title in bytes and its number of bases, four bytes each, most significant byte first, and then the
     /// title, the sequence and the quality. Number and encoding are not in these bytes.
@@ -134,6 +166,7 @@ impl Block {
     {
         self.bytes.clear();
         self.starts.clear();
+        self.names.clear();
         self.number = number;
     }
 }

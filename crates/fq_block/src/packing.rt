@@ -6,25 +6,33 @@ ghost use Rattle.fq_pair.specs.Mates.{mates_in};
 ghost use Rattle.fq_block.specs.Packing.{packed_length, packed_read, packed_pair, room_of, length_in, read_in, behind_read, pair_in, HoldsRead, HoldsPair};
 ghost use Rattle.fq_block.specs.Blocks.{pairs_at, IsPacked};
 
-use fq_pair::PairView;
+use fq_pair::{NameLengths, PairView};
 use fq_text::{Encoding, OutOfMemory, ReadView};
 
-/// Appends a pair, and the place where it begins. Memory is asked for first, and a refusal leaves both as they were.
+/// Appends a pair, the place where it begins and the lengths of its names. Memory is asked for first, and a refusal leaves all as it
+/// was.
+#[inline(always)]
 pub(crate) fn append(
     bytes: &mut Vec<u8>,
     starts: &mut Vec<usize>,
+    names: &mut Vec<NameLengths>,
     pair: &PairView<'_>,
+    lengths: NameLengths,
 ) -> Result<(), OutOfMemory>
     ensures bytes { OnOk result (bytes.new.items ≡ bytes.old.items ++ packed_pair (mates_in pair.now.forward pair.now.reverse)) }
     ensures starts { OnOk result (starts.new.items ≡ starts.old.items ++ vec_len bytes.old ∷ []) }
+    ensures names { OnOk result (names.new.items ≡ names.old.items ++ lengths ∷ []) }
     ensures err_bytes { OnErr result (bytes.new.items ≡ bytes.old.items) }
     ensures err_starts { OnErr result (starts.new.items ≡ starts.old.items) }
+    ensures err_names { OnErr result (names.new.items ≡ names.old.items) }
     ensures forward { IsLawful pair.now.forward }
     ensures reverse { IsLawful pair.now.reverse }
 {
     let start = bytes.len();
     bytes.reserve(packed_len(pair))?;
-    starts.push(start)?;
+    starts.reserve(1)?;
+    names.push(lengths)?;
+    starts.push(start).unwrap();
     append_pair(bytes, pair);
     Ok(())
 }

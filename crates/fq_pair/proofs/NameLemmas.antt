@@ -1,5 +1,5 @@
 -- Where the name of a mate ends.
-use Rattle.std.proofs.Common.{◌≡◌, ℕ, ◌+◌, ◌-◌, ◌<◌, ◌≤◌, true, false, eqb, nat_eq, Option, Some, None, unwrap_or, MatchOption, List, [], ◌∷◌, length, take, drop, get_or, zero-le, refl, ap, sym, ◌∙◌, arith, inl, inr, ⊎_elim}
+use Rattle.std.proofs.Common.{◌≡◌, ℕ, zero, suc, ◌+◌, ◌-◌, ◌<◌, ◌≤◌, true, false, eqb, nat_eq, Option, Some, None, unwrap_or, MatchOption, List, [], ◌∷◌, length, take, drop, get_or, zero-le, refl, ap, sym, ◌∙◌, arith, inl, inr, ⊎_elim}
 use Rattle.std.specs.Borrow.{Bor}
 use Rattle.std.specs.List.{before_first, position_or_len, ends_with}
 use Rattle.std.specs.Cmp.Lexicographic.{pointwise}
@@ -7,13 +7,15 @@ use Rattle.std.specs.Str.{bytes_eq}
 use Rattle.std.proofs.lemmas.Bool.{cond-true, cond-false, cond_both, cases_Bool, cases_lt, eqb-true, eq-eqb, false_from_ne_true}
 use Rattle.std.proofs.lemmas.Bool.Decides.{same_from_decides, Decides-eqb, Decides-like}
 use Rattle.std.proofs.lemmas.Grind.{same_number_lists}
-use Rattle.std.proofs.lemmas.List.{length-take, get_or-take}
+use Rattle.std.proofs.lemmas.List.{length-take, get_or-take, take-take}
 use Rattle.std.proofs.Math.Seq.{take-length}
 use Rattle.std.proofs.lemmas.Slice.Eq.{bytes_eq-Decides}
 use Rattle.std.proofs.lemmas.List.Sums.{position_or_len_is, fails_before_first}
 use Rattle.memchr.specs.Find.{IsFirstByte, is_byte2}
+use Rattle.fq_pair.specs.declared.name.NameLengths.{NameLengths}
+use Rattle.fq_pair.specs.declared.side.Side.{Side}
 use Rattle.fq_pair.specs.declared.side.Side.TheVariants.{Forward, Reverse}
-use Rattle.fq_pair.specs.Mates.{is_gap, mark_of, without_end}
+use Rattle.fq_pair.specs.Mates.{is_gap, mark_of, without_end, name_of, lengths_of}
 
 -- the place of the first blank or tab, or the length
 word_end : (title : List ℕ) (r : Option ℕ) → IsFirstByte (is_byte2 32 9) title r → position_or_len is_gap title ≡ unwrap_or r (length title)
@@ -98,6 +100,42 @@ length-without_end ending word =
     cond_both (ends_with nat_eq word ending) (take (length word - length ending) word) word (λ (name : List ℕ). length name ≤ length word)
     (λ ends. omega (arith, length-take (length word - length ending) word))
     (λ other. omega arith)
+
+-- A name is the front of its title.
+take_front : (n : ℕ) (text : List ℕ) → take (length (take n text)) text ≡ take n text
+take_front zero text = refl
+take_front (suc n) [] = refl
+take_front (suc n) (x ∷ text) = ap (λ (front : List ℕ). x ∷ front) (take_front n text)
+
+without_end_front : (ending word : List ℕ) → take (length (without_end ending word)) word ≡ without_end ending word
+without_end_front ending word =
+    let short = take (length word - length ending) word in
+    cond_both (ends_with nat_eq word ending) short word (λ (name : List ℕ). take (length name) word ≡ name)
+    (λ ends. take_front (length word - length ending) word)
+    (λ other. take-length word)
+
+pub length-name : (side : Side) (title : List ℕ) → length (name_of side title) ≤ length title
+length-name side title =
+    let n = position_or_len is_gap title in
+    omega (arith, length-without_end (mark_of side) (take n title), length-take n title)
+
+pub name_front : (side : Side) (title : List ℕ) → take (length (name_of side title)) title ≡ name_of side title
+name_front side title =
+    let n = position_or_len is_gap title in
+    let word = take n title in
+    let len = length (without_end (mark_of side) word) in
+    sym (take-take len n title (omega (arith, length-without_end (mark_of side) word, length-take n title)))
+    ∙ without_end_front (mark_of side) word
+
+-- and so is that of a title that is the same
+pub named : (side : Side) (title same : List ℕ) (len : ℕ) → len ≡ length (name_of side title) → same ≡ title → take len same ≡ name_of side title
+named side title same len is equal = ap (λ (t : List ℕ). take len t) equal ∙ ap (λ (n : ℕ). take n title) is ∙ name_front side title
+
+-- two lengths of names are those of titles, where each is
+pub same_lengths : (n : NameLengths) (forward reverse : List ℕ) → n.forward ≡ length (name_of Forward forward) → n.reverse ≡ length (name_of Reverse reverse) → n ≡ lengths_of forward reverse
+same_lengths n forward reverse one other =
+    let parts : NameLengths → NameLengths = λ (k : NameLengths). record { forward = k.forward; reverse = k.reverse } in
+    let same : parts n ≡ lengths_of forward reverse = cc in same
 
 -- The names in two words that are alike but for their last bytes.
 module _ (word mate : List ℕ) (some : 0 < length word) (like : take (length word - 1) mate ≡ take (length word - 1) word) where

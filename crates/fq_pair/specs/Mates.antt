@@ -3,6 +3,7 @@ use Rattle.std.specs.Prelude.{ℕ, ◌-◌, Bool, ◌||◌, ◌==◌, nat_eq, Li
 use Rattle.std.specs.List.{before_first, ends_with}
 use Rattle.std.specs.Str.{bytes_eq}
 use Rattle.fq_text.specs.Grammar.{Read}
+use Rattle.fq_pair.specs.declared.name.NameLengths.{NameLengths}
 use Rattle.fq_pair.specs.declared.side.Side.{Side}
 use Rattle.fq_pair.specs.declared.side.Side.TheVariants.{Forward, Reverse}
 
@@ -34,3 +35,11 @@ name_of side title = without_end (mark_of side) (before_first is_gap title)
 -- two titles have one name
 abbrev pub names_match : List ℕ → List ℕ → Bool
 names_match forward reverse = bytes_eq (name_of Forward forward) (name_of Reverse reverse)
+
+-- how long the names in two titles are
+abbrev pub lengths_of : List ℕ → List ℕ → NameLengths
+lengths_of forward reverse = record { forward = length (name_of Forward forward); reverse = length (name_of Reverse reverse) }
+
+-- how long the names of two mates are
+abbrev pub name_lengths : Mates → NameLengths
+name_lengths m = lengths_of m.forward.title m.reverse.title

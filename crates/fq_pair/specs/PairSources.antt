@@ -1,5 +1,5 @@
 -- What a source of pairs is, and what its calls answer.
-use Rattle.std.specs.Prelude.{◌≡◌, ℕ, ◌+◌, ◌*◌, ◌≤◌, ◌⊎◌, Bool, true, false, IsTrue, Option, Some, None, Result, []}
+use Rattle.std.specs.Prelude.{◌≡◌, ℕ, ◌+◌, ◌*◌, ◌≤◌, ◌⊎◌, Bool, true, false, IsTrue, Option, Some, None, IfSome, Result, []}
 use Rattle.std.specs.declared.result.Result.TheVariants as res
 use Rattle.fq_text.specs.Devices.{FeedState}
 use Rattle.fq_text.specs.declared.fault.TextFault.{TextFault}
@@ -11,7 +11,8 @@ use Rattle.fq_pair.specs.declared.side.Side.{Side}
 use Rattle.fq_pair.specs.declared.side.Side.TheVariants.{Forward, Reverse}
 use Rattle.fq_pair.specs.declared.fault.InputFault.{InputFault}
 use Rattle.fq_pair.specs.declared.fault.InputFault.TheVariants.{Text}
-use Rattle.fq_pair.specs.Mates.{Mates, mates_in}
+use Rattle.fq_pair.specs.declared.name.NameLengths.{NameLengths}
+use Rattle.fq_pair.specs.Mates.{Mates, mates_in, name_lengths}
 use Rattle.fq_pair.specs.Pairing.{Pairs, PairFront, Ended, Stopped, Met, belong, pair_front, pairs, with_pair}
 
 -- A source of pairs: the sources of its mates, whether names are checked, how many pairs were given, once that is a fault or
@@ -160,6 +161,10 @@ pair_of false forward reverse = None
 pair_of true None reverse = None
 pair_of true (Some forward) None = None
 pair_of true (Some forward) (Some reverse) = Some (mates_in forward reverse)
+
+-- where a pair is in hand, these are how long its names are
+abbrev pub HasNames : Option NameLengths → Option Mates → Type 0
+HasNames names current = IfSome current (λ m. names ≡ Some (name_lengths m))
 
 -- a source of pairs that may be asked on, and one that may not
 abbrev pub asked : {F G : Type 0} → Sourced F → Sourced G → Bool → ℕ → Bool → PairSourced F G

@@ -21,7 +21,7 @@ mod texts;
 pub use counts::{Counts, summary};
 pub use fault::InputFault;
 pub use mixed_source::MixedSource;
-pub use name::{name_of, names_match};
+pub use name::{NameLengths, name_of, names_match};
 pub use out::Out;
 pub use pair::{Pair, PairView};
 pub use pair_source::PairSource;

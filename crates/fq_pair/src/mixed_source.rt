@@ -1,13 +1,14 @@
 //! Pairs out of one feed, which is interleaved: mates take turns.
 
-ghost use Rattle.std.specs.Prelude.{◌≡◌, ◌↔◌, ℕ, ◌+◌, ◌*◌, ◌≤◌, ◌^◌, true, false, Some, None, Ok, IfOk, IfErr, IfSome, IsSome, IsTrue, MatchOption};
+ghost use Rattle.std.specs.Prelude.{◌≡◌, ◌↔◌, ℕ, ◌+◌, ◌*◌, ◌≤◌, ◌^◌, true, false, Some, None, Ok, IfOk, IfErr, IfSome, IsSome, IsTrue, MatchOption, is_some};
 ghost use Rattle.std.specs.Option.{IsSomeAnd};
 ghost use Rattle.fq_text.specs.Sources.{KeepsCount};
-ghost use Rattle.fq_pair.specs.PairSources.{IsBounded, pair_of};
+ghost use Rattle.fq_pair.specs.PairSources.{IsBounded, pair_of, HasNames};
 ghost use Rattle.fq_pair.specs.MixedSources.{asked, stopped, GivesPair, EndsPairs, StopsPairs, failed_in, IsReady};
 
 use crate::answer::{keep, keep_more};
 use crate::fault::InputFault;
+use crate::name::NameLengths;
 use crate::pair::{Pair, PairView, check_mates};
 use crate::side::Side;
 use fq_text::{FastqRecord, Feed, Source};
@@ -28,13 +29,13 @@ pub struct MixedSource<F: Feed> {
     last: Option<Result<(), InputFault>>,
     // The forward mate that was read last. Its memory is used again.
     forward: FastqRecord,
-    // Whether it makes a pair with the record in hand.
-    has_pair: bool,
+    // How long the names of the pair are that it makes with the record in hand. `None` where it makes none.
+    names: Option<NameLengths>,
 }
 
 impl<F: Feed> Model for MixedSource<F> {
-    ghost use Rattle.std.specs.Prelude.{◌≡◌, ◌*◌, ◌≤◌, ◌^◌, Some, None};
-    ghost use Rattle.fq_pair.specs.PairSources.{IsBounded, pair_of};
+    ghost use Rattle.std.specs.Prelude.{◌≡◌, ◌*◌, ◌≤◌, ◌^◌, Some, None, is_some};
+    ghost use Rattle.fq_pair.specs.PairSources.{IsBounded, pair_of, HasNames};
     ghost use Rattle.fq_pair.specs.MixedSources.{MixedSourced, IsReady};
 
     ghost Value = { MixedSourced F };
@@ -44,17 +45,18 @@ impl<F: Feed> Model for MixedSource<F> {
       check_names = s.check_names;
       given = s.given;
       last = s.last;
-      current = pair_of s.has_pair (Some s.forward) s.source.current;
+      current = pair_of (is_some s.names) (Some s.forward) s.source.current;
     } };
 
     ghost invariant = { λ s. IsBounded s.source
         × (2 * s.given ≤ s.source.given)
         × (s.given ≤ 2 ^ 60)
-        × (s.last ≡ None → IsReady s.source s.given) };
+        × (s.last ≡ None → IsReady s.source s.given)
+        × HasNames s.names (pair_of (is_some s.names) (Some s.forward) s.source.current) };
 }
 
 impl<F: Feed> MixedSource<F> {
-    ghost use Rattle.fq_pair.specs.Mates.{mates_in};
+    ghost use Rattle.fq_pair.specs.Mates.{mates_in, name_lengths};
     ghost use Rattle.fq_pair.specs.PairSources.{IsUnasked, answer_of, more_of};
     ghost use Rattle.fq_pair.specs.MixedSources.{MixedSourced, KeepsCounts};
 
@@ -70,7 +72,7 @@ impl<F: Feed> MixedSource<F> {
             given: 0,
             last: None,
             forward,
-            has_pair: false,
+            names: None,
         }
     }
 
@@ -104,7 +106,7 @@ impl<F: Feed> MixedSource<F> {
                     &mut self.forward,
                     self.check_names,
                     self.given,
-                    &mut self.has_pair,
+                    &mut self.names,
                 );
                 keep_more(answer, &mut self.given, &mut self.last)
             }
@@ -121,6 +123,14 @@ impl<F: Feed> MixedSource<F> {
             forward: self.forward.view(),
             reverse: self.source.record(),
         }
+    }
+
+    /// How long the names of the pair in hand are: [`advance`](MixedSource::advance) has just answered `true`.
+    pub fn names(&self) -> NameLengths
+        requires { IsSome self.now.current }
+        ensures { IfSome self.now.current (λ m. result ≡ name_lengths m) }
+    {
+        self.names.unwrap()
     }
 
     /// The next pair, or `None` at the end of the text. A fault, or the end, is the answer from then on.
@@ -154,7 +164,7 @@ impl<F: Feed> MixedSource<F> {
                     &mut self.forward,
                     self.check_names,
                     self.given,
-                    &mut self.has_pair,
+                    &mut self.names,
                 );
                 keep(answer, &mut self.given, &mut self.last)
             }
@@ -175,25 +185,25 @@ fn read_mates<F: Feed>(
     forward: &mut FastqRecord,
     check_names: bool,
     given: u64,
-    has_pair: &mut bool,
+    names: &mut Option<NameLengths>,
 ) -> Result<Option<Pair>, InputFault>
     requires ready { IsReady source.old given }
     requires bound { IsBounded source.old }
     requires fits { given ≤ 2 ^ 60 }
     ensures found { IfOk result (λ o. IfSome o
-        (GivesPair F.state (asked source.old forward.old check_names given has_pair.old) (asked source.new forward.new check_names (given + 1) false))) }
+        (GivesPair F.state (asked source.old forward.old check_names given (is_some names.old)) (asked source.new forward.new check_names (given + 1) false))) }
     ensures end { result ≡ Ok None →
-        EndsPairs F.state (asked source.old forward.old check_names given has_pair.old) (stopped source.new check_names given (Ok tt)) }
+        EndsPairs F.state (asked source.old forward.old check_names given (is_some names.old)) (stopped source.new check_names given (Ok tt)) }
     ensures fault { IfErr result (λ why.
-        StopsPairs F.state (asked source.old forward.old check_names given has_pair.old) (stopped source.new check_names given (Err why)) why) }
-    ensures in_hand { has_pair.new ≡ false }
+        StopsPairs F.state (asked source.old forward.old check_names given (is_some names.old)) (stopped source.new check_names given (Err why)) why) }
+    ensures in_hand { names.new ≡ None }
     ensures failures { (F.state source.new.feed).failures ≡ (F.state source.old.feed).failures + failed_in result }
     ensures count { KeepsCount F.state source.old source.new }
     ensures bounded { IsBounded source.new }
     ensures pairs_bound { 2 * given ≤ source.new.given }
     ensures few { IfOk result (λ o. IfSome o (λ pair. (given + 1 ≤ 2 ^ 60) × (2 * (given + 1) ≤ source.new.given))) }
 {
-    *has_pair = false;
+    *names = None;
     let number = given + 1;
     match source.next_into(forward) {
         Err(fault) => Err(InputFault::Text(Side::Forward, fault)),
@@ -215,25 +225,26 @@ fn advance_mates<F: Feed>(
     forward: &mut FastqRecord,
     check_names: bool,
     given: u64,
-    has_pair: &mut bool,
+    names: &mut Option<NameLengths>,
 ) -> Result<bool, InputFault>
     requires ready { IsReady source.old given }
     requires bound { IsBounded source.old }
     requires fits { given ≤ 2 ^ 60 }
     ensures found { result ≡ Ok true → IsSomeAnd (pair_of true (Some forward.new) source.new.current)
-        (GivesPair F.state (asked source.old forward.old check_names given has_pair.old) (asked source.new forward.new check_names (given + 1) true)) }
+        (GivesPair F.state (asked source.old forward.old check_names given (is_some names.old)) (asked source.new forward.new check_names (given + 1) true)) }
     ensures end { result ≡ Ok false →
-        EndsPairs F.state (asked source.old forward.old check_names given has_pair.old) (stopped source.new check_names given (Ok tt)) }
+        EndsPairs F.state (asked source.old forward.old check_names given (is_some names.old)) (stopped source.new check_names given (Ok tt)) }
     ensures fault { IfErr result (λ why.
-        StopsPairs F.state (asked source.old forward.old check_names given has_pair.old) (stopped source.new check_names given (Err why)) why) }
-    ensures in_hand { IsTrue has_pair.new ↔ result ≡ Ok true }
+        StopsPairs F.state (asked source.old forward.old check_names given (is_some names.old)) (stopped source.new check_names given (Err why)) why) }
+    ensures in_hand { IsTrue (is_some names.new) ↔ result ≡ Ok true }
+    ensures names { HasNames names.new (pair_of (is_some names.new) (Some forward.new) source.new.current) }
     ensures failures { (F.state source.new.feed).failures ≡ (F.state source.old.feed).failures + failed_in result }
     ensures count { KeepsCount F.state source.old source.new }
     ensures bounded { IsBounded source.new }
     ensures pairs_bound { 2 * given ≤ source.new.given }
     ensures few { result ≡ Ok true → (given + 1 ≤ 2 ^ 60) × (2 * (given + 1) ≤ source.new.given) }
 {
-    *has_pair = false;
+    *names = None;
     match source.next_into(forward) {
         Err(why) => Err(InputFault::Text(Side::Forward, why)),
         Ok(false) => Ok(false),
@@ -242,8 +253,8 @@ fn advance_mates<F: Feed>(
             Ok(false) => Err(InputFault::MateMissing(Side::Reverse, given + 1)),
             Ok(true) => {
                 let second = source.record();
-                check_mates(check_names, forward.title(), second.title(), given + 1)?;
-                *has_pair = true;
+                let lengths = check_mates(check_names, forward.title(), second.title(), given + 1)?;
+                *names = Some(lengths);
                 Ok(true)
             }
         },

@@ -4,7 +4,7 @@ ghost use Rattle.std.specs.Prelude.{◌≡◌, ◌-◌, ◌<◌, ◌≤◌, true
 ghost use Rattle.std.specs.List.{before_first};
 ghost use Rattle.std.specs.Str.{bytes_eq};
 ghost use Rattle.fq_pair.specs.declared.side.Side.TheVariants.{Forward, Reverse};
-ghost use Rattle.fq_pair.specs.Mates.{is_gap as gap, mark_of as mark, without_end, name_of as name, names_match as same_names};
+ghost use Rattle.fq_pair.specs.Mates.{is_gap as gap, mark_of as mark, without_end, name_of as name, names_match as same_names, lengths_of};
 
 use crate::side::Side;
 use memchr::memchr2;
@@ -39,18 +39,6 @@ fn begins_like(title: &[u8], word: &[u8]) -> bool
     !is_gap(title[len - 1]) && (len == title.len() || is_gap(title[len]))
 }
 
-// The first word of a title. It is searched for, but where it is like the first word of its mate's title.
-fn word_beside<'a>(title: &'a [u8], mate: &[u8]) -> &'a [u8]
-    requires { before_first gap mate.now ≡ mate.now }
-    ensures { result.now ≡ before_first gap title.now }
-{
-    if begins_like(title, mate) {
-        &title[..mate.len()]
-    } else {
-        first_word(title)
-    }
-}
-
 // A word without the mark of its side.
 fn without_mark(word: &[u8], side: Side) -> &[u8]
     ensures { result.now ≡ without_end (mark side) word.now }
@@ -69,21 +57,6 @@ pub fn name_of(title: &[u8], side: Side) -> &[u8]
     without_mark(first_word(title), side)
 }
 
-/// The names of two mates, by their titles. Where the titles begin alike, one of them alone is searched.
-pub(crate) fn names_of<'a>(forward: &'a [u8], reverse: &'a [u8]) -> (&'a [u8], &'a [u8])
-    ensures forward { result.0.now ≡ name Forward forward.now }
-    ensures reverse { result.1.now ≡ name Reverse reverse.now }
-    ensures short_forward { length result.0.now ≤ length forward.now }
-    ensures short_reverse { length result.1.now ≤ length reverse.now }
-{
-    let word = first_word(forward);
-    let mate = word_beside(reverse, word);
-    (
-        without_mark(word, Side::Forward),
-        without_mark(mate, Side::Reverse),
-    )
-}
-
 fn mark_of(side: Side) -> &'static [u8]
     ensures { result.now ≡ mark side }
 {
@@ -93,26 +66,54 @@ fn mark_of(side: Side) -> &'static [u8]
     }
 }
 
+/// How long the names of two mates are, in bytes from the front of their titles. So who has them needs not search for the names.
+#[derive(Clone, Copy, Debug, PartialEq, Eq)]
+pub struct NameLengths {
+    /// The bytes of the forward mate's name.
+    pub forward: usize,
+    /// The bytes of the reverse mate's name.
+    pub reverse: usize,
+}
+
 /// Whether two titles, of a forward and of a reverse mate, have one name, byte for byte.
 pub fn names_match(forward: &[u8], reverse: &[u8]) -> bool
     ensures { result ≡ same_names forward.now reverse.now }
 {
-    let word = first_word(forward);
-    if begins_like(reverse, word) {
-        return ends_match(word, &reverse[..word.len()]);
-    }
-    without_mark(word, Side::Forward) == name_of(reverse, Side::Reverse)
+    compare_names(forward, reverse).1
 }
 
-// Whether two words, of a forward and of a reverse mate, have one name, where they are alike but for their last bytes.
-fn ends_match(word: &[u8], mate: &[u8]) -> bool
+/// How long the names in two titles are, of a forward and of a reverse mate, and whether they are one name. Where the titles begin
+/// alike, one of them alone is searched.
+#[inline(always)]
+pub(crate) fn compare_names(forward: &[u8], reverse: &[u8]) -> (NameLengths, bool)
+    ensures lengths { result.0 ≡ lengths_of forward.now reverse.now }
+    ensures same { result.1 ≡ same_names forward.now reverse.now }
+{
+    let word = first_word(forward);
+    if begins_like(reverse, word) {
+        return compare_alike(word, &reverse[..word.len()]);
+    }
+    let forward = without_mark(word, Side::Forward);
+    let reverse = name_of(reverse, Side::Reverse);
+    let lengths = NameLengths {
+        forward: forward.len(),
+        reverse: reverse.len(),
+    };
+    (lengths, forward == reverse)
+}
+
+// The same of two words that are alike but for their last bytes.
+fn compare_alike(word: &[u8], mate: &[u8]) -> (NameLengths, bool)
     requires some { 0 < length word.now }
     requires len { length mate.now ≡ length word.now }
     requires like { take (length word.now - 1) mate.now ≡ take (length word.now - 1) word.now }
-    ensures { result ≡ bytes_eq (without_end (mark Forward) word.now) (without_end (mark Reverse) mate.now) }
+    ensures forward { result.0.forward ≡ length (without_end (mark Forward) word.now) }
+    ensures reverse { result.0.reverse ≡ length (without_end (mark Reverse) mate.now) }
+    ensures same { result.1 ≡ bytes_eq (without_end (mark Forward) word.now) (without_end (mark Reverse) mate.now) }
 {
     let last = word.len() - 1;
-    let forward_len = without_mark(word, Side::Forward).len();
-    let reverse_len = without_mark(mate, Side::Reverse).len();
-    forward_len == reverse_len && (forward_len <= last || word[last] == mate[last])
+    let forward = without_mark(word, Side::Forward).len();
+    let reverse = without_mark(mate, Side::Reverse).len();
+    let same = forward == reverse && (forward <= last || word[last] == mate[last]);
+    (NameLengths { forward, reverse }, same)
 }

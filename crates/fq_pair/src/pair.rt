@@ -1,10 +1,10 @@
 //! Two mates.
 
 ghost use Rattle.std.specs.Prelude.{◌≡◌, ◌||◌, not, IfOk, IfErr, is_ok};
-ghost use Rattle.fq_pair.specs.Mates.{names_match as same_names};
+ghost use Rattle.fq_pair.specs.Mates.{names_match as same_names, lengths_of};
 
 use crate::fault::InputFault;
-use crate::name::names_match;
+use crate::name::{NameLengths, compare_names};
 use fq_text::{Encoding, FastqRecord, ReadView};
 use std::marker::Model;
 
@@ -83,20 +83,34 @@ pub struct PairView<'a> {
     pub reverse: ReadView<'a>,
 }
 
-/// Nothing where two titles, of a forward and of a reverse mate, have one name or names aren't checked; the fault of pair `number`
-/// otherwise.
+impl PairView<'_> {
+    ghost use Rattle.fq_pair.specs.Mates.{mates_in, name_lengths};
+
+    /// How long the names of the mates are. They are searched for.
+    #[inline(always)]
+    pub fn name_lengths(&self) -> NameLengths
+        ensures { result ≡ name_lengths (mates_in self.now.forward self.now.reverse) }
+    {
+        compare_names(self.forward.title(), self.reverse.title()).0
+    }
+}
+
+/// How long the names in two titles are, of a forward and of a reverse mate, where they are one name or names aren't checked; the
+/// fault of pair `number` otherwise.
 #[inline(always)]
 pub(crate) fn check_mates(
     check_names: bool,
     forward: &[u8],
     reverse: &[u8],
     number: u64,
-) -> Result<(), InputFault>
+) -> Result<NameLengths, InputFault>
+    ensures ok { IfOk result (λ lengths. lengths ≡ lengths_of forward.now reverse.now) }
     ensures err { IfErr result (λ why. why ≡ InputFault.NamesDiffer number) }
     ensures names { is_ok result ≡ (not check_names || same_names forward.now reverse.now) }
 {
-    if check_names && !names_match(forward, reverse) {
+    let (lengths, same) = compare_names(forward, reverse);
+    if check_names && !same {
         return Err(InputFault::NamesDiffer(number));
     }
-    Ok(())
+    Ok(lengths)
 }

@@ -1,13 +1,14 @@
 //! Pairs out of two feeds.
 
-ghost use Rattle.std.specs.Prelude.{◌≡◌, ◌↔◌, ℕ, suc, ◌+◌, ◌*◌, ◌≤◌, ◌^◌, true, false, Some, None, Ok, IfOk, IfErr, IfSome, IsSome, IsTrue, MatchOption};
+ghost use Rattle.std.specs.Prelude.{◌≡◌, ◌↔◌, ℕ, suc, ◌+◌, ◌*◌, ◌≤◌, ◌^◌, true, false, Some, None, Ok, IfOk, IfErr, IfSome, IsSome, IsTrue, MatchOption, is_some};
 ghost use Rattle.std.specs.Option.{IsSomeAnd};
 ghost use Rattle.fq_text.specs.Sources.{KeepsCount};
-ghost use Rattle.fq_pair.specs.PairSources.{pair_of, asked, stopped, GivesPair, EndsPairs, StopsPairs, failed_on, IsBounded, IsReady};
+ghost use Rattle.fq_pair.specs.PairSources.{pair_of, asked, stopped, GivesPair, EndsPairs, StopsPairs, failed_on, IsBounded, IsReady, HasNames};
 ghost use Rattle.fq_pair.specs.declared.side.Side.TheVariants.{Forward, Reverse};
 
 use crate::answer::{keep, keep_more};
 use crate::fault::InputFault;
+use crate::name::NameLengths;
 use crate::pair::{Pair, PairView, check_mates};
 use crate::side::Side;
 use fq_text::{Feed, Source};
@@ -25,13 +26,13 @@ pub struct PairSource<F: Feed, G: Feed> {
     given: u64,
     // The end or the fault that was answered.
     last: Option<Result<(), InputFault>>,
-    // Whether the records in hand of both sources are a pair.
-    has_pair: bool,
+    // How long the names of the pair in hand are. `None` where the records in hand of both sources are no pair.
+    names: Option<NameLengths>,
 }
 
 impl<F: Feed, G: Feed> Model for PairSource<F, G> {
-    ghost use Rattle.std.specs.Prelude.{◌≡◌, ◌≤◌, ◌^◌, None};
-    ghost use Rattle.fq_pair.specs.PairSources.{PairSourced, pair_of, IsBounded, IsReady};
+    ghost use Rattle.std.specs.Prelude.{◌≡◌, ◌≤◌, ◌^◌, None, is_some};
+    ghost use Rattle.fq_pair.specs.PairSources.{PairSourced, pair_of, IsBounded, IsReady, HasNames};
 
     ghost Value = { PairSourced F G };
 
@@ -41,7 +42,7 @@ impl<F: Feed, G: Feed> Model for PairSource<F, G> {
       check_names = s.check_names;
       given = s.given;
       last = s.last;
-      current = pair_of s.has_pair s.forward.current s.reverse.current;
+      current = pair_of (is_some s.names) s.forward.current s.reverse.current;
     } };
 
     ghost invariant = { λ s. (s.forward.encoding ≡ s.reverse.encoding)
@@ -50,11 +51,12 @@ impl<F: Feed, G: Feed> Model for PairSource<F, G> {
         × (s.given ≤ s.forward.given)
         × (s.given ≤ s.reverse.given)
         × (s.given ≤ 2 ^ 60)
-        × (s.last ≡ None → IsReady s.forward s.reverse s.given) };
+        × (s.last ≡ None → IsReady s.forward s.reverse s.given)
+        × HasNames s.names (pair_of (is_some s.names) s.forward.current s.reverse.current) };
 }
 
 impl<F: Feed, G: Feed> PairSource<F, G> {
-    ghost use Rattle.fq_pair.specs.Mates.{mates_in};
+    ghost use Rattle.fq_pair.specs.Mates.{mates_in, name_lengths};
     ghost use Rattle.fq_pair.specs.PairSources.{PairSourced, IsUnasked, answer_of, more_of, KeepsCounts};
 
     /// The pairs of these sources, of which neither has been asked yet. Both have one encoding.
@@ -70,7 +72,7 @@ impl<F: Feed, G: Feed> PairSource<F, G> {
             check_names,
             given: 0,
             last: None,
-            has_pair: false,
+            names: None,
         }
     }
 
@@ -111,7 +113,7 @@ impl<F: Feed, G: Feed> PairSource<F, G> {
                     &mut self.reverse,
                     self.check_names,
                     self.given,
-                    &mut self.has_pair,
+                    &mut self.names,
                 );
                 keep_more(answer, &mut self.given, &mut self.last)
             }
@@ -128,6 +130,14 @@ impl<F: Feed, G: Feed> PairSource<F, G> {
             forward: self.forward.record(),
             reverse: self.reverse.record(),
         }
+    }
+
+    /// How long the names of the pair in hand are: [`advance`](PairSource::advance) has just answered `true`.
+    pub fn names(&self) -> NameLengths
+        requires { IsSome self.now.current }
+        ensures { IfSome self.now.current (λ m. result ≡ name_lengths m) }
+    {
+        self.names.unwrap()
     }
 
     /// The next pair, or `None` at the end of both texts. A fault, or the end, is the answer from then on.
@@ -164,7 +174,7 @@ impl<F: Feed, G: Feed> PairSource<F, G> {
                     &mut self.reverse,
                     self.check_names,
                     self.given,
-                    &mut self.has_pair,
+                    &mut self.names,
                 );
                 keep(answer, &mut self.given, &mut self.last)
             }
@@ -191,7 +201,7 @@ fn read_mates<F: Feed, G: Feed>(
     reverse: &mut Source<G>,
     check_names: bool,
     given: u64,
-    has_pair: &mut bool,
+    names: &mut Option<NameLengths>,
 ) -> Result<Option<Pair>, InputFault>
     requires encoding { forward.old.encoding ≡ reverse.old.encoding }
     requires ready { IsReady forward.old reverse.old given }
@@ -199,15 +209,15 @@ fn read_mates<F: Feed, G: Feed>(
     requires reverse_bound { IsBounded reverse.old }
     requires fits { given ≤ 2 ^ 60 }
     ensures found { IfOk result (λ o. IfSome o
-        (GivesPair F.state G.state (asked forward.old reverse.old check_names given has_pair.old)
+        (GivesPair F.state G.state (asked forward.old reverse.old check_names given (is_some names.old))
         (asked forward.new reverse.new check_names (given + 1) false))) }
     ensures end { result ≡ Ok None →
-        EndsPairs F.state G.state (asked forward.old reverse.old check_names given has_pair.old)
+        EndsPairs F.state G.state (asked forward.old reverse.old check_names given (is_some names.old))
         (stopped forward.new reverse.new check_names given (Ok tt)) }
     ensures fault { IfErr result (λ why.
-        StopsPairs F.state G.state (asked forward.old reverse.old check_names given has_pair.old)
+        StopsPairs F.state G.state (asked forward.old reverse.old check_names given (is_some names.old))
         (stopped forward.new reverse.new check_names given (Err why)) why) }
-    ensures in_hand { has_pair.new ≡ false }
+    ensures in_hand { names.new ≡ None }
     ensures forward_failures { (F.state forward.new.feed).failures ≡ (F.state forward.old.feed).failures + failed_on Forward result }
     ensures reverse_failures { (G.state reverse.new.feed).failures ≡ (G.state reverse.old.feed).failures + failed_on Reverse result }
     ensures forward_count { KeepsCount F.state forward.old forward.new }
@@ -217,7 +227,7 @@ fn read_mates<F: Feed, G: Feed>(
     ensures pairs_bound { (given ≤ forward.new.given) × (given ≤ reverse.new.given) }
     ensures few { IfOk result (λ o. IfSome o (λ pair. given + 1 ≤ 2 ^ 60)) }
 {
-    *has_pair = false;
+    *names = None;
     let number = given + 1;
     match forward.next() {
         Err(fault) => Err(InputFault::Text(Side::Forward, fault)),
@@ -240,7 +250,7 @@ fn advance_mates<F: Feed, G: Feed>(
     reverse: &mut Source<G>,
     check_names: bool,
     given: u64,
-    has_pair: &mut bool,
+    names: &mut Option<NameLengths>,
 ) -> Result<bool, InputFault>
     requires encoding { forward.old.encoding ≡ reverse.old.encoding }
     requires ready { IsReady forward.old reverse.old given }
@@ -248,15 +258,16 @@ fn advance_mates<F: Feed, G: Feed>(
     requires reverse_bound { IsBounded reverse.old }
     requires fits { given ≤ 2 ^ 60 }
     ensures found { result ≡ Ok true → IsSomeAnd (pair_of true forward.new.current reverse.new.current)
-        (GivesPair F.state G.state (asked forward.old reverse.old check_names given has_pair.old)
+        (GivesPair F.state G.state (asked forward.old reverse.old check_names given (is_some names.old))
         (asked forward.new reverse.new check_names (given + 1) true)) }
     ensures end { result ≡ Ok false →
-        EndsPairs F.state G.state (asked forward.old reverse.old check_names given has_pair.old)
+        EndsPairs F.state G.state (asked forward.old reverse.old check_names given (is_some names.old))
         (stopped forward.new reverse.new check_names given (Ok tt)) }
     ensures fault { IfErr result (λ why.
-        StopsPairs F.state G.state (asked forward.old reverse.old check_names given has_pair.old)
+        StopsPairs F.state G.state (asked forward.old reverse.old check_names given (is_some names.old))
         (stopped forward.new reverse.new check_names given (Err why)) why) }
-    ensures in_hand { IsTrue has_pair.new ↔ result ≡ Ok true }
+    ensures in_hand { IsTrue (is_some names.new) ↔ result ≡ Ok true }
+    ensures names { HasNames names.new (pair_of (is_some names.new) forward.new.current reverse.new.current) }
     ensures forward_failures { (F.state forward.new.feed).failures ≡ (F.state forward.old.feed).failures + failed_on Forward result }
     ensures reverse_failures { (G.state reverse.new.feed).failures ≡ (G.state reverse.old.feed).failures + failed_on Reverse result }
     ensures forward_count { KeepsCount F.state forward.old forward.new }
@@ -266,7 +277,7 @@ fn advance_mates<F: Feed, G: Feed>(
     ensures pairs_bound { (given ≤ forward.new.given) × (given ≤ reverse.new.given) }
     ensures few { result ≡ Ok true → given + 1 ≤ 2 ^ 60 }
 {
-    *has_pair = false;
+    *names = None;
     match forward.advance() {
         Err(why) => Err(InputFault::Text(Side::Forward, why)),
         Ok(true) => match reverse.advance() {
@@ -275,8 +286,8 @@ fn advance_mates<F: Feed, G: Feed>(
             Ok(true) => {
                 let first = forward.record();
                 let second = reverse.record();
-                check_mates(check_names, first.title(), second.title(), given + 1)?;
-                *has_pair = true;
+                let lengths = check_mates(check_names, first.title(), second.title(), given + 1)?;
+                *names = Some(lengths);
                 Ok(true)
             }
         },

@@ -1,12 +1,13 @@
 //! Sources of pairs, whatever they read.
 
 ghost use Rattle.std.specs.Prelude.{◌≡◌, ◌≤◌, true, Some, None, Ok, IfOk, IfSome, IsSome, MatchOption};
-ghost use Rattle.fq_pair.specs.Mates.{mates_in};
+ghost use Rattle.fq_pair.specs.Mates.{mates_in, name_lengths};
 ghost use Rattle.fq_pair.specs.PairSources.{answer_of, more_of};
 ghost use Rattle.fq_pair.specs.Walks.{SourceState, Asks, Advances};
 
 use crate::fault::InputFault;
 use crate::mixed_source::MixedSource;
+use crate::name::NameLengths;
 use crate::pair::{Pair, PairView};
 use crate::pair_source::PairSource;
 use fq_text::Feed;
@@ -36,6 +37,11 @@ pub trait PairReader {
         requires { IsSome (state self.now).current }
         ensures { (state self.now).current ≡ Some (mates_in result.forward result.reverse) };
 
+    /// How long the names of the pair in hand are: [`advance_pair`](PairReader::advance_pair) has just answered `true`.
+    fn names_in_hand(&self) -> NameLengths
+        requires { IsSome (state self.now).current }
+        ensures { IfSome (state self.now).current (λ m. result ≡ name_lengths m) };
+
     /// The next pair, or `None` at the end. A fault, or the end, is the answer from then on. The pair is in hand no more.
     fn next_pair(&mut self) -> Result<Option<Pair>, InputFault>
         // A last answer stays, and nothing more is read.
@@ -63,6 +69,10 @@ impl<F: Feed, G: Feed> PairReader for PairSource<F, G> {
         self.pair()
     }
 
+    fn names_in_hand(&self) -> NameLengths {
+        self.names()
+    }
+
     fn next_pair(&mut self) -> Result<Option<Pair>, InputFault> {
         self.next()
     }
@@ -79,6 +89,10 @@ impl<F: Feed> PairReader for MixedSource<F> {
 
     fn pair_in_hand(&self) -> PairView<'_> {
         self.pair()
+    }
+
+    fn names_in_hand(&self) -> NameLengths {
+        self.names()
     }
 
     fn next_pair(&mut self) -> Result<Option<Pair>, InputFault> {

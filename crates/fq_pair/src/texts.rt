@@ -2,12 +2,12 @@
 
 ghost use Rattle.std.specs.Prelude.{◌≡◌, ◌+◌, ◌-◌, ◌*◌, ◌<◌, ◌≤◌, ◌++◌, ◌∷◌, [], Some, length, OnOk, OnErr, vec_len, vec_capacity};
 ghost use Rattle.fq_text.specs.Grammar.{IsLawful};
-ghost use Rattle.fq_pair.specs.Mates.{mates_in};
+ghost use Rattle.fq_pair.specs.Mates.{mates_in, name_lengths};
 ghost use Rattle.fq_pair.specs.Outputs.{kept_places, places_of, IsWithin, record_at};
 
 use crate::counts::Counts;
 use crate::log_line::{line_room, put_line};
-use crate::name::names_of;
+use crate::name::NameLengths;
 use crate::out::Out;
 use crate::pair::PairView;
 use fq_text::{OutOfMemory, ReadView, append_record};
@@ -77,9 +77,27 @@ impl Texts {
         ensures ok { OnOk result (self.new ≡ joined self.old (texts_of steps.now (mates_in pair.entry.forward pair.entry.reverse ∷ []))) }
         ensures err { OnErr result (self.new ≡ self.old) }
     {
+        let names = pair.name_lengths();
+        self.add_named(pair, names, steps)
+    }
+
+    /// Adds the same, where it is known already how long the names of the mates are. So a source that has compared them
+    /// spares the search.
+    #[inline(always)]
+    pub fn add_named(
+        &mut self,
+        pair: PairView<'_>,
+        names: NameLengths,
+        steps: &Steps,
+    ) -> Result<(), OutOfMemory>
+        requires room { self.old.counts.pairs < u64.MAX }
+        requires names { names ≡ name_lengths (mates_in pair.forward pair.reverse) }
+        ensures ok { OnOk result (self.new ≡ joined self.old (texts_of steps.now (mates_in pair.entry.forward pair.entry.reverse ∷ []))) }
+        ensures err { OnErr result (self.new ≡ self.old) }
+    {
         let forward = trimmed(&pair.forward, steps);
         let reverse = trimmed(&pair.reverse, steps);
-        self.add_kept(pair, steps, forward, reverse)
+        self.add_kept(pair, names, steps, forward, reverse)
     }
 
     /// Adds the same, where it is known already what the steps keep of each mate. So who needs to know that too, as one
@@ -89,11 +107,13 @@ impl Texts {
     pub fn add_kept(
         &mut self,
         pair: PairView<'_>,
+        names: NameLengths,
         steps: &Steps,
         forward: Option<Kept>,
         reverse: Option<Kept>,
     ) -> Result<(), OutOfMemory>
         requires room { self.old.counts.pairs < u64.MAX }
+        requires names { names ≡ name_lengths (mates_in pair.forward pair.reverse) }
         requires forward { kept_places steps.now pair.forward ≡ places_of forward }
         requires reverse { kept_places steps.now pair.reverse ≡ places_of reverse }
         ensures ok { OnOk result (self.new ≡ joined self.old (texts_of steps.now (mates_in pair.entry.forward pair.entry.reverse ∷ []))) }
@@ -101,7 +121,8 @@ impl Texts {
     {
         let forward_title = pair.forward.title();
         let reverse_title = pair.reverse.title();
-        let (forward_name, reverse_name) = names_of(forward_title, reverse_title);
+        let forward_name = &forward_title[..names.forward];
+        let reverse_name = &reverse_title[..names.reverse];
         let forward_seq = pair.forward.seq();
         let reverse_seq = pair.reverse.seq();
         let recode = steps.reencodes();

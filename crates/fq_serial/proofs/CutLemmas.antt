@@ -12,7 +12,7 @@ use Rattle.fq_pair.proofs.PairLaws.{pairs_of-met, pairs_of-stopped, pairs_of-end
 use Rattle.fq_pair.proofs.InterleavedLaws.{interleaved_pairs_of-met, interleaved_pairs_of-stopped, interleaved_pairs_of-ended}
 use Rattle.fq_serial.proofs.FormLemmas.{pairs_at}
 use Rattle.fq_pair.proofs.TakenLemmas.{front_takes, front_fewer, one_record}
-use Rattle.fq_serial.proofs.FrontLemmas.{met_more, interleaved_met_more, MeetsInterleaved, meets_interleaved}
+use Rattle.fq_serial.proofs.FrontLemmas.{met_more, interleaved_met_more, meets_interleaved}
 
 module _ (check : Bool) (e : Encoding) where
   abbrev pub mates_at : ℕ → List (List ℕ) → List (List ℕ) → List Mates

@@ -23,7 +23,8 @@ pub fn fill<S: PairReader>(source: &mut S, most: u64, block: &mut Block) -> Opti
         match source.advance_pair() {
             Ok(true) => {
                 let pair = source.pair_in_hand();
-                if block.push_view(&pair).is_err() {
+                let names = source.names_in_hand();
+                if block.push_named(&pair, names).is_err() {
                     return Some(ReadingEnd::Memory);
                 }
             }

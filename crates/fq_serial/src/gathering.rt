@@ -28,7 +28,8 @@ pub(crate) fn gather<S: PairReader>(
         match source.advance_pair() {
             Ok(true) => {
                 let pair = source.pair_in_hand();
-                if done.add(pair, steps).is_err() {
+                let names = source.names_in_hand();
+                if done.add(pair, names, steps).is_err() {
                     return Some(ReadingEnd::Memory);
                 }
             }

@@ -1,12 +1,12 @@
 //! What is made of a block.
 
 ghost use Rattle.std.specs.Prelude.{◌≡◌, ◌<◌, ◌∷◌, [], OnOk, OnErr};
-ghost use Rattle.fq_pair.specs.Mates.{mates_in};
+ghost use Rattle.fq_pair.specs.Mates.{mates_in, name_lengths};
 ghost use Rattle.fq_pair.specs.Outputs.{joined, texts_of};
 ghost use Rattle.fq_tally.specs.Courses.{alone};
 ghost use Rattle.fq_tally.specs.Tallies.{with_pair};
 
-use fq_pair::{PairView, Texts};
+use fq_pair::{NameLengths, PairView, Texts};
 use fq_tally::{Tally, Trimmed};
 use fq_text::{OutOfMemory, ReadView};
 use fq_trim::Steps;
@@ -69,15 +69,22 @@ impl Done {
     }
 
     /// Adds what is to be written of one pair, and counts it where a tally is asked for. A refusal leaves all as it was. The
-    /// condition is that the count of pairs can still grow.
-    pub fn add(&mut self, pair: PairView<'_>, steps: &Steps) -> Result<(), OutOfMemory>
-        requires { self.old.texts.counts.pairs < u64.MAX }
+    /// conditions are that the count of pairs can still grow, and that the names of the mates are so long.
+    #[inline(always)]
+    pub fn add(
+        &mut self,
+        pair: PairView<'_>,
+        names: NameLengths,
+        steps: &Steps,
+    ) -> Result<(), OutOfMemory>
+        requires room { self.old.texts.counts.pairs < u64.MAX }
+        requires names { names ≡ name_lengths (mates_in pair.forward pair.reverse) }
         ensures ok { OnOk result (self.new ≡ with_mates steps.now self.old (mates_in pair.entry.forward pair.entry.reverse)) }
         ensures err { OnErr result (self.new ≡ self.old) }
     {
         match &mut self.tally {
-            None => self.texts.add(pair, steps),
-            Some(tally) => add_counted(&mut self.texts, tally, pair, steps),
+            None => self.texts.add_named(pair, names, steps),
+            Some(tally) => add_counted(&mut self.texts, tally, pair, names, steps),
         }
     }
 }
@@ -88,9 +95,11 @@ fn add_counted(
     texts: &mut Texts,
     tally: &mut Tally,
     pair: PairView<'_>,
+    names: NameLengths,
     steps: &Steps,
 ) -> Result<(), OutOfMemory>
-    requires { texts.old.counts.pairs < u64.MAX }
+    requires room { texts.old.counts.pairs < u64.MAX }
+    requires names { names ≡ name_lengths (mates_in pair.forward pair.reverse) }
     ensures texts { OnOk result (texts.new ≡ joined texts.old (texts_of steps.now (mates_in pair.entry.forward pair.entry.reverse ∷ []))) }
     ensures tally { OnOk result (tally.new ≡ with_pair (alone steps.now) tally.old (mates_in pair.entry.forward pair.entry.reverse)) }
     ensures kept_texts { OnErr result (texts.new ≡ texts.old) }
@@ -102,7 +111,7 @@ fn add_counted(
     };
     let forward = Trimmed::new(&counted.forward, steps);
     let reverse = Trimmed::new(&counted.reverse, steps);
-    texts.add_kept(pair, steps, forward.kept(), reverse.kept())?;
+    texts.add_kept(pair, names, steps, forward.kept(), reverse.kept())?;
     tally.add_trimmed(counted, steps, &forward, &reverse);
     Ok(())
 }

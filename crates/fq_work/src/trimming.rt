@@ -32,7 +32,7 @@ fn add_pairs(block: &Block, steps: &Steps, done: &mut Done) -> Result<(), OutOfM
     ensures err { OnErr result ((done.new.number ≡ block.now.number) × (is_some done.new.tally ≡ is_some done.old.tally)) }
 {
     for i in 0..block.len() {
-        done.add(block.pair(i), steps)?;
+        done.add(block.pair(i), block.names(i), steps)?;
     }
     Ok(())
 }

@@ -1,5 +1,5 @@
 -- The two records of a pair are read one after the other.
-use Rattle.std.proofs.Common.{false, Ok, ap, refl, sym, subst}
+use Rattle.std.proofs.Common.{false, Ok, ap, refl, sym, subst, is_some}
 use Rattle.std.proofs.lemmas.Result.{err_from_is_err_and}
 use Rattle.fq_text.specs.Sources.{GivesRecord}
 use Rattle.fq_pair.proofs.InterleavedLemmas.{keeps_then, two_given, second_fails, mate_missing, names_differ}
@@ -25,7 +25,7 @@ returns-in_ok-matched-in-Ok-Some-clause-found g c =
     let first = subst (GivesRecord g.F.Feed.state c.args.source.now c.next_into.new.self) (sym c.replace-first.ensures.value) read in
     let two = rw c.in-Ok-Some.field-0-is at c.in-Ok-Some.ensures in
     let pair = c.in_ok-matched-in-Ok-Some.ensures in
-    two_given g.F.Feed.state _ _ _ c.next_into.ensures.count c.next.ensures.count kept kept c.args.check_names c.args.given c.args.has_pair.now false f c.in-Ok-Some.second _ pair.ok
+    two_given g.F.Feed.state _ _ _ c.next_into.ensures.count c.next.ensures.count kept kept c.args.check_names c.args.given (is_some c.args.names.now) false f c.in-Ok-Some.second _ pair.ok
     first (two.found first.last) (sym pair.names)
 
 pub returns-in-Err-next-clause-fault : goal.returns-in-Err-next-clause-fault
@@ -36,7 +36,7 @@ pub returns-in-Ok-None-clause-fault : goal.returns-in-Ok-None-clause-fault
 returns-in-Ok-None-clause-fault g c =
     let first = c.in-Ok-true.ensures.found c.requires.ready.last (ap Ok c.in-Ok-true.field-0-test) in
     let none = rw c.in-Ok-None.field-0-is at c.in-Ok-None.ensures in
-    mate_missing g.F.Feed.state _ _ _ c.next_into.ensures.count c.next.ensures.count c.args.forward.now c.args.check_names c.args.given c.args.has_pair.now c.next_into.new.copy first
+    mate_missing g.F.Feed.state _ _ _ c.next_into.ensures.count c.next.ensures.count c.args.forward.now c.args.check_names c.args.given (is_some c.args.names.now) c.next_into.new.copy first
     (none.end first.last refl)
 
 pub returns-in_err-matched-in-Ok-Some-clause-fault : goal.returns-in_err-matched-in-Ok-Some-clause-fault
@@ -47,5 +47,5 @@ returns-in_err-matched-in-Ok-Some-clause-fault g c =
     let two = rw c.in-Ok-Some.field-0-is at c.in-Ok-Some.ensures in
     let pair = c.in_err-matched-in-Ok-Some.ensures in
     let p = err_from_is_err_and c.from_residual.result c.from_residual.ensures.1 in
-    rw (p.1, p.2) (names_differ g.F.Feed.state _ _ _ c.next_into.ensures.count c.next.ensures.count c.args.forward.now c.args.check_names c.args.given c.args.has_pair.now f first
+    rw (p.1, p.2) (names_differ g.F.Feed.state _ _ _ c.next_into.ensures.count c.next.ensures.count c.args.forward.now c.args.check_names c.args.given (is_some c.args.names.now) f first
     c.in-Ok-Some.second _ pair.err (two.found first.last) (sym pair.names))

@@ -1,6 +1,7 @@
 -- Each pair that is read goes to the block's texts and tally, until one is refused or there is none.
-use Rattle.std.proofs.Common.{is_some, arith, refl}
-use Rattle.fq_serial.proofs.WalkLemmas.{is_in_hand, of_in_hand}
+use Rattle.std.proofs.Common.{◌≡◌, is_some, arith, refl}
+use Rattle.fq_pair.specs.Mates.{name_lengths}
+use Rattle.fq_serial.proofs.WalkLemmas.{is_in_hand, of_in_hand, if_in_hand}
 use Rattle.fq_serial.proofs.GatherLemmas.{gathered_none, gathered_more, gathered_few, gathers_full, gathers_end, gathers_fault, gathers_refused, err_says, ok_says}
 use Rattle.fq_serial.proofs.gathering.gather.Goals as goal
 
@@ -12,8 +13,16 @@ pair_in_hand-pair-requires g c = let i = c.loop.invariant in let goes = i.goes i
     let asked = rw c.in-Ok-true.field-0-test at c.in-Ok-true.ensures in
     is_in_hand _ _ (asked.advances goes.last)
 
-pub add-requires : goal.add-requires
-add-requires g c = let few = gathered_few (is_some c.args.done.now.tally) c.args.steps.now _ _ _ _ c.loop.invariant in omega arith
+pub names_in_hand-names-requires : goal.names_in_hand-names-requires
+names_in_hand-names-requires g c = let i = c.loop.invariant in let goes = i.goes in
+    let asked = rw c.in-Ok-true.field-0-test at c.in-Ok-true.ensures in
+    is_in_hand _ _ (asked.advances goes.last)
+
+pub add-requires-clause-names : goal.add-requires-clause-names
+add-requires-clause-names g c = if_in_hand _ _ (λ m. c.names_in_hand-names.result ≡ name_lengths m) c.pair_in_hand-pair.ensures c.names_in_hand-names.ensures
+
+pub add-requires-clause-room : goal.add-requires-clause-room
+add-requires-clause-room g c = let few = gathered_few (is_some c.args.done.now.tally) c.args.steps.now _ _ _ _ c.loop.invariant in omega arith
 
 pub returns-then-is_err : goal.returns-then-is_err
 returns-then-is_err g c = let i = c.loop.invariant in let goes = i.goes in

@@ -1,14 +1,17 @@
-use Rattle.std.proofs.Common.{◌<◌, [], ◌∷◌, ◌++◌, is_some, length, take, ap, sym, ◌∙◌, arith}
+use Rattle.std.proofs.Common.{◌≡◌, ◌<◌, Option, IfSome, subst, [], ◌∷◌, ◌++◌, is_some, length, take, ap, sym, ◌∙◌, arith}
 use Rattle.std.proofs.lemmas.List.{take_more, length-take}
 use Rattle.std.proofs.lemmas.Option.{get_or_from_slice_get}
-use Rattle.fq_pair.specs.Mates.{Mates, mates_in}
+use Rattle.fq_pair.specs.Mates.{Mates, mates_in, name_lengths}
 use Rattle.fq_work.specs.declared.done.Done.{Done}
 use Rattle.fq_work.specs.Replies.{made_of, with_mates}
 use Rattle.fq_work.proofs.WorkLemmas.{made_more}
 use Rattle.fq_work.proofs.trimming.add_pairs.Goals as goal
 
-pub add-requires : goal.add-requires
-add-requires c = omega (arith, ap (λ (d : Done). d.texts.counts.pairs) c.loop-i.invariant, length-take c.loop-i.i c.args.block.now.pairs, c.len-i-end.ensures.limit)
+pub add-requires-clause-names : goal.add-requires-clause-names
+add-requires-clause-names c = subst (λ (o : Option Mates). IfSome o (λ m. c.names.result ≡ name_lengths m)) c.pair.ensures c.names.ensures
+
+pub add-requires-clause-room : goal.add-requires-clause-room
+add-requires-clause-room c = omega (arith, ap (λ (d : Done). d.texts.counts.pairs) c.loop-i.invariant, length-take c.loop-i.i c.args.block.now.pairs, c.len-i-end.ensures.limit)
 
 pub loop-i-preserved : goal.loop-i-preserved
 loop-i-preserved c =
