@@ -1,6 +1,6 @@
-# Completion of fq_prog for bash: commands, options, encodings, file names, and behind the files the steps.
+# Completion of fq_prog and tibzharuk for bash: commands, options, encodings, file names, and after the files the steps.
 
-# Sets `place` to the number of files and steps before the word at the cursor, and `command` to the command.
+# Sets `place` to the number of files and steps before the cursor, and `command` to the command.
 _fq_prog_place() {
   local at word
   place=0
@@ -8,8 +8,8 @@ _fq_prog_place() {
   for ((at = 1; at < COMP_CWORD; at++)); do
     word=${COMP_WORDS[at]}
     case $word in
-      --threads | --block | --depth | --chunk | --encoding | --trimlog)
-        # The value is a word of its own, or stands behind a =, which bash takes for a word too.
+      --threads | --block | --depth | --chunk | --encoding | --trimlog | --report)
+        # The value is the next word, or comes after a =, which bash takes for a word too.
         if [ "${COMP_WORDS[at + 1]-}" = = ]; then at=$((at + 1)); fi
         at=$((at + 1))
         ;;
@@ -58,4 +58,4 @@ _fq_prog() {
   fi
 }
 
-complete -F _fq_prog fq_prog
+complete -F _fq_prog fq_prog tibzharuk

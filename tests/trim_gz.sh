@@ -1,6 +1,6 @@
 #!/usr/bin/env bash
 # Runs contrib/trim_gz on good and on bad compressed files, and compares outputs, status and lines with the program over plain files.
-# FQ_PROG names another build of the program.
+# FQ_PROG names another build of the program. A row whose tool isn't installed is skipped, and says so.
 set -u
 program=${FQ_PROG:+$(realpath -- "$FQ_PROG")}
 cd "$(dirname "$0")/.." || exit 1
@@ -52,12 +52,12 @@ earlier() {
   echo earlier > "$work/out/u2.fq.gz"
 }
 
-# no_rest: no pipe, no hidden file and no process is left
+# no_rest: no temporary file, no hidden file and no process is left
 no_rest() {
   [ -z "$(ls -A "$TMPDIR")" ] || fail "left in the temporary folder: $(ls -A "$TMPDIR")"
   rm -rf "${TMPDIR:?}"/*
   [ -z "$(find "$work" -name '.*trim_gz*')" ] || fail 'a hidden file is left'
-  [ -z "$(find /proc/[0-9]*/fd -lname "$TMPDIR/*" 2> /dev/null)" ] || fail 'a process is left'
+  [ -z "$(find /proc/[0-9]*/fd -lname "$work/out/*" 2> /dev/null)" ] || fail 'a process is left'
 }
 
 # Outputs as before the run.
@@ -98,16 +98,17 @@ made() {
 }
 
 # as_plain NAME..: these outputs are those of the program over plain files
+plain=$work/plain
 as_plain() {
   local name
   for name; do
     if [ -e "$work/out/$name.gz" ]; then
-      gzip -dc "$work/out/$name.gz" 2>&1 | cmp -s - "$work/plain/$name" || fail "$name.gz is not as over plain files"
+      gzip -dc "$work/out/$name.gz" 2>&1 | cmp -s - "$plain/$name" || fail "$name.gz is not as over plain files"
     else
-      cmp -s "$work/out/$name" "$work/plain/$name" || fail "$name is not as over plain files"
+      cmp -s "$work/out/$name" "$plain/$name" || fail "$name is not as over plain files"
     fi
   done
-  cmp -s "$work/printed" "$work/plain/summary" || fail 'the summary is not as over plain files'
+  cmp -s "$work/printed" "$plain/summary" || fail 'the summary is not as over plain files'
 }
 
 # same_report FILE: it is that of the program over plain files, but for the names of the files
@@ -133,10 +134,30 @@ for name in p1.fq u1.fq p2.fq u2.fq log report; do
   [ -s "$work/plain/$name" ] || fail "$name is empty"
 done
 
-# The same tools, but no pigz.
-for tool in bash gzip cat cp grep head od mkfifo mktemp rm mv chmod dirname basename realpath sync sleep sed tail; do
-  ln -s "$(command -v "$tool")" "$work/bin/$tool"
-done
+# Few tools: neither bgzip nor pigz.
+ln -s "$(python3 -c 'import sys; print(sys.executable)')" "$work/bin/python3"
+for tool in env sh bash gzip cat; do ln -s "$(command -v "$tool")" "$work/bin/$tool"; done
+
+# has TOOL PACKAGE: whether it is installed; else the row is skipped
+has() {
+  command -v "$1" > /dev/null && return
+  echo "trim_gz: skipped: $row: $1 is not installed (apt-get install $2)"
+  return 1
+}
+decompressors=(gzip)
+row='files that bgzip decompresses'
+if has bgzip tabix; then decompressors+=(bgzip); fi
+
+# damaged FILE WHY WORDS..: the input can't be decompressed: status 3 and one line, by each decompressor
+damaged() {
+  local file=$1 why=$2 by was=$row
+  shift 2
+  for by in "${decompressors[@]}"; do
+    row="$was, $by"
+    refused 3 "trim_gz: cannot read $file: $why" --decompressor "$by" "$@"
+  done
+  row=$was
+}
 
 good_runs() {
   row="two files, $1"
@@ -158,14 +179,26 @@ good_runs() {
   as_plain p1.fq u1.fq p2.fq u2.fq log
 }
 
-if command -v pigz > /dev/null; then
-  good_runs pigz
-else
-  echo 'trim_gz: skipped: compressing with pigz, which is not installed (apt-get install pigz)'
-fi
+good_runs 'the default'
 tools=$work/bin
-good_runs gzip
+good_runs 'gzip alone'
 tools=$PATH
+for each in bgzip:tabix pigz:pigz igzip:isal gzip:gzip; do
+  row='compressing'
+  has "${each%:*}" "${each#*:}" || continue
+  row="compressing by ${each%:*}"
+  made --compressor "${each%:*}" "${both[@]}" "${outputs[@]}" --trimlog out/log.gz --threads 5 --level 9 "${last[@]}"
+  as_plain p1.fq u1.fq p2.fq u2.fq log
+done
+
+row='what compresses by default'
+made "${both[@]}" "${rest[@]}"
+first=$(od -An -tx1 -j 12 -N 2 "$work/out/p1.fq.gz")
+if command -v bgzip > /dev/null; then
+  [ "$first" = ' 42 43' ] || fail "not by bgzip: $first"
+else
+  [ "$first" != ' 42 43' ] || fail 'by bgzip, which is not installed'
+fi
 
 row='plain and compressed inputs, plain outputs, an older summary'
 cp b1.gz b1.compressed
@@ -203,6 +236,46 @@ gzip < /dev/null > none2.gz
 made -1 data/a1.short.gz -1 data/none1.gz -1 data/b1.members.gz -2 data/members.gz -2 data/none2.gz -2 data/empty "${rest[@]}"
 as_plain p1.fq u1.fq p2.fq u2.fq
 
+# late NAME FILE [SECONDS]: a named pipe whose writer comes a second later, or after so many
+writers=()
+late() {
+  rm -f "$1"
+  mkfifo "$1"
+  { sleep "${3-1}" && cat "$2" > "$1"; } &
+  writers+=("$!")
+}
+
+# all_late: the writers have ended
+all_late() {
+  kill "${writers[@]}" 2> /dev/null && fail 'a pipe was not read'
+  wait "${writers[@]}" 2> /dev/null
+  writers=()
+}
+
+row='named pipes whose writers come a second later'
+for ending in '' .gz; do
+  late "late1$ending" "f$ending"
+  late "late2$ending" "r$ending"
+  made -1 "data/late1$ending" -2 "data/late2$ending" "${rest[@]}"
+  as_plain p1.fq u1.fq p2.fq u2.fq
+  all_late
+  late "late1$ending" "i$ending"
+  made -i "data/late1$ending" "${rest[@]}"
+  as_plain p1.fq u1.fq p2.fq u2.fq
+  all_late
+done
+row='compressed text in a named pipe of another name, and a lane that comes late'
+late late1 b1.gz
+late late2 b2
+made -1 data/a1.gz -1 data/late1 -2 data/a2 -2 data/late2 "${rest[@]}"
+as_plain p1.fq u1.fq p2.fq u2.fq
+all_late
+row='a truncated text in a late named pipe'
+head -c 3000 f.gz > f.head.gz
+late late1.gz f.head.gz
+refused 3 'trim_gz: cannot read data/late1.gz: unexpected end of file' -1 data/late1.gz -2 data/r.gz "${rest[@]}"
+all_late
+
 row='a fault within a lane that ends without a line feed'
 head -c -20 a1 | gzip > a1.cut.gz
 refused 3 'trim_gz: input: forward record 1500: BadQuality (data/a1.cut.gz data/b1.gz)' -1 data/a1.cut.gz -1 data/b1.gz -2 data/a2.gz -2 data/b2.gz "${rest[@]}"
@@ -217,69 +290,91 @@ refused 4 'trim_gz: cannot read data' -1 data -2 data/r.gz "${rest[@]}"
 row='compressed files without a byte'
 : > nothing1.gz
 : > nothing2.gz
-refused 4 'trim_gz: cannot read data/nothing1.gz: unexpected end of file' -1 data/nothing1.gz -2 data/nothing2.gz "${rest[@]}"
+damaged data/nothing1.gz 'unexpected end of file' -1 data/nothing1.gz -2 data/nothing2.gz "${rest[@]}"
 
 row='plain text under a compressed name'
 cp f text.gz
-refused 3 'trim_gz: cannot read data/text.gz: not in gzip format; input: forward record 1: MateMissing (data/text.gz)' \
-  -1 data/text.gz -2 data/r.gz "${rest[@]}"
+damaged data/text.gz 'not in gzip format' -1 data/text.gz -2 data/r.gz "${rest[@]}"
 
 row='truncated in a record'
 { head -n 1843 f; sed -n 1844p f | head -c 40; } > f.part
 { gzip < f.part; gzip < b1 | head -c 12; } > f.cut.gz
-refused 3 'trim_gz: cannot read data/f.cut.gz: unexpected end of file; input: forward record 461: QualityShort (data/f.cut.gz)' \
-  -1 data/f.cut.gz -2 data/r.gz "${rest[@]}"
+damaged data/f.cut.gz 'unexpected end of file' -1 data/f.cut.gz -2 data/r.gz "${rest[@]}"
 
 row='truncated anywhere'
 head -c "$(($(stat -c %s r.gz) / 2))" r.gz > r.half.gz
-earlier
-(cd "$work" && trimmed -1 data/f.gz -2 data/r.half.gz "${rest[@]}") > "$work/printed" 2> "$work/told"
-[ $? -eq 3 ] || fail 'the status is not 3'
-grep -qE '^trim_gz: cannot read data/r.half.gz: unexpected end of file; input: reverse record [0-9]+: [A-Za-z]+ \(data/r.half.gz\)$' "$work/told" ||
-  fail "it says $(cat "$work/told")"
-untouched
+damaged data/r.half.gz 'unexpected end of file' -1 data/f.gz -2 data/r.half.gz "${rest[@]}"
 
 row='truncated between two records, on both sides alike'
 for side in f r; do
   { head -n 4000 "$side" | gzip; tail -n +4001 "$side" | gzip | head -c 12; } > "$side.between.gz"
 done
-refused 4 'trim_gz: cannot read data/f.between.gz: unexpected end of file' -1 data/f.between.gz -2 data/r.between.gz "${rest[@]}"
+damaged data/f.between.gz 'unexpected end of file' -1 data/f.between.gz -2 data/r.between.gz "${rest[@]}"
 
 row='the last bytes of both files are missing, behind all records'
 for side in f r; do head -c -4 "$side.gz" > "$side.trailer.gz"; done
-refused 4 'trim_gz: cannot read data/f.trailer.gz: unexpected end of file' -1 data/f.trailer.gz -2 data/r.trailer.gz "${rest[@]}"
+damaged data/f.trailer.gz 'unexpected end of file' -1 data/f.trailer.gz -2 data/r.trailer.gz "${rest[@]}"
 
 row='truncated between two records, in one of two lanes'
 { cat a1.gz; head -c 12 b1.gz; } > a1.more.gz
-refused 4 'trim_gz: cannot read data/a1.more.gz: unexpected end of file' -1 data/b1.gz -1 data/a1.more.gz -2 data/b2.gz -2 data/a2.gz "${outputs[@]}" \
+damaged data/a1.more.gz 'unexpected end of file' -1 data/b1.gz -1 data/a1.more.gz -2 data/b2.gz -2 data/a2.gz "${outputs[@]}" \
   "${last[@]}"
 
 row='truncated between two pairs of an interleaved file'
 { head -n 8000 i | gzip; tail -n +8001 i | gzip | head -c 12; } > i.between.gz
-refused 4 'trim_gz: cannot read data/i.between.gz: unexpected end of file' -i data/i.between.gz "${rest[@]}"
+damaged data/i.between.gz 'unexpected end of file' -i data/i.between.gz "${rest[@]}"
 
 row='damaged in the middle'
 cp f.gz f.damaged.gz
 printf 'damaged damaged damaged' | dd of=f.damaged.gz bs=1 seek=$(($(stat -c %s f.gz) / 2)) conv=notrunc 2> /dev/null
-earlier
-(cd "$work" && trimmed -1 data/f.damaged.gz -2 data/r.gz "${rest[@]}") > "$work/printed" 2> "$work/told"
-[ $? -eq 3 ] || fail 'the status is not 3'
-if [ "$(wc -l < "$work/told")" -ne 1 ] || ! grep -q '^trim_gz: .*data/f\.damaged\.gz' "$work/told"; then
-  fail "it says $(cat "$work/told")"
-fi
-untouched
+for by in "${decompressors[@]}"; do
+  for _ in 1 2 3; do
+    earlier
+    (cd "$work" && trimmed --decompressor "$by" -1 data/f.damaged.gz -2 data/r.gz "${rest[@]}") > "$work/printed" 2> "$work/told"
+    [ $? -eq 3 ] || fail "$by: the status is not 3"
+    grep -qx 'trim_gz: cannot read data/f\.damaged\.gz: invalid compressed data--\(crc error\|format violated\)' "$work/told" || fail "$by: it says $(cat "$work/told")"
+    untouched
+  done
+done
 
 row='a check sum that is wrong, behind all records'
 cp r.gz r.sum.gz
 printf 'sums' | dd of=r.sum.gz bs=1 seek=$(($(stat -c %s r.gz) - 8)) conv=notrunc 2> /dev/null
-refused 4 'trim_gz: cannot read data/r.sum.gz: invalid compressed data--crc error' -1 data/f.gz -2 data/r.sum.gz "${rest[@]}"
+damaged data/r.sum.gz 'invalid compressed data--crc error' -1 data/f.gz -2 data/r.sum.gz "${rest[@]}"
 
 row='members that are no gzip, on both sides alike'
 for side in f r; do
   { head -n 4000 "$side" | gzip; printf 'x'; tail -n +4001 "$side" | gzip; } > "$side.member.gz"
 done
-refused 4 'trim_gz: cannot read data/f.member.gz: decompression OK, trailing garbage ignored' -1 data/f.member.gz -2 data/r.member.gz "${outputs[@]}" \
+damaged data/f.member.gz 'decompression OK, trailing garbage ignored' -1 data/f.member.gz -2 data/r.member.gz "${outputs[@]}" \
   "${last[@]}"
+
+# loses TOOL FILE: this decompressor ends well on this file, and leaves out a part of the text
+loses() {
+  local package=isal
+  [ "$1" = igzip ] || package=$1
+  has "$1" "$package" || return 0
+  if "$1" -dc < "$2" 2> /dev/null > "$work/text" && ! cmp -s "$work/text" f; then return 0; fi
+  echo "trim_gz: $row: this $1 doesn't end well on $2; others do"
+}
+
+# These are why pigz and igzip never decompress.
+row='damage that pigz and igzip end well on'
+gzip -n < a1 > first.gz
+gzip -n < b1 > second.gz
+{ cat first.gz && printf '\036' && tail -c +2 second.gz; } > magic.gz
+{ cat first.gz && head -c 512 /dev/zero && cat second.gz; } > zeros.gz
+{ cat first.gz && head -c 5 second.gz; } > header.gz
+for each in magic zeros header; do
+  loses pigz $each.gz
+  [ $each = header ] || loses igzip $each.gz
+done
+damaged data/magic.gz 'decompression OK, trailing garbage ignored' -1 data/magic.gz -2 data/r.gz "${rest[@]}"
+damaged data/zeros.gz 'decompression OK, trailing garbage ignored' -1 data/zeros.gz -2 data/r.gz "${rest[@]}"
+damaged data/header.gz 'unexpected end of file' -1 data/header.gz -2 data/r.gz "${rest[@]}"
+damaged data/header.gz 'unexpected end of file' -1 data/header.gz -2 data/a2.gz "${rest[@]}"
+refused 1 'trim_gz: --decompressor is one of auto, bgzip, gzip, not pigz' --decompressor pigz "${both[@]}" "${rest[@]}"
+refused 1 'trim_gz: --decompressor is one of auto, bgzip, gzip, not igzip' --decompressor igzip "${both[@]}" "${rest[@]}"
 
 row='mates that are missing'
 refused 3 'trim_gz: input: reverse record 1501: MateMissing (data/a2.gz)' -1 data/f.gz -2 data/a2.gz "${rest[@]}"
@@ -333,12 +428,15 @@ row='an output in a folder that is not there'
 refused 4 'trim_gz: cannot write no/log' "${both[@]}" "${outputs[@]}" --trimlog no/log "${last[@]}"
 refused 4 'trim_gz: cannot write no/report' "${both[@]}" "${outputs[@]}" --report no/report "${last[@]}"
 
-row='no place for the pipes'
-earlier
-(cd "$work" && TMPDIR=$work/nowhere trimmed "${both[@]}" "${rest[@]}") > "$work/printed" 2> "$work/told"
-[ $? -eq 4 ] || fail 'the status is not 4'
-[ "$(cat "$work/told")" = 'trim_gz: cannot make a temporary folder' ] || fail "it says $(cat "$work/told")"
-untouched
+row='no place for temporary files'
+(
+  export TMPDIR=/nowhere
+  failed=0
+  rm -rf "$work/out" && mkdir "$work/out"
+  (cd "$work" && trimmed "${both[@]}" "${rest[@]}") > "$work/printed" 2>&1 || fail "$(cat "$work/printed")"
+  as_plain p1.fq u1.fq p2.fq u2.fq
+  exit "$failed"
+) || failed=1
 
 row='the summary into the file of the log'
 earlier
@@ -369,12 +467,21 @@ if [ -w /dev/full ]; then
   refused 4 'trim_gz: write failed: report (/dev/full)' "${both[@]}" "${outputs[@]}" --report /dev/full "${last[@]}"
   row='a full device behind a compressor'
   ln -s /dev/full full.gz
+  # full LINE WORDS..
   full() {
-    refused 4 "$1" "${both[@]}" --paired1 out/x.gz --unpaired1 out/y.gz --paired2 out/z.gz --unpaired2 data/full.gz "${last[@]}"
-    refused 4 "$1" "${both[@]}" --paired1 data/full.gz --unpaired1 out/y.gz --paired2 out/z.gz --unpaired2 out/x "${last[@]}"
+    local line=$1
+    shift
+    refused 4 "$line" "$@" "${both[@]}" --paired1 out/x.gz --unpaired1 out/y.gz --paired2 out/z.gz --unpaired2 data/full.gz "${last[@]}"
+    refused 4 "$line" "$@" "${both[@]}" --paired1 data/full.gz --unpaired1 out/y.gz --paired2 out/z.gz --unpaired2 out/x "${last[@]}"
   }
-  if command -v pigz > /dev/null; then
-    full 'trim_gz: cannot write data/full.gz: write error on <stdout> (No space left on device)'
+  if has pigz pigz; then
+    full 'trim_gz: cannot write data/full.gz: write error on <stdout> (No space left on device)' --compressor pigz
+  fi
+  if has bgzip tabix; then
+    full 'trim_gz: cannot write data/full.gz: write error: No space left on device' --compressor bgzip
+  fi
+  if has igzip isal; then
+    full 'trim_gz: cannot write data/full.gz: write error: No space left on device' --compressor igzip
   fi
   tools=$work/bin
   full 'trim_gz: cannot write data/full.gz: stdout: No space left on device'
@@ -465,7 +572,13 @@ stopped() {
 }
 
 row='Ctrl-C'
-stopped INT 130 -
+# A script's background jobs ignore SIGINT, and so would the run. The first number of SigIgn has it as bit 2.
+ignored=$(sed -n 's/^SigIgn:[[:space:]]*//p' /proc/self/status)
+if ((0x${ignored: -1} & 2)); then
+  echo 'trim_gz: skipped: Ctrl-C, as SIGINT is ignored here (run in the foreground)'
+else
+  stopped INT 130 -
+fi
 row='ended by SIGTERM'
 stopped TERM 143 ''
 
@@ -476,7 +589,7 @@ if command -v pgrep > /dev/null; then
   (cd "$work" && exec "$script" --program "$program" -1 "$work/data/endless" -2 data/r.gz "${rest[@]}") > "$work/printed" 2> "$work/told" &
   pid=$!
   for _ in {1..200}; do
-    victim=$(pgrep -f -x -- "gzip -dcf -- $work/data/endless")
+    victim=$(pgrep -P "$pid" -f -x -- 'gzip -dcf')
     [ -n "$victim" ] && break
     sleep 0.05
   done
@@ -484,10 +597,158 @@ if command -v pgrep > /dev/null; then
   wait "$pid"
   [ $? -eq 3 ] || fail 'the status is not 3'
   kill "$fed"
-  grep -q "^trim_gz: cannot read $work/data/endless: ended by SIGKILL; input: forward record [0-9]*: " "$work/told" || fail "it says $(cat "$work/told")"
+  [ "$(cat "$work/told")" = "trim_gz: cannot read $work/data/endless: ended by SIGKILL" ] || fail "it says $(cat "$work/told")"
   untouched
 else
   echo 'trim_gz: skipped: a decompressor that is killed, as there is no pgrep (apt-get install procps)'
+fi
+
+row='the report names the files of the call'
+# named REPORT JSON: its inputs and outputs
+named() {
+  [ "$(python3 -c 'import json, sys; r = json.load(open(sys.argv[1])); print(json.dumps([r["command"], r["inputs"], r["outputs"]], sort_keys=True))' "$1")" = "$2" ] ||
+    fail "it names others: $(cut -c 1-600 "$1")"
+}
+made "${both[@]}" "${outputs[@]}" --report out/report --trimlog out/log "${last[@]}"
+as_outputs='{"forward_paired": "out/p1.fq.gz", "forward_unpaired": "out/u1.fq.gz", "reverse_paired": "out/p2.fq.gz", "reverse_unpaired": "out/u2.fq.gz", "trim_log":'
+named "$work/out/report" "[\"PE\", {\"forward\": \"data/f.gz\", \"reverse\": \"data/r.gz\"}, $as_outputs \"out/log\"}]"
+made -1 data/a1.gz -1 data/b1.gz -2 data/a2.gz -2 data/b2.gz "${outputs[@]}" --report out/report "${last[@]}"
+named "$work/out/report" "[\"PE\", {\"forward\": [\"data/a1.gz\", \"data/b1.gz\"], \"reverse\": [\"data/a2.gz\", \"data/b2.gz\"]}, $as_outputs null}]"
+made -i data/i.gz "${outputs[@]}" --report out/report "${last[@]}"
+named "$work/out/report" "[\"IL\", {\"interleaved\": \"data/i.gz\"}, $as_outputs null}]"
+
+row='a link, and a copy that finds its parts'
+mkdir "$work/copy" "$work/links"
+cp -r "$(dirname "$script")/trim_gz" "$(dirname "$script")/trim_gz_parts" "$work/copy"
+ln -s ../copy/trim_gz "$work/links/trim_gz"
+ln -s trim_gz "$work/links/tibzharuk-gz"
+real=$script
+script=$work/links/tibzharuk-gz
+made "${both[@]}" "${rest[@]}"
+as_plain p1.fq u1.fq p2.fq u2.fq
+[ ! -e "$work/copy/trim_gz_parts/__pycache__" ] || fail 'it leaves files beside its parts'
+cp "$real" "$work/links/alone"
+[ "$("$work/links/alone" --help 2>&1)" = "trim_gz: there is no folder trim_gz_parts beside $work/links/alone (make a link to it, not a copy)" ] ||
+  fail 'a copy without its parts does not say so'
+
+row='a page of the report'
+refused 1 'trim_gz: no program report_to_html (--html)' "${both[@]}" "${outputs[@]}" --html out/page.html "${last[@]}"
+cat > "$work/links/tibzharuk-report" <<'END'
+#!/bin/sh
+cat "$3" > "$0.got"
+[ ! -e "$0.fails" ] || { echo 'report_to_html: no page today' >&2; exit 1; }
+echo "page of $2"
+END
+chmod +x "$work/links/tibzharuk-report"
+tools=$work/links:$PATH
+made "${both[@]}" "${outputs[@]}" --html out/s1.html --report out/report "${last[@]}"
+[ "$(cat "$work/out/s1.html")" = 'page of s1' ] || fail "the page is $(cat "$work/out/s1.html")"
+cmp -s "$work/out/report" "$work/links/tibzharuk-report.got" || fail 'the page is of another report'
+made "${both[@]}" "${outputs[@]}" --html out/s1.html.gz "${last[@]}"
+[ "$(gzip -dc "$work/out/s1.html.gz")" = 'page of s1' ] || fail 'no page without a report'
+same_report "$work/links/tibzharuk-report.got"
+: > "$work/links/tibzharuk-report.fails"
+refused 4 'trim_gz: cannot write out/page.html: report_to_html: no page today' "${both[@]}" "${outputs[@]}" --html out/page.html "${last[@]}"
+tools=$PATH
+script=$real
+if [ -x "${script%/*}/report_to_html" ]; then
+  made "${both[@]}" "${outputs[@]}" --html out/s1.html "${last[@]}"
+  grep -q '<title>s1' "$work/out/s1.html" || fail 'the page has no title'
+else
+  echo 'trim_gz: skipped: the page itself, as there is no contrib/report_to_html'
+fi
+
+row='progress on a terminal'
+if has script bsdutils; then
+  late late1 f 3
+  (cd "$work" && rm -rf out && mkdir out && script -qec \
+    "'$script' --program '$program' -1 data/late1 -2 data/a2.gz ${outputs[*]} ${last[*]}" /dev/null < /dev/null) > "$work/printed" 2>&1
+  all_late
+  wiped=$'\r\033[K'
+  [[ $(cat "$work/printed") == *"${wiped}trim_gz: "*" %, "*"$wiped"'trim_gz: input: reverse record 1501: MateMissing (data/a2.gz)'* ]] ||
+    fail "it says $(cat -v "$work/printed")"
+fi
+
+# Adapters in each fifth read, which cutadapt removes first.
+adapters=AGATCGGAAGAGCACACGTCTGAACTCCAGTCA,AGATCGGAAGAGCGTCGTGTAGGGAAAGAGTGT
+with_adapters() {
+  awk -v adapter="$2" 'NR % 4 == 2 && int(NR / 4) % 5 == 0 { n = 20 + NR % 70; $0 = substr(substr($0, 1, n) adapter $0, 1, 100) } { print }' "$1"
+}
+row='adapters'
+if has cutadapt cutadapt; then
+  for each in a1 b1; do with_adapters $each "${adapters%,*}" > "x$each"; done
+  for each in a2 b2; do with_adapters $each "${adapters#*,}" > "x$each"; done
+  cat xa1 xb1 > xf
+  cat xa2 xb2 > xr
+  paste -d '\n' <(paste - - - - < xf) <(paste - - - - < xr) | tr '\t' '\n' > xi
+  for each in xa1 xb1 xa2 xb2 xi; do gzip -1 < $each > $each.gz; done
+  printf '>one\n%s\n>two\n%s\n' "${adapters%,*}" "${adapters#*,}" > adapters.fa
+  plain=$work/cut
+  mkdir "$plain"
+  # cut_plainly WORDS..: what cutadapt and the program make of plain files, one after the other
+  cut_plainly() {
+    cutadapt --interleaved --json "$plain/json" -o "$plain/il" "$@" xf xr > "$plain/text" || fail 'cutadapt alone'
+    "$program" IL --trimlog "$plain/log" "$plain/il" "$plain/p1.fq" "$plain/u1.fq" "$plain/p2.fq" "$plain/u2.fq" "${steps[@]}" > "$plain/summary" ||
+      fail 'the program on what cutadapt made'
+  }
+  cut_plainly -a "${adapters%,*}" -A "${adapters#*,}"
+  cmp -s "$plain/p1.fq" "$work/plain/p1.fq" && fail 'no adapter was removed'
+  lanes=(-1 data/xa1.gz -1 data/xb1.gz -2 data/xa2.gz -2 data/xb2.gz)
+  made "${lanes[@]}" "${outputs[@]}" --adapters "$adapters" --trimlog out/log --cutadapt-report out/json --cutadapt-log out/text --report out/report "${last[@]}"
+  as_plain p1.fq u1.fq p2.fq u2.fq log
+  named "$work/out/report" "[\"PE\", {\"forward\": [\"data/xa1.gz\", \"data/xb1.gz\"], \"reverse\": [\"data/xa2.gz\", \"data/xb2.gz\"]}, $as_outputs \"out/log\"}]"
+  python3 - "$work/out/json" "$plain/json" <<'END' || fail 'the report of cutadapt has other counts or names'
+import json, sys
+ours, plain = (json.load(open(name)) for name in sys.argv[1:])
+assert ours["input"] == {"path1": "data/xa1.gz data/xb1.gz", "path2": "data/xa2.gz data/xb2.gz", "paired": True}, ours["input"]
+for each in "read_counts", "basepair_counts", "adapters_read1", "adapters_read2":
+    assert ours[each] == plain[each], each
+END
+  [ "$(sed '1,/=== Summary/d' "$work/out/text")" = "$(sed '1,/=== Summary/d' "$plain/text")" ] || fail 'the log of cutadapt is another one'
+  grep -q '^Command line parameters: .* data/xa1.gz data/xb1.gz data/xa2.gz data/xb2.gz$' "$work/out/text" || fail 'the log of cutadapt names other files'
+  row='adapters, an interleaved file'
+  made -i data/xi.gz "${outputs[@]}" --adapters "$adapters" --threads 1 "${last[@]}"
+  as_plain p1.fq u1.fq p2.fq u2.fq
+  row='adapters of a file, and options'
+  cut_plainly -a file:adapters.fa -A file:adapters.fa -e 0.2 -O 5 -m 30
+  made "${lanes[@]}" "${outputs[@]}" --adapters data/adapters.fa --cutadapt '-e 0.2 -O 5 -m 30' "${last[@]}"
+  as_plain p1.fq u1.fq p2.fq u2.fq
+  row='adapters by options alone'
+  made "${lanes[@]}" "${outputs[@]}" --cutadapt '-a file:data/adapters.fa -A file:data/adapters.fa -e 0.2 -O 5 -m 30' "${last[@]}"
+  as_plain p1.fq u1.fq p2.fq u2.fq
+  plain=$work/plain
+  row='adapters that are refused'
+  refused 4 'trim_gz: cannot read data/none.fa' "${lanes[@]}" --adapters data/none.fa "${rest[@]}"
+  refused 1 'trim_gz: --cutadapt: --info-file=x is not for here' "${lanes[@]}" --cutadapt '-a A --info-file=x' "${rest[@]}"
+  refused 2 'trim_gz: cutadapt: unrecognized arguments: --frob' "${lanes[@]}" --adapters A --cutadapt '--frob' "${rest[@]}"
+  refused 2 'trim_gz: cutadapt: unrecognized arguments: data/xi.gz' -i data/xi.gz --adapters A --cutadapt "data/xf" "${rest[@]}"
+  row='adapters, and a damaged input'
+  damaged data/f.cut.gz 'unexpected end of file' -1 data/f.cut.gz -2 data/r.gz --adapters "$adapters" "${rest[@]}"
+  damaged data/i.between.gz 'unexpected end of file' -i data/i.between.gz --adapters "$adapters" "${rest[@]}"
+  row='adapters, and files that are no mates'
+  refused 3 "trim_gz: cutadapt: Error in sequence file at unknown line: Reads are improperly paired. Read name 'r1/1 lane' in file 1 does not match 'r1501/2 lane' in file 2." \
+    -1 data/f.gz -2 data/b2.gz --adapters "$adapters" "${rest[@]}"
+  row='a process of cutadapt that is killed'
+  if has pgrep procps; then
+    earlier
+    endless xf
+    (cd "$work" && exec "$script" --program "$program" -1 data/endless -2 data/xr --adapters "$adapters" --threads 3 "${rest[@]}") > "$work/printed" 2> "$work/told" &
+    pid=$!
+    victim=
+    for _ in {1..200}; do
+      parent=$(pgrep -P "$pid" -f cutadapt)
+      victim=$([ -z "$parent" ] || pgrep -P "$parent" | tail -n 1)
+      [ -z "$victim" ] || break
+      sleep 0.05
+    done
+    sleep 0.5
+    kill -KILL "$victim"
+    wait "$pid"
+    [ $? -eq 4 ] || fail 'the status is not 4'
+    kill "$fed"
+    [ "$(cat "$work/told")" = 'trim_gz: cutadapt: one of its processes was ended by SIGKILL' ] || fail "it says $(cat "$work/told")"
+    untouched
+  fi
 fi
 
 row='help and version'

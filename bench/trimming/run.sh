@@ -1,11 +1,13 @@
 #!/usr/bin/env bash
-# Times the built program on drawn pairs, beside a loop that only copies lines, threads that only pass pairs on, cat, and the trimmers
-# that are installed.
+# Times the built program on drawn pairs, beside the trimmers that are installed: trim_gz over compressed files, and the program over
+# plain ones, also beside a loop that only copies lines, threads that only pass pairs on, and cat.
 # bench/README.md says what is measured.
 #
 #     bench/trimming/run.sh [MODE] [OPTION]..
 #
-# Modes; without one it prints a row for each tool:
+# Modes; without one it prints what --gz and --plain do:
+#     --gz             from .gz to .gz, with and without adapters, at each tool's own level of compression and at its fastest
+#     --plain          plain files: a row for each tool
 #     --sets           the program and the loop over all data sets, in memory and on the disk: a row for each set
 #     --threads-time   the processor seconds of each of the program's threads
 #     --memory         the program's peak memory at 50,000, 250,000 and 1,000,000 pairs
@@ -13,9 +15,10 @@
 #     --report-time    the program's time with --report beside its time without
 #
 # Options:
-#     --pairs N        pairs of reads (1000000)
+#     --pairs N        pairs of reads (1000000; with --gz 400000)
 #     --rounds N       runs of each row, taken in turn, of which the median is printed (3)
-#     --in PLACE       where inputs and outputs lie: disk (TMPDIR, or /tmp) or memory (/dev/shm); with --sets both, without it the disk
+#     --in PLACE       where inputs and outputs lie: disk (TMPDIR, or /tmp) or memory (/dev/shm). Without it: with --sets both, with --gz
+#                      memory, else the disk
 #     --program PATH   the program that is measured (crates/fq_prog/out/fq_prog)
 #     --serial PATH    the run on one thread, as bench/trimming/serial.sh builds it (no row without it)
 #     --ours           no other trimmer
@@ -23,17 +26,17 @@
 #                      how the reads are drawn, as bench/trimming/pairs.c says (with --sets not looked at)
 #     --help
 #
-# Wants cc, GNU time, taskset and findmnt. Files lie in folders of their own in that place and below TMPDIR, which are removed.
+# Wants cc, GNU time, taskset and findmnt; with --gz also gzip, bgzip and Python 3. Files lie in folders of their own in that place and below TMPDIR, which are removed.
 set -euo pipefail
 export LC_ALL=C
 
 here=$(cd "$(dirname "$0")" && pwd)
 program=$here/../../crates/fq_prog/out/fq_prog
 serial=
-count=1000000
+asked=
 rounds=3
 peers=yes
-mode=tools
+mode=all
 place=
 form=()
 room=
@@ -51,8 +54,8 @@ print_help() {
 
 while [ $# -gt 0 ]; do
     case $1 in
-        --sets | --threads-time | --memory | --block-time | --report-time) mode=${1#--}; shift ;;
-        --pairs) count=${2:?}; shift 2 ;;
+        --gz | --plain | --sets | --threads-time | --memory | --block-time | --report-time) mode=${1#--}; shift ;;
+        --pairs) asked=${2:?}; shift 2 ;;
         --rounds) rounds=${2:?}; shift 2 ;;
         --in) place=${2:?}; shift 2 ;;
         --program) program=${2:?}; shift 2 ;;
@@ -65,6 +68,7 @@ while [ $# -gt 0 ]; do
     esac
 done
 
+count=${asked:-1000000}
 [ -x "$program" ] || stop "no program $program (make build makes it)"
 program=$(realpath "$program")
 built=$(mktemp -d)
@@ -163,14 +167,29 @@ list_rows() {
     peer AdapterRemoval 'AdapterRemoval' run_adapterremoval 1 4
 }
 
-# run_row NUMBER: one run, whose line is added to the file of its row: seconds, processor seconds, kilobytes, pairs kept.
-run_row() {
-    local label threads function kept
-    IFS='|' read -r label threads function <<<"${rows[$1]}"
-    "$function" "$threads"
+# call_row NUMBER: one run. The row's last field is a function and its words behind the threads.
+call_row() {
+    local label threads words
+    IFS='|' read -r label threads words <<<"${rows[$1]}"
+    read -r -a words <<<"$words"
+    "${words[0]}" "$threads" "${words[@]:1}"
     [ "$pairs_read" = "$count" ] || stop "$label read ${pairs_read:-no} pairs, not $count"
-    kept=$(($(wc -l <"$out/fp") / 4))
-    echo "$spent $kept" >>"$room/row.$1"
+}
+
+# pairs_kept: the pairs of which both mates were written
+pairs_kept() {
+    if [ -e "$out/fp" ]; then
+        echo $(($(wc -l <"$out/fp") / 4))
+    else
+        echo $(($(gzip -dc "$out/fp.gz" | wc -l) / 4))
+    fi
+}
+
+# run_row NUMBER: one run, whose line is added to the file of its row: seconds, processor seconds, kilobytes, pairs kept, bytes of compressed
+# reads.
+run_row() {
+    call_row "$1"
+    echo "$spent $(pairs_kept) $(cat "$out"/*.gz 2>/dev/null | wc -c)" >>"$room/row.$1"
 }
 
 # Runs all rows one after the other, and that so many times over.
@@ -215,8 +234,10 @@ print_row() {
                 label, threads, s[1], size / s[1] / 1e6, p[1], memory * 1.024 / 1000, kept, p[1] / p[2], s[1] / s[2], s[1] / s[3], s[1] / s[4] }'
 }
 
-measure_tools() {
+measure_plain() {
     local number
+    rows=()
+    count=${asked:-1000000}
     enter "${place:-disk}"
     draw "${form[@]}"
     list_rows
@@ -227,11 +248,75 @@ measure_tools() {
     for number in "${!rows[@]}"; do
         print_row "$number"
     done
+    print_versions trimmomatic fastp cutadapt sickle bbmap adapterremoval
+}
+
+# print_versions PACKAGE..: those that are installed, and the trimmers that aren't
+print_versions() {
     [ ${#missing[@]} -eq 0 ] || echo "not installed: ${missing[*]}"
     if [ "$peers" = yes ] && type -P dpkg-query >"$built/found"; then
         # shellcheck disable=SC2016  # the fields are dpkg-query's
-        { dpkg-query -W -f '${Package} ${Version}\n' trimmomatic fastp cutadapt sickle bbmap adapterremoval 2>"$built/told" || true; } | awk 'NF == 2'
+        { dpkg-query -W -f '${Package} ${Version}\n' "$@" 2>"$built/told" || true; } | awk 'NF == 2'
     fi
+    missing=()
+}
+
+# list_gz_rows WORD..: the rows of one table, whose functions get these words: `fast`, `adapters`
+list_gz_rows() {
+    local how="$*" label=''
+    [ $# -eq 0 ] || label=$(printf ', %s' "$@")
+    row "trim_gz$label" 4 "gz_ours $how"
+    [ "$peers" = yes ] || return 0
+    peer fastp "fastp$label" "gz_fastp $how" 4
+    peer cutadapt "cutadapt$label" "gz_cutadapt $how" 4
+    [[ $how != *adapters* ]] || peer cutadapt "cutadapt -Z, then trim_gz$label" "gz_two_passes $how" 4
+    [[ $how == *fast* ]] || peer TrimmomaticPE "trimmomatic$label" "gz_trimmomatic $how" 4
+    peer bbduk.sh "bbduk$label" "gz_bbduk $how" 4
+    peer AdapterRemoval "AdapterRemoval$label" "gz_adapterremoval $how" 4
+}
+
+# print_gz_rows TITLE FIRST LAST: a table of these rows. The second one, of fastp, is what the first one is compared with.
+print_gz_rows() {
+    local number label threads function second=$(($2 < $3 ? $2 + 1 : $2))
+    echo
+    echo "$1"
+    echo
+    echo '| Tool | Seconds | Processor seconds | MB out | Peak MB | Pairs kept | Time to the second row | MB out to it |'
+    echo '|---|---|---|---|---|---|---|---|'
+    for ((number = $2; number <= $3; number++)); do
+        with_memory call_row "$number"
+        IFS='|' read -r label threads function <<<"${rows[$number]}"
+        awk -v label="$label" -v peak="$(cat "$room/peak")" -v kept="$(medians 4 "$number")" -v spent="$(medians 2 "$number")" \
+            -v seconds="$(medians 1 "$number" "$second")" -v bytes="$(medians 5 "$number" "$second")" \
+            'BEGIN { split(seconds, s, " "); split(bytes, b, " ")
+                printf "| %s | %.2f | %.1f | %.1f | %.0f | %d | %.2f | %.3f |\n", label, s[1], spent, b[1] / 1e6, peak * 1.024 / 1000, kept, s[1] / s[2], b[1] / b[2] }'
+    done
+}
+
+# measure_gz_data TITLE WORDS: both tables over reads that are drawn with these words: each tool's own level, and its fastest
+measure_gz_data() {
+    local slow word=$2
+    rows=()
+    draw "${form[@]}" ${word:+"--$word"}
+    pack_inputs
+    list_gz_rows ${word:+"$word"}
+    slow=${#rows[@]}
+    list_gz_rows fast ${word:+"$word"}
+    row "trim_gz --level 2${word:+, $word}" 4 "gz_ours level2 $word"
+    row "trim_gz --compressor igzip${word:+, $word}" 4 "gz_ours igzip $word"
+    type -P igzip >"$built/found" || unset 'rows[-1]'
+    run_rows
+    print_gz_rows "$1, each at its own level of compression:" 0 $((slow - 1))
+    print_gz_rows "$1, each at its fastest level:" "$slow" $((${#rows[@]} - 1))
+}
+
+measure_gz() {
+    count=${asked:-400000}
+    enter "${place:-memory}"
+    echo "From .gz to .gz: $count pairs, $kind; 4 threads; median of $rounds; $(print_machine)"
+    measure_gz_data 'Without adapters' ''
+    measure_gz_data 'With adapters in a quarter of the pairs' adapters
+    print_versions tabix isal trimmomatic fastp cutadapt bbmap adapterremoval
 }
 
 sets=(
@@ -351,7 +436,9 @@ measure_beside() {
 }
 
 case $mode in
-    tools) measure_tools ;;
+    all) measure_gz && echo && measure_plain ;;
+    gz) measure_gz ;;
+    plain) measure_plain ;;
     sets) measure_all_sets ;;
     threads-time) measure_threads ;;
     memory) measure_memory ;;

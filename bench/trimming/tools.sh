@@ -7,6 +7,8 @@
 #
 # shellcheck disable=SC2154,SC2034
 
+adapters=(AGATCGGAAGAGCACACGTCTGAACTCCAGTCA AGATCGGAAGAGCGTCGTGTAGGGAAAGAGTGT)
+under=() # a command that runs the command of a row
 clock=$(type -P time) || stop "no GNU time (Debian package time)"
 steps=(LEADING:3 TRAILING:3 SLIDINGWINDOW:4:15 MINLEN:36)
 alone=(taskset -c 0)
@@ -17,11 +19,18 @@ timed() {
     rm -rf "$out" "$room/said" "$room/told"
     mkdir "$out"
     sync -f "$room"
-    if ! { time (cd "$out" && "$clock" -o "$room/clock" -f %M "$@" >"$room/said" 2>"$room/told"); } 2>"$room/took"; then
+    if ! { time (cd "$out" && "$clock" -o "$room/clock" -f %M "${under[@]}" "$@" >"$room/said" 2>"$room/told"); } 2>"$room/took"; then
         tail -n 20 "$room/said" "$room/told" >&2
         stop "failed: $*"
     fi
     spent=$(awk 'NR == FNR { kilobytes = $1; next } { print $1, $2 + $3, kilobytes }' "$room/clock" "$room/took")
+}
+
+# with_memory COMMAND..: a run during which the memory of all its processes is looked at; the most kilobytes come into the file `peak`
+with_memory() {
+    under=(python3 "$here/tree_memory.py" "$room/peak")
+    "$@"
+    under=()
 }
 
 # number_in FILE TEXT: the number behind TEXT.
@@ -121,5 +130,87 @@ run_bbduk() {
 run_adapterremoval() {
     timed AdapterRemoval --threads "$1" --file1 "$forward" --file2 "$reverse" --output1 fp --output2 rp --singleton single \
         --discarded discarded --settings settings --trimqualities --trimwindows 4 --minquality 15 --minlength 36
+    pairs_read=$(number_in "$out/settings" 'Total number of read pairs')
+}
+
+# From .gz to .gz. Each gz_* function takes the threads and then words: `fast`, the fastest level of compression; `adapters`, which are given
+# to it and removed. All reads that are kept are written into files that end in .gz.
+
+# pack_inputs: the drawn files as gzip files of one member, and the adapters in a file
+pack_inputs() {
+    gzip -n <"$forward" >"$forward.gz" &
+    gzip -n <"$reverse" >"$reverse.gz"
+    wait "$!"
+    printf '>adapter/1\n%s\n>adapter/2\n%s\n' "${adapters[@]}" >"$room/adapters.fa"
+}
+
+# given WORD WORDS..: whether it is among them
+given() { [[ " ${*:2} " == *" $1 "* ]]; }
+
+# gz_ours THREADS [fast | level2 | igzip] [adapters]
+gz_ours() {
+    local more=(--threads "$1")
+    ! given fast "$@" || more+=(--level 1)
+    ! given level2 "$@" || more+=(--level 2)
+    ! given igzip "$@" || more+=(--compressor igzip)
+    ! given adapters "$@" || more+=(--adapters "${adapters[0]},${adapters[1]}")
+    timed "$here/../../contrib/trim_gz" --program "$program" "${more[@]}" -1 "$forward.gz" -2 "$reverse.gz" \
+        --paired1 fp.gz --unpaired1 fu.gz --paired2 rp.gz --unpaired2 ru.gz -- "${steps[@]}"
+    pairs_read=$(number_in "$room/said" 'Input Read Pairs')
+}
+
+gz_fastp() {
+    local more=(--disable_adapter_trimming)
+    ! given adapters "$@" || more=(--adapter_sequence "${adapters[0]}" --adapter_sequence_r2 "${adapters[1]}")
+    ! given fast "$@" || more+=(--compression 1)
+    timed fastp --thread "$1" -i "$forward.gz" -I "$reverse.gz" -o fp.gz -O rp.gz --unpaired1 fu.gz --unpaired2 ru.gz --json json --html html \
+        --cut_front --cut_front_window_size 1 --cut_front_mean_quality 3 --cut_tail --cut_tail_window_size 1 --cut_tail_mean_quality 3 \
+        --cut_right --cut_right_window_size 4 --cut_right_mean_quality 15 --length_required 36 \
+        --disable_trim_poly_g --disable_quality_filtering --dont_eval_duplication "${more[@]}"
+    pairs_read=$(($(number_in "$out/json" '"total_reads"') / 2))
+}
+
+gz_cutadapt() {
+    local more=()
+    ! given adapters "$@" || more+=(-a "${adapters[0]}" -A "${adapters[1]}")
+    ! given fast "$@" || more+=(-Z)
+    timed cutadapt --cores "$1" --quality-cutoff 3,15 --minimum-length 36 "${more[@]}" -o fp.gz -p rp.gz "$forward.gz" "$reverse.gz"
+    pairs_read=$(number_in "$room/said" 'Total read pairs processed')
+}
+
+# gz_two_passes THREADS [fast] adapters: what a lab does that stores the reads in between, outside the folder of outputs
+gz_two_passes() {
+    local level=4
+    ! given fast "$@" || level=1
+    # shellcheck disable=SC2016  # they are the shell's that is started
+    timed sh -c 'cutadapt --cores "$1" -a "$2" -A "$3" -Z -o "$4.1.fq.gz" -p "$4.2.fq.gz" "$5" "$6" >/dev/null && shift 3 &&
+        script=$4 program=$5 threads=$6 level=$7 between=$1 && shift 7 &&
+        exec "$script" --program "$program" --threads "$threads" --level "$level" -1 "$between.1.fq.gz" -2 "$between.2.fq.gz" \
+            --paired1 fp.gz --unpaired1 fu.gz --paired2 rp.gz --unpaired2 ru.gz -- "$@"' two_passes \
+        "$1" "${adapters[@]}" "$room/between" "$forward.gz" "$reverse.gz" "$here/../../contrib/trim_gz" "$program" "$1" "$level" "${steps[@]}"
+    pairs_read=$(number_in "$room/said" 'Input Read Pairs')
+}
+
+gz_trimmomatic() {
+    local more=()
+    ! given adapters "$@" || more=("ILLUMINACLIP:$room/adapters.fa:2:30:10")
+    timed TrimmomaticPE -threads "$1" -phred33 "$forward.gz" "$reverse.gz" fp.gz fu.gz rp.gz ru.gz "${more[@]}" "${steps[@]}"
+    pairs_read=$(number_in "$room/told" 'Input Read Pairs')
+}
+
+gz_bbduk() {
+    local more=()
+    ! given adapters "$@" || more+=(ref="$room/adapters.fa" ktrim=r k=23 mink=11 hdist=1 tpe tbo)
+    ! given fast "$@" || more+=(ziplevel=1)
+    timed bbduk.sh threads="$1" in="$forward.gz" in2="$reverse.gz" out=fp.gz out2=rp.gz outs=single.gz qtrim=window,4 trimq=15 minlen=36 ordered=t "${more[@]}"
+    pairs_read=$(($(number_in "$room/told" 'Input') / 2))
+}
+
+gz_adapterremoval() {
+    local more=()
+    ! given adapters "$@" || more+=(--adapter1 "${adapters[0]}" --adapter2 "${adapters[1]}")
+    ! given fast "$@" || more+=(--gzip-level 1)
+    timed AdapterRemoval --threads "$1" --file1 "$forward.gz" --file2 "$reverse.gz" --gzip --output1 fp.gz --output2 rp.gz --singleton single.gz \
+        --discarded /dev/null --settings settings --trimqualities --trimwindows 4 --minquality 15 --minlength 36 "${more[@]}"
     pairs_read=$(number_in "$out/settings" 'Total number of read pairs')
 }

@@ -1,0 +1,130 @@
+"""Adapters, removed by cutadapt in the same pass, before the program trims."""
+
+import json
+import os
+import re
+import shutil
+import time
+
+from .children import make_pipe
+from .faults import Fault, signal_name
+from .files import readable
+
+SEQUENCES = "[ACGTUNRYSWKMBDHVI]+(,[ACGTUNRYSWKMBDHVI]+)?$"
+SECONDS_TO_NOTICE = 3
+
+
+def adapter_options(adapters):
+    """The adapters, as options of cutadapt."""
+    if adapters is None:
+        return []
+    if os.path.exists(adapters):
+        if os.path.isdir(adapters) or not os.access(adapters, os.R_OK):
+            raise Fault(4, f"cannot read {adapters}")
+        return ["-a", f"file:{adapters}", "-A", f"file:{adapters}"]
+    if not re.match(SEQUENCES, adapters, re.I):
+        raise Fault(4, f"cannot read {adapters}")
+    forward, _, reverse = adapters.partition(",")
+    return ["-a", forward, "-A", reverse or forward]
+
+
+def killed_below(pid):
+    """The signal that ended a process which this one started and didn't wait for, or 0."""
+    try:
+        with open(f"/proc/{pid}/task/{pid}/children") as children:
+            for each in children.read().split():
+                with open(f"/proc/{each}/stat") as fields:
+                    words = fields.read().rpartition(")")[2].split()
+                if words[0] == "Z" and int(words[49]) & 0x7F:
+                    return int(words[49]) & 0x7F
+    except (OSError, IndexError, ValueError):
+        pass
+    return 0
+
+
+class Cutadapt:
+    """cutadapt, between the decompressors and the program."""
+
+    def __init__(self, arguments, threads):
+        self.options = adapter_options(arguments.adapters) + (arguments.cutadapt or [])
+        self.threads = threads
+        if not shutil.which("cutadapt"):
+            raise Fault(1, "no program cutadapt (--adapters, --cutadapt)")
+        self.names = {}         # what the lab's files are called in place of the pipes
+        self.counts = self.printed = None
+        self.trimmed = None     # the writing end of the pipe to the program
+        self.lost_since = None
+
+    def start(self, family, sides, sources):
+        """It reads both sides' texts, and writes mates in turns into one pipe. Returns that pipe's reading end."""
+        self.counts, counts = family.gather()
+        self.printed, printed = family.gather()
+        reading, self.trimmed = make_pipe()
+        family.lent.append(reading)
+        pipes = [f"/dev/fd/{fd}" for fd in sources]
+        self.names = {pipe: side.files() for pipe, side in zip(pipes, sides)}
+        self.names.update({f"/dev/fd/{fd}": "-" for fd in (counts, self.trimmed)})
+        words = ["cutadapt"] + self.options + ["-j", str(self.threads), "--interleaved", "--json", f"/dev/fd/{counts}"]
+        words += ["-o", f"/dev/fd/{self.trimmed}"] + pipes
+        family.start("cutadapt", words, None, printed, sources + [counts, self.trimmed])
+        return reading
+
+    def end(self):
+        """It has ended. The pipe to the program is closed only now, so the program's last read is judged too."""
+        os.close(self.trimmed)
+
+    def watch(self, child):
+        """cutadapt 4.2 waits for ever for a process of its own that was killed. The call doesn't."""
+        number = killed_below(child.process.pid)
+        now = time.monotonic()
+        if not number:
+            self.lost_since = None
+        elif self.lost_since is None:
+            self.lost_since = now
+        elif now - self.lost_since > SECONDS_TO_NOTICE:
+            raise Fault(4, f"cutadapt: one of its processes was ended by {signal_name(number)}")
+
+    def refused_options(self, child):
+        """Whether it ended since it doesn't accept its options."""
+        return child is not None and child.status == 2
+
+    def look(self, child):
+        """Refuses the run if cutadapt failed, and not only since the program read no more."""
+        if child is None or child.status == 0 or child.met_closed_pipe() or b"Broken pipe" in self.printed:
+            return
+        if child.status < 0:
+            raise Fault(4, f"cutadapt was ended by {signal_name(-child.status)}")
+        raise Fault(2 if child.status == 2 else 3, f"cutadapt: {self.complaint(child)}")
+
+    def complaint(self, child):
+        """The last line that it printed, without what each of its complaints begins with."""
+        lines = [line for line in (self.printed.decode("utf-8", "replace") + child.text()).splitlines() if line]
+        line = lines[-1] if lines else f"status {child.status}"
+        for start in ("cutadapt: error: ", "ERROR: "):
+            line = line[len(start):] if line.startswith(start) else line
+        return self.with_names(line)
+
+    def check_counts(self, child, taken):
+        """The pairs that it passed on are those that the program read."""
+        if child is None or child.status != 0:
+            raise Fault(4, "cutadapt was ended")
+        try:
+            passed = json.loads(self.counts.decode())["read_counts"]["output"]
+        except (ValueError, KeyError):
+            raise Fault(4, "cutadapt: no report")
+        if passed != taken:
+            raise Fault(4, f"cutadapt passed on {passed} pairs, and other ones came in")
+
+    def report(self):
+        """What it counted, as JSON, with the names of the lab's files."""
+        text = self.counts.decode()
+        for pipe, name in self.names.items():
+            text = text.replace(json.dumps(pipe), json.dumps(readable(name)))
+        return text.encode()
+
+    def log(self):
+        """What it printed, with the names of the lab's files."""
+        return self.with_names(self.printed.decode("utf-8", "replace")).encode()
+
+    def with_names(self, text):
+        return re.sub(r"/dev/fd/\d+\b", lambda found: readable(self.names.get(found.group(), found.group())), text)

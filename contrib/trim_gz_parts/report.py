@@ -1,0 +1,64 @@
+"""The program's report, with the names of the caller's files, and the page of it."""
+
+import json
+import os
+import shutil
+
+from .children import feed
+from .faults import Fault
+from .files import readable
+
+OUTPUTS = {"forward_paired": "paired1", "forward_unpaired": "unpaired1", "reverse_paired": "paired2",
+           "reverse_unpaired": "unpaired2", "trim_log": "trimlog"}
+
+
+def one_or_all(names):
+    """The name of a side's file, or a list if it has several."""
+    names = [readable(name) for name in names]
+    return names[0] if len(names) == 1 else names
+
+
+def with_real_names(data, arguments):
+    """The report names what the caller gave: the program has read and written pipes and hidden files."""
+    try:
+        report = json.loads(data.decode())
+    except ValueError:
+        raise Fault(4, "no report")
+    if arguments.both:
+        report["command"], report["inputs"] = "IL", {"interleaved": one_or_all(arguments.both)}
+    else:
+        report["command"] = "PE"
+        report["inputs"] = {"forward": one_or_all(arguments.forward), "reverse": one_or_all(arguments.reverse)}
+    for field, role in OUTPUTS.items():
+        name = arguments.outputs.get(role)
+        report["outputs"][field] = None if name is None else readable(name)
+    return (json.dumps(report, ensure_ascii=False, separators=(",", ":")) + "\n").encode()
+
+
+class Page:
+    """The program that makes a page of a report."""
+
+    def __init__(self, name, folder, cutadapt):
+        self.name = name
+        self.options = ["--cutadapt=" + readable(" ".join(cutadapt.options))] if cutadapt else []
+        beside = os.path.join(folder, "report_to_html")
+        self.program = beside if os.access(beside, os.X_OK) else shutil.which("tibzharuk-report")
+        if not self.program:
+            raise Fault(1, "no program report_to_html (--html)")
+        self.text = None
+
+    def title(self):
+        """The name of the page's file, without its ending."""
+        name = readable(os.path.basename(self.name))
+        for ending in (".gz", ".html", ".htm"):
+            name = name[:-len(ending)] if name.endswith(ending) and len(name) > len(ending) else name
+        return name
+
+    def start(self, family, report):
+        """It reads the report and prints the page."""
+        self.text, theirs = family.gather()
+        reading, writing = family.pipe()
+        family.start("html", [self.program, "--sample", self.title(), "/dev/stdin"] + self.options, reading, theirs)
+        family.keep(writing)
+        family.let_go()
+        feed(writing, report)

@@ -1,0 +1,86 @@
+"""Compressors and decompressors: which are safe, their arguments and their messages.
+
+gzip and bgzip end with another status than 0 on each damaged file that was tried. pigz and igzip don't: if a later
+member of a file is cut or damaged in its first bytes, they leave out the rest and end with 0. So these two never
+decompress. igzip doesn't look at its last write either, so it compresses into a pipe, and cat writes the file.
+"""
+
+import os
+import re
+import shutil
+
+from .faults import Fault
+
+DECOMPRESSORS = ("bgzip", "gzip")
+COMPRESSORS = {  # the level without --level, and the arguments
+    "bgzip": (4, lambda level, threads: ["bgzip", "-c", "-l", str(level), "-@", str(threads)]),
+    "igzip": (2, lambda level, threads: ["igzip", "-c", "-n", f"-{min(level, 3)}", "-T", str(threads)]),
+    "pigz": (6, lambda level, threads: ["pigz", "-n", f"-{level}", "-p", str(threads)]),
+    "gzip": (6, lambda level, threads: ["gzip", "-n", f"-{level}"]),
+}
+# What bgzip prints for a damaged file, and gzip's words for it.
+GZIP_WORDS = (
+    ("hread returned -1", "read error"),
+    ("truncated", "unexpected end of file"),
+    ("Failed to read", "unexpected end of file"),
+    ("header check", "decompression OK, trailing garbage ignored"),
+    ("Invalid BGZF header", "decompression OK, trailing garbage ignored"),
+    ("data check", "invalid compressed data--crc error"),
+    ("CRC32 checksum mismatch", "invalid compressed data--crc error"),
+    ("length check", "invalid compressed data--length error"),
+    ("Inflate operation failed", "invalid compressed data--format violated"),
+)
+PREFIXES = ("gzip: ", "pigz: ", "igzip: ", "[bgzip] ", "abort: ", "cat: ", "report_to_html: ", "tibzharuk-report: ")
+
+
+class Tools:
+    """The compressor and the decompressor of a call, and their threads."""
+
+    def __init__(self, arguments):
+        self.compressor = self.choose_compressor(arguments.compressor)
+        self.decompressor = self.choose_decompressor(arguments.decompressor)
+        self.level = arguments.level or COMPRESSORS[self.compressor][0]
+        self.threads = len(os.sched_getaffinity(0))
+        if arguments.threads and re.match("[1-9][0-9]?$", arguments.threads):
+            self.threads = int(arguments.threads)
+        self.threads = min(self.threads, 64)
+        self.compress_threads = arguments.compress_threads
+
+    @staticmethod
+    def choose_compressor(name):
+        if name == "auto":
+            return next((name for name in ("bgzip", "pigz") if shutil.which(name)), "gzip")
+        if not shutil.which(name):
+            raise Fault(1, f"no program {name} (--compressor)")
+        return name
+
+    @staticmethod
+    def choose_decompressor(name):
+        if name == "auto":
+            return "bgzip" if shutil.which("bgzip") else "gzip"
+        if not shutil.which(name):
+            raise Fault(1, f"no program {name} (--decompressor)")
+        return name
+
+    def compress(self, role):
+        """The command that compresses the output of this role. Both paired outputs share all threads."""
+        threads = self.threads // (2 if role.startswith("paired") else 4)
+        return COMPRESSORS[self.compressor][1](self.level, self.compress_threads or max(1, threads))
+
+    def needs_cat(self, output):
+        """Whether cat writes the output. igzip doesn't look at its last write, and bgzip doesn't say why one failed."""
+        return self.compressor == "igzip" or self.compressor == "bgzip" and output.is_device
+
+
+def reason_of(text, name=""):
+    """Why a tool failed: the first line that it printed, in gzip's words if bgzip printed it, or nothing."""
+    if text.startswith("[E::"):
+        for word, meaning in GZIP_WORDS:
+            if word in text:
+                return meaning
+    line = next((line for line in text.splitlines() if line), "")
+    line = re.sub(r"^\[E::\w+\] ", "", line)
+    for start in PREFIXES + (f"{name}: ", "stdin: "):
+        if line.startswith(start):
+            line = line[len(start):]
+    return line

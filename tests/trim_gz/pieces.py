@@ -1,0 +1,273 @@
+"""Tests of the parts of contrib/trim_gz by themselves. No other program is started."""
+
+import gzip
+import json
+import os
+import pty
+import re
+import sys
+import tempfile
+import unittest
+
+sys.dont_write_bytecode = True
+sys.path.insert(0, os.path.join(os.path.dirname(os.path.abspath(__file__)), "..", "..", "contrib"))
+
+from trim_gz_parts import arguments, cutadapt, files, progress, report, tools
+from trim_gz_parts.faults import Fault
+
+
+class Pieces(unittest.TestCase):
+    def refused(self, call, *words):
+        """The status and the line of the fault."""
+        with self.assertRaises(Fault) as caught:
+            call(*words)
+        return caught.exception.status, caught.exception.line
+
+
+class ArgumentsTest(Pieces):
+    def test_what_is_known(self):
+        got = arguments.Arguments(["-1", "a", "-1", "b", "--level=3", "--encoding", "solexa", "--sync", "--block=7", "--threads", "2", "--html", "x",
+                                   "--cutadapt", "-e 0.2", "--no-progress", "--", "MINLEN:3", "--", "x"])
+        self.assertEqual((got.forward, got.level, got.progress, got.outputs), (["a", "b"], 3, False, {"html": "x"}))
+        self.assertEqual(got.passed, ["--encoding", "solexa", "--sync", "--block=7", "--threads=2"])
+        self.assertEqual((got.cutadapt, got.steps), (["-e", "0.2"], ["MINLEN:3", "--", "x"]))
+        self.assertIsNone(arguments.Arguments(["-1", "-"]).steps)
+
+    def test_help(self):
+        for words in ["--help"], ["-1", "a", "-h"]:
+            self.assertRaises(arguments.HelpAsked, arguments.Arguments, words)
+        self.assertEqual(arguments.Arguments(["--", "--help"]).steps, ["--help"])
+
+    def test_what_is_refused(self):
+        is_option = " is an option; a file of that name is ./"
+        astray = " is no option; steps stand behind -- (trim_gz --help)"
+        for words, line in (
+            ("--level 0", "--level is a number from 1 to 9, not 0"),
+            ("--level=10", "--level is a number from 1 to 9, not 10"),
+            ("--compress-threads 65", "--compress-threads is a number from 1 to 64, not 65"),
+            ("-1", "-1 has no value (trim_gz --help)"),
+            ("--report=", "--report has no value (trim_gz --help)"),
+            ("-1 -2 x", f"-1 has no value, as -2{is_option}-2"),
+            ("--cutadapt --level 3", f"--cutadapt has no value, as --level{is_option}--level"),
+            ("x", f"x{astray}"),
+            ("--sync x", f"x{astray}"),
+            ("-x", f"-x{astray}"),
+            ("-1=x", f"-1=x{astray}"),
+            ("--block 7 x", f"x{astray}"),
+            ("--report a --report b", "--report is given twice"),
+            ("--compressor xz", "--compressor is one of auto, bgzip, igzip, pigz, gzip, not xz"),
+            ("--decompressor pigz", "--decompressor is one of auto, bgzip, gzip, not pigz"),
+        ):
+            self.assertEqual(self.refused(arguments.Arguments, words.split()), (1, line))
+
+    def test_what_a_run_needs(self):
+        four = [word for role in arguments.READS for word in (f"--{role}", role)]
+        for words, line in (
+            (["-i", "a", "-1", "b"], "either -i, or -1 and -2"),
+            (four, "no input: -1 and -2, or -i (trim_gz --help)"),
+            (["-1", "a"], "1 forward files (-1), but 0 reverse files (-2)"),
+            (["-i", "a"] + four[2:], "no --paired1 (trim_gz --help)"),
+            (["-i", "a"] + four, "no steps; they stand behind -- (trim_gz --help)"),
+            (["-i", "a", "--cutadapt-log", "x"] + four + ["--"], "--cutadapt-log without --adapters or --cutadapt"),
+        ):
+            self.assertEqual(self.refused(arguments.Arguments(words).check), (1, line))
+        arguments.Arguments(["-i", "a", "--cutadapt-log", "x", "--adapters", "A"] + four + ["--"]).check()
+
+    def test_options_for_cutadapt(self):
+        self.assertEqual(arguments.cutadapt_options("--cutadapt", "-e 0.2 -a 'x y'"), ["-e", "0.2", "-a", "x y"])
+        for text in "-o x", "-ox", "--out x", "--info", "--untrimmed-o=x", "-j 3", "--json=x", "'":
+            self.assertEqual(self.refused(arguments.cutadapt_options, "--cutadapt", text)[0], 1)
+
+
+class ToolsTest(Pieces):
+    def test_reasons(self):
+        for text, reason in (
+            ("[E::bgzf_read_block] Failed to read BGZF block data at offset 5 expected 3 bytes; hread returned 0\n", "unexpected end of file"),
+            ("[E::bgzf_uncompress] CRC32 checksum mismatch\n", "invalid compressed data--crc error"),
+            ("[E::something] else\n", "else"),
+            ("\ngzip: stdin: not in gzip format\n", "not in gzip format"),
+            ("pigz: abort: write error on <stdout> (No space left on device)\n", "write error on <stdout> (No space left on device)"),
+            ("", ""),
+        ):
+            self.assertEqual(tools.reason_of(text), reason)
+        self.assertEqual(tools.reason_of("a.gz: broken", "a.gz"), "broken")
+
+    def test_threads(self):
+        for threads, paired, unpaired in ("1", 1, 1), ("4", 2, 1), ("16", 8, 4), (None, 2, 1):
+            each = tools.Tools.__new__(tools.Tools)
+            each.compressor, each.level, each.threads, each.compress_threads = "pigz", 6, int(threads or 4), None
+            self.assertEqual([int(each.compress(role)[-1]) for role in ("paired2", "unpaired1")], [paired, unpaired])
+
+
+class CutadaptTest(Pieces):
+    def test_adapters(self):
+        self.assertEqual(cutadapt.adapter_options("ACGT"), ["-a", "ACGT", "-A", "ACGT"])
+        self.assertEqual(cutadapt.adapter_options("ACGT,tt"), ["-a", "ACGT", "-A", "tt"])
+        self.assertEqual(cutadapt.adapter_options("/dev/null"), ["-a", "file:/dev/null", "-A", "file:/dev/null"])
+        for name in "none.fa", "ACGT,", "/":
+            self.assertEqual(self.refused(cutadapt.adapter_options, name), (4, f"cannot read {name}"))
+
+    def test_nobody_was_killed(self):
+        self.assertEqual((cutadapt.killed_below(os.getpid()), cutadapt.killed_below(0)), (0, 0))
+
+
+class ProgressTest(Pieces):
+    def test_lines(self):
+        self.assertEqual(progress.describe(25000000, 100000000, 10), " 25 %, 2 MB/s, 0:30 left")
+        self.assertEqual(progress.describe(1, 7200, 1), "  0 %, 0 MB/s, 1:59 h left")
+        self.assertEqual(progress.describe(0, 0, 0), "0 MB/s")
+
+    def printed(self, writing, reading, is_wanted):
+        """What is printed on this descriptor in the place of standard error: two ticks and the end."""
+        class Half:
+            size = 2000000
+
+            def bytes_read(self):
+                return 1000000
+        kept = os.dup(2)
+        os.dup2(writing, 2)
+        try:
+            each = progress.Progress(is_wanted, [Half()])
+            for _ in range(2):
+                each.next = each.begun
+                each.tick()
+            each.tick()
+            each.wipe()
+            each.wipe()
+            os.write(2, b".")
+        finally:
+            os.dup2(kept, 2)
+            os.close(kept)
+        got = b""
+        while not got.endswith(b"."):
+            got += os.read(reading, 10000)
+        return got.decode()
+
+    def test_where_it_is_printed(self):
+        wipe, line = re.escape("\r\033[K"), r"trim_gz:  50 %, \d+ MB/s, 0:\d\d left"
+        for open_ends, is_wanted, wanted in (
+            (os.pipe, None, r"\."), (os.pipe, False, r"\."), (os.pipe, True, rf"({line}\n){{2}}\."),
+            (pty.openpty, None, rf"({wipe}{line}){{2}}{wipe}\."), (pty.openpty, False, r"\."),
+        ):
+            reading, writing = open_ends()
+            got = self.printed(writing, reading, is_wanted)
+            self.assertTrue(re.match(wanted + "$", got.replace("\r\n", "\n")), (is_wanted, got))
+            os.close(reading)
+            os.close(writing)
+
+
+class ReportTest(Pieces):
+    def names(self, words):
+        outputs = {field: f"/dev/fd/{number}" for number, field in enumerate(report.OUTPUTS)}
+        said = json.dumps({"command": "IL", "inputs": {"interleaved": "/dev/fd/5"}, "outputs": outputs, "pairs": 1}).encode()
+        text = report.with_real_names(said, arguments.Arguments(words + ["--paired1", "p1", "--unpaired1", "u1", "--paired2", "p2", "--unpaired2", "u2"]))
+        return json.loads(text.decode())
+
+    def test_names(self):
+        got = self.names(["-1", "a", "-1", "b", "-2", "c", "-2", "d", "--adapters", "A"])
+        self.assertEqual((got["command"], got["inputs"]), ("PE", {"forward": ["a", "b"], "reverse": ["c", "d"]}))
+        self.assertEqual(got["outputs"], {"forward_paired": "p1", "forward_unpaired": "u1", "reverse_paired": "p2", "reverse_unpaired": "u2", "trim_log": None})
+        self.assertEqual(list(got), ["command", "inputs", "outputs", "pairs"])
+        got = self.names(["-i", "\udcff.gz", "--trimlog", "log"])
+        self.assertEqual((got["command"], got["inputs"], got["outputs"]["trim_log"]), ("IL", {"interleaved": "\ufffd.gz"}, "log"))
+
+    def test_title(self):
+        page = report.Page.__new__(report.Page)
+        for page.name, title in ("out/s1.html", "s1"), ("s1.html.gz", "s1"), (".html", ".html"), ("s1", "s1"):
+            self.assertEqual(page.title(), title)
+
+
+class FilesTest(Pieces):
+    def setUp(self):
+        folder = tempfile.TemporaryDirectory()
+        self.addCleanup(folder.cleanup)
+        self.folder = folder.name
+
+    def put(self, name, data=b""):
+        name = os.path.join(self.folder, name)
+        with open(name, "wb") as file:
+            file.write(data)
+        return name
+
+    def command(self, name, data):
+        each = files.Input(self.put(name, data))
+        words = each.open("bgzip")
+        each.close()
+        return words
+
+    def test_who_decompresses(self):
+        magic = b"\x1f\x8b\x08"
+        self.assertEqual(self.command("a.gz", magic + b"x" * 30), ["bgzip", "-dc"])
+        self.assertEqual(self.command("b.gz", magic + bytes(30)), ["gzip", "-dc"])
+        self.assertEqual(self.command("c.gz", b""), ["gzip", "-dc"])
+        self.assertEqual(self.command("d.gz", b"@r"), ["gzip", "-dc"])
+        self.assertEqual(self.command("e", magic + b"x" * 30), ["bgzip", "-dc"])
+        self.assertEqual(self.command("f", b"@r"), ["cat"])
+        self.assertEqual(files.Input("/dev/null").open("bgzip")[3:], ["/dev/null", "gzip", "-dcf"])
+
+    def test_lanes(self):
+        name = self.put("f", b"@r")
+        side = files.Side("forward", [name, name])
+        self.assertEqual(side.command("bgzip", True), ["cat"])
+        side.place = 1
+        self.assertEqual(side.command("bgzip", True)[2:], ['echo; exec "$@"', "sh", "cat"])
+        self.assertEqual(side.command("bgzip", False), ["cat"])
+
+    def test_same_files(self):
+        a, b = self.put("a"), os.path.join(self.folder, "b")
+        os.link(a, b)
+        self.assertEqual(self.refused(files.check_inputs, [a, b]), (2, f"{b} is given twice"))
+        self.assertEqual(self.refused(files.check_inputs, [a, self.folder]), (4, f"cannot read {self.folder}"))
+        output = files.Output("trimlog", b)
+        self.assertEqual(self.refused(output.check, [a], []), (2, f"{b} is an input and an output"))
+        self.assertEqual(self.refused(output.check, [], [files.Output("report", a)]), (2, f"{b} is given for two outputs"))
+
+    def output(self, old):
+        """An output with new text in its hidden file; beside it an older one, if there is a text for it."""
+        for name in os.listdir(self.folder):
+            os.unlink(os.path.join(self.folder, name))
+        if old:
+            self.put("o", old)
+        output = files.Output("trimlog", os.path.join(self.folder, "o"))
+        output.hide(0o640)
+        output.write(b"new", 6)
+        return output
+
+    def text(self):
+        with open(os.path.join(self.folder, "o"), "rb") as file:
+            return file.read()
+
+    def test_final_names(self):
+        for old in None, b"old":
+            output = self.output(old)
+            self.assertEqual(len(os.listdir(self.folder)), 2 if old else 1)
+            files.give_names([output])
+            output.forget()
+            self.assertEqual((os.listdir(self.folder), self.text()), (["o"], b"new"))
+            self.assertEqual(os.stat(output.target).st_mode & 0o777, 0o640)
+
+    def test_names_are_taken_back(self):
+        for old in None, b"old":
+            output = self.output(old)
+            output.place()
+            output.take_back()
+            output.forget()
+            self.assertEqual(os.listdir(self.folder), ["o"] if old else [])
+            self.assertTrue(not old or self.text() == old)
+
+    def test_the_last_step_fails(self):
+        for old in None, b"old":
+            output = self.output(old)
+            hidden, output.hidden = output.hidden, os.path.join(self.folder, "gone")
+            self.assertRaises(Fault, files.give_names, [output])
+            output.hidden = hidden
+            output.forget()
+            self.assertEqual(os.listdir(self.folder), ["o"] if old else [])
+
+    def test_compressed(self):
+        self.assertEqual(gzip.decompress(files.compressed(b"text", 1)), b"text")
+        self.assertEqual(files.compressed(b"text", 9)[4:8], bytes(4))
+
+
+if __name__ == "__main__":
+    unittest.main()

@@ -1,0 +1,12 @@
+#!/usr/bin/env bash
+# 40 runs of contrib/trim_gz with random faults (tests/trim_gz_faults.py), another 40 in each call. TRIM_GZ_RUNS sets another number,
+# and TRIM_GZ_SEED repeats the runs of a seed that was printed.
+set -u
+cd "$(dirname "$0")/.." || exit 1
+if [ -z "${FQ_PROG-}" ]; then make -s build || exit 1; fi
+missing=
+for each in bgzip:tabix pigz:pigz igzip:isal cutadapt:cutadapt; do
+  command -v "${each%:*}" > /dev/null || missing+=" ${each#*:}"
+done
+[ -z "$missing" ] || echo "trim_gz_faults: skipped: what needs$missing"
+exec python3 tests/trim_gz_faults.py "${TRIM_GZ_RUNS:-40}" ${TRIM_GZ_SEED:+--seed "$TRIM_GZ_SEED"}
