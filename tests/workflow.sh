@@ -14,7 +14,7 @@ tree=$PWD
 PATH=$PATH:/usr/sbin:/sbin
 
 missing=''
-for needed in snakemake:snakemake multiqc:multiqc slurmctld:slurm-wlm slurmd:slurm-wlm sbatch:slurm-wlm munged:munge; do
+for needed in snakemake:snakemake multiqc:multiqc slurmctld:slurmctld slurmd:slurmd sbatch:slurm-client munged:munge; do
   command -v "${needed%%:*}" > /dev/null || missing+="${needed#*:}"$'\n'
 done
 if [ -n "$missing" ]; then
@@ -84,7 +84,7 @@ trap clean_up EXIT
 trap 'exit 130' INT
 trap 'exit 143' TERM HUP
 
-# draw_reads: the reads of four samples; of s4 a second file that breaks off
+# draw_reads: the reads of four samples. Less than half of the pairs of s3 are kept. The second file of s4 is cut off.
 draw_reads() {
   mkdir "$work/reads"
   python3 - "$work/reads" << 'END'
@@ -92,9 +92,9 @@ import gzip, os, random, sys
 random.seed(20)
 folder = sys.argv[1]
 
-def read(bases):
+def read(bases, bad):
     front = random.choice([0, 0, 0, 0, 1, 2, 3])
-    behind = min(int(random.expovariate(1 / 30)) if random.random() < 0.6 else 0, bases - front)
+    behind = min(int(random.expovariate(1 / bad)) if random.random() < 0.6 else 0, bases - front)
     low = random.choices("#$%&+", k=behind)
     score = "#" * front + "".join(random.choices("?AFI", k=bases - front - behind)) + "".join(low)
     return "".join(random.choices("ACGT", k=bases)), score
@@ -103,7 +103,7 @@ for name, pairs in ("s1_L001", 300), ("s1_L002", 200), ("s2_L001", 400), ("s3_L0
     with gzip.open(f"{folder}/{name}_R1.fq.gz", "wt") as forward, gzip.open(f"{folder}/{name}_R2.fq.gz", "wt") as reverse:
         for number in range(pairs):
             for side, file in (1, forward), (2, reverse):
-                file.write("@%s:%d/%d\n%s\n+\n%s\n" % (name, number, side, *read(100)))
+                file.write("@%s:%d/%d\n%s\n+\n%s\n" % (name, number, side, *read(100, 300 if name == "s3_L001" else 30)))
 whole = f"{folder}/s4_L001_R2.fq.gz"
 os.rename(whole, whole + ".whole")
 with open(whole + ".whole", "rb") as file, open(whole, "wb") as half:
@@ -197,6 +197,20 @@ page_tells() {
   done
 }
 
+# sample_pages SAMPLES..: each has a page of its own, which is linked; those of which less than half of the pairs are kept are marked
+sample_pages() {
+  local sample pairs kept few=''
+  for sample in "$@"; do
+    python3 "$tree/tests/report_page/check.py" page "results/reports/$sample.json" "results/reports/$sample.html" || fail "$sample: its page differs"
+    grep -qF "<a href=\"reports/$sample.html\">$sample</a>" results/report.html || fail "$sample: its page is not linked"
+    { read -r pairs && read -r kept; } < <(sed 's/.*: //' "$work/direct/$sample.summary")
+    if [ $((2 * kept)) -lt "$pairs" ]; then few+="<li><strong><a href=\"reports/$sample.html\">$sample</a></strong>: $kept of $pairs pairs</li>"; fi
+  done
+  [ "$(grep -o '<li><strong><a href="reports/.*' results/report.html | tr -d '\n')" = "$few" ] || fail 'other samples are marked'
+  [ -n "$few" ] || fail 'no sample has to be marked'
+  [ "$(grep -o 'class="badge"' results/report.html | wc -l)" -eq "$(grep -o '</li>' <<< "$few" | wc -l)" ] || fail 'the table marks other samples'
+}
+
 # removed_bases SAMPLES..: the page's lines of removed bases are those of the logs, at each place
 removed_bases() {
   python3 "$tree/tests/workflow/page_tells.py" "$work/direct" results/report_data --removed "$@" || fail 'the line graphs of removed bases differ'
@@ -227,6 +241,7 @@ a_whole_life() {
   same_as_direct s1 s2 s3
   same_logs s1 s2 s3
   page_tells s1 s2 s3
+  sample_pages s1 s2 s3
   removed_bases s1 s2 s3
   grep -q '^failed: s4: .*reads/s4_L001_R2.fq.gz' said || fail 's4 and its file are not named at the end'
   grep -q '<strong>s4</strong>: <samp>[^<]*reads/s4_L001_R2.fq.gz' results/report.html || fail 'the page does not name s4 and its file'
@@ -243,9 +258,58 @@ a_whole_life() {
   same_as_direct s1 s2 s3 s4
   same_logs s1 s2 s3 s4
   page_tells s1 s2 s3 s4
+  sample_pages s1 s2 s3 s4
   removed_bases s1 s2 s3 s4
   ! grep -q 'Failed' results/report.html || fail 'the page still names a failed sample'
   made | grep -v /s4 | cmp - before || fail 'a sample that was trimmed was touched again'
+}
+
+# no_cutadapt: the page has nothing of cutadapt
+no_cutadapt() {
+  [ ! -e results/report_data/multiqc_cutadapt.txt ] || fail 'the page has a part of cutadapt'
+  if grep -qi cutadapt results/report.html; then fail 'the page names cutadapt'; fi
+}
+
+# same_after_cutadapt SAMPLE: the outputs are those of cutadapt and the program, one after the other
+same_after_cutadapt() {
+  local to=$work/direct/cut part
+  cutadapt --interleaved -a $adapter -A $adapter -o "$to.il" "$work/direct/$1.in1" "$work/direct/$1.in2" > "$to.text" || fail 'cutadapt'
+  "$program" IL "$to.il" "$to.r1.paired" "$to.r1.unpaired" "$to.r2.paired" "$to.r2.unpaired" "${steps[@]}" > "$to.summary" || fail 'the program'
+  for part in r1.paired r1.unpaired r2.paired r2.unpaired; do
+    gzip -dc "results/trimmed/$1.$part.fastq.gz" | cmp - "$to.$part" || fail "$1: $part differs"
+  done
+  cmp "results/summaries/$1.summary" "$to.summary" || fail "$1: the summary differs"
+}
+
+# with_adapters: a sequence, a file that changes, none, and one that isn't there
+with_adapters() {
+  cp reads/s4_L001_R2.fq.gz.whole reads/s4_L001_R2.fq.gz
+  sed -i "s/^adapters:.*/adapters: $adapter/" config/config.yaml
+  call 0 --profile profiles/local --config line_graphs=False
+  ran 4 0
+  same_after_cutadapt s1
+  same_after_cutadapt s2
+  [ "$(sed 1d results/report_data/multiqc_cutadapt.txt | cut -f 1 | paste -sd' ')" = 's1 s2 s3 s4' ] || fail 'the page has no part of cutadapt for each sample'
+  grep -qF "<samp>$adapter</samp>" results/report.html || fail 'the page does not name the adapters'
+  printf '>one\n%s\n' $adapter > adapters.fa
+  row='adapters in a file'
+  call 0 --profile profiles/local --config line_graphs=False adapters=adapters.fa
+  ran 4 0
+  same_after_cutadapt s1
+  printf '>two\nGGGGGGGGGGGGGGG\n' >> adapters.fa
+  call 0 --profile profiles/local --config line_graphs=False adapters=adapters.fa
+  ran 4 0
+  row='adapters no more'
+  sed -i 's/^adapters:.*/adapters: ""/' config/config.yaml
+  call 0 --profile profiles/local --config line_graphs=False
+  ran 4 0
+  same_as_direct s1 s2 s3 s4
+  page_tells s1 s2 s3 s4
+  no_cutadapt
+  row='adapters that are not there'
+  rm -r results
+  sed -i 's/^adapters:.*/adapters: none.fa/' config/config.yaml
+  refused "settings: adapters: 'none.fa' is no file and no sequence"
 }
 
 # refused LINE: the settings or the table as they stand are refused with that line, and nothing is made
@@ -468,11 +532,26 @@ ran 4 0
 same_as_direct s1 s2 s3 s4
 page_tells s1 s2 s3 s4
 no_logs
+no_cutadapt
+
+new_lab adapters
+row='adapters'
+adapter=AGATCGGAAGAGC
+if command -v cutadapt > /dev/null; then
+  with_adapters
+else
+  echo 'workflow: skipped: adapters, which need cutadapt'
+fi
 
 new_lab cluster
 row='slurm'
-if start_slurm; then
-  a_whole_life slurm
+# Snakemake 8 submits jobs by a plugin, which has a profile of its own.
+profile=slurm
+case $(snakemake --version) in [0-7].*) ;; *) profile=slurm-v8 ;; esac
+if [ "$profile" = slurm-v8 ] && ! snakemake --executor cluster-generic --help > /dev/null 2>&1; then
+  echo 'workflow: slurm: skipped: needs snakemake-executor-plugin-cluster-generic'
+elif start_slurm; then
+  a_whole_life "$profile"
   jobs=$(find logs/slurm -name 'trim.s4.*.log' | wc -l)
   [ "$jobs" -eq 3 ] || fail "$jobs jobs of Slurm for s4, not 3"
   cluster_scripts

@@ -7,25 +7,33 @@ from snakemake.exceptions import WorkflowError
 
 HERE = Path(workflow.basedir)
 sys.path.insert(0, str(HERE / "scripts"))
-from tables import Refused, check_settings, read_samples
+from tables import Refused, check_adapters, check_settings, read_samples
+
+# `adapters:` with nothing after it, or no such line, is the same as "".
+config["adapters"] = config.get("adapters") or ""
 
 try:
     check_settings(config, HERE / "schemas" / "config.schema.yaml")
     SAMPLES = read_samples(config["samples"], HERE / "schemas" / "samples.schema.yaml")
+    ADAPTER_FILE = check_adapters(config["adapters"])
     OPTIONS = shlex.split(config["options"])
 except Refused as why:
     raise WorkflowError(str(why))
 except ValueError as why:
     raise WorkflowError(f"settings: options: {why}")
 
+ADAPTERS = config["adapters"]
 TRIM_GZ = str(HERE.parent / "contrib" / "trim_gz")
 LOG_TO_MQC = str(HERE.parent / "contrib" / "log_to_mqc")
+REPORT_TO_HTML = str(HERE.parent / "contrib" / "report_to_html")
 RESULTS = config["results"]
 GRAPHS = ["front", "behind"]
 TRIMMED = f"{RESULTS}/trimmed/{{sample}}.{{read}}.{{kind}}.fastq.gz"
 SUMMARY = f"{RESULTS}/summaries/{{sample}}.summary"
 REPORT = f"{RESULTS}/reports/{{sample}}.json"
+SAMPLE_PAGE = f"{RESULTS}/reports/{{sample}}.html"
 SETTINGS = f"{RESULTS}/summaries/{{sample}}.settings"
+CUTADAPT = f"{RESULTS}/cutadapt/{{sample}}"
 TRIM_LOG = f"{RESULTS}/trim_logs/{{sample}}.log.gz"
 GRAPH = f"{RESULTS}/graphs/{{sample}}_{{graph}}_mqc.json"
 

@@ -1,10 +1,11 @@
-# Trims one sample: all its lanes, in one call of trim_gz.
+# Trims one sample: all its lanes, in one call of trim_gz, which removes adapters too if there are any in the settings.
 
 
 rule trim:
     input:
         r1=lanes("r1"),
         r2=lanes("r2"),
+        adapters=[ADAPTER_FILE] if ADAPTER_FILE else [],
     output:
         paired1=TRIMMED.format(sample="{sample}", read="r1", kind="paired"),
         unpaired1=TRIMMED.format(sample="{sample}", read="r1", kind="unpaired"),
@@ -13,12 +14,14 @@ rule trim:
         summary=SUMMARY,
         report=REPORT,
         settings=SETTINGS,
+        **({"cutadapt": CUTADAPT + ".json", "cutadapt_log": CUTADAPT + ".log"} if ADAPTERS else {}),
         **({"trimlog": TRIM_LOG} if config["line_graphs"] else {}),
     log:
         "logs/trim/{sample}.log",
     # Only what changes the trimmed reads is a parameter: Snakemake trims again where one of these changes.
     params:
         inputs=inputs_as_options,
+        adapters=quoted(["--adapters", ADAPTERS]) if ADAPTERS else "",
         options=quoted(OPTIONS),
         steps=quoted(config["steps"].split()),
     threads: config["trim"]["threads"]
@@ -27,14 +30,16 @@ rule trim:
         runtime=config["trim"]["minutes"],
     shell:
         """
-        {{ {config[program]:q} --version && printf '%s\\n' {params.steps:q} {params.options:q}; }} \\
+        {{ {config[program]:q} --version && printf '%s\\n' {params.steps:q} {params.options:q} {ADAPTERS:q}; }} \\
             > {output.settings:q} 2> {log:q}
-        half=$(( ({threads} + 1) / 2 ))
-        trimlog=()
-        if [ {config[line_graphs]} = True ]; then trimlog=(--trimlog {RESULTS:q}/trim_logs/{wildcards.sample}.log.gz); fi
+        more=({params.adapters})
+        if [ "${{#more[@]}}" -gt 0 ]; then
+            more+=(--cutadapt-report {RESULTS:q}/cutadapt/{wildcards.sample}.json --cutadapt-log {RESULTS:q}/cutadapt/{wildcards.sample}.log)
+        fi
+        if [ {config[line_graphs]} = True ]; then more+=(--trimlog {RESULTS:q}/trim_logs/{wildcards.sample}.log.gz); fi
         {TRIM_GZ:q} {params.inputs} \\
             --paired1 {output.paired1:q} --unpaired1 {output.unpaired1:q} \\
             --paired2 {output.paired2:q} --unpaired2 {output.unpaired2:q} \\
-            --summary {output.summary:q} --report {output.report:q} "${{trimlog[@]}}" --program {config[program]:q} \\
-            --threads "$half" --compress-threads "$half" {params.options} -- {params.steps} > /dev/null 2>> {log:q}
+            --summary {output.summary:q} --report {output.report:q} "${{more[@]}}" --program {config[program]:q} \\
+            --threads {threads} {params.options} -- {params.steps} > /dev/null 2>> {log:q}
         """

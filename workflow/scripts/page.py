@@ -7,6 +7,7 @@ are written anew; while that is done the old ones stay.
 
 import argparse
 import html
+import re
 import shutil
 import subprocess
 import sys
@@ -60,7 +61,8 @@ def settings_of(results, samples):
     groups = {}
     for sample in samples:
         text = (results / "summaries" / f"{sample}.settings").read_text(encoding="utf-8")
-        groups.setdefault(tuple(text.split("\n")[:3]), []).append(sample)
+        lines = text.split("\n") + [""]
+        groups.setdefault(tuple(lines[:4]), []).append(sample)
     return groups
 
 
@@ -77,18 +79,53 @@ def missing_samples(failed, not_begun, without_graphs):
     return parts
 
 
+def few_kept(results, samples):
+    """The samples of which less than half of the pairs are kept, each with its pairs and the kept ones."""
+    found = {}
+    for sample in samples:
+        lines = (results / "summaries" / f"{sample}.summary").read_text(encoding="utf-8").split("\n")
+        pairs, kept = (int(line.split(": ")[1]) for line in lines[:2])
+        if 2 * kept < pairs:
+            found[sample] = pairs, kept
+    return found
+
+
+def link(results, sample):
+    """The name of a sample, as a link to its own page if that page is there and not older than the report."""
+    name = html.escape(sample)
+    page, report = (results / "reports" / f"{sample}.{kind}" for kind in ("html", "json"))
+    if page.is_file() and page.stat().st_mtime >= report.stat().st_mtime:
+        return f'<a href="reports/{name}.html">{name}</a>'
+    return name
+
+
+def sample_pages(results, trimmed):
+    """The samples that kept less than half of their pairs, and the links to the pages of all."""
+    parts = []
+    few = few_kept(results, trimmed)
+    if few:
+        parts.append(f'<div class="alert alert-danger"><strong>Less than half of the pairs kept: {len(few)}.</strong><ul>')
+        for sample, (pairs, kept) in few.items():
+            parts.append(f"<li><strong>{link(results, sample)}</strong>: {kept:,} of {pairs:,} pairs</li>")
+        parts.append("</ul></div>")
+    if trimmed:
+        parts.append(f"<p>Pages of the samples: {', '.join(link(results, sample) for sample in trimmed)}.</p>")
+    return parts
+
+
 def how_trimmed(results, trimmed):
-    """Version, steps and options; each sample is named where they are not the same for all."""
+    """Version, steps, options and adapters; each sample is named where they are not the same for all."""
     parts = []
     groups = settings_of(results, trimmed)
-    for (version, steps, options), samples in groups.items():
+    for (version, steps, options, adapters), samples in groups.items():
         if len(groups) > 1:
             parts.append(f"<h4>{html.escape(', '.join(samples))}</h4>")
         parts.append(
             '<table class="table table-condensed" style="width: auto">'
             f"<tr><th>Program</th><td><samp>{html.escape(version)}</samp></td></tr>"
             f"<tr><th>Steps</th><td><samp>{html.escape(steps)}</samp></td></tr>"
-            f"<tr><th>Options</th><td><samp>{html.escape(options) or 'none'}</samp></td></tr></table>"
+            f"<tr><th>Options</th><td><samp>{html.escape(options) or 'none'}</samp></td></tr>"
+            f"<tr><th>Adapters</th><td><samp>{html.escape(adapters) or 'none'}</samp></td></tr></table>"
         )
     return parts
 
@@ -105,11 +142,22 @@ def call(command):
     return done.stdout
 
 
+def put_cutadapt(results, trimmed, folder):
+    """Puts cutadapt's logs there, if there are any. MultiQC's module takes the last word of the command as the sample's name."""
+    for sample in trimmed:
+        log = results / "cutadapt" / f"{sample}.log"
+        if log.is_file() and log.stat().st_mtime >= (results / "summaries" / f"{sample}.settings").stat().st_mtime:
+            text = log.read_text(encoding="utf-8", errors="replace")
+            text = re.sub("^Command line parameters: .*$", f"Command line parameters: {sample}", text, count=1, flags=re.MULTILINE)
+            (folder / f"{sample}_cutadapt.txt").write_text(text, encoding="utf-8")
+
+
 def gather(results, trimmed, line_graphs, folder):
     """Puts what MultiQC reads into a folder. Gives the samples whose graphs of removed bases are missing."""
     reports = [str(results / "reports" / f"{sample}.json") for sample in trimmed]
     for first in range(0, len(reports), 500):
         call([str(REPORT_TO_MQC), "--out", str(folder), *reports[first : first + 500]])
+    put_cutadapt(results, trimmed, folder)
     without_graphs = []
     for sample in trimmed if line_graphs else []:
         files = [results / "graphs" / f"{sample}_{graph}_mqc.json" for graph in GRAPHS]
@@ -131,7 +179,8 @@ def make_page(results, trimmed, failed, not_begun, line_graphs):
         read, written = Path(room) / "read", Path(room) / "written"
         read.mkdir()
         without_graphs = gather(results, trimmed, line_graphs, read)
-        parts += missing_samples(failed, not_begun, without_graphs) + how_trimmed(results, trimmed)
+        parts += missing_samples(failed, not_begun, without_graphs)
+        parts += sample_pages(results, trimmed) + how_trimmed(results, trimmed)
         (read / "run_mqc.html").write_text("\n".join(parts) + "\n", encoding="utf-8")
         config = str(HERE.parent / "multiqc.yaml")
         said = call(["multiqc", "--force", "--config", config, "--filename", "report.html", "--outdir", str(written), str(read)])

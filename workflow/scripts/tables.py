@@ -1,6 +1,7 @@
 """Reads the settings and the table of the samples, and refuses bad ones with one line."""
 
 import os
+import re
 
 import jsonschema
 import yaml
@@ -32,6 +33,15 @@ def check_settings(settings, schema_path):
     if found:
         place, message = found
         raise Refused(f"settings: {place + ': ' if place else ''}{message}")
+
+
+def check_adapters(adapters):
+    """Refuses adapters that are no file and no sequence. Returns the file, or None."""
+    if os.path.isfile(adapters):
+        return adapters
+    if adapters and not re.fullmatch("[ACGTUNRYSWKMBDHVI]+(,[ACGTUNRYSWKMBDHVI]+)?", adapters, re.IGNORECASE):
+        raise Refused(f"settings: adapters: {adapters!r} is no file and no sequence")
+    return None
 
 
 def rows_of(path):

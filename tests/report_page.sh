@@ -1,0 +1,159 @@
+#!/usr/bin/env bash
+# Makes pages with contrib/report_to_html and reads them as HTML: each is well formed, loads nothing, runs nothing, and has the numbers of its
+# report. The reports are those of the program, and those of a slow count that have every field a page draws: with no read, with 150 bases and
+# with more than 10,000. No text of a report becomes markup. Faults, and scores that are too high, are at the top. A file that is no report is
+# refused with one line. contrib/report_to_mqc draws mean scores by position and reads by mean score of the same reports.
+#
+# FQ_PROG is the program, crates/fq_prog/out/fq_prog if not set. With python3.6 in the path, the pages are made by that too.
+set -uo pipefail
+
+if [ "${1:-}" = --help ]; then
+  sed -n '2,/^set/s/^# \{0,1\}//p' "$0" | sed '$d'
+  exit 0
+fi
+cd "$(dirname "$0")/.." || exit 1
+tree=$PWD
+script=$tree/contrib/report_to_html
+program=${FQ_PROG:-$tree/crates/fq_prog/out/fq_prog}
+if [ ! -x "$program" ]; then
+  make -s build || exit 1
+fi
+program=$(realpath "$program")
+work=$(mktemp -d) || exit 1
+trap 'rm -rf "$work"' EXIT
+cd "$work" || exit 1
+export PYTHONDONTWRITEBYTECODE=1
+failed=0
+row=''
+# A name without a Python behind it is no Python.
+old=$(command -v python3.6) && "$old" -c '' 2> /dev/null || old=''
+
+fail() {
+  echo "report_page: $row: $1"
+  failed=1
+}
+
+check() { python3 "$tree/tests/report_page/check.py" "$@"; }
+
+# drawn NAME: the page of NAME.json is made and has its numbers; an old Python and another locale make the same page
+drawn() {
+  row="the page of $1"
+  "$script" "$1.json" > "$1.html" 2> told || fail "status $?: $(cat told)"
+  [ ! -s told ] || fail "it says $(cat told)"
+  check page "$1.json" "$1.html" || fail 'it is not that of its report'
+  LC_ALL=C "$script" "$1.json" | cmp - "$1.html" || fail 'another locale makes another page'
+  [ -z "$old" ] || "$old" "$script" "$1.json" | cmp - "$1.html" || fail 'Python 3.6 makes another page'
+}
+
+# refuses FILE: the script ends with status 1 and one line, and prints no page
+refuses() {
+  row="the page of $1"
+  "$script" "$1" > page 2> told
+  [ $? -eq 1 ] || fail 'it is not refused'
+  if [ -s page ] || [ "$(wc -l < told)" -ne 1 ]; then fail "it has a page, or not one line: $(head -c 300 told)"; fi
+}
+
+# trim STATUS REPORT WORDS..: a run of the program with a report
+trim() {
+  local wanted=$1 report=$2 command=$3
+  shift 3
+  row="a run for $report"
+  "$program" "$command" --report "$report" "$@" > /dev/null 2> told
+  [ $? -eq "$wanted" ] || fail "status is not $wanted: $(cat told)"
+}
+
+row='the syntax of Python 3.6'
+python3 - "$script" << 'END' || fail 'it has newer syntax'
+import ast, sys
+ast.parse(open(sys.argv[1], encoding="utf-8").read(), feature_version=(3, 6))
+END
+
+for kind in plain long small none; do
+  python3 "$tree/tests/report_page/count.py" "$kind" "$kind.json" || exit 1
+  drawn "$kind"
+done
+row='10,001 positions'
+python3 - << 'END' || fail 'the slow count has fewer'
+import json
+reads = json.load(open("long.json", encoding="utf-8"))["reads"]
+assert all(len(reads[side]["before"]["positions"]["bases"]) == 10_001 for side in reads)
+END
+[ "$(wc -c < long.html)" -lt 2000000 ] || fail 'the page is too large'
+
+# Reports of the program: two files and one, no reads, a fault, names that have to be escaped, and scores that are too high.
+python3 - << 'END'
+import random
+random.seed(7)
+with open("r1.fq", "w") as one, open("r2.fq", "w") as two:
+    for number in range(200):
+        for side, file in (1, one), (2, two):
+            bases, bad = random.randint(60, 101), random.choice((0, 0, 0, 5, 20, 70))
+            score = ("?" * max(bases - bad, 0) + "#" * bases)[:bases]
+            file.write("@p%d/%d\n%s\n+\n%s\n" % (number, side, "".join(random.choices("ACGTN", k=bases)), score))
+for name, score in ("high", "T"), ("even", "S"):
+    for side in 1, 2:
+        with open(f"{name}{side}.fq", "w") as file:
+            file.write(f"@p\nACGT\n+\n{4 * score}\n" * 40)
+END
+head -n 790 r2.fq > short.fq
+paste -d '\n' <(paste - - - - < r1.fq) <(paste - - - - < r2.fq) | tr '\t' '\n' > both.fq
+: > none1.fq
+: > none2.fq
+strange=$'a<script src=x>&amp;\x1b\'"ü.fq'
+cp r1.fq "$strange"
+outputs=(fp.fq fu.fq rp.fq ru.fq)
+trim 0 two.json PE r1.fq r2.fq "${outputs[@]}" LEADING:3 TRAILING:3 SLIDINGWINDOW:4:15 MINLEN:36
+trim 0 one.json IL --no-name-check --trimlog log both.fq "${outputs[@]}" AVGQUAL:20 MINLEN:50
+trim 0 gone.json PE r1.fq r2.fq "${outputs[@]}" MINLEN:500
+trim 0 no_reads.json PE none1.fq none2.fq "${outputs[@]}" MINLEN:36
+trim 0 names.json PE "$strange" r2.fq "${outputs[@]}" MINLEN:36
+trim 0 high.json PE high1.fq high2.fq "${outputs[@]}" MINLEN:3
+trim 0 even.json PE even1.fq even2.fq "${outputs[@]}" MINLEN:3
+trim 3 fault.json PE r1.fq short.fq "${outputs[@]}" MINLEN:36
+for name in two one gone no_reads names high even fault; do drawn "$name"; done
+
+row='the title of a page'
+"$script" --sample 'liver & 1' two.json | grep -qF '<h1>liver &amp; 1</h1>' || fail 'it is not the name that was given'
+grep -qF '<h1>two</h1>' two.html || fail 'it is not the name of the file'
+row='adapters that were removed before'
+"$script" --cutadapt='-a A<C -A GT' two.json > told || fail "status $?"
+grep -qF 'Adapters were removed with cutadapt (-a A&lt;C -A GT). Read pairs were trimmed' told || fail 'its text does not say so'
+! grep -q cutadapt two.html || fail 'another page says so'
+row='a list of names'
+grep -qF '<code>s1_L001_R1.fq.gz</code><code>s1_L002_R1.fq.gz</code>' plain.html || fail 'its names are not shown'
+row='a report with a text in the place of each of its texts'
+check hostile "$script" small.json || fail 'a text becomes markup'
+row='a report with a change at each place'
+check changed "$script" small.json || fail 'one is neither drawn nor refused'
+
+# Files that are no reports.
+head -c -3 two.json > torn.json
+sed 's/"q30_bases":[0-9]*,//' two.json > less.json
+sed 's/"input":/&-/' two.json > below.json
+sed 's/"bases":\([0-9]*\)/"bases":"\1"/' two.json > text.json
+sed 's/"lengths":\[\[/"lengths":[[99999,1],[/' two.json > lengths.json
+sed 's/^/[/; s/$/]/' two.json > list.json
+sed 's/"positions":{"a":\[[0-9]*,/"positions":{"a":[/' plain.json > positions.json
+head -c 200000 /dev/zero | tr '\0' '[' > deep.json
+printf '\377\376' > bytes.json
+for file in {torn,less,below,text,lengths,list,positions,deep,bytes}.json r1.fq two.html "$program" /dev/zero /dev/null "$work" 'not there'; do
+  refuses "$file"
+done
+row='no argument'
+"$script" 2> told
+[ $? -eq 2 ] || fail 'the status is not 2'
+if [ -w /dev/full ]; then
+  row='a full disk'
+  "$script" two.json > /dev/full 2> told
+  [ $? -eq 1 ] || fail 'the status is not 1'
+  [ "$(wc -l < told)" -eq 1 ] || fail "not one line: $(cat told)"
+fi
+
+row='report_to_mqc'
+"$tree/contrib/report_to_mqc" --out page_parts plain.json long.json none.json small.json two.json || fail "status $?"
+check mqc plain.json page_parts/plain || fail 'mean scores by position, or reads by mean score, differ'
+check mqc none.json page_parts/none || fail 'a report without reads differs'
+[ -e page_parts/two_lengths_after_mqc.json ] || fail 'there is no graph of lengths'
+if [ -e page_parts/two_scores_before_mqc.json ] || [ -e page_parts/two_means_after_mqc.json ]; then fail 'it draws what a report lacks'; fi
+for file in "$PWD"/page_parts/long_scores_*; do [ "$(wc -c < "$file")" -lt 40000 ] || fail "$file is too large"; done
+exit "$failed"

@@ -1,0 +1,340 @@
+"""Reads pages of contrib/report_to_html as HTML, and compares them with the reports from which they were made.
+
+    check.py page REPORT PAGE   the page has the numbers of its report, and loads and runs nothing
+    check.py hostile SCRIPT REPORT   no text of a report becomes markup
+    check.py changed SCRIPT REPORT   each change at one place gives a page or a refusal
+    check.py mqc REPORT START   the files of report_to_mqc, whose names begin with START, have the numbers of the report
+"""
+
+import copy
+import html.parser
+import importlib.machinery
+import importlib.util
+import json
+import re
+import sys
+
+SIDES = ("forward", "reverse")
+VOID = {"meta", "link"}
+HOSTILE = "</code></title><script src=http://x>'\"&amp;<img onerror=x>\x1b\u202e\ud800\nü"
+LAST = 10_001
+
+
+class Page(html.parser.HTMLParser):
+    """The tags of a page with their attributes, its text, its parts with a class, and what its graphs say under the mouse."""
+
+    def __init__(self, content):
+        super().__init__(convert_charrefs=True)
+        self.open, self.tags, self.texts, self.classes = [], [], [], []
+        self.figures, self.titles = {}, []
+        self.feed(content)
+        self.close()
+        assert not self.open, f"not closed: {self.open}"
+
+    def handle_starttag(self, tag, attributes):
+        self.tags.append((tag, attributes))
+        self.classes += dict(attributes).get("class", "").split()
+        if tag == "figure":
+            self.titles = []
+        if tag == "svg" and "figure" in self.open:
+            self.figures[dict(attributes)["aria-label"]] = self.titles
+        if tag not in VOID:
+            self.open.append(tag)
+
+    def handle_startendtag(self, tag, attributes):
+        assert "svg" in self.open, f"closes itself outside of a graph: {tag}"
+        self.tags.append((tag, attributes))
+
+    def handle_endtag(self, tag):
+        assert self.open and self.open[-1] == tag, f"{tag} ends where {self.open} are open"
+        self.open.pop()
+
+    def handle_data(self, data):
+        if self.open and self.open[-1] == "title":
+            self.titles.append(data)
+        elif self.open and self.open[-1] != "style":
+            self.texts.append(data)
+
+    def text(self):
+        return " ".join(" ".join(self.texts).split())
+
+    def structure(self):
+        return [(tag, [name for name, _ in attributes]) for tag, attributes in self.tags]
+
+
+def parsed(content):
+    page = Page(content)
+    names = {tag for tag, _ in page.tags}
+    assert content.startswith("<!DOCTYPE html>\n<html lang="), content[:50]
+    assert not names & {"script", "img", "iframe", "object", "embed", "a", "form", "base", "audio", "video", "use", "image"}
+    for tag, attributes in page.tags:
+        for name, value in attributes:
+            assert not name.startswith("on") and name not in ("src", "style", "xlink:href", "action"), (tag, name)
+            assert name != "href" or (tag, value) == ("link", "data:,"), (tag, value)
+    style = content.split("<style>")[1].split("</style>")[0]
+    assert "url(" not in style and "@import" not in style and "<" not in style
+    assert "prefers-color-scheme:dark" in style and "size:A4" in style
+    return page
+
+
+# The numbers of a page, worked out from the report once more.
+
+
+def after(report, side):
+    return [report["reads"][side][part] for part in ("paired", "unpaired")]
+
+
+def at(parts, field, place):
+    return sum(part["positions"][field][place] for part in parts if place < len(part["positions"][field]))
+
+
+def reads_with(parts, field, number):
+    return sum(reads for part in parts for found, reads in part[field] if found == number)
+
+
+def at_least(parts, number):
+    return sum(reads for part in parts for found, reads in part["lengths"] if found >= number)
+
+
+def per_cent(text):
+    """The bounds of a per cent as the page writes it."""
+    if text == "–":
+        return 0, 0
+    word, number = re.fullmatch(r"(under |over )?([0-9.]+) %", text).groups()
+    number = float(number)
+    return {None: (number - 0.0501, number + 0.0501), "under ": (1e-12, number), "over ": (number, 100 - 1e-12)}[word]
+
+
+def near(text, part, whole):
+    low, high = per_cent(text)
+    assert low <= (100 * part / whole if whole else 0) <= high, (text, part, whole)
+
+
+def check_scores(page, report, side):
+    before, left = [report["reads"][side]["before"]], after(report, side)
+    told = page.figures[f"{side}: mean score by position in the read"]
+    longest = len(before[0]["positions"]["bases"])
+    if longest <= 320:
+        assert len(told) == longest, (len(told), longest)
+    for line in told:
+        name, *numbers = re.fullmatch(r"position ([0-9, to]+): (?:before ([0-9.]+))(?:, after ([0-9.]+))?", line).groups()
+        first, *last = (int(each.replace(",", "")) for each in name.split(" to "))
+        places = range(first - 1, (last or [first])[0])
+        assert places[-1] < LAST - 1, line
+        for number, parts in zip(numbers, (before, left)):
+            bases = sum(at(parts, "bases", place) for place in places)
+            assert (number is None) == (bases == 0), line
+            scores = sum(at(parts, "score_sum", place) for place in places)
+            assert not bases or abs(float(number) - scores / bases) <= 0.0501, (line, scores, bases)
+
+
+def check_letters(page, report, side):
+    for when, parts in ("before", [report["reads"][side]["before"]]), ("after", after(report, side)):
+        told = page.figures[f"{side}, {when}: % of bases by position in the read"]
+        for line in told:
+            name, letters = re.fullmatch(r"position ([0-9, to]+): (.*)", line).groups()
+            first, *last = (int(each.replace(",", "")) for each in name.split(" to "))
+            places = range(first - 1, (last or [first])[0])
+            assert places[-1] < LAST - 1, line
+            bases = sum(at(parts, "bases", place) for place in places)
+            found = dict(re.findall(r"([ACGTN]) ([0-9.]+) %", letters))
+            assert list(found) == list("ACGTN"), line
+            for letter, number in found.items():
+                part = sum(at(parts, letter.lower(), place) for place in places)
+                assert abs(float(number) - 100 * part / bases) <= 0.0501, (line, letter, part, bases)
+
+
+def check_lengths(page, report, side):
+    before, left = [report["reads"][side]["before"]], after(report, side)
+    told = page.figures[f"{side}: % of reads by at least so many bases"]
+    assert told, side
+    for line in told:
+        number, old, new = re.fullmatch(r"at least ([0-9,]+) bases: before (.*), after (.*)", line).groups()
+        number = int(number.replace(",", ""))
+        near(old, at_least(before, number), before[0]["reads"])
+        near(new, at_least(left, number), before[0]["reads"])
+
+
+def check_histogram(page, report, side, across, name, field):
+    before, left = [report["reads"][side]["before"]], after(report, side)
+    told = page.figures[f"{side}: reads by {across}"]
+    found = {}
+    for line in told:
+        number, *counts = re.fullmatch(name.replace("{}", r"(\d+)") + r": before ([0-9,]+) reads, after ([0-9,]+)", line).groups()
+        found[int(number)] = [int(count.replace(",", "")) for count in counts]
+    occur = {number for part in before + left for number, _ in part[field]}
+    assert occur <= set(found), (occur, found)
+    for number, counts in found.items():
+        assert counts == [reads_with(parts, field, number) for parts in (before, left)], (number, counts)
+
+
+def check_removed(page, report, side):
+    told = page.figures[f"{side}: % of reads that survive by at least so many bases removed"]
+    reads = sum(part["reads"] for part in after(report, side))
+    for line in told:
+        words = r"at least ([0-9,]+) bases removed: at the start of the read (.*), at its end (.*)"
+        number, *parts = re.fullmatch(words, line).groups()
+        for part, place in zip(parts, ("front", "behind")):
+            lost = sum(n for bases, n in report["reads"][side][f"removed_{place}"] if bases >= int(number.replace(",", "")))
+            near(part, lost, reads)
+
+
+def check_numbers(page, report):
+    pairs, text = report["pairs"], page.text()
+    for name, field in ("both mates survive", "both_surviving"), ("no mate: dropped", "dropped"):
+        assert f"{name}: {pairs[field]:,} (" in text, name
+    assert f"What became of the {pairs['input']:,} pairs." in text
+    for side in SIDES:
+        for part in [report["reads"][side]["before"]]:
+            assert f"{part['bases']:,}" in text and f"{part['reads']:,}" in text, side
+        assert f"{sum(part['bases'] for part in after(report, side)):,}" in text, side
+        removed = report["reads"][side]["removed_bases"]
+        if pairs["input"]:
+            said = f"{side.capitalize()}: {removed['front']:,} bases at the start of reads and {removed['behind']:,} at their end"
+            assert said in text, side
+    for step in report["steps"]:
+        assert step["step"] in text, step
+
+
+def check_page(report_path, page_path):
+    with open(report_path, encoding="utf-8") as file:
+        report = json.load(file)
+    with open(page_path, encoding="utf-8", newline="") as file:
+        content = file.read()
+    page = parsed(content)
+    assert "http" not in content and "<script" not in content
+    check_numbers(page, report)
+    reads = report["reads"]["forward"]["before"]
+    graphs = ("mean score by position", "reads by mean score", "removed")
+    there = {name: any(name in figure for figure in page.figures) for name in graphs}
+    assert set(there.values()) == {"positions" in reads and reads["reads"] > 0}, there
+    for side in SIDES if reads["reads"] else ():
+        check_lengths(page, report, side)
+        if "positions" in reads:
+            check_scores(page, report, side)
+            check_letters(page, report, side)
+            check_histogram(page, report, side, "mean score", "mean score {}", "mean_scores")
+            check_histogram(page, report, side, "% G and C", "{} % G and C", "gc_percents")
+            check_removed(page, report, side)
+    high = any(report["reads"][side]["before"]["score_sum"] > 50 * report["reads"][side]["before"]["bases"] for side in SIDES)
+    wanted = report["fault"] is not None or high
+    assert ("fault" in page.classes) == wanted, "the warning at the top"
+    if wanted:
+        assert page.classes.index("fault") < page.classes.index("cards"), "the warning is not at the top"
+    assert report["fault"] is None or report["fault"] in page.text(), "the fault is not named"
+    assert ("The scores are too high" in page.text()) == high
+    assert ("There are no pairs" in page.text()) == (report["fault"] is None and not report["pairs"]["input"])
+    assert ("Read pairs were trimmed with Tibzharuk" in page.text()) == (report["fault"] is None)
+    for names in [*report["inputs"].values(), *report["outputs"].values()]:
+        for name in names if isinstance(names, list) else [names]:
+            assert name is None or name in page.text() or not name.isprintable(), name
+
+
+def check_mqc(report, start):
+    for when, parts in ("before", ["before"]), ("after", ["paired", "unpaired"]):
+        scores, shares = (json.load(open(f"{start}_{kind}_{when}_mqc.json", encoding="utf-8")) for kind in ("scores", "means"))
+        for side in SIDES:
+            reads = [report["reads"][side][part] for part in parts]
+            name = f"{start.split('/')[-1]} {side}"
+            longest = max(len(part["positions"]["bases"]) for part in reads)
+            sums = [[at(reads, field, place) for field in ("score_sum", "bases")] for place in range(longest)]
+            wanted = {str(place): round(total / bases, 4) for place, (total, bases) in enumerate(sums, 1)}
+            assert scores["data"][name] == (wanted or {"1": 0, "2": 0}), (side, when)
+            whole = sum(reads for part in reads for _, reads in part["mean_scores"])
+            found = {number: count for number, count in shares["data"][name].items() if count}
+            numbers = {number for part in reads for number, _ in part["mean_scores"]}
+            wanted = {str(n): round(100 * reads_with(reads, "mean_scores", n) / whole, 4) for n in numbers}
+            assert found == wanted, (side, when, found, wanted)
+
+
+# Reports that are changed.
+
+
+def loaded(path):
+    loader = importlib.machinery.SourceFileLoader("report_to_html", path)
+    module = importlib.util.module_from_spec(importlib.util.spec_from_loader("report_to_html", loader))
+    sys.dont_write_bytecode = True
+    loader.exec_module(module)
+    return module
+
+
+def places(value, before=()):
+    """The way to each value within a report; of a long list only to its first items."""
+    for key in list(value) if isinstance(value, dict) else range(min(len(value), 3)):
+        yield (*before, key)
+        if isinstance(value[key], (dict, list)):
+            yield from places(value[key], (*before, key))
+
+
+def copied(report, way):
+    """A copy of a report, and what holds the value at a place of the copy."""
+    one = holder = copy.deepcopy(report)
+    for key in way[:-1]:
+        holder = holder[key]
+    return one, holder
+
+
+def check_hostile(script, report):
+    module = loaded(script)
+    plain = parsed(module.page(report, "x")).structure()
+    changed = 0
+    for way in places(report):
+        one, holder = copied(report, way)
+        key = way[-1]
+        if isinstance(holder[key], str) and key != "outcome":
+            holder[key] = HOSTILE
+            changed += 1
+            module.REPORT(one, "")
+            content = module.page(one, HOSTILE)
+            parsed(module.page(one, "x", HOSTILE))
+            assert parsed(content).structure() == plain, f"{key}: {HOSTILE!r} changes the page"
+            content.encode("utf-8", "replace")
+            assert "\x1b" not in content and "\u202e" not in content and "\ud800" not in content, key
+    for part in "inputs", "outputs":
+        one = copy.deepcopy(report)
+        one[part] = {HOSTILE: HOSTILE, **one[part]}
+        module.REPORT(one, "")
+        parsed(module.page(one, "x"))
+    assert changed >= 10, changed
+
+
+def check_changed(script, report):
+    """Some of the changes are made at each place, others at the next one: all together take too long."""
+    module = loaded(script)
+    refused = drawn = 0
+    changes = [
+        lambda holder, key: holder.pop(key),
+        lambda holder, key: holder.insert(key, 1) if isinstance(holder, list) else None,
+        *[
+            lambda holder, key, value=value: holder.__setitem__(key, value)
+            for value in (-1, 0, 1, 0.5, 2**64, 2**64 - 1, float("nan"), 10**400, True, None, "x", "", [], [[1, 2]], {}, {"x": 1})
+        ],
+    ]
+    for number, way in enumerate(places(report)):
+        for change in changes[number % 7 :: 7]:
+            one, holder = copied(report, way)
+            change(holder, way[-1])
+            try:
+                module.REPORT(one, "")
+            except module.Refused:
+                refused += 1
+                continue
+            drawn += 1
+            parsed(module.page(one, "x"))
+    assert refused > 400 and drawn > 100, (refused, drawn)
+
+
+def main(what, *paths):
+    if what == "page":
+        check_page(*paths)
+        return
+    with open(paths[0 if what == "mqc" else 1], encoding="utf-8") as file:
+        report = json.load(file)
+    if what == "mqc":
+        check_mqc(report, paths[1])
+        return
+    {"hostile": check_hostile, "changed": check_changed}[what](paths[0], report)
+
+
+if __name__ == "__main__":
+    main(*sys.argv[1:])

@@ -1,0 +1,189 @@
+"""A slow count of a run that this file makes up: pairs are drawn, trimmed and counted without the program.
+
+    count.py KIND FILE
+
+writes the report of such a run into FILE, with all fields that the page draws. KIND is `plain` (500 pairs of 150 bases),
+`long` (a pair of 10,250 and 12,000 bases among 50 pairs), `small` (20 pairs of 40 bases) or `none` (no pair).
+"""
+
+import collections
+import json
+import random
+import sys
+
+MOST = 10_001
+PARTS = ("before", "paired", "unpaired")
+SIDES = ("forward", "reverse")
+
+
+def drawn(bases, fall):
+    """A read whose scores fall along it, with a bad end at some reads."""
+    front = random.choice([0] * 8 + [1, 2, 3])
+    bad = min(int(random.expovariate(1 / 25)) if random.random() < 0.5 else 0, max(bases - front - 20, 0))
+    good = bases - front - bad
+    scores = [2] * front
+    scores += [max(min(int(random.gauss(38 - fall * place / bases, 3)), 41), 3) for place in range(good)]
+    scores += [random.choice((2, 2, 2, 5)) for _ in range(bad)]
+    gc = min(max(random.gauss(0.45, 0.06), 0.1), 0.9)
+    weights = [(1 - gc) / 2, gc / 2, gc / 2, (1 - gc) / 2, 0.002]
+    letters = random.choices("ACGTN", weights, k=bases)
+    return "".join(letters).replace("T", "t", 1), scores
+
+
+def trimmed(read):
+    """What LEADING:3, TRAILING:6 and MINLEN:36 leave: the first place, the place behind the last, and what each did."""
+    letters, scores = read
+    first, last, did = 0, len(scores), []
+    while first < last and scores[first] < 3:
+        first += 1
+    did.append((first > 0, first == last))
+    size = last - first
+    while first < last and scores[last - 1] < 6:
+        last -= 1
+    did.append((last - first < size, size > 0 and first == last))
+    did.append((False, 0 < last - first < 36))
+    if last - first < 36:
+        last = first
+    return first, last, did
+
+
+class Reads:
+    """What is counted of reads, one base after the other."""
+
+    def __init__(self):
+        self.lengths, self.means, self.gcs = (collections.Counter() for _ in range(3))
+        self.places = {name: collections.Counter() for name in ("bases", "score_sum", "q30_bases", "a", "c", "g", "t", "n")}
+        self.q20 = 0
+
+    def add(self, letters, scores):
+        self.lengths[min(len(letters), MOST)] += 1
+        for place, (letter, score) in enumerate(zip(letters.lower(), scores), 1):
+            place = min(place, MOST)
+            self.places["bases"][place] += 1
+            self.places["score_sum"][place] += score
+            self.places["q30_bases"][place] += score >= 30
+            self.places[letter][place] += 1
+            self.q20 += score >= 20
+        if letters:
+            gc = sum(letter in "GCgc" for letter in letters)
+            self.means[sum(scores) // len(scores)] += 1
+            self.gcs[(200 * gc + len(letters)) // (2 * len(letters))] += 1
+
+    def fields(self, lengths):
+        longest = max(self.places["bases"], default=0)
+        sums = {name: sum(places.values()) for name, places in self.places.items()}
+        return {
+            "reads": sum(self.lengths.values()),
+            "bases": sums["bases"],
+            "q20_bases": self.q20,
+            "q30_bases": sums["q30_bases"],
+            "score_sum": sums["score_sum"],
+            "gc_bases": sums["g"] + sums["c"],
+            "n_bases": sums["n"],
+            "shortest": min(lengths, default=None),
+            "longest": max(lengths, default=None),
+            "lengths": sorted(self.lengths.items()),
+            "positions": {name: [places[place] for place in range(1, longest + 1)] for name, places in self.places.items()},
+            "mean_scores": sorted(self.means.items()),
+            "gc_percents": sorted(self.gcs.items()),
+        }
+
+
+class Side:
+    """What is counted of one side."""
+
+    def __init__(self):
+        self.parts = {part: Reads() for part in PARTS}
+        self.lengths = {part: [] for part in PARTS}
+        self.removed = {"front": collections.Counter(), "behind": collections.Counter()}
+        self.did = [[0, 0] for _ in range(3)]
+
+    def add(self, read, left, mate_left):
+        letters, scores = read
+        first, last, did = left
+        self.put("before", letters, scores)
+        for step, counts in zip(did, self.did):
+            counts[0] += step[0] and not step[1]
+            counts[1] += step[1]
+        if first < last:
+            self.put("paired" if mate_left else "unpaired", letters[first:last], scores[first:last])
+            self.removed["front"][first] += 1
+            self.removed["behind"][len(letters) - last] += 1
+
+    def put(self, part, letters, scores):
+        self.parts[part].add(letters, scores)
+        self.lengths[part].append(len(letters))
+
+    def fields(self):
+        fields = {part: self.parts[part].fields(self.lengths[part]) for part in PARTS}
+        fields["removed_bases"] = {place: sum(n * reads for n, reads in found.items()) for place, found in self.removed.items()}
+        for place, found in self.removed.items():
+            counts = collections.Counter()
+            for number, reads in found.items():
+                counts[min(number, MOST)] += reads
+            fields[f"removed_{place}"] = sorted(counts.items())
+        return fields
+
+
+def report(pairs):
+    sides = {side: Side() for side in SIDES}
+    kept = collections.Counter()
+    for pair in pairs:
+        left = [trimmed(read) for read in pair]
+        alive = [first < last for first, last, _ in left]
+        kept[tuple(alive)] += 1
+        for number, side in enumerate(SIDES):
+            sides[side].add(pair[number], left[number], alive[1 - number])
+    steps = ("LEADING:3", "TRAILING:6", "MINLEN:36")
+    return {
+        "program": "fq_prog",
+        "version": "1.1.0",
+        "command": "PE",
+        "encoding": "sanger",
+        "name_check": True,
+        "outcome": "finished",
+        "fault": None,
+        "inputs": {"forward": ["s1_L001_R1.fq.gz", "s1_L002_R1.fq.gz"], "reverse": ["s1_L001_R2.fq.gz", "s1_L002_R2.fq.gz"]},
+        "outputs": {
+            "forward_paired": "fp.fq.gz",
+            "forward_unpaired": "fu.fq.gz",
+            "reverse_paired": "rp.fq.gz",
+            "reverse_unpaired": "ru.fq.gz",
+            "trim_log": None,
+        },
+        "pairs": {
+            "input": sum(kept.values()),
+            "both_surviving": kept[True, True],
+            "forward_only_surviving": kept[True, False],
+            "reverse_only_surviving": kept[False, True],
+            "dropped": kept[False, False],
+        },
+        "reads": {side: sides[side].fields() for side in SIDES},
+        "steps": [
+            {"step": step, **{side: dict(zip(("shortened", "dropped"), sides[side].did[place])) for side in SIDES}}
+            for place, step in enumerate(steps)
+        ],
+    }
+
+
+def pairs_of(kind):
+    random.seed(34)
+    if kind == "none":
+        return []
+    if kind == "long":
+        lengths = [(100, 90)] * 49 + [(10_250, 12_000)]
+    elif kind == "small":
+        lengths = [(40, 38)] * 20
+    else:
+        lengths = [(150, 150)] * 500
+    return [(drawn(forward, 12), drawn(reverse, 22)) for forward, reverse in lengths]
+
+
+def main(kind, path):
+    with open(path, "w", encoding="utf-8") as file:
+        json.dump(report(pairs_of(kind)), file, sort_keys=True, separators=(",", ":"))
+        file.write("\n")
+
+
+if __name__ == "__main__":
+    main(*sys.argv[1:])
