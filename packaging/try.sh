@@ -1,37 +1,51 @@
 #!/usr/bin/env bash
-# Runs the tests of one crate or of all, without proofs, and prints a line for each crate. What failed is shown in full.
+# Runs the unit tests of one crate or of all without proofs, several crates side by side. Each crate has a line, what failed is
+# shown in full, and the last line is 'N passed, M failed'.
 set -uo pipefail
 cd "$(dirname "$0")/.." || exit 1
 
 if [ "${1-}" = --help ]; then
   echo "usage: packaging/try.sh [CRATE..]
-Runs 'rt try --test' in each crate (all of crates/ where none is named)."
+Runs 'rt try --test' in each crate (without CRATE: in every crate that has tests), one a processor at a time.
+JOBS sets another number of crates at a time."
   exit 0
 fi
 
 if [ $# -eq 0 ]; then
-  # Those that have tests, in the order of crates.txt, in which a crate stands behind those that it uses.
   mapfile -t crates < <(sed -n 's/^\([a-z_0-9]*\)[^#]*:.*/\1/p' crates.txt)
   for crate in "${crates[@]}"; do
-    if grep -rqF '#[test]' "crates/$crate/src"; then
+    if [ -e "crates/$crate/data" ] || grep -rqF '#[test]' "crates/$crate/src"; then
       set -- "$@" "$crate"
     fi
   done
 fi
 
-# A test may take long where the machine has other work: each has so many seconds.
-seconds=600
-log=$(mktemp)
-trap 'rm -f "$log"' EXIT
-failed=0
-for crate; do
-  begun=$SECONDS
-  if (cd "crates/$crate" && rt try --test --seconds "$seconds") > "$log" 2>&1; then
-    echo "$crate: passed ($((SECONDS - begun)) s, nothing proved)"
+logs=$(mktemp -d)
+trap 'rm -rf "$logs"' EXIT
+export logs
+
+# Runs the tests of one crate, or the program that answers the rows in its data/, and leaves their numbers as 'PASSED FAILED' in a
+# file. On a busy machine a test may take long.
+run_crate() {
+  local crate=$1 begun=$SECONDS status=0 log=$logs/$1.log passed='' failed='' kind=tests
+  if [ -e "crates/$crate/data" ]; then
+    kind=rows
+    (cd "crates/$crate" && rt try --seconds 600 -- data/*.rows) > "$log" 2>&1 || status=$?
+    passed=$(sed -n 's/^\([0-9]*\) rows passed$/\1/p' "$log")
+    if [ -n "$passed" ]; then failed=0; fi
   else
-    cat "$log"
-    echo "$crate: FAILED"
-    failed=1
+    (cd "crates/$crate" && rt try --test --seconds 600) > "$log" 2>&1 || status=$?
+    read -r passed failed < <(sed -nE 's/^test result: .* ([0-9]+) passed; ([0-9]+) failed;.*/\1 \2/p' "$log")
   fi
-done
-exit "$failed"
+  if [ "$status" -eq 0 ] && [ "${failed:-1}" -eq 0 ]; then
+    echo "$crate: $passed $kind passed (nothing proved, $((SECONDS - begun)) s)"
+  else
+    printf '%s\n%s\n' "$(cat "$log")" "$crate: FAILED, status $status"
+    if [ "${failed:-0}" -eq 0 ]; then failed=1; fi
+  fi
+  echo "${passed:-0} $failed" > "$logs/$crate.result"
+}
+export -f run_crate
+
+printf '%s\n' "$@" | xargs -P "${JOBS:-$(nproc)}" -I CRATE bash -c 'run_crate CRATE'
+cat "$logs"/*.result | awk '{ passed += $1; failed += $2 } END { print passed + 0 " passed, " failed + 0 " failed"; exit failed > 0 }'

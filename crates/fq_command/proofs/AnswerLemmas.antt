@@ -10,7 +10,7 @@ use Rattle.clap.specs.declared.error.kind.ErrorKind.{ErrorKind}
 use Rattle.fq_run.specs.Outcome.{Outcome}
 use Rattle.fq_run.specs.Outcome.TheVariants.{Lane}
 use Rattle.fq_run.specs.Endings.{ends_whole}
-use Rattle.fq_job.specs.Faults.{outcome_status, outcome_line}
+use Rattle.fq_job.specs.Faults.{settled, outcome_status, outcome_line}
 use Rattle.fq_words.specs.Requests.{Asking, input_name}
 use Rattle.fq_job.specs.Judging.{wrong_with}
 use Rattle.fq_job.specs.Trimming.{HasDistinctFiles, TrimsFiles}
@@ -18,10 +18,12 @@ use Rattle.fq_job.specs.Leaving.{RefusalLeaves, ReportLeft, HoldFirstPairs, AreL
 use Rattle.fq_job.proofs.EndingLemmas.{done_is_whole, ends_so}
 use Rattle.fq_job.proofs.LeavingLemmas.{left_or_nothing, refusal_untrimmed, whole_first}
 use Rattle.fq_job.specs.Refusals.{status_of, line_of}
-use Rattle.fq_command.specs.Answers.{Device, EndsWhole, IsRefusal, IsEnding, IsUnprinted, IsUntold, IsUnreported, IsReportLeft, LacksMemory, PairsAnswered, Refuses, Tells, TookLine, memory_line, print_line, report_line}
+use Rattle.fq_command.specs.Answers.{Device, EndsWhole, IsRefusal, IsEnding, IsUnprinted, IsUntold, IsUnreported, IsReportLeft, LacksMemory, NamesRefused, NamesDevice, PairsAnswered, Refuses, Tells, TookLine, memory_line, print_line, report_line}
 use Rattle.fq_job.specs.declared.refusal.Refusal.{Refusal}
 use Rattle.fq_job.specs.declared.reporting.Reported.{Reported}
 use Rattle.fq_job.specs.declared.reporting.Reported.TheVariants as report
+use Rattle.fq_job.specs.Opening.{IsRefusable}
+use Rattle.fq_job.specs.Completing.{Failed, HasFailed, ReportFailed}
 use Rattle.fq_job.specs.Reporting.{HoldsReport, ReportHeld}
 use Rattle.fq_job.specs.declared.refusal.Refusal.TheVariants as why
 
@@ -165,6 +167,42 @@ module _ (a : Asking) (told : Bool) (old new : Holding) (outcome : Outcome) (cou
   told_line out err status (inr (inr lacks)) =
       let due = due_as report.OutOfMemory lacks.0 (λ e. absurd (cc e)) in
       lacks_line a told old new out err status lacks.1 (λ tells distinct. inr (outcome, run.ended tells distinct (not_lane outcome due)))
+
+-- ---- the device that is named
+
+four_not_five : (n : ℕ) → n ≡ 4 → n ≡ 5 → ⊥
+four_not_five n four five = absurd (omega (arith, four, five))
+
+-- what was refused
+pub refused_device : (a : Asking) (tells : Bool) (old : Holding) (refuses : List ℕ → Bool) (err : Device) (status : ℕ) (refusal : Refusal) → Refuses a refusal err status
+    → (IsTrue tells → TellsInputs a.inputs refusal old) → IsRefusable a refuses refusal → status ≡ 4 → NamesRefused a tells old refuses err
+refused_device a tells old refuses err status refusal (inl refuses_so) inputs refused four =
+    record { why = refusal; status_is = sym refuses_so.0 ∙ four; told = refuses_so.1; inputs = inputs; refused = refused }
+refused_device a tells old refuses err status refusal (inr lacks) inputs refused four = absurd (four_not_five status four lacks.status_is)
+
+four_not_lane : (outcome : Outcome) → outcome_status outcome ≡ 4 → outcome ≢ Lane
+four_not_lane outcome four lane = let six : outcome_status outcome ≡ 6 = ap outcome_status lane in absurd (omega (arith, four, six))
+
+-- what has failed
+pub failed_device : (a : Asking) (tells : Bool) (old : Holding) (refuses : List ℕ → Bool) (failed : Failed) (out err : Device) (status : ℕ) (outcome : Outcome) (reported : Reported)
+    → (outcome ≢ Lane → HasFailed a tells old failed outcome) → (IsTrue tells → settled outcome ≡ outcome) → (reported ≡ report.Failed → ReportFailed a failed)
+    → Tells outcome reported out err status → status ≡ 4 → NamesDevice a tells old refuses failed out err
+failed_device a tells old refuses failed out err status outcome reported fails as_it_is report_fails (inl (which, inl ending)) four =
+    let is = sym ending.0 ∙ four in
+    inr (inl (record { outcome = outcome; status_is = is; told = ending.1; has_failed = fails (four_not_lane outcome is); as_it_is = as_it_is }))
+failed_device a tells old refuses failed out err status outcome reported fails as_it_is report_fails (inl (which, inr (inl unprinted))) four =
+    inr (inr (inl (unprinted.1.0, unprinted.1.2)))
+failed_device a tells old refuses failed out err status outcome reported fails as_it_is report_fails (inl (which, inr (inr untold))) four =
+    absurd (four_not_five status four untold.1.status_is)
+failed_device a tells old refuses failed out err status outcome reported fails as_it_is report_fails (inr (inl unwritten)) four =
+    inr (inr (inr (report_fails unwritten.0, unwritten.2)))
+failed_device a tells old refuses failed out err status outcome reported fails as_it_is report_fails (inr (inr lacks)) four =
+    absurd (four_not_five status four lacks.1.status_is)
+
+-- a report that was told to be written, or not to be due, has not failed
+pub not_failed : (reported : Reported) → (reported ≡ report.NotDue) ⊎ (reported ≡ report.Written) → reported ≢ report.Failed
+not_failed reported (inl none) failed = let bad : report.NotDue ≡ report.Failed = sym none ∙ failed in absurd (cc bad)
+not_failed reported (inr written) failed = let bad : report.Written ≡ report.Failed = sym written ∙ failed in absurd (cc bad)
 
 -- a whole report is a first part of itself
 pub is_left : (a : Asking) (old new : Holding) (name : List ℕ) (reported : Reported) → ReportHeld reported a old new name → IsReportLeft a old new name

@@ -16,9 +16,11 @@ use Rattle.fq_job.specs.declared.refusal.Refusal.{Refusal}
 use Rattle.fq_words.specs.Requests.{Asking, input_name}
 use Rattle.fq_job.specs.Judging.{wrong_with}
 use Rattle.fq_job.specs.Refusals.{status_of, line_of}
-use Rattle.fq_job.specs.Faults.{memory_words, outcome_status, outcome_line}
+use Rattle.fq_job.specs.Faults.{memory_words, settled, outcome_status, outcome_line}
 use Rattle.fq_job.specs.Trimming.{HasDistinctFiles, TrimsFiles}
 use Rattle.fq_job.specs.Leaving.{RefusalLeaves, ReportLeft, HoldFirstPairs, AreLeft, TellsInputs}
+use Rattle.fq_job.specs.Opening.{IsRefusable}
+use Rattle.fq_job.specs.Completing.{Failed, HasFailed, ReportFailed}
 use Rattle.fq_job.specs.Reporting.{HoldsReport, BeginsReport}
 use Rattle.fq_job.specs.declared.reporting.Reported.{Reported}
 use Rattle.fq_job.specs.declared.reporting.Reported.TheVariants as report
@@ -137,6 +139,32 @@ Tells outcome reported out err status =
 -- a refusal was told, or memory was refused for its line
 abbrev pub Refuses : Asking → Refusal → Device → ℕ → Type 0
 Refuses a why err status = ((status ≡ status_of why) × TookText err (line_of a why)) ⊎ LacksMemory err status
+
+-- At status 4 standard error names what was refused or has failed.
+
+-- a file was refused: an input that is not there, or an output or a report of a name that may be refused
+pub record NamesRefused (a : Asking) (tells : Bool) (old : Holding) (refuses : List ℕ → Bool) (err : Device) : Type 0 where
+  pub why : Refusal
+  pub status_is : status_of why ≡ 4
+  pub told : TookText err (line_of a why)
+  pub inputs : IsTrue tells → TellsInputs a.inputs why old
+  pub refused : IsRefusable a refuses why
+
+-- a device of that name has failed, or the input of that side has no end
+pub record NamesFailed (a : Asking) (tells : Bool) (old : Holding) (failed : Failed) (err : Device) : Type 0 where
+  pub outcome : Outcome
+  pub status_is : outcome_status outcome ≡ 4
+  pub told : TookText err (outcome_line outcome)
+  pub has_failed : HasFailed a tells old failed outcome
+  pub as_it_is : IsTrue tells → settled outcome ≡ outcome
+
+-- one of these, or standard output has failed, or a device of the name of the report
+abbrev pub NamesDevice : Asking → Bool → Holding → (List ℕ → Bool) → Failed → Device → Device → Type 0
+NamesDevice a tells old refuses failed out err =
+    NamesRefused a tells old refuses err
+    ⊎ (NamesFailed a tells old failed err
+    ⊎ (((out.failures ≢ 0) × TookText err print_line)
+    ⊎ (ReportFailed a failed × TookText err report_line)))
 
 -- the file of the report holds what it held, or nothing, or a first part of the report that is defined
 abbrev pub IsReportLeft : Asking → Holding → Holding → List ℕ → Type 0

@@ -1,6 +1,7 @@
 -- What the example prints.
-use Rattle.std.specs.Prelude.{ℕ, ◌^◌, true, false, List, [], ◌∷◌, ◌++◌, codes}
+use Rattle.std.specs.Prelude.{◌≡◌, MatchOption, Option, ℕ, ◌^◌, true, false, List, [], ◌∷◌, ◌++◌, codes}
 use Rattle.fq_text.specs.Written.{line}
+use Rattle.fq_text.specs.Devices.{Taken}
 use Rattle.fq_text.specs.declared.encoding.Encoding.TheVariants.{Sanger}
 use Rattle.fq_trim.specs.declared.step.Step.TheVariants.{Leading}
 use Rattle.fq_pair.specs.declared.out.Out.{Out}
@@ -16,6 +17,18 @@ example_forward = codes "@p1/1\nACGT\n+\n#!II\n@p2/1\nGGCC\n+\nIIII\n"
 
 abbrev pub example_reverse : List ℕ
 example_reverse = codes "@p1/2\nTTTT\n+\nIIII\n@p2/2\nAAAA\n+\n!!!\"\n"
+
+-- an outlet has taken nothing, and hasn't failed
+abbrev pub IsEmpty : Taken → Type 0
+IsEmpty o = (o.bytes ≡ []) × (o.failures ≡ 0)
+
+-- so it is with all five outlets of a run
+pub record AreEmpty (forward_paired forward_unpaired reverse_paired reverse_unpaired : Taken) (log : Option Taken) : Type 0 where
+  pub forward_paired_is : IsEmpty forward_paired
+  pub forward_unpaired_is : IsEmpty forward_unpaired
+  pub reverse_paired_is : IsEmpty reverse_paired
+  pub reverse_unpaired_is : IsEmpty reverse_unpaired
+  pub log_is : MatchOption log ⊥ IsEmpty
 
 -- the step and the settings
 unfoldable pub example_choices : Choices

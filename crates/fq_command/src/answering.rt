@@ -5,7 +5,7 @@ ghost use Rattle.fq_words.specs.Requests.{Asking, asking_of};
 ghost use Rattle.fq_job.specs.Judging.{wrong_with};
 ghost use Rattle.fq_job.specs.Trimming.{KeepsUnnamed};
 ghost use Rattle.fq_words.specs.Words.{AskedFor, words_fault};
-ghost use Rattle.fq_command.specs.Answers.{device_of, TookText, TookPart, LacksMemory, LacksPrint, IsUnshown, Refuses, Tells, PairsAnswered, AreRefused, IsCall, AreCalls, print_line};
+ghost use Rattle.fq_command.specs.Answers.{device_of, TookText, TookPart, LacksMemory, LacksPrint, IsUnshown, Refuses, Tells, NamesDevice, PairsAnswered, AreRefused, IsCall, AreCalls, print_line};
 ghost use Rattle.fq_command.specs.Example.{example_text};
 ghost use Rattle.fq_job.specs.Faults.{outcome_status, outcome_line};
 ghost use Rattle.fq_pair.specs.Summaries.{summary_of};
@@ -59,6 +59,12 @@ pub fn program<'a, R: Threads + Wait + Copy + Send + 'static, T: Files, O: Outle
         (device_of O.state out.old out.new) (device_of E.state err.old err.new) result }
     ensures wrong { (a : Asking) → AskedFor (map (λ word. word.now) words.entry.now) (Some a) → IsSome (wrong_with a) → files.new ≡ files.old }
 
+    // At status 4 the line names what was refused or has failed, and that was or has. At 0 and 3 no device of the files has failed.
+    ensures device { (a : Asking) → AskedFor (map (λ word. word.now) words.entry.now) (Some a) → result ≡ 4
+        → NamesDevice a (T.tells_bytes files.old) (T.bytes_of files.old) (T.refuses files.old) (T.has_failed files.new)
+        (device_of O.state out.old out.new) (device_of E.state err.old err.new) }
+    ensures sound { (result ≡ 0) ⊎ (result ≡ 3) → T.has_failed files.new ≡ T.has_failed files.old }
+
     // No file is touched but those of the outputs and of the report.
     ensures rest { (a : Asking) → AskedFor (map (λ word. word.now) words.entry.now) (Some a) → IsTrue (T.tells_bytes files.old)
         → KeepsUnnamed a (T.bytes_of files.old) (T.bytes_of files.new) }
@@ -105,6 +111,9 @@ fn trim_pairs<R: Threads + Wait + Copy + Send + 'static, T: Files, O: Outlet, E:
     requires err { (E.state err.old).failures ≡ 0 }
     ensures pairs { PairsAnswered (asking_of request.now) (T.tells_bytes files.old) (T.bytes_of files.old) (T.bytes_of files.new)
         (device_of O.state out.old out.new) (device_of E.state err.old err.new) result }
+    ensures device { result ≡ 4 → NamesDevice (asking_of request.now) (T.tells_bytes files.old) (T.bytes_of files.old) (T.refuses files.old)
+        (T.has_failed files.new) (device_of O.state out.old out.new) (device_of E.state err.old err.new) }
+    ensures sound { (result ≡ 0) ⊎ (result ≡ 3) → T.has_failed files.new ≡ T.has_failed files.old }
     ensures wrong { IsSome (wrong_with (asking_of request.now)) → files.new ≡ files.old }
     ensures rest { IsTrue (T.tells_bytes files.old) → KeepsUnnamed (asking_of request.now) (T.bytes_of files.old) (T.bytes_of files.new) }
     ensures finished { result ≡ 0 → ((O.state out.new).failures ≡ 0) × (err.new ≡ err.old) }

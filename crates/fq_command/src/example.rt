@@ -6,7 +6,7 @@ ghost use Rattle.fq_pair.specs.Forms.{TwoTexts};
 ghost use Rattle.fq_pair.specs.Summaries.{summary_of};
 ghost use Rattle.fq_run.specs.Devices.{outlet_states, AreHealthy};
 ghost use Rattle.fq_run.specs.Endings.{ends_whole};
-ghost use Rattle.fq_command.specs.Example.{example_choices, example_text, sections};
+ghost use Rattle.fq_command.specs.Example.{AreEmpty, example_choices, example_text, sections};
 ghost use Rattle.fq_job.specs.Faults.{outcome_status};
 ghost use Rattle.fq_job.specs.Trimming.{pairs_of, TrimsPairs};
 ghost use Rattle.fq_job.specs.declared.account.Account.{Account};
@@ -15,7 +15,7 @@ ghost use Rattle.fq_command.specs.declared.unshown.Unshown.TheVariants.{Unrun};
 use crate::unshown::Unshown;
 use fq_job::Account;
 use fq_pair::{Counts, summary};
-use fq_run::{Outcome, Outlets, Settings, run_threads};
+use fq_run::{Ending, Outcome, Outlets, Settings, run_threads};
 use fq_text::{Encoding, Feed, OutOfMemory, Outlet, ScriptFeed, ScriptOutlet};
 use fq_trim::Steps;
 use fq_work::OpenGate;
@@ -49,10 +49,44 @@ fn settings() -> Settings
     }
 }
 
+// An outlet in memory that has taken nothing.
 fn outlet(alloc: Global) -> ScriptOutlet
     ensures { (result.bytes ≡ []) × (result.failures ≡ 0) }
 {
     ScriptOutlet::new(alloc, CUT, 0, false)
+}
+
+// The outlets of the example.
+fn outlets(alloc: Global) -> Outlets<ScriptOutlet>
+    ensures { AreEmpty result.forward_paired result.forward_unpaired result.reverse_paired result.reverse_unpaired result.log }
+{
+    Outlets {
+        forward_paired: outlet(alloc),
+        forward_unpaired: outlet(alloc),
+        reverse_paired: outlet(alloc),
+        reverse_unpaired: outlet(alloc),
+        log: Some(outlet(alloc)),
+    }
+}
+
+// Why no text is made. It owns nothing, so it's handed on at little cost.
+#[derive(Drop)]
+enum Why {
+    // A thread was refused, or a lane could not be confirmed: how the run ended, and the counts of its pairs.
+    Unrun(Outcome, Counts),
+    // Memory was refused.
+    Memory,
+}
+
+impl From<OutOfMemory> for Why {
+    ghost use Rattle.std.specs.Prelude.{◌≡◌};
+    ghost use Rattle.fq_command.specs.declared.example.Why.TheVariants.{Memory};
+
+    ghost from_gives = { λ _ e. e ≡ Memory };
+
+    fn from(_e: OutOfMemory) -> Why {
+        Why::Memory
+    }
 }
 
 /// What the example prints: the texts of the two pairs, each below its label. Its run has two workers and blocks of one pair.
@@ -63,50 +97,68 @@ pub(crate) fn example<R: Threads + Wait + Copy + Send + 'static>(
     ensures text { IfOk result (λ text. text.items ≡ example_text) }
     ensures unrun { IfErr result (λ why. (account : Account) → why ≡ Unrun account → outcome_status account.outcome ≡ 6) }
 {
+    match text(alloc, rt) {
+        Ok(text) => Ok(text),
+        // A run of the example makes no tally.
+        Err(Why::Unrun(outcome, counts)) => Err(Unshown::Unrun(Account {
+            outcome,
+            counts,
+            tally: None,
+        })),
+        Err(Why::Memory) => Err(Unshown::Memory),
+    }
+}
+
+// What the example prints, or why it doesn't.
+fn text<R: Threads + Wait + Copy + Send + 'static>(alloc: Global, rt: &R) -> Result<Vec<u8>, Why>
+    ensures text { IfOk result (λ text. text.items ≡ example_text) }
+    ensures unrun { IfErr result (λ why. (outcome : Outcome) → (counts : Counts) → why ≡ Why.Unrun outcome counts → outcome_status outcome ≡ 6) }
+{
+    let mut outlets = outlets(alloc);
+    text_over(alloc, rt, &mut outlets)
+}
+
+// The same, over outlets that have taken nothing.
+fn text_over<R: Threads + Wait + Copy + Send + 'static>(
+    alloc: Global,
+    rt: &R,
+    outlets: &mut Outlets<ScriptOutlet>,
+) -> Result<Vec<u8>, Why>
+    requires { AreEmpty outlets.old.forward_paired outlets.old.forward_unpaired outlets.old.reverse_paired outlets.old.reverse_unpaired outlets.old.log }
+    ensures text { IfOk result (λ text. text.items ≡ example_text) }
+    ensures unrun { IfErr result (λ why. (outcome : Outcome) → (counts : Counts) → why ≡ Why.Unrun outcome counts → outcome_status outcome ≡ 6) }
+{
     let Ok(gate) = Arc::new(alloc, OpenGate) else {
-        return Err(Unshown::Memory);
+        return Err(Why::Memory);
     };
     let forward = ScriptFeed::new(alloc, FORWARD, CUT, 0)?;
     let reverse = ScriptFeed::new(alloc, REVERSE, CUT, 0)?;
-    let forward_paired = outlet(alloc);
-    let forward_unpaired = outlet(alloc);
-    let reverse_paired = outlet(alloc);
-    let reverse_unpaired = outlet(alloc);
-    let log = outlet(alloc);
-    let mut outlets = Outlets {
-        forward_paired,
-        forward_unpaired,
-        reverse_paired,
-        reverse_unpaired,
-        log: Some(log),
-    };
-    let account = run(alloc, rt, &settings(), gate, forward, reverse, &mut outlets);
-    shown(alloc, account, &outlets)
+    let (outcome, counts) = run(alloc, rt, &settings(), gate, forward, reverse, outlets);
+    shown(alloc, outcome, &counts, outlets)
 }
 
 // What a run left, each text below its label, or why it isn't shown.
 fn shown(
     alloc: Global,
-    account: Account,
+    outcome: Outcome,
+    counts: &Counts,
     outlets: &Outlets<ScriptOutlet>,
-) -> Result<Vec<u8>, Unshown>
-    ensures text { IfOk result (λ text. (account.outcome ≡ Outcome.Finished)
+) -> Result<Vec<u8>, Why>
+    ensures text { IfOk result (λ text. (outcome ≡ Outcome.Finished)
         × ((log : List ℕ) × (option_map (λ l. l.bytes) outlets.now.log ≡ Some log)
         × (text.items ≡ sections outlets.now.forward_paired.bytes outlets.now.forward_unpaired.bytes
-        outlets.now.reverse_paired.bytes outlets.now.reverse_unpaired.bytes log (summary_of account.counts)))) }
-    ensures unrun { IfErr result (λ why. (unrun : Account) → why ≡ Unrun unrun → outcome_status unrun.outcome ≡ 6) }
+        outlets.now.reverse_paired.bytes outlets.now.reverse_unpaired.bytes log (summary_of counts.now)))) }
+    ensures unrun { IfErr result (λ why. (ended : Outcome) → (counted : Counts) → why ≡ Why.Unrun ended counted → outcome_status ended ≡ 6) }
 {
-    match (account.outcome, &outlets.log) {
-        (Outcome::Finished, Some(log)) => {
-            Ok(labelled(alloc, outlets, log.bytes(), &account.counts)?)
-        }
-        (Outcome::Spawn | Outcome::Lane, _) => Err(Unshown::Unrun(account)),
+    match (outcome, &outlets.log) {
+        (Outcome::Finished, Some(log)) => Ok(labelled(alloc, outlets, log.bytes(), counts)?),
+        (Outcome::Spawn | Outcome::Lane, _) => Err(Why::Unrun(outcome, *counts)),
         // Outlets in memory fail for want of memory alone.
-        _ => Err(Unshown::Memory),
+        _ => Err(Why::Memory),
     }
 }
 
-// The run of the example, over its inputs.
+// The run of the example, over its inputs: how it ended, and the counts of its pairs.
 fn run<R: Threads + Wait + Copy + Send + 'static, F: Feed + Drop + Send + 'static, O: Outlet>(
     alloc: Global,
     rt: &R,
@@ -115,20 +167,22 @@ fn run<R: Threads + Wait + Copy + Send + 'static, F: Feed + Drop + Send + 'stati
     forward: F,
     reverse: F,
     outlets: &mut Outlets<O>,
-) -> Account
+) -> (Outcome, Counts)
     requires forward { (F.state forward).failures ≡ 0 }
     requires reverse { (F.state reverse).failures ≡ 0 }
     requires healthy { AreHealthy (outlet_states O.state outlets.old) }
-    ensures { IsTrue (ends_whole result.outcome) → IsTrue (F.state forward).tells → IsTrue (F.state reverse).tells
+    ensures { IsTrue (ends_whole result.0) → IsTrue (F.state forward).tells → IsTrue (F.state reverse).tells
         → TrimsPairs settings.now (pairs_of settings.now TwoTexts (F.state forward).to_come (F.state reverse).to_come)
-        (outlet_states O.state outlets.old) (outlet_states O.state outlets.new) result.outcome result.counts }
+        (outlet_states O.state outlets.old) (outlet_states O.state outlets.new) result.0 result.1 }
 {
-    let ending = run_threads(alloc, rt, settings, gate, forward, reverse, outlets);
-    Account {
-        outcome: ending.outcome,
-        counts: ending.counts,
-        tally: ending.tally,
-    }
+    ended(run_threads(alloc, rt, settings, gate, forward, reverse, outlets))
+}
+
+// How a run ended, and the counts of its pairs.
+fn ended<F: Drop>(ending: Ending<F, F>) -> (Outcome, Counts)
+    ensures { (result.0 ≡ ending.outcome) × (result.1 ≡ ending.counts) }
+{
+    (ending.outcome, ending.counts)
 }
 
 // The texts of the outlets and the summary, each below its label.

@@ -1,7 +1,7 @@
 //! The program, apart from where its words and files come from and its texts go to: [`program`] answers the words of a call with what
 //! it leaves in files, what it prints, and an exit status.
 //!
-//! It is an inner layer of the program `fq_prog`, whose crate gives it the system's words, files and outputs. `fq_command_tests` gives it
+//! It is an inner layer of the program `fq_prog`, whose crate gives it the system's words, files and outputs. `fq_rows` gives it
 //! others, in memory.
 #![tactic(auto)]
 

@@ -1,5 +1,5 @@
 -- What files in memory hold.
-use Rattle.std.specs.Prelude.{ℕ, Option, List}
+use Rattle.std.specs.Prelude.{ℕ, Bool, Option, List}
 use Rattle.std.specs.Option.{option_map}
 use Rattle.std.specs.BTreeMap.{get_by_text}
 use Rattle.fq_files.specs.declared.memory.MemoryFiles.{MemoryFiles}
@@ -7,3 +7,7 @@ use Rattle.fq_files.specs.declared.memory.MemoryFiles.{MemoryFiles}
 -- the bytes of a name
 abbrev pub bytes_in : MemoryFiles → List ℕ → Option (List ℕ)
 bytes_in files name = option_map (λ bytes. bytes.items) (get_by_text files.held name)
+
+-- a failure counts for every name
+abbrev pub failed_in : MemoryFiles → List ℕ → Bool
+failed_in files name = files.has_failed

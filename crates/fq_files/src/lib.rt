@@ -9,6 +9,3 @@ mod system;
 pub use files::{FileFault, Files};
 pub use memory::{MemoryFiles, MemoryTarget};
 pub use system::{SystemFiles, SystemTarget};
-
-#[cfg(test)]
-mod tests;

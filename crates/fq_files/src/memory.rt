@@ -1,31 +1,36 @@
 //! Files in memory.
 
 use crate::files::{FileFault, Files};
-use fq_text::{OutOfMemory, Outlet, OutletFailed, ScriptFeed};
+use fq_text::{Feed, OutOfMemory, Outlet, OutletFailed, ScriptFeed};
 use std::alloc::Global;
 use std::collections::BTreeMap;
 
 /// Files in memory. They tell their bytes.
 ///
-/// A name that isn't held is refused as an input, and made as an output. The feeds cut nothing.
+/// A name that isn't held is refused as an input, and made as an output. No name is refused as an output, but for want of memory. The
+/// feeds cut nothing. A failure counts for every name.
 #[derive(Drop)]
 pub struct MemoryFiles {
     held: BTreeMap<String, Vec<u8>>,
+    // Whether a device that was handed back has failed.
+    has_failed: bool,
     alloc: Global,
 }
 
 impl MemoryFiles {
-    ghost use Rattle.std.specs.Prelude.{◌≡◌, ℕ, Some, None, List, OnOk, OnErr};
+    ghost use Rattle.std.specs.Prelude.{◌≡◌, ℕ, false, Some, None, List, OnOk, OnErr};
     ghost use Rattle.std.specs.Option.{option_map};
     ghost use Rattle.fq_files.specs.Holding.{KeepsOthers, KeepsNames, IsUnchanged};
-    ghost use Rattle.fq_files.specs.Memory.{bytes_in};
+    ghost use Rattle.fq_files.specs.Memory.{bytes_in, failed_in};
 
     /// Files that hold no name.
     pub fn new(alloc: Global) -> MemoryFiles
-        ensures { (name : List ℕ) → bytes_in result name ≡ None }
+        ensures nothing { (name : List ℕ) → bytes_in result name ≡ None }
+        ensures sound { (name : List ℕ) → failed_in result name ≡ false }
     {
         MemoryFiles {
             held: BTreeMap::new(alloc),
+            has_failed: false,
             alloc,
         }
     }
@@ -36,6 +41,7 @@ impl MemoryFiles {
         ensures held { KeepsNames (bytes_in self.old) (bytes_in self.new) }
         ensures others { KeepsOthers (bytes_in self.old) (bytes_in self.new) name.now }
         ensures err { OnErr result (IsUnchanged (bytes_in self.old) (bytes_in self.new)) }
+        ensures failed { failed_in self.new ≡ failed_in self.old }
     {
         let key = String::from_str(self.alloc, name)?;
         let bytes = Vec::from_slice(self.alloc, bytes)?;
@@ -55,9 +61,9 @@ impl MemoryFiles {
 }
 
 impl Files for MemoryFiles {
-    ghost use Rattle.std.specs.Prelude.{◌≡◌, true, Some, None, Err, IfOk};
+    ghost use Rattle.std.specs.Prelude.{◌≡◌, true, false, Some, None, Err, IfOk};
     ghost use Rattle.fq_files.specs.Holding.{IsUnchanged};
-    ghost use Rattle.fq_files.specs.Memory.{bytes_in};
+    ghost use Rattle.fq_files.specs.Memory.{bytes_in, failed_in};
 
     type In = ScriptFeed;
 
@@ -67,6 +73,10 @@ impl Files for MemoryFiles {
 
     ghost bytes_of = { bytes_in };
 
+    ghost refuses = { λ _ _. false };
+
+    ghost has_failed = { failed_in };
+
     fn source(&mut self, name: &str) -> Result<ScriptFeed, FileFault>
         // A feed of the name's bytes, which no read cuts short and no read fails to give.
         ensures given { IfOk result (λ feed. bytes_in self.old name.now ≡ Some feed.bytes) }
@@ -75,10 +85,17 @@ impl Files for MemoryFiles {
         // What all files do that tell their bytes.
         ensures refused { result ≡ Err FileFault.Refused → bytes_in self.old name.now ≡ None }
         ensures unchanged { IsUnchanged (bytes_in self.old) (bytes_in self.new) }
+        ensures failed { failed_in self.new ≡ failed_in self.old }
     {
         match self.held.get(name) {
             Some(bytes) => Ok(ScriptFeed::new(self.alloc, bytes, usize::MAX, 0)?),
             None => Err(FileFault::Refused),
+        }
+    }
+
+    fn source_done(&mut self, _name: &str, feed: ScriptFeed) {
+        if feed.failures() > 0 {
+            self.has_failed = true;
         }
     }
 
@@ -88,6 +105,9 @@ impl Files for MemoryFiles {
     }
 
     fn done(&mut self, name: &str, target: MemoryTarget) {
+        if target.failures > 0 {
+            self.has_failed = true;
+        }
         if let Some(bytes) = self.held.get_mut(name) {
             *bytes = target.into_bytes();
         }

@@ -2,7 +2,7 @@
 
 use crate::device::major_of;
 use crate::files::{FileFault, Files};
-use fq_text::{FromRead, OutOfMemory, Outlet, OutletFailed};
+use fq_text::{Feed, FromRead, OutOfMemory, Outlet, OutletFailed};
 use std::alloc::Global;
 use std::fs::{self, File, Metadata, OpenOptions};
 use std::io::Write;
@@ -28,7 +28,8 @@ impl Identity {
 /// The files of the system, which tell no bytes.
 ///
 /// A file that was opened as an input is refused as an output, under whatever name, and is left as it is. A regular file that is an
-/// input already is refused as another input, and one that is an output already as another output.
+/// input already is refused as another input, and one that is an output already as another output. Every name may be refused, and a
+/// failure counts for every name.
 #[derive(Drop)]
 pub struct SystemFiles<'a, R: rt::Files<File = File>> {
     runtime: &'a R,
@@ -37,6 +38,8 @@ pub struct SystemFiles<'a, R: rt::Files<File = File>> {
     outputs: Vec<Identity>,
     // Whether a flush waits for the disk on each device.
     syncs_always: bool,
+    // Whether a device that was handed back has failed.
+    has_failed: bool,
 }
 
 impl<'a, R: rt::Files<File = File>> SystemFiles<'a, R> {
@@ -47,6 +50,7 @@ impl<'a, R: rt::Files<File = File>> SystemFiles<'a, R> {
             inputs: Vec::new(alloc),
             outputs: Vec::new(alloc),
             syncs_always: false,
+            has_failed: false,
         }
     }
 
@@ -78,7 +82,7 @@ impl<'a, R: rt::Files<File = File>> SystemFiles<'a, R> {
 }
 
 impl<'a, R: rt::Files<File = File>> Files for SystemFiles<'a, R> {
-    ghost use Rattle.std.specs.Prelude.{false, None};
+    ghost use Rattle.std.specs.Prelude.{true, false, None};
 
     type In = FromRead<File>;
 
@@ -87,6 +91,10 @@ impl<'a, R: rt::Files<File = File>> Files for SystemFiles<'a, R> {
     ghost tells_bytes = { λ _. false };
 
     ghost bytes_of = { λ _ _. None };
+
+    ghost refuses = { λ _ _. true };
+
+    ghost has_failed = { λ files _. files.has_failed };
 
     fn source(&mut self, name: &str) -> Result<FromRead<File>, FileFault> {
         let Ok(file) = File::open(self.runtime, name) else {
@@ -102,6 +110,12 @@ impl<'a, R: rt::Files<File = File>> Files for SystemFiles<'a, R> {
         }
         self.inputs.push(identity).map_err(OutOfMemory::from)?;
         Ok(FromRead::new(file))
+    }
+
+    fn source_done(&mut self, _name: &str, feed: FromRead<File>) {
+        if feed.failures() > 0 {
+            self.has_failed = true;
+        }
     }
 
     fn leads_to_input(&self, name: &str) -> bool {
@@ -144,7 +158,11 @@ impl<'a, R: rt::Files<File = File>> Files for SystemFiles<'a, R> {
         self.syncs_always = true;
     }
 
-    fn done(&mut self, _name: &str, _target: SystemTarget) {}
+    fn done(&mut self, _name: &str, target: SystemTarget) {
+        if target.failed_calls > 0 {
+            self.has_failed = true;
+        }
+    }
 }
 
 /// A file of the system that is written. It tells no bytes.

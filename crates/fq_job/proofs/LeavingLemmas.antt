@@ -2,24 +2,18 @@
 use Rattle.std.proofs.Common.{◌≡◌, ◌≢◌, ℕ, IsTrue, IsSome, Option, Some, None, Result, Ok, Err, List, [], ◌++◌, refl, sym, ap, subst, ◌∙◌, inl, inr, ◌⊎◌, ⊎_elim}
 use Rattle.std.proofs.lemmas.List.{append-nil}
 use Rattle.fq_files.specs.Holding.{Holding, IsUnchanged}
-use Rattle.fq_trim.specs.declared.step.Step.{Step}
-use Rattle.fq_trim.specs.declared.fault.StepFault.{StepFault}
-use Rattle.fq_trim.specs.Words.{steps_of}
-use Rattle.fq_text.specs.declared.encoding.Encoding.{Encoding}
 use Rattle.fq_pair.specs.declared.counts.Counts.{Counts}
 use Rattle.fq_pair.specs.declared.fault.InputFault.{InputFault}
 use Rattle.fq_pair.specs.declared.out.Out.{Out}
 use Rattle.fq_pair.specs.Outputs.{texts_of, text_of}
-use Rattle.fq_run.specs.Choices.{Choices, checked}
-use Rattle.fq_run.specs.BadSetting.{BadSetting}
+use Rattle.fq_run.specs.Choices.{Choices}
 use Rattle.fq_run.specs.Outcome.{Outcome}
 use Rattle.fq_run.specs.Outcome.TheVariants.{Spawn, Write}
 use Rattle.fq_run.specs.Endings.{Run, AreTold, EveryEnding, all_pairs, trimmed_outcome}
 use Rattle.fq_run.specs.Fates.{Unbroken}
 use Rattle.fq_job.specs.declared.refusal.Refusal.{Refusal}
 use Rattle.fq_job.specs.declared.refusal.Refusal.TheVariants as why
-use Rattle.fq_words.specs.Requests.{Asking, InputNames, encoding_of}
-use Rattle.fq_job.specs.Judging.{judged, with_steps, with_encoding, settings_of, choices_of}
+use Rattle.fq_words.specs.Requests.{Asking, InputNames}
 use Rattle.fq_job.specs.Trimming.{TrimsFiles, pairs_of}
 use Rattle.fq_job.specs.Leaving.{AreUntrimmed, RefusalLeaves, ReportLeft, TellsInputs, is_early, is_late, TrimsFirst, HoldFirstPairs}
 use Rattle.fq_job.proofs.MakingLemmas.{stops_untrimmed}
@@ -36,23 +30,6 @@ first_of c run every told = record {
 }
 
 -- ---- refusals
-
--- settings that are wrong are told before an output is made
-judged_early : (r : Result Choices BadSetting) (report : Option (List ℕ)) (refusal : Refusal) → judged r report ≡ Err refusal → IsTrue (is_early refusal)
-judged_early (Ok c) None refusal e = absurd cc
-judged_early (Ok c) (Some report) refusal e = absurd cc
-judged_early (Err bad) report refusal e = let is : why.Setting bad ≡ refusal = cc in subst (λ (r : Refusal). IsTrue (is_early r)) is refl
-
-steps_early : (a : Asking) (encoding : Encoding) (r : Result (List Step) StepFault) (refusal : Refusal) → with_steps a encoding r ≡ Err refusal → IsTrue (is_early refusal)
-steps_early a encoding (Ok steps) refusal e = judged_early (checked (choices_of a encoding steps)) a.report refusal e
-steps_early a encoding (Err fault) refusal e = let is : why.Step fault ≡ refusal = cc in subst (λ (r : Refusal). IsTrue (is_early r)) is refl
-
-encoding_early : (a : Asking) (o : Option Encoding) (refusal : Refusal) → with_encoding a o ≡ Err refusal → IsTrue (is_early refusal)
-encoding_early a (Some encoding) refusal e = steps_early a encoding (steps_of a.steps) refusal e
-encoding_early a None refusal e = let is : why.Encoding ≡ refusal = cc in subst (λ (r : Refusal). IsTrue (is_early r)) is refl
-
-pub settings_early : (a : Asking) (refusal : Refusal) → settings_of a ≡ Err refusal → IsTrue (is_early refusal)
-settings_early a refusal e = encoding_early a (encoding_of a.encoding) refusal e
 
 -- a refusal before the outputs leaves the files as they were
 pub leaves_unchanged : (a : Asking) (refusal : Refusal) (old new : Holding) → IsTrue (is_early refusal) → IsUnchanged old new → RefusalLeaves a refusal old new

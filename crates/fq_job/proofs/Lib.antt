@@ -5,3 +5,7 @@ mod RestLemmas
 mod MakingLemmas
 mod TextLemmas
 mod ReportingLemmas
+mod CountingLemmas
+mod FailureLemmas
+mod CompletingLemmas
+mod OpeningLemmas

@@ -5,3 +5,5 @@ pub mod Leaving
 pub mod Making
 pub mod Faults
 pub mod Reporting
+pub mod Opening
+pub mod Completing

@@ -1,7 +1,10 @@
 -- Trimming the pairs of files into others.
 use Rattle.std.specs.Prelude.{◌≡◌, ◌≢◌, ℕ, Bool, IsTrue, IsSome, Option, Some, None, Ok, List, []}
+use Rattle.std.specs.Option.{option_map}
 use Rattle.fq_files.specs.Holding.{Holding}
 use Rattle.fq_pair.specs.declared.out.Out.{Out}
+use Rattle.fq_pair.specs.declared.side.Side.{Side}
+use Rattle.fq_pair.specs.declared.side.Side.TheVariants.{Forward, Reverse}
 use Rattle.fq_pair.specs.declared.counts.Counts.{Counts}
 use Rattle.fq_pair.specs.Pairing.{Pairs}
 use Rattle.fq_pair.specs.Forms.{Form, TwoTexts, InterleavedText, pairs_in}
@@ -10,11 +13,12 @@ use Rattle.fq_run.specs.Choices.{Choices}
 use Rattle.fq_run.specs.Outcome.{Outcome}
 use Rattle.fq_text.specs.Devices.{FeedState, OutletState}
 use Rattle.fq_run.specs.Devices.{OutletStates, OutletsTook, outlet_at}
-use Rattle.fq_run.specs.Endings.{trimmed_outcome}
+use Rattle.fq_run.specs.Endings.{Run, trimmed_outcome}
 use Rattle.fq_words.specs.Requests.{Asking, InputNames, output_name}
 use Rattle.fq_job.specs.Judging.{settings_of}
-use Rattle.fq_job.specs.declared.trimming.Feeds.{Feeds}
-use Rattle.fq_job.specs.declared.trimming.Feeds.TheVariants.{Apart, Interleaved}
+use Rattle.fq_job.specs.declared.account.Account.{Account}
+use Rattle.fq_job.specs.declared.feeds.Feeds.{Feeds}
+use Rattle.fq_job.specs.declared.feeds.Feeds.TheVariants.{Apart, Interleaved}
 
 -- no two outputs have one name
 abbrev pub HasDistinctOutputs : Asking → Type 0
@@ -65,6 +69,31 @@ pub record Opened : Type 0 where
 abbrev pub opened_of : {F : Type 0} → (F → FeedState) → Feeds F → Opened
 opened_of state (Apart forward reverse) = record { form = TwoTexts; forward = state forward; reverse = state reverse }
 opened_of state (Interleaved both) = record { form = InterleavedText; forward = state both; reverse = state both }
+
+-- the same feeds behind a run, as far as they came back
+abbrev pub left_of : {F : Type 0} → (F → FeedState) → Feeds (Option F) → Side → Option FeedState
+left_of state (Apart forward reverse) Forward = option_map state forward
+left_of state (Apart forward reverse) Reverse = option_map state reverse
+left_of state (Interleaved both) side = option_map state both
+
+abbrev pub form_of : {F : Type 0} → Feeds F → Form
+form_of (Apart forward reverse) = TwoTexts
+form_of (Interleaved both) = InterleavedText
+
+-- a run of these inputs
+abbrev pub run_in : Opened → OutletStates → OutletStates → (Side → Option FeedState) → Account → Run
+run_in inputs outlets outlets_left left account = record {
+  form = inputs.form;
+  forward = inputs.forward;
+  reverse = inputs.reverse;
+  outlets = outlets;
+  forward_left = left Forward;
+  reverse_left = left Reverse;
+  outlets_left = outlets_left;
+  outcome = account.outcome;
+  counts = account.counts;
+  tally = account.tally;
+}
 
 -- no input has failed
 pub record AreFresh (inputs : Opened) : Type 0 where

@@ -1,19 +1,35 @@
 //! What is wrong with what is asked, before a file is opened.
 
-ghost use Rattle.std.specs.Prelude.{◌≡◌};
+ghost use Rattle.std.specs.Prelude.{◌≡◌, Some, None, Ok, IfOk, IfErr};
 ghost use Rattle.fq_words.specs.Requests.{asking_of};
-ghost use Rattle.fq_job.specs.Judging.{settings_of};
+ghost use Rattle.fq_job.specs.Judging.{settings_of, wrong_with};
 
 use crate::refusal::Refusal;
 use fq_run::Settings;
 use fq_trim::Steps;
-use fq_words::{Request, encoding_of};
+use fq_words::{Request, encoding_of, report_is_input, same_name};
 
 // The reads of an input, and the turns at a gate: 2 to the power of 40.
 const MOST: u64 = 1 << 40;
 
-/// The settings of the run, or the first of the encoding, the steps and the numbers that is bad.
-pub(crate) fn settings_of(request: &Request<'_>) -> Result<Settings, Refusal>
+/// The settings of the run, or the first thing that is wrong with the request.
+pub(crate) fn judge(request: &Request<'_>) -> Result<Settings, Refusal>
+    ensures settings { IfOk result (λ settings. settings_of (asking_of request.now) ≡ Ok settings) }
+    ensures right { IfOk result (λ settings. wrong_with (asking_of request.now) ≡ None) }
+    ensures wrong { IfErr result (λ why. wrong_with (asking_of request.now) ≡ Some why) }
+{
+    let settings = settings_of(request)?;
+    if let Some(out) = same_name(request) {
+        return Err(Refusal::SameName(out));
+    }
+    if report_is_input(request) {
+        return Err(Refusal::SameReport);
+    }
+    Ok(settings)
+}
+
+// The settings of the run, or the first of the encoding, the steps and the numbers that is bad.
+fn settings_of(request: &Request<'_>) -> Result<Settings, Refusal>
     ensures { result ≡ settings_of (asking_of request.now) }
 {
     let encoding = match encoding_of(request.encoding) {

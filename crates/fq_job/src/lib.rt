@@ -6,6 +6,7 @@
 #![tactic(auto)]
 
 mod account;
+mod feeds;
 mod judging;
 mod outcome_line;
 mod outputs;

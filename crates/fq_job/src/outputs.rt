@@ -9,6 +9,8 @@ ghost use Rattle.fq_job.specs.Refusals.{status_of};
 ghost use Rattle.fq_job.specs.Trimming.{AreHeld, AreEmpty};
 ghost use Rattle.fq_job.specs.Leaving.{is_late};
 ghost use Rattle.fq_job.specs.Making.{Made, Unmade, Stored};
+ghost use Rattle.fq_job.specs.Opening.{IsRefusable};
+ghost use Rattle.fq_job.specs.Completing.{Failed, AreCounted};
 
 use crate::refusal::{Refusal, file_refused};
 use fq_files::Files;
@@ -28,6 +30,10 @@ pub(crate) fn outputs<T: Files>(
     ensures made { OnOk result (Made (asking_of request.now) (T.bytes_of files.old) 5 (T.tells_bytes files.new) (T.bytes_of files.new)) }
     ensures unmade { IfErr result (λ why. Unmade (asking_of request.now) why (T.bytes_of files.old) (T.tells_bytes files.new) (T.bytes_of files.new)) }
     ensures told { T.tells_bytes files.new ≡ T.tells_bytes files.old }
+    ensures names { IsTrue (T.tells_bytes files.old) → KeepsNames (T.bytes_of files.old) (T.bytes_of files.new) }
+    ensures refused { IfErr result (λ why. IsRefusable (asking_of request.now) (T.refuses files.old) why) }
+    ensures refusing { T.refuses files.new ≡ T.refuses files.old }
+    ensures failed { T.has_failed files.new ≡ T.has_failed files.old }
     ensures opened { IfErr result (λ why. IsTrue (is_late why)) }
     ensures late { IfErr result (λ why. status_of why ≢ 2) }
 {
@@ -61,6 +67,10 @@ fn output<T: Files>(request: &Request<'_>, files: &mut T, out: Out) -> Result<T:
     ensures why { IfErr result (λ why. (why ≡ Refused.Target out) ⊎ (why ≡ Refused.Memory)) }
     ensures opened { IfErr result (λ why. IsTrue (is_late why)) }
     ensures told { T.tells_bytes files.new ≡ T.tells_bytes files.old }
+    ensures names { IsTrue (T.tells_bytes files.old) → KeepsNames (T.bytes_of files.old) (T.bytes_of files.new) }
+    ensures refused { IfErr result (λ why. IsRefusable (asking_of request.now) (T.refuses files.old) why) }
+    ensures refusing { T.refuses files.new ≡ T.refuses files.old }
+    ensures failed { T.has_failed files.new ≡ T.has_failed files.old }
 {
     match files.target(request.output_name(out)) {
         Ok(target) => Ok(target),
@@ -75,6 +85,7 @@ pub(crate) fn store<T: Files>(request: &Request<'_>, files: &mut T, outlets: Out
         (T.tells_bytes files.new) (T.bytes_of files.new) }
     ensures names { IsTrue (T.tells_bytes files.old) → KeepsNames (T.bytes_of files.old) (T.bytes_of files.new) }
     ensures told { T.tells_bytes files.new ≡ T.tells_bytes files.old }
+    ensures counted { AreCounted (asking_of request.now) (outlet_states T.Target.state outlets) 5 (T.has_failed files.old) (T.has_failed files.new) }
 {
     let Outlets {
         forward_paired,
@@ -102,6 +113,9 @@ fn store_one<T: Files>(request: &Request<'_>, files: &mut T, out: Out, outlet: T
         → Stored (asking_of request.now) start states (suc (place out)) (T.tells_bytes files.new) (T.bytes_of files.new) }
     ensures names { IsTrue (T.tells_bytes files.old) → KeepsNames (T.bytes_of files.old) (T.bytes_of files.new) }
     ensures told { T.tells_bytes files.new ≡ T.tells_bytes files.old }
+    ensures counted { (start : Failed) (states : OutletStates) → outlet_at out states ≡ Some (T.Target.state outlet)
+        → AreCounted (asking_of request.now) states (place out) start (T.has_failed files.old)
+        → AreCounted (asking_of request.now) states (suc (place out)) start (T.has_failed files.new) }
 {
     files.done(request.output_name(out), outlet);
 }

@@ -10,6 +10,8 @@ ghost use Rattle.fq_words.specs.Requests.{asking_of, names_of};
 ghost use Rattle.fq_job.specs.declared.refusal.Refusal.{Refusal as Refused};
 ghost use Rattle.fq_job.specs.Faults.{outcome_status};
 ghost use Rattle.fq_job.specs.Reporting.{report_inputs, run_facts, IsTextOf, TookReport};
+ghost use Rattle.fq_job.specs.Opening.{IsRefusable};
+ghost use Rattle.fq_job.specs.Completing.{KeepsFailed, ReportFailed};
 
 use crate::account::Account;
 use crate::outcome_line::{fault_line, status_of};
@@ -52,6 +54,9 @@ pub(crate) fn report_target<T: Files>(
     ensures others { IsTrue (T.tells_bytes files.old) → (name : List ℕ) → (asking_of request.now).report ≢ Some name
         → T.bytes_of files.new name ≡ T.bytes_of files.old name }
     ensures told { T.tells_bytes files.new ≡ T.tells_bytes files.old }
+    ensures refused { IfErr result (λ why. IsRefusable (asking_of request.now) (T.refuses files.old) why) }
+    ensures refusing { T.refuses files.new ≡ T.refuses files.old }
+    ensures failed { T.has_failed files.new ≡ T.has_failed files.old }
 {
     let Some(name) = request.report else {
         return Ok(None);
@@ -85,6 +90,9 @@ pub(crate) fn store_report<T: Files>(
     ensures others { IsTrue (T.tells_bytes files.old) → (name : List ℕ) → (asking_of request.now).report ≢ Some name
         → T.bytes_of files.new name ≡ T.bytes_of files.old name }
     ensures told { T.tells_bytes files.new ≡ T.tells_bytes files.old }
+    ensures failed { result ≡ Reported.Failed → ReportFailed (asking_of request.now) (T.has_failed files.new) }
+    ensures sound { result ≢ Reported.Failed → T.has_failed files.new ≡ T.has_failed files.old }
+    ensures still { KeepsFailed (T.has_failed files.old) (T.has_failed files.new) }
 {
     match (request.report, target) {
         (Some(name), Some(mut target)) => {
@@ -109,7 +117,7 @@ fn write_report<O: Outlet>(
     ensures not_due { result ≡ Reported.NotDue → (outcome_status account.now.outcome ≢ 0) × (outcome_status account.now.outcome ≢ 3) }
     ensures took { IsTrue (O.state target.old).tells
         → TookReport result (asking_of request.now) encoding account.now (O.state target.old).taken (O.state target.new).taken }
-    ensures written { result ≡ Reported.Written → (O.state target.new).failures ≡ 0 }
+    ensures sound { result ≢ Reported.Failed → (O.state target.new).failures ≡ 0 }
     ensures failed { result ≡ Reported.Failed → (O.state target.new).failures ≢ 0 }
     ensures told { (O.state target.new).tells ≡ (O.state target.old).tells }
 {

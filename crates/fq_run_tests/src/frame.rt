@@ -275,20 +275,6 @@ pub fn threaded<
     Ok(run_threads(alloc, rt, settings, gate, forward, reverse, outlets))
 }
 
-/// Runs with a log on one thread.
-fn run_alone(
-    rt: &impl Abort,
-    alloc: Global,
-    given: &Given<'_>,
-    settings: &Settings,
-) -> Result<Box<Left>, Fail> {
-    let forward = feed(rt, alloc, given.forward, given.cut, given.fails_at_read)?;
-    let reverse = feed(rt, alloc, given.reverse, given.cut, 0)?;
-    let mut outlets = outlets(rt, alloc, given);
-    let ending = serial(alloc, settings, forward, reverse, &mut outlets);
-    left_of(alloc, ending, outlets)
-}
-
 /// Runs with a log on so many workers' threads, behind a gate.
 pub fn run_behind<R: Abort + Threads + Wait + Copy + Send + 'static, H: Gate + 'static>(
     rt: &R,
@@ -315,20 +301,4 @@ pub fn leaves_behind<R: Abort + Threads + Wait + Copy + Send + 'static, H: Gate 
 ) -> Result<(), Fail> {
     let left = run_behind(rt, alloc, given, settings, gate)?;
     assert_left(rt, &left, wanted)
-}
-
-/// Runs with a log on one thread, and then on those of 1 to 5 workers, and compares what each run leaves.
-pub fn leaves<R: Abort + Threads + Wait + Copy + Send + 'static>(
-    rt: &R,
-    alloc: Global,
-    given: &Given<'_>,
-    wanted: &Wanted<'_>,
-) -> Result<(), Fail> {
-    let alone = run_alone(rt, alloc, given, &settings_of(given, 4, 4)?)?;
-    assert_left(rt, &alone, wanted)?;
-    for workers in 1..6 {
-        let settings = settings_of(given, workers, 4)?;
-        leaves_behind(rt, alloc, given, &settings, OpenGate, wanted)?;
-    }
-    Ok(())
 }

@@ -3,16 +3,13 @@
 ghost use Rattle.std.specs.Prelude.{◌≡◌, true};
 ghost use Rattle.fq_serial.specs.Devices.{outlet_states, AreHealthy};
 
-use super::frame::{
-    Given, Left, Wanted, assert_left, counts, feed, nothing, outlets, settings_of, with_defaults,
-};
-use super::fronts::{Front, OUTS, front_of};
-use super::rows::{first_pair, five_pairs, two_pairs};
-use super::sweeps::{BLOCK_PAIRS, CUT, RECORD, WAYS, Way};
+use super::frame::{Given, Left, Wanted, assert_left, feed, outlets, settings_of, with_defaults};
+use super::rows::five_pairs;
+use super::sweeps::{BLOCK_PAIRS, CUT, RECORD, WAYS, Way, front_of};
 use fq_pair::{InputFault, Out, Side};
 use fq_run::{MixedEnding, Outcome, Outlets, Settings, run_serial_mixed, run_threads_mixed};
-use fq_samples::{ELEVEN_INTERLEAVED, SEVEN_STEPS, TWO_INTERLEAVED, TWO_STEPS};
-use fq_text::{ScriptFeed, ScriptOutlet, TextFault};
+use fq_samples::{ELEVEN_INTERLEAVED, Front, SEVEN_STEPS};
+use fq_text::{ScriptFeed, ScriptOutlet};
 use fq_work::OpenGate;
 use std::alloc::Global;
 use std::process::Abort;
@@ -79,7 +76,7 @@ fn run_alone(
 }
 
 /// The same on several threads.
-pub fn run_threaded<R: Abort + Threads + Wait + Copy + Send + 'static>(
+fn run_threaded<R: Abort + Threads + Wait + Copy + Send + 'static>(
     rt: &R,
     alloc: Global,
     settings: &Settings,
@@ -129,62 +126,6 @@ fn leaves_interleaved<R: Abort + Threads + Wait + Copy + Send + 'static>(
     Ok(())
 }
 
-#[test]
-fn two_interleaved_pairs(rt: HostRuntime) -> Result<(), Fail> {
-    let run = with_defaults(TWO_INTERLEAVED, b"", TWO_STEPS);
-    leaves_interleaved(&rt, rt.alloc(), &run, &two_pairs())
-}
-
-#[test]
-fn an_empty_text(rt: HostRuntime) -> Result<(), Fail> {
-    let run = with_defaults(b"", b"", &["LEADING:3"]);
-    leaves_interleaved(&rt, rt.alloc(), &run, &nothing(Outcome::Finished))
-}
-
-#[test]
-fn a_fault_in_a_reverse_record_carries_its_number_in_the_text(rt: HostRuntime) -> Result<(), Fail> {
-    let text =
-        b"@p1/1\nACGT\n+\n#!II\n@p1/2\nTTTT\n+\nIIII\n@p2/1\nGGCC\n+\nIIII\n@p2/2\nAAAA\n+x\n!!!\"\n";
-    let run = with_defaults(text, b"", &["LEADING:3"]);
-    let fault = InputFault::Text(Side::Reverse, TextFault::PlusDiffers(4));
-    leaves_interleaved(&rt, rt.alloc(), &run, &first_pair(Outcome::Input(fault)))
-}
-
-#[test]
-fn a_last_forward_record_without_its_mate(rt: HostRuntime) -> Result<(), Fail> {
-    for block_pairs in [1, 2, 7] {
-        for cut in [1, 5, 1000usize] {
-            let run = Given {
-                block_pairs,
-                cut,
-                ..with_defaults(ELEVEN_INTERLEAVED, b"", SEVEN_STEPS)
-            };
-            leaves_interleaved(&rt, rt.alloc(), &run, &five_of_eleven())?;
-        }
-    }
-    Ok(())
-}
-
-#[test]
-fn interleaved_names_that_differ(rt: HostRuntime) -> Result<(), Fail> {
-    let text = b"@a/1\nACGT\n+\nIIII\n@b/2\nTTTT\n+\nIIII\n";
-    let run = with_defaults(text, b"", &["LEADING:3"]);
-    let fault = Outcome::Input(InputFault::NamesDiffer(1));
-    leaves_interleaved(&rt, rt.alloc(), &run, &nothing(fault))?;
-    let unchecked = Given {
-        check_names: false,
-        ..run
-    };
-    let wanted = Wanted {
-        forward_paired: b"@a/1\nACGT\n+\nIIII\n",
-        reverse_paired: b"@b/2\nTTTT\n+\nIIII\n",
-        log: b"a 4 0 4 0\nb 4 0 4 0\n",
-        counts: counts(1, 1, 0, 0, 0),
-        ..nothing(Outcome::Finished)
-    };
-    leaves_interleaved(&rt, rt.alloc(), &unchecked, &wanted)
-}
-
 /// What a run over the eleven records leaves where no device fails.
 fn five_of_eleven() -> Wanted<'static> {
     five_pairs(Outcome::Input(InputFault::MateMissing(Side::Reverse, 6)))
@@ -211,7 +152,7 @@ fn front_interleaved<R: Abort + Threads + Wait + Copy + Send + 'static>(
     way: Way,
 ) -> Result<(Outcome, Front), Fail> {
     let left = run_interleaved(rt, alloc, given, way)?;
-    let front = front_of(&left.outlets, left.counts, BLOCK_PAIRS)?;
+    let front = front_of(&left.outlets, left.counts)?;
     Ok((left.outcome, front))
 }
 
@@ -304,18 +245,6 @@ fn each_write_of_one_text_fails_in_turn(rt: HostRuntime) -> Result<(), Fail> {
         }
         let beyond = failing_write(out, writes + 1);
         leaves_interleaved(&rt, rt.alloc(), &beyond, &five_of_eleven())?;
-    }
-    Ok(())
-}
-
-#[test]
-fn each_flush_of_one_text_fails_in_turn(rt: HostRuntime) -> Result<(), Fail> {
-    for out in OUTS {
-        let given = Given {
-            fails_at_flush: Some(out),
-            ..eleven_in_twos()
-        };
-        leaves_interleaved(&rt, rt.alloc(), &given, &five_pairs(Outcome::Write(out)))?;
     }
     Ok(())
 }

@@ -1,23 +1,20 @@
 //! Tests of `fq_run` by what it gives to everybody: what whole runs leave, on one thread and on several. They have a crate of their
-//! own, as Rust's `tests/` folders have, so that they are proved without proving `fq_run` once more. `fq_judge` uses `fronts` too.
+//! own, as Rust's `tests/` folders have, so that they are proved without proving `fq_run` once more.
 #![tactic(auto)]
 
 #[cfg(test)]
 mod broken;
 #[cfg(test)]
-mod endings;
-#[cfg(test)]
 mod frame;
-pub mod fronts;
 #[cfg(test)]
 mod interleaved;
 #[cfg(test)]
 mod rows;
+#[cfg(test)]
+mod samples;
 #[cfg(test)]
 mod seeing;
 #[cfg(test)]
 mod stops;
 #[cfg(test)]
 mod sweeps;
-#[cfg(test)]
-mod tallies;

@@ -18,21 +18,26 @@ use std::sync::Arc;
 use std::sync::atomic::{AtomicBool, Ordering};
 use std::test::Fail;
 
-// How often one looks for the other.
+// How often one looks for another that comes.
 const LOOKS: u64 = 1_000_000_000;
+
+// How often for one that does not.
+const FEW_LOOKS: u64 = 1_000_000;
 
 /// Two that have to see each other.
 #[derive(Drop)]
 struct Meeting {
     first: AtomicBool,
     second: AtomicBool,
+    looks: u64,
 }
 
 impl Meeting {
-    fn new() -> Meeting {
+    fn new(looks: u64) -> Meeting {
         Meeting {
             first: AtomicBool::new(false),
             second: AtomicBool::new(false),
+            looks,
         }
     }
 
@@ -44,7 +49,7 @@ impl Meeting {
             (&self.second, &self.first)
         };
         own.store(true, Ordering::SeqCst);
-        for _ in 0..LOOKS {
+        for _ in 0..self.looks {
             if other.load(Ordering::SeqCst) {
                 return true;
             }
@@ -85,7 +90,7 @@ fn two_workers_see_each_other_through_the_gate(rt: HostRuntime) -> Result<(), Fa
     let given = one_pair_a_block();
     let settings = with_one_turn(&given, 2)?;
     let gate = BothAtOnce {
-        meeting: Meeting::new(),
+        meeting: Meeting::new(LOOKS),
     };
     leaves_behind(&rt, rt.alloc(), &given, &settings, gate, &two_pairs())
 }
@@ -95,7 +100,7 @@ fn one_worker_sees_no_other(rt: HostRuntime) -> Result<(), Fail> {
     let given = one_pair_a_block();
     let settings = with_one_turn(&given, 1)?;
     let gate = BothAtOnce {
-        meeting: Meeting::new(),
+        meeting: Meeting::new(FEW_LOOKS),
     };
     leaves_behind(
         &rt,
@@ -190,7 +195,7 @@ fn seeing(
     ensures outlets { IfOk result (λ devices. AreHealthy
         (outlet_states (λ o. record { tells = false; taken = []; failures = o.failures }) devices.1)) }
 {
-    let meeting = Arc::new(alloc, Meeting::new())?;
+    let meeting = Arc::new(alloc, Meeting::new(LOOKS))?;
     let forward = SeeingFeed {
         feed: feed(rt, alloc, bytes, 1000, 0)?,
         reads: 0,

@@ -4,14 +4,12 @@ ghost use Rattle.std.specs.Prelude.{◌≡◌, true};
 ghost use Rattle.fq_serial.specs.Devices.{outlet_states, AreHealthy};
 
 use super::frame::{
-    Given, Left, Wanted, assert_left, feed, leaves, left_of, outlets, serial, settings_of,
-    threaded, with_defaults,
+    Given, Left, assert_left, feed, left_of, outlets, serial, settings_of, threaded, with_defaults,
 };
-use super::fronts::{Front, OUTS, front_of};
 use super::rows::seven_pairs;
-use fq_pair::{Out, Side};
+use fq_pair::{Counts, Out, Side};
 use fq_run::{Ending, Outcome, Outlets};
-use fq_samples::{SEVEN_FORWARD, SEVEN_REVERSE, SEVEN_STEPS};
+use fq_samples::{Front, SEVEN_FORWARD, SEVEN_REVERSE, SEVEN_STEPS, front_in_order};
 use fq_text::{Feed, ScriptFeed, ScriptOutlet};
 use fq_work::OpenGate;
 use std::alloc::Global;
@@ -109,6 +107,19 @@ fn met_none(rt: &impl Abort, left: &Left) -> Result<bool, Fail> {
     Ok(true)
 }
 
+/// The first of the seven pairs that a run has written.
+pub fn front_of(outlets: &Outlets<ScriptOutlet>, counts: Counts) -> Result<Front, &'static str> {
+    let log = outlets.log.as_ref().ok_or("there is no log")?;
+    let outlets = [
+        &outlets.forward_paired,
+        &outlets.forward_unpaired,
+        &outlets.reverse_paired,
+        &outlets.reverse_unpaired,
+        log,
+    ];
+    front_in_order(outlets, counts, BLOCK_PAIRS)
+}
+
 /// The front that a run leaves whose failed call has this number and gives this outcome.
 pub fn front_behind(
     rt: &impl Abort,
@@ -117,7 +128,7 @@ pub fn front_behind(
     number: u64,
 ) -> Result<Front, Fail> {
     assert_eq!(rt; left.outcome, outcome, "call {number}");
-    Ok(front_of(&left.outlets, left.counts, BLOCK_PAIRS)?)
+    Ok(front_of(&left.outlets, left.counts)?)
 }
 
 // Whether a run met its read of this number, which fails.
@@ -267,22 +278,6 @@ fn each_write_fails_in_turn(rt: HostRuntime) -> Result<(), Fail> {
             let failed = calls_that_fail(&rt, rt.alloc(), Calls::Writes(out), way)?;
             assert_eq!(rt; failed, writes, "{out}");
         }
-    }
-    Ok(())
-}
-
-#[test]
-fn each_flush_fails_in_turn(rt: HostRuntime) -> Result<(), Fail> {
-    for out in OUTS {
-        let given = Given {
-            fails_at_flush: Some(out),
-            ..seven_in_twos()
-        };
-        let wanted = Wanted {
-            outcome: Outcome::Write(out),
-            ..seven_pairs()
-        };
-        leaves(&rt, rt.alloc(), &given, &wanted)?;
     }
     Ok(())
 }

@@ -1,12 +1,14 @@
 //! Worked texts: pairs of which each trimmed base was counted by hand. Tests of the other crates read them, each at its own level.
 #![tactic(auto)]
 
+mod fronts;
 mod read;
 mod seven;
 mod source;
 mod two;
 mod written;
 
+pub use fronts::{Front, OUTS, front_in_order};
 pub use read::lawful_read;
 pub use seven::{
     ELEVEN_INTERLEAVED, FIVE_REVERSE, FIVE_WRITTEN, SEVEN_FORWARD, SEVEN_REVERSE, SEVEN_STEPS,
@@ -18,6 +20,3 @@ pub use two::{
     TWO_FORWARD, TWO_INTERLEAVED, TWO_REVERSE, TWO_STEPS, TWO_WRITTEN,
 };
 pub use written::Written;
-
-#[cfg(test)]
-mod tests;

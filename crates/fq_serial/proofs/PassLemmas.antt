@@ -1,5 +1,5 @@
 -- From the feeds to the outlets.
-use Rattle.std.proofs.Common.{◌≡◌, false, inr, Option, Some, None, [], ◌++◌, refl, sym, ap, subst}
+use Rattle.std.proofs.Common.{◌≡◌, false, inr, Option, Some, None, [], ◌++◌, refl, sym, ap, subst, ◌∙◌}
 use Rattle.fq_pair.specs.declared.out.Out.{Out}
 use Rattle.fq_pair.specs.Outputs.{text_of, texts_of}
 use Rattle.fq_serial.specs.declared.halt.Halt.{Halt}
@@ -46,10 +46,11 @@ runs_refused form c f r f' r' o counted same also none =
 abbrev pub written_nothing : Written
 written_nothing = record { total = no_total false; why = Some reading.Memory; failed = None }
 
-pub passes_nothing : (c : Choices) (old : SourceState) (o : OutletStates) (w : Written) → old.last ≡ None → w ≡ written_nothing → Passes c old old o o w.total no_halt w.why w.failed
-passes_nothing c old o w goes is =
-    let P : Written → Type 0 = λ x. Passes c old old o o x.total no_halt x.why x.failed in
-    subst P (sym is) (passes_refused c old o (no_total false) goes refl)
+pub passes_unasked : (c : Choices) (old : SourceState) (o : OutletStates) (total : Total) (w : Written) → old.last ≡ None → w ≡ written_nothing → total ≡ w.total →
+    Passes c old old o o total no_halt w.why w.failed
+passes_unasked c old o total w goes is same =
+    let P : Written → Type 0 = λ x. Passes c old old o o total no_halt x.why x.failed in
+    subst P (sym is) (passes_refused c old o total goes (same ∙ ap (λ (x : Written). x.total) is))
 
 pub runs_nothing : (form : Form) (c : Choices) (f r f' r' : FeedState) (o : OutletStates) (w : Written) → w ≡ written_nothing → f' ≡ f → r' ≡ r →
     Runs form c f r f' r' o o w.total no_halt w.why w.failed

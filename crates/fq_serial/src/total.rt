@@ -16,7 +16,7 @@ pub struct Total {
 }
 
 impl Total {
-    ghost use Rattle.std.specs.Prelude.{◌≡◌, false, IfOk};
+    ghost use Rattle.std.specs.Prelude.{◌≡◌, false, IfOk, OnOk, OnErr};
     ghost use Rattle.fq_serial.specs.Totals.{no_total, total_plus};
 
     /// That of no pairs. Memory for a tally is taken where one is asked for, and may be refused.
@@ -24,10 +24,20 @@ impl Total {
         ensures { IfOk result (λ total. total ≡ no_total tallied) }
     {
         let mut total = Total::without_tally();
-        if tallied {
-            total.tally = Some(Tally::new(alloc)?);
-        }
+        total.ask(alloc, tallied)?;
         Ok(total)
+    }
+
+    // Takes memory for a tally where one is asked for. It may be refused.
+    pub(crate) fn ask(&mut self, alloc: Global, tallied: bool) -> Result<(), OutOfMemory>
+        requires { self.old ≡ no_total false }
+        ensures ok { OnOk result (self.new ≡ no_total tallied) }
+        ensures err { OnErr result (self.new ≡ self.old) }
+    {
+        if tallied {
+            self.tally = Some(Tally::new(alloc)?);
+        }
+        Ok(())
     }
 
     /// That of no pairs, without a tally.

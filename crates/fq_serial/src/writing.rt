@@ -1,6 +1,6 @@
 //! The blocks of a run on one thread, read and written.
 
-ghost use Rattle.std.specs.Prelude.{◌≡◌, ◌≤◌, ◌^◌, is_some, IfOk, OnOk, OnErr};
+ghost use Rattle.std.specs.Prelude.{◌≡◌, ◌≤◌, ◌^◌, false, Some, None, is_some, OnOk, OnErr};
 ghost use Rattle.fq_pair.specs.Walks.{GoesOn};
 ghost use Rattle.fq_serial.specs.Devices.{outlet_states, AreHealthy};
 ghost use Rattle.fq_serial.specs.Gathering.{Gathers};
@@ -36,22 +36,69 @@ pub(crate) fn write_blocks<S: PairReader, O: Outlet>(
         (outlet_states O.state outlets.old) (outlet_states O.state outlets.new)
         result.total no_halt result.why result.failed }
 {
-    let Ok((mut total, mut done)) = of_no_pairs(alloc, settings.tallied()) else {
-        return Written::nothing();
-    };
-    let (why, failed) = write_each(settings, source, outlets, &mut total, &mut done);
-    Written { total, why, failed }
+    let mut written = Written::nothing();
+    write_counted(alloc, settings, source, outlets, &mut written);
+    written
 }
 
-// What is counted and what is made of no pairs, with the memory for their tallies, where these are asked for.
-fn of_no_pairs(alloc: Global, tallied: bool) -> Result<(Total, Done), OutOfMemory>
-    ensures total { IfOk result (λ both. both.0 ≡ no_total tallied) }
-    ensures asked { IfOk result (λ both. is_some both.1.tally ≡ tallied) }
+// The same, where what becomes of the pairs is lent: it tells of nothing.
+fn write_counted<S: PairReader, O: Outlet>(
+    alloc: Global,
+    settings: &Settings,
+    source: &mut S,
+    outlets: &mut Outlets<O>,
+    written: &mut Written,
+)
+    requires goes { GoesOn (S.state source.old) }
+    requires fresh { (S.state source.old).forward.given ≡ 0 }
+    requires few { (S.state source.old).most_bytes ≤ 2 ^ 60 }
+    requires outlets { AreHealthy (outlet_states O.state outlets.old) }
+    requires nothing { written.old ≡ record { total = no_total false; why = Some ReadingEnd.Memory; failed = None } }
+    ensures { Passes settings.now (S.state source.old)
+        (S.state source.new)
+        (outlet_states O.state outlets.old) (outlet_states O.state outlets.new)
+        written.new.total no_halt written.new.why written.new.failed }
 {
-    let total = Total::new(alloc, tallied)?;
     let mut done = Done::new(alloc, 0);
+    write_with(alloc, settings, source, outlets, written, &mut done);
+}
+
+// The same, where what is made of a block is lent too.
+fn write_with<S: PairReader, O: Outlet>(
+    alloc: Global,
+    settings: &Settings,
+    source: &mut S,
+    outlets: &mut Outlets<O>,
+    written: &mut Written,
+    done: &mut Done,
+)
+    requires goes { GoesOn (S.state source.old) }
+    requires fresh { (S.state source.old).forward.given ≡ 0 }
+    requires few { (S.state source.old).most_bytes ≤ 2 ^ 60 }
+    requires outlets { AreHealthy (outlet_states O.state outlets.old) }
+    requires nothing { written.old ≡ record { total = no_total false; why = Some ReadingEnd.Memory; failed = None } }
+    ensures { Passes settings.now (S.state source.old)
+        (S.state source.new)
+        (outlet_states O.state outlets.old) (outlet_states O.state outlets.new)
+        written.new.total no_halt written.new.why written.new.failed }
+{
+    let Ok(()) = ask(alloc, settings.tallied(), &mut written.total, done) else {
+        return;
+    };
+    let (why, failed) = write_each(settings, source, outlets, &mut written.total, done);
+    written.why = why;
+    written.failed = failed;
+}
+
+// Asks for the memory of both tallies, where they are asked for.
+fn ask(alloc: Global, tallied: bool, total: &mut Total, done: &mut Done) -> Result<(), OutOfMemory>
+    requires { total.old ≡ no_total false }
+    ensures total { OnOk result (total.new ≡ no_total tallied) }
+    ensures asked { OnOk result (is_some done.new.tally ≡ tallied) }
+    ensures refused { OnErr result (total.new ≡ total.old) }
+{
     done.ask(alloc, tallied)?;
-    Ok((total, done))
+    total.ask(alloc, tallied)
 }
 
 // Reads and writes block for block, and counts each that is written whole. Answers why no further pair is read, if the reading has

@@ -1,125 +1,153 @@
-//! Feeds that fail, that do not end, and that count their calls.
+//! The devices that texts come from and go to.
 
-ghost use Rattle.std.specs.Prelude.{◌<◌, ◌≤◌, ◌^◌};
-
-use super::frame::{InMemory, faults, next};
 use fq_text::*;
-use std::alloc::Global;
+use std::io;
+use std::io::{ErrorKind, Read, Write};
 use std::process::Abort;
 use std::test::Fail;
 
-const TWO_RECORDS: &[u8] = b"@p1/1\nACGT\n+\n#!II\n@p2/1\nGGCC\n+\nIIII\n";
-
-// A source of the two records whose read of this number fails, if it is not 0. It may make so many reads, of a chunk each.
-fn source_of_two(
-    alloc: Global,
-    fails_at: u64,
-    chunk: usize,
-    max_reads: u64,
-) -> Result<Source<ScriptFeed>, Fail>
-    requires some { 0 < chunk }
-    requires small { chunk ≤ 1048576 }
-    requires reads { 0 < max_reads }
-    requires few { max_reads ≤ 2 ^ 40 }
-{
-    let feed = ScriptFeed::new(alloc, TWO_RECORDS, 1000, fails_at)?;
-    match Source::new(alloc, feed, Encoding::Sanger, chunk, max_reads) {
-        Ok(source) => Ok(source),
-        Err(_) => Err("no memory for a source")?,
-    }
+// What an outlet is asked for, with the answer to that.
+enum Asked<'a> {
+    Send(&'a [u8], Result<(), Sent>),
+    Write(&'a [u8], Result<usize, OutletFailed>),
+    Flush(Result<(), OutletFailed>),
 }
 
-// Whether a record with this title comes next.
-fn gives_titled(source: &mut InMemory, title: &[u8]) -> bool {
-    match next(source) {
-        Ok(Some(record)) => record.title() == title,
-        _ => false,
-    }
-}
-
-// How many failures the feed counts, in the source and out of it.
-fn failures(source: InMemory) -> (u64, u64) {
-    (source.feed().failures(), source.into_feed().failures())
+// The outlet answers so, and counts so many failures then.
+fn assert_answer<O: Outlet>(rt: &impl Abort, outlet: &mut O, asked: Asked<'_>, failures: u64) {
+    assert!(rt; outlet.failures() < 9);
+    let is_so = match asked {
+        Asked::Send(bytes, answer) => send(outlet, bytes) == answer,
+        Asked::Write(bytes, answer) => outlet.write(bytes) == answer,
+        Asked::Flush(answer) => outlet.flush() == answer,
+    };
+    assert!(rt; is_so);
+    assert_eq!(rt; outlet.failures(), failures);
 }
 
 #[test]
-fn a_read_that_fails(rt: HostRuntime) -> Result<(), Fail> {
-    // In chunks of one of the two records.
-    let mut source = source_of_two(rt.alloc(), 2, 18, 1 << 40)?;
-    assert!(rt; gives_titled(&mut source, b"p1/1"));
-    for _ in 0..2u8 {
-        assert!(rt; faults(&mut source, TextFault::Read));
-    }
-    assert!(rt; failures(source) == (1, 1));
-    Ok(())
+fn a_send_stops_at_the_first_failure(rt: HostRuntime) {
+    let mut outlet = ScriptOutlet::new(rt.alloc(), 2, 3, false);
+    assert_answer(
+        &rt,
+        &mut outlet,
+        Asked::Send(b"abcdef", Err(Sent { count: 4 })),
+        1,
+    );
+    assert!(rt; outlet.bytes() == b"abcd".as_slice());
+
+    let mut outlet = ScriptOutlet::new(rt.alloc(), 4, 0, false);
+    assert_answer(&rt, &mut outlet, Asked::Send(b"abcdef", Ok(())), 0);
+    assert!(rt; outlet.bytes() == b"abcdef".as_slice());
 }
 
 #[test]
-fn more_reads_than_allowed(rt: HostRuntime) -> Result<(), Fail> {
-    let mut source = source_of_two(rt.alloc(), 0, 1, 10)?;
-    for _ in 0..2u8 {
-        assert!(rt; faults(&mut source, TextFault::Endless));
-    }
+fn no_bytes_make_no_write(rt: HostRuntime) {
+    let mut outlet = ScriptOutlet::new(rt.alloc(), 1, 1, false);
+    assert_answer(&rt, &mut outlet, Asked::Send(b"", Ok(())), 0);
+    assert_answer(
+        &rt,
+        &mut outlet,
+        Asked::Send(b"a", Err(Sent { count: 0 })),
+        1,
+    );
+}
+
+#[test]
+fn a_flush_fails_where_it_is_told_to(rt: HostRuntime) {
+    let mut outlet = ScriptOutlet::new(rt.alloc(), 1, 0, true);
+    assert_answer(&rt, &mut outlet, Asked::Flush(Err(OutletFailed)), 1);
+    let mut outlet = ScriptOutlet::new(rt.alloc(), 1, 0, false);
+    assert_answer(&rt, &mut outlet, Asked::Flush(Ok(())), 0);
+}
+
+#[test]
+fn failures_have_texts(rt: HostRuntime) -> Result<(), Fail> {
+    let text = format!(in rt.alloc(); "{}", Sent { count: 4 })?;
+    assert_eq!(rt; text.as_str(), "the outlet failed after 4 bytes");
+    let text = format!(in rt.alloc(); "{}", OutletFailed)?;
+    assert_eq!(rt; text.as_str(), "the outlet failed");
     Ok(())
 }
 
-/// A feed that counts its reads.
+// A file's other end: each first call is cut short by a signal.
 #[derive(Drop)]
-struct Counting {
-    feed: ScriptFeed,
-    reads: u64,
+struct Signalled {
+    calls: u8,
 }
 
-impl Feed for Counting {
-    ghost use Rattle.std.specs.Prelude.{false, []};
-
-    ghost state = { λ f. record { tells = false; to_come = []; failures = f.feed.failures } };
-
-    fn read(&mut self, buf: &mut [u8]) -> Result<usize, FeedFailed> {
-        self.reads = self.reads.saturating_add(1);
-        self.feed.read(buf)
-    }
-
-    fn failures(&self) -> u64 {
-        self.feed.failures()
+impl Signalled {
+    fn answer(&mut self) -> io::Result<()> {
+        if self.calls == 0 {
+            self.calls = 1;
+            return Err(io::Error::from(ErrorKind::Interrupted));
+        }
+        Ok(())
     }
 }
 
-fn counting_feed(alloc: Global, text: &[u8]) -> Result<Counting, Fail> {
-    let feed = ScriptFeed::new(alloc, text, 1000, 0)?;
-    Ok(Counting { feed, reads: 0 })
-}
-
-// A source in chunks of one of the two records.
-fn source_counting(alloc: Global, feed: Counting) -> Result<Source<Counting>, Fail> {
-    if feed.failures() != 0 {
-        Err("a feed that did not fail")?;
-    }
-    match Source::new(alloc, feed, Encoding::Sanger, 18, 1 << 40) {
-        Ok(source) => Ok(source),
-        Err(_) => Err("no memory for a source")?,
+impl Read for Signalled {
+    fn read(&mut self, _buf: &mut [u8]) -> io::Result<usize> {
+        self.answer()?;
+        Ok(0)
     }
 }
 
-// Whether a record comes next.
-fn has_next(source: &mut Source<Counting>) -> Result<bool, TextFault> {
-    Ok(source.next()?.is_some())
+impl Write for Signalled {
+    fn write(&mut self, _buf: &[u8]) -> io::Result<usize> {
+        self.answer()?;
+        Ok(0)
+    }
+
+    fn flush(&mut self) -> io::Result<()> {
+        self.answer()
+    }
 }
 
-// Whether a record comes next, or the end, behind so many reads.
-fn has_next_behind(source: &mut Source<Counting>, reads: u64, is_record: bool) -> bool {
-    has_next(source) == Ok(is_record) && source.feed().reads == reads
+// A read gives this answer, and the feed counts so many failures then.
+fn assert_read<F: Feed>(
+    rt: &impl Abort,
+    feed: &mut F,
+    buf: &mut [u8],
+    answer: Result<usize, FeedFailed>,
+    failures: u64,
+) {
+    assert!(rt; feed.failures() < 9);
+    assert_eq!(rt; feed.read(buf), answer);
+    assert_eq!(rt; feed.failures(), failures);
 }
 
 #[test]
-fn a_read_is_made_only_for_a_line_that_is_needed(rt: HostRuntime) -> Result<(), Fail> {
-    let feed = counting_feed(rt.alloc(), TWO_RECORDS)?;
-    let mut source = source_counting(rt.alloc(), feed)?;
-    for (reads, is_record) in [(1, true), (2, true), (3, false)] {
-        assert!(rt;
-            has_next_behind(&mut source, reads, is_record),
-            "{reads} reads"
-        );
-    }
-    Ok(())
+fn a_readers_error_is_a_failure(rt: HostRuntime) {
+    let mut buf = [0u8; 4];
+    let mut feed = FromRead::new(Signalled { calls: 0 });
+    assert_read(&rt, &mut feed, &mut buf, Err(FeedFailed), 1);
+    assert_read(&rt, &mut feed, &mut buf, Ok(0), 1);
+    assert_eq!(rt; feed.into_inner().calls, 1);
+}
+
+#[test]
+fn a_writers_error_and_a_write_of_nothing_are_failures(rt: HostRuntime) {
+    let mut outlet = FromWrite::new(Signalled { calls: 0 });
+    assert_answer(&rt, &mut outlet, Asked::Flush(Err(OutletFailed)), 1);
+    assert_answer(&rt, &mut outlet, Asked::Write(b"a", Err(OutletFailed)), 2);
+    assert_answer(&rt, &mut outlet, Asked::Write(b"", Ok(0)), 2);
+    assert_answer(&rt, &mut outlet, Asked::Flush(Ok(())), 2);
+    let mut outlet = FromWrite::new(Signalled { calls: 0 });
+    assert_answer(&rt, &mut outlet, Asked::Write(b"a", Err(OutletFailed)), 1);
+}
+
+#[test]
+fn bytes_pass_through_readers(rt: HostRuntime) {
+    let mut buf = [0u8; 4];
+    let mut feed = FromRead::new(b"abc".as_slice());
+    assert_read(&rt, &mut feed, &mut buf, Ok(3), 0);
+    assert_eq!(rt; buf[..3], b"abc"[..]);
+}
+
+#[test]
+fn bytes_pass_through_writers(rt: HostRuntime) {
+    let mut outlet = FromWrite::new(Vec::new(rt.alloc()));
+    assert_answer(&rt, &mut outlet, Asked::Send(b"abcdef", Ok(())), 0);
+    assert!(rt; outlet.into_inner().as_slice() == b"abcdef".as_slice());
 }

@@ -34,11 +34,6 @@ pub fn next(source: &mut InMemory) -> Result<Option<FastqRecord>, TextFault> {
     source.next()
 }
 
-/// Whether a further record is lent.
-pub fn advance(source: &mut InMemory) -> Result<bool, TextFault> {
-    source.advance()
-}
-
 /// Whether the text is at its end.
 pub fn ends(source: &mut InMemory) -> bool {
     matches!(next(source), Ok(None))
@@ -50,20 +45,4 @@ pub fn faults(source: &mut InMemory, wanted: TextFault) -> bool {
         Ok(_) => false,
         Err(fault) => fault == wanted,
     }
-}
-
-/// Appends a byte so many times.
-pub fn push_run(text: &mut Vec<u8>, byte: u8, count: usize) -> Result<(), Fail> {
-    let len = text.len().saturating_add(count);
-    text.resize(len, byte)?;
-    Ok(())
-}
-
-/// `@`, a title of so many bytes, a line end, and the rest of a record of one base.
-pub fn titled(alloc: Global, len: usize, line_end: &[u8]) -> Result<Vec<u8>, Fail> {
-    let mut text = Vec::from_slice(alloc, b"@")?;
-    push_run(&mut text, b't', len)?;
-    text.extend_from_slice(line_end)?;
-    text.extend_from_slice(b"A\n+\nI\n")?;
-    Ok(text)
 }

@@ -1,11 +1,23 @@
-use Rattle.std.proofs.Common.{◌≡◌, ◌≢◌, refl, subst, inl, inr, ⊎_elim, map, arith}
+use Rattle.std.proofs.Common.{◌≡◌, ◌≢◌, ◌∙◌, Some, refl, sym, subst, inl, inr, ⊎_elim, map, arith}
 use Rattle.clap.specs.Words.{HasKind, kind_of}
 use Rattle.clap.specs.Kinds.{Kinds}
 use Rattle.clap.specs.declared.error.kind.ErrorKind.TheVariants.{DisplayHelp, DisplayVersion, OutOfMemory}
-use Rattle.fq_command.specs.Answers.{IsCall}
-use Rattle.fq_words.specs.Words.{words_fault}
+use Rattle.fq_command.specs.Answers.{device_of, IsCall, NamesDevice}
+use Rattle.fq_words.specs.Requests.{Asking, asking_of}
+use Rattle.fq_words.specs.Words.{asked_pairs, pairs_asked, words_fault}
 use Rattle.fq_command.proofs.AnswerLemmas.{among_all, lacks_answer}
 use Rattle.fq_command.proofs.answering.program.Goals as goal
+
+pub returns-in-Ok-Pairs-clause-device : goal.returns-in-Ok-Pairs-clause-device
+returns-in-Ok-Pairs-clause-device g c = λ a asked four.
+    let shape : asked_pairs c.in-Ok-Pairs.field-0 ≡ Some (asking_of c.in-Ok-Pairs.request) = rw c.in-Ok-Pairs.field-0-is refl in
+    let own : pairs_asked (map (λ word. word.now) c.args.words.now) ≡ Some (asking_of c.in-Ok-Pairs.request) = c.in-Ok-Pairs.ensures.ok.ask ∙ shape in
+    let given : pairs_asked (map (λ word. word.now) c.args.words.now) ≡ Some a = asked.ask in
+    let some : Some (asking_of c.in-Ok-Pairs.request) ≡ Some a = sym own ∙ given in
+    let same : asking_of c.in-Ok-Pairs.request ≡ a = cc in
+    let P : Asking → Type 0 = λ x. NamesDevice x (g.T.Files.tells_bytes c.args.files.now) (g.T.Files.bytes_of c.args.files.now) (g.T.Files.refuses c.args.files.now)
+    (g.T.Files.has_failed c.trim_pairs.new.files) (device_of g.O.Outlet.state c.args.out.now c.trim_pairs.new.out) (device_of g.E.Outlet.state c.args.err.now c.trim_pairs.new.err) in
+    subst P same (c.trim_pairs.ensures.device four)
 
 pub returns-in-Err-clause-pairs : goal.returns-in-Err-clause-pairs
 returns-in-Err-clause-pairs g c = λ a asked.
@@ -23,3 +35,9 @@ returns-in-Err-clause-usage g c = λ refused. ⊎_elim (λ memory. inr (c.refuse
 pub returns-in-Err-clause-called : goal.returns-in-Err-clause-called
 returns-in-Err-clause-called g c = λ calls. ⊎_elim (λ memory one. let five = c.refuse_words.ensures.no_memory memory in omega (arith, one, five))
     (λ among. c.refuse_words.ensures.called (among_all IsCall (kind_of c.in-Err.error) (words_fault (map (λ word. word.now) c.args.words.now)) among calls.all)) c.in-Err.ensures.err
+
+pub returns-in-Err-clause-device : goal.returns-in-Err-clause-device
+returns-in-Err-clause-device g c = λ a asked four.
+    let P : Kinds → Type 0 = λ kinds. HasKind kinds c.in-Err.error in
+    let memory : kind_of c.in-Err.error ≡ OutOfMemory = ⊎_elim (λ e. e) (λ none. absurd none) (subst P asked.parse c.in-Err.ensures.err) in
+    let five = c.refuse_words.ensures.no_memory memory in absurd (omega (arith, four, five))

@@ -1,11 +1,11 @@
-use Rattle.std.proofs.Common.{◌≡◌, ◌≢◌, ◌⊎◌, IsTrue, subst, sym}
+use Rattle.std.proofs.Common.{◌≡◌, ◌≢◌, ◌⊎◌, IsTrue, inl, subst, sym, arith}
 use Rattle.fq_job.specs.Faults.{outcome_status}
-use Rattle.fq_command.specs.Answers.{TookLine, EndsWhole}
+use Rattle.fq_command.specs.Answers.{device_of, TookLine, EndsWhole}
 use Rattle.fq_job.specs.Trimming.{HasDistinctFiles}
 use Rattle.fq_words.specs.Requests.{asking_of}
 use Rattle.fq_job.specs.Judging.{wrong_with}
 use Rattle.fq_job.proofs.EndingLemmas.{ends_so}
-use Rattle.fq_command.proofs.AnswerLemmas.{IsRun, is_held, is_left, left_so, refused_answer, some_in, told_line}
+use Rattle.fq_command.proofs.AnswerLemmas.{IsRun, failed_device, is_held, is_left, left_so, not_failed, refused_answer, refused_device, some_in, told_line}
 use Rattle.fq_command.proofs.answering.trim_pairs.Goals as goal
 
 pub returns-in-Ok-clause-pairs : goal.returns-in-Ok-clause-pairs
@@ -14,11 +14,11 @@ returns-in-Ok-clause-pairs g c =
     let account = c.in-Ok.completed.account in
     let reported = c.in-Ok.completed.reported in
     let run : IsRun a (g.T.Files.tells_bytes c.args.files.now) (g.T.Files.bytes_of c.args.files.now) (g.T.Files.bytes_of c.trim_files.new.files) account.outcome account.counts reported = record {
-      trims = c.in-Ok.ensures.trims;
-      ended = c.in-Ok.ensures.ended;
-      due = c.in-Ok.ensures.due;
-      not_due = c.in-Ok.ensures.not_due;
-      held = c.in-Ok.ensures.report;
+      trims = c.in-Ok.ensures.completed.trims;
+      ended = c.in-Ok.ensures.completed.ended;
+      due = c.in-Ok.ensures.completed.due;
+      not_due = c.in-Ok.ensures.completed.not_due;
+      held = c.in-Ok.ensures.completed.report;
     } in
     let line : c.tell.result ≢ 0 → TookLine a _ _ _ _ _ c.tell.result =
     λ some. told_line a _ _ _ account.outcome account.counts reported run _ _ _ (c.tell.ensures.line some) in
@@ -28,7 +28,7 @@ returns-in-Ok-clause-pairs g c =
     record {
       outcome = account.outcome;
       counts = account.counts;
-      trims = c.in-Ok.ensures.trims told distinct (ends_so account.outcome c.tell.result status ends);
+      trims = c.in-Ok.ensures.completed.trims told distinct (ends_so account.outcome c.tell.result status ends);
       status_is = status;
       printed = c.tell.ensures.printed ends;
       told = c.tell.ensures.told ends;
@@ -43,9 +43,19 @@ returns-in-Ok-clause-pairs g c =
       reported = λ ends told name named.
           let is : (outcome_status account.outcome ≡ 0) ⊎ (outcome_status account.outcome ≡ 3) = subst (λ n. (n ≡ 0) ⊎ (n ≡ 3)) (sym (c.tell.ensures.whole ends)) ends in
           is_held a _ _ _ account.outcome account.counts reported run (c.tell.ensures.reported ends) is told name named;
-      report_left = λ told distinct name named. is_left a _ _ name reported (c.in-Ok.ensures.report told name named);
+      report_left = λ told distinct name named. is_left a _ _ name reported (c.in-Ok.ensures.completed.report told name named);
       unopened = c.in-Ok.ensures.unopened;
     }
+
+pub returns-in-Ok-clause-device : goal.returns-in-Ok-clause-device
+returns-in-Ok-clause-device g c = λ four.
+    let completed = c.in-Ok.ensures.completed in
+    failed_device (asking_of c.args.request.now) _ _ _ _ (device_of g.O.Outlet.state c.args.out.now c.tell.new.out) _ _ c.in-Ok.completed.account.outcome c.in-Ok.completed.reported
+    completed.failed completed.as_it_is completed.report_failed (c.tell.ensures.line (λ zero. absurd (omega (arith, four, zero)))) four
+
+pub returns-in-Ok-clause-sound : goal.returns-in-Ok-clause-sound
+returns-in-Ok-clause-sound g c = λ ends. c.in-Ok.ensures.completed.sound
+    (ends_so c.in-Ok.completed.account.outcome c.tell.result (c.tell.ensures.whole ends) ends) (not_failed c.in-Ok.completed.reported (c.tell.ensures.reported ends))
 
 pub returns-in-Ok-clause-wrong : goal.returns-in-Ok-clause-wrong
 returns-in-Ok-clause-wrong g c = λ wrong.
@@ -55,7 +65,14 @@ returns-in-Ok-clause-wrong g c = λ wrong.
 pub returns-in-Err-clause-pairs : goal.returns-in-Err-clause-pairs
 returns-in-Err-clause-pairs g c = refused_answer _ _ _ _ _ _ _ c.in-Err.refusal c.refuse.ensures
     (λ why is. let same = (c.in-Err.ensures.wrong why is).0 in cc same) (λ none. c.in-Err.ensures.right none)
-    c.in-Err.ensures.inputs c.in-Err.ensures.refused c.in-Err.ensures.report_left c.in-Err.ensures.unopened
+    c.in-Err.ensures.refused.inputs c.in-Err.ensures.refused.left c.in-Err.ensures.refused.report_left c.in-Err.ensures.unopened
+
+pub returns-in-Err-clause-device : goal.returns-in-Err-clause-device
+returns-in-Err-clause-device g c = λ four. inl (refused_device (asking_of c.args.request.now) _ _ _ _ _ c.in-Err.refusal c.refuse.ensures
+    c.in-Err.ensures.refused.inputs c.in-Err.ensures.refused.refused four)
+
+pub returns-in-Err-clause-sound : goal.returns-in-Err-clause-sound
+returns-in-Err-clause-sound g c = λ ends. c.in-Err.ensures.unfailed
 
 pub returns-in-Err-clause-wrong : goal.returns-in-Err-clause-wrong
 returns-in-Err-clause-wrong g c = λ wrong.

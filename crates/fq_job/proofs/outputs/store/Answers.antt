@@ -3,6 +3,7 @@ use Rattle.fq_pair.specs.declared.out.Out.TheVariants.{Log}
 use Rattle.fq_run.specs.Devices.{outlet_states, outlet_at}
 use Rattle.fq_words.specs.Requests.{asking_of, output_name}
 use Rattle.fq_job.proofs.StoreLemmas.{none_stored, no_log_stored}
+use Rattle.fq_job.proofs.CountingLemmas.{none_counted, no_log_counted}
 use Rattle.fq_job.proofs.outputs.store.Goals as goal
 use Rattle.fq_job.proofs.outputs.store.Goals.{in_default-via-in-Some+in_default, in_default-via-in_default}
 
@@ -30,3 +31,28 @@ returns-in_default-clause-stored g c =
           let none : output_name a Log ≡ None = rw w.in_default.is-0 refl in
           let bad : None ≡ Some name = sym none ∙ named in cc
     ]) stored_4
+
+pub returns-in-Some-Some-clause-counted : goal.returns-in-Some-Some-clause-counted
+returns-in-Some-Some-clause-counted g c =
+    let counted_1 = c.store_one.ensures.counted _ _ refl (none_counted (asking_of c.args.request.now) _ _) in
+    let counted_2 = c.store_one-2.ensures.counted _ _ refl counted_1 in
+    let counted_3 = c.store_one-3.ensures.counted _ _ refl counted_2 in
+    let counted_4 = c.store_one-4.ensures.counted _ _ refl counted_3 in
+    c.store_one-in-Some-Some.ensures.counted _ _ (rw c.in-Some-Some.is-1 refl) counted_4
+
+pub returns-in_default-clause-counted : goal.returns-in_default-clause-counted
+returns-in_default-clause-counted g c =
+    let a = asking_of c.args.request.now in
+    let states = outlet_states g.T.Target.Outlet.state c.args.outlets in
+    let counted_1 = c.store_one.ensures.counted _ states refl (none_counted a states _) in
+    let counted_2 = c.store_one-2.ensures.counted _ _ refl counted_1 in
+    let counted_3 = c.store_one-3.ensures.counted _ _ refl counted_2 in
+    let counted_4 = c.store_one-4.ensures.counted _ _ refl counted_3 in
+    no_log_counted a states _ _ (λ name outlet named at. elim c.in_default.branch [
+      | in_default-via-in-Some+in_default w ↦
+          let none : outlet_at Log states ≡ None = rw w.in_default.is-1 refl in
+          let bad : None ≡ Some outlet = sym none ∙ at in cc
+      | in_default-via-in_default w ↦
+          let none : output_name a Log ≡ None = rw w.in_default.is-0 refl in
+          let bad : None ≡ Some name = sym none ∙ named in cc
+    ]) counted_4

@@ -2,6 +2,7 @@ use Rattle.std.proofs.Common.{sym}
 use Rattle.fq_words.specs.Requests.{asking_of, output_name}
 use Rattle.fq_job.proofs.MakingLemmas.{along, wanted}
 use Rattle.fq_job.proofs.StoreLemmas.{one_stored}
+use Rattle.fq_job.proofs.CountingLemmas.{one_counted}
 use Rattle.fq_job.proofs.outputs.store_one.Goals as goal
 
 pub done-requires-after_bounds : goal.done-requires-after_bounds
@@ -18,3 +19,10 @@ returns-clause-stored g c = λ start states at first.
     let outlet = g.T.Target.Outlet.state c.args.outlet in
     one_stored a start states c.args.out c.output_name.result.now outlet _ _ _ _ (wanted (output_name a c.args.out) _ c.requires.wanted c.output_name.ensures) at
     c.done.ensures.told c.done.ensures.stored c.done.ensures.others first
+
+pub returns-clause-counted : goal.returns-clause-counted
+returns-clause-counted g c = λ start states at first.
+    let a = asking_of c.args.request.now in
+    let outlet = g.T.Target.Outlet.state c.args.outlet in
+    one_counted a states c.args.out c.output_name.result.now outlet start _ _ (wanted (output_name a c.args.out) _ c.requires.wanted c.output_name.ensures) at
+    c.done.ensures.failed c.done.ensures.sound c.done.ensures.still first

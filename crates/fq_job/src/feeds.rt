@@ -1,0 +1,110 @@
+//! The feeds of the inputs.
+
+ghost use Rattle.std.specs.Prelude.{◌≡◌, ◌≢◌, ◌⊎◌, None, IsTrue, IfOk, IfErr};
+ghost use Rattle.std.specs.Option.{option_map};
+ghost use Rattle.fq_files.specs.Holding.{IsUnchanged};
+ghost use Rattle.fq_words.specs.Requests.{asking_of, input_name};
+ghost use Rattle.fq_job.specs.Refusals.{status_of};
+ghost use Rattle.fq_job.specs.Trimming.{IsFed, opened_of, left_of, form_of, AreFresh, AreFed};
+ghost use Rattle.fq_job.specs.Leaving.{AreThere, TellsInputs, is_early};
+ghost use Rattle.fq_job.specs.Completing.{IsFeedCounted, AreFeedsCounted};
+
+use crate::refusal::{Refusal, file_refused};
+use fq_files::Files;
+use fq_pair::Side;
+use fq_text::Feed;
+use fq_words::{Inputs, Request};
+
+/// The inputs, opened.
+#[derive(Drop)]
+pub(crate) enum Feeds<F> {
+    /// Forward and reverse reads, each in a feed.
+    Apart { forward: F, reverse: F },
+    /// One interleaved feed, a forward read before its reverse mate.
+    Interleaved(F),
+}
+
+/// The inputs, opened in the order of the command line. Where it was asked for, the files of the outputs are to wait for their disk.
+pub(crate) fn inputs<T: Files>(
+    request: &Request<'_>,
+    files: &mut T,
+) -> Result<Feeds<T::In>, Refusal>
+    ensures fresh { IfOk result (λ feeds. AreFresh (opened_of T.In.state feeds)) }
+    ensures form { IfOk result (λ feeds. (opened_of T.In.state feeds).form ≡ (asking_of request.now).inputs.form) }
+    ensures fed { IfOk result (λ feeds. IsTrue (T.tells_bytes files.old)
+        → AreFed (opened_of T.In.state feeds) (asking_of request.now).inputs (T.bytes_of files.old)) }
+    ensures unchanged { IsTrue (T.tells_bytes files.old) → IsUnchanged (T.bytes_of files.old) (T.bytes_of files.new) }
+    ensures told { T.tells_bytes files.new ≡ T.tells_bytes files.old }
+    ensures refusing { T.refuses files.new ≡ T.refuses files.old }
+    ensures failed { T.has_failed files.new ≡ T.has_failed files.old }
+    ensures inputs { IfErr result (λ why. IsTrue (T.tells_bytes files.old)
+        → TellsInputs (asking_of request.now).inputs why (T.bytes_of files.old)) }
+    ensures early { IfErr result (λ why. IsTrue (is_early why)) }
+    ensures late { IfErr result (λ why. status_of why ≢ 2) }
+{
+    let feeds = match request.inputs {
+        Inputs::Apart { .. } => {
+            let forward = input(request, files, Side::Forward)?;
+            let reverse = input(request, files, Side::Reverse)?;
+            Feeds::Apart { forward, reverse }
+        }
+        Inputs::Interleaved(_) => Feeds::Interleaved(input(request, files, Side::Forward)?),
+    };
+    if request.sync {
+        files.sync_always();
+    }
+    Ok(feeds)
+}
+
+// The input of a side.
+fn input<T: Files>(request: &Request<'_>, files: &mut T, side: Side) -> Result<T::In, Refusal>
+    ensures fresh { IfOk result (λ feed. (T.In.state feed).failures ≡ 0) }
+    ensures fed { IfOk result (λ feed. IsTrue (T.tells_bytes files.old)
+        → IsFed (T.In.state feed).tells (T.In.state feed).to_come (T.bytes_of files.old (input_name (asking_of request.now).inputs side))) }
+    ensures unchanged { IsTrue (T.tells_bytes files.old) → IsUnchanged (T.bytes_of files.old) (T.bytes_of files.new) }
+    ensures told { T.tells_bytes files.new ≡ T.tells_bytes files.old }
+    ensures refusing { T.refuses files.new ≡ T.refuses files.old }
+    ensures failed { T.has_failed files.new ≡ T.has_failed files.old }
+    ensures missing { IfErr result (λ why. (why ≡ Refusal.Memory) ⊎ ((why ≡ Refusal.Source side) × (IsTrue (T.tells_bytes files.old)
+        → T.bytes_of files.old (input_name (asking_of request.now).inputs side) ≡ None))) }
+    ensures early { IfErr result (λ why. IsTrue (is_early why)) }
+    ensures late { IfErr result (λ why. status_of why ≢ 2) }
+{
+    match files.source(request.input_name(side)) {
+        Ok(feed) => Ok(feed),
+        Err(fault) => Err(file_refused(fault, Refusal::Source(side))),
+    }
+}
+
+/// The inputs are done with: their files know which of them failed. A feed that was lost with its thread has not failed.
+pub(crate) fn inputs_done<T: Files>(
+    request: &Request<'_>,
+    files: &mut T,
+    feeds: Feeds<Option<T::In>>,
+)
+    requires there { IsTrue (T.tells_bytes files.old) → AreThere (asking_of request.now).inputs (T.bytes_of files.old) }
+    requires form { form_of feeds ≡ (asking_of request.now).inputs.form }
+    ensures unchanged { IsTrue (T.tells_bytes files.old) → IsUnchanged (T.bytes_of files.old) (T.bytes_of files.new) }
+    ensures told { T.tells_bytes files.new ≡ T.tells_bytes files.old }
+    ensures counted { AreFeedsCounted (asking_of request.now).inputs (left_of T.In.state feeds) (T.has_failed files.old) (T.has_failed files.new) }
+{
+    match feeds {
+        Feeds::Apart { forward, reverse } => {
+            input_done(request, files, Side::Forward, forward);
+            input_done(request, files, Side::Reverse, reverse);
+        }
+        Feeds::Interleaved(both) => input_done(request, files, Side::Forward, both),
+    }
+}
+
+// The input of a side is done with, if it came back.
+fn input_done<T: Files>(request: &Request<'_>, files: &mut T, side: Side, feed: Option<T::In>)
+    requires { IsTrue (T.tells_bytes files.old) → AreThere (asking_of request.now).inputs (T.bytes_of files.old) }
+    ensures unchanged { IsTrue (T.tells_bytes files.old) → IsUnchanged (T.bytes_of files.old) (T.bytes_of files.new) }
+    ensures told { T.tells_bytes files.new ≡ T.tells_bytes files.old }
+    ensures counted { IsFeedCounted (input_name (asking_of request.now).inputs side) (option_map T.In.state feed) (T.has_failed files.old) (T.has_failed files.new) }
+{
+    if let Some(feed) = feed {
+        files.source_done(request.input_name(side), feed);
+    }
+}

@@ -1,0 +1,60 @@
+-- What the program leaves in files is in step.
+use Rattle.std.proofs.Common.{List, ℕ, sym, subst, ⊎_elim, inl, inr}
+use Rattle.fq_pair.specs.declared.out.Out.{Out}
+use Rattle.fq_pair.specs.declared.counts.Counts.{Counts}
+use Rattle.fq_pair.specs.Outputs.{texts_of, text_of}
+use Rattle.fq_serial.specs.Fates.{block_begun}
+use Rattle.fq_job.specs.Trimming.{pairs_of}
+use Rattle.fq_laws.specs.InStep.{IsPairIn, AreInStep}
+use Rattle.fq_laws.specs.Files.{WholeFilesAreInStep, FilesLeftAreInStep}
+use Rattle.fq_laws.proofs.TextLemmas.{inputs_give_pairs}
+use Rattle.fq_laws.proofs.InStepLemmas.{texts_are_in_step}
+use Rattle.fq_laws.proofs.RunLemmas.{still_first, first_are_pairs}
+
+pub whole_files : WholeFilesAreInStep
+whole_files a told old new out err status answered whole tells distinct =
+    let ends = answered.whole whole tells distinct in
+    let trims = ends.trims in
+    let c = trims.choices in
+    let ms = (pairs_of c a.inputs.form trims.forward trims.reverse).mates in
+    let texts : Out → List ℕ = λ out. text_of out (texts_of c.steps ms) in
+    record {
+      choices = c;
+      forward = trims.forward;
+      reverse = trims.reverse;
+      counts = ends.counts;
+      texts = texts;
+      settings = trims.settings;
+      forward_is = trims.forward_is;
+      reverse_is = trims.reverse_is;
+      printed = ends.printed;
+      held = trims.texts;
+      in_step = subst (λ (counts : Counts). AreInStep c.check_names c.steps c.encoding ms counts texts) (sym trims.counts_are)
+          (texts_are_in_step c.check_names c.steps c.encoding ms (inputs_give_pairs a.inputs.form c.check_names c.encoding trims.forward trims.reverse));
+    }
+
+pub files_left : FilesLeftAreInStep
+files_left a told old new out err status answered threads tells distinct = ⊎_elim
+    (λ untrimmed. inl untrimmed)
+    (λ ended.
+    let held = ended.1 in
+    let c = held.choices in
+    let all = (pairs_of c a.inputs.form held.forward held.reverse).mates in
+    let texts : Out → List ℕ = λ out. text_of out (texts_of c.steps held.whole) in
+    let first = still_first held.whole (block_begun held.fate) all held.first in
+    let are = inputs_give_pairs a.inputs.form c.check_names c.encoding held.forward held.reverse in
+    inr (record {
+      choices = c;
+      forward = held.forward;
+      reverse = held.reverse;
+      whole = held.whole;
+      fate = held.fate;
+      texts = texts;
+      settings = held.settings;
+      forward_is = held.forward_is;
+      reverse_is = held.reverse_is;
+      first = first;
+      held = held.texts;
+      in_step = texts_are_in_step c.check_names c.steps c.encoding held.whole (first_are_pairs (IsPairIn c.check_names c.encoding) held.whole all first are);
+    }))
+    (answered.left threads tells distinct)

@@ -1,0 +1,66 @@
+-- What the program leaves in files, read again as FASTQ.
+use Rattle.std.specs.Prelude.{◌≡◌, ◌≢◌, ◌⊎◌, ℕ, Bool, IsTrue, Some, Ok, List, ◌++◌}
+use Rattle.fq_files.specs.Holding.{Holding}
+use Rattle.fq_pair.specs.declared.out.Out.{Out}
+use Rattle.fq_pair.specs.declared.counts.Counts.{Counts}
+use Rattle.fq_pair.specs.Mates.{Mates}
+use Rattle.fq_pair.specs.Outputs.{counts_of}
+use Rattle.fq_pair.specs.Summaries.{summary_of}
+use Rattle.fq_serial.specs.Choices.{Choices}
+use Rattle.fq_serial.specs.Endings.{AreFirst}
+use Rattle.fq_serial.specs.Fates.{Fate, part_begun}
+use Rattle.fq_words.specs.Requests.{Asking, output_name}
+use Rattle.fq_job.specs.Judging.{settings_of}
+use Rattle.fq_job.specs.Trimming.{HasDistinctFiles, pairs_of}
+use Rattle.fq_job.specs.Leaving.{AreUntrimmed}
+use Rattle.fq_command.specs.Answers.{Device, TookPart, PairsAnswered}
+use Rattle.fq_laws.specs.InStep.{AreInStep}
+
+-- the files of the outputs hold these texts
+abbrev pub HoldTexts : Asking → Holding → (Out → List ℕ) → Type 0
+HoldTexts a files texts = (out : Out) (name : List ℕ) → output_name a out ≡ Some name → files name ≡ Some (texts out)
+
+-- At status 0 and 3.
+
+-- The files hold the outputs of all pairs of the inputs, and these are in step with the summary
+-- that was printed.
+pub record FilesAreInStep (a : Asking) (old new : Holding) (out : Device) : Type 0 where
+  pub choices : Choices
+  pub forward : List ℕ
+  pub reverse : List ℕ
+  pub counts : Counts
+  pub texts : Out → List ℕ
+  pub settings : settings_of a ≡ Ok choices
+  pub forward_is : old a.inputs.forward ≡ Some forward
+  pub reverse_is : old a.inputs.reverse ≡ Some reverse
+  pub printed : TookPart out (summary_of counts)
+  pub held : HoldTexts a new texts
+  pub in_step : AreInStep choices.check_names choices.steps choices.encoding (pairs_of choices a.inputs.form forward reverse).mates counts texts
+
+-- so it is of files that tell their bytes, if the names of the files that are made differ
+abbrev pub WholeFilesAreInStep : Type 0
+WholeFilesAreInStep = (a : Asking) (told : Bool) (old new : Holding) (out err : Device) (status : ℕ) →
+    PairsAnswered a told old new out err status → (status ≡ 0) ⊎ (status ≡ 3) → IsTrue told → HasDistinctFiles a → FilesAreInStep a old new out
+
+-- At every status but 6.
+
+-- The files hold the outputs of the first pairs of the inputs, and these are in step. After them
+-- there is at most what went out of the one block in which a write failed.
+pub record FilesAreInStepUpTo (a : Asking) (old new : Holding) : Type 0 where
+  pub choices : Choices
+  pub forward : List ℕ
+  pub reverse : List ℕ
+  pub whole : List Mates
+  pub fate : Fate
+  pub texts : Out → List ℕ
+  pub settings : settings_of a ≡ Ok choices
+  pub forward_is : old a.inputs.forward ≡ Some forward
+  pub reverse_is : old a.inputs.reverse ≡ Some reverse
+  pub first : AreFirst whole (pairs_of choices a.inputs.form forward reverse).mates
+  pub held : HoldTexts a new (λ out. texts out ++ part_begun choices.steps fate out)
+  pub in_step : AreInStep choices.check_names choices.steps choices.encoding whole (counts_of choices.steps whole) texts
+
+-- so it is, or each file of an output holds what it held before, or nothing
+abbrev pub FilesLeftAreInStep : Type 0
+FilesLeftAreInStep = (a : Asking) (told : Bool) (old new : Holding) (out err : Device) (status : ℕ) →
+    PairsAnswered a told old new out err status → status ≢ 6 → IsTrue told → HasDistinctFiles a → AreUntrimmed a old new ⊎ FilesAreInStepUpTo a old new

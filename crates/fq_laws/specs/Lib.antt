@@ -1,0 +1,5 @@
+pub mod Pieces
+pub mod InStep
+pub mod Runs
+pub mod Files
+pub mod Reports

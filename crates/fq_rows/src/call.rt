@@ -1,0 +1,208 @@
+//! Calls of the program on files in memory.
+//!
+//! `call: WORD ..` has the words, `file NAME: TEXT` a file that is there, and `trouble: NAME WHAT` what goes wrong with one: a number (that
+//! read or write of it fails), `refused`, `memory` (it is refused for want of memory) or `input` (it leads to an input). `print fails at: N`
+//! has a write to standard output fail.
+//!
+//! Answers: `status`, `out`, `err`, `printed` (which of the two were written to), and each file by its name.
+
+ghost use Rattle.std.specs.Prelude.{◌≡◌, true, false, None};
+
+use anyhow::{Context, Result};
+use fq_command::program;
+use fq_files::{FileFault, Files, MemoryFiles};
+use fq_text::{ScriptFeed, ScriptOutlet};
+use fq_worked::{Answers, Given};
+use std::alloc::Global;
+use std::sync::Wait;
+use std::thread::Threads;
+
+const NAMES: [&str; 9] = ["f", "r", "i", "fp", "fu", "rp", "ru", "log", "report"];
+
+// What goes wrong with a file.
+#[derive(Clone, Copy)]
+enum Trouble {
+    Nothing,
+    // A call for it is refused.
+    Refused(FileFault),
+    // This read or write of it fails.
+    Call(u64),
+    // It leads to an input.
+    Input,
+}
+
+// Files in memory, one of which makes trouble.
+#[derive(Drop)]
+struct TroubledFiles<'a> {
+    held: MemoryFiles,
+    name: &'a str,
+    trouble: Trouble,
+    alloc: Global,
+}
+
+impl TroubledFiles<'_> {
+    // The call of this file that fails, or 0; or why the file is refused.
+    fn failing_call(&self, name: &str) -> std::result::Result<u64, FileFault> {
+        if name != self.name {
+            return Ok(0);
+        }
+        match self.trouble {
+            Trouble::Refused(fault) => Err(fault),
+            Trouble::Call(call) => Ok(call),
+            Trouble::Input | Trouble::Nothing => Ok(0),
+        }
+    }
+}
+
+impl Files for TroubledFiles<'_> {
+    type In = ScriptFeed;
+
+    type Target = ScriptOutlet;
+
+    ghost tells_bytes = { λ _. false };
+
+    ghost bytes_of = { λ _ _. None };
+
+    ghost refuses = { λ _ _. true };
+
+    ghost has_failed = { λ _ _. true };
+
+    fn source(&mut self, name: &str) -> std::result::Result<ScriptFeed, FileFault> {
+        let call = self.failing_call(name)?;
+        match self.held.get(name) {
+            Some(bytes) => Ok(ScriptFeed::new(self.alloc, bytes, 1000, call)?),
+            None => Err(FileFault::Refused),
+        }
+    }
+
+    fn source_done(&mut self, _name: &str, _feed: ScriptFeed) {}
+
+    fn leads_to_input(&self, name: &str) -> bool {
+        name == self.name && matches!(self.trouble, Trouble::Input)
+    }
+
+    fn target(&mut self, name: &str) -> std::result::Result<ScriptOutlet, FileFault> {
+        let call = self.failing_call(name)?;
+        self.held.put(name, &[])?;
+        Ok(ScriptOutlet::new(self.alloc, 1000, call, false))
+    }
+
+    fn done(&mut self, name: &str, target: ScriptOutlet) {
+        // Where memory is refused the file stays empty, and the row fails.
+        let _ = self.held.put(name, target.bytes());
+    }
+}
+
+// The files that a row has.
+fn files_of(alloc: Global, given: &Given<'_>) -> Result<MemoryFiles> {
+    let mut files = MemoryFiles::new(alloc);
+    for (key, text) in given.lines() {
+        if let Some(name) = key.strip_prefix("file ") {
+            files.put(name, text)?;
+        }
+    }
+    Ok(files)
+}
+
+// The file that makes trouble, and which.
+fn trouble_of<'a>(given: &'a Given<'_>) -> Result<(&'a str, Trouble)> {
+    let Some((name, what)) = given.text("trouble")?.split_once(' ') else {
+        return Ok(("", Trouble::Nothing));
+    };
+    let trouble = match what {
+        "refused" => Trouble::Refused(FileFault::Refused),
+        "memory" => Trouble::Refused(FileFault::OutOfMemory),
+        "input" => Trouble::Input,
+        _ => Trouble::Call(what.parse::<u64>().context("no such trouble")?),
+    };
+    Ok((name, trouble))
+}
+
+// Calls the program on files.
+fn call<R: Threads + Wait + Copy + Send + 'static, T: Files>(
+    rt: &R,
+    alloc: Global,
+    words: &[&str],
+    files: &mut T,
+    out: &mut ScriptOutlet,
+    err: &mut ScriptOutlet,
+) -> u8
+    requires out { out.old.failures ≡ 0 }
+    requires err { err.old.failures ≡ 0 }
+{
+    program(alloc, rt, words, files, out, err)
+}
+
+fn outlet(alloc: Global, fail_at: u64) -> ScriptOutlet
+    ensures { result.failures ≡ 0 }
+{
+    ScriptOutlet::new(alloc, 1000, fail_at, false)
+}
+
+// Calls the program, and answers what it printed and its status. Where no file makes trouble the files are plain ones.
+fn put_call<R: Threads + Wait + Copy + Send + 'static>(
+    rt: &R,
+    alloc: Global,
+    words: &[&str],
+    files: &mut TroubledFiles<'_>,
+    print_fails_at: u64,
+    answers: &mut Answers,
+) -> Result<()> {
+    let mut out = outlet(alloc, print_fails_at);
+    let mut err = outlet(alloc, 0);
+    let status = match files.trouble {
+        Trouble::Nothing => call(rt, alloc, words, &mut files.held, &mut out, &mut err),
+        _ => call(rt, alloc, words, files, &mut out, &mut err),
+    };
+    answers.put("status", format!(in alloc; "{status}")?.as_bytes())?;
+    put_printed(answers, out.bytes(), err.bytes())
+}
+
+fn put_printed(answers: &mut Answers, out: &[u8], err: &[u8]) -> Result<()> {
+    let printed: &str = match (out.is_empty(), err.is_empty()) {
+        (true, true) => "nothing",
+        (false, true) => "out",
+        (true, false) => "err",
+        (false, false) => "out and err",
+    };
+    answers.put("printed", printed.as_bytes())?;
+    answers.put("out", out)?;
+    answers.put("err", err)?;
+    Ok(())
+}
+
+// Answers what files hold.
+fn put_files(files: &MemoryFiles, answers: &mut Answers) -> Result<()> {
+    for name in NAMES {
+        answers.put(name, files.get(name).unwrap_or(b"no file"))?;
+    }
+    Ok(())
+}
+
+/// Answers a row.
+pub fn answer<R: Threads + Wait + Copy + Send + 'static>(
+    rt: &R,
+    alloc: Global,
+    given: &Given<'_>,
+    answers: &mut Answers,
+) -> Result<()> {
+    given.allow(&[
+        "call",
+        "trouble",
+        "print fails at",
+        "file f",
+        "file r",
+        "file i",
+    ])?;
+    let words: Vec<&str> = given.text("call")?.split(' ').collect(alloc)?;
+    let (name, trouble) = trouble_of(given)?;
+    let mut files = TroubledFiles {
+        held: files_of(alloc, given)?,
+        name,
+        trouble,
+        alloc,
+    };
+    let print_fails_at = given.number("print fails at", 0)?;
+    put_call(rt, alloc, &words, &mut files, print_fails_at, answers)?;
+    put_files(&files.held, answers)
+}

@@ -1,0 +1,445 @@
+//! Trims pairs by a run to which memory or a thread may be refused, and judges what the run leaves. `tests/refused_growths.sh`
+//! refuses it each growth and each thread in turn.
+//!
+//! With the word `threads` the run has two workers, and else it is on one thread. With the word `interleaved` it reads an interleaved
+//! text, which ends with a forward record whose mate is missing; else it reads seven pairs out of two texts. Where the run has left what
+//! it may, `Whole` is printed, or the outcome where it did not end whole and what became of its feeds; else the status is 1.
+//!
+//! `do: judge` does the same, by the words of `way`. Answer: `whole`, whether the run ended whole.
+
+ghost use Rattle.std.specs.Prelude.{◌≡◌, ◌<◌, ◌^◌, false, [], IfSome};
+ghost use Rattle.fq_run.specs.Devices.{outlet_states, AreHealthy};
+
+use anyhow::{Result, bail};
+use fq_pair::{Counts, InputFault, Side};
+use fq_run::{
+    Ending, MixedEnding, Outcome, Outlets, Settings, run_serial, run_serial_mixed, run_threads,
+    run_threads_mixed,
+};
+use fq_samples::{
+    ELEVEN_INTERLEAVED, Front, SEVEN_FORWARD, SEVEN_REVERSE, SEVEN_STEPS, front_in_order,
+};
+use fq_text::{Encoding, Feed, Outlet, OutletFailed, ScriptFeed, ScriptOutlet};
+use fq_trim::Steps;
+use fq_work::OpenGate;
+use fq_worked::{Answers, Given};
+use std::alloc::Global;
+use std::sync::{Arc, Wait};
+use std::thread::Threads;
+
+const BLOCK_PAIRS: usize = 2;
+
+// The most bytes of a read or a write.
+const CUT: usize = 5;
+
+/// Which run it is.
+#[derive(Clone, Copy, Debug)]
+struct Way {
+    threads: bool,
+    interleaved: bool,
+}
+
+const SERIAL: Way = Way {
+    threads: false,
+    interleaved: false,
+};
+
+/// What became of the feeds of a run.
+#[derive(Clone, Copy, Debug, PartialEq, Eq)]
+enum Feeds {
+    /// They did not come back.
+    Lost,
+    /// They came back, and give all their bytes still.
+    Unread,
+    /// They came back, and give no more than a part of them.
+    Read,
+}
+
+/// What a run left beside its outputs.
+#[derive(Clone, Copy, Debug)]
+struct Left {
+    outcome: Outcome,
+    counts: Counts,
+    feeds: Feeds,
+}
+
+// How a run ended, and what became of each feed: of the one of an interleaved text twice.
+#[derive(Clone, Copy)]
+struct Ended {
+    outcome: Outcome,
+    counts: Counts,
+    forward: Feeds,
+    reverse: Feeds,
+}
+
+// How many bytes a feed gives still.
+fn bytes_left(feed: &mut ScriptFeed) -> usize {
+    let mut left = 0usize;
+    let mut buf = [0; CUT];
+    for _ in 0..1000u64 {
+        if feed.failures() > 0 {
+            return left;
+        }
+        match feed.read(&mut buf) {
+            Ok(some) if some > 0 => left = left.saturating_add(some),
+            _ => return left,
+        }
+    }
+    left
+}
+
+// What became of a feed over so many bytes.
+fn feed_left(feed: &mut Option<ScriptFeed>, bytes: usize) -> Feeds {
+    match feed.as_mut().map(bytes_left) {
+        None => Feeds::Lost,
+        Some(left) if left == bytes => Feeds::Unread,
+        Some(_) => Feeds::Read,
+    }
+}
+
+// What became of both feeds, which come back together.
+fn feeds_left(forward: Feeds, reverse: Feeds) -> Result<Feeds> {
+    match (forward, reverse) {
+        (Feeds::Unread, Feeds::Unread) => Ok(Feeds::Unread),
+        (Feeds::Lost, Feeds::Lost) => Ok(Feeds::Lost),
+        (Feeds::Lost, _) | (_, Feeds::Lost) => bail!("one feed alone came back"),
+        _ => Ok(Feeds::Read),
+    }
+}
+
+/// An outlet that counts how often it is flushed.
+#[derive(Drop)]
+struct FlushedOutlet {
+    outlet: ScriptOutlet,
+    flushes: u64,
+    failures: u64,
+}
+
+impl Outlet for FlushedOutlet {
+    ghost state = { λ o. record { tells = false; taken = []; failures = o.failures } };
+
+    fn write(&mut self, bytes: &[u8]) -> std::result::Result<usize, OutletFailed> {
+        if self.outlet.failures() == 0 {
+            if let Ok(n) = self.outlet.write(bytes) {
+                return Ok(n);
+            }
+        }
+        self.failures += 1;
+        Err(OutletFailed)
+    }
+
+    fn flush(&mut self) -> std::result::Result<(), OutletFailed> {
+        self.flushes = self.flushes.saturating_add(1);
+        Ok(())
+    }
+
+    fn failures(&self) -> u64 {
+        self.failures
+    }
+}
+
+fn outlet(alloc: Global) -> FlushedOutlet
+    ensures { result.failures ≡ 0 }
+{
+    FlushedOutlet {
+        outlet: ScriptOutlet::new(alloc, CUT, 0, false),
+        flushes: 0,
+        failures: 0,
+    }
+}
+
+fn new_outlets(alloc: Global) -> Outlets<FlushedOutlet>
+    ensures { AreHealthy (outlet_states (λ o. record { tells = false; taken = []; failures = o.failures }) result) }
+{
+    Outlets {
+        forward_paired: outlet(alloc),
+        forward_unpaired: outlet(alloc),
+        reverse_paired: outlet(alloc),
+        reverse_unpaired: outlet(alloc),
+        log: Some(outlet(alloc)),
+    }
+}
+
+// Outlets that have taken nothing, in a `Box`: they have so many parts that each function that owns them on its stack has a long proof.
+// `None` where memory is refused.
+fn outlets(alloc: Global) -> Option<Box<Outlets<FlushedOutlet>>>
+    ensures { IfSome result (λ outlets. AreHealthy
+        (outlet_states (λ o. record { tells = false; taken = []; failures = o.failures }) outlets.value)) }
+{
+    Box::new(alloc, new_outlets(alloc)).ok()
+}
+
+// How often each outlet was flushed.
+fn flushes(outlets: &Outlets<FlushedOutlet>, log: &FlushedOutlet) -> [u64; 5] {
+    [
+        outlets.forward_paired.flushes,
+        outlets.forward_unpaired.flushes,
+        outlets.reverse_paired.flushes,
+        outlets.reverse_unpaired.flushes,
+        log.flushes,
+    ]
+}
+
+// The front of the seven pairs that the outlets have.
+fn front(
+    outlets: &Outlets<FlushedOutlet>,
+    log: &FlushedOutlet,
+    counts: Counts,
+) -> std::result::Result<Front, &'static str> {
+    let outlets = [
+        &outlets.forward_paired.outlet,
+        &outlets.forward_unpaired.outlet,
+        &outlets.reverse_paired.outlet,
+        &outlets.reverse_unpaired.outlet,
+        &log.outlet,
+    ];
+    front_in_order(outlets, counts, BLOCK_PAIRS)
+}
+
+fn settings() -> Result<Settings> {
+    let steps = Steps::parse(SEVEN_STEPS)?;
+    Ok(Settings::new(
+        Encoding::Sanger,
+        steps,
+        true,
+        2,
+        BLOCK_PAIRS as u64,
+        4,
+        65_536,
+        1 << 40,
+        1 << 40,
+    )?)
+}
+
+// A feed that has given nothing. `None` where memory is refused.
+fn feed(alloc: Global, bytes: &[u8]) -> Option<ScriptFeed>
+    ensures { IfSome result (λ feed. feed.failures ≡ 0) }
+{
+    ScriptFeed::new(alloc, bytes, CUT, 0).ok()
+}
+
+fn ended_interleaved(ending: &mut MixedEnding<ScriptFeed>) -> Ended {
+    let feed = feed_left(&mut ending.feed, ELEVEN_INTERLEAVED.len());
+    Ended {
+        outcome: ending.outcome,
+        counts: ending.counts,
+        forward: feed,
+        reverse: feed,
+    }
+}
+
+fn ended_mates(ending: &mut Ending<ScriptFeed, ScriptFeed>) -> Ended {
+    Ended {
+        outcome: ending.outcome,
+        counts: ending.counts,
+        forward: feed_left(&mut ending.forward, SEVEN_FORWARD.len()),
+        reverse: feed_left(&mut ending.reverse, SEVEN_REVERSE.len()),
+    }
+}
+
+// The run over an interleaved text.
+fn end_interleaved<R: Threads + Wait + Copy + Send + 'static>(
+    alloc: Global,
+    rt: &R,
+    way: Way,
+    settings: &Settings,
+    gate: Arc<OpenGate>,
+    text: ScriptFeed,
+    outlets: &mut Outlets<FlushedOutlet>,
+) -> Ended
+    requires text { text.failures ≡ 0 }
+    requires outlets { AreHealthy (outlet_states (λ o. record { tells = false; taken = []; failures = o.failures }) outlets.old) }
+{
+    let mut ending = if way.threads {
+        run_threads_mixed(alloc, rt, settings, gate, text, outlets)
+    } else {
+        run_serial_mixed(alloc, settings, text, outlets)
+    };
+    ended_interleaved(&mut ending)
+}
+
+// That over two texts.
+fn end_mates<R: Threads + Wait + Copy + Send + 'static>(
+    alloc: Global,
+    rt: &R,
+    way: Way,
+    settings: &Settings,
+    gate: Arc<OpenGate>,
+    forward: ScriptFeed,
+    reverse: ScriptFeed,
+    outlets: &mut Outlets<FlushedOutlet>,
+) -> Ended
+    requires forward { forward.failures ≡ 0 }
+    requires reverse { reverse.failures ≡ 0 }
+    requires outlets { AreHealthy (outlet_states (λ o. record { tells = false; taken = []; failures = o.failures }) outlets.old) }
+{
+    let mut ending = if way.threads {
+        run_threads(alloc, rt, settings, gate, forward, reverse, outlets)
+    } else {
+        run_serial(alloc, settings, forward, reverse, outlets)
+    };
+    ended_mates(&mut ending)
+}
+
+// The run over the text or the texts. `None` where memory was refused before it.
+fn end<R: Threads + Wait + Copy + Send + 'static>(
+    alloc: Global,
+    rt: &R,
+    way: Way,
+    settings: &Settings,
+    outlets: &mut Outlets<FlushedOutlet>,
+) -> Option<Ended>
+    requires { AreHealthy (outlet_states (λ o. record { tells = false; taken = []; failures = o.failures }) outlets.old) }
+{
+    let gate = Arc::new(alloc, OpenGate).ok()?;
+    if way.interleaved {
+        let text = feed(alloc, ELEVEN_INTERLEAVED)?;
+        return Some(end_interleaved(alloc, rt, way, settings, gate, text, outlets));
+    }
+    let forward = feed(alloc, SEVEN_FORWARD)?;
+    let reverse = feed(alloc, SEVEN_REVERSE)?;
+    Some(end_mates(alloc, rt, way, settings, gate, forward, reverse, outlets))
+}
+
+// What a run left, whose feeds came back together.
+fn left_of(ended: Ended) -> Result<Left> {
+    Ok(Left {
+        outcome: ended.outcome,
+        counts: ended.counts,
+        feeds: feeds_left(ended.forward, ended.reverse)?,
+    })
+}
+
+// The run, and what it left. An error, or nothing, comes before it.
+fn run<R: Threads + Wait + Copy + Send + 'static>(
+    alloc: Global,
+    rt: &R,
+    way: Way,
+    outlets: &mut Outlets<FlushedOutlet>,
+) -> Result<Option<Left>>
+    requires { AreHealthy (outlet_states (λ o. record { tells = false; taken = []; failures = o.failures }) outlets.old) }
+{
+    let settings = settings()?;
+    match end(alloc, rt, way, &settings, outlets) {
+        Some(ended) => Ok(Some(left_of(ended)?)),
+        None => Ok(None),
+    }
+}
+
+// How a run ends to which no memory was refused, and how many pairs it has then written.
+fn whole(way: Way) -> (Outcome, usize) {
+    if way.interleaved {
+        let fault = InputFault::MateMissing(Side::Reverse, 6);
+        (Outcome::Input(fault), 5)
+    } else {
+        (Outcome::Finished, 7)
+    }
+}
+
+// One growth may be refused, or one thread: a growth of an outlet is a failed write, and any other is want of memory, or of a thread.
+// Each outlet is flushed once, but where a write failed or a thread was refused: there none is.
+fn judge(way: Way, left: Left, front: Front, flushes: [u64; 5]) -> Result<()> {
+    let Left { outcome, feeds, .. } = left;
+    let expected = match outcome {
+        Outcome::Spawn => front.pairs == 0 && front.failed.is_none() && feeds != Feeds::Read,
+        Outcome::Memory => front.failed.is_none(),
+        Outcome::Write(out) => front.failed == Some(out),
+        _ => (outcome, front.pairs) == whole(way) && front.failed.is_none(),
+    };
+    let due = match outcome {
+        Outcome::Spawn | Outcome::Write(_) => 0,
+        _ => 1,
+    };
+    if !expected || flushes != [due; 5] {
+        bail!("{left:?} with {front:?}, flushed {flushes:?} times");
+    }
+    Ok(())
+}
+
+// Judges the outlets, and what else a run left.
+fn judge_run(way: Way, left: Left, outlets: &Outlets<FlushedOutlet>) -> Result<()> {
+    let Some(log) = &outlets.log else {
+        bail!("there is no log")
+    };
+    match front(outlets, log, left.counts) {
+        Ok(front) => judge(way, left, front, flushes(outlets, log)),
+        Err(why) => bail!("{why}"),
+    }
+}
+
+// Runs and judges. `None` where memory was refused before the run.
+fn run_and_judge<R: Threads + Wait + Copy + Send + 'static>(
+    alloc: Global,
+    rt: &R,
+    way: Way,
+) -> Result<Option<Left>> {
+    let Some(mut outlets) = outlets(alloc) else {
+        return Ok(None);
+    };
+    let Some(left) = run(alloc, rt, way, &mut outlets)? else {
+        return Ok(None);
+    };
+    judge_run(way, left, &outlets)?;
+    Ok(Some(left))
+}
+
+// A word of the call.
+fn take_word(way: &mut Way, word: &str) {
+    match word {
+        "threads" => way.threads = true,
+        "interleaved" => way.interleaved = true,
+        _ => {}
+    }
+}
+
+// Tells how a run ended that left what it may.
+fn tell<R: Print>(rt: &R, way: Way, left: Left) -> Result<()> {
+    if left.outcome == whole(way).0 {
+        println!(rt; "Whole")?;
+    } else {
+        println!(rt; "{:?}({:?})", left.outcome, left.feeds)?;
+    }
+    Ok(())
+}
+
+/// The run of these words, judged and told of.
+pub fn judge_words<R: Threads + Wait + Print + Copy + Send + 'static>(
+    alloc: Global,
+    rt: &R,
+    words: &[String],
+) -> Result<()> {
+    let mut way = SERIAL;
+    for word in words {
+        take_word(&mut way, word);
+    }
+    match run_and_judge(alloc, rt, way)? {
+        Some(left) => tell(rt, way, left),
+        None => refused(rt),
+    }
+}
+
+/// Says that memory was refused before a run.
+pub fn refused<R: Print>(rt: &R) -> Result<()> {
+    println!(rt; "Refused before the run")?;
+    Ok(())
+}
+
+/// Answers a row.
+pub fn answer<R: Threads + Wait + Copy + Send + 'static>(
+    rt: &R,
+    alloc: Global,
+    given: &Given<'_>,
+    answers: &mut Answers,
+) -> Result<()> {
+    given.allow(&["way"])?;
+    let mut way = SERIAL;
+    for word in given.text("way")?.split(' ') {
+        take_word(&mut way, word);
+    }
+    let left = run_and_judge(alloc, rt, way)?;
+    answers.put_yes(
+        "whole",
+        left.is_some_and(|left| left.outcome == whole(way).0),
+    )?;
+    Ok(())
+}

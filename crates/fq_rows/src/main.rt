@@ -1,0 +1,168 @@
+//! Answers worked rows, and compares: `fq_rows FILE ..` reads the rows of these files. It prints a line for each row whose answers are not
+//! those that are wanted, and how many rows passed. How rows are written is said in `fq_worked`.
+//!
+//! `fq_rows judge` runs on seven pairs, and judges what the run leaves where memory or a thread is refused to it.
+#![tactic(auto)]
+
+mod call;
+mod files;
+mod judge;
+mod outcomes;
+mod run;
+
+use anyhow::{Context, Result};
+use fq_worked::{Answers, Given, Names, Row, compare, read_block};
+use std::alloc::Global;
+use std::process::ExitCode;
+use std::rt::Files;
+use std::sync::Wait;
+use std::thread::Threads;
+use std::{env, fs};
+
+// How many rows passed, and how many did not.
+#[derive(Clone, Copy)]
+struct Score {
+    passed: u64,
+    failed: u64,
+}
+
+// The answers that a row has.
+fn answer<R: Threads + Wait + Print + AllocGlobal + Files + Copy + Send + 'static>(
+    rt: &R,
+    alloc: Global,
+    given: &Given<'_>,
+) -> Result<Answers> {
+    let mut answers = Answers::new(alloc);
+    match given.text("do")? {
+        "call" => call::answer(rt, alloc, given, &mut answers)?,
+        "files" => files::answer(alloc, given, &mut answers)?,
+        "outcomes" => outcomes::answer(alloc, given, &mut answers)?,
+        "judge" => judge::answer(rt, alloc, given, &mut answers)?,
+        "run" => run::answer(rt, alloc, given, &mut answers)?,
+        word => fq_worked::answer(alloc, word, given, &mut answers)?,
+    }
+    Ok(answers)
+}
+
+// Answers a row once. What differs is said.
+fn run_once<R: Threads + Wait + Print + AllocGlobal + Files + Copy + Send + 'static>(
+    rt: &R,
+    names: &Names<'_>,
+    row: &Row<'_>,
+) -> Result<String> {
+    let alloc = rt.alloc();
+    let given = Given::new(alloc, names, row)?;
+    let answers = answer(rt, alloc, &given)?;
+    compare(alloc, &given, &answers)
+}
+
+// The same. What was wrong with the row is said too.
+fn said_of<R: Threads + Wait + Print + AllocGlobal + Files + Copy + Send + 'static>(
+    rt: &R,
+    names: &Names<'_>,
+    row: &Row<'_>,
+) -> Result<String> {
+    match run_once(rt, names, row) {
+        Ok(said) => Ok(said),
+        Err(error) => Ok(format!(in rt.alloc(); " {error:#};")?),
+    }
+}
+
+// Answers a row for each word of its two sweeps. Whether all fitted.
+fn run_row<'a, R: Threads + Wait + Print + AllocGlobal + Files + Copy + Send + 'static>(
+    rt: &R,
+    names: &mut Names<'a>,
+    row: &Row<'a>,
+) -> Result<bool> {
+    let alloc = rt.alloc();
+    let mut fits = true;
+    let (outer, outer_words) = row.sweep(0);
+    let (inner, inner_words) = row.sweep(1);
+    for first in outer_words.split(' ') {
+        names.put(outer, Vec::from_slice(alloc, first.as_bytes())?)?;
+        for second in inner_words.split(' ') {
+            names.put(inner, Vec::from_slice(alloc, second.as_bytes())?)?;
+            let said = said_of(rt, names, row)?;
+            if !said.is_empty() {
+                fits = false;
+                let name = row.name;
+                println!(rt; "{name} ({first}, {second}):{said}")?;
+            }
+            names.pop();
+        }
+        names.pop();
+    }
+    Ok(fits)
+}
+
+// Answers the rows of a text.
+fn run_rows<R: Threads + Wait + Print + AllocGlobal + Files + Copy + Send + 'static>(
+    rt: &R,
+    text: &str,
+    score: &mut Score,
+) -> Result<()> {
+    let mut names = Names::new(rt.alloc());
+    for block in text.split("\n\n") {
+        if let Some(row) = read_block(rt.alloc(), &mut names, block)? {
+            if run_row(rt, &mut names, &row)? {
+                score.passed = score.passed.saturating_add(1);
+            } else {
+                score.failed = score.failed.saturating_add(1);
+            }
+        }
+    }
+    Ok(())
+}
+
+// Answers the rows of a file.
+fn run_file<R: Threads + Wait + Print + AllocGlobal + Files + Copy + Send + 'static>(
+    rt: &R,
+    name: &str,
+    score: &mut Score,
+) -> Result<()> {
+    let text = fs::read_to_string(rt, name).context(format_args!("reading {name}"))?;
+    run_rows(rt, &text, score).context(format_args!("in {name}"))
+}
+
+// Answers the rows of files.
+fn run_files<R: Threads + Wait + Print + AllocGlobal + Files + Copy + Send + 'static>(
+    rt: &R,
+    files: &[String],
+) -> Result<ExitCode> {
+    let mut score = Score {
+        passed: 0,
+        failed: 0,
+    };
+    for file in files {
+        run_file(rt, file, &mut score)?;
+    }
+    let Score { passed, failed } = score;
+    println!(rt; "{passed} rows passed")?;
+    if failed > 0 {
+        println!(rt; "{failed} rows FAILED")?;
+        return Ok(ExitCode::from(1));
+    }
+    Ok(ExitCode::from(0))
+}
+
+// The words of the call. `None` where memory is refused.
+fn words_of(rt: &HostRuntime) -> Option<Vec<String>> {
+    let mut words = Vec::new(rt.alloc());
+    for word in env::args(rt).ok()? {
+        words.push(word).ok()?;
+    }
+    Some(words)
+}
+
+fn main(rt: HostRuntime) -> Result<ExitCode> {
+    let Some(words) = words_of(&rt) else {
+        judge::refused(&rt)?;
+        return Ok(ExitCode::from(0));
+    };
+    let files = words.get(1..).unwrap_or(&[]);
+    if files.first().is_some_and(|word| word.as_str() == "judge") {
+        judge::judge_words(rt.alloc(), &rt, files)?;
+        return Ok(ExitCode::from(0));
+    }
+    run_files(&rt, files)
+}

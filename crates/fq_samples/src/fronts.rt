@@ -1,0 +1,189 @@
+//! The seven pairs: what each adds to the outputs, and whether the outputs of a run are those of the first of them.
+
+use fq_pair::{Counts, Out};
+use fq_text::{Outlet, ScriptOutlet};
+use std::cmp::Ordering;
+
+/// The outputs, in the order in which they are written.
+pub const OUTS: [Out; 5] = [
+    Out::ForwardPaired,
+    Out::ForwardUnpaired,
+    Out::ReversePaired,
+    Out::ReverseUnpaired,
+    Out::Log,
+];
+
+/// What each of the pairs adds to each of the outputs.
+const ADDED: [[&[u8]; 5]; 7] = [
+    [
+        b"@n1/1\nACGT\n+\nIIII\n",
+        b"",
+        b"@n1/2\nTT\n+\nII\n",
+        b"",
+        b"n1 4 0 4 0\nn1 2 0 2 2\n",
+    ],
+    [
+        b"@n2/1\nGT\n+\nII\n",
+        b"",
+        b"@n2/2\nTT\n+\nII\n",
+        b"",
+        b"n2 2 2 4 0\nn2 2 0 2 2\n",
+    ],
+    [
+        b"",
+        b"@n3/1\nACGT\n+\nIIII\n",
+        b"",
+        b"",
+        b"n3 4 0 4 0\nn3 0 0 0 0\n",
+    ],
+    [
+        b"@n4/1\nGT\n+\nII\n",
+        b"",
+        b"@n4/2\nTT\n+\nII\n",
+        b"",
+        b"n4 2 2 4 0\nn4 2 0 2 2\n",
+    ],
+    [
+        b"@n5/1\nACGT\n+\nIIII\n",
+        b"",
+        b"@n5/2\nTT\n+\nII\n",
+        b"",
+        b"n5 4 0 4 0\nn5 2 0 2 2\n",
+    ],
+    [
+        b"",
+        b"@n6/1\nGT\n+\nII\n",
+        b"",
+        b"",
+        b"n6 2 2 4 0\nn6 0 0 0 0\n",
+    ],
+    [
+        b"@n7/1\nACGT\n+\nIIII\n",
+        b"",
+        b"@n7/2\nTT\n+\nII\n",
+        b"",
+        b"n7 4 0 4 0\nn7 2 0 2 2\n",
+    ],
+];
+
+/// Of how many of the first pairs, from none to all seven, both mates survive, and of how many the forward mate alone.
+const SURVIVORS: [(u64, u64); 8] = [
+    (0, 0),
+    (1, 0),
+    (2, 0),
+    (2, 1),
+    (3, 1),
+    (4, 1),
+    (4, 2),
+    (5, 2),
+];
+
+/// The outputs that a run left.
+#[derive(Clone, Copy, Debug, PartialEq, Eq)]
+pub struct Front {
+    /// How many pairs are written whole and counted.
+    pub pairs: usize,
+    /// The output of which a write failed.
+    pub failed: Option<Out>,
+}
+
+/// The first of the seven pairs that a run has written to outlets, which are in the order of [`OUTS`], or what is wrong with its
+/// outputs and counts.
+///
+/// The outputs are the texts of the first pairs, and the counts are theirs. Where a write failed, no other did, and further pairs
+/// were begun, at most those of a block: the outputs before the one that failed have the texts of these too, and that one has a
+/// first part of its text that isn't the whole.
+pub fn front_in_order(
+    outlets: [&ScriptOutlet; 5],
+    counts: Counts,
+    block_pairs: usize,
+) -> Result<Front, &'static str> {
+    let pairs = counted(counts).ok_or("the counts are not those of the first pairs")?;
+    let mut failed = None;
+    for (place, outlet) in outlets.iter().enumerate() {
+        match outlet.failures() {
+            0 => {}
+            1 if failed.is_none() => failed = Some(place),
+            _ => return Err("more than one write failed"),
+        }
+    }
+    let texts = outlets.map(|outlet| outlet.bytes());
+    match failed {
+        None if are_whole(texts, pairs) => Ok(Front {
+            pairs,
+            failed: None,
+        }),
+        None => Err("the texts are not those of the pairs that are counted"),
+        Some(place) if break_off(texts, place, pairs, block_pairs) => Ok(Front {
+            pairs,
+            failed: OUTS.get(place).copied(),
+        }),
+        Some(_) => Err("the texts do not break off in the output of which a write failed"),
+    }
+}
+
+// How many pairs these are the counts of.
+fn counted(counts: Counts) -> Option<usize> {
+    let pairs = usize::try_from(counts.pairs).ok()?;
+    let (both, forward_only) = *SURVIVORS.get(pairs)?;
+    let wanted = Counts {
+        pairs: counts.pairs,
+        both,
+        forward_only,
+        reverse_only: 0,
+        dropped: 0,
+    };
+    (counts == wanted).then_some(pairs)
+}
+
+// Whether these are the texts of so many pairs.
+fn are_whole(texts: [&[u8]; 5], pairs: usize) -> bool {
+    texts
+        .iter()
+        .enumerate()
+        .all(|(place, text)| is_whole(text, place, pairs))
+}
+
+// Whether these texts have so many pairs, and further ones, at most those of a block, up to a place within the output that failed.
+fn break_off(texts: [&[u8]; 5], failed: usize, pairs: usize, block_pairs: usize) -> bool {
+    (1..=block_pairs).any(|more| {
+        let begun = pairs.saturating_add(more);
+        begun <= ADDED.len()
+            && texts.iter().enumerate().all(|(place, text)| match place.cmp(&failed) {
+                Ordering::Less => is_whole(text, place, begun),
+                Ordering::Equal => breaks_off(text, place, pairs, begun),
+                Ordering::Greater => is_whole(text, place, pairs),
+            })
+    })
+}
+
+// Whether this is the text of so many pairs in the output at this place.
+fn is_whole(text: &[u8], place: usize, pairs: usize) -> bool {
+    matches!(behind(text, place, pairs), Some(rest) if rest.is_empty())
+}
+
+// Whether this text has so many pairs, and behind them a part that isn't the whole of what those up to `begun` add.
+fn breaks_off(text: &[u8], place: usize, pairs: usize, begun: usize) -> bool {
+    let Some(mut rest) = behind(text, place, pairs) else {
+        return false;
+    };
+    for outputs in ADDED.iter().take(begun).skip(pairs) {
+        let Some(added) = outputs.get(place) else {
+            return false;
+        };
+        match rest.strip_prefix(added) {
+            Some(further) => rest = further,
+            None => return added.starts_with(rest),
+        }
+    }
+    false
+}
+
+// What stands in this text behind what so many pairs add to the output at this place.
+fn behind<'a>(text: &'a [u8], place: usize, pairs: usize) -> Option<&'a [u8]> {
+    let mut rest = text;
+    for outputs in ADDED.iter().take(pairs) {
+        rest = rest.strip_prefix(outputs.get(place)?)?;
+    }
+    Some(rest)
+}

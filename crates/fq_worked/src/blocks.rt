@@ -1,0 +1,140 @@
+//! `do: block` pushes the first `pairs` pairs of the texts `forward` and `reverse` into a block of the number `number`, in `encoding`. Where
+//! there is a line `reset`, the block is first given all pairs and then reset to that number; where `lent` is `yes` the first pair is lent
+//! out of the block, and pushed into another, which is answered.
+//!
+//! Answers: `number`, `encoding`, `length`, `empty`, `bytes` (the packed pairs, byte by byte), `reads`, each as `(title|sequence|quality)`.
+
+use crate::answers::Answers;
+use crate::encoding_in;
+use crate::row::Given;
+use anyhow::{Result, bail};
+use fq_block::Block;
+use fq_pair::{Pair, PairSource, PairView};
+use fq_samples::source_of;
+use fq_text::ReadView;
+use std::alloc::Global;
+use std::fmt::Write;
+
+fn push(block: &mut Block, pair: &Pair) -> Result<()> {
+    if pair.encoding() != block.encoding() || block.len() >= 65_536 {
+        bail!("no room");
+    }
+    block.push(pair)?;
+    Ok(())
+}
+
+// Pushes the pairs of two texts, as many as there are, up to `most`.
+fn push_pairs(
+    alloc: Global,
+    block: &mut Block,
+    forward: &[u8],
+    reverse: &[u8],
+    most: u64,
+) -> Result<()> {
+    let encoding = block.encoding();
+    let forward = source_of(alloc, forward, encoding)?;
+    let reverse = source_of(alloc, reverse, encoding)?;
+    let mut pairs = Box::new(alloc, PairSource::new(forward, reverse, true))?;
+    for _ in 0..most {
+        match pairs.next()? {
+            Some(pair) => push(block, &pair)?,
+            None => break,
+        }
+    }
+    Ok(())
+}
+
+fn push_row(alloc: Global, block: &mut Block, given: &Given<'_>, most: u64) -> Result<()> {
+    push_pairs(
+        alloc,
+        block,
+        given.bytes("forward"),
+        given.bytes("reverse"),
+        most,
+    )
+}
+
+// Pushes a pair that is lent by another block.
+fn push_lent(block: &mut Block, pair: &PairView<'_>) -> Result<()> {
+    let encoding = block.encoding();
+    if pair.forward.encoding() != encoding
+        || pair.reverse.encoding() != encoding
+        || block.len() >= 65_536
+    {
+        bail!("another encoding");
+    }
+    block.push_view(pair)?;
+    Ok(())
+}
+
+fn put_read(reads: &mut Vec<u8>, read: &ReadView<'_>) -> Result<()> {
+    for (open, part) in [
+        (b'(', read.title()),
+        (b'|', read.seq()),
+        (b'|', read.qual()),
+    ] {
+        reads.push(open)?;
+        reads.extend_from_slice(part)?;
+    }
+    reads.push(b')')?;
+    Ok(())
+}
+
+fn put_block(alloc: Global, answers: &mut Answers, block: &Block) -> Result<()> {
+    let (number, encoding, len) = (block.number(), block.encoding(), block.len());
+    answers.put("number", format!(in alloc; "{number}")?.as_bytes())?;
+    answers.put("encoding", format!(in alloc; "{encoding:?}")?.as_bytes())?;
+    answers.put("length", format!(in alloc; "{len}")?.as_bytes())?;
+    answers.put_yes("empty", block.is_empty())?;
+    let mut bytes = String::new(alloc);
+    for byte in block.packed() {
+        write!(bytes, " {byte:02x}")?;
+    }
+    answers.put("bytes", bytes.trim_start().as_bytes())?;
+    let mut reads = Vec::new(alloc);
+    for place in 0..len {
+        let pair = block.pair(place);
+        put_read(&mut reads, &pair.forward)?;
+        put_read(&mut reads, &pair.reverse)?;
+    }
+    answers.put("reads", &reads)?;
+    Ok(())
+}
+
+// Answers with a block that gets the first pair of another.
+fn put_first(alloc: Global, answers: &mut Answers, other: &mut Block, block: &Block) -> Result<()> {
+    if block.is_empty() {
+        bail!("no pair");
+    }
+    push_lent(other, &block.pair(0))?;
+    put_block(alloc, answers, other)
+}
+
+fn put_lent(alloc: Global, answers: &mut Answers, block: &Block) -> Result<()> {
+    let mut other = Block::new(alloc, 0, block.encoding());
+    put_first(alloc, answers, &mut other, block)
+}
+
+// Pushes what the row says into a block, and answers.
+fn fill(alloc: Global, given: &Given<'_>, answers: &mut Answers, block: &mut Block) -> Result<()> {
+    if given.find("reset").is_some() {
+        push_row(alloc, block, given, 100)?;
+        block.reset(given.number("reset", 0)?);
+    }
+    push_row(alloc, block, given, given.number("pairs", 0)?)?;
+    if given.text("lent")? == "yes" {
+        return put_lent(alloc, answers, block);
+    }
+    put_block(alloc, answers, block)
+}
+
+/// Answers a row of a block.
+pub fn answer(alloc: Global, given: &Given<'_>, answers: &mut Answers) -> Result<()> {
+    given.allow(&[
+        "forward", "reverse", "encoding", "number", "pairs", "reset", "lent",
+    ])?;
+    let number = given.number("number", 0)?;
+    let encoding = encoding_in(given)?;
+    let mut block = Block::new(alloc, number, encoding);
+    fill(alloc, given, answers, &mut block)
+}

@@ -1,0 +1,65 @@
+//! Worked rows: how a file of them is written, and what the crates below make of each. The program `fq_rows` reads the files, has each row
+//! answered, and compares. A row is data, so it costs no proof: what is proved once is what answers it.
+#![tactic(auto)]
+
+mod answers;
+mod blocks;
+mod mates;
+mod names;
+mod pairs;
+mod reads;
+mod reports;
+mod row;
+mod scores;
+mod settings;
+mod steps;
+mod tallies;
+mod words;
+
+pub use answers::{Answers, compare};
+use anyhow::{Context, Result, bail};
+use fq_text::Encoding;
+use fq_words::encoding_of;
+pub use mates::put_counts;
+pub use names::{Names, decode};
+pub use row::{Given, Row, read_block};
+use std::alloc::{AllocError, Global};
+pub use tallies::put_tally;
+
+/// Answers a row that this word stands for.
+pub fn answer(alloc: Global, word: &str, given: &Given<'_>, answers: &mut Answers) -> Result<()> {
+    match word {
+        "read" => reads::answer(alloc, given, answers),
+        "copy" => reads::answer_copies(alloc, given, answers),
+        "score" => scores::answer(alloc, given, answers),
+        "write" => scores::answer_written(alloc, given, answers),
+        "trim" => steps::answer(alloc, given, answers),
+        "steps" => steps::answer_parsed(alloc, given, answers),
+        "mates" => mates::answer(alloc, given, answers),
+        "printed" => mates::answer_printed(alloc, given, answers),
+        "sum" => mates::answer_sum(alloc, given, answers),
+        "pairs" => pairs::answer(alloc, given, answers),
+        "tally" => tallies::answer(alloc, given, answers),
+        "report" => reports::answer(alloc, given, answers),
+        "block" => blocks::answer(alloc, given, answers),
+        "settings" => settings::answer(alloc, given, answers),
+        "words" => words::answer(alloc, given, answers),
+        _ => bail!("nobody answers {word:?}"),
+    }
+}
+
+/// The encoding of a row: Sanger's, where it names none.
+pub fn encoding_in(given: &Given<'_>) -> Result<Encoding> {
+    match given.text("encoding")? {
+        "" => Ok(Encoding::Sanger),
+        name => encoding_of(name).context("no such encoding"),
+    }
+}
+
+/// The words of a text, which are parted by blanks.
+pub fn words_of<'a>(alloc: Global, text: &'a str) -> Result<Vec<&'a str>, AllocError> {
+    if text.is_empty() {
+        return Ok(Vec::new(alloc));
+    }
+    text.split(' ').collect(alloc)
+}

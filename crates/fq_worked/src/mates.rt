@@ -1,0 +1,104 @@
+//! `do: mates` takes the titles `forward` and `reverse`. Answers: `forward` and `reverse`, the names in them; `match`, whether mates with
+//! these titles have one name.
+//!
+//! `do: printed` prints values. Answers: `outs`, `sides`, `text`, `missing` and `names`.
+//!
+//! `do: sum` adds the counts `first` and `second`, five numbers each in the order of a summary. Answer: `sum`.
+
+use crate::answers::Answers;
+use crate::row::Given;
+use anyhow::{Context, Result};
+use fq_pair::{Counts, InputFault, Out, Side, name_of, names_match};
+use fq_text::TextFault;
+use std::alloc::Global;
+use std::fmt::Write;
+
+/// Answers a row of titles.
+pub fn answer(_alloc: Global, given: &Given<'_>, answers: &mut Answers) -> Result<()> {
+    given.allow(&["forward", "reverse"])?;
+    let (forward, reverse) = (given.bytes("forward"), given.bytes("reverse"));
+    answers.put("forward", name_of(forward, Side::Forward))?;
+    answers.put("reverse", name_of(reverse, Side::Reverse))?;
+    answers.put_yes("match", names_match(forward, reverse))?;
+    Ok(())
+}
+
+const OUTS: [Out; 5] = [
+    Out::ForwardPaired,
+    Out::ForwardUnpaired,
+    Out::ReversePaired,
+    Out::ReverseUnpaired,
+    Out::Log,
+];
+
+fn put_fault(alloc: Global, answers: &mut Answers, key: &str, fault: InputFault) -> Result<()> {
+    answers.put(key, format!(in alloc; "{fault}")?.as_bytes())?;
+    Ok(())
+}
+
+/// Answers a row of printed values.
+pub fn answer_printed(alloc: Global, given: &Given<'_>, answers: &mut Answers) -> Result<()> {
+    given.allow(&[])?;
+    let mut outs = String::new(alloc);
+    for out in OUTS {
+        write!(outs, "{out}, ")?;
+    }
+    answers.put("outs", outs.as_bytes())?;
+    let sides = format!(in alloc; "{}, {}", Side::Forward, Side::Reverse)?;
+    answers.put("sides", sides.as_bytes())?;
+    put_fault(
+        alloc,
+        answers,
+        "text",
+        InputFault::Text(Side::Reverse, TextFault::NoPlus(2)),
+    )?;
+    put_fault(
+        alloc,
+        answers,
+        "missing",
+        InputFault::MateMissing(Side::Forward, 6),
+    )?;
+    put_fault(alloc, answers, "names", InputFault::NamesDiffer(3))
+}
+
+// The number at a place, or 0.
+fn number_at(numbers: &[u64], place: usize) -> u64 {
+    numbers.get(place).copied().unwrap_or(0)
+}
+
+/// Counts, as they are written in a row.
+pub fn counts_of(alloc: Global, text: &str) -> Result<Counts> {
+    let mut numbers = Vec::new(alloc);
+    for word in text.split(' ') {
+        numbers.push(word.parse::<u64>().context("a number")?)?;
+    }
+    Ok(Counts {
+        pairs: number_at(&numbers, 0),
+        both: number_at(&numbers, 1),
+        forward_only: number_at(&numbers, 2),
+        reverse_only: number_at(&numbers, 3),
+        dropped: number_at(&numbers, 4),
+    })
+}
+
+/// Answers with counts.
+pub fn put_counts(alloc: Global, answers: &mut Answers, key: &str, counts: Counts) -> Result<()> {
+    let Counts {
+        pairs,
+        both,
+        forward_only,
+        reverse_only,
+        dropped,
+    } = counts;
+    let text = format!(in alloc; "{pairs} {both} {forward_only} {reverse_only} {dropped}")?;
+    answers.put(key, text.as_bytes())?;
+    Ok(())
+}
+
+/// Answers a row of counts.
+pub fn answer_sum(alloc: Global, given: &Given<'_>, answers: &mut Answers) -> Result<()> {
+    given.allow(&["first", "second"])?;
+    let first = counts_of(alloc, given.text("first")?)?;
+    let second = counts_of(alloc, given.text("second")?)?;
+    put_counts(alloc, answers, "sum", first.plus(second))
+}

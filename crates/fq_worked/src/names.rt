@@ -1,0 +1,119 @@
+//! The texts of rows: how odd bytes are written, and texts that have names.
+//!
+//! `\n`, `\r` and `\t` are LF, CR and a tab, and `\{92}` is the byte of that number, here a backslash. `\<two>` is the text of the name
+//! `two`, `\(3 two)` that text three times, and `\[5 two]` its first five bytes. Where such a number is a name, the text of that name is
+//! the number.
+
+use anyhow::{Context, Result, bail};
+use std::alloc::Global;
+use std::str;
+
+/// Texts that have names. Of two with one name the later one counts.
+#[derive(Drop)]
+pub struct Names<'a> {
+    texts: Vec<(&'a str, Vec<u8>)>,
+}
+
+impl<'a> Names<'a> {
+    /// No names.
+    pub fn new(alloc: Global) -> Names<'a> {
+        Names {
+            texts: Vec::new(alloc),
+        }
+    }
+
+    /// Gives a text its name.
+    pub fn put(&mut self, name: &'a str, text: Vec<u8>) -> Result<()> {
+        self.texts.push((name, text))?;
+        Ok(())
+    }
+
+    /// Takes away the name that was given last.
+    pub fn pop(&mut self) {
+        self.texts.pop();
+    }
+
+    // The text of a name.
+    fn get(&self, name: &str) -> Result<&[u8]> {
+        for (known, text) in self.texts.iter().rev() {
+            if *known == name {
+                return Ok(text.as_slice());
+            }
+        }
+        bail!("no text has the name {name:?}")
+    }
+
+    // The number that is written, or that the text of this name is.
+    fn number(&self, word: &str) -> Result<usize> {
+        if let Ok(number) = word.parse::<usize>() {
+            return Ok(number);
+        }
+        Ok(str::from_utf8(self.get(word)?)?.parse::<usize>()?)
+    }
+}
+
+/// The bytes that a text of a row stands for.
+pub fn decode(alloc: Global, names: &Names<'_>, text: &str) -> Result<Vec<u8>> {
+    let mut out = Vec::new(alloc);
+    for (place, part) in text.split('\\').enumerate() {
+        if place == 0 {
+            out.extend_from_slice(part.as_bytes())?;
+        } else {
+            put_escaped(&mut out, names, part)?;
+        }
+    }
+    Ok(out)
+}
+
+// Appends what stands for itself behind a backslash and what comes then.
+fn put_escaped(out: &mut Vec<u8>, names: &Names<'_>, part: &str) -> Result<()> {
+    let behind = if let Some(behind) = part.strip_prefix('n') {
+        out.push(b'\n')?;
+        behind
+    } else if let Some(behind) = part.strip_prefix('r') {
+        out.push(b'\r')?;
+        behind
+    } else if let Some(behind) = part.strip_prefix('t') {
+        out.push(b'\t')?;
+        behind
+    } else if let Some((byte, behind)) = within(part, '{', '}') {
+        out.push(byte.parse::<u8>()?)?;
+        behind
+    } else if let Some((name, behind)) = within(part, '<', '>') {
+        out.extend_from_slice(names.get(name)?)?;
+        behind
+    } else if let Some((said, behind)) = within(part, '(', ')') {
+        put_times(out, names, said)?;
+        behind
+    } else if let Some((said, behind)) = within(part, '[', ']') {
+        put_front(out, names, said)?;
+        behind
+    } else {
+        bail!("nothing is written as a backslash and {part:?}")
+    };
+    out.extend_from_slice(behind.as_bytes())?;
+    Ok(())
+}
+
+// What stands between these, at the front, and what comes then.
+fn within(part: &str, open: char, close: char) -> Option<(&str, &str)> {
+    part.strip_prefix(open)?.split_once(close)
+}
+
+// Appends the text of a name as often as is said.
+fn put_times(out: &mut Vec<u8>, names: &Names<'_>, said: &str) -> Result<()> {
+    let (times, name) = said.split_once(' ').context("a number and a name")?;
+    let text = names.get(name)?;
+    for _ in 0..names.number(times)? {
+        out.extend_from_slice(text)?;
+    }
+    Ok(())
+}
+
+// Appends as many bytes of the text of a name as is said.
+fn put_front(out: &mut Vec<u8>, names: &Names<'_>, said: &str) -> Result<()> {
+    let (bytes, name) = said.split_once(' ').context("a number and a name")?;
+    let front = names.get(name)?.get(..names.number(bytes)?);
+    out.extend_from_slice(front.context("the text is too short")?)?;
+    Ok(())
+}

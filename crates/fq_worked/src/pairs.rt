@@ -1,0 +1,265 @@
+//! `do: pairs` reads pairs out of the texts `forward` and `reverse`, or out of the text `interleaved`, in `encoding`, by reads of at most
+//! `chunk` bytes, of which there may be `max reads`. The reads of the numbers `fails at read` (of the forward or the interleaved text) and
+//! `reverse fails at read` fail. Names are compared, but where `names` is `unchecked`; pairs are lent where `form` is `lent`, and given
+//! else; they are trimmed by `steps`.
+//!
+//! Answers: `titles`, the two titles of each pair as a line; `end`, which is what comes behind the pairs, again and again; the outputs `fp`,
+//! `fu`, `rp`, `ru` and `log`; `counts`; `number`, that of the pairs; `summary`; `failures`, how often each feed failed; `cleared`, all this once it is cleared.
+
+ghost use Rattle.std.specs.Prelude.{◌≡◌, ◌<◌, ◌≤◌, ◌^◌, true, Ok, IfOk, IsSome};
+ghost use Rattle.fq_pair.specs.PairSources.{IsUnasked};
+
+use crate::answers::Answers;
+use crate::encoding_in;
+use crate::mates::put_counts;
+use crate::row::Given;
+use crate::steps::steps_in;
+use anyhow::{Result, bail};
+use fq_pair::{
+    InputFault, MixedSource, Out, Pair, PairReader, PairSource, PairView, Texts, summary,
+};
+use fq_text::{Encoding, Feed, ScriptFeed, Source};
+use fq_trim::Steps;
+use std::alloc::Global;
+
+const LONG: u64 = 1 << 40;
+
+// Whether a pair came, or the fault.
+type Came = std::result::Result<bool, InputFault>;
+
+// What is written of pairs. Functions hand it on in a `Box`, and sources too: these have so many parts that each function that owns one on
+// its stack has a long proof.
+#[derive(Drop)]
+struct Left {
+    texts: Texts,
+    titles: Vec<u8>,
+}
+
+fn source_of(
+    alloc: Global,
+    given: &Given<'_>,
+    text: &[u8],
+    encoding: Encoding,
+    fail_at: u64,
+) -> Result<Source<ScriptFeed>>
+    ensures unasked { IfOk result IsUnasked }
+    ensures encoding { IfOk result (λ source. source.encoding ≡ encoding) }
+{
+    let chunk = given.number("chunk", 1000)? as usize;
+    let max_reads = given.number("max reads", LONG)?;
+    if chunk == 0 || chunk > 1_048_576 || max_reads == 0 || max_reads > LONG {
+        bail!("no such reads");
+    }
+    let feed = ScriptFeed::new(alloc, text, 1000, fail_at)?;
+    match Source::new(alloc, feed, encoding, chunk, max_reads) {
+        Ok(source) => Ok(source),
+        Err(_) => bail!("no memory for a source"),
+    }
+}
+
+// The pairs of two texts.
+fn pairs_of(
+    alloc: Global,
+    given: &Given<'_>,
+    names: bool,
+) -> Result<Box<PairSource<ScriptFeed, ScriptFeed>>> {
+    let encoding = encoding_in(given)?;
+    let fails = given.number("fails at read", 0)?;
+    let forward = source_of(alloc, given, given.bytes("forward"), encoding, fails)?;
+    let fails = given.number("reverse fails at read", 0)?;
+    let reverse = source_of(alloc, given, given.bytes("reverse"), encoding, fails)?;
+    Ok(Box::new(alloc, PairSource::new(forward, reverse, names))?)
+}
+
+// The pairs of an interleaved text.
+fn mixed_of(
+    alloc: Global,
+    given: &Given<'_>,
+    text: &[u8],
+    names: bool,
+) -> Result<Box<MixedSource<ScriptFeed>>> {
+    let encoding = encoding_in(given)?;
+    let fails = given.number("fails at read", 0)?;
+    let source = source_of(alloc, given, text, encoding, fails)?;
+    Ok(Box::new(alloc, MixedSource::new(source, names))?)
+}
+
+// Adds a pair to what is written.
+fn add(left: &mut Left, pair: PairView<'_>, steps: &Steps) -> Result<()> {
+    left.titles.extend_from_slice(pair.forward.title())?;
+    left.titles.push(b' ')?;
+    left.titles.extend_from_slice(pair.reverse.title())?;
+    left.titles.push(b'\n')?;
+    if left.texts.counts().pairs == u64::MAX {
+        bail!("too many pairs");
+    }
+    left.texts.add(pair, steps)?;
+    Ok(())
+}
+
+fn next<S: PairReader>(pairs: &mut S) -> std::result::Result<Option<Pair>, InputFault> {
+    pairs.next_pair()
+}
+
+fn advance<S: PairReader>(pairs: &mut S) -> Came
+    ensures { result ≡ Ok true → IsSome (S.state pairs.new).current }
+{
+    pairs.advance_pair()
+}
+
+fn add_given<S: PairReader>(pairs: &mut S, left: &mut Left, steps: &Steps) -> Result<Came> {
+    match next(pairs) {
+        Ok(Some(pair)) => {
+            add(left, pair.view(), steps)?;
+            Ok(Ok(true))
+        }
+        Ok(None) => Ok(Ok(false)),
+        Err(fault) => Ok(Err(fault)),
+    }
+}
+
+fn add_lent<S: PairReader>(pairs: &mut S, left: &mut Left, steps: &Steps) -> Result<Came> {
+    let came = advance(pairs);
+    if let Ok(true) = came {
+        add(left, pairs.pair_in_hand(), steps)?;
+    }
+    Ok(came)
+}
+
+// Adds the next pair, where there is one.
+fn add_next<S: PairReader>(
+    pairs: &mut S,
+    left: &mut Left,
+    steps: &Steps,
+    lent: bool,
+) -> Result<Came> {
+    if lent {
+        add_lent(pairs, left, steps)
+    } else {
+        add_given(pairs, left, steps)
+    }
+}
+
+// Adds the pairs. What comes behind them stays.
+fn add_all<S: PairReader>(
+    pairs: &mut S,
+    left: &mut Left,
+    steps: &Steps,
+    lent: bool,
+) -> Result<Came> {
+    let mut last = Ok(true);
+    for _ in 0..100u8 {
+        if last == Ok(true) {
+            last = add_next(pairs, left, steps, lent)?;
+        } else if add_next(pairs, left, steps, lent)? != last {
+            bail!("the last answer does not stay");
+        }
+    }
+    Ok(last)
+}
+
+// The pairs of two texts are added: what comes behind them, and how often the feeds failed.
+fn add_apart(
+    alloc: Global,
+    given: &Given<'_>,
+    left: &mut Left,
+    steps: &Steps,
+    lent: bool,
+    names: bool,
+) -> Result<(Came, u64, u64)> {
+    let mut pairs = pairs_of(alloc, given, names)?;
+    let came = add_all(&mut *pairs, left, steps, lent)?;
+    let (forward, reverse) = Box::into_inner(pairs).into_feeds();
+    Ok((came, forward.failures(), reverse.failures()))
+}
+
+// The same of an interleaved text.
+fn add_mixed(
+    alloc: Global,
+    given: &Given<'_>,
+    text: &[u8],
+    left: &mut Left,
+    steps: &Steps,
+    lent: bool,
+    names: bool,
+) -> Result<(Came, u64, u64)> {
+    let mut pairs = mixed_of(alloc, given, text, names)?;
+    let came = add_all(&mut *pairs, left, steps, lent)?;
+    Ok((came, Box::into_inner(pairs).into_feed().failures(), 0))
+}
+
+// Adds the pairs of a row.
+fn add_row(alloc: Global, given: &Given<'_>, left: &mut Left) -> Result<(Came, u64, u64)> {
+    let steps = steps_in(alloc, given)?;
+    let lent = given.text("form")? == "lent";
+    let names = given.text("names")? != "unchecked";
+    match given.find("interleaved") {
+        Some(text) => add_mixed(alloc, given, text, left, &steps, lent, names),
+        None => add_apart(alloc, given, left, &steps, lent, names),
+    }
+}
+
+const OUTPUTS: [(&str, Out); 5] = [
+    ("fp", Out::ForwardPaired),
+    ("fu", Out::ForwardUnpaired),
+    ("rp", Out::ReversePaired),
+    ("ru", Out::ReverseUnpaired),
+    ("log", Out::Log),
+];
+
+fn put_texts(alloc: Global, answers: &mut Answers, texts: &Texts) -> Result<()> {
+    for (key, out) in OUTPUTS {
+        answers.put(key, texts.text(out))?;
+    }
+    let counts = texts.counts();
+    put_counts(alloc, answers, "counts", counts)?;
+    let number = counts.pairs;
+    answers.put("number", format!(in alloc; "{number}")?.as_bytes())?;
+    answers.put("summary", summary(alloc, &counts)?.as_bytes())?;
+    Ok(())
+}
+
+// All texts once they are cleared, and their counts.
+fn put_cleared(alloc: Global, answers: &mut Answers, texts: &mut Texts) -> Result<()> {
+    texts.clear();
+    for (_, out) in OUTPUTS {
+        if !texts.text(out).is_empty() {
+            bail!("a text is not cleared");
+        }
+    }
+    put_counts(alloc, answers, "cleared", texts.counts())
+}
+
+/// Answers a row of pairs.
+pub fn answer(alloc: Global, given: &Given<'_>, answers: &mut Answers) -> Result<()> {
+    given.allow(&[
+        "forward",
+        "reverse",
+        "interleaved",
+        "encoding",
+        "chunk",
+        "max reads",
+        "fails at read",
+        "reverse fails at read",
+        "names",
+        "form",
+        "steps",
+    ])?;
+    let left = Left {
+        texts: Texts::new(alloc),
+        titles: Vec::new(alloc),
+    };
+    let mut left = Box::new(alloc, left)?;
+    let (came, forward, reverse) = add_row(alloc, given, &mut left)?;
+    match came {
+        Ok(_) => answers.put("end", b"the end")?,
+        Err(fault) => answers.put("end", format!(in alloc; "{fault:?}")?.as_bytes())?,
+    }
+    answers.put(
+        "failures",
+        format!(in alloc; "{forward} {reverse}")?.as_bytes(),
+    )?;
+    answers.put("titles", &left.titles)?;
+    put_texts(alloc, answers, &left.texts)?;
+    put_cleared(alloc, answers, &mut left.texts)
+}

@@ -1,0 +1,230 @@
+//! `do: read` reads the records of `text`, in `encoding`, by reads of at most `chunk` bytes, of which there may be `max reads`; the read of
+//! number `fails at read` fails. Its records are lent where `form` is `lent`, and given else.
+//!
+//! Answers: `records`, each as `(title|sequence|quality)`; `end`, which is what comes then, again and again; `reads`, how many reads were
+//! made behind each of these; `failures`, how often the feed failed.
+//!
+//! `do: copy` lends the first record of `text`, copies it, and goes on to the second. Answers: `kept`, the copy in memory that was there,
+//! and `copy`.
+
+ghost use Rattle.std.specs.Prelude.{◌≡◌, ◌<◌, ◌≤◌, ◌^◌, false, [], IfOk};
+
+use crate::answers::Answers;
+use crate::encoding_in;
+use crate::row::Given;
+use anyhow::{Result, bail};
+use fq_text::{Encoding, FastqRecord, Feed, FeedFailed, ReadView, ScriptFeed, Source, TextFault};
+use std::alloc::Global;
+use std::fmt::Write;
+
+const LONG: u64 = 1 << 40;
+
+/// A feed that counts its reads.
+#[derive(Drop)]
+struct Counting {
+    feed: ScriptFeed,
+    reads: u64,
+}
+
+impl Feed for Counting {
+    ghost state = { λ f. record { tells = false; to_come = []; failures = f.feed.failures } };
+
+    fn read(&mut self, buf: &mut [u8]) -> std::result::Result<usize, FeedFailed> {
+        self.reads = self.reads.saturating_add(1);
+        self.feed.read(buf)
+    }
+
+    fn failures(&self) -> u64 {
+        self.feed.failures()
+    }
+}
+
+fn feed_of(alloc: Global, given: &Given<'_>) -> Result<Counting>
+    ensures { IfOk result (λ feed. feed.feed.failures ≡ 0) }
+{
+    let fails_at = given.number("fails at read", 0)?;
+    let feed = ScriptFeed::new(alloc, given.bytes("text"), 1 << 30, fails_at)?;
+    Ok(Counting { feed, reads: 0 })
+}
+
+// The source of a row.
+fn source_of(alloc: Global, given: &Given<'_>) -> Result<Source<Counting>> {
+    let chunk = given.number("chunk", 1000)? as usize;
+    let max_reads = given.number("max reads", LONG)?;
+    if chunk == 0 || chunk > 1_048_576 || max_reads == 0 || max_reads > LONG {
+        bail!("no such reads");
+    }
+    let encoding = encoding_in(given)?;
+    match Source::new(alloc, feed_of(alloc, given)?, encoding, chunk, max_reads) {
+        Ok(source) => Ok(source),
+        Err(_) => bail!("no memory for a source"),
+    }
+}
+
+// Whether a record came, or the fault.
+type Came = std::result::Result<bool, TextFault>;
+
+fn put_read(records: &mut Vec<u8>, read: &ReadView<'_>) -> Result<()> {
+    records.push(b'(')?;
+    records.extend_from_slice(read.title())?;
+    records.push(b'|')?;
+    records.extend_from_slice(read.seq())?;
+    records.push(b'|')?;
+    records.extend_from_slice(read.qual())?;
+    records.push(b')')?;
+    Ok(())
+}
+
+fn put_given(records: &mut Vec<u8>, source: &mut Source<Counting>) -> Result<Came> {
+    match source.next() {
+        Ok(Some(record)) => {
+            put_read(records, &record.view())?;
+            Ok(Ok(true))
+        }
+        Ok(None) => Ok(Ok(false)),
+        Err(fault) => Ok(Err(fault)),
+    }
+}
+
+fn put_lent(records: &mut Vec<u8>, source: &mut Source<Counting>) -> Result<Came> {
+    let came = source.advance();
+    if let Ok(true) = came {
+        put_read(records, &source.record())?;
+    }
+    Ok(came)
+}
+
+// Appends the next record, where there is one.
+fn put_next(records: &mut Vec<u8>, source: &mut Source<Counting>, lent: bool) -> Result<Came> {
+    if lent {
+        put_lent(records, source)
+    } else {
+        put_given(records, source)
+    }
+}
+
+// Appends the records and what comes behind them, and how many reads were made behind each.
+fn put_records(
+    records: &mut Vec<u8>,
+    reads: &mut String,
+    source: &mut Source<Counting>,
+    lent: bool,
+) -> Result<Came> {
+    for _ in 0..100u8 {
+        let came = put_next(records, source, lent)?;
+        write!(reads, " {}", source.feed().reads)?;
+        if came != Ok(true) {
+            return Ok(came);
+        }
+    }
+    bail!("more than 100 records")
+}
+
+// What comes behind the records, which stays.
+fn put_all(
+    records: &mut Vec<u8>,
+    reads: &mut String,
+    source: &mut Source<Counting>,
+    lent: bool,
+) -> Result<Came> {
+    let last = put_records(records, reads, source, lent)?;
+    for _ in 0..2u8 {
+        if put_next(records, source, lent)? != last {
+            bail!("the last answer does not stay");
+        }
+    }
+    Ok(last)
+}
+
+// How often the feed of a source failed, which it says in the source and out of it.
+fn failures(source: Source<Counting>) -> (u64, u64) {
+    (source.feed().failures(), source.into_feed().failures())
+}
+
+// Answers with the records of a source.
+fn put_source(
+    alloc: Global,
+    answers: &mut Answers,
+    source: &mut Source<Counting>,
+    lent: bool,
+) -> Result<()> {
+    let mut records = Vec::new(alloc);
+    let mut reads = String::new(alloc);
+    match put_all(&mut records, &mut reads, source, lent)? {
+        Ok(_) => answers.put("end", b"the end")?,
+        Err(fault) => answers.put("end", format!(in alloc; "{fault:?}")?.as_bytes())?,
+    }
+    answers.put("records", &records)?;
+    answers.put("reads", reads.trim_start().as_bytes())?;
+    Ok(())
+}
+
+/// Answers a row of records.
+pub fn answer(alloc: Global, given: &Given<'_>, answers: &mut Answers) -> Result<()> {
+    given.allow(&[
+        "text",
+        "encoding",
+        "chunk",
+        "max reads",
+        "fails at read",
+        "form",
+    ])?;
+    let lent = given.text("form")? == "lent";
+    let mut source = source_of(alloc, given)?;
+    put_source(alloc, answers, &mut source, lent)?;
+    let (within, behind) = failures(source);
+    answers.put(
+        "failures",
+        format!(in alloc; "{within} {behind}")?.as_bytes(),
+    )?;
+    Ok(())
+}
+
+fn kept_copy(alloc: Global, read: &ReadView<'_>) -> Result<FastqRecord> {
+    let mut kept = FastqRecord::empty(alloc, Encoding::Sanger);
+    kept.copy_from(read)?;
+    Ok(kept)
+}
+
+// Two copies of the record that is lent next: one into memory that is there, and one into its own.
+fn copies(alloc: Global, source: &mut Source<Counting>) -> Result<(FastqRecord, FastqRecord)> {
+    let Ok(true) = source.advance() else {
+        bail!("no record")
+    };
+    let read = source.record();
+    Ok((
+        kept_copy(alloc, &read)?,
+        FastqRecord::copy_of(alloc, &read)?,
+    ))
+}
+
+fn put_copies(
+    alloc: Global,
+    answers: &mut Answers,
+    kept: &FastqRecord,
+    copy: &FastqRecord,
+) -> Result<()> {
+    let mut text = Vec::new(alloc);
+    put_read(&mut text, &kept.view())?;
+    answers.put("kept", &text)?;
+    text.clear();
+    put_read(&mut text, &copy.view())?;
+    answers.put("copy", &text)?;
+    Ok(())
+}
+
+// Copies the first record of a source, and goes on to the second.
+fn copy_first(alloc: Global, answers: &mut Answers, source: &mut Source<Counting>) -> Result<()> {
+    let (kept, copy) = copies(alloc, source)?;
+    if source.advance() != Ok(true) {
+        bail!("no second record");
+    }
+    put_copies(alloc, answers, &kept, &copy)
+}
+
+/// Answers a row of copies.
+pub fn answer_copies(alloc: Global, given: &Given<'_>, answers: &mut Answers) -> Result<()> {
+    given.allow(&["text", "encoding"])?;
+    let mut source = source_of(alloc, given)?;
+    copy_first(alloc, answers, &mut source)
+}

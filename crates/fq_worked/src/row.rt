@@ -1,0 +1,161 @@
+//! A row: the lines of a block of text.
+//!
+//! A line that begins with `#` is a comment. Each other line is a key, `: ` and a text:
+//!
+//! - `let NAME: TEXT` gives a text its name, for the rest of the file.
+//! - `row: TEXT` says in plain words what the row is about.
+//! - `each NAME: WORD WORD ..` has the row answered once for each word, which is the text of that name then. There may be two.
+//! - `do: WORD` says who answers.
+//! - `= KEY: TEXT` is an answer that is wanted, and `~ KEY: TEXT` a part of one.
+//! - What other lines say is for whoever answers.
+
+use crate::names::{Names, decode};
+use anyhow::{Context, Result, bail};
+use std::alloc::Global;
+use std::str;
+
+/// A row as it is written.
+#[derive(Drop)]
+pub struct Row<'a> {
+    /// What it is about.
+    pub name: &'a str,
+    sweeps: Vec<(&'a str, &'a str)>,
+    lines: Vec<(&'a str, &'a str)>,
+}
+
+impl<'a> Row<'a> {
+    /// The name and the words of a sweep of this row. Without one there is one word, of no name.
+    pub fn sweep(&self, place: usize) -> (&'a str, &'a str) {
+        match self.sweeps.get(place) {
+            Some(sweep) => *sweep,
+            None => ("", "once"),
+        }
+    }
+}
+
+/// Reads a block of lines: gives texts their names, and answers the row, if there is one.
+pub fn read_block<'a>(
+    alloc: Global,
+    names: &mut Names<'a>,
+    block: &'a str,
+) -> Result<Option<Row<'a>>> {
+    let mut row = Row {
+        name: "",
+        sweeps: Vec::new(alloc),
+        lines: Vec::new(alloc),
+    };
+    for line in block.lines() {
+        if !line.is_empty() && !line.starts_with('#') {
+            read_line(alloc, names, &mut row, line)?;
+        }
+    }
+    if row.name.is_empty() && row.lines.is_empty() {
+        return Ok(None);
+    }
+    Ok(Some(row))
+}
+
+// Reads a line that is no comment.
+fn read_line<'a>(
+    alloc: Global,
+    names: &mut Names<'a>,
+    row: &mut Row<'a>,
+    line: &'a str,
+) -> Result<()> {
+    let (key, text) = parts_of(line)?;
+    if key == "row" {
+        row.name = text;
+    } else if let Some(name) = key.strip_prefix("let ") {
+        let text = decode(alloc, names, text)?;
+        names.put(name, text)?;
+    } else if let Some(name) = key.strip_prefix("each ") {
+        row.sweeps.push((name, text))?;
+    } else {
+        row.lines.push((key, text))?;
+    }
+    Ok(())
+}
+
+// The key and the text of a line.
+fn parts_of(line: &str) -> Result<(&str, &str)> {
+    if let Some(parts) = line.split_once(": ") {
+        return Ok(parts);
+    }
+    match line.split_once(':') {
+        Some((key, "")) => Ok((key, "")),
+        _ => bail!("no key: {line:?}"),
+    }
+}
+
+/// What a row says: the texts of its lines, as they stand for bytes.
+#[derive(Drop)]
+pub struct Given<'a> {
+    lines: Vec<(&'a str, Vec<u8>)>,
+}
+
+impl<'a> Given<'a> {
+    /// What this row says.
+    pub fn new(alloc: Global, names: &Names<'_>, row: &Row<'a>) -> Result<Given<'a>> {
+        let mut lines = Vec::new(alloc);
+        for (key, text) in row.lines.iter() {
+            lines.push((*key, decode(alloc, names, text)?))?;
+        }
+        Ok(Given { lines })
+    }
+
+    /// Its lines.
+    pub fn lines(&self) -> &[(&'a str, Vec<u8>)] {
+        &self.lines
+    }
+
+    /// The bytes of the first line with this key, or `None`.
+    pub fn find(&self, key: &str) -> Option<&[u8]> {
+        for (known, text) in self.lines.iter() {
+            if *known == key {
+                return Some(text.as_slice());
+            }
+        }
+        None
+    }
+
+    /// The bytes of this key, which are none where there is no such line.
+    pub fn bytes(&self, key: &str) -> &[u8] {
+        self.find(key).unwrap_or(&[])
+    }
+
+    /// The text of this key, which is empty where there is no such line.
+    pub fn text(&self, key: &str) -> Result<&str> {
+        Ok(str::from_utf8(self.bytes(key))?)
+    }
+
+    /// The number of this key, or another where there is no such line.
+    pub fn number(&self, key: &str, absent: u64) -> Result<u64> {
+        match self.find(key) {
+            Some(bytes) => Ok(str::from_utf8(bytes)?.parse::<u64>().context("a number")?),
+            None => Ok(absent),
+        }
+    }
+
+    /// Each line has one of these keys, or is about an answer that is wanted.
+    pub fn allow(&self, keys: &[&str]) -> Result<()> {
+        for (key, _) in self.lines.iter() {
+            if !is_allowed(keys, key) {
+                bail!("nobody reads {key:?}");
+            }
+        }
+        Ok(())
+    }
+}
+
+// Whether a line with this key may stand in a row, of whose keys these are read.
+fn is_allowed(keys: &[&str], key: &str) -> bool {
+    if key == "do" || key.starts_with("= ") || key.starts_with("~ ") {
+        return true;
+    }
+    for allowed in keys {
+        if *allowed == key {
+            return true;
+        }
+    }
+    false
+}
