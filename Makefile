@@ -1,60 +1,82 @@
-# Tibzharuk: build, try, check, test, install and pack. It needs the Rattle kit, whose command `rt` is on the path.
+# Tibzharuk: build, run, test, prove, install and pack. `make` alone prints what there is. All but the help needs the Rattle kit,
+# whose command `rt` must be on the path.
 # `make static` and `make dist` also need a C compiler as linker and the C library's static form (Debian: gcc, libc6-dev).
 PREFIX ?= /usr/local
 PROGRAM = crates/fq_prog/out/fq_prog
-JUDGE = crates/fq_judge/out/fq_judge
+ROWS = crates/fq_rows/out/fq_rows
 LANE_TESTS = crates/fq_lane/out/fq_lane_tests crates/fq_lane_tests/out/fq_lane_tests_tests
 SOURCES := HANDLES crates.txt $(shell find crates -name out -prune -o '(' -name '*.rt' -o -name '*.antt' ')' -print)
 VERSION := $(shell sed -n 's/^pub const VERSION: &str = "\([0-9.]*\)";/\1/p' crates/fq_words/src/words.rt)
-BIN = $(DESTDIR)$(PREFIX)/bin
-MAN = $(DESTDIR)$(PREFIX)/share/man/man1
-COMPLETIONS = $(DESTDIR)$(PREFIX)/share/bash-completion/completions
 SHOW = bash packaging/progress.sh
-.DEFAULT_GOAL := build
+NEEDS_KIT = @rt version > /dev/null 2>&1 || { echo "The Rattle kit is missing: its command 'rt' must be on the path." >&2; exit 1; }
+.DEFAULT_GOAL := help
 
-.PHONY: help build example try check test static dist install uninstall clean bench bench-reading bench-lane bench-waiting
+.PHONY: help run test build demo try check gate deep static dist image install uninstall clean \
+  bench bench-reading bench-lane bench-waiting
 
 # Lists the targets, each with the comment above it.
 help:
 	@awk '/^# /{ said = said " " substr($$0, 3); next } /^[a-z-]+:/{ sub(":.*", ""); printf "make %-14s%s\n", $$0, said } { said = "" }' Makefile
 
-# Proves the program and all below it, says which crate is done, and leaves the program at crates/fq_prog/out/fq_prog. Does nothing
-# where that is newer than all sources.
+# Builds the program, trims the reads in examples/, prints the summary, and says where the trimmed reads are.
+run: build
+	@bash packaging/run_examples.sh
+
+# Builds the program and runs all tests but the proofs of tests: unit tests of every crate, unproved, and the scripts in tests/.
+test:
+	$(NEEDS_KIT)
+	@bash tests/all.sh
+
+# Proves the program and all crates below it, prints a line for each crate, and leaves the program at crates/fq_prog/out/fq_prog.
+# Does nothing if that is newer than all sources.
 build: $(PROGRAM)
 
 $(PROGRAM): $(SOURCES)
+	$(NEEDS_KIT)
 	@cd crates/fq_prog && bash ../../packaging/progress.sh rt run -- EXAMPLE
 	@touch $@
 
-# (what scripts of tests/ run: `rt ci` has proved and linked it before)
-$(JUDGE): $(SOURCES)
-	@cd crates/fq_judge && bash ../../packaging/progress.sh rt run
+# (The proved test programs that scripts of tests/ run. A gate leaves them.)
+$(ROWS): $(SOURCES)
+	$(NEEDS_KIT)
+	@cd crates/fq_rows && bash ../../packaging/progress.sh rt run -- judge
 	@touch $@
 
 $(LANE_TESTS): $(SOURCES)
+	$(NEEDS_KIT)
 	@cd $(dir $(@D)) && rt test
 	@touch $@
 
-# Prints what becomes of two built-in pairs.
-example: build
-	@$(PROGRAM) EXAMPLE
+# Shows what becomes of two built-in pairs, by an unproved build: about a minute.
+demo:
+	$(NEEDS_KIT)
+	@echo "The program's built-in example, run without a proof (about a minute):"
+	@cd crates/fq_prog && rt try -- EXAMPLE
 
-# Runs the tests without proofs: of one crate with CRATE=fq_trim, else of every crate.
+# Runs the unit tests without proofs: of one crate with CRATE=fq_trim, else of every crate.
 try:
+	$(NEEDS_KIT)
 	@bash packaging/try.sh $(CRATE)
 
 # Proves what changed since the last check, and the crates above it. With CRATE=fq_trim: that crate, and those below it.
 check:
+	$(NEEDS_KIT)
 ifdef CRATE
 	@cd crates/$(CRATE) && bash ../../packaging/progress.sh rt check
 else
 	@$(SHOW) rt all check
 endif
 
-# The whole gate: every proof, the edits that must fail, the tests, the program's stored run, and the scripts. What passed on this
-# machine before, and did not change, is not proved again.
-test:
-	@bash tests/all.sh
+# What CI runs: every proof, the wrong bodies in must-fail/, the proved tests, and then `make test`. What passed on this machine
+# before, and did not change, is not proved again.
+gate:
+	$(NEEDS_KIT)
+	@bash .ci/run
+
+# Tries the wrong bodies in wrong-bodies/ too, of every crate or with CRATE=fq_trim of one.
+deep:
+	$(NEEDS_KIT)
+	@bash packaging/deep.sh $(CRATE)
 
 # Links the program into dist/fq_prog, which needs no library.
 static: build
@@ -66,22 +88,24 @@ static: build
 dist: static
 	@bash packaging/pack.sh $(VERSION) dist
 
-# Installs the program, its manual page, its completion and trim_gz below PREFIX (default: /usr/local).
+# Makes a container image of the package: an OCI archive in dist/. Needs root, the network, and Debian's buildah and mmdebstrap.
+image: dist
+	@bash packaging/image.sh $(VERSION) dist
+
+# Installs the program as fq_prog and tibzharuk below PREFIX (default: /usr/local), with the scripts that have a command, their
+# manual pages, and their completion for bash, zsh and fish.
 install: build
-	install -D -m 755 $(PROGRAM) $(BIN)/fq_prog
-	$(if $(wildcard contrib/trim_gz),install -D -m 755 contrib/trim_gz $(BIN)/trim_gz)
-	install -D -m 644 man/fq_prog.1 $(MAN)/fq_prog.1
-	install -D -m 644 completions/fq_prog.bash $(COMPLETIONS)/fq_prog
+	@bash packaging/install.sh $(PROGRAM) $(DESTDIR)$(PREFIX)
 
-# Takes away what `make install` with the same PREFIX put there.
+# Removes what `make install` with the same PREFIX installed.
 uninstall:
-	rm -f $(BIN)/fq_prog $(BIN)/trim_gz $(MAN)/fq_prog.1 $(COMPLETIONS)/fq_prog
+	@bash packaging/install.sh --remove $(DESTDIR)$(PREFIX)
 
-# Takes away what `make static` and `make dist` left. What was proved stays, in the crates' out/.
+# Removes what `make run`, `make static` and `make dist` made. What was proved stays, in the crates' out/.
 clean:
-	rm -rf dist
+	rm -rf dist examples/out
 
-# Measures the program beside other trimmers. BENCH has words for the script, as BENCH='--pairs 50000'. No verdict.
+# Measures the program beside other trimmers. BENCH has arguments of the script, as BENCH='--pairs 50000'. No verdict.
 bench: build
 	@bash bench/trimming/run.sh $(BENCH)
 
@@ -93,6 +117,6 @@ bench-reading:
 bench-lane:
 	@bash bench/lane/run.sh
 
-# Measures what the program uses of the processor while it waits. No verdict.
+# Measures how much of the processor the program uses while it waits. No verdict.
 bench-waiting: build
 	@bash bench/waiting/run.sh

@@ -56,8 +56,10 @@ put_tree() {
 # The documents, and below licences/ what the C library's licence asks to be passed on.
 put_documents() {
   local to=$1 file
-  for file in README.md CHANGELOG.md CONTRIBUTING.md NOTICES.md LICENSE-MIT LICENSE-APACHE; do put 644 "$file" "$to/$file"; done
+  for file in README.md CHANGELOG.md CONTRIBUTING.md SECURITY.md CITATION.cff NOTICES.md LICENSE-MIT LICENSE-APACHE; do put 644 "$file" "$to/$file"; done
   put_tree "$to" docs
+  # (what the measurements mean, to which README.md leads, without the scripts that measure)
+  for file in $(files_of bench | grep '\.md$'); do put 644 "$file" "$to/$file"; done
   put 644 "$licences/LGPL-2.1" "$to/licences/LGPL-2.1"
   put 644 "$licences/GPL-3" "$to/licences/GPL-3"
   put 644 /usr/share/doc/libc6/copyright "$to/licences/libc6"
@@ -65,8 +67,8 @@ put_documents() {
   libraries > "$to/licences/versions"
 }
 
-# The scripts around the program, which find each other by where they are.
-put_scripts() { put_tree "$1" contrib workflow config profiles; }
+# The workflow, which finds the scripts of contrib/ by where they are.
+put_workflow() { put_tree "$1" workflow config profiles; }
 
 # The Debian packages whose files were linked into the program.
 libraries() {
@@ -82,12 +84,9 @@ put_objects() {
 
 pack_tarball() {
   local to=$work/$release
-  put 755 "$folder/fq_prog" "$to/bin/fq_prog"
-  put 644 man/fq_prog.1 "$to/share/man/man1/fq_prog.1"
-  put 644 completions/fq_prog.bash "$to/share/bash-completion/completions/fq_prog"
+  bash packaging/install.sh "$folder/fq_prog" "$to" contrib
   put_documents "$to"
-  put_scripts "$to"
-  if [ -e contrib/trim_gz ]; then ln -s ../contrib/trim_gz "$to/bin/trim_gz"; fi
+  put_workflow "$to"
   put_objects "$to/relink"
   (cd "$to" && find . -type f -printf '%P\n' | sort | xargs -d '\n' sha256sum) > "$work/sums"
   put 644 "$work/sums" "$to/SHA256SUMS"
@@ -95,29 +94,42 @@ pack_tarball() {
     -C "$work" -cf - "$release" | gzip -9n > "$folder/$release.tar.gz"
 }
 
-# Debian's control file. Built-Using names the sources of what was linked in.
+# Debian's control file. Built-Using names the sources of what was linked in. The maintainer's address is that of DEBFULLNAME and
+# DEBEMAIL, as for Debian's own tools, else that of the machine's administrator.
 control() {
   # shellcheck disable=SC2016  # the fields are dpkg-query's
   local using
   using=$(dpkg-query -W -f '${source:Package} (= ${source:Version}), ' libc6-dev "libgcc-$(cc -dumpversion)-dev")
   sed -e "s/@VERSION@/$version/" -e "s/@SIZE@/$(du -k -s --apparent-size "$1/usr" | cut -f 1)/" \
-    -e "s/@USING@/${using%, }/" packaging/control.in
+    -e "s/@USING@/${using%, }/" -e "s/@MAINTAINER@/${DEBFULLNAME:-Tibzharuk maintainers} <${DEBEMAIL:-root@localhost}>/" packaging/control.in
+}
+
+# compress_pages FOLDER: the manual pages there, and the links to them
+compress_pages() {
+  local page to
+  for page in "$1"/*.1; do
+    if [ -L "$page" ]; then
+      to=$(readlink "$page")
+      ln -s "$to.gz" "$page.gz"
+      rm "$page"
+    fi
+  done
+  gzip -9n "$1"/*.1
 }
 
 pack_package() {
   local root=$work/root documents
   documents=$root/usr/share/doc/tibzharuk
-  put 755 "$folder/fq_prog" "$root/usr/bin/fq_prog"
-  put 644 man/fq_prog.1 "$root/usr/share/man/man1/fq_prog.1"
-  gzip -9n "$root/usr/share/man/man1/fq_prog.1"
-  put 644 completions/fq_prog.bash "$root/usr/share/bash-completion/completions/fq_prog"
+  bash packaging/install.sh "$folder/fq_prog" "$root/usr"
+  compress_pages "$root/usr/share/man/man1"
+  # zsh looks there for what comes in packages.
+  mv "$root/usr/share/zsh/site-functions" "$root/usr/share/zsh/vendor-completions"
   put_documents "$documents"
   put 644 packaging/copyright "$documents/copyright"
-  put_scripts "$root/usr/share/tibzharuk"
+  put_workflow "$root/usr/share/tibzharuk"
   # The documents and the workflow lead to each other.
   ln -s ../../tibzharuk/workflow "$documents/workflow"
   ln -s ../doc/tibzharuk/docs "$root/usr/share/tibzharuk/docs"
-  if [ -e contrib/trim_gz ]; then ln -s ../share/tibzharuk/contrib/trim_gz "$root/usr/bin/trim_gz"; fi
   put_objects "$root/usr/share/tibzharuk/relink"
   mkdir "$root/DEBIAN"
   control "$root" > "$root/DEBIAN/control"

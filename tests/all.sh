@@ -1,33 +1,48 @@
 #!/usr/bin/env bash
-# The gate, and behind it the scripts of this folder, each of which counts as one test. A script that ends with status 77 was skipped, since
-# a package is missing, and says which. The last line sums up.
+# All tests but the proofs: builds the program, runs the unit tests of every crate without proofs, and then each script of this folder
+# over the built program. A script counts as one test. One that ends with status 77 was skipped, and says what it lacks.
+# The last line is 'N passed, M failed, K skipped'.
 set -u
 cd "$(dirname "$0")/.." || exit 1
 log=$(mktemp)
 trap 'rm -f "$log"' EXIT
-rt ci | tee "$log"
-gate=${PIPESTATUS[0]}
-summary=$(tail -n 1 "$log")
-passed=$(sed -n 's/^\([0-9][0-9]*\) passed, [0-9][0-9]* failed.*/\1/p' <<<"$summary")
-failed=$(sed -n 's/^[0-9][0-9]* passed, \([0-9][0-9]*\) failed.*/\1/p' <<<"$summary")
-: "${passed:=0}" "${failed:=1}"
-if [ "$gate" -ne 0 ] && [ "$failed" -eq 0 ]; then
-  failed=1
-fi
-skipped=0
+
+scripts=()
 for script in tests/*.sh; do
-  [ "$script" = tests/all.sh ] && continue
+  [ "$script" = tests/all.sh ] || scripts+=("$script")
+done
+cat << END
+make test does three things. Times are those of four processors; docs/GATE.md has more.
+1. It builds the program, which proves it: 29 minutes if nothing is built, else seconds.
+2. It runs the unit tests of every crate and the worked examples, unproved: 5 minutes.
+3. It runs ${#scripts[@]} scripts over the built program: 20 minutes. A script that lacks a package says 'skipped'.
+The proofs of the tests and the wrong bodies that the prover must refuse are the gate: make gate.
+END
+
+if ! make --no-print-directory build; then
+  echo 'the program is not built'
+  echo '0 passed, 1 failed, 0 skipped'
+  exit 1
+fi
+
+echo '== unit tests'
+bash packaging/try.sh | tee "$log"
+read -r passed failed < <(sed -nE '$s/^([0-9]+) passed, ([0-9]+) failed$/\1 \2/p' "$log")
+: "${passed:=0}" "${failed:=1}" # no such line: the unit tests did not run
+skipped=0
+for script in "${scripts[@]}"; do
   echo "== $script"
+  begun=$SECONDS
   bash "$script"
   case $? in
     0) passed=$((passed + 1)) ;;
     77) skipped=$((skipped + 1)) ;;
-    *) failed=$((failed + 1)) ;;
+    *)
+      failed=$((failed + 1))
+      echo "$script: FAILED"
+      ;;
   esac
+  echo "($((SECONDS - begun)) s)"
 done
-if [ "$skipped" -gt 0 ]; then
-  echo "$passed passed, $failed failed, $skipped skipped"
-else
-  echo "$passed passed, $failed failed"
-fi
+echo "$passed passed, $failed failed, $skipped skipped"
 [ "$failed" -eq 0 ]

@@ -1,7 +1,8 @@
 #!/usr/bin/env bash
 # The files of a release: the tarball and the Debian package of `make dist` run as they are, by themselves, and are what they
-# say; and what `make install` puts somewhere `make uninstall` takes away. A part that lacks a Debian package prints 'skipped'
-# and which. Where nothing can be packed at all the status is 77.
+# say; and what `make install` puts somewhere `make uninstall` takes away. Each has every command under both of its names, with its
+# manual page and its completion. A part that lacks a Debian package prints 'skipped' and which. If nothing can be packed at all the
+# status is 77.
 set -uo pipefail
 cd "$(dirname "$0")/.." || exit 1
 top=$PWD
@@ -23,6 +24,10 @@ tarball=$top/dist/tibzharuk-$version-linux-x86_64.tar.gz
 package=$top/dist/tibzharuk_${version}_amd64.deb
 release=$work/empty/tibzharuk-$version-linux-x86_64
 program=$release/bin/fq_prog
+
+# The commands, each with its second name.
+commands=(fq_prog:tibzharuk trim_gz:tibzharuk-gz)
+if [ -e contrib/report_to_html ]; then commands+=(report_to_html:tibzharuk-report); fi
 
 fail() {
   echo "dist: $1"
@@ -47,6 +52,35 @@ check_links() {
   done < <(find "$1" -name '*.md')
 }
 
+# installed_files: what is installed of each command, below the folder of the installation; of the scripts those in share/tibzharuk too
+installed_files() {
+  local command name second file
+  for command in "${commands[@]}"; do
+    name=${command%:*} second=${command#*:}
+    printf '%s\n' "bin/$name" "bin/$second" "share/man/man1/$name.1" "share/man/man1/$second.1"
+    if [ -e "completions/$name.bash" ]; then
+      printf 'share/%s\n' "bash-completion/completions/$name" "bash-completion/completions/$second" "zsh/site-functions/_$name" \
+        "fish/vendor_completions.d/$name.fish" "fish/vendor_completions.d/$second.fish"
+    fi
+  done
+}
+
+# check_commands FOLDER: each command answers there under both names, and its page is found under both
+check_commands() {
+  local command name
+  for command in "${commands[@]}"; do
+    for name in "${command%:*}" "${command#*:}"; do
+      PATH=$1/bin:$PATH PYTHONDONTWRITEBYTECODE=1 "$name" --help > "$work/out" 2>&1 || fail "$name --help fails below $1: $(head -n 3 "$work/out")"
+      [ -x "$1/bin/$name" ] || fail "there is no $name below $1"
+      if command -v man > /dev/null; then
+        [ -s "$(man -M "$1/share/man" -w "$name" 2> /dev/null)" ] || fail "man finds no page of $name below $1"
+      fi
+    done
+  done
+  [ "$("$1/bin/tibzharuk" --version)" = "fq_prog $version" ] || fail "tibzharuk below $1 has another version"
+  [ "$(PATH=$1/bin:$PATH tibzharuk-gz --version)" = "fq_prog $version" ] || fail "tibzharuk-gz below $1 has another version"
+}
+
 # The tarball, in an empty folder, with no word of the environment.
 check_tarball() {
   local file
@@ -54,9 +88,11 @@ check_tarball() {
   mkdir "$work/empty"
   tar -C "$work/empty" -xzf "$tarball" || fail 'the tarball is not unpacked'
   [ "$(ls "$work/empty")" = "${release##*/}" ] || fail "the tarball has another folder: $(ls "$work/empty")"
-  for file in README.md CHANGELOG.md CONTRIBUTING.md NOTICES.md LICENSE-MIT LICENSE-APACHE share/man/man1/fq_prog.1 share/bash-completion/completions/fq_prog; do
+  for file in README.md CHANGELOG.md CONTRIBUTING.md SECURITY.md CITATION.cff NOTICES.md LICENSE-MIT LICENSE-APACHE contrib/trim_gz \
+    workflow/Snakefile workflow/cwl/trim_gz.cwl config/config.yaml profiles/{local,slurm,slurm-v8}/config.yaml $(installed_files); do
     [ -s "$release/$file" ] || fail "the tarball lacks $file"
   done
+  check_commands "$release"
   (cd "$release" && sha256sum --quiet -c SHA256SUMS) || fail 'the sums in the tarball are not those of its files'
   check_links "$release"
   run_example 'the program of the tarball' env -i "$program"
@@ -69,6 +105,9 @@ check_version() {
   [ "$(sed -n 's/^## \([0-9.]*\) .*/\1/p' CHANGELOG.md | head -n 1)" = "$version" ] || fail "CHANGELOG.md begins with another version than $version"
   [ "$(dpkg-deb -f "$package" Version)" = "$version" ] || fail "the package has another version than $version"
   grep -qF "\"Tibzharuk $version\"" man/fq_prog.1 || fail "the manual page has another version than $version"
+  grep -qx "version: $version" CITATION.cff || fail "CITATION.cff has another version than $version"
+  grep -qx "## $version ($(sed -n 's/^date-released: //p' CITATION.cff))" CHANGELOG.md || fail 'CITATION.cff has another day than CHANGELOG.md'
+  [ "$(dpkg-deb -f "$package" Maintainer)" = "${DEBFULLNAME:-Tibzharuk maintainers} <${DEBEMAIL:-root@localhost}>" ] || fail 'the package names another maintainer'
 }
 
 # The program names neither a library nor a loader, and runs where there is no other file.
@@ -103,7 +142,7 @@ check_same_bytes() {
 
 # The Debian package, in a root of its own.
 check_package() {
-  local root=$work/root
+  local root=$work/root file
   mkdir -p "$root/var/lib/dpkg/info" "$root/var/lib/dpkg/updates"
   if [ "$(id -u)" -ne 0 ] || ! command -v dpkg > /dev/null; then
     echo 'dist: installing with dpkg: skipped: needs root and dpkg; the package is only unpacked'
@@ -116,9 +155,13 @@ check_package() {
   dpkg --root="$root" --log=/dev/null --install "$package" > "$work/log" 2>&1 || fail "dpkg does not install the package: $(cat "$work/log")"
   run_example 'the program of the package' env -i "$root/usr/bin/fq_prog"
   check_links "$root"
-  [ -s "$root/usr/share/man/man1/fq_prog.1.gz" ] || fail 'the package has no manual page'
-  [ -s "$root/usr/share/doc/tibzharuk/copyright" ] || fail 'the package has no copyright'
-  if [ -e contrib/trim_gz ]; then [ -x "$root/usr/bin/trim_gz" ] || fail 'the package has no trim_gz'; fi
+  for file in $(installed_files | sed 's|\(share/man/.*\)|\1.gz|; s|zsh/site-functions|zsh/vendor-completions|') \
+    share/doc/tibzharuk/{copyright,README.md,SECURITY.md,CITATION.cff,CHANGELOG.md,NOTICES.md,licences/LGPL-2.1} \
+    share/tibzharuk/{contrib/trim_gz,workflow/cwl/trim_gz.cwl,profiles/slurm-v8/config.yaml}; do
+    [ -s "$root/usr/$file" ] || fail "the package lacks $file"
+  done
+  check_commands "$root/usr"
+  bash tests/completion.sh "$root/usr/share" > "$work/log" 2>&1 || fail "the completion of the package: $(cat "$work/log")"
   (cd "$root" && md5sum --quiet -c var/lib/dpkg/info/tibzharuk.md5sums) || fail 'the sums of the package are not those of its files'
   dpkg --root="$root" --log=/dev/null --purge tibzharuk > "$work/log" 2>&1 || fail "dpkg does not remove the package: $(cat "$work/log")"
   if find "$root" -path "$root/var/lib/dpkg" -prune -o ! -type d -print | grep .; then fail 'the removed package leaves files'; fi
@@ -150,48 +193,9 @@ check_processors() {
   run_example 'the program on the least processor' qemu-x86_64 -cpu Nehalem "$program"
 }
 
-# The options and the steps that a text names, a step as MINLEN:
-names() { grep -oE -- '(^|[^-[:alnum:]])--[a-z][a-z-]*|\b[A-Z]+:|\bTOPHRED33\b' | grep -oE -- '--[a-z-]+|[A-Z]+:|TOPHRED33' | sort -u; }
-
-# offered WORDS..: what the completion offers behind these words
-offered() {
-  # shellcheck disable=SC2016  # the inner shell has the variables
-  bash -c 'compopt() { :; }; . "$0"; COMP_WORDS=("$@"); COMP_CWORD=$(($# - 1)); _fq_prog; echo "${COMPREPLY[*]-}"' completions/fq_prog.bash "$@"
-}
-
-# Help, manual page and completion name the same options and steps.
-check_names() {
-  local form
-  { "$program" --help; "$program" PE --help; "$program" IL --help; } | names > "$work/of_help"
-  sed 's/\\-/-/g; s/^\.[A-Z]* //' man/fq_prog.1 | names > "$work/of_page"
-  { offered fq_prog ''; offered fq_prog PE --; offered fq_prog IL i fp fu rp ru ''; } | names > "$work/of_completion"
-  for form in page completion; do
-    diff "$work/of_help" "$work/of_$form" || fail "help and the $form name other options or steps"
-  done
-}
-
-# offers WANTED WORDS..: the completion offers just this behind these words
-offers() {
-  local wanted=$1 got
-  shift
-  got=$(offered "$@")
-  [ "$got" = "$wanted" ] || fail "the completion offers '$got' behind: $*"
-}
-
-check_completion() {
-  offers PE fq_prog P
-  offers --trimlog fq_prog PE --threads 2 --tr
-  offers 'sanger solexa' fq_prog PE --encoding s
-  offers 'solexa' fq_prog IL --encoding = so
-  offers '' fq_prog PE f r fp fu rp L
-  offers LEADING: fq_prog PE f r fp fu rp ru L
-  offers MINLEN: fq_prog IL --trimlog log --no-name-check i fp fu rp ru M
-}
-
 # The scripts that are packed with the program answer where they are.
 check_scripts() {
   local script
-  if [ -e contrib/trim_gz ]; then [ -x "$release/bin/trim_gz" ] || fail 'the tarball has no trim_gz'; fi
   for script in "$release"/contrib/*; do
     if [ -f "$script" ] && [ -x "$script" ]; then
       PATH=$release/bin:$PATH "$script" --help > "$work/out" 2>&1 || fail "$script --help fails: $(cat "$work/out")"
@@ -205,12 +209,12 @@ check_install() {
   install -D -m 644 README.md "$stage/usr/bin/other"
   make -s install DESTDIR="$stage" PREFIX=/usr > /dev/null || fail 'make install fails'
   run_example 'the installed program' "$stage/usr/bin/fq_prog"
-  {
-    printf '%s\n' bin/fq_prog bin/other share/man/man1/fq_prog.1 share/bash-completion/completions/fq_prog
-    if [ -e contrib/trim_gz ]; then echo bin/trim_gz; fi
-  } | sort | diff - <(find "$stage/usr" ! -type d -printf '%P\n' | sort) || fail 'make install makes other files'
+  { echo bin/other && installed_files; } | sort |
+    diff - <(find "$stage/usr" -path "$stage/usr/share/tibzharuk/contrib" -prune -o ! -type d -printf '%P\n' | sort) || fail 'make install makes other files'
+  check_commands "$stage/usr"
   make -s uninstall DESTDIR="$stage" PREFIX=/usr > /dev/null || fail 'make uninstall fails'
   [ "$(find "$stage" ! -type d)" = "$stage/usr/bin/other" ] || fail "make uninstall leaves $(find "$stage" ! -type d)"
+  [ ! -e "$stage/usr/share/tibzharuk" ] || fail 'make uninstall leaves share/tibzharuk'
 }
 
 check_tarball
@@ -220,8 +224,6 @@ check_same_bytes
 check_package
 check_again
 check_processors
-check_names
-check_completion
 check_scripts
 check_install
 [ "$failed" -eq 0 ] && echo 'dist: as it says'

@@ -1,9 +1,11 @@
 #!/usr/bin/env bash
-# The documents say what the program says. Help, README.md, docs/FORMAT.md and the manual page name the same steps, options
-# and statuses; the first run of README.md prints and writes what stands there; the lines of docs/LIBRARY.md that call the library
-# run; each file, and each heading, that a document leads to is there.
-# Every line of a document, outside tables and code, is at most 100 columns wide (DOCUMENTS_WIDTH sets another width, 0 none), and no
-# sentence there has more than 40 words.
+# The documents say what the program and the code say.
+# - Help, README.md, docs/FORMAT.md and the manual page name the same steps, options and statuses.
+# - The first run of README.md prints and writes what it shows, and the program of docs/LIBRARY.md runs.
+# - docs/ARCHITECTURE.md lists the crates and what they depend on as crates.txt does, and each name in docs/PROVED.md is in the code.
+# - Each file, and each heading, that a document leads to is there.
+# - Every line of a document, outside tables and code, is at most 100 columns wide (DOCUMENTS_WIDTH sets another width, 0 none), and no
+#   sentence there has more than 40 words. Lines of code that are wider are counted, and fail nothing.
 set -uo pipefail
 cd "$(dirname "$0")/.." || exit 1
 top=$PWD
@@ -97,12 +99,12 @@ first_run() {
   [ -s "$work/run/trim.log" ] && shown "$work/run/trim.log" 'the log of its first run'
 }
 
-# Runs the lines of docs/LIBRARY.md that call the library, in a program of their own over the crates as they are built.
+# Runs the program of docs/LIBRARY.md over the crates as they are built.
 call_library() {
   local room=$work/library crate
-  parts code docs/LIBRARY.md | awk -v RS='\f\n' '/run_threads\(/ && !found { found = 1; print }' > "$work/lines"
-  [ -s "$work/lines" ] || { fail 'docs/LIBRARY.md has no lines that call the library'; return; }
   mkdir -p "$room/crates/shown/src"
+  parts code docs/LIBRARY.md | awk -v RS='\f\n' '/fn main/ && /run_threads\(/ && !found { found = 1; print }' > "$room/crates/shown/src/main.rt"
+  [ -s "$room/crates/shown/src/main.rt" ] || { fail 'docs/LIBRARY.md has no program that calls the library'; return; }
   # The libraries below the program, which its build has made.
   while IFS= read -r crate; do
     [ -d "crates/$crate/out/rlib" ] || continue
@@ -113,11 +115,49 @@ call_library() {
   done < <(grep -oE '^[a-z_0-9]+' crates.txt | grep -v '^fq_prog')
   echo 'shown: fq_text fq_trim fq_work fq_run anyhow' >> "$room/crates.txt"
   cp HANDLES "$room/"
-  sed -e "/@LINES@/{r $work/lines" -e 'd}' tests/documents/main.rt.in > "$room/crates/shown/src/main.rt"
   if ! (cd "$room/crates/shown" && rt try) > "$work/log" 2>&1 || ! grep -qx 'Finished, 1 pair' "$work/log"; then
     tail -n 20 "$work/log"
-    fail 'the lines of docs/LIBRARY.md that call the library do not run'
+    fail 'the program of docs/LIBRARY.md does not run'
   fi
+}
+
+# docs/ARCHITECTURE.md lists each crate with what it depends on, as crates.txt does.
+compare_crates() {
+  awk -F: '!/^#/ && NF > 1 { split($1, name, " "); n = split($2, on, " "); for (i = 1; i <= n; i++) print name[1], on[i] }' crates.txt > "$work/on"
+  awk -F' *[|] *' '
+    !/^\|/ { column = 0; next }
+    !column { column = -1; for (i = 2; i < NF; i++) if ($i == "Depends on") column = i; next }
+    column > 0 && $2 ~ /^`/ { gsub(/`/, "", $2); n = split($column, on, /, */); for (i = 1; i <= n; i++) { gsub(/`/, "", on[i]); print $2, on[i] } }' \
+    docs/ARCHITECTURE.md > "$work/named"
+  alike 'docs/ARCHITECTURE.md and crates.txt differ (crates.txt is <)' "$work/on" "$work/named"
+}
+
+# Each name in the second column of docs/PROVED.md is in the code: a word of it that is no comment, a file, or a file without its ending.
+# After :: a function has to be defined.
+compare_proved() {
+  local name word
+  # shellcheck disable=SC2016  # the backticks are those of the document
+  awk -F' [|] ' '/^\|/ { print $2 }' docs/PROVED.md | grep -oE '`[^`]+`' | tr -d '`' | sort -u > "$work/names"
+  { find crates -path '*/out' -prune -o -name '*.rt' -exec sed 's|//.*||' {} + -o -name '*.antt' -exec sed 's|^ *--.*||' {} +
+    cat crates.txt; } > "$work/code"
+  { grep -oE '[A-Za-z_][A-Za-z0-9_]*(-[a-z][a-z0-9_]*)*' "$work/code"
+    find crates tests -path '*/out' -prune -o -type f -printf '%f\n' | sed 's/[.].*//'; } | sort -u > "$work/words"
+  grep -oE 'fn [a-z_0-9]+' "$work/code" | cut -c 4- | sort -u > "$work/functions"
+  while IFS= read -r name; do
+    case $name in
+    */*)
+      [ -e "$name" ] || [ -e "docs/$name" ] || compgen -G "crates/*/$name" > /dev/null || fail "docs/PROVED.md names $name, which isn't there"
+      continue ;;
+    *.md | *.txt | *.rt | *.rows)
+      find . -name "$name" -not -path '*/out/*' | grep -q . || fail "docs/PROVED.md names $name, which isn't there"
+      continue ;;
+    esac
+    while IFS= read -r word; do
+      grep -qxF -- "$word" "$work/words" || fail "docs/PROVED.md names $name, and no code has $word"
+    done < <(grep -oE '[A-Za-z_][A-Za-z0-9_]*(-[a-z][a-z0-9_]*)*' <<< "$name")
+    word=${name##*::}
+    [ "$word" = "$name" ] || grep -qxF -- "$word" "$work/functions" || fail "docs/PROVED.md names $name, and no such function is defined"
+  done < "$work/names"
 }
 
 documents() {
@@ -139,7 +179,7 @@ named_files() {
   grep -oE '`(bench|config|contrib|docs|man|completions|packaging|profiles|tests|workflow)/[A-Za-z0-9_./-]+`' "$1" | tr -d '`'
 }
 
-# Links and names lead to something. A name may also be that of a file beside the document, or of a crate's tests.
+# Links and names lead to something. A name may also be that of a file beside the document.
 follow_links() {
   local document link target place
   while IFS= read -r document; do
@@ -154,8 +194,7 @@ follow_links() {
       fi
     done < <(links "$document")
     while IFS= read -r link; do
-      [ -e "$link" ] || [ -e "$(dirname "$document")/$link" ] || compgen -G "crates/*/src/$link" > /dev/null ||
-        fail "$document names $link, which isn't there"
+      [ -e "$link" ] || [ -e "$(dirname "$document")/$link" ] || fail "$document names $link, which isn't there"
     done < <(named_files "$document")
   done < <(documents)
 }
@@ -170,6 +209,15 @@ measure_width() {
     cat "$work/wide"
     fail "$(wc -l < "$work/wide") lines are over $width columns"
   fi
+}
+
+# Counts of lines of code over that width, which fail nothing: comments, clauses, and lines of definitions.
+count_wide_code() {
+  local over=".{$((width + 1))}" comments clauses definitions
+  comments=$(find crates -path '*/out' -prune -o -name '*.rt' -exec cat {} + | LC_ALL=C.UTF-8 grep -E "^$over" | grep -cE '^ *//')
+  clauses=$(find crates -path '*/out' -prune -o -name '*.rt' -exec cat {} + | LC_ALL=C.UTF-8 grep -E "^$over" | grep -cE '^ *(requires|ensures) ')
+  definitions=$(find crates -path '*/out' -prune -o -path '*/specs/*.antt' -exec cat {} + | LC_ALL=C.UTF-8 grep -cE "^$over")
+  echo "documents: over $width columns in the crates: $comments lines of comments, $clauses of clauses, $definitions of definitions"
 }
 
 # Sentences of more than 40 words, by the line on which they begin. One ends at . ? or ! before a blank, and with its paragraph or its
@@ -196,9 +244,14 @@ measure_sentences() {
 compare_names
 compare_statuses
 first_run
+compare_crates
+compare_proved
 call_library
 follow_links
-if [ "$width" -gt 0 ]; then measure_width; fi
+if [ "$width" -gt 0 ]; then
+  measure_width
+  count_wide_code
+fi
 measure_sentences
 [ "$failed" -eq 0 ] && echo 'documents: as the program says'
 exit "$failed"

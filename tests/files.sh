@@ -157,7 +157,7 @@ run 0 '' PE /dev/null /dev/null fp fu rp ru LEADING:3
 row='the version'
 two_pairs
 run 0 '' --version
-same out 'fq_prog 1.0.0\n'
+same out 'fq_prog 1.1.0\n'
 
 row='a folder that is not there'
 two_pairs
@@ -180,7 +180,7 @@ two_pairs
 printf '%10000s' 'old text' > report
 run 0 '' PE --report report f r fp fu rp ru LEADING:3
 expect_two_pairs
-grep -q '^{"command":"PE",.*"forward_only_surviving":1,"input":2,.*"version":"1.0.0"}$' report || fail "$row: it is not as expected"
+grep -q '^{"command":"PE",.*"forward_only_surviving":1,"input":2,.*"version":"1.1.0"}$' report || fail "$row: it is not as expected"
 [ "$(wc -l < report)" -eq 1 ] || fail "$row: it is not one line"
 
 row='a report that is an input or another output'

@@ -1,0 +1,166 @@
+#!/usr/bin/env bash
+# What bash, zsh and fish offer at a line of fq_prog, tibzharuk, trim_gz and tibzharuk-gz: the options that help names, what each of
+# them takes, and after each of them with its value the files and the steps at their places. bash and zsh are asked as a user asks,
+# on a terminal. `completion.sh SHARE` asks what is installed in the folder SHARE, else the files of this tree are laid out in one.
+# A shell that isn't installed is named as skipped. Status 77 if python3 is missing.
+set -uo pipefail
+cd "$(dirname "$0")/.." || exit 1
+tree=$PWD
+if ! command -v python3 > /dev/null; then
+  echo 'completion: skipped: needs python3 (Debian: python3)'
+  exit 77
+fi
+program=${FQ_PROG:-$tree/crates/fq_prog/out/fq_prog}
+if [ ! -x "$program" ]; then make -s build > /dev/null || exit 1; fi
+program=$(realpath "$program")
+work=$(mktemp -d)
+trap 'rm -rf "$work"' EXIT
+share=${1:-$work/share}
+failed=0
+steps='AVGQUAL: CROP: HEADCROP: LEADING: MINLEN: SLIDINGWINDOW: TOPHRED33 TRAILING:'
+encodings='illumina13 sanger solexa'
+files='one.fq two.fq'
+
+fail() {
+  echo "completion: $1"
+  failed=1
+}
+
+# lay_out NAME SECOND: the three files of a command, and the name by which it is also called
+lay_out() {
+  install -D -m 644 "completions/$1.bash" "$share/bash-completion/completions/$1"
+  ln -s "$1" "$share/bash-completion/completions/$2"
+  install -D -m 644 "completions/$1.fish" "$share/fish/vendor_completions.d/$1.fish"
+  ln -s "$1.fish" "$share/fish/vendor_completions.d/$2.fish"
+  install -D -m 644 "completions/_$1" "$share/zsh/site-functions/_$1"
+}
+
+# The options that fq_prog COMMAND --help names, as --trimlog FILE, or as --sync if they take no value.
+options_of_program() { "$program" "$1" --help | sed -nE 's/^ *(-[a-zA-Z], )?(--[a-z][a-z-]*)( <([A-Z]+)>)?( .*)?$/\2 \4/p' | sort -u; }
+
+# The same of trim_gz: its own, and those that go to the program.
+options_of_script() {
+  {
+    "$tree/contrib/trim_gz" --help | sed -nE "s/^    (-[-0-9a-z]+( [A-Z']+)?(, -[-0-9a-z]+( [A-Z']+)?)*)  .*/\1/p" | sed "s/, /\n/g; s/'//g"
+    options_of_program PE
+  } | awk '!seen[$1]++ { print $1, $2 }'
+}
+
+# want WORDS LINE: at the end of this line just these words are offered
+want() { printf '%s\t%s\n' "$2" "$1" >> "$work/wanted"; }
+
+# words_for OPTION VALUE: what is offered in the place of its value
+words_for() {
+  case $1,$2 in
+    --encoding,*) echo "$encodings" ;;
+    --compressor,*) echo 'bgzip gzip igzip pigz' ;;
+    --decompressor,*) echo 'bgzip gzip' ;;
+    *,FILE | *,OUT | *,PATH | *,WHAT) echo "$files" ;;
+  esac
+}
+
+want_program() {
+  local name=$1 command=$2 some=$3 option value
+  want "$(options_of_program "$command" | cut -d ' ' -f 1 | paste -sd ' ')" "$name $command --"
+  want "$files" "$name $command $some"
+  want "$steps" "$name $command ${some}last "
+  while read -r option value; do
+    [ -n "$value" ] || continue
+    want "$(words_for "$option" "$value")" "$name $command $option "
+    want "$files" "$name $command $option 7 $some"
+    want "$files" "$name $command $option=7 $some"
+    want "$steps" "$name $command $option 7 ${some}last "
+    want "$steps" "$name $command ${some}last LEADING:3 $option 7 "
+    want 'LEADING:' "$name $command $option 7 ${some}last L"
+  done < <(options_of_program "$command")
+}
+
+want_script() {
+  local name=$1 option value
+  want "$({ options_of_script; echo --; } | cut -d ' ' -f 1 | grep '^--' | paste -sd ' ')" "$name --"
+  while read -r option value; do
+    [ -n "$value" ] || continue
+    want "$(words_for "$option" "$value")" "$name $option "
+    want '' "$name $option 7 L"
+    want "$steps" "$name $option 7 -- "
+    want "$steps" "$name $option 7 -- LEADING:3 "
+    want 'LEADING:' "$name $option 7 -- L"
+  done < <(options_of_script)
+}
+
+# in_fish < LINES: as typed.py does it for the other shells; fish tells without a terminal
+# shellcheck disable=SC2016,SC2317  # the variables are those of fish, and `compare` calls it
+in_fish() {
+  HOME=$work/home XDG_DATA_DIRS=$share XDG_CONFIG_HOME=$work/home fish --private -c '
+    while read -l line
+      printf "%s\t%s\n" "$line" "$(complete -C "$line" | string replace -r "\t.*" "" | string join " ")"
+    end'
+}
+
+# Short forms are left out. Those shells that complete a value after = repeat the option before it.
+sorted() {
+  awk -F '\t' '{ n = split($2, words, " "); printf "%s\t", $1
+    for (k = 1; k <= n; k++) { w = words[k]; if (w !~ /^-[a-zA-Z0-9]$/) print w | "sort -u | paste -sd \" \"" }
+    if (n == 0) print ""; close("sort -u | paste -sd \" \"") }'
+}
+
+# compare SHELL COMMAND..: the command prints what the shell offers for each line
+compare() {
+  local shell=$1
+  shift
+  (cd "$work/files" && cut -f 1 "$work/wanted" | PATH=$work/bin:$PATH "$@") > "$work/got" || { fail "$shell does not answer"; return; }
+  sorted < "$work/got" > "$work/got.sorted"
+  sorted < "$work/wanted" | diff - "$work/got.sorted" > "$work/difference" ||
+    fail "$shell offers other words (> it, < what was wanted): $(grep -c '^>' "$work/difference") lines, such as
+$(head -n 6 "$work/difference")"
+}
+
+# check SHELL COMMAND..: compares, if the shell is installed, whose package has its name
+check() {
+  if command -v "$1" > /dev/null; then
+    compare "$@"
+    shells+=" $1"
+  else
+    echo "completion: $1: skipped: needs $1 (Debian: $1)"
+  fi
+}
+
+mkdir "$work/bin" "$work/files" "$work/home"
+for name in fq_prog:tibzharuk trim_gz:tibzharuk-gz; do
+  if [ $# -eq 0 ]; then lay_out "${name%:*}" "${name#*:}"; fi
+done
+for name in fq_prog tibzharuk; do ln -s "$program" "$work/bin/$name"; done
+for name in trim_gz tibzharuk-gz; do ln -s "$tree/contrib/trim_gz" "$work/bin/$name"; done
+touch "$work/files/one.fq" "$work/files/two.fq"
+
+for name in fq_prog tibzharuk; do
+  want PE "$name P"
+  want "$encodings" "$name IL --encoding "
+  want solexa "$name IL --encoding so"
+  want '' "$name EXAMPLE L"
+  want_program "$name" PE 'f r fp fu rp '
+  want_program "$name" IL 'i fp fu rp '
+done
+for name in trim_gz tibzharuk-gz; do want_script "$name"; done
+[ "$(grep -c -- --report "$work/wanted")" -gt 20 ] || fail 'help names no options with a value'
+
+shells=''
+cat > "$work/bash.setup" << END
+XDG_DATA_DIRS=$share
+PS1='> '
+if [ -e /usr/share/bash-completion/bash_completion ]; then
+  . /usr/share/bash-completion/bash_completion
+else
+  for each in $share/bash-completion/completions/*; do . "\$each"; done
+fi
+END
+cat > "$work/zsh.setup" << END
+fpath=($share/zsh/site-functions $share/zsh/vendor-completions \$fpath)
+autoload -Uz compinit
+compinit -u -D
+END
+check bash python3 "$tree/tests/completion/typed.py" bash "$work/bash.setup"
+check zsh python3 "$tree/tests/completion/typed.py" zsh "$work/zsh.setup"
+check fish in_fish
+[ "$failed" -eq 0 ] && echo "completion: as help says, in$shells: $(wc -l < "$work/wanted") lines in each"
+exit "$failed"

@@ -1,0 +1,148 @@
+#!/usr/bin/env bash
+# The container image of packaging/Containerfile, on a Debian 12 of mmdebstrap: buildah builds it twice with the same bytes, and
+# trim_gz in it makes of compressed reads what the program here makes of the plain texts, run by buildah, and by Charliecloud from the
+# unpacked archive. Then the package on a fresh Debian 12 of its own: its manual pages are found, and bash completes its commands.
+# FQ_PROG is the program, crates/fq_prog/out/fq_prog if not set. Status 77, and 'skipped', if a package, root or the network is missing.
+set -uo pipefail
+cd "$(dirname "$0")/.." || exit 1
+tree=$PWD
+missing=''
+for needed in buildah:buildah mmdebstrap:mmdebstrap dpkg-deb:dpkg cc:gcc python3:python3; do
+  command -v "${needed%%:*}" > /dev/null || missing+=" ${needed#*:}"
+done
+if [ -n "$missing" ]; then
+  echo "container: skipped: needs$missing"
+  exit 77
+fi
+if [ "$(id -u)" -ne 0 ]; then
+  echo 'container: skipped: needs root'
+  exit 77
+fi
+if ! timeout 30 bash -c ': > /dev/tcp/deb.debian.org/80' 2> /dev/null; then
+  echo 'container: skipped: needs the network, to deb.debian.org'
+  exit 77
+fi
+make -s dist > /dev/null || exit 1
+program=$(realpath "${FQ_PROG:-crates/fq_prog/out/fq_prog}")
+version=$("$program" --version)
+version=${version#fq_prog }
+work=$(mktemp -d -p /var/tmp tibzharuk.XXXXXX) || exit 1
+trap 'rm -rf "$work"' EXIT
+steps=(LEADING:3 TRAILING:3 SLIDINGWINDOW:4:15 MINLEN:36)
+names=(-1 a_1.fq.gz -1 b_1.fq.gz -2 a_2.fq.gz -2 b_2.fq.gz --paired1 p1.fq.gz --unpaired1 u1.fq.gz --paired2 p2.fq.gz --unpaired2 u2.fq.gz --report r.json)
+failed=0
+
+fail() {
+  echo "container: $1"
+  failed=1
+}
+
+# draw_reads: two lanes of 500 pairs, compressed and plain, and what the program makes of them
+draw_reads() {
+  mkdir "$work/reads" "$work/direct"
+  (
+    cd "$work/reads" || exit 1
+    for lane in a b; do
+      awk -v lane=$lane 'BEGIN { srand(lane == "a"); for (k = 1; k <= 500; k++) for (side = 1; side <= 2; side++) { s = ""; q = ""
+        n = 40 + int(rand() * 60); good = n - int(rand() * rand() * n)
+        for (i = 0; i < n; i++) { s = s substr("ACGT", 1 + int(rand() * 4), 1); q = q (i < good ? "I" : "#") }
+        printf "@%s:%d/%d\n%s\n+\n%s\n", lane, k, side, s, q > lane "_" side ".fq" } }'
+    done
+    cat a_1.fq b_1.fq > "$work/1.fq"
+    cat a_2.fq b_2.fq > "$work/2.fq"
+    gzip ./*.fq
+  )
+  (cd "$work/direct" && "$program" PE ../1.fq ../2.fq p1.fq u1.fq p2.fq u2.fq "${steps[@]}" > summary) || fail 'the program'
+}
+
+# same_as_direct NAME: the outputs in the folder NAME are those of the direct call
+same_as_direct() {
+  local part
+  for part in p1 u1 p2 u2; do
+    gzip -dc "$work/$1/$part.fq.gz" | cmp - "$work/direct/$part.fq" || fail "$1: $part differs"
+  done
+  cmp "$work/$1/summary" "$work/direct/summary" || fail "$1: the summary differs"
+  grep -q '"outcome":"finished"' "$work/$1/r.json" || fail "$1: the report is not that of a whole run"
+}
+
+# build_twice: two archives of the package on one base, made apart
+build_twice() {
+  local each
+  for each in first second; do
+    mkdir "$work/$each"
+    cp "dist/tibzharuk_${version}_amd64.deb" "$work/$each"
+  done
+  bash packaging/image.sh "$version" "$work/first" > "$work/log" 2>&1 || { fail "no image is built: $(tail -n 20 "$work/log")"; return 1; }
+  bash packaging/image.sh "$version" "$work/second" "$work/first/debian-12.tar" > "$work/log" 2>&1 || fail "no second image is built: $(tail -n 20 "$work/log")"
+  archive=$work/first/tibzharuk-$version-oci.tar
+  cmp "$archive" "$work/second/${archive##*/}" || fail 'the second image has other bytes'
+  rm -rf "$work/second"
+}
+
+# in_buildah WORDS..: buildah, with its images below $work
+in_buildah() {
+  local verb=$1
+  shift
+  TMPDIR=$work BUILDAH_ISOLATION=chroot buildah --root "$work/images" --runroot "$work/run" --storage-driver vfs "$verb" "$@"
+}
+
+run_by_buildah() {
+  local container
+  echo '{"default": [{"type": "insecureAcceptAnything"}]}' > "$work/policy.json"
+  cp -r "$work/reads" "$work/buildah"
+  container=$(in_buildah from --quiet --signature-policy "$work/policy.json" "oci-archive:$archive") || { fail 'buildah does not take the archive'; return; }
+  in_buildah run --volume "$work/buildah:/data" "$container" -- trim_gz "${names[@]}" -- "${steps[@]}" > "$work/buildah/summary" || fail 'trim_gz fails in buildah'
+  same_as_direct buildah
+  [ "$(in_buildah run "$container" -- tibzharuk --version)" = "fq_prog $version" ] || fail 'the image has another version'
+  in_buildah run "$container" -- sh -c 'ps && cat /usr/share/doc/tibzharuk/NOTICES.md' > "$work/log" 2>&1 || fail 'the image lacks ps or the notices'
+  in_buildah rm "$container" > /dev/null
+  rm -rf "$work/images" "$work/run"
+}
+
+# As a user of Charliecloud unpacks it: the image has one layer, which is the largest file of the archive.
+run_by_charliecloud() {
+  if ! command -v ch-run > /dev/null; then
+    echo 'container: ch-run: skipped: needs charliecloud'
+    return
+  fi
+  mkdir "$work/oci" "$work/root"
+  tar -C "$work/oci" -xf "$archive"
+  [ "$(find "$work/oci/blobs/sha256" -type f | wc -l)" -eq 3 ] || fail 'the image has more than one layer'
+  tar -C "$work/root" -xzf "$(find "$work/oci/blobs/sha256" -type f -printf '%s %p\n' | sort -n | tail -n 1 | cut -d ' ' -f 2)" || fail 'the layer is not unpacked'
+  cp -r "$work/reads" "$work/charliecloud"
+  USER=${USER:-$(id -un)} ch-run --bind "$work/charliecloud:/data" --cd /data "$work/root" -- trim_gz "${names[@]}" -- "${steps[@]}" > "$work/charliecloud/summary" 2> "$work/log" ||
+    fail "trim_gz fails in ch-run: $(cat "$work/log")"
+  same_as_direct charliecloud
+  rm -rf "$work/oci" "$work/root"
+}
+
+# The package alone, with man and bash's own completion, on a Debian 12 that leaves no document out.
+on_a_fresh_debian() {
+  local root=$work/fresh name
+  mkdir "$root"
+  tar -C "$root" -xf "$work/first/debian-12.tar"
+  rm -f "$root/etc/dpkg/dpkg.cfg.d/99mmdebstrap"
+  cp "dist/tibzharuk_${version}_amd64.deb" "$root/tmp/"
+  cp /etc/resolv.conf "$root/etc/resolv.conf"
+  DEBIAN_FRONTEND=noninteractive chroot "$root" bash -c 'apt-get update && apt-get install -y --no-install-recommends man-db bash-completion && dpkg -i /tmp/*.deb' > "$work/log" 2>&1 ||
+    { fail "the package is not installed: $(tail -n 5 "$work/log")"; return; }
+  for name in fq_prog tibzharuk trim_gz tibzharuk-gz report_to_html tibzharuk-report; do
+    chroot "$root" env MANPAGER=cat MANWIDTH=80 man "$name" 2> /dev/null | grep -q "$name" || fail "man $name shows nothing there"
+  done
+  chroot "$root" tibzharuk EXAMPLE 2> /dev/null | cmp - "$tree/crates/fq_prog/stdout" || fail 'tibzharuk prints another example there'
+  mkdir "$root/reads"
+  touch "$root/reads/one.fq" "$root/reads/two.fq"
+  printf '%s\n' ". /usr/share/bash-completion/bash_completion" 'cd /reads' "PS1='> '" > "$root/setup"
+  printf 'tibzharuk PE --report x.json \ntibzharuk PE --report x.json f r fp fu rp \ntibzharuk PE --report x.json f r fp fu rp ru L\n' > "$work/lines"
+  TYPED_IN=$root python3 tests/completion/typed.py bash /setup < "$work/lines" | cut -f 2 | diff - <(printf 'one.fq two.fq\none.fq two.fq\nLEADING:\n') > "$work/log" ||
+    fail "bash offers other words there: $(cat "$work/log")"
+}
+
+draw_reads
+if build_twice; then
+  run_by_buildah
+  run_by_charliecloud
+  on_a_fresh_debian
+fi
+[ "$failed" -eq 0 ] && echo 'container: as the program does it'
+exit "$failed"

@@ -1,0 +1,48 @@
+#!/usr/bin/env bash
+# The reads in examples/ are those that examples/draw.py draws, and examples/trimmed/ is what the slow program
+# tests/examples/trim.py makes of them. `make run` and contrib/trim_gz give the same.
+# Status 77, and 'skipped', if a package is missing.
+set -u
+cd "$(dirname "$0")/.." || exit 1
+if ! command -v python3 > /dev/null; then
+  echo 'examples: skipped: needs python3'
+  exit 77
+fi
+make -s build || exit 1
+work=$(mktemp -d)
+trap 'rm -rf "$work"' EXIT
+steps=(LEADING:3 TRAILING:3 SLIDINGWINDOW:4:15 MINLEN:36)
+failed=0
+
+fail() {
+  echo "examples: $1"
+  failed=1
+}
+
+# same_files DIRECTORY MESSAGE: the directory has the files of examples/trimmed and no others
+same_files() {
+  diff -rq examples/trimmed "$1" || fail "$2"
+}
+
+mkdir "$work/drawn" "$work/slow" "$work/gz"
+python3 examples/draw.py "$work/drawn" || fail 'draw.py fails'
+for side in 1 2; do
+  cmp "$work/drawn/reads_$side.fq" "examples/reads_$side.fq" || fail "reads_$side.fq is not what draw.py draws"
+  gzip -dc "examples/reads_$side.fq.gz" | cmp - "examples/reads_$side.fq" || fail "reads_$side.fq.gz holds other reads"
+done
+
+python3 tests/examples/trim.py examples/reads_1.fq examples/reads_2.fq "$work/slow" "${steps[@]}" || fail 'trim.py fails'
+same_files "$work/slow" 'examples/trimmed/ is not what trim.py makes'
+
+rm -rf examples/out
+make -s run > "$work/said" || fail 'make run fails'
+same_files examples/out 'make run gives other files'
+grep -qF -- "$(cat examples/trimmed/summary.txt)" "$work/said" || fail 'make run prints another summary'
+
+PATH=$PWD/crates/fq_prog/out:$PATH contrib/trim_gz -1 examples/reads_1.fq.gz -2 examples/reads_2.fq.gz \
+  --paired1 "$work/gz/p1.fq" --unpaired1 "$work/gz/u1.fq" --paired2 "$work/gz/p2.fq" --unpaired2 "$work/gz/u2.fq" \
+  --trimlog "$work/gz/trim.log" --summary "$work/gz/summary.txt" -- "${steps[@]}" > /dev/null || fail 'trim_gz fails'
+same_files "$work/gz" 'trim_gz gives other files'
+
+[ "$failed" -eq 0 ] && echo 'examples: as another program trims them'
+exit "$failed"
