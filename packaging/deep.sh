@@ -24,7 +24,7 @@ trap 'rm -rf "$room"' EXIT
 find crates -name out -prune -o -type f -print0 | xargs -0 cp --parents -t "$room"
 cp crates.txt HANDLES "$room"
 
-wanted=()    # each edit that this run has to see refused
+wanted=() # each edit that this run has to see refused
 for crate; do
   if [ ! -d "$room/crates/$crate/wrong-bodies" ]; then
     echo "deep: there is no folder crates/$crate/wrong-bodies" >&2

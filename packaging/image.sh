@@ -54,7 +54,10 @@ printf 'FROM scratch\nADD base.tar /\nCMD ["/bin/sh"]\n' > "$work/base/Container
 build bud --quiet --signature-policy "$work/policy.json" --timestamp "$SOURCE_DATE_EPOCH" -t localhost/debian:12 "$work/base" > "$work/log"
 rm "$work/base/base.tar"
 build bud --quiet --signature-policy "$work/policy.json" --timestamp "$SOURCE_DATE_EPOCH" --build-arg BASE=localhost/debian:12 \
-  --squash --build-arg VERSION="$version" -f packaging/Containerfile -t "localhost/tibzharuk:$version" "$work/package" > "$work/log" 2>&1 || { cat "$work/log" >&2; exit 1; }
+  --squash --build-arg VERSION="$version" -f packaging/Containerfile -t "localhost/tibzharuk:$version" "$work/package" > "$work/log" 2>&1 || {
+  cat "$work/log" >&2
+  exit 1
+}
 build push --quiet --signature-policy "$work/policy.json" "localhost/tibzharuk:$version" "oci:$work/oci:tibzharuk:$version"
 tar --sort=name --format=ustar --mtime="@$SOURCE_DATE_EPOCH" --owner=0 --group=0 --numeric-owner -C "$work/oci" -cf "$archive" .
 (cd "$folder" && sha256sum "${archive##*/}")

@@ -11,9 +11,9 @@ fi
 
 log=$(mktemp)
 trap 'rm -f "$log"' EXIT
-crate=      # the crate whose lines come
-proved=0    # its lines so far
-begun=$SECONDS    # when the crate before was done
+crate=         # the crate whose lines come
+proved=0       # its lines so far
+begun=$SECONDS # when the crate before was done
 
 # Overwrites one line where somebody looks on, and is silent in a log.
 tell() {

@@ -4,27 +4,15 @@
 # on a terminal. `completion.sh SHARE` asks what is installed in the folder SHARE, else the files of this tree are laid out in one.
 # A shell that isn't installed is named as skipped. Status 77 if python3 is missing.
 set -uo pipefail
-cd "$(dirname "$0")/.." || exit 1
-tree=$PWD
-if ! command -v python3 > /dev/null; then
-  echo 'completion: skipped: needs python3 (Debian: python3)'
-  exit 77
-fi
-program=${FQ_PROG:-$tree/crates/fq_prog/out/fq_prog}
-if [ ! -x "$program" ]; then make -s build > /dev/null || exit 1; fi
-program=$(realpath "$program")
+. "$(dirname "$0")/common.bash"
+need python3
+find_program
 work=$(mktemp -d)
 trap 'rm -rf "$work"' EXIT
 share=${1:-$work/share}
-failed=0
 steps='AVGQUAL: CROP: HEADCROP: LEADING: MINLEN: SLIDINGWINDOW: TOPHRED33 TRAILING:'
 encodings='illumina13 sanger solexa'
 files='one.fq two.fq'
-
-fail() {
-  echo "completion: $1"
-  failed=1
-}
 
 # lay_out NAME SECOND: the three files of a command, and the name by which it is also called
 lay_out() {
@@ -77,7 +65,10 @@ want_program() {
 
 want_script() {
   local name=$1 option value
-  want "$({ options_of_script; echo --; } | cut -d ' ' -f 1 | grep '^--' | paste -sd ' ')" "$name --"
+  want "$({
+    options_of_script
+    echo --
+  } | cut -d ' ' -f 1 | grep '^--' | paste -sd ' ')" "$name --"
   while read -r option value; do
     [ -n "$value" ] || continue
     want "$(words_for "$option" "$value")" "$name $option "
@@ -108,7 +99,10 @@ sorted() {
 compare() {
   local shell=$1
   shift
-  (cd "$work/files" && cut -f 1 "$work/wanted" | PATH=$work/bin:$PATH "$@") > "$work/got" || { fail "$shell does not answer"; return; }
+  (cd "$work/files" && cut -f 1 "$work/wanted" | PATH=$work/bin:$PATH "$@") > "$work/got" || {
+    fail "$shell does not answer"
+    return
+  }
   sorted < "$work/got" > "$work/got.sorted"
   sorted < "$work/wanted" | diff - "$work/got.sorted" > "$work/difference" ||
     fail "$shell offers other words (> it, < what was wanted): $(grep -c '^>' "$work/difference") lines, such as
@@ -162,5 +156,4 @@ END
 check bash python3 "$tree/tests/completion/typed.py" bash "$work/bash.setup"
 check zsh python3 "$tree/tests/completion/typed.py" zsh "$work/zsh.setup"
 check fish in_fish
-[ "$failed" -eq 0 ] && echo "completion: as help says, in$shells: $(wc -l < "$work/wanted") lines in each"
-exit "$failed"
+finish "as help says, in$shells: $(wc -l < "$work/wanted") lines in each"

@@ -4,50 +4,26 @@
 # unpacked archive. Then the package on a fresh Debian 12 of its own: its manual pages are found, and bash completes its commands.
 # FQ_PROG is the program, crates/fq_prog/out/fq_prog if not set. Status 77, and 'skipped', if a package, root or the network is missing.
 set -uo pipefail
-cd "$(dirname "$0")/.." || exit 1
-tree=$PWD
-missing=''
-for needed in buildah:buildah mmdebstrap:mmdebstrap dpkg-deb:dpkg cc:gcc python3:python3; do
-  command -v "${needed%%:*}" > /dev/null || missing+=" ${needed#*:}"
-done
-if [ -n "$missing" ]; then
-  echo "container: skipped: needs$missing"
-  exit 77
-fi
-if [ "$(id -u)" -ne 0 ]; then
-  echo 'container: skipped: needs root'
-  exit 77
-fi
-if ! timeout 30 bash -c ': > /dev/tcp/deb.debian.org/80' 2> /dev/null; then
-  echo 'container: skipped: needs the network, to deb.debian.org'
-  exit 77
-fi
+. "$(dirname "$0")/common.bash"
+need buildah mmdebstrap dpkg-deb:dpkg cc:gcc python3
+[ "$(id -u)" -eq 0 ] || skip 'needs root'
+timeout 30 bash -c ': > /dev/tcp/deb.debian.org/80' 2> /dev/null || skip 'needs the network, to deb.debian.org'
 make -s dist > /dev/null || exit 1
-program=$(realpath "${FQ_PROG:-crates/fq_prog/out/fq_prog}")
+find_program
 version=$("$program" --version)
 version=${version#fq_prog }
 work=$(mktemp -d -p /var/tmp tibzharuk.XXXXXX) || exit 1
 trap 'rm -rf "$work"' EXIT
 steps=(LEADING:3 TRAILING:3 SLIDINGWINDOW:4:15 MINLEN:36)
 names=(-1 a_1.fq.gz -1 b_1.fq.gz -2 a_2.fq.gz -2 b_2.fq.gz --paired1 p1.fq.gz --unpaired1 u1.fq.gz --paired2 p2.fq.gz --unpaired2 u2.fq.gz --report r.json)
-failed=0
-
-fail() {
-  echo "container: $1"
-  failed=1
-}
 
 # draw_reads: two lanes of 500 pairs, compressed and plain, and what the program makes of them
 draw_reads() {
   mkdir "$work/reads" "$work/direct"
   (
     cd "$work/reads" || exit 1
-    for lane in a b; do
-      awk -v lane=$lane 'BEGIN { srand(lane == "a"); for (k = 1; k <= 500; k++) for (side = 1; side <= 2; side++) { s = ""; q = ""
-        n = 40 + int(rand() * 60); good = n - int(rand() * rand() * n)
-        for (i = 0; i < n; i++) { s = s substr("ACGT", 1 + int(rand() * 4), 1); q = q (i < good ? "I" : "#") }
-        printf "@%s:%d/%d\n%s\n+\n%s\n", lane, k, side, s, q > lane "_" side ".fq" } }'
-    done
+    draw_lane a 1 500
+    draw_lane b 0 500
     cat a_1.fq b_1.fq > "$work/1.fq"
     cat a_2.fq b_2.fq > "$work/2.fq"
     gzip ./*.fq
@@ -72,7 +48,10 @@ build_twice() {
     mkdir "$work/$each"
     cp "dist/tibzharuk_${version}_amd64.deb" "$work/$each"
   done
-  bash packaging/image.sh "$version" "$work/first" > "$work/log" 2>&1 || { fail "no image is built: $(tail -n 20 "$work/log")"; return 1; }
+  bash packaging/image.sh "$version" "$work/first" > "$work/log" 2>&1 || {
+    fail "no image is built: $(tail -n 20 "$work/log")"
+    return 1
+  }
   bash packaging/image.sh "$version" "$work/second" "$work/first/debian-12.tar" > "$work/log" 2>&1 || fail "no second image is built: $(tail -n 20 "$work/log")"
   archive=$work/first/tibzharuk-$version-oci.tar
   cmp "$archive" "$work/second/${archive##*/}" || fail 'the second image has other bytes'
@@ -90,7 +69,10 @@ run_by_buildah() {
   local container
   echo '{"default": [{"type": "insecureAcceptAnything"}]}' > "$work/policy.json"
   cp -r "$work/reads" "$work/buildah"
-  container=$(in_buildah from --quiet --signature-policy "$work/policy.json" "oci-archive:$archive") || { fail 'buildah does not take the archive'; return; }
+  container=$(in_buildah from --quiet --signature-policy "$work/policy.json" "oci-archive:$archive") || {
+    fail 'buildah does not take the archive'
+    return
+  }
   in_buildah run --volume "$work/buildah:/data" "$container" -- trim_gz "${names[@]}" -- "${steps[@]}" > "$work/buildah/summary" || fail 'trim_gz fails in buildah'
   same_as_direct buildah
   [ "$(in_buildah run "$container" -- tibzharuk --version)" = "fq_prog $version" ] || fail 'the image has another version'
@@ -125,7 +107,10 @@ on_a_fresh_debian() {
   cp "dist/tibzharuk_${version}_amd64.deb" "$root/tmp/"
   cp /etc/resolv.conf "$root/etc/resolv.conf"
   DEBIAN_FRONTEND=noninteractive chroot "$root" bash -c 'apt-get update && apt-get install -y --no-install-recommends man-db bash-completion && dpkg -i /tmp/*.deb' > "$work/log" 2>&1 ||
-    { fail "the package is not installed: $(tail -n 5 "$work/log")"; return; }
+    {
+      fail "the package is not installed: $(tail -n 5 "$work/log")"
+      return
+    }
   for name in fq_prog tibzharuk trim_gz tibzharuk-gz report_to_html tibzharuk-report; do
     chroot "$root" env MANPAGER=cat MANWIDTH=80 man "$name" 2> /dev/null | grep -q "$name" || fail "man $name shows nothing there"
   done
@@ -144,5 +129,4 @@ if build_twice; then
   run_by_charliecloud
   on_a_fresh_debian
 fi
-[ "$failed" -eq 0 ] && echo 'container: as the program does it'
-exit "$failed"
+finish 'as the program does it'

@@ -3,17 +3,9 @@
 # with what the program makes of the plain texts, and a damaged input, which ends as permanentFail and leaves nothing.
 # FQ_PROG is the program, crates/fq_prog/out/fq_prog if not set. Status 77, and 'skipped', if a package is missing.
 set -uo pipefail
-cd "$(dirname "$0")/.." || exit 1
-tree=$PWD
-for needed in cwltool python3; do
-  if ! command -v "$needed" > /dev/null; then
-    echo "cwl: skipped: needs $needed (Debian: $needed)"
-    exit 77
-  fi
-done
-program=${FQ_PROG:-$tree/crates/fq_prog/out/fq_prog}
-if [ ! -x "$program" ]; then make -s build > /dev/null || exit 1; fi
-program=$(realpath "$program")
+. "$(dirname "$0")/common.bash"
+need cwltool python3
+find_program
 work=$(mktemp -d)
 trap 'rm -rf "$work"' EXIT
 mkdir "$work/bin" "$work/home"
@@ -21,21 +13,7 @@ ln -s "$program" "$work/bin/fq_prog"
 ln -s "$tree/contrib/trim_gz" "$work/bin/trim_gz"
 export PATH=$work/bin:$PATH HOME=$work/home PYTHONDONTWRITEBYTECODE=1
 steps=(LEADING:3 TRAILING:3 SLIDINGWINDOW:4:15 MINLEN:36)
-failed=0
 cd "$work" || exit 1
-
-fail() {
-  echo "cwl: $1"
-  failed=1
-}
-
-# draw LANE SEED: 200 pairs, as LANE_1.fq and LANE_2.fq
-draw() {
-  awk -v lane="$1" -v seed="$2" 'BEGIN { srand(seed); for (k = 1; k <= 200; k++) for (side = 1; side <= 2; side++) { s = ""; q = ""
-    n = 40 + int(rand() * 60); good = n - int(rand() * rand() * n)
-    for (i = 0; i < n; i++) { s = s substr("ACGT", 1 + int(rand() * 4), 1); q = q (i < good ? "I" : "#") }
-    printf "@%s:%d/%d\n%s\n+\n%s\n", lane, k, side, s, q > lane "_" side ".fq" } }'
-}
 
 # job REVERSE..: the inputs of a run, with these reverse files
 job() {
@@ -76,5 +54,4 @@ run bad 1
 grep -q permanentFail bad.err || fail "a damaged input is not permanentFail: $(tail -n 5 bad.err)"
 grep -q 'trim_gz: cannot read .*half_2.fq.gz' bad.err || fail 'the damaged input is not named'
 [ -z "$(find bad -type f 2> /dev/null)" ] || fail "a damaged input leaves $(find bad -type f)"
-[ "$failed" -eq 0 ] && echo 'cwl: as the program does it'
-exit "$failed"
+finish 'as the program does it'

@@ -4,35 +4,23 @@
 # manual page and its completion. A part that lacks a Debian package prints 'skipped' and which. If nothing can be packed at all the
 # status is 77.
 set -uo pipefail
-cd "$(dirname "$0")/.." || exit 1
-top=$PWD
-dynamic=$top/crates/fq_prog/out/fq_prog
-for command in cc dpkg-deb objdump; do
-  if ! command -v "$command" > /dev/null; then
-    echo "dist: skipped: needs $command (Debian: gcc, libc6-dev, dpkg, binutils)"
-    exit 77
-  fi
-done
+. "$(dirname "$0")/common.bash"
+dynamic=$tree/crates/fq_prog/out/fq_prog
+need 'cc:gcc libc6-dev' dpkg-deb:dpkg objdump:binutils
 make -s dist > /dev/null || exit 1
 work=$(mktemp -d)
 trap 'rm -rf "$work"' EXIT
 chmod 755 "$work"
-failed=0
 version=$("$dynamic" --version)
 version=${version#fq_prog }
-tarball=$top/dist/tibzharuk-$version-linux-x86_64.tar.gz
-package=$top/dist/tibzharuk_${version}_amd64.deb
+tarball=$tree/dist/tibzharuk-$version-linux-x86_64.tar.gz
+package=$tree/dist/tibzharuk_${version}_amd64.deb
 release=$work/empty/tibzharuk-$version-linux-x86_64
 program=$release/bin/fq_prog
 
 # The commands, each with its second name.
 commands=(fq_prog:tibzharuk trim_gz:tibzharuk-gz)
 if [ -e contrib/report_to_html ]; then commands+=(report_to_html:tibzharuk-report); fi
-
-fail() {
-  echo "dist: $1"
-  failed=1
-}
 
 # run_example NAME WORDS..: the words run the program, which prints its stored example
 run_example() {
@@ -226,5 +214,4 @@ check_again
 check_processors
 check_scripts
 check_install
-[ "$failed" -eq 0 ] && echo 'dist: as it says'
-exit "$failed"
+finish 'as it says'

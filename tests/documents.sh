@@ -7,19 +7,11 @@
 # - Every line of a document, outside tables and code, is at most 100 columns wide (DOCUMENTS_WIDTH sets another width, 0 none), and no
 #   sentence there has more than 40 words. Lines of code that are wider are counted, and fail nothing.
 set -uo pipefail
-cd "$(dirname "$0")/.." || exit 1
-top=$PWD
+. "$(dirname "$0")/common.bash"
 width=${DOCUMENTS_WIDTH:-100}
-program=$top/crates/fq_prog/out/fq_prog
-make -s build > /dev/null || exit 1
+find_program
 work=$(mktemp -d)
 trap 'rm -rf "$work"' EXIT
-failed=0
-
-fail() {
-  echo "documents: $1"
-  failed=1
-}
 
 # alike WHAT FILE FILE: both have the same lines, in any order
 alike() {
@@ -50,7 +42,11 @@ options() { grep -oE -- '(^|[^-[:alnum:]])--[a-z][a-z-]*' | grep -oE -- '--.*' |
 
 compare_names() {
   local document
-  { "$program" --help; "$program" PE --help; "$program" IL --help; } > "$work/help"
+  {
+    "$program" --help
+    "$program" PE --help
+    "$program" IL --help
+  } > "$work/help"
   steps < "$work/help" > "$work/steps"
   grep -v '^ *fq_prog [A-Z]* --help' "$work/help" | options > "$work/options"
   [ "$(wc -l < "$work/steps")" -ge 8 ] || fail 'help lists no steps'
@@ -91,7 +87,10 @@ first_run() {
   parts code README.md > "$work/code"
   awk -v RS='\f\n' '/printf/ && /> *r1\.fq/ && /fq_prog PE/ && !found { found = 1; print }' "$work/code" |
     grep -E '^(\$ )?(printf|fq_prog|cat|  )' | sed 's/^\$ //' > "$work/commands"
-  [ -s "$work/commands" ] || { fail 'README.md has no first run'; return; }
+  [ -s "$work/commands" ] || {
+    fail 'README.md has no first run'
+    return
+  }
   mkdir "$work/run" "$work/bin"
   ln -s "$program" "$work/bin/fq_prog"
   (cd "$work/run" && PATH=$work/bin:$PATH bash -euo pipefail "$work/commands") > "$work/printed" || fail 'the first run of README.md fails'
@@ -104,7 +103,10 @@ call_library() {
   local room=$work/library crate
   mkdir -p "$room/crates/shown/src"
   parts code docs/LIBRARY.md | awk -v RS='\f\n' '/fn main/ && /run_threads\(/ && !found { found = 1; print }' > "$room/crates/shown/src/main.rt"
-  [ -s "$room/crates/shown/src/main.rt" ] || { fail 'docs/LIBRARY.md has no program that calls the library'; return; }
+  [ -s "$room/crates/shown/src/main.rt" ] || {
+    fail 'docs/LIBRARY.md has no program that calls the library'
+    return
+  }
   # The libraries below the program, which its build has made.
   while IFS= read -r crate; do
     [ -d "crates/$crate/out/rlib" ] || continue
@@ -138,19 +140,25 @@ compare_proved() {
   local name word
   # shellcheck disable=SC2016  # the backticks are those of the document
   awk -F' [|] ' '/^\|/ { print $2 }' docs/PROVED.md | grep -oE '`[^`]+`' | tr -d '`' | sort -u > "$work/names"
-  { find crates -path '*/out' -prune -o -name '*.rt' -exec sed 's|//.*||' {} + -o -name '*.antt' -exec sed 's|^ *--.*||' {} +
-    cat crates.txt; } > "$work/code"
-  { grep -oE '[A-Za-z_][A-Za-z0-9_]*(-[a-z][a-z0-9_]*)*' "$work/code"
-    find crates tests -path '*/out' -prune -o -type f -printf '%f\n' | sed 's/[.].*//'; } | sort -u > "$work/words"
+  {
+    find crates -path '*/out' -prune -o -name '*.rt' -exec sed 's|//.*||' {} + -o -name '*.antt' -exec sed 's|^ *--.*||' {} +
+    cat crates.txt
+  } > "$work/code"
+  {
+    grep -oE '[A-Za-z_][A-Za-z0-9_]*(-[a-z][a-z0-9_]*)*' "$work/code"
+    find crates tests -path '*/out' -prune -o -type f -printf '%f\n' | sed 's/[.].*//'
+  } | sort -u > "$work/words"
   grep -oE 'fn [a-z_0-9]+' "$work/code" | cut -c 4- | sort -u > "$work/functions"
   while IFS= read -r name; do
     case $name in
-    */*)
-      [ -e "$name" ] || [ -e "docs/$name" ] || compgen -G "crates/*/$name" > /dev/null || fail "docs/PROVED.md names $name, which isn't there"
-      continue ;;
-    *.md | *.txt | *.rt | *.rows)
-      find . -name "$name" -not -path '*/out/*' | grep -q . || fail "docs/PROVED.md names $name, which isn't there"
-      continue ;;
+      */*)
+        [ -e "$name" ] || [ -e "docs/$name" ] || compgen -G "crates/*/$name" > /dev/null || fail "docs/PROVED.md names $name, which isn't there"
+        continue
+        ;;
+      *.md | *.txt | *.rt | *.rows)
+        find . -name "$name" -not -path '*/out/*' | grep -q . || fail "docs/PROVED.md names $name, which isn't there"
+        continue
+        ;;
     esac
     while IFS= read -r word; do
       grep -qxF -- "$word" "$work/words" || fail "docs/PROVED.md names $name, and no code has $word"
@@ -253,5 +261,4 @@ if [ "$width" -gt 0 ]; then
   count_wide_code
 fi
 measure_sentences
-[ "$failed" -eq 0 ] && echo 'documents: as the program says'
-exit "$failed"
+finish 'as the program says'

@@ -2,22 +2,13 @@
 # The reads in examples/ are those that examples/draw.py draws, and examples/trimmed/ is what the slow program
 # tests/examples/trim.py makes of them. `make run` and contrib/trim_gz give the same.
 # Status 77, and 'skipped', if a package is missing.
-set -u
-cd "$(dirname "$0")/.." || exit 1
-if ! command -v python3 > /dev/null; then
-  echo 'examples: skipped: needs python3'
-  exit 77
-fi
-make -s build || exit 1
+set -uo pipefail
+. "$(dirname "$0")/common.bash"
+need python3
+find_program
 work=$(mktemp -d)
 trap 'rm -rf "$work"' EXIT
 steps=(LEADING:3 TRAILING:3 SLIDINGWINDOW:4:15 MINLEN:36)
-failed=0
-
-fail() {
-  echo "examples: $1"
-  failed=1
-}
 
 # same_files DIRECTORY MESSAGE: the directory has the files of examples/trimmed and no others
 same_files() {
@@ -44,5 +35,4 @@ PATH=$PWD/crates/fq_prog/out:$PATH contrib/trim_gz -1 examples/reads_1.fq.gz -2 
   --trimlog "$work/gz/trim.log" --summary "$work/gz/summary.txt" -- "${steps[@]}" > /dev/null || fail 'trim_gz fails'
 same_files "$work/gz" 'trim_gz gives other files'
 
-[ "$failed" -eq 0 ] && echo 'examples: as another program trims them'
-exit "$failed"
+finish 'as another program trims them'

@@ -1,23 +1,16 @@
 #!/usr/bin/env bash
 # Runs the built program on small real files, and compares outputs, status and standard error.
-set -u
-cd "$(dirname "$0")/.." || exit 1
-program=$PWD/crates/fq_prog/out/fq_prog
-make -s build || exit 1
+set -uo pipefail
+. "$(dirname "$0")/common.bash"
+find_program
 work=$(mktemp -d)
 trap 'rm -rf "$work"' EXIT
 cd "$work" || exit 1
-failed=0
-
-fail() {
-  echo "files: $1"
-  failed=1
-}
 
 # same NAME WHAT: the file NAME holds what WHAT prints
 same() {
   # shellcheck disable=SC2059  # WHAT has escapes, which are for printf
-  printf "$2" | cmp -s - "$1" || fail "$row: $1 is not as expected"
+  printf "$2" | cmp -s - "$1" || fail "$1 is not as expected"
 }
 
 # run STATUS LINE WORDS..
@@ -26,7 +19,7 @@ run() {
   shift 2
   "$program" "$@" > out 2> err
   got=$?
-  [ "$got" -eq "$status" ] || fail "$row: status $got, not $status"
+  [ "$got" -eq "$status" ] || fail "status $got, not $status"
   same err "$line"
 }
 
@@ -58,7 +51,7 @@ same log 'p1 2 2 4 0\np1 4 0 4 0\np2 4 0 4 0\np2 0 0 0 0\n'
 row='no workers'
 two_pairs
 run 2 'bad setting: workers\n' PE --threads 0 f r fp fu rp ru LEADING:3
-[ -e fp ] && fail "$row: an output was made"
+[ -e fp ] && fail "an output was made"
 
 row='one name twice'
 run 2 'same name: f\n' PE f r f fu rp ru LEADING:3
@@ -79,7 +72,7 @@ printf 'old text' > fp
 run 4 'cannot write link\n' PE --trimlog link f r fp fu rp ru LEADING:3
 same fp 'old text'
 same r '@p1/2\nTTTT\n+\nIIII\n@p2/2\nAAAA\n+\n!!!"\n'
-[ -e fu ] && fail "$row: an output was made"
+[ -e fu ] && fail "an output was made"
 
 row='two outputs into one file'
 for name in fp ./fp link; do
@@ -98,19 +91,19 @@ row='a missing input'
 two_pairs
 rm f
 run 4 'cannot read f\n' PE f r fp fu rp ru LEADING:3
-[ -e fp ] && fail "$row: an output was made"
+[ -e fp ] && fail "an output was made"
 
 row='a folder as an input'
 two_pairs
 mkdir d
 run 4 'cannot read d\n' PE d r fp fu rp ru LEADING:3
-[ -e fp ] && fail "$row: an output was made"
+[ -e fp ] && fail "an output was made"
 
 row='the summary into the file of the log'
 two_pairs
 # shellcheck disable=SC2094  # one file for both is what has to be refused
 "$program" PE --trimlog log f r fp fu rp ru LEADING:3 > log 2> err
-[ $? -eq 4 ] || fail "$row: the status is not 4"
+[ $? -eq 4 ] || fail "the status is not 4"
 same err 'cannot write log\n'
 same log ''
 
@@ -118,7 +111,7 @@ row='the summary into the file of an output'
 for name in fp ./fp /dev/stdout; do
   two_pairs
   "$program" PE f r "$name" fu rp ru LEADING:3 > fp 2> err
-  [ $? -eq 4 ] || fail "$row: the status is not 4"
+  [ $? -eq 4 ] || fail "the status is not 4"
   same err "cannot write $name\n"
   same fp ''
 done
@@ -127,14 +120,14 @@ row='the summary into the file of the report'
 two_pairs
 # shellcheck disable=SC2094  # one file for both is what has to be refused
 "$program" PE --report report f r fp fu rp ru LEADING:3 > report 2> err
-[ $? -eq 4 ] || fail "$row: the status is not 4"
+[ $? -eq 4 ] || fail "the status is not 4"
 same err 'cannot write report\n'
 
 row='standard error into the file of an output'
 for name in ru /dev/stderr; do
   two_pairs
   "$program" PE f r fp fu rp "$name" LEADING:3 > out 2> ru
-  [ $? -eq 4 ] || fail "$row: the status is not 4"
+  [ $? -eq 4 ] || fail "the status is not 4"
   same ru "cannot write $name\n"
   same out ''
 done
@@ -142,16 +135,16 @@ done
 row='a word that is not UTF-8'
 two_pairs
 "$program" PE $'\xff' r fp fu rp ru LEADING:3 > out 2> err
-[ $? -eq 1 ] || fail "$row: the status is not 1"
+[ $? -eq 1 ] || fail "the status is not 1"
 same err "error: word 2 is not UTF-8\n\nFor more information, try '--help'.\n"
-[ -e fp ] && fail "$row: an output was made"
+[ -e fp ] && fail "an output was made"
 
 row='one file as both inputs'
 two_pairs
 ln f again
 run 4 'cannot read f\n' PE f f fp fu rp ru LEADING:3
 run 4 'cannot read again\n' PE f again fp fu rp ru LEADING:3
-[ -e fp ] && fail "$row: an output was made"
+[ -e fp ] && fail "an output was made"
 run 0 '' PE /dev/null /dev/null fp fu rp ru LEADING:3
 
 row='the version'
@@ -180,8 +173,8 @@ two_pairs
 printf '%10000s' 'old text' > report
 run 0 '' PE --report report f r fp fu rp ru LEADING:3
 expect_two_pairs
-grep -q '^{"command":"PE",.*"forward_only_surviving":1,"input":2,.*"version":"1.1.0"}$' report || fail "$row: it is not as expected"
-[ "$(wc -l < report)" -eq 1 ] || fail "$row: it is not one line"
+grep -q '^{"command":"PE",.*"forward_only_surviving":1,"input":2,.*"version":"1.1.0"}$' report || fail "it is not as expected"
+[ "$(wc -l < report)" -eq 1 ] || fail "it is not one line"
 
 row='a report that is an input or another output'
 two_pairs
@@ -262,23 +255,23 @@ two_pairs
 cp i old
 ln -s i link
 run 4 'cannot write link\n' IL i link fu rp ru LEADING:3
-cmp -s i old || fail "$row: the input is not as it was"
+cmp -s i old || fail "the input is not as it was"
 
 row='no command'
 "$program" > out 2> err
-[ $? -eq 1 ] || fail "$row: the status is not 1"
-[ -s err ] || fail "$row: nothing on standard error"
+[ $? -eq 1 ] || fail "the status is not 1"
+[ -s err ] || fail "nothing on standard error"
 
 row='help'
-"$program" PE --help > out 2> err || fail "$row: the status is not 0"
-grep -q 'SLIDINGWINDOW:w:t' out || fail "$row: the steps are not explained"
+"$program" PE --help > out 2> err || fail "the status is not 0"
+grep -q 'SLIDINGWINDOW:w:t' out || fail "the steps are not explained"
 
 if [ -w /dev/full ]; then
   row='standard output on a full device'
   two_pairs
   "$program" PE f r fp fu rp ru LEADING:3 > /dev/full 2> err
-  [ $? -eq 4 ] || fail "$row: the status is not 4"
+  [ $? -eq 4 ] || fail "the status is not 4"
   same err 'cannot print\n'
 fi
 
-exit "$failed"
+finish ok

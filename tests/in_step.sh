@@ -6,38 +6,23 @@
 # FQ_PROG is the program, crates/fq_prog/out/fq_prog if not set. A program that is missing is left out, and named. Status 77, and 'skipped',
 # where none of them is there.
 set -uo pipefail
-
-if [ "${1:-}" = --help ]; then
-  sed -n '2,/^set/s/^# \{0,1\}//p' "$0" | sed '$d'
-  exit 0
-fi
+. "$(dirname "$0")/common.bash"
 readers=()
 missing=()
 for reader in seqkit samtools bwa; do
   if command -v "$reader" > /dev/null; then readers+=("$reader"); else missing+=("$reader"); fi
 done
 if [ "${#readers[@]}" -eq 0 ]; then
-  echo 'in_step: skipped: needs seqkit, samtools or bwa'
-  exit 77
+  skip 'needs seqkit, samtools or bwa'
 fi
-if ! command -v python3 > /dev/null; then
-  echo 'in_step: skipped: needs python3'
-  exit 77
-fi
+need python3
 if [ "${#missing[@]}" -gt 0 ]; then
   echo "in_step: without ${missing[*]}"
 fi
-
-cd "$(dirname "$0")/.." || exit 1
-program=${FQ_PROG:-$PWD/crates/fq_prog/out/fq_prog}
-if [ ! -x "$program" ]; then
-  make -s build || exit 1
-fi
-program=$(realpath "$program")
+find_program
 work=$(mktemp -d) || exit 1
 trap 'rm -rf "$work"' EXIT
 cd "$work" || exit 1
-failed=0
 runs=0
 
 # draw SEED KIND ENCODING PAIRS: r1.fq, r2.fq and both.fq, whose reads are those of ref.fa, with scores that fall towards the end
@@ -235,5 +220,4 @@ for kind in plain bare casava sra tab wrapped crlf empty_lines; do
 done
 # No pair survives.
 run last solexa PE r1.fq r2.fq -- MINLEN:1000
-[ "$failed" -eq 0 ] && echo "in_step: $runs runs"
-exit "$failed"
+finish "$runs runs"

@@ -4,96 +4,84 @@
 # for the report last: where no block device is behind the files' device, and with --sync everywhere. On a disk without --sync it
 # doesn't wait. A kind of folder that the machine lacks is skipped.
 set -uo pipefail
+. "$(dirname "$0")/common.bash"
 
-cd "$(dirname "$0")/.." || exit 2
-program=$PWD/crates/fq_prog/out/fq_prog
-make -s build || exit 1
-here=$PWD/tests/late_errors
+find_program
 room=$(mktemp -d)
 rooms=("$room")
 trap 'rm -rf "${rooms[@]}"' EXIT
 
-compiler=${CC:-cc}
-command -v "$compiler" >"$room/log" || compiler=$(dirname "$(rt doc)")/toolchain/bin/clang
-if ! "$compiler" -O2 -fPIC -shared -nostdlib -o "$room/fail_sync.so" "$here/fail_sync.c"; then
-    echo "late_errors: FAILED: fail_sync.c is not compiled"
-    exit 1
-fi
+compile_library tests/late_errors/fail_sync.c "$room/fail_sync.so"
 
 # has_disk FOLDER: whether a block device is behind the folder's device, by its major number.
 has_disk() {
-    local device
-    device=$(stat -c %d -- "$1")
-    [ $(((device >> 8 & 0xfff) | (device >> 32 & ~0xfff))) -ne 0 ]
+  local device
+  device=$(stat -c %d -- "$1")
+  [ $(((device >> 8 & 0xfff) | (device >> 32 & ~0xfff))) -ne 0 ]
 }
 
 # enter FOLDER: goes to a new folder there that has the inputs.
 enter() {
-    local new
-    new=$(mktemp -d "$1/late_errors.XXXXXX") || exit 2
-    rooms+=("$new")
-    cd "$new" || exit 2
-    printf '@p1/1\nACGT\n+\n#!II\n' >f
-    printf '@p1/2\nTTTT\n+\nIIII\n' >r
-    cat f r >i
+  local new
+  new=$(mktemp -d "$1/late_errors.XXXXXX") || exit 2
+  rooms+=("$new")
+  cd "$new" || exit 2
+  printf '@p1/1\nACGT\n+\n#!II\n' > f
+  printf '@p1/2\nTTTT\n+\nIIII\n' > r
+  cat f r > i
 }
 
 # expect NUMBER STATUS LINE WORDS..: what this call answers where this wait fails.
 expect() {
-    local number=$1 wanted=$2 line=$3 said status
-    shift 3
-    said=$(timeout 60 env FAILED_SYNC="$number" LD_PRELOAD="$room/fail_sync.so" "$program" "$@" 2>err)
-    status=$?
-    if [ $status -ne "$wanted" ] || [ "$(cat err)" != "$line" ] || { [ "$wanted" -ne 0 ] && [ -n "$said" ]; }; then
-        echo "WRONG: in $PWD, $*, wait $number: status $status, '$(cat err)', printed '$said'"
-        failed=1
-    fi
+  local number=$1 wanted=$2 line=$3 said status
+  shift 3
+  said=$(timeout 60 env FAILED_SYNC="$number" LD_PRELOAD="$room/fail_sync.so" "$program" "$@" 2> err)
+  status=$?
+  if [ $status -ne "$wanted" ] || [ "$(cat err)" != "$line" ] || { [ "$wanted" -ne 0 ] && [ -n "$said" ]; }; then
+    echo "WRONG: in $PWD, $*, wait $number: status $status, '$(cat err)', printed '$said'"
+    failed=1
+  fi
 }
 
 outputs=('forward paired' 'forward unpaired' 'reverse paired' 'reverse unpaired' 'trim log')
 
 # each_fails WORDS..: each wait of this call fails in turn, those of `outputs` in their order, and there is no further one.
 each_fails() {
-    local number=0 output
-    for output in "${outputs[@]}"; do
-        number=$((number + 1))
-        expect $number 4 "write failed: $output" "$@"
-    done
-    expect $((number + 1)) 0 '' "$@"
+  local number=0 output
+  for output in "${outputs[@]}"; do
+    number=$((number + 1))
+    expect $number 4 "write failed: $output" "$@"
+  done
+  expect $((number + 1)) 0 '' "$@"
 }
 
 # all_fail [OPTION]: so it is with this option, of two texts, with a report too, and of an interleaved one.
 all_fail() {
-    each_fails PE "$@" --trimlog log f r fp fu rp ru LEADING:3
-    each_fails IL "$@" --trimlog log i fp fu rp ru LEADING:3
-    outputs+=(report)
-    each_fails PE "$@" --trimlog log --report report f r fp fu rp ru LEADING:3
-    unset 'outputs[-1]'
+  each_fails PE "$@" --trimlog log f r fp fu rp ru LEADING:3
+  each_fails IL "$@" --trimlog log i fp fu rp ru LEADING:3
+  outputs+=(report)
+  each_fails PE "$@" --trimlog log --report report f r fp fu rp ru LEADING:3
+  unset 'outputs[-1]'
 }
 
-failed=0
 disk='' other=''
 for folder in "${TMPDIR:-/tmp}" /var/tmp /dev/shm "$PWD" "$HOME"; do
-    if ! { [ -d "$folder" ] && [ -w "$folder" ]; }; then continue; fi
-    if has_disk "$folder"; then disk=${disk:-$folder}; else other=${other:-$folder}; fi
+  if ! { [ -d "$folder" ] && [ -w "$folder" ]; }; then continue; fi
+  if has_disk "$folder"; then disk=${disk:-$folder}; else other=${other:-$folder}; fi
 done
 if [ -n "$other" ]; then
-    enter "$other"
-    all_fail
-    all_fail --sync
+  enter "$other"
+  all_fail
+  all_fail --sync
 else
-    echo "late_errors: skipped: no folder without a block device"
+  echo "late_errors: skipped: no folder without a block device"
 fi
 if [ -n "$disk" ]; then
-    enter "$disk"
-    all_fail --sync
-    # No wait is made, or the first one failed.
-    expect 1 0 '' PE --trimlog log --report report f r fp fu rp ru LEADING:3
+  enter "$disk"
+  all_fail --sync
+  # No wait is made, or the first one failed.
+  expect 1 0 '' PE --trimlog log --report report f r fp fu rp ru LEADING:3
 else
-    echo "late_errors: skipped: no folder on a disk"
+  echo "late_errors: skipped: no folder on a disk"
 fi
-if [ $failed -ne 0 ]; then
-    echo "late_errors: FAILED"
-    exit 1
-fi
-echo "late_errors: ok"
+finish ok

@@ -9,64 +9,58 @@
 # be refused by exactly one error: the witness of the move is let go (error[linear-value-let-go]), or is forgotten without being `Drop`
 # (error[unsatisfied-bound]). The lane as it stands is used rightly.
 #
-# Run it from the root of the repository, with rt on the path. It works in a folder of its own, outside the tree.
+# It works in a directory of its own, outside the tree, and needs rt on the path.
 set -uo pipefail
+. "$(dirname "$0")/common.bash"
 
-root=$(pwd)
-if [ ! -d "$root/crates/fq_lane" ]; then
-    echo "must_not_compile: run this from the root of the repository" >&2
-    exit 2
-fi
 room=$(mktemp -d)
 trap 'rm -rf "$room"' EXIT
 
 mkdir -p "$room/crates/misuse/src" "$room/crates/fq_lane"
-cp "$root/HANDLES" "$room/"
-cp -r "$root"/crates/fq_lane/{src,specs,proofs} "$room/crates/fq_lane/"
-grep -E '^fq_lane[ :]' "$root/crates.txt" >"$room/crates.txt"
-echo "misuse: fq_lane" >>"$room/crates.txt"
-
-failed=0
+cp "$tree/HANDLES" "$room/"
+cp -r "$tree"/crates/fq_lane/{src,specs,proofs} "$room/crates/fq_lane/"
+grep -E '^fq_lane[ :]' "$tree/crates.txt" > "$room/crates.txt"
+echo "misuse: fq_lane" >> "$room/crates.txt"
 
 # judge NAME WANTED STATUS: compares the errors that were found ("none", or one code).
 judge() {
-    local found
-    found=$(grep -oE '\berror(\[[^]]+\])?:' "$room/log" | sed -E 's/^error(\[(.*)\])?:$/\2/' | tr '\n' ' ')
-    found=${found% }
-    if [ "$2" = none ] && [ "$3" -eq 0 ] && [ -z "$found" ]; then
-        echo "compiles, as it must: $1"
-    elif [ "$2" != none ] && [ "$3" -ne 0 ] && [ "$found" = "$2" ]; then
-        echo "refused by $2, as it must be: $1"
-    else
-        echo "WRONG: $1: wanted $2, found '${found:-none}' with status $3; the first lines were:"
-        head -n 20 "$room/log"
-        failed=1
-    fi
+  local found
+  found=$(grep -oE '\berror(\[[^]]+\])?:' "$room/log" | sed -E 's/^error(\[(.*)\])?:$/\2/' | tr '\n' ' ')
+  found=${found% }
+  if [ "$2" = none ] && [ "$3" -eq 0 ] && [ -z "$found" ]; then
+    echo "compiles, as it must: $1"
+  elif [ "$2" != none ] && [ "$3" -ne 0 ] && [ "$found" = "$2" ]; then
+    echo "refused by $2, as it must be: $1"
+  else
+    echo "WRONG: $1: wanted $2, found '${found:-none}' with status $3; the first lines were:"
+    head -n 20 "$room/log"
+    failed=1
+  fi
 }
 
 # try NAME WANTED: checks the source on standard input.
 try() {
-    cat >"$room/crates/misuse/src/lib.rt"
-    (cd "$room/crates/misuse" && rt check) >"$room/log" 2>&1
-    judge "$1" "$2" $?
+  cat > "$room/crates/misuse/src/lib.rt"
+  (cd "$room/crates/misuse" && rt check) > "$room/log" 2>&1
+  judge "$1" "$2" $?
 }
 
 # try_in_lane NAME WANTED FILE OLD NEW: checks the lane with one text of one of its files in place of another.
 try_in_lane() {
-    local file="$room/crates/fq_lane/src/$3" text
-    text=$(cat "$root/crates/fq_lane/src/$3")
-    if [ "${text/"$4"/}" = "$text" ]; then
-        echo "WRONG: $1: $3 has no '$4'"
-        failed=1
-        return
-    fi
-    printf '%s\n' "${text/"$4"/"$5"}" >"$file"
-    (cd "$room/crates/fq_lane" && rt check) >"$room/log" 2>&1
-    judge "$1" "$2" $?
-    printf '%s\n' "$text" >"$file"
+  local file="$room/crates/fq_lane/src/$3" text
+  text=$(cat "$tree/crates/fq_lane/src/$3")
+  if [ "${text/"$4"/}" = "$text" ]; then
+    echo "WRONG: $1: $3 has no '$4'"
+    failed=1
+    return
+  fi
+  printf '%s\n' "${text/"$4"/"$5"}" > "$file"
+  (cd "$room/crates/fq_lane" && rt check) > "$room/log" 2>&1
+  judge "$1" "$2" $?
+  printf '%s\n' "$text" > "$file"
 }
 
-try "an offer before the lane is closed" none <<'RT'
+try "an offer before the lane is closed" none << 'RT'
 //! A lane that is used as it is meant to be.
 #![tactic(auto)]
 
@@ -80,7 +74,7 @@ pub fn offer_then_close(tx: Tx<u64>) -> bool {
 }
 RT
 
-try "an offer after the lane was closed" borrow-e0382 <<'RT'
+try "an offer after the lane was closed" borrow-e0382 << 'RT'
 //! A lane that is used after it was closed.
 #![tactic(auto)]
 
@@ -94,7 +88,7 @@ pub fn close_then_offer(tx: Tx<u64>) -> bool {
 }
 RT
 
-try "an end that confirms once" none <<'RT'
+try "an end that confirms once" none << 'RT'
 //! A lane that is confirmed as it is meant to be.
 #![tactic(auto)]
 
@@ -110,7 +104,7 @@ pub fn confirm_once(rx: &mut Rx<u64>, end: End<u64>)
 }
 RT
 
-try "one end that confirms twice" borrow-e0382 <<'RT'
+try "one end that confirms twice" borrow-e0382 << 'RT'
 //! A lane that is confirmed twice with one end.
 #![tactic(auto)]
 
@@ -128,44 +122,40 @@ pub fn confirm_twice(rx: &mut Rx<u64>, end: End<u64>)
 RT
 
 try_in_lane "an offer that wakes nobody" linear-value-let-go tx.rt \
-    'ring::push_item(&mut self.producer, item).wake_receiver(&self.parkers);' \
-    'let _ = ring::push_item(&mut self.producer, item);'
+  'ring::push_item(&mut self.producer, item).wake_receiver(&self.parkers);' \
+  'let _ = ring::push_item(&mut self.producer, item);'
 
 try_in_lane "an offer that wakes only the receiver of a lane that was empty" linear-value-let-go tx.rt \
-    'ring::push_item(&mut self.producer, item).wake_receiver(&self.parkers);' \
-    'let was_empty = self.producer.slots() + 1 > self.producer.capacity();
+  'ring::push_item(&mut self.producer, item).wake_receiver(&self.parkers);' \
+  'let was_empty = self.producer.slots() + 1 > self.producer.capacity();
             let pushed = ring::push_item(&mut self.producer, item);
             if was_empty {
                 pushed.wake_receiver(&self.parkers);
             }'
 
 try_in_lane "an offer that wakes before it pushes" linear-value-let-go tx.rt \
-    'ring::push_item(&mut self.producer, item).wake_receiver(&self.parkers);' \
-    'self.parkers.wake_receiver();
+  'ring::push_item(&mut self.producer, item).wake_receiver(&self.parkers);' \
+  'self.parkers.wake_receiver();
             let _ = ring::push_item(&mut self.producer, item);'
 
 try_in_lane "a mark behind which nobody is woken" linear-value-let-go tx.rt \
-    'pushed.wake_receiver(&parkers);' \
-    'drop(parkers);'
+  'pushed.wake_receiver(&parkers);' \
+  'drop(parkers);'
 
 try_in_lane "a take that wakes before it pops" linear-value-let-go rx.rt \
-    'match ring::pop(&mut self.consumer) {
+  'match ring::pop(&mut self.consumer) {
             Popped::Item(item, freed) => {
                 freed.wake_sender(&self.parkers);' \
-    'self.parkers.wake_sender();
+  'self.parkers.wake_sender();
         match ring::pop(&mut self.consumer) {
             Popped::Item(item, _) => {'
 
 try_in_lane "a witness that is kept for later" linear-value-let-go rx.rt \
-    'freed.wake_sender(&self.parkers);' \
-    'let _later = freed;'
+  'freed.wake_sender(&self.parkers);' \
+  'let _later = freed;'
 
 try_in_lane "a witness that is forgotten" unsatisfied-bound rx.rt \
-    'freed.wake_sender(&self.parkers);' \
-    'std::mem::forget(freed);'
+  'freed.wake_sender(&self.parkers);' \
+  'std::mem::forget(freed);'
 
-if [ $failed -ne 0 ]; then
-    echo "must_not_compile: FAILED"
-    exit 1
-fi
-echo "must_not_compile: ok, 9 misuses refused and 2 uses accepted"
+finish 'ok, 9 misuses refused and 2 uses accepted'

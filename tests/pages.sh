@@ -3,19 +3,10 @@
 # of CHANGELOG.md, authors and copyright, is shown without a warning, and is found under each name of its command.
 # Status 77 if python3 is missing. A part that needs man is skipped if man-db isn't installed.
 set -uo pipefail
-cd "$(dirname "$0")/.." || exit 1
-if ! command -v python3 > /dev/null; then
-  echo 'pages: skipped: needs python3 (Debian: python3)'
-  exit 77
-fi
+. "$(dirname "$0")/common.bash"
+need python3
 work=$(mktemp -d)
 trap 'rm -rf "$work"' EXIT
-failed=0
-
-fail() {
-  echo "pages: $1"
-  failed=1
-}
 
 # made NAME SECOND: the page of a script is that of its help
 made() {
@@ -28,7 +19,10 @@ make it by: COLUMNS=80 contrib/$1 --help | python3 packaging/man_page.py $1,$2 >
 # shown NAME SECOND: the page has what each page has, and man shows it and knows it by both names
 shown() {
   local page=man/$1.1 heading
-  [ -e "$page" ] || { fail "there is no $page"; return; }
+  [ -e "$page" ] || {
+    fail "there is no $page"
+    return
+  }
   for heading in NAME SYNOPSIS DESCRIPTION OPTIONS AUTHORS COPYRIGHT; do
     grep -qx ".SH $heading" "$page" || fail "$page has no $heading"
   done
@@ -54,5 +48,4 @@ made report_to_html tibzharuk-report
 shown fq_prog tibzharuk
 shown trim_gz tibzharuk-gz
 if [ -e contrib/report_to_html ]; then shown report_to_html tibzharuk-report; fi
-[ "$failed" -eq 0 ] && echo 'pages: as help says'
-exit "$failed"
+finish 'as help says'

@@ -10,85 +10,72 @@
 # Wants cc, or else takes the kit's own compiler. ROUNDS, 3 if not set, is how often each growth is refused to the run with two
 # workers, whose growths come in another order each time.
 set -uo pipefail
+. "$(dirname "$0")/common.bash"
 
-cd "$(dirname "$0")/.." || exit 2
-here=$PWD/tests/refused_growths
+here=$tree/tests/refused_growths
 rounds=${ROUNDS:-3}
 room=$(mktemp -d)
 trap 'rm -rf "$room"' EXIT
 
-program=$PWD/crates/fq_rows/out/fq_rows
-if ! make -q crates/fq_rows/out/fq_rows 2>/dev/null; then
-    echo "refused_growths: skipped: needs the proved program fq_rows, which the gate leaves (make gate)"
-    exit 77
-fi
+need_proved crates/fq_rows/out/fq_rows
+program=$tree/crates/fq_rows/out/fq_rows
 
-compiler=${CC:-cc}
-command -v "$compiler" >"$room/log" || compiler=$(dirname "$(rt doc)")/toolchain/bin/clang
 for source in refuse refuse_thread; do
-    if ! "$compiler" -O2 -fPIC -shared -nostdlib -o "$room/$source.so" "$here/$source.c"; then
-        echo "refused_growths: FAILED: $source.c is not compiled"
-        exit 1
-    fi
+  compile_library "$here/$source.c" "$room/$source.so"
 done
 
 # try NUMBER WAY: runs once. Sets said to what the run printed and refused to whether it met the refusal.
 try() {
-    local words status
-    read -ra words <<<"$2"
-    said=$(timeout 60 env REFUSED_GROWTH="$1" LD_PRELOAD="$room/refuse.so" "$program" judge "${words[@]}" 2>&1 9>"$room/refused")
-    status=$?
-    refused=$(cat "$room/refused")
-    if [ $status -ne 0 ] || { [ -n "$refused" ] && [ "$said" = Whole ]; } || { [ -z "$refused" ] && [ "$said" != Whole ]; }; then
-        echo "WRONG: growth $1, ${2:-serial}: status $status, '$said', ${refused:-nothing refused}"
-        failed=1
-    fi
+  local words status
+  read -ra words <<< "$2"
+  said=$(timeout 60 env REFUSED_GROWTH="$1" LD_PRELOAD="$room/refuse.so" "$program" judge "${words[@]}" 2>&1 9> "$room/refused")
+  status=$?
+  refused=$(cat "$room/refused")
+  if [ $status -ne 0 ] || { [ -n "$refused" ] && [ "$said" = Whole ]; } || { [ -z "$refused" ] && [ "$said" != Whole ]; }; then
+    echo "WRONG: growth $1, ${2:-serial}: status $status, '$said', ${refused:-nothing refused}"
+    failed=1
+  fi
 }
 
 # sweep WAY: refuses each growth in turn, and prints how the runs ended.
 sweep() {
-    local number
-    : >"$room/said"
-    for number in $(seq 10000); do
-        try "$number" "$1"
-        if [ $failed -ne 0 ] || [ -z "$refused" ]; then
-            break
-        fi
-        echo "${said%%(*}" >>"$room/said"
-    done
-    if [ $failed -eq 0 ] && { [ -n "$refused" ] || ! grep -q Memory "$room/said" || ! grep -q Write "$room/said"; }; then
-        echo "WRONG: ${1:-serial}: not every growth was refused"
-        failed=1
+  local number
+  : > "$room/said"
+  for number in $(seq 10000); do
+    try "$number" "$1"
+    if [ $failed -ne 0 ] || [ -z "$refused" ]; then
+      break
     fi
-    echo "${1:-serial}: $(wc -l <"$room/said") growths refused: $(sort "$room/said" | uniq -c | tr -s ' \n' ' ')"
+    echo "${said%%(*}" >> "$room/said"
+  done
+  if [ $failed -eq 0 ] && { [ -n "$refused" ] || ! grep -q Memory "$room/said" || ! grep -q Write "$room/said"; }; then
+    echo "WRONG: ${1:-serial}: not every growth was refused"
+    failed=1
+  fi
+  echo "${1:-serial}: $(wc -l < "$room/said") growths refused: $(sort "$room/said" | uniq -c | tr -s ' \n' ' ')"
 }
 
 # refuse_threads WAY: refuses each of the three threads in turn, and then none.
 refuse_threads() {
-    local wanted number=1 words
-    read -ra words <<<"$1"
-    for wanted in 'Spawn(Lost)' 'Spawn(Unread)' 'Spawn(Unread)' Whole; do
-        said=$(timeout 60 env REFUSED_THREAD="$number" LD_PRELOAD="$room/refuse_thread.so" "$program" judge "${words[@]}" 2>&1)
-        if [ "$said" != "$wanted" ]; then
-            echo "WRONG: thread $number, $1: '$said' and not '$wanted'"
-            failed=1
-        fi
-        number=$((number + 1))
-    done
-    echo "$1: each thread refused"
+  local wanted number=1 words
+  read -ra words <<< "$1"
+  for wanted in 'Spawn(Lost)' 'Spawn(Unread)' 'Spawn(Unread)' Whole; do
+    said=$(timeout 60 env REFUSED_THREAD="$number" LD_PRELOAD="$room/refuse_thread.so" "$program" judge "${words[@]}" 2>&1)
+    if [ "$said" != "$wanted" ]; then
+      echo "WRONG: thread $number, $1: '$said' and not '$wanted'"
+      failed=1
+    fi
+    number=$((number + 1))
+  done
+  echo "$1: each thread refused"
 }
 
-failed=0
 sweep ''
 sweep interleaved
 for _ in $(seq "$rounds"); do
-    sweep threads
-    sweep 'threads interleaved'
+  sweep threads
+  sweep 'threads interleaved'
 done
 refuse_threads threads
 refuse_threads 'threads interleaved'
-if [ $failed -ne 0 ]; then
-    echo "refused_growths: FAILED"
-    exit 1
-fi
-echo "refused_growths: ok"
+finish ok

@@ -7,66 +7,58 @@
 # as they lie in the buffer or their lines are joined. There are 500 blocks, and one that is made anew asks some twenty times: so buffers
 # that are let go now and then are seen too.
 set -uo pipefail
+. "$(dirname "$0")/common.bash"
 
-cd "$(dirname "$0")/.." || exit 2
-program=$PWD/crates/fq_prog/out/fq_prog
-make -s build || exit 1
-here=$PWD/tests/refused_growths
+find_program
 room=$(mktemp -d)
 trap 'rm -rf "$room"' EXIT
 
-compiler=${CC:-cc}
-command -v "$compiler" >"$room/log" || compiler=$(dirname "$(rt doc)")/toolchain/bin/clang
-if ! "$compiler" -O2 -fPIC -shared -nostdlib -o "$room/refuse.so" "$here/refuse.c"; then
-    echo "refused_program: FAILED: refuse.c is not compiled"
-    exit 1
-fi
+compile_library tests/refused_growths/refuse.c "$room/refuse.so"
 cd "$room" || exit 2
-printf '@p1/1\nACGT\n+\n#!II\n@p2/1\nGGCC\n+\nIIII\n' >f
-printf '@p1/2\nTTTT\n+\nIIII\n@p2/2\nAAAA\n+\n!!!"\n' >r
-printf '@p1/1\nACGT\n+\n#!II\n@p1/2\nTTTT\n+\nIIII\n' >i
+printf '@p1/1\nACGT\n+\n#!II\n@p2/1\nGGCC\n+\nIIII\n' > f
+printf '@p1/2\nTTTT\n+\nIIII\n@p2/2\nAAAA\n+\n!!!"\n' > r
+printf '@p1/1\nACGT\n+\n#!II\n@p1/2\nTTTT\n+\nIIII\n' > i
 
 # sweep WORDS..: refuses each growth of this call in turn. Where none was met it ends as ENDING says, and else with status 0 and no line.
 sweep() {
-    local number said status unseen=0 ending=${ENDING:-0 }
-    for number in $(seq 10000); do
-        said=$(timeout 60 env REFUSED_GROWTH="$number" LD_PRELOAD="$room/refuse.so" "$program" "$@" 9>refused 2>err)
-        status=$?
-        [ -s refused ] || break
-        case "$status $(cat err)" in
-        '5 out of memory' | '6 cannot start a thread') [ -z "$said" ] || wrong "$number" "$1" "printed '$said'" ;;
-        "$ending") unseen=$((unseen + 1)) ;;
-        *) wrong "$number" "$1" "status $status, '$(cat err)'" ;;
-        esac
-    done
-    if [ "$number" -le 1 ] || [ "$number" -ge 10000 ]; then wrong "$number" "$1" "not every growth was refused"; fi
-    [ "$unseen" -le 1 ] || wrong "$number" "$1" "$unseen refusals were not seen"
-    echo "$1: $((number - 1)) growths refused, $unseen unseen"
+  local number said status unseen=0 ending=${ENDING:-0 }
+  for number in $(seq 10000); do
+    said=$(timeout 60 env REFUSED_GROWTH="$number" LD_PRELOAD="$room/refuse.so" "$program" "$@" 9> refused 2> err)
+    status=$?
+    [ -s refused ] || break
+    case "$status $(cat err)" in
+      '5 out of memory' | '6 cannot start a thread') [ -z "$said" ] || wrong "$number" "$1" "printed '$said'" ;;
+      "$ending") unseen=$((unseen + 1)) ;;
+      *) wrong "$number" "$1" "status $status, '$(cat err)'" ;;
+    esac
+  done
+  if [ "$number" -le 1 ] || [ "$number" -ge 10000 ]; then wrong "$number" "$1" "not every growth was refused"; fi
+  [ "$unseen" -le 1 ] || wrong "$number" "$1" "$unseen refusals were not seen"
+  echo "$1: $((number - 1)) growths refused, $unseen unseen"
 }
 
 wrong() {
-    echo "WRONG: growth $1 of $2: $3"
-    failed=1
+  echo "WRONG: growth $1 of $2: $3"
+  failed=1
 }
 
 # draw LINES..: these lines, 50,000 times.
 draw() {
-    local record
-    record=$(printf '%s\n' "$@")
-    yes "$record" | head -n "$((50000 * $#))"
+  local record
+  record=$(printf '%s\n' "$@")
+  yes "$record" | head -n "$((50000 * $#))"
 }
 
 # grow_seldom WORDS..: this call, over 50,000 pairs, asks for memory fewer than 1,000 times.
 grow_seldom() {
-    local status
-    timeout 60 env REFUSED_GROWTH=1000 LD_PRELOAD="$room/refuse.so" "$program" "$@" 9>refused >summary 2>err
-    status=$?
-    if [ "$status" -ne 0 ] || [ -s refused ] || ! grep -q 50000 summary; then
-        wrong 1000 "$1" "status $status, '$(cat err)', $(cat refused)"
-    fi
+  local status
+  timeout 60 env REFUSED_GROWTH=1000 LD_PRELOAD="$room/refuse.so" "$program" "$@" 9> refused > summary 2> err
+  status=$?
+  if [ "$status" -ne 0 ] || [ -s refused ] || ! grep -q 50000 summary; then
+    wrong 1000 "$1" "status $status, '$(cat err)', $(cat refused)"
+  fi
 }
 
-failed=0
 sweep PE --threads 2 --block 1 --trimlog log f r fp fu rp ru LEADING:3
 sweep PE --threads 2 --block 1 --report report f r fp fu rp ru LEADING:3 MINLEN:2
 sweep IL --threads 2 --block 1 --trimlog log i fp fu rp ru LEADING:3
@@ -75,11 +67,11 @@ sweep --help
 ENDING=$(printf '1 error: word 2 is not UTF-8\n\nFor more information, try %s.' "'--help'") sweep PE $'\xff' r fp fu rp ru LEADING:3
 
 for side in 1 2; do
-    draw "@p/$side" ACGT + IIII >"plain$side"
-    draw "@p/$side" AC GT + IIII >"joined$side"
+  draw "@p/$side" ACGT + IIII > "plain$side"
+  draw "@p/$side" AC GT + IIII > "joined$side"
 done
-draw @p/1 ACGT + IIII @p/2 ACGT + IIII >interleaved
-draw @p/1 AC GT + IIII @p/2 AC GT + IIII >interleaved_joined
+draw @p/1 ACGT + IIII @p/2 ACGT + IIII > interleaved
+draw @p/1 AC GT + IIII @p/2 AC GT + IIII > interleaved_joined
 steps=(LEADING:3 MINLEN:2)
 grow_seldom PE --threads 1 --block 100 --depth 1 --trimlog log plain1 plain2 fp fu rp ru "${steps[@]}"
 grow_seldom PE --threads 1 --block 100 --depth 1 --trimlog log joined1 joined2 fp fu rp ru "${steps[@]}"
@@ -87,8 +79,4 @@ grow_seldom PE --threads 1 --block 100 --depth 1 --report report plain1 plain2 f
 grow_seldom IL --threads 1 --block 100 --depth 1 --trimlog log interleaved fp fu rp ru "${steps[@]}"
 grow_seldom IL --threads 1 --block 100 --depth 1 --trimlog log interleaved_joined fp fu rp ru "${steps[@]}"
 echo "50,000 pairs: fewer than 1,000 growths"
-if [ $failed -ne 0 ]; then
-    echo "refused_program: FAILED"
-    exit 1
-fi
-echo "refused_program: ok"
+finish ok

@@ -6,32 +6,15 @@
 #
 # FQ_PROG is the program, crates/fq_prog/out/fq_prog if not set. With python3.6 in the path, the pages are made by that too.
 set -uo pipefail
-
-if [ "${1:-}" = --help ]; then
-  sed -n '2,/^set/s/^# \{0,1\}//p' "$0" | sed '$d'
-  exit 0
-fi
-cd "$(dirname "$0")/.." || exit 1
-tree=$PWD
+. "$(dirname "$0")/common.bash"
 script=$tree/contrib/report_to_html
-program=${FQ_PROG:-$tree/crates/fq_prog/out/fq_prog}
-if [ ! -x "$program" ]; then
-  make -s build || exit 1
-fi
-program=$(realpath "$program")
+find_program
 work=$(mktemp -d) || exit 1
 trap 'rm -rf "$work"' EXIT
 cd "$work" || exit 1
 export PYTHONDONTWRITEBYTECODE=1
-failed=0
-row=''
 # A name without a Python behind it is no Python.
 old=$(command -v python3.6) && "$old" -c '' 2> /dev/null || old=''
-
-fail() {
-  echo "report_page: $row: $1"
-  failed=1
-}
 
 check() { python3 "$tree/tests/report_page/check.py" "$@"; }
 
@@ -156,4 +139,4 @@ check mqc none.json page_parts/none || fail 'a report without reads differs'
 [ -e page_parts/two_lengths_after_mqc.json ] || fail 'there is no graph of lengths'
 if [ -e page_parts/two_scores_before_mqc.json ] || [ -e page_parts/two_means_after_mqc.json ]; then fail 'it draws what a report lacks'; fi
 for file in "$PWD"/page_parts/long_scores_*; do [ "$(wc -c < "$file")" -lt 40000 ] || fail "$file is too large"; done
-exit "$failed"
+finish ok

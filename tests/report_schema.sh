@@ -6,42 +6,33 @@
 #
 # FQ_PROG is the program, crates/fq_prog/out/fq_prog if not set. Status 77, and 'skipped', where a package is missing.
 set -uo pipefail
-
-if [ "${1:-}" = --help ]; then
-  sed -n '2,/^set/s/^# \{0,1\}//p' "$0" | sed '$d'
-  exit 0
-fi
-if ! python3 -c 'from jsonschema import Draft202012Validator' 2> /dev/null; then
-  echo 'report_schema: skipped: needs python3-jsonschema'
-  exit 77
-fi
-
-cd "$(dirname "$0")/.." || exit 1
+. "$(dirname "$0")/common.bash"
+python3 -c 'from jsonschema import Draft202012Validator' 2> /dev/null || skip 'needs python3-jsonschema'
 schema=$PWD/docs/report.schema.json
 format=$PWD/docs/FORMAT.md
-program=${FQ_PROG:-$PWD/crates/fq_prog/out/fq_prog}
-if [ ! -x "$program" ]; then
-  make -s build || exit 1
-fi
-program=$(realpath "$program")
+find_program
 work=$(mktemp -d) || exit 1
 trap 'rm -rf "$work"' EXIT
 cd "$work" || exit 1
 mkdir inputs reports
-failed=0
 number=0
-
-fail() {
-  echo "report_schema: $row: $1"
-  failed=1
-}
 
 # record TITLE BASES QUALITY
 record() { printf '@%s\n%s\n+\n%s\n' "$@"; }
 
 # Four pairs: of letters in both cases, of one base, of an empty read and of 300 bases.
-{ record p1/1 GcANn '#5?>I'; record p2/1 A I; record p3/1 '' ''; record p4/1 "$(printf 'ACGT%.0s' {1..75})" "$(printf '#III%.0s' {1..75})"; } > inputs/r1.fq
-{ record p1/2 gTC '#4~'; record p2/2 TTTT IIII; record p3/2 GG '!!'; record p4/2 "$(printf 'TTGA%.0s' {1..75})" "$(printf '5555%.0s' {1..75})"; } > inputs/r2.fq
+{
+  record p1/1 GcANn '#5?>I'
+  record p2/1 A I
+  record p3/1 '' ''
+  record p4/1 "$(printf 'ACGT%.0s' {1..75})" "$(printf '#III%.0s' {1..75})"
+} > inputs/r1.fq
+{
+  record p1/2 gTC '#4~'
+  record p2/2 TTTT IIII
+  record p3/2 GG '!!'
+  record p4/2 "$(printf 'TTGA%.0s' {1..75})" "$(printf '5555%.0s' {1..75})"
+} > inputs/r2.fq
 paste -d '\n' <(paste - - - - < inputs/r1.fq) <(paste - - - - < inputs/r2.fq) | tr '\t' '\n' > inputs/both.fq
 head -n 12 inputs/r2.fq > inputs/short2.fq
 head -n 28 inputs/both.fq > inputs/odd.fq
@@ -281,4 +272,4 @@ for line in wrong:
     print(f"report_schema: {line}")
 sys.exit(1 if wrong else 0)
 END
-exit "$failed"
+finish ok

@@ -1,12 +1,9 @@
 #!/usr/bin/env bash
-# Every shell script of the repository is shellcheck-clean: each file whose first line names sh or bash.
-# Status 77, and 'skipped', where shellcheck is missing.
+# No shell script of the repository has a fault that shellcheck finds, and shfmt would change none. A shell script is a file whose
+# first line names sh or bash. Status 77, and 'skipped', if shellcheck is missing.
 set -uo pipefail
-cd "$(dirname "$0")/.." || exit 1
-if ! command -v shellcheck > /dev/null; then
-  echo 'scripts: skipped: needs shellcheck (Debian: shellcheck)'
-  exit 77
-fi
+. "$(dirname "$0")/common.bash"
+need shellcheck
 
 files() {
   git ls-files --cached --others --exclude-standard 2> /dev/null || find . -name .git -prune -o -name out -prune -o -type f -printf '%P\n'
@@ -16,14 +13,13 @@ scripts=()
 while IFS= read -r file; do
   [ -f "$file" ] || continue
   IFS= read -r first < "$file"
-  if [[ $first =~ ^'#!'.*[/\ ](ba)?sh( |$) ]]; then scripts+=("$file"); fi
+  if [[ $first =~ ^'#!'.*[/\ ](ba)?sh( |$) || $first = '# shellcheck shell=bash'* ]]; then scripts+=("$file"); fi
 done < <(files)
-if [ "${#scripts[@]}" -eq 0 ]; then
-  echo 'scripts: FAILED: there are none'
-  exit 1
+[ "${#scripts[@]}" -gt 0 ] || fail 'there are none'
+shellcheck -- "${scripts[@]}" || fail 'shellcheck finds faults'
+if command -v shfmt > /dev/null; then
+  shfmt -d -- "${scripts[@]}" || fail 'shfmt lays them out in another way'
+else
+  echo 'scripts: the layout: skipped: needs shfmt'
 fi
-if ! shellcheck -- "${scripts[@]}"; then
-  echo 'scripts: FAILED'
-  exit 1
-fi
-echo 'scripts: ok'
+finish ok

@@ -2,27 +2,17 @@
 # Runs contrib/trim_gz on good and on bad compressed files, and compares outputs, status and lines with the program over plain files.
 # FQ_PROG names another build of the program. A row whose tool isn't installed is skipped, and says so.
 set -u
-program=${FQ_PROG:+$(realpath -- "$FQ_PROG")}
-cd "$(dirname "$0")/.." || exit 1
-script=$PWD/contrib/trim_gz
-if [ -z "$program" ]; then
-  program=$PWD/crates/fq_prog/out/fq_prog
-  make -s build || exit 1
-fi
+. "$(dirname "$0")/common.bash"
+find_program
+script=$tree/contrib/trim_gz
 work=$(mktemp -d)
 trap 'umount "$work/small" 2> /dev/null; rm -rf "$work"' EXIT
 mkdir "$work/data" "$work/tmp" "$work/out" "$work/plain" "$work/bin"
 cd "$work/data" || exit 1
 export TMPDIR=$work/tmp
 tools=$PATH # where the script finds its tools
-failed=0
 steps=(LEADING:3 TRAILING:3 SLIDINGWINDOW:4:15 MINLEN:36)
 last=(-- "${steps[@]}")
-
-fail() {
-  echo "trim_gz: $row: $1"
-  failed=1
-}
 
 # draw FIRST LAST SIDE: records, the same ones for the same words
 draw() {
@@ -230,8 +220,15 @@ row='a lane without its last line feed, an empty lane, files of several members'
 head -c -1 a1 | gzip > a1.short.gz
 gzip < /dev/null > none1.gz
 gzip < /dev/null > none2.gz
-{ cat a2.gz none1.gz; head -n 4000 b2 | gzip; tail -n +4001 b2 | gzip; } > members.gz
-{ head -c 3000 b1 | gzip; tail -c +3001 b1 | gzip; } > b1.members.gz
+{
+  cat a2.gz none1.gz
+  head -n 4000 b2 | gzip
+  tail -n +4001 b2 | gzip
+} > members.gz
+{
+  head -c 3000 b1 | gzip
+  tail -c +3001 b1 | gzip
+} > b1.members.gz
 : > empty
 made -1 data/a1.short.gz -1 data/none1.gz -1 data/b1.members.gz -2 data/members.gz -2 data/none2.gz -2 data/empty "${rest[@]}"
 as_plain p1.fq u1.fq p2.fq u2.fq
@@ -297,8 +294,14 @@ cp f text.gz
 damaged data/text.gz 'not in gzip format' -1 data/text.gz -2 data/r.gz "${rest[@]}"
 
 row='truncated in a record'
-{ head -n 1843 f; sed -n 1844p f | head -c 40; } > f.part
-{ gzip < f.part; gzip < b1 | head -c 12; } > f.cut.gz
+{
+  head -n 1843 f
+  sed -n 1844p f | head -c 40
+} > f.part
+{
+  gzip < f.part
+  gzip < b1 | head -c 12
+} > f.cut.gz
 damaged data/f.cut.gz 'unexpected end of file' -1 data/f.cut.gz -2 data/r.gz "${rest[@]}"
 
 row='truncated anywhere'
@@ -307,7 +310,10 @@ damaged data/r.half.gz 'unexpected end of file' -1 data/f.gz -2 data/r.half.gz "
 
 row='truncated between two records, on both sides alike'
 for side in f r; do
-  { head -n 4000 "$side" | gzip; tail -n +4001 "$side" | gzip | head -c 12; } > "$side.between.gz"
+  {
+    head -n 4000 "$side" | gzip
+    tail -n +4001 "$side" | gzip | head -c 12
+  } > "$side.between.gz"
 done
 damaged data/f.between.gz 'unexpected end of file' -1 data/f.between.gz -2 data/r.between.gz "${rest[@]}"
 
@@ -316,12 +322,18 @@ for side in f r; do head -c -4 "$side.gz" > "$side.trailer.gz"; done
 damaged data/f.trailer.gz 'unexpected end of file' -1 data/f.trailer.gz -2 data/r.trailer.gz "${rest[@]}"
 
 row='truncated between two records, in one of two lanes'
-{ cat a1.gz; head -c 12 b1.gz; } > a1.more.gz
+{
+  cat a1.gz
+  head -c 12 b1.gz
+} > a1.more.gz
 damaged data/a1.more.gz 'unexpected end of file' -1 data/b1.gz -1 data/a1.more.gz -2 data/b2.gz -2 data/a2.gz "${outputs[@]}" \
   "${last[@]}"
 
 row='truncated between two pairs of an interleaved file'
-{ head -n 8000 i | gzip; tail -n +8001 i | gzip | head -c 12; } > i.between.gz
+{
+  head -n 8000 i | gzip
+  tail -n +8001 i | gzip | head -c 12
+} > i.between.gz
 damaged data/i.between.gz 'unexpected end of file' -i data/i.between.gz "${rest[@]}"
 
 row='damaged in the middle'
@@ -344,7 +356,11 @@ damaged data/r.sum.gz 'invalid compressed data--crc error' -1 data/f.gz -2 data/
 
 row='members that are no gzip, on both sides alike'
 for side in f r; do
-  { head -n 4000 "$side" | gzip; printf 'x'; tail -n +4001 "$side" | gzip; } > "$side.member.gz"
+  {
+    head -n 4000 "$side" | gzip
+    printf 'x'
+    tail -n +4001 "$side" | gzip
+  } > "$side.member.gz"
 done
 damaged data/f.member.gz 'decompression OK, trailing garbage ignored' -1 data/f.member.gz -2 data/r.member.gz "${outputs[@]}" \
   "${last[@]}"
@@ -523,7 +539,7 @@ untouched
 
 row='an output that cannot get its name'
 # A program that puts a folder under the log's name while it runs.
-cat > "$work/meddling" <<END
+cat > "$work/meddling" << END
 #!/usr/bin/env bash
 mkdir -p "$work/out/log.gz/folder"
 exec "$program" "\$@"
@@ -541,7 +557,10 @@ untouched
 endless() {
   rm -f endless
   mkfifo endless
-  { cat "$1"; exec sleep 600; } > endless &
+  {
+    cat "$1"
+    exec sleep 600
+  } > endless &
   fed=$!
 }
 
@@ -633,7 +652,7 @@ cp "$real" "$work/links/alone"
 
 row='a page of the report'
 refused 1 'trim_gz: no program report_to_html (--html)' "${both[@]}" "${outputs[@]}" --html out/page.html "${last[@]}"
-cat > "$work/links/tibzharuk-report" <<'END'
+cat > "$work/links/tibzharuk-report" << 'END'
 #!/bin/sh
 cat "$3" > "$0.got"
 [ ! -e "$0.fails" ] || { echo 'report_to_html: no page today' >&2; exit 1; }
@@ -697,7 +716,7 @@ if has cutadapt cutadapt; then
   made "${lanes[@]}" "${outputs[@]}" --adapters "$adapters" --trimlog out/log --cutadapt-report out/json --cutadapt-log out/text --report out/report "${last[@]}"
   as_plain p1.fq u1.fq p2.fq u2.fq log
   named "$work/out/report" "[\"PE\", {\"forward\": [\"data/xa1.gz\", \"data/xb1.gz\"], \"reverse\": [\"data/xa2.gz\", \"data/xb2.gz\"]}, $as_outputs \"out/log\"}]"
-  python3 - "$work/out/json" "$plain/json" <<'END' || fail 'the report of cutadapt has other counts or names'
+  python3 - "$work/out/json" "$plain/json" << 'END' || fail 'the report of cutadapt has other counts or names'
 import json, sys
 ours, plain = (json.load(open(name)) for name in sys.argv[1:])
 assert ours["input"] == {"path1": "data/xa1.gz data/xb1.gz", "path2": "data/xa2.gz data/xb2.gz", "paired": True}, ours["input"]
@@ -755,4 +774,4 @@ row='help and version'
 "$script" --help | grep -q -- '--paired1 OUT' || fail 'the outputs are not explained'
 [ "$("$script" --program "$program" --version)" = "$("$program" --version)" ] || fail 'another version than the program'
 
-exit "$failed"
+finish ok

@@ -2,8 +2,8 @@
 # 40 runs of contrib/trim_gz with random faults (tests/trim_gz_faults.py), another 40 in each call. TRIM_GZ_RUNS sets another number,
 # and TRIM_GZ_SEED repeats the runs of a seed that was printed.
 set -u
-cd "$(dirname "$0")/.." || exit 1
-if [ -z "${FQ_PROG-}" ]; then make -s build || exit 1; fi
+. "$(dirname "$0")/common.bash"
+find_program
 missing=
 for each in bgzip:tabix pigz:pigz igzip:isal cutadapt:cutadapt; do
   command -v "${each%:*}" > /dev/null || missing+=" ${each#*:}"

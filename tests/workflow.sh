@@ -4,29 +4,11 @@
 #
 # FQ_PROG is the program, crates/fq_prog/out/fq_prog if not set. Status 77, and 'skipped', where a package is missing.
 set -uo pipefail
-
-if [ "${1:-}" = --help ]; then
-  sed -n '2,/^set/s/^# \{0,1\}//p' "$0" | sed '$d'
-  exit 0
-fi
-cd "$(dirname "$0")/.." || exit 1
-tree=$PWD
+. "$(dirname "$0")/common.bash"
 PATH=$PATH:/usr/sbin:/sbin
 
-missing=''
-for needed in snakemake:snakemake multiqc:multiqc slurmctld:slurmctld slurmd:slurmd sbatch:slurm-client munged:munge; do
-  command -v "${needed%%:*}" > /dev/null || missing+="${needed#*:}"$'\n'
-done
-if [ -n "$missing" ]; then
-  echo "skipped: needs $(printf '%s' "$missing" | sort -u | paste -sd' ')"
-  exit 77
-fi
-
-program=${FQ_PROG:-$tree/crates/fq_prog/out/fq_prog}
-if [ ! -x "$program" ]; then
-  make -s build || exit 1
-fi
-program=$(realpath "$program")
+need snakemake multiqc slurmctld slurmd sbatch:slurm-client munged:munge
+find_program
 
 # Not below TMPDIR: the name of a socket in it may have no more than 107 bytes.
 work=$(mktemp -d -p /tmp tibzharuk.XXXXXX) || exit 1
@@ -34,15 +16,8 @@ work=$(mktemp -d -p /tmp tibzharuk.XXXXXX) || exit 1
 export TIBZHARUK_TEST=$work
 export XDG_CACHE_HOME=$work/cache MPLCONFIGDIR=$work/cache PYTHONDONTWRITEBYTECODE=1 LC_ALL=C.UTF-8
 unset SNAKEMAKE_PROFILE SLURM_CONF SBATCH_PARTITION SBATCH_ACCOUNT
-failed=0
-row=''
 steps=(LEADING:3 TRAILING:3 SLIDINGWINDOW:4:15 MINLEN:36)
 slurm_pids=()
-
-fail() {
-  echo "workflow: $row: $1"
-  failed=1
-}
 
 # left: the ids of the processes that this test started and that still run, without those that look for them
 left() {
@@ -189,8 +164,8 @@ page_tells() {
   local data=results/report_data sample text
   for sample in "$@"; do
     sed 's/.*: //' "$work/direct/$sample.summary" | paste -sd' ' | awk -v s="$sample" '{ print s, $2, $3, $4, $5 }'
-  done | cmp - <(sed 1d $data/multiqc_tibzharuk_pairs_plot.txt | awk '{ print $1, $2 + 0, $3 + 0, $4 + 0, $5 + 0 }') \
-    || fail 'the bars differ'
+  done | cmp - <(sed 1d $data/multiqc_tibzharuk_pairs_plot.txt | awk '{ print $1, $2 + 0, $3 + 0, $4 + 0, $5 + 0 }') ||
+    fail 'the bars differ'
   python3 "$tree/tests/workflow/page_tells.py" "$work/direct" $data "$@" || fail 'the table, the dropped reads or the lengths differ'
   for text in "$("$program" --version)" "${steps[*]}"; do
     grep -qF "$text" results/report.html || fail "the page lacks $text"
@@ -566,4 +541,4 @@ for _ in $(seq 20); do
   sleep 0.5
 done
 [ -z "$ids" ] || fail "processes are left: $(paste -sd' ' <<< "$ids")"
-exit "$failed"
+finish ok

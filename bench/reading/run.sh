@@ -10,5 +10,8 @@ cp -r "$top/crates/fq_text" "$scratch/crates/"
 printf 'fq_text: memchr thiserror\nreading: fq_text memchr anyhow\n' > "$scratch/crates.txt"
 cp "$top/bench/reading/main.rt.in" "$scratch/crates/reading/src/main.rt"
 cd "$scratch/crates/reading"
-rt run > "$scratch/log" 2>&1 || { cat "$scratch/log"; exit 1; }
+rt run > "$scratch/log" 2>&1 || {
+  cat "$scratch/log"
+  exit 1
+}
 ./out/reading

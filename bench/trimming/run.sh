@@ -44,28 +44,58 @@ spent=
 pairs_read=
 
 stop() {
-    echo "bench: $*" >&2
-    exit 1
+  echo "bench: $*" >&2
+  exit 1
 }
 
 print_help() {
-    awk 'NR > 1 && !/^#/ { exit } NR > 1 { sub(/^# ?/, ""); print }' "$0"
+  awk 'NR > 1 && !/^#/ { exit } NR > 1 { sub(/^# ?/, ""); print }' "$0"
 }
 
 while [ $# -gt 0 ]; do
-    case $1 in
-        --gz | --plain | --sets | --threads-time | --memory | --block-time | --report-time) mode=${1#--}; shift ;;
-        --pairs) asked=${2:?}; shift 2 ;;
-        --rounds) rounds=${2:?}; shift 2 ;;
-        --in) place=${2:?}; shift 2 ;;
-        --program) program=${2:?}; shift 2 ;;
-        --serial) serial=$(realpath "${2:?}"); shift 2 ;;
-        --ours) peers=no; shift ;;
-        --bases) form+=(--bases "${2:?}"); shift 2 ;;
-        --bins | --titles | --crlf) form+=("$1"); shift ;;
-        --help) print_help; exit ;;
-        *) stop "unknown word $1 (--help lists all)" ;;
-    esac
+  case $1 in
+    --gz | --plain | --sets | --threads-time | --memory | --block-time | --report-time)
+      mode=${1#--}
+      shift
+      ;;
+    --pairs)
+      asked=${2:?}
+      shift 2
+      ;;
+    --rounds)
+      rounds=${2:?}
+      shift 2
+      ;;
+    --in)
+      place=${2:?}
+      shift 2
+      ;;
+    --program)
+      program=${2:?}
+      shift 2
+      ;;
+    --serial)
+      serial=$(realpath "${2:?}")
+      shift 2
+      ;;
+    --ours)
+      peers=no
+      shift
+      ;;
+    --bases)
+      form+=(--bases "${2:?}")
+      shift 2
+      ;;
+    --bins | --titles | --crlf)
+      form+=("$1")
+      shift
+      ;;
+    --help)
+      print_help
+      exit
+      ;;
+    *) stop "unknown word $1 (--help lists all)" ;;
+  esac
 done
 
 count=${asked:-1000000}
@@ -74,44 +104,44 @@ program=$(realpath "$program")
 built=$(mktemp -d)
 trap 'rm -rf "$built" ${room:+"$room"}' EXIT
 for tool in pairs copy passing thread_times; do
-    cc -std=c11 -O2 -Wall -Wextra -pthread -o "$built/$tool" "$here/$tool.c"
+  cc -std=c11 -O2 -Wall -Wextra -pthread -o "$built/$tool" "$here/$tool.c"
 done
 # shellcheck source=/dev/null
 . "$here/tools.sh"
 
 # folder_of PLACE
 folder_of() {
-    case $1 in
-        disk) echo "${TMPDIR:-/tmp}" ;;
-        memory) echo /dev/shm ;;
-        *) stop "no place $1: disk or memory" ;;
-    esac
+  case $1 in
+    disk) echo "${TMPDIR:-/tmp}" ;;
+    memory) echo /dev/shm ;;
+    *) stop "no place $1: disk or memory" ;;
+  esac
 }
 
 # enter PLACE: takes a folder there for inputs and outputs.
 enter() {
-    local folder
-    folder=$(folder_of "$1")
-    [ -z "$room" ] || rm -rf "$room"
-    room=$(mktemp -d -p "$folder")
-    forward=$room/forward.fq
-    reverse=$room/reverse.fq
-    out=$room/out
-    kind="$1, $(findmnt -no FSTYPE,SOURCE -T "$room" | awk '{ kind = $1 == $2 ? $1 : $1 " on " $2 } END { print kind }')"
+  local folder
+  folder=$(folder_of "$1")
+  [ -z "$room" ] || rm -rf "$room"
+  room=$(mktemp -d -p "$folder")
+  forward=$room/forward.fq
+  reverse=$room/reverse.fq
+  out=$room/out
+  kind="$1, $(findmnt -no FSTYPE,SOURCE -T "$room" | awk '{ kind = $1 == $2 ? $1 : $1 " on " $2 } END { print kind }')"
 }
 
 # free_bytes FOLDER: what may still be written there.
 free_bytes() {
-    df -B1 --output=avail "$1" | tail -n 1
+  df -B1 --output=avail "$1" | tail -n 1
 }
 
 # draw OPTION..: the inputs, which are in the page cache then.
 draw() {
-    "$built/pairs" "$@" "$count" "$forward" "$reverse"
-    size=$(($(stat -c %s "$forward") + $(stat -c %s "$reverse")))
-    sync -f "$room"
-    [ "$(cat "$forward" "$reverse" | wc -l)" = $((8 * count)) ] || stop "the inputs aren't whole"
-    [ "$(free_bytes "$room")" -gt $((size + size / 4)) ] || stop "no room for the outputs at $room"
+  "$built/pairs" "$@" "$count" "$forward" "$reverse"
+  size=$(($(stat -c %s "$forward") + $(stat -c %s "$reverse")))
+  sync -f "$room"
+  [ "$(cat "$forward" "$reverse" | wc -l)" = $((8 * count)) ] || stop "the inputs aren't whole"
+  [ "$(free_bytes "$room")" -gt $((size + size / 4)) ] || stop "no room for the outputs at $room"
 }
 
 rows=()
@@ -119,258 +149,258 @@ missing=()
 
 # row LABEL THREADS FUNCTION
 row() {
-    rows+=("$1|$2|$3")
+  rows+=("$1|$2|$3")
 }
 
 # peer COMMAND LABEL FUNCTION THREADS..: rows of another trimmer, if it is installed.
 peer() {
-    local command=$1 label=$2 function=$3 threads
-    shift 3
-    if ! type -P "$command" >"$built/found"; then
-        missing+=("$label")
-        return
-    fi
-    for threads in "$@"; do
-        row "$label" "$threads" "$function"
-    done
+  local command=$1 label=$2 function=$3 threads
+  shift 3
+  if ! type -P "$command" > "$built/found"; then
+    missing+=("$label")
+    return
+  fi
+  for threads in "$@"; do
+    row "$label" "$threads" "$function"
+  done
 }
 
 # The rows that all modes have in common, at the places that the names below give them.
 list_own_rows() {
-    row 'fq_prog, log' 1 run_ours_log
-    row 'fq_prog, log' 2 run_ours_log
-    row 'fq_prog, log' 4 run_ours_log
-    row 'fq_prog, log, one processor' 1 run_ours_alone
-    row 'loop' 1 run_loop
-    row 'loop, one processor' 1 run_loop_alone
-    row 'cat' 1 run_cat
+  row 'fq_prog, log' 1 run_ours_log
+  row 'fq_prog, log' 2 run_ours_log
+  row 'fq_prog, log' 4 run_ours_log
+  row 'fq_prog, log, one processor' 1 run_ours_alone
+  row 'loop' 1 run_loop
+  row 'loop, one processor' 1 run_loop_alone
+  row 'cat' 1 run_cat
 }
 at_1=0 at_2=1 at_4=2 at_alone=3 at_loop=4 at_loop_alone=5 at_cat=6
 
 list_rows() {
-    list_own_rows
-    row 'loop' 2 run_loop
-    row 'passing' 1 run_passing
-    row 'passing' 2 run_passing
-    row 'passing' 4 run_passing
-    row 'passing, one processor' 1 run_passing_alone
-    row 'fq_prog' 1 run_ours
-    row 'fq_prog' 4 run_ours
-    [ -z "$serial" ] || row 'run_serial, log' 1 run_ours_serial
-    [ "$peers" = yes ] || return 0
-    peer TrimmomaticPE 'trimmomatic, log' run_trimmomatic_log 1 4
-    peer TrimmomaticPE 'trimmomatic' run_trimmomatic 1 4
-    peer fastp 'fastp' run_fastp 1 4
-    peer cutadapt 'cutadapt' run_cutadapt 1 4
-    peer sickle 'sickle' run_sickle 1
-    peer bbduk.sh 'bbduk' run_bbduk 1 4
-    peer AdapterRemoval 'AdapterRemoval' run_adapterremoval 1 4
+  list_own_rows
+  row 'loop' 2 run_loop
+  row 'passing' 1 run_passing
+  row 'passing' 2 run_passing
+  row 'passing' 4 run_passing
+  row 'passing, one processor' 1 run_passing_alone
+  row 'fq_prog' 1 run_ours
+  row 'fq_prog' 4 run_ours
+  [ -z "$serial" ] || row 'run_serial, log' 1 run_ours_serial
+  [ "$peers" = yes ] || return 0
+  peer TrimmomaticPE 'trimmomatic, log' run_trimmomatic_log 1 4
+  peer TrimmomaticPE 'trimmomatic' run_trimmomatic 1 4
+  peer fastp 'fastp' run_fastp 1 4
+  peer cutadapt 'cutadapt' run_cutadapt 1 4
+  peer sickle 'sickle' run_sickle 1
+  peer bbduk.sh 'bbduk' run_bbduk 1 4
+  peer AdapterRemoval 'AdapterRemoval' run_adapterremoval 1 4
 }
 
 # call_row NUMBER: one run. The row's last field is a function and its words behind the threads.
 call_row() {
-    local label threads words
-    IFS='|' read -r label threads words <<<"${rows[$1]}"
-    read -r -a words <<<"$words"
-    "${words[0]}" "$threads" "${words[@]:1}"
-    [ "$pairs_read" = "$count" ] || stop "$label read ${pairs_read:-no} pairs, not $count"
+  local label threads words
+  IFS='|' read -r label threads words <<< "${rows[$1]}"
+  read -r -a words <<< "$words"
+  "${words[0]}" "$threads" "${words[@]:1}"
+  [ "$pairs_read" = "$count" ] || stop "$label read ${pairs_read:-no} pairs, not $count"
 }
 
 # pairs_kept: the pairs of which both mates were written
 pairs_kept() {
-    if [ -e "$out/fp" ]; then
-        echo $(($(wc -l <"$out/fp") / 4))
-    else
-        echo $(($(gzip -dc "$out/fp.gz" | wc -l) / 4))
-    fi
+  if [ -e "$out/fp" ]; then
+    echo $(($(wc -l < "$out/fp") / 4))
+  else
+    echo $(($(gzip -dc "$out/fp.gz" | wc -l) / 4))
+  fi
 }
 
 # run_row NUMBER: one run, whose line is added to the file of its row: seconds, processor seconds, kilobytes, pairs kept, bytes of compressed
 # reads.
 run_row() {
-    call_row "$1"
-    echo "$spent $(pairs_kept) $(cat "$out"/*.gz 2>/dev/null | wc -c)" >>"$room/row.$1"
+  call_row "$1"
+  echo "$spent $(pairs_kept) $(cat "$out"/*.gz 2> /dev/null | wc -c)" >> "$room/row.$1"
 }
 
 # Runs all rows one after the other, and that so many times over.
 run_rows() {
-    local number round
-    rm -f "$room"/row.*
-    for ((round = 0; round < rounds; round++)); do
-        for number in "${!rows[@]}"; do
-            run_row "$number"
-        done
+  local number round
+  rm -f "$room"/row.*
+  for ((round = 0; round < rounds; round++)); do
+    for number in "${!rows[@]}"; do
+      run_row "$number"
     done
+  done
 }
 
 # median FIELD FILE
 median() {
-    awk -v field="$1" '{ print $field }' "$2" | sort -n | awk '{ x[NR] = $1 } END { print x[int((NR + 1) / 2)] }'
+  awk -v field="$1" '{ print $field }' "$2" | sort -n | awk '{ x[NR] = $1 } END { print x[int((NR + 1) / 2)] }'
 }
 
 # medians FIELD ROW..: of each of these rows.
 medians() {
-    local field=$1 number
-    shift
-    for number in "$@"; do
-        median "$field" "$room/row.$number"
-    done | paste -s -d ' '
+  local field=$1 number
+  shift
+  for number in "$@"; do
+    median "$field" "$room/row.$number"
+  done | paste -s -d ' '
 }
 
 print_machine() {
-    echo "$(nproc) processors ($(sed -n 's/^model name[^:]*: //p' /proc/cpuinfo | head -n 1)), load $(cut -d ' ' -f 1 /proc/loadavg) before"
+  echo "$(nproc) processors ($(sed -n 's/^model name[^:]*: //p' /proc/cpuinfo | head -n 1)), load $(cut -d ' ' -f 1 /proc/loadavg) before"
 }
 
 # print_row NUMBER: its medians, beside those of the loop (on one processor where the row is), of cat, and of ours at 4 threads.
 print_row() {
-    local label threads function loop=$at_loop
-    IFS='|' read -r label threads function <<<"${rows[$1]}"
-    [[ $label != *'one processor' ]] || loop=$at_loop_alone
-    awk -v label="$label" -v threads="$threads" -v size="$size" \
-        -v seconds="$(medians 1 "$1" "$loop" "$at_cat" "$at_4")" -v spent="$(medians 2 "$1" "$loop")" \
-        -v memory="$(medians 3 "$1")" -v kept="$(medians 4 "$1")" \
-        'BEGIN { split(seconds, s, " "); split(spent, p, " ")
+  local label threads function loop=$at_loop
+  IFS='|' read -r label threads function <<< "${rows[$1]}"
+  [[ $label != *'one processor' ]] || loop=$at_loop_alone
+  awk -v label="$label" -v threads="$threads" -v size="$size" \
+    -v seconds="$(medians 1 "$1" "$loop" "$at_cat" "$at_4")" -v spent="$(medians 2 "$1" "$loop")" \
+    -v memory="$(medians 3 "$1")" -v kept="$(medians 4 "$1")" \
+    'BEGIN { split(seconds, s, " "); split(spent, p, " ")
             printf "| %s | %d | %.3f | %.0f | %.3f | %.1f | %d | %.2f | %.2f | %.2f | %.2f |\n",
                 label, threads, s[1], size / s[1] / 1e6, p[1], memory * 1.024 / 1000, kept, p[1] / p[2], s[1] / s[2], s[1] / s[3], s[1] / s[4] }'
 }
 
 measure_plain() {
-    local number
-    rows=()
-    count=${asked:-1000000}
-    enter "${place:-disk}"
-    draw "${form[@]}"
-    list_rows
-    echo "$count pairs, $((size / 1000000)) MB, $kind; median of $rounds; $(print_machine)"
-    run_rows
-    echo "| Tool | Threads | Seconds | MB/s | Processor seconds | Peak MB | Pairs kept | Processor to the loop's | Time to the loop's | to cat's | to ours at 4 |"
-    echo '|---|---|---|---|---|---|---|---|---|---|---|'
-    for number in "${!rows[@]}"; do
-        print_row "$number"
-    done
-    print_versions trimmomatic fastp cutadapt sickle bbmap adapterremoval
+  local number
+  rows=()
+  count=${asked:-1000000}
+  enter "${place:-disk}"
+  draw "${form[@]}"
+  list_rows
+  echo "$count pairs, $((size / 1000000)) MB, $kind; median of $rounds; $(print_machine)"
+  run_rows
+  echo "| Tool | Threads | Seconds | MB/s | Processor seconds | Peak MB | Pairs kept | Processor to the loop's | Time to the loop's | to cat's | to ours at 4 |"
+  echo '|---|---|---|---|---|---|---|---|---|---|---|'
+  for number in "${!rows[@]}"; do
+    print_row "$number"
+  done
+  print_versions trimmomatic fastp cutadapt sickle bbmap adapterremoval
 }
 
 # print_versions PACKAGE..: those that are installed, and the trimmers that aren't
 print_versions() {
-    [ ${#missing[@]} -eq 0 ] || echo "not installed: ${missing[*]}"
-    if [ "$peers" = yes ] && type -P dpkg-query >"$built/found"; then
-        # shellcheck disable=SC2016  # the fields are dpkg-query's
-        { dpkg-query -W -f '${Package} ${Version}\n' "$@" 2>"$built/told" || true; } | awk 'NF == 2'
-    fi
-    missing=()
+  [ ${#missing[@]} -eq 0 ] || echo "not installed: ${missing[*]}"
+  if [ "$peers" = yes ] && type -P dpkg-query > "$built/found"; then
+    # shellcheck disable=SC2016  # the fields are dpkg-query's
+    { dpkg-query -W -f '${Package} ${Version}\n' "$@" 2> "$built/told" || true; } | awk 'NF == 2'
+  fi
+  missing=()
 }
 
 # list_gz_rows WORD..: the rows of one table, whose functions get these words: `fast`, `adapters`
 list_gz_rows() {
-    local how="$*" label=''
-    [ $# -eq 0 ] || label=$(printf ', %s' "$@")
-    row "trim_gz$label" 4 "gz_ours $how"
-    [ "$peers" = yes ] || return 0
-    peer fastp "fastp$label" "gz_fastp $how" 4
-    peer cutadapt "cutadapt$label" "gz_cutadapt $how" 4
-    [[ $how != *adapters* ]] || peer cutadapt "cutadapt -Z, then trim_gz$label" "gz_two_passes $how" 4
-    [[ $how == *fast* ]] || peer TrimmomaticPE "trimmomatic$label" "gz_trimmomatic $how" 4
-    peer bbduk.sh "bbduk$label" "gz_bbduk $how" 4
-    peer AdapterRemoval "AdapterRemoval$label" "gz_adapterremoval $how" 4
+  local how="$*" label=''
+  [ $# -eq 0 ] || label=$(printf ', %s' "$@")
+  row "trim_gz$label" 4 "gz_ours $how"
+  [ "$peers" = yes ] || return 0
+  peer fastp "fastp$label" "gz_fastp $how" 4
+  peer cutadapt "cutadapt$label" "gz_cutadapt $how" 4
+  [[ $how != *adapters* ]] || peer cutadapt "cutadapt -Z, then trim_gz$label" "gz_two_passes $how" 4
+  [[ $how == *fast* ]] || peer TrimmomaticPE "trimmomatic$label" "gz_trimmomatic $how" 4
+  peer bbduk.sh "bbduk$label" "gz_bbduk $how" 4
+  peer AdapterRemoval "AdapterRemoval$label" "gz_adapterremoval $how" 4
 }
 
 # print_gz_rows TITLE FIRST LAST: a table of these rows. The second one, of fastp, is what the first one is compared with.
 print_gz_rows() {
-    local number label threads function second=$(($2 < $3 ? $2 + 1 : $2))
-    echo
-    echo "$1"
-    echo
-    echo '| Tool | Seconds | Processor seconds | MB out | Peak MB | Pairs kept | Time to the second row | MB out to it |'
-    echo '|---|---|---|---|---|---|---|---|'
-    for ((number = $2; number <= $3; number++)); do
-        with_memory call_row "$number"
-        IFS='|' read -r label threads function <<<"${rows[$number]}"
-        awk -v label="$label" -v peak="$(cat "$room/peak")" -v kept="$(medians 4 "$number")" -v spent="$(medians 2 "$number")" \
-            -v seconds="$(medians 1 "$number" "$second")" -v bytes="$(medians 5 "$number" "$second")" \
-            'BEGIN { split(seconds, s, " "); split(bytes, b, " ")
+  local number label threads function second=$(($2 < $3 ? $2 + 1 : $2))
+  echo
+  echo "$1"
+  echo
+  echo '| Tool | Seconds | Processor seconds | MB out | Peak MB | Pairs kept | Time to the second row | MB out to it |'
+  echo '|---|---|---|---|---|---|---|---|'
+  for ((number = $2; number <= $3; number++)); do
+    with_memory call_row "$number"
+    IFS='|' read -r label threads function <<< "${rows[$number]}"
+    awk -v label="$label" -v peak="$(cat "$room/peak")" -v kept="$(medians 4 "$number")" -v spent="$(medians 2 "$number")" \
+      -v seconds="$(medians 1 "$number" "$second")" -v bytes="$(medians 5 "$number" "$second")" \
+      'BEGIN { split(seconds, s, " "); split(bytes, b, " ")
                 printf "| %s | %.2f | %.1f | %.1f | %.0f | %d | %.2f | %.3f |\n", label, s[1], spent, b[1] / 1e6, peak * 1.024 / 1000, kept, s[1] / s[2], b[1] / b[2] }'
-    done
+  done
 }
 
 # measure_gz_data TITLE WORDS: both tables over reads that are drawn with these words: each tool's own level, and its fastest
 measure_gz_data() {
-    local slow word=$2
-    rows=()
-    draw "${form[@]}" ${word:+"--$word"}
-    pack_inputs
-    list_gz_rows ${word:+"$word"}
-    slow=${#rows[@]}
-    list_gz_rows fast ${word:+"$word"}
-    row "trim_gz --level 2${word:+, $word}" 4 "gz_ours level2 $word"
-    row "trim_gz --compressor igzip${word:+, $word}" 4 "gz_ours igzip $word"
-    type -P igzip >"$built/found" || unset 'rows[-1]'
-    run_rows
-    print_gz_rows "$1, each at its own level of compression:" 0 $((slow - 1))
-    print_gz_rows "$1, each at its fastest level:" "$slow" $((${#rows[@]} - 1))
+  local slow word=$2
+  rows=()
+  draw "${form[@]}" ${word:+"--$word"}
+  pack_inputs
+  list_gz_rows ${word:+"$word"}
+  slow=${#rows[@]}
+  list_gz_rows fast ${word:+"$word"}
+  row "trim_gz --level 2${word:+, $word}" 4 "gz_ours level2 $word"
+  row "trim_gz --compressor igzip${word:+, $word}" 4 "gz_ours igzip $word"
+  type -P igzip > "$built/found" || unset 'rows[-1]'
+  run_rows
+  print_gz_rows "$1, each at its own level of compression:" 0 $((slow - 1))
+  print_gz_rows "$1, each at its fastest level:" "$slow" $((${#rows[@]} - 1))
 }
 
 measure_gz() {
-    count=${asked:-400000}
-    enter "${place:-memory}"
-    echo "From .gz to .gz: $count pairs, $kind; 4 threads; median of $rounds; $(print_machine)"
-    measure_gz_data 'Without adapters' ''
-    measure_gz_data 'With adapters in a quarter of the pairs' adapters
-    print_versions tabix isal trimmomatic fastp cutadapt bbmap adapterremoval
+  count=${asked:-400000}
+  enter "${place:-memory}"
+  echo "From .gz to .gz: $count pairs, $kind; 4 threads; median of $rounds; $(print_machine)"
+  measure_gz_data 'Without adapters' ''
+  measure_gz_data 'With adapters in a quarter of the pairs' adapters
+  print_versions tabix isal trimmomatic fastp cutadapt bbmap adapterremoval
 }
 
 sets=(
-    '150 bases|'
-    '50 bases|--bases 50'
-    '300 bases|--bases 300'
-    '35 to 150 bases|--bases 35-150'
-    'scores in four bins|--bins'
-    'titles behind +|--titles'
-    'lines in CR LF|--crlf'
+  '150 bases|'
+  '50 bases|--bases 50'
+  '300 bases|--bases 300'
+  '35 to 150 bases|--bases 35-150'
+  'scores in four bins|--bins'
+  'titles behind +|--titles'
+  'lines in CR LF|--crlf'
 )
 
 # print_set LABEL
 print_set() {
-    awk -v label="$1" -v size="$size" -v spent="$(medians 2 $at_loop $at_1 $at_2 $at_4)" \
-        -v seconds="$(medians 1 $at_cat $at_1 $at_2 $at_4 $at_loop_alone $at_alone)" -v memory="$(medians 3 $at_4)" \
-        'BEGIN { split(spent, p, " "); split(seconds, s, " ")
+  awk -v label="$1" -v size="$size" -v spent="$(medians 2 $at_loop $at_1 $at_2 $at_4)" \
+    -v seconds="$(medians 1 $at_cat $at_1 $at_2 $at_4 $at_loop_alone $at_alone)" -v memory="$(medians 3 $at_4)" \
+    'BEGIN { split(spent, p, " "); split(seconds, s, " ")
             printf "| %s | %.0f | %.3f | %.2f | %.2f | %.2f | %.3f | %.2f | %.2f | %.2f | %.3f | %.2f | %.1f |\n", label, size / 1e6,
                 p[1], p[2] / p[1], p[3] / p[1], p[4] / p[1], s[1], s[2] / s[1], s[3] / s[1], s[4] / s[1], s[5], s[6] / s[5], memory * 1.024 / 1000 }'
 }
 
 # measure_sets PLACE
 measure_sets() {
-    local set options
-    enter "$1"
-    echo
-    echo "$count pairs, $kind; median of $rounds; $(print_machine)"
-    echo "| Data | MB | Loop, processor s | ours to it, 1 thread | 2 | 4 | cat, s | ours to it, 1 thread | 2 | 4 | Loop on one processor, s | ours to it | Peak MB at 4 |"
-    echo '|---|---|---|---|---|---|---|---|---|---|---|---|---|'
-    for set in "${sets[@]}"; do
-        read -r -a options <<<"${set#*|}"
-        draw "${options[@]}"
-        run_rows
-        print_set "${set%%|*}"
-    done
+  local set options
+  enter "$1"
+  echo
+  echo "$count pairs, $kind; median of $rounds; $(print_machine)"
+  echo "| Data | MB | Loop, processor s | ours to it, 1 thread | 2 | 4 | cat, s | ours to it, 1 thread | 2 | 4 | Loop on one processor, s | ours to it | Peak MB at 4 |"
+  echo '|---|---|---|---|---|---|---|---|---|---|---|---|---|'
+  for set in "${sets[@]}"; do
+    read -r -a options <<< "${set#*|}"
+    draw "${options[@]}"
+    run_rows
+    print_set "${set%%|*}"
+  done
 }
 
 # Where only one of the places has room for the longest reads, the other is left out, and said to be.
 measure_all_sets() {
-    local at
-    list_own_rows
-    for at in ${place:-memory disk}; do
-        if [ -z "$place" ] && [ "$(free_bytes "$(folder_of "$at")")" -lt $((3000 * count)) ]; then
-            echo "skipped: $at has no room for $count pairs of 300 bases and their outputs"
-            continue
-        fi
-        measure_sets "$at"
-    done
+  local at
+  list_own_rows
+  for at in ${place:-memory disk}; do
+    if [ -z "$place" ] && [ "$(free_bytes "$(folder_of "$at")")" -lt $((3000 * count)) ]; then
+      echo "skipped: $at has no room for $count pairs of 300 bases and their outputs"
+      continue
+    fi
+    measure_sets "$at"
+  done
 }
 
 # The times of the threads of one run in one line: the writing thread's and the system's part of it, the reading thread's, the
 # trimming ones' together, the least and the most of them, and the sum. The program makes its reading thread first.
 times_of_threads() {
-    awk -v threads="$1" '
+  awk -v threads="$1" '
         NR == 1 { writing = $1 " " $2 }
         NR == 2 { reading = $1 " " $2 }
         NR > 2 { trimming += $1; trimming_system += $2; least = NR == 3 || $1 < least ? $1 : least; most = $1 > most ? $1 : most }
@@ -379,69 +409,69 @@ times_of_threads() {
 }
 
 measure_threads() {
-    local threads round field
-    enter "${place:-disk}"
-    draw "${form[@]}"
-    echo "$count pairs, $((size / 1000000)) MB, $kind; processor seconds, median of $rounds; $(print_machine)"
-    echo "| Threads | Reading | the system's | Trimming, all | the system's | least | most | Writing | the system's | Sum |"
-    echo '|---|---|---|---|---|---|---|---|---|---|'
-    for threads in 1 2 4; do
-        for ((round = 0; round < rounds; round++)); do
-            run_ours_traced "$threads"
-            times_of_threads "$threads" >>"$room/times.$threads" || stop "the program has other threads than one to read and one to write"
-        done
-        printf '| %d |' "$threads"
-        for field in 1 2 3 4 5 6 7 8 9; do
-            printf ' %.2f |' "$(median "$field" "$room/times.$threads")"
-        done
-        echo
+  local threads round field
+  enter "${place:-disk}"
+  draw "${form[@]}"
+  echo "$count pairs, $((size / 1000000)) MB, $kind; processor seconds, median of $rounds; $(print_machine)"
+  echo "| Threads | Reading | the system's | Trimming, all | the system's | least | most | Writing | the system's | Sum |"
+  echo '|---|---|---|---|---|---|---|---|---|---|'
+  for threads in 1 2 4; do
+    for ((round = 0; round < rounds; round++)); do
+      run_ours_traced "$threads"
+      times_of_threads "$threads" >> "$room/times.$threads" || stop "the program has other threads than one to read and one to write"
     done
+    printf '| %d |' "$threads"
+    for field in 1 2 3 4 5 6 7 8 9; do
+      printf ' %.2f |' "$(median "$field" "$room/times.$threads")"
+    done
+    echo
+  done
 }
 
 measure_memory() {
-    local threads
-    enter "${place:-disk}"
-    echo '| Pairs | Input MB | Peak MB at 1 thread | at 2 | at 4 |'
-    echo '|---|---|---|---|---|'
-    for count in 50000 250000 1000000; do
-        draw "${form[@]}"
-        printf '| %d | %d |' "$count" $((size / 1000000))
-        for threads in 1 2 4; do
-            run_ours_log "$threads"
-            awk '{ printf " %.1f |", $3 * 1.024 / 1000 }' <<<"$spent"
-        done
-        echo
+  local threads
+  enter "${place:-disk}"
+  echo '| Pairs | Input MB | Peak MB at 1 thread | at 2 | at 4 |'
+  echo '|---|---|---|---|---|'
+  for count in 50000 250000 1000000; do
+    draw "${form[@]}"
+    printf '| %d | %d |' "$count" $((size / 1000000))
+    for threads in 1 2 4; do
+      run_ours_log "$threads"
+      awk '{ printf " %.1f |", $3 * 1.024 / 1000 }' <<< "$spent"
     done
+    echo
+  done
 }
 
 # measure_beside OPTION..: runs with these options beside runs without them
 measure_beside() {
-    local threads round
-    enter "${place:-disk}"
-    draw "${form[@]}"
-    echo "$count pairs, $((size / 1000000)) MB, $kind; median of $rounds; $(print_machine)"
-    echo "| Threads | Seconds | with $* | by each other | Processor seconds | with $* | by each other |"
-    echo '|---|---|---|---|---|---|---|'
-    for threads in 1 2 4; do
-        for ((round = 0; round < rounds; round++)); do
-            run_ours_log "$threads"
-            echo "$spent" >>"$room/row.$threads.default"
-            run_ours_log "$threads" "$@"
-            echo "$spent" >>"$room/row.$threads.beside"
-        done
-        awk -v threads="$threads" -v seconds="$(medians 1 "$threads.default" "$threads.beside")" -v spent="$(medians 2 "$threads.default" "$threads.beside")" \
-            'BEGIN { split(seconds, s, " "); split(spent, p, " ")
-                printf "| %d | %.3f | %.3f | %.2f | %.2f | %.2f | %.2f |\n", threads, s[1], s[2], s[2] / s[1], p[1], p[2], p[2] / p[1] }'
+  local threads round
+  enter "${place:-disk}"
+  draw "${form[@]}"
+  echo "$count pairs, $((size / 1000000)) MB, $kind; median of $rounds; $(print_machine)"
+  echo "| Threads | Seconds | with $* | by each other | Processor seconds | with $* | by each other |"
+  echo '|---|---|---|---|---|---|---|'
+  for threads in 1 2 4; do
+    for ((round = 0; round < rounds; round++)); do
+      run_ours_log "$threads"
+      echo "$spent" >> "$room/row.$threads.default"
+      run_ours_log "$threads" "$@"
+      echo "$spent" >> "$room/row.$threads.beside"
     done
+    awk -v threads="$threads" -v seconds="$(medians 1 "$threads.default" "$threads.beside")" -v spent="$(medians 2 "$threads.default" "$threads.beside")" \
+      'BEGIN { split(seconds, s, " "); split(spent, p, " ")
+                printf "| %d | %.3f | %.3f | %.2f | %.2f | %.2f | %.2f |\n", threads, s[1], s[2], s[2] / s[1], p[1], p[2], p[2] / p[1] }'
+  done
 }
 
 case $mode in
-    all) measure_gz && echo && measure_plain ;;
-    gz) measure_gz ;;
-    plain) measure_plain ;;
-    sets) measure_all_sets ;;
-    threads-time) measure_threads ;;
-    memory) measure_memory ;;
-    block-time) measure_beside --block 1 ;;
-    report-time) measure_beside --report report.json ;;
+  all) measure_gz && echo && measure_plain ;;
+  gz) measure_gz ;;
+  plain) measure_plain ;;
+  sets) measure_all_sets ;;
+  threads-time) measure_threads ;;
+  memory) measure_memory ;;
+  block-time) measure_beside --block 1 ;;
+  report-time) measure_beside --report report.json ;;
 esac

@@ -18,5 +18,8 @@ done
 cp "$here/serial.rt.in" "$scratch/crates/serial/src/main.rt"
 cd "$scratch/crates/serial"
 rt run > "$scratch/log" 2>&1 || true
-[ -x out/serial ] || { cat "$scratch/log"; exit 1; }
+[ -x out/serial ] || {
+  cat "$scratch/log"
+  exit 1
+}
 cp out/serial "$path"

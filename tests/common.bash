@@ -1,0 +1,75 @@
+# shellcheck shell=bash disable=SC2034  # what is set here is for the script that reads this file
+# What the scripts of this folder share. Each begins by `. "$(dirname "$0")/common.bash"`, which goes to the root
+# of the repository. `--help` as the first argument then prints the comment at the head of the script.
+if [ -n "${FQ_PROG-}" ]; then FQ_PROG=$(realpath -- "$FQ_PROG"); fi
+cd "$(dirname "${BASH_SOURCE[0]}")/.." || exit 1
+tree=$PWD
+this=$(basename "$0" .sh)
+failed=0 # 1 after the first `fail`
+row=''   # what is being tried, for the lines of `fail`
+
+if [ "${1:-}" = --help ]; then
+  awk 'FNR > 1 && !/^#/ { exit } FNR > 1 { sub(/^# ?/, ""); print }' "tests/$this.sh"
+  exit 0
+fi
+
+# fail TEXT: prints what is wrong, and goes on.
+fail() {
+  echo "$this: ${row:+$row: }$1"
+  failed=1
+}
+
+# skip WHY: ends the script as one that was skipped.
+skip() {
+  echo "$this: skipped: $1"
+  exit 77
+}
+
+# need COMMAND[:PACKAGE]..: ends the script as skipped if a command is missing, and names Debian's packages.
+need() {
+  local each missing=''
+  for each in "$@"; do
+    if ! command -v "${each%%:*}" > /dev/null; then missing+="${each#*:}"$'\n'; fi
+  done
+  [ -z "$missing" ] || skip "needs $(printf '%s' "$missing" | sort -u | paste -sd' ')"
+}
+
+# find_program: sets `program` to that of FQ_PROG, or to that of this tree, which is built if it isn't new.
+find_program() {
+  program=${FQ_PROG:-$tree/crates/fq_prog/out/fq_prog}
+  if [ -z "${FQ_PROG-}" ]; then make -s build > /dev/null || exit 1; fi
+}
+
+# need_proved PROGRAM..: ends the script as skipped unless these programs, which only a gate leaves, are there and new.
+need_proved() {
+  make -q "$@" 2> /dev/null || skip "needs $(printf '%s ' "${@##*/}")as the gate leaves it (make gate)"
+}
+
+# compile_library SOURCE LIBRARY: a library to load before others, made by cc, or else by the kit's compiler.
+compile_library() {
+  local compiler=${CC:-cc}
+  command -v "$compiler" > /dev/null || compiler=$(dirname "$(rt doc)")/toolchain/bin/clang
+  if ! "$compiler" -O2 -fPIC -shared -nostdlib -o "$2" "$1"; then
+    echo "$this: FAILED: $1 is not compiled"
+    exit 1
+  fi
+}
+
+# draw_lane LANE SEED PAIRS: the reads of a lane in LANE_1.fq and LANE_2.fq, 40 to 99 bases each, the last of them poor.
+draw_lane() {
+  awk -v lane="$1" -v seed="$2" -v pairs="$3" 'BEGIN { srand(seed)
+    for (k = 1; k <= pairs; k++) for (side = 1; side <= 2; side++) { s = ""; q = ""
+      n = 40 + int(rand() * 60); good = n - int(rand() * rand() * n)
+      for (i = 0; i < n; i++) { s = s substr("ACGT", 1 + int(rand() * 4), 1); q = q (i < good ? "I" : "#") }
+      printf "@%s:%d/%d\n%s\n+\n%s\n", lane, k, side, s, q > lane "_" side ".fq" } }'
+}
+
+# finish TEXT: ends the script, with this line if nothing failed.
+finish() {
+  if [ "$failed" -ne 0 ]; then
+    echo "$this: FAILED"
+    exit 1
+  fi
+  echo "$this: $1"
+  exit 0
+}
