@@ -1,4 +1,4 @@
--- What one move of a reader of lines does.
+-- What a call of a reader of lines does.
 use Rattle.std.proofs.Common.{◌≡◌, ℕ, ◌+◌, ◌<◌, ◌≤◌, inl, inr, Bool, true, Result, Ok, Err, List, [], ◌∷◌, ◌++◌, length, take, drop, map, refl, ap, sym, subst, ◌∙◌, arith, add-one, append_assoc, IsTrue, IfOk, IfErr, MatchResult, Some, ⊎_elim}
 use Rattle.std.proofs.lemmas.List.{append-nil, take-append-drop, length-take, length-append, take_all, drop_all}
 use Rattle.fq_text.specs.Devices.{FeedState}
@@ -10,14 +10,14 @@ use Rattle.fq_text.specs.declared.fault.ReadError.{ReadError}
 use Rattle.fq_text.specs.declared.fault.ReadError.TheVariants as error
 use Rattle.fq_text.proofs.LineLemmas.{piece_to, piece_all, whole_to, lines-append, long_line}
 
--- the line of a test of its length
+-- the line whose length is tested
 pub judged_as : (r : Result Bool ReadError) (P : Bool → Type 0) (Q : ReadError → Type 0) (n : ℕ) → IfOk r (λ more. (more ≡ true) × (n ≤ limit)) →
     IfErr r (λ e. (e ≡ error.Fault fault.TooLong) × (limit < n)) → (n ≤ limit → P true) → (limit < n → Q (error.Fault fault.TooLong)) → MatchResult r P Q
 judged_as (Ok more) P Q n ok err short long = subst P (sym ok.0) (short ok.1)
 judged_as (Err e) P Q n ok err short long = subst Q (sym err.0) (long err.1)
 
 module _ {F : Type 0} (state : F → FeedState) where
-  -- a reader that has not moved
+  -- a reader that has read nothing
   pub reads_none : (r : Lined F) → Reads state r r []
   reads_none r = record {
     gave = [];
@@ -30,7 +30,7 @@ module _ {F : Type 0} (state : F → FeedState) where
     max_reads = refl;
   }
 
-  -- one move behind another
+  -- one call after another
   pub reads_more : (a b c : Lined F) (used then : List ℕ) → Reads state a b used → Reads state b c then → Reads state a c (used ++ then)
   reads_more a b c used then p q = record {
     gave = p.gave ++ q.gave;
@@ -61,7 +61,7 @@ module _ {F : Type 0} (state : F → FeedState) where
       ap (λ xs. lines (used ++ xs)) none ∙ ap lines (append-nil used) ∙ sym (append-nil (lines used)) ∙ ap (λ xs. lines used ++ lines xs) (sym none))
       closed
 
-  -- the state behind a line that was taken out of the bytes in hand
+  -- the state after a line was taken out of the bytes in hand
   abbrev pub behind_line : Lined F → ℕ → ℕ → Lined F
   behind_line r len used = record r { line = without_cr (take len r.in_hand); in_hand = drop used r.in_hand }
 
@@ -99,7 +99,7 @@ module _ {F : Type 0} (state : F → FeedState) where
   all_of [] some none = absurd (omega arith)
   all_of (x ∷ xs) some none = piece_all x xs none
 
-  -- a last line without one
+  -- a last line without a line end
   pub takes_all : (a b c : Lined F) (n : ℕ) → c ≡ behind_line b n n → n ≡ length b.in_hand → 0 < n → b.ended ≡ true → Reads state a b [] → NoLf b.in_hand n →
       TakesLine state a c
   takes_all a b c n is whole some ended p none =
@@ -129,7 +129,7 @@ module _ {F : Type 0} (state : F → FeedState) where
     long = long;
   }
 
-  -- so many bytes in hand, and no line end
+  -- too many bytes in hand without a line end
   pub long_waiting : (a b : Lined F) → Reads state a b [] → limit + 1 < length b.in_hand → NoLf b.in_hand (length b.in_hand) → IsLong state a b
   long_waiting a b p long none =
       let some = long_line b.in_hand (state b.feed).to_come limit long none in

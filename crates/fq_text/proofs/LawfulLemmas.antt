@@ -1,4 +1,4 @@
--- Each record that stands at the front of a text is lawful.
+-- Each record at the front of a text is valid.
 use Rattle.std.proofs.Common.{◌≡◌, ℕ, ◌+◌, ◌-◌, ◌≤◌, Bool, true, false, not, eqb, ltb, Option, Some, None, List, [], ◌∷◌, ◌++◌, length, map, refl, ap, sym, subst, ◌∙◌, arith, ⊎_elim}
 use Rattle.std.specs.List.{concat, list_all}
 use Rattle.std.proofs.lemmas.List.{length-append}
@@ -172,7 +172,7 @@ module _ (encoding : Encoding) where
   pub front_is_lawful : (text : List ℕ) (r : Read) (behind : List (List ℕ)) → front encoding (lines text) ≡ Found r behind → IsLawful r
   front_is_lawful text r behind is = lawful_lines (lines text) r behind (clean_lines text) is
 
-  -- a record has the encoding that it was read in
+  -- a record has the encoding in which it was read
   pub front_encoding : (ls : List (List ℕ)) (r : Read) (behind : List (List ℕ)) → front encoding ls ≡ Found r behind → r.encoding ≡ encoding
   front_encoding [] r behind is = absurd (let h : End ≡ Found r behind = is in cc)
   front_encoding ([] ∷ ls) r behind is = front_encoding ls r behind is

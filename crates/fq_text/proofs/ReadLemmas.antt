@@ -7,7 +7,7 @@ use Rattle.fq_text.specs.Lines.{without_cr}
 use Rattle.fq_text.specs.Reading.{Moved, MovesOr}
 use Rattle.fq_text.specs.declared.fault.ReadError.{ReadError}
 
--- what stands behind the first `filled` bytes of a buffer that a feed wrote into
+-- the bytes after the first `filled` ones of a buffer that a feed wrote into
 pub written_behind : (grown wrote past other before : List ℕ) (filled n room : ℕ) →
     take filled grown ≡ before → length before ≡ filled → n ≤ length wrote → filled + n ≤ room →
     take (filled + n) (take room (take filled grown ++ (wrote ++ past) ++ other)) ≡ before ++ take n wrote
@@ -18,7 +18,7 @@ written_behind grown wrote past other before filled n room is same fits within =
     ∙ ap (λ xs. xs ++ take n (drop filled (before ++ (wrote ++ (past ++ other))))) (take_at before _ filled same)
     ∙ ap (λ xs. before ++ take n xs) (drop_at before _ filled same) ∙ ap (λ xs. before ++ xs) (take-append-le n wrote _ fits)
 
--- some of the bytes in hand are used up
+-- some of the bytes in hand are used
 drop_hand : (bytes : List ℕ) (start filled used : ℕ) → used ≤ filled - start →
     take (filled - (start + used)) (drop (start + used) bytes) ≡ drop used (take (filled - start) (drop start bytes))
 drop_hand bytes start filled used le =
@@ -46,7 +46,7 @@ hand_used bytes hand start filled used is within =
     let size = ap length is in
     drop_hand bytes start filled used (omega (arith, length-take (filled - start) (drop start bytes))) ∙ ap (drop used) is
 
--- more bytes come behind those in hand
+-- more bytes come after those in hand
 pub hand_grows : (old new gave : List ℕ) (start filled n : ℕ) → take (filled + n) new ≡ take filled old ++ gave → start ≤ filled → filled ≤ length old →
     take (filled + n - start) (drop start new) ≡ take (filled - start) (drop start old) ++ gave
 hand_grows old new gave start filled n is le within =
@@ -57,7 +57,7 @@ hand_grows old new gave start filled n is le within =
     ∙ ap (λ xs. xs ++ gave) (ap (λ m. drop start (take m old)) (sym b) ∙ drop-take start (filled - start) old)
 
 module _ {F : Type 0} (state : F → FeedState) where
-  -- what was read behind the filled part was read behind the bytes in hand
+  -- what was read after the filled part was read after the bytes in hand
   pub hand_moved : (old new : F) (before after hand : List ℕ) (start filled chunk n : ℕ) → start ≤ filled → filled ≤ length before → take (filled - start) (drop start before) ≡ hand →
       Moved state old new (take filled before) (take (filled + n) after) chunk n → Moved state old new hand (take (filled + n - start) (drop start after)) chunk n
   hand_moved old new before after hand start filled chunk n le within is p = record {
@@ -69,7 +69,7 @@ module _ {F : Type 0} (state : F → FeedState) where
     none = p.none;
   }
 
-  -- and where nothing was read they stay
+  -- and if nothing was read, the bytes in hand stay
   pub hand_stays : (old new : F) (before after hand : List ℕ) (start filled : ℕ) (why : ReadError) → start ≤ filled → take (filled - start) (drop start before) ≡ hand →
       MovesOr state old new (take filled before) (take filled after) why → MovesOr state old new hand (take (filled - start) (drop start after)) why
   hand_stays old new before after hand start filled why le is p =

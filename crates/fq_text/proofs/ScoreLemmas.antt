@@ -9,7 +9,7 @@ use Rattle.fq_text.specs.declared.encoding.Encoding.TheVariants.{Sanger, Illumin
 use Rattle.fq_text.specs.declared.encoding.TheConstants.{PHRED_OF_SOLEXA}
 use Rattle.fq_text.specs.Scores.{lowest, is_scored, low_solexa, phred_of_solexa, value_of, recoded}
 
--- what holds of each member holds of the one at a place
+-- what holds of each member holds of the one at an index
 pub at_place : (p : ℕ → Bool) (xs : List ℕ) (i : ℕ) → list_all p xs ≡ true → i < length xs → p (get_or xs i 0) ≡ true
 at_place p xs i all within = ⊎_elim
     (λ holds. holds)
@@ -46,7 +46,7 @@ below_at (suc n) p k all lt =
     let parts = and_parts _ _ all in
     ⊎_elim (λ less. below_at n p k parts.1 less) (λ from. let last : k ≡ n = omega arith in ap p last ∙ parts.0) (cases_lt k n)
 
--- the code's table from byte 59 on is that of the definition
+-- the table in the code, from byte 59 on, is that of the definition
 table_below : all_below 68 (λ k. eqb (get_or PHRED_OF_SOLEXA k 0) (phred_of_solexa (k + 59))) ≡ true
 unfolding all_below
 table_below = refl

@@ -1,4 +1,4 @@
--- What a reader of lines has done, as what a source answers.
+-- What a reader of lines has done, as what a source returns.
 use Rattle.std.proofs.Common.{◌≡◌, ℕ, suc, ◌+◌, ◌-◌, ◌<◌, ◌≤◌, inl, inr, Bool, true, false, eqb, Option, Some, None, Result, Err, List, [], ◌∷◌, ◌++◌, length, take, refl, ap, sym, ◌∙◌, arith, IsTrue, ⊎_elim}
 use Rattle.std.specs.List.{list_any}
 use Rattle.std.proofs.lemmas.List.{append-nil, length-append, take_at}
@@ -34,7 +34,7 @@ whole_has_lf : (b : ℕ) (bs : List ℕ) → is_whole (b ∷ bs) ≡ true → li
 whole_has_lf b [] whole = or_left _ _ whole
 whole_has_lf b (c ∷ bs) whole = or_right _ _ (whole_has_lf c bs whole)
 
--- whole lines, and bytes without a line end behind them
+-- complete lines, and bytes without a line end after them
 pub whole_part-append : (xs ys : List ℕ) → is_whole xs ≡ true → NoLf ys (length ys) → whole_part (xs ++ ys) ≡ xs
 whole_part-append [] ys whole none = none_whole ys none
 whole_part-append (b ∷ []) ys whole none =
@@ -73,7 +73,7 @@ module _ {F : Type 0} (state : F → FeedState) (e : Encoding) where
   counted a b used k p le =
       let taken = p.taken in let hand = ap length p.hand in omega (arith, length-append a.in_hand p.gave, length-append used b.in_hand)
 
-  -- what stands in front is lawful
+  -- the record at the front is valid
   pub found_lawful : (a b : Lined F) (r : Read) → Goes state a b (front e) (Found r) → IsLawful r
   found_lawful a b r p = front_is_lawful e p.used r [] (ap (front e) (sym (append-nil (lines p.used))) ∙ p.answer [])
 
@@ -104,7 +104,7 @@ module _ {F : Type 0} (state : F → FeedState) (e : Encoding) where
   lacks_record a b k m l n before after p = λ told read ls is. p.answer read ls
       (ap (λ xs. front e (lines xs)) (sym (ap whole_part (ap (λ xs. a.in_hand ++ xs) (gave_is a b p.used p.reads told) ∙ p.reads.hand) ∙ whole_part-append p.used b.in_hand p.whole p.no_line)) ∙ is)
 
-  -- an end that was told stays, so it had not been told
+  -- a feed that has ended stays at its end, so it had not ended before
   still_going : (a b : Lined F) → Waits state a b (front e) → a.ended ≡ false
   still_going a b p = ⊎_elim (λ over. absurd (let q = p.reads.quiet over in let h = sym q.1 ∙ p.going in cc)) (λ going. going) (cases_Bool a.ended)
 

@@ -1,4 +1,4 @@
--- A record of four lines that stands first in some bytes.
+-- A record of four lines at the front of some bytes.
 use Rattle.std.proofs.Common.{◌≡◌, ℕ, zero, suc, ◌+◌, ◌-◌, ◌*◌, ◌<◌, ◌≤◌, ◌⊎◌, Bool, true, false, not, eqb, None, inl, inr, ⊎_elim, List, [], ◌∷◌, ◌++◌, length, take, drop, get_or, bytes_eq, refl, ap, sym, subst, ◌∙◌, arith}
 use Rattle.std.proofs.Math.Seq.{take-add}
 use Rattle.std.specs.List.{list_all}
@@ -18,7 +18,7 @@ use Rattle.fq_text.proofs.LineLemmas.{whole_to, without_cr_yes, without_cr_no}
 use Rattle.fq_text.proofs.AdvanceLemmas.{behind_line, behind_reads, reads_none}
 use Rattle.fq_text.proofs.WrittenLemmas.{Ends, ends_in_lf, ends_in_cr_lf, four, AreItsLines, clean_bases, plain_bases, plain_behind, quals_are_bases, found_first}
 
--- the parts by their places in the bytes in hand
+-- the parts by their offsets in the bytes in hand
 pub parts_of_hand : (encoding : Encoding) (hand : List ℕ) (s : Shape) → let t = s.title in let n = s.bases in let a = s.again in let e = s.end in
     record { encoding = encoding; title = take (t + 1 - 1) (drop 1 hand); seq = take (t + e + 1 + n - (t + e + 1)) (drop (t + e + 1) hand); qual = take (t + n + a + 3 * e + 2 + n - (t + n + a + 3 * e + 2)) (drop (t + n + a + 3 * e + 2) hand) }
     ≡ unwrapped encoding s (drop 1 hand)
@@ -41,7 +41,7 @@ one_at [] i b lt is = absurd (omega arith)
 one_at (x ∷ xs) zero b lt is = ap (λ y. y ∷ []) is
 one_at (x ∷ xs) (suc i) b lt is = one_at xs i b (omega arith) is
 
--- c bytes from place i on are a bytes, and b bytes behind them
+-- c bytes from index i on are a bytes, and then b bytes
 parted : (xs : List ℕ) (i j a b c : ℕ) → a + b ≡ c → i + a ≡ j → take c (drop i xs) ≡ take a (drop i xs) ++ take b (drop j xs)
 parted xs i j a b c sum place =
     ap (λ m. take m (drop i xs)) (sym sum) ∙ take-add a b (drop i xs)
@@ -64,13 +64,13 @@ end_at hand i e (inr two) within p =
     ∙ ap (λ ys. ys ++ take 1 (drop (i + 1) hand)) (one_at hand i 13 (omega arith) cr)
     ∙ ap (λ ys. 13 ∷ ys) (one_at hand (i + 1) 10 (omega arith) (ap (λ m. get_or hand m 0) (omega arith) ∙ p.lf))
 
--- a line of k bytes at place i, with its end
+-- a line of k bytes at index i, with its line end
 line_at : (hand : List ℕ) (i k j e c : ℕ) (is : IsEnd e) → i + k ≡ j → k + e ≡ c → j + e ≤ length hand → EndsAt hand j e →
     take c (drop i hand) ≡ take k (drop i hand) ++ bytes_of is
 line_at hand i k j e c is place sum within p =
     parted hand i j k e c sum place ∙ ap (λ ys. take k (drop i hand) ++ ys) (end_at hand j e is within p)
 
--- the same behind a mark
+-- a line after a mark
 marked_at : (hand : List ℕ) (i b k j e c : ℕ) (is : IsEnd e) → get_or hand i 0 ≡ b → i + 1 + k ≡ j → k + e + 1 ≡ c → j + e ≤ length hand → EndsAt hand j e →
     take c (drop i hand) ≡ (b ∷ take k (drop (i + 1) hand)) ++ bytes_of is
 marked_at hand i b k j e c is mark place sum within p =
@@ -78,12 +78,12 @@ marked_at hand i b k j e c is mark place sum within p =
     ∙ ap (λ ys. ys ++ take (k + e) (drop (i + 1) hand)) (one_at hand i b (omega arith) mark)
     ∙ ap (λ ys. b ∷ ys) (line_at hand (i + 1) k j e (k + e) is place refl within p)
 
--- how many bytes four lines of a shape are
+-- the length of four lines of a shape
 abbrev pub four_len : Shape → ℕ
 four_len s = s.title + s.bases + s.bases + s.again + 4 * s.end + 2
 
 module _ (encoding : Encoding) (hand : List ℕ) (s : Shape) (p : IsFourLines hand s) (is : IsEnd s.end) where
-  -- the first bytes in hand are the record in four lines
+  -- the bytes in hand begin with the four lines of the record
   lines_first : take (four_len s) hand ≡ four (bytes_of is) (take s.again (drop 1 hand)) (unwrapped encoding s (drop 1 hand)) []
   lines_first =
       let t = s.title in
@@ -119,7 +119,7 @@ module _ (encoding : Encoding) (hand : List ℕ) (s : Shape) (p : IsFourLines ha
       ∙ ap (λ ys. ((64 ∷ title) ++ end) ++ ((take n ys ++ end) ++ (((43 ∷ take a (drop 1 hand)) ++ end) ++ ((qual ++ end) ++ [])))) (sym place_seq)
       ∙ ap (λ ys. ((64 ∷ title) ++ end) ++ ((take n (drop (t + e) (drop 1 hand)) ++ end) ++ (((43 ∷ take a (drop 1 hand)) ++ end) ++ ((take n ys ++ end) ++ [])))) (sym place_qual)
 
-  -- what is used up of such lines ends the last of them
+  -- the bytes used up to the end of such lines are complete lines
   whole_first : is_whole (take (four_len s) hand) ≡ true
   whole_first =
       let fits = p.fits in
@@ -140,7 +140,7 @@ ends_plus : (end title again : List ℕ) → (again ≡ []) ⊎ (again ≡ title
 ends_plus end title again (inl none) bare titled = subst (λ (xs : List ℕ). Ends end (43 ∷ xs)) (sym none) bare
 ends_plus end title again (inr same) bare titled = subst (λ (xs : List ℕ). Ends end (43 ∷ xs)) (sym same) titled
 
--- lines of a lawful record are its own
+-- the lines of a valid record give the record
 lawful_lines : {e : ℕ} (is : IsEnd e) (r : Read) (again : List ℕ) → IsLawful r → (e ≡ 1 → without_cr r.title ≡ r.title) → (again ≡ []) ⊎ (again ≡ r.title) →
     AreItsLines (bytes_of is) again r
 lawful_lines (inl one) r again lawful plain shape =
@@ -170,7 +170,7 @@ its_lines encoding hand s p =
     ⊎_elim (λ none. inl (ap (λ (m : ℕ). take m (drop 1 hand)) none)) (λ same. inr (ap (λ (m : ℕ). take m (drop 1 hand)) same)) p.shape.again in
     lawful_lines p.shape.end (unwrapped encoding s (drop 1 hand)) (take s.again (drop 1 hand)) p.lawful p.plain again
 
--- such a record is what stands first, whatever lines follow
+-- such a record is the one at the front, whatever lines follow
 pub found_in_hand : (encoding : Encoding) (hand : List ℕ) (s : Shape) (ls : List (List ℕ)) → StandsFirst encoding hand s →
     front encoding (lines (take (four_len s) hand) ++ ls) ≡ Found (unwrapped encoding s (drop 1 hand)) ls
 found_in_hand encoding hand s ls p =
@@ -180,7 +180,7 @@ found_in_hand encoding hand s ls p =
     ∙ found_first (bytes_of p.shape.end) (take s.again (drop 1 hand)) r ls (its_lines encoding hand s p)
     (omega (arith, length-take s.bases (drop (s.title + s.end) (drop 1 hand)), length-drop (s.title + s.end) (drop 1 hand), length-drop 1 hand, p.some))
 
--- a part of the bytes in hand that is long enough holds the same record
+-- a first part of the bytes in hand that is long enough holds the same record
 pub unwrapped_front : (encoding : Encoding) (bytes : List ℕ) (s : Shape) (k : ℕ) → s.title + s.bases + s.bases + s.again + 3 * s.end + 1 ≤ k →
     unwrapped encoding s (take k bytes) ≡ unwrapped encoding s bytes
 unwrapped_front encoding bytes s k le =
@@ -193,7 +193,7 @@ unwrapped_front encoding bytes s k le =
     cc
 
 module _ {F : Type 0} (state : F → FeedState) where
-  -- a reader that takes a record out of the bytes in hand has gone on behind it
+  -- a reader that takes a record out of the bytes in hand is after it
   pub goes_first : (a b : Lined F) (encoding : Encoding) (s : Shape) (k : ℕ) → b ≡ behind_line state a k (four_len s) → StandsFirst encoding a.in_hand s →
       Goes state a b (front encoding) (Found (unwrapped encoding s (drop 1 a.in_hand)))
   goes_first a b encoding s k is p =
@@ -208,14 +208,14 @@ module _ {F : Type 0} (state : F → FeedState) where
 
 -- Where the lines end.
 
--- a byte that fails a test stands nowhere below place n, of which all bytes pass it
+-- a byte that fails a test is at no index below n, if the bytes there all pass it
 not_at : (test : ℕ → Bool) (b n : ℕ) (xs : List ℕ) → test b ≡ false → n ≤ length xs → list_all test (take n xs) ≡ true → (k : ℕ) → k < n → get_or xs k 0 ≡ b → ⊥
 not_at test b n xs fails within passes k lt is =
     let here : get_or (take n xs) k 0 ≡ b = get_or-take n xs k 0 lt ∙ is in
     let none : list_all test (take n xs) ≡ false = list_all_at test (take n xs) k 0 (omega (arith, length-take n xs)) (ap test here ∙ fails) in
     cc
 
--- the same, the other way
+-- if no LF is below index n, every byte there is another one
 pub one_line_to : (n : ℕ) (xs : List ℕ) → NoLf xs n → list_all (λ b. not (eqb b 10)) (take n xs) ≡ true
 one_line_to zero xs none = refl
 one_line_to (suc n) [] none = refl
@@ -224,14 +224,14 @@ one_line_to (suc n) (x ∷ xs) none = ⊎_elim
     (λ off. and_from _ _ (not_from_false _ off) (one_line_to n xs (λ k lt is. none (suc k) (omega arith) is)))
     (cases_Bool (eqb x 10))
 
--- the first LF stands at one place
+-- there is one first LF
 one_end : (xs : List ℕ) (a b : ℕ) → NoLf xs a → get_or xs a 0 ≡ 10 → NoLf xs b → get_or xs b 0 ≡ 10 → a ≡ b
 one_end xs a b none_a at_a none_b at_b = ⊎_elim
     (λ (lt : a < b). absurd (none_b a lt at_a))
     (λ (le : b ≤ a). ⊎_elim (λ (lt : b < a). absurd (none_a b lt at_b)) (λ (ge : a ≤ b). omega arith) (cases_lt b a))
     (cases_lt a b)
 
--- the end of a line stands behind a place
+-- a line end after an index
 shifted : (i : ℕ) (hand : List ℕ) (k e : ℕ) → 1 ≤ e → EndsAt hand (i + k) e → EndsAt (drop i hand) k e
 shifted i hand k e some p =
     let place : i + (k + e - 1) ≡ i + k + e - 1 = omega arith in
@@ -240,7 +240,7 @@ shifted i hand k e some p =
       cr = ⊎_elim (λ one. inl one) (λ at. inr (get_or-drop i hand k 0 ∙ at)) p.cr;
     }
 
--- no LF stands before that of the end
+-- no LF is before that of the line end
 no_lf_to_end : (xs : List ℕ) (k e : ℕ) → IsFirstLine xs k e → NoLf xs (k + e - 1)
 no_lf_to_end xs k e p j lt at = ⊎_elim
     (λ (one : e ≡ 1). p.no_lf j (omega arith) at)
@@ -257,7 +257,7 @@ no_lf_to_end xs k e p j lt at = ⊎_elim
 some_end : {xs : List ℕ} {k e : ℕ} → IsFirstLine xs k e → 1 ≤ e
 some_end p = ⊎_elim (λ one. omega arith) (λ two. omega arith) p.end_is
 
--- where an end is LF alone, no CR stands before it
+-- if a line end is LF alone, no CR is before it
 no_cr_before : (xs : List ℕ) (k e : ℕ) → IsFirstLine xs k e → e ≡ 1 → 1 ≤ k → get_or xs (k - 1) 0 ≡ 13 → ⊥
 no_cr_before xs k e p one some cr =
     let fits = p.fits in
@@ -267,7 +267,7 @@ no_cr_before xs k e p one some cr =
     let shorter = ap length (sym (p.plain one) ∙ without_cr_yes line (k - 1) (omega arith) last) in
     omega (arith, length-take (k - 1) line)
 
--- a line with no CR at its last place keeps all its bytes
+-- a line that does not end in CR keeps all its bytes
 pub plain_to : (xs : List ℕ) (k : ℕ) → k ≤ length xs → (1 ≤ k → get_or xs (k - 1) 0 ≡ 13 → ⊥) → without_cr (take k xs) ≡ take k xs
 plain_to xs zero le none = refl
 plain_to xs (suc n) le none =
@@ -275,7 +275,7 @@ plain_to xs (suc n) le none =
     let size : length (take (suc n) xs) ≡ suc n = omega (arith, length-take (suc n) xs) in
     without_cr_no (take (suc n) xs) n size (λ is. none (omega arith) (ap (λ m. get_or xs m 0) last ∙ sym (get_or-take (suc n) xs n 0 (omega arith)) ∙ is))
 
--- there is one first line, and one end of it
+-- there is one first line, and it has one line end
 one_end_of : (xs : List ℕ) (k e k' e' : ℕ) → IsFirstLine xs k e → IsFirstLine xs k' e' → k + e ≡ k' + e' → e ≡ 1 → e' ≡ 2 → ⊥
 one_end_of xs k e k' e' p q same one two =
     let cr : get_or xs k' 0 ≡ 13 = ⊎_elim (λ one. absurd (omega arith)) (λ is. is) q.ends.cr in
@@ -302,7 +302,7 @@ first_line_ends xs k e p none =
     none (k + e - 1) (omega arith) p.ends.lf
 
 module _ (encoding : Encoding) (hand : List ℕ) (s : Shape) (p : StandsFirst encoding hand s) where
-  -- the last of these bytes has a score, so it is no CR
+  -- the last of these bytes has a score, so it is not CR
   lines_plain : without_cr (take (lines_len s) hand) ≡ take (lines_len s) hand
   lines_plain =
       let fits = p.lines.fits in
@@ -324,7 +324,7 @@ module _ (encoding : Encoding) (hand : List ℕ) (s : Shape) (p : StandsFirst en
       ∙ ap (unwrapped encoding s) (drop-take 1 (lines_len s - 1) hand)
       ∙ unwrapped_front encoding (drop 1 hand) s (lines_len s - 1) (omega arith)
 
-  -- and all of it
+  -- and all of the record
   pub taken_whole : (taken : List ℕ) → taken ≡ without_cr (take (lines_len s) hand) → lines_len s ≤ length taken
   taken_whole taken is =
       let fits = p.lines.fits in
@@ -334,7 +334,7 @@ module _ (encoding : Encoding) (hand : List ℕ) (s : Shape) (p : StandsFirst en
   end_of_shape : 1 ≤ s.end
   end_of_shape = ⊎_elim (λ one. omega arith) (λ two. omega arith) p.shape.end
 
-  -- the title of a record that stands first is the first line
+  -- the title of the record at the front is the first line
   pub title_line : IsFirstLine (drop 1 hand) s.title s.end
   title_line =
       let fits = p.lines.fits in
@@ -348,7 +348,7 @@ module _ (encoding : Encoding) (hand : List ℕ) (s : Shape) (p : StandsFirst en
         plain = p.plain;
       }
 
-  -- and its bases are the first line behind it
+  -- and its bases are the first line after the title
   bases_line : IsFirstLine (drop (s.title + s.end + 1) hand) s.bases s.end
   bases_line =
       let fits = p.lines.fits in
@@ -365,7 +365,7 @@ module _ (encoding : Encoding) (hand : List ℕ) (s : Shape) (p : StandsFirst en
         plain = λ one. plain_bases (take s.bases (drop (s.title + s.end + 1) hand)) bases;
       }
 
-  -- both, where the first line was found
+  -- both, if the first line was found
   pub as_found : (t k : ℕ) → IsFirstLine (drop 1 hand) t k → (t ≡ s.title) × (k ≡ s.end) × IsFirstLine (drop (t + k + 1) hand) s.bases s.end
   as_found t k title =
       let same = same_line (drop 1 hand) t k s.title s.end title title_line in

@@ -1,4 +1,5 @@
--- Bytes that are compared side by side, in a vector. A comparison answers 255 for each byte for which it holds, and else 0.
+-- Bytes that are compared in a vector. The result of a comparison is 255 for each byte for which it
+-- holds, and 0 for the others.
 use Rattle.std.proofs.Common.{◌≡◌, ◌≤◌, ◌<◌, ◌+◌, ◌*◌, ◌%◌, ◌^◌, ℕ, zero, suc, Bool, true, false, not, ◌&&◌, cond, ltb, leb, eqb, List, [], ◌∷◌, length, map, take, drop, refl, sym, ap, ap₂, ◌∙◌, arith, take-add, ⊎_elim}
 use Rattle.std.specs.List.{list_all}
 use Rattle.std.proofs.lemmas.List.{length-map, length-drop, take_all, take-take, take-append-drop}
@@ -85,7 +86,7 @@ pub in_both : (p q : ℕ → Bool) (v : List ℕ) → list_all (λ x. p x && q x
 in_both p q [] = refl
 in_both p q (x ∷ xs) = ap (λ b. (p x && q x) && b) (in_both p q xs) ∙ both_in (p x) (q x) (list_all p xs) (list_all q xs)
 
--- The smaller of two bytes is at least `low` where both are.
+-- The smaller of two bytes is at least `low` exactly if both are.
 smaller : (low x y : ℕ) → leb low (cond (top 7 (flag (ltb x y))) x y) ≡ leb low x && leb low y
 smaller low x y = ⊎_elim
     (λ (less : x < y). ap (λ b. leb low (cond (top 7 (flag b)) x y)) (lt-ltb x y less) ∙ ⊎_elim
@@ -98,7 +99,7 @@ smaller low x y = ⊎_elim
     (cases_lt y low))
     (cases_lt x y)
 
--- The larger of two bytes is at most `high` where both are.
+-- The larger of two bytes is at most `high` exactly if both are.
 larger : (high x y : ℕ) → leb (cond (top 7 (flag (ltb x y))) y x) high ≡ leb x high && leb y high
 larger high x y = ⊎_elim
     (λ (less : x < y). ap (λ b. leb (cond (top 7 (flag b)) y x) high) (lt-ltb x y less) ∙ ⊎_elim
@@ -111,7 +112,7 @@ larger high x y = ⊎_elim
     (cases_lt high x))
     (cases_lt x y)
 
--- the smaller and the larger bytes of two vectors, place for place
+-- the smaller and the larger bytes of two vectors at each index
 abbrev pub smallest : List ℕ → List ℕ → List ℕ
 smallest a b = sel_l (map (top 7) (zip2 (λ x y. flag (ltb x y)) a b)) a b
 
@@ -151,14 +152,14 @@ module _ (p : ℕ → Bool) where
       ap (list_all p) (take_all n (drop last xs) (omega (arith, length-drop last xs)))
       ∙ sym (in_parts last xs ∙ ap (λ b. b && list_all p (drop last xs)) before)
 
-  -- those before a place, and the last ones, which begin there or before
+  -- the bytes before an index, and the last ones, which begin there or earlier
   pub with_the_last : (start last n : ℕ) (xs : List ℕ) → last + n ≡ length xs → last ≤ start → list_all p (take start xs) && list_all p (chunk last n xs) ≡ list_all p xs
   with_the_last start last n xs whole passed = ⊎_elim
       (λ (front : list_all p (take start xs) ≡ true). ap (λ b. b && list_all p (chunk last n xs)) front ∙ by_the_last start last n xs whole passed front)
       (λ (bad : list_all p (take start xs) ≡ false). ap (λ b. b && list_all p (chunk last n xs)) bad ∙ sym (in_parts start xs ∙ ap (λ b. b && list_all p (drop start xs)) bad))
       (cases_Bool (list_all p (take start xs)))
 
--- The least and the most bytes so far, and those of one vector more.
+-- The least and the greatest bytes so far, and those of one more vector.
 pub one_more : (low high start n : ℕ) (xs least most : List ℕ) (last : Bool) → length least ≡ n → length most ≡ n → start + n ≤ length xs →
     list_all (λ x. leb low x) least && list_all (λ x. leb x high) most ≡ list_all (λ x. leb low x && leb x high) (take start xs) && last →
     list_all (λ x. leb low x) (smallest least (chunk start n xs)) && list_all (λ x. leb x high) (largest most (chunk start n xs)) ≡ list_all (λ x. leb low x && leb x high) (take (start + n) xs) && last

@@ -1,4 +1,4 @@
--- What was written is read again.
+-- What was written reads back.
 use Rattle.std.proofs.Common.{◌≡◌, ℕ, ◌+◌, ◌<◌, ◌≤◌, Bool, true, false, not, ◌&&◌, eqb, Option, Some, None, suc, List, [], ◌∷◌, ◌++◌, length, map, refl, ap, sym, ◌∙◌, arith, append_assoc, ⊎_elim}
 use Rattle.std.specs.List.{list_all}
 use Rattle.std.proofs.lemmas.Bool.{cond-true, cond-false, cases_Bool, and_parts, and_from, not-true, not_from_false, not_from_true, le-ltb, le-leb, leb-true, ne_eqb}
@@ -59,7 +59,7 @@ scored_bases : (e : Encoding) (l : List ℕ) → list_all (is_scored e) l ≡ tr
 scored_bases e [] all = refl
 scored_bases e (b ∷ bs) all = let parts = and_parts _ _ all in and_from _ _ (scored_base e b parts.0) (scored_bases e bs parts.1)
 
--- A line with this end behind it is one line, whatever follows.
+-- A line followed by this line end is one line, whatever follows.
 abbrev pub Ends : List ℕ → List ℕ → Type 0
 Ends end l = (ys : List ℕ) → lines ((l ++ end) ++ ys) ≡ l ∷ lines ys
 
@@ -77,11 +77,11 @@ ends_in_cr_lf l clean ys =
     ap lines (append_assoc l (13 ∷ 10 ∷ []) ys ∙ sym (append_assoc l (13 ∷ []) (10 ∷ ys)))
     ∙ ap (map without_cr) (pieces_line (l ++ 13 ∷ []) ys all) ∙ ap (λ m. m ∷ lines ys) (without_last_cr l)
 
--- a record as four lines with this end, these bytes behind the second mark, and a text behind them
+-- a record as four lines with this line end, these bytes after the `+`, and a text after them
 abbrev pub four : List ℕ → List ℕ → Read → List ℕ → List ℕ
 four end again r text = ((64 ∷ r.title) ++ end) ++ ((r.seq ++ end) ++ (((43 ∷ again) ++ end) ++ ((r.qual ++ end) ++ text)))
 
--- what makes four such lines a record's
+-- what makes four such lines a record
 pub record AreItsLines (end again : List ℕ) (r : Read) : Type 0 where
   pub lawful : IsLawful r
   pub title : Ends end (64 ∷ r.title)
@@ -98,7 +98,7 @@ four_lines end again r text p =
     let seq = ap (λ ls. (64 ∷ r.title) ∷ ls) (p.seq (((43 ∷ again) ++ end) ++ ((r.qual ++ end) ++ text)) ∙ plus) in
     p.title ((r.seq ++ end) ++ (((43 ∷ again) ++ end) ++ ((r.qual ++ end) ++ text))) ∙ seq
 
--- a record as it is written is such lines
+-- a record is written as such lines
 written_four : (r : Read) (text : List ℕ) → written r.title r.seq r.qual ++ text ≡ four (10 ∷ []) [] r text
 written_four r text =
     append_assoc (line (64 ∷ r.title) ++ line r.seq ++ line (43 ∷ [])) (line r.qual) text
@@ -145,13 +145,13 @@ nil_qual : (qual : List ℕ) → length qual ≡ 0 → qual ≡ []
 nil_qual [] none = refl
 nil_qual (b ∷ bs) none = absurd (omega arith)
 
--- the record stands in front of the lines, and behind it what stands in front of the others
+-- the lines begin with the record, and after it comes what the other lines begin with
 record StandsBefore (encoding : Encoding) (read : Read) (ls others : List (List ℕ)) : Type 0 where
   rest : List (List ℕ)
   found : front encoding ls ≡ Found read rest
   then : front encoding rest ≡ front encoding others
 
--- an empty read leaves its empty quality line behind
+-- a record without bases leaves its empty quality line unread
 stands_before : (r : Read) (text : List ℕ) → IsLawful r → without_cr r.title ≡ r.title →
     StandsBefore r.encoding r (lines (written r.title r.seq r.qual ++ text)) (lines text)
 stands_before r text lawful plain =
@@ -176,7 +176,7 @@ stands_before r text lawful plain =
     })
     (Rattle.std.proofs.lemmas.Bool.cases_eq (length r.seq) 0)
 
--- a record with bases that is four lines stands first, whatever lines follow it
+-- four lines that are a record with bases are the record at the front, whatever lines follow
 pub found_first : (end again : List ℕ) (r : Read) (ls : List (List ℕ)) → AreItsLines end again r → 0 < length r.seq →
     front r.encoding (lines (four end again r []) ++ ls) ≡ Found r ls
 found_first end again r ls p some =
@@ -187,7 +187,7 @@ found_first end again r ls p some =
     ∙ quality_goes r.encoding r.title r.seq [] r.qual ls (omega arith) (sound_qual r.encoding (length r.seq) r.qual lawful.seq_fits same lawful.scores)
     ∙ quality_ends r.encoding r.title r.seq r.qual ls (omega arith)
 
--- the records of lines in front of which one stands, before what stands in front of others
+-- the records of lines that begin with one: that record, and then those of the lines after it
 records_of : (n : ℕ) (e : Encoding) (r : Read) (ls others : List (List ℕ)) → length others < n → StandsBefore e r ls others →
     records_within (suc (suc n)) e ls ≡ with_first r (records_within (suc (length others)) e others)
 records_of n e r ls others fewer stands =
@@ -195,7 +195,7 @@ records_of n e r ls others fewer stands =
     ∙ ap (λ f. with_first r (from_front (records_within n e) f)) stands.then
     ∙ ap (with_first r) (room_enough (suc n) (suc (length others)) e others (omega arith) (omega arith))
 
--- a lawful record is read again
+-- a valid record reads back
 reads_lawful : (r : Read) (text : List ℕ) → IsLawful r → without_cr r.title ≡ r.title →
     records r.encoding (written r.title r.seq r.qual ++ text) ≡ with_first r (records r.encoding text)
 reads_lawful r text lawful plain =
@@ -204,7 +204,7 @@ reads_lawful r text lawful plain =
     ap (λ n. records_within n r.encoding whole) len
     ∙ records_of (length (lines text) + 3) r.encoding r whole (lines text) (omega arith) (stands_before r text lawful plain)
 
--- recoding keeps a record lawful
+-- recoding keeps a record valid
 lawful_as_written : (recode : Option Encoding) (r : Read) → IsLawful r → CanRecode recode r.qual → IsLawful (as_written recode r)
 lawful_as_written None r lawful can = lawful
 lawful_as_written (Some e) r lawful can = record {

@@ -1,28 +1,31 @@
--- What a device is: as contracts see each; one in memory by its bytes and its script; one of the standard library by what is in it.
+-- Devices: as contracts see each of them, as the ones in memory are, and as those of the standard
+-- library are.
 use Rattle.std.specs.Prelude.{ℕ, List, Bool}
 
--- a feed: whether it tells its bytes, those still to come, and how often it has failed
+-- a feed: whether it tells its bytes, those still to come, and how many read calls have failed
 pub record FeedState : Type 0 where
   pub tells : Bool
   pub to_come : List ℕ
   pub failures : ℕ
 
--- an outlet: whether it tells its bytes, those taken, oldest first, and how many writes and flushes have failed
+-- an outlet: whether it tells its bytes, those taken, oldest first, and how many writes and flushes
+-- have failed
 pub record OutletState : Type 0 where
   pub tells : Bool
   pub taken : List ℕ
   pub failures : ℕ
 
--- the bytes still to come from a feed, the most that a read moves, the number of reads up to and with the one that fails
--- (0: none does), and its failures so far
+-- a feed in memory: the bytes still to come, the most that a read call moves, the number of read
+-- calls up to and including the one that fails (0: none does), and the failures so far
 pub record Coming : Type 0 where
   pub bytes : List ℕ
   pub cut : ℕ
   pub fails_in : ℕ
   pub failures : ℕ
 
--- the bytes that an outlet has taken, how many it has memory for, the most that a write takes, the number of writes up to
--- and with the one that fails (0: none does), whether flushes fail, and its failures so far
+-- an outlet in memory: the bytes taken, how many it has memory for, the most that a write takes,
+-- the number of writes up to and including the one that fails (0: none does), whether flushes fail,
+-- and the failures so far
 pub record Taken : Type 0 where
   pub bytes : List ℕ
   pub room : ℕ

@@ -1,4 +1,4 @@
--- What a reader of lines is, and what a call reads.
+-- A reader of lines, and what its calls do.
 use Rattle.std.specs.Prelude.{◌≡◌, ℕ, ◌+◌, ◌-◌, ◌*◌, ◌<◌, ◌≤◌, ◌⊎◌, Bool, true, false, Result, Option, Some, None, List, [], ◌∷◌, ◌++◌, length, IsTrue, slice_index}
 use Rattle.std.specs.declared.result.Result.TheVariants as res
 use Rattle.fq_text.specs.Devices.{FeedState}
@@ -8,13 +8,13 @@ use Rattle.fq_text.specs.declared.fault.Fault.TheVariants as fault
 use Rattle.fq_text.specs.declared.fault.ReadError.{ReadError}
 use Rattle.fq_text.specs.declared.fault.ReadError.TheVariants as error
 
--- the line that was used up last, and the bytes behind it that are in hand
+-- the line that was taken last, and the bytes after it that are in hand: read and not used yet
 pub record Buffered : Type 0 where
   pub line : List ℕ
   pub in_hand : List ℕ
 
--- A feed whose bytes are read by lines: the line read last, and the bytes behind it that are in hand.
--- Once it has ended nothing more comes.
+-- A feed that is read by lines: the line that was read last, and the bytes after it that are in
+-- hand. After it has ended, no more bytes come.
 pub record Lined (F : Type 0) : Type 0 where
   pub feed : F
   pub line : List ℕ
@@ -24,40 +24,43 @@ pub record Lined (F : Type 0) : Type 0 where
   pub chunk : ℕ
   pub max_reads : ℕ
 
--- the bytes behind the last line, in hand and still to come
+-- the bytes after the last line, in hand and still to come
 abbrev pub rest_of : {F : Type 0} → (F → FeedState) → Lined F → List ℕ
 rest_of state r = r.in_hand ++ (state r.feed).to_come
 
--- no LF stands below place n
+-- no LF is at an index below n
 abbrev pub NoLf : List ℕ → ℕ → Type 0
 NoLf xs n = (k : ℕ) → k < n → slice_index xs k ≡ 10 → ⊥
 
--- the place of the first LF, if there is one
+-- the index of the first LF, if there is one
 abbrev pub IsLineEnd : List ℕ → Option ℕ → Type 0
 IsLineEnd xs None = NoLf xs (length xs)
 IsLineEnd xs (Some n) = (n < length xs) × (slice_index xs n ≡ 10) × NoLf xs n
 
--- at most so many bytes can still become lines
+-- the most bytes that can still become lines
 abbrev pub fuel_of : {F : Type 0} → Lined F → ℕ
 fuel_of r = (r.max_reads * r.chunk - r.taken) + length r.in_hand
 
--- What every reader keeps.
+-- What every reader of lines keeps.
 pub record IsSound {F : Type 0} (state : F → FeedState) (r : Lined F) : Type 0 where
   pub bound : r.taken ≤ r.max_reads * r.chunk
   pub nothing : IsTrue r.ended → IsTrue (state r.feed).tells → (state r.feed).to_come ≡ []
 
--- A reader has used up bytes: those in hand and those that the feed gave are the used ones and those now in hand.
-pub record Reads {F : Type 0} (state : F → FeedState) (old new : Lined F) (used : List ℕ) : Type 0 where
+-- A reader has used bytes: those that were in hand, and then those that the feed gave, are the used
+-- bytes, and then those now in hand.
+pub record Reads {F : Type 0} (state : F → FeedState) (old new : Lined F) (used : List ℕ)
+    : Type 0 where
   pub gave : List ℕ
   pub taken : new.taken ≡ old.taken + length gave
   pub hand : old.in_hand ++ gave ≡ used ++ new.in_hand
-  pub fed : IsTrue (state old.feed).tells → (state old.feed).to_come ≡ gave ++ (state new.feed).to_come
+  pub fed : IsTrue (state old.feed).tells
+      → (state old.feed).to_come ≡ gave ++ (state new.feed).to_come
   pub told : (state new.feed).tells ≡ (state old.feed).tells
   pub quiet : old.ended ≡ true → (gave ≡ []) × (new.ended ≡ true)
   pub chunk : new.chunk ≡ old.chunk
   pub max_reads : new.max_reads ≡ old.max_reads
 
--- the used bytes are whole lines
+-- the used bytes are complete lines
 abbrev pub Closed : {F : Type 0} → Lined F → List ℕ → Type 0
 Closed new used = (is_whole used ≡ true) ⊎ ((new.ended ≡ true) × (new.in_hand ≡ []))
 
@@ -80,7 +83,7 @@ abbrev pub Advances : {F : Type 0} → (F → FeedState) → Lined F → Lined F
 Advances state old new true = TakesLine state old new × (length new.line ≤ limit)
 Advances state old new false = IsAtEnd state old new
 
--- no whole line is in hand, and the reader has not ended
+-- no complete line is in hand, and the reader has not ended
 pub record LacksLine {F : Type 0} (state : F → FeedState) (old new : Lined F) : Type 0 where
   pub reads : Reads state old new []
   pub going : new.ended ≡ false
@@ -112,8 +115,9 @@ abbrev pub fails : {T : Type 0} → Result T ReadError → ℕ
 fails (res.Ok x) = 0
 fails (res.Err e) = failed_once e
 
--- a feed has given bytes, behind those that were there
-pub record Moved {F : Type 0} (state : F → FeedState) (old new : F) (before after : List ℕ) (chunk n : ℕ) : Type 0 where
+-- a feed has given bytes, which come after those that were there
+pub record Moved {F : Type 0} (state : F → FeedState) (old new : F) (before after : List ℕ)
+    (chunk n : ℕ) : Type 0 where
   pub gave : List ℕ
   pub len : length gave ≡ n
   pub within : n ≤ chunk
@@ -121,17 +125,22 @@ pub record Moved {F : Type 0} (state : F → FeedState) (old new : F) (before af
   pub fed : IsTrue (state old).tells → (state old).to_come ≡ gave ++ (state new).to_come
   pub none : n ≡ 0 → IsTrue (state old).tells → (state old).to_come ≡ []
 
--- a feed, or memory, has given nothing
-pub record MovesOr {F : Type 0} (state : F → FeedState) (old new : F) (before after : List ℕ) (why : ReadError) : Type 0 where
+-- a read call or an allocation failed, and no bytes were given
+pub record MovesOr {F : Type 0} (state : F → FeedState) (old new : F) (before after : List ℕ)
+    (why : ReadError) : Type 0 where
   pub bytes : after ≡ before
   pub fed : IsTrue (state old).tells → (state new).to_come ≡ (state old).to_come
   pub cause : (why ≡ error.Read) ⊎ (why ≡ error.OutOfMemory)
 
--- one more read was made, or refused
-abbrev pub Fills : {F : Type 0} → (F → FeedState) → Lined F → Lined F → Result Unit ReadError → Type 0
+-- one more read call was made, or refused
+abbrev pub Fills : {F : Type 0} → (F → FeedState) → Lined F → Lined F → Result Unit ReadError
+    → Type 0
 Fills state old new (res.Ok x) =
-    Reads state old new [] × (length new.in_hand < length old.in_hand + new.chunk + 1) × (new.ended ≡ false → old.taken < new.taken)
+    Reads state old new [] × (length new.in_hand < length old.in_hand + new.chunk + 1)
+    × (new.ended ≡ false → old.taken < new.taken)
 Fills state old new (res.Err (error.Fault f)) = ⊥
-Fills state old new (res.Err error.Read) = Reads state old new [] × (new.ended ≡ false) × (new.in_hand ≡ old.in_hand)
-Fills state old new (res.Err error.Endless) = Reads state old new [] × (new.ended ≡ false) × (new.in_hand ≡ old.in_hand) × (new.max_reads ≤ new.taken)
+Fills state old new (res.Err error.Read) = Reads state old new [] × (new.ended ≡ false)
+    × (new.in_hand ≡ old.in_hand)
+Fills state old new (res.Err error.Endless) = Reads state old new [] × (new.ended ≡ false)
+    × (new.in_hand ≡ old.in_hand) × (new.max_reads ≤ new.taken)
 Fills state old new (res.Err error.OutOfMemory) = Reads state old new []

@@ -1,4 +1,4 @@
--- What a source of records is, and what its calls answer.
+-- A source of records, and what its calls return.
 use Rattle.std.specs.Prelude.{◌≡◌, ℕ, ◌+◌, ◌-◌, ◌<◌, ◌≤◌, ◌⊎◌, Bool, true, false, IsTrue, Option, Some, None, Result, List, [], ◌++◌, length, take}
 use Rattle.std.specs.declared.result.Result.TheVariants as res
 use Rattle.fq_text.specs.Devices.{FeedState}
@@ -12,8 +12,9 @@ use Rattle.fq_text.specs.declared.fault.TextFault.TheVariants as text
 use Rattle.fq_text.specs.Lines.{lines, is_whole, whole_part}
 use Rattle.fq_text.specs.Grammar.{Read, Front, End, Faulty, Found, front, IsLawful}
 
--- A source: its feed, the bytes in hand, whether the feed has told its end, how many bytes were taken and records given, once that is a
--- fault or the end its last answer, and the record in hand.
+-- A source: its feed, the bytes in hand (read and not used yet), whether the feed has reported its
+-- end, the number of bytes taken from the feed and of records given, the last result once that is a
+-- fault or the end, and the record in hand.
 pub record Sourced (F : Type 0) : Type 0 where
   pub feed : F
   pub encoding : Encoding
@@ -43,36 +44,38 @@ text_fault error.Read k = text.Read
 text_fault error.Endless k = text.Endless
 text_fault error.OutOfMemory k = text.OutOfMemory
 
--- the answer of a source that gave its last answer
+-- what `next` returns after the end or a fault
 abbrev pub answer_of : Result (Unit {0}) TextFault → Result (Option Read) TextFault
 answer_of (res.Ok x) = res.Ok None
 answer_of (res.Err f) = res.Err f
 
--- the same, as whether there was one more record
+-- what `advance` returns after the end or a fault
 abbrev pub more_of : Result (Unit {0}) TextFault → Result Bool TextFault
 more_of (res.Ok x) = res.Ok false
 more_of (res.Err f) = res.Err f
 
--- the bytes that a source still has to read records from
+-- the bytes that the records still to come are read from
 abbrev pub rest_in : {F : Type 0} → (F → FeedState) → Sourced F → List ℕ
 rest_in state s = s.in_hand ++ (state s.feed).to_come
 
--- what stands next
+-- what those bytes begin with
 abbrev pub front_of : {F : Type 0} → (F → FeedState) → Sourced F → Front
 front_of state s = front s.encoding (lines (rest_in state s))
 
--- the bytes in hand before a call, and those that the feed gave in it
+-- the bytes in hand before a call, and then those that the feed gave during the call
 abbrev pub held : {F : Type 0} → (F → FeedState) → Sourced F → Sourced F → List ℕ
 held state old new = old.in_hand ++ take (new.taken - old.taken) (state old.feed).to_come
 
--- a text is a rest of another, from the start of a line on, or nothing is left and the end was told
+-- a text is the rest of another one from the start of a line on, or it is empty and the feed has
+-- ended
 pub record IsTail (whole tail : List ℕ) (ended : Bool) : Type 0 where
   pub before : List ℕ
   pub some : 0 < length before
   pub split : whole ≡ before ++ tail
   pub at_line : (is_whole before ≡ true) ⊎ ((tail ≡ []) × (ended ≡ true))
 
--- What every call keeps: the number of bytes taken grows by those that the feed gave, and an end that was told stays.
+-- What every call keeps: the number of bytes taken grows by the bytes that the feed gave, and a
+-- feed that has ended stays at its end.
 pub record KeepsCount {F : Type 0} (state : F → FeedState) (old new : Sourced F) : Type 0 where
   pub encoding : new.encoding ≡ old.encoding
   pub chunk : new.chunk ≡ old.chunk
@@ -80,28 +83,33 @@ pub record KeepsCount {F : Type 0} (state : F → FeedState) (old new : Sourced 
   pub told : (state new.feed).tells ≡ (state old.feed).tells
   pub grows : old.taken ≤ new.taken
   pub ended : old.ended ≡ true → new.ended ≡ true
-  pub fed : IsTrue (state old.feed).tells → (state old.feed).to_come ≡ take (new.taken - old.taken) (state old.feed).to_come ++ (state new.feed).to_come
-  pub length : IsTrue (state old.feed).tells → new.taken - old.taken ≤ length (state old.feed).to_come
+  pub fed : IsTrue (state old.feed).tells → (state old.feed).to_come
+      ≡ take (new.taken - old.taken) (state old.feed).to_come ++ (state new.feed).to_come
+  pub length : IsTrue (state old.feed).tells
+      → new.taken - old.taken ≤ length (state old.feed).to_come
 
--- a record was answered, and is in hand
-pub record GivesRecord {F : Type 0} (state : F → FeedState) (old new : Sourced F) (read : Read) : Type 0 where
+-- a record was returned, and is in hand
+pub record GivesRecord {F : Type 0} (state : F → FeedState) (old new : Sourced F) (read : Read)
+    : Type 0 where
   pub lawful : IsLawful read
   pub encoding : read.encoding ≡ old.encoding
-  pub record_is : IsTrue (state old.feed).tells → front_of state old ≡ Found read (lines (rest_in state new))
-  pub tail : IsTrue (state old.feed).tells → IsTail (rest_in state old) (rest_in state new) new.ended
+  pub record_is : IsTrue (state old.feed).tells
+      → front_of state old ≡ Found read (lines (rest_in state new))
+  pub tail : IsTrue (state old.feed).tells
+      → IsTail (rest_in state old) (rest_in state new) new.ended
   pub given : new.given ≡ old.given + 1
   pub last : new.last ≡ None
   pub current : new.current ≡ Some read
   pub in_hand : length new.in_hand < new.chunk
 
--- the end was answered
+-- the end was returned
 pub record EndsText {F : Type 0} (state : F → FeedState) (old new : Sourced F) : Type 0 where
   pub end_is : IsTrue (state old.feed).tells → front_of state old ≡ End
   pub given : new.given ≡ old.given
   pub last : new.last ≡ Some (res.Ok tt)
   pub current : new.current ≡ None
 
--- no whole record was read
+-- no complete record was read
 abbrev pub LacksRecord : {F : Type 0} → (F → FeedState) → Sourced F → Sourced F → Type 0
 LacksRecord state old new = IsTrue (state old.feed).tells → (read : Read) (ls : List (List ℕ)) →
     front old.encoding (lines (whole_part (held state old new))) ≡ Found read ls → ⊥
@@ -128,8 +136,10 @@ abbrev pub if_endless : Type 0 → TextFault → Type 0
 if_endless P text.Endless = P
 if_endless P _ = Unit {0}
 
--- A fault was answered. No read fails, and none is one too many, where the feed has told its end.
-pub record StopsText {F : Type 0} (state : F → FeedState) (old new : Sourced F) (why : TextFault) : Type 0 where
+-- A fault was returned. After the feed has reported its end, no read call fails and none is one too
+-- many.
+pub record StopsText {F : Type 0} (state : F → FeedState) (old new : Sourced F) (why : TextFault)
+    : Type 0 where
   pub fault_is : IsTrue (state old.feed).tells → FaultIs (front_of state old) (old.given + 1) why
   pub given : new.given ≡ old.given
   pub last : new.last ≡ Some (res.Err why)
@@ -138,7 +148,7 @@ pub record StopsText {F : Type 0} (state : F → FeedState) (old new : Sourced F
   pub going : if_read (old.ended ≡ false) why
   pub endless : if_endless (new.max_reads ≤ new.taken) why
 
--- how often the feed failed in a call
+-- how often the feed failed during a call
 abbrev pub failed_in : {T : Type 0} → Result T TextFault → ℕ
 failed_in (res.Ok x) = 0
 failed_in (res.Err text.Read) = 1

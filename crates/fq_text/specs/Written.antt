@@ -1,5 +1,5 @@
--- A record as it is written: four unwrapped lines of the FASTQ format
--- (Cock, Fields, Goto, Heuer and Rice, Nucleic Acids Research 38(6), 1767 to 1771, 2010).
+-- A record as it is written: four unwrapped lines of the FASTQ format (Cock, Fields, Goto, Heuer
+-- and Rice, Nucleic Acids Research 38(6), 1767 to 1771, 2010).
 use Rattle.std.specs.Prelude.{◌≡◌, ℕ, ◌+◌, IsTrue, Option, Some, None, List, [], ◌∷◌, ◌++◌, length, map}
 use Rattle.std.specs.List.{list_all}
 use Rattle.fq_text.specs.declared.encoding.Encoding.{Encoding}
@@ -13,15 +13,15 @@ use Rattle.fq_text.specs.Records.{with_first, records}
 abbrev pub line : List ℕ → List ℕ
 line bytes = bytes ++ 10 ∷ []
 
--- four lines
+-- the four lines of a record
 abbrev pub written : List ℕ → List ℕ → List ℕ → List ℕ
 written title seq qual = line (64 ∷ title) ++ line seq ++ line (43 ∷ []) ++ line qual
 
--- how many bytes these are: two marks, four line ends, and what stands between them
+-- the length of these lines: the parts, two marks and four line ends
 abbrev pub written_len : List ℕ → List ℕ → List ℕ → ℕ
 written_len title seq qual = length title + length seq + length qual + 6
 
--- the quality as it is written: as it stands, or each score at offset 33
+-- the quality as it is written: unchanged, or each score at offset 33
 abbrev pub written_quality : Option Encoding → List ℕ → List ℕ
 written_quality None qual = qual
 written_quality (Some encoding) qual = map (recoded encoding) qual
@@ -31,14 +31,17 @@ abbrev pub CanRecode : Option Encoding → List ℕ → Type 0
 CanRecode None qual = Unit {0}
 CanRecode (Some encoding) qual = IsTrue (list_all (is_scored encoding) qual)
 
--- the record that was written: recoded it is in Sanger's encoding
+-- the record that was written: if it was recoded, it is in Sanger's encoding
 abbrev pub as_written : Option Encoding → Read → Read
 as_written None read = read
-as_written (Some encoding) read = record read { encoding = Sanger; qual = map (recoded encoding) read.qual }
+as_written (Some encoding) read =
+    record read { encoding = Sanger; qual = map (recoded encoding) read.qual }
 
--- what was written is read again, recoded or not, and whatever follows it is read as it would be alone
+-- A valid record whose title does not end in CR reads back after it was written, recoded or not,
+-- and any text after it is read as it would be alone.
 abbrev pub ReadsBack : Type 0
 ReadsBack = (read : Read) (recode : Option Encoding) (text : List ℕ) →
     IsLawful read → without_cr read.title ≡ read.title → CanRecode recode read.qual →
     let first = as_written recode read in
-    records first.encoding (written read.title read.seq (written_quality recode read.qual) ++ text) ≡ with_first first (records first.encoding text)
+    records first.encoding (written read.title read.seq (written_quality recode read.qual) ++ text)
+    ≡ with_first first (records first.encoding text)

@@ -10,8 +10,9 @@ use std::marker::Model;
 
 /// A reader as a feed, such as an opened file.
 ///
-/// Nothing is said of its bytes, since what a file holds is not known: the feed tells none. Each error is a failure, also one
-/// that only says that a signal came (`ErrorKind::Interrupted`), and is then gone: a feed says that it failed, and not why.
+/// The feed does not tell its bytes, since what a file holds is not known. Each error counts as a
+/// failed read call, also one that only says that a signal came (`ErrorKind::Interrupted`). The
+/// error itself is dropped: a feed reports that it failed, but not why.
 #[derive(Drop)]
 pub struct FromRead<R: Read> {
     reader: R,
@@ -37,7 +38,7 @@ impl<R: Read> FromRead<R> {
         }
     }
 
-    /// The reader, as it stands.
+    /// Gives the reader back, in its current state.
     pub fn into_inner(self) -> R
         ensures { result ≡ self.inner }
     {
@@ -58,7 +59,7 @@ impl<R: Read> Feed for FromRead<R> {
         requires { self.old.failures < u64.MAX }
         ensures within { IfOk result (λ n. n ≤ length buf.old) }
         ensures failures { self.new.failures ≡ self.old.failures + (if is_ok result then 0 else 1) }
-        // Where the reader's own bytes are known, they move as a read moves them.
+        // If the bytes of the reader are known, they move as a read call moves them.
         ensures reader { ReadConsumes (R.remaining self.old.inner) (R.remaining self.new.inner) result buf.new }
     {
         match self.reader.read(buf) {
@@ -75,10 +76,11 @@ impl<R: Read> Feed for FromRead<R> {
     }
 }
 
-/// A writer as an outlet, such as a file that was made.
+/// A writer as an outlet, such as a file that is written.
 ///
-/// Nothing is said of its bytes: the outlet tells none. Each error is a failure, also one that only says that a signal came
-/// (`ErrorKind::Interrupted`), and so is a write that takes none of the bytes that it is given.
+/// The outlet does not tell its bytes. Each error counts as a failure, also one that only says that
+/// a signal came (`ErrorKind::Interrupted`), and so does a write that takes none of the bytes that
+/// it is given.
 #[derive(Drop)]
 pub struct FromWrite<W: Write> {
     writer: W,
@@ -104,7 +106,7 @@ impl<W: Write> FromWrite<W> {
         }
     }
 
-    /// The writer, as it stands. It isn't flushed.
+    /// Gives the writer back, in its current state. The writer is not flushed.
     pub fn into_inner(self) -> W
         ensures { result ≡ self.inner }
     {
@@ -135,7 +137,7 @@ impl<W: Write> Outlet for FromWrite<W> {
         ensures within { IfOk result (λ n. n ≤ length bytes.now) }
         ensures some { IfOk result (λ n. 0 < length bytes.now → 0 < n) }
         ensures failures { self.new.failures ≡ self.old.failures + (if is_ok result then 0 else 1) }
-        // Where the writer's own bytes are known, they grow as a write makes them.
+        // If the bytes of the writer are known, they grow as a write makes them grow.
         ensures writer { WriteAppends (W.contents self.old.inner) (W.contents self.new.inner) result bytes.now }
     {
         match self.writer.write(bytes) {
@@ -148,7 +150,7 @@ impl<W: Write> Outlet for FromWrite<W> {
     fn flush(&mut self) -> Result<(), OutletFailed>
         requires { self.old.failures < u64.MAX }
         ensures failures { self.new.failures ≡ self.old.failures + (if is_ok result then 0 else 1) }
-        // Where the writer's own bytes are known, they stay.
+        // If the bytes of the writer are known, they stay.
         ensures writer { Keeps (W.contents self.old.inner) (W.contents self.new.inner) }
     {
         match self.writer.flush() {

@@ -1,4 +1,4 @@
-//! The bytes that were read and are not used up.
+//! The buffer of bytes that were read and not used yet.
 
 ghost use Rattle.std.specs.Prelude.{◌≡◌, ℕ, ◌+◌, ◌-◌, ◌<◌, ◌≤◌, [], length, take, drop, IfOk, OnOk, MatchResult};
 ghost use Rattle.fq_text.specs.Lines.{without_cr};
@@ -9,7 +9,7 @@ use crate::feed::Feed;
 use std::alloc::{AllocError, Global};
 use std::marker::Model;
 
-/// How many bytes of a piece are its line: all but one CR at the end.
+/// The length of a piece without the one CR that it may end with.
 pub(crate) fn len_without_cr(piece: &[u8]) -> usize
     ensures within { result ≤ length piece.now }
     ensures line { without_cr piece.now ≡ take result piece.now }
@@ -22,7 +22,7 @@ pub(crate) fn len_without_cr(piece: &[u8]) -> usize
     }
 }
 
-// Makes room for a chunk behind the first `filled` bytes.
+// Makes room for a chunk after the first `filled` bytes.
 fn grow(bytes: &mut Vec<u8>, filled: usize, chunk: usize) -> Result<(), AllocError>
     requires filled { filled ≤ length bytes.old.items }
     requires room { filled + chunk < u64.MAX }
@@ -36,7 +36,7 @@ fn grow(bytes: &mut Vec<u8>, filled: usize, chunk: usize) -> Result<(), AllocErr
     Ok(())
 }
 
-// Reads once, behind the first `filled` bytes.
+// Makes one read call, whose bytes come after the first `filled` bytes.
 fn read_more<F: Feed>(
     feed: &mut F,
     bytes: &mut Vec<u8>,
@@ -47,9 +47,12 @@ fn read_more<F: Feed>(
     requires filled { filled ≤ length bytes.old.items }
     requires room { filled + chunk < u64.MAX }
     requires some { 0 < chunk }
-    ensures moved { MatchResult result (λ n. Moved F.state feed.old feed.new (take filled bytes.old.items) (take (filled + n) bytes.new.items) chunk n)
-        (MovesOr F.state feed.old feed.new (take filled bytes.old.items) (take filled bytes.new.items)) }
-    ensures within { MatchResult result (λ n. filled + n ≤ length bytes.new.items) (λ _. filled ≤ length bytes.new.items) }
+    ensures moved { MatchResult result (λ n. Moved F.state feed.old feed.new
+        (take filled bytes.old.items) (take (filled + n) bytes.new.items) chunk n)
+        (MovesOr F.state feed.old feed.new (take filled bytes.old.items)
+        (take filled bytes.new.items)) }
+    ensures within { MatchResult result (λ n. filled + n ≤ length bytes.new.items)
+        (λ _. filled ≤ length bytes.new.items) }
     ensures failures { (F.state feed.new).failures ≡ (F.state feed.old).failures + fails result }
     ensures told { (F.state feed.new).tells ≡ (F.state feed.old).tells }
 {
@@ -60,11 +63,11 @@ fn read_more<F: Feed>(
     }
 }
 
-/// The line that was used up last, and the bytes behind it that are in hand.
+/// The line that was taken last, and the bytes after it that are in hand: read and not used yet.
 #[derive(Drop)]
 pub(crate) struct Buffer {
     bytes: Vec<u8>,
-    // The last line.
+    // The line that was taken last.
     line_start: usize,
     line_end: usize,
     // The bytes in hand.
@@ -83,13 +86,14 @@ impl Model for Buffer {
       in_hand = take (b.filled - b.start) (drop b.start b.bytes.items);
     } };
 
-    ghost invariant = { λ b. (b.line_start ≤ b.line_end) × (b.line_end ≤ b.start) × (b.start ≤ b.filled) × (b.filled ≤ length b.bytes.items) };
+    ghost invariant = { λ b. (b.line_start ≤ b.line_end) × (b.line_end ≤ b.start)
+        × (b.start ≤ b.filled) × (b.filled ≤ length b.bytes.items) };
 }
 
 impl Buffer {
     ghost use Rattle.fq_text.specs.Reading.{Buffered};
 
-    /// Nothing in hand, and room for a chunk.
+    /// A buffer with no bytes in hand and room for a chunk.
     pub(crate) fn new(alloc: Global, chunk: usize) -> Result<Buffer, AllocError>
         ensures { IfOk result (λ b. b ≡ record { line = []; in_hand = [] }) }
     {
@@ -104,7 +108,7 @@ impl Buffer {
         })
     }
 
-    /// The line that was used up last.
+    /// The line that was taken last.
     pub(crate) fn line(&self) -> &[u8]
         ensures { result.now ≡ self.now.line }
     {
@@ -125,11 +129,15 @@ impl Buffer {
         self.filled - self.start
     }
 
-    /// Uses up the next line: `len` bytes without its line end, `used` with it.
+    /// Takes the next line. `len` is its length without the line end, and `used` its length with
+    /// the line end.
     pub(crate) fn use_line(&mut self, len: usize, used: usize)
         requires within { len ≤ used }
         requires in_hand { used ≤ length self.old.in_hand }
-        ensures { self.new ≡ record { line = without_cr (take len self.old.in_hand); in_hand = drop used self.old.in_hand } }
+        ensures { self.new ≡ record {
+          line = without_cr (take len self.old.in_hand);
+          in_hand = drop used self.old.in_hand;
+        } }
     {
         let start = self.start;
         let end = start + len_without_cr(&self.bytes[start..start + len]);
@@ -138,7 +146,8 @@ impl Buffer {
         self.start = start + used;
     }
 
-    // Moves the bytes in hand to the front, where at least as many have been used up.
+    // Moves the bytes in hand to the front of the buffer, if they are no more than the bytes before
+    // them.
     fn make_room(&mut self)
         ensures { self.new ≡ record { line = []; in_hand = self.old.in_hand } }
     {
@@ -152,7 +161,7 @@ impl Buffer {
         }
     }
 
-    /// Reads once, at most `chunk` bytes.
+    /// Makes one read call, for at most `chunk` bytes.
     pub(crate) fn read_from<F: Feed>(
         &mut self,
         feed: &mut F,
@@ -161,9 +170,11 @@ impl Buffer {
         requires failures { (F.state feed.old).failures < u64.MAX }
         requires some { 0 < chunk }
         requires small { chunk ≤ 1048576 }
-        ensures moved { MatchResult result (Moved F.state feed.old feed.new self.old.in_hand self.new.in_hand chunk)
+        ensures moved { MatchResult result
+            (Moved F.state feed.old feed.new self.old.in_hand self.new.in_hand chunk)
             (MovesOr F.state feed.old feed.new self.old.in_hand self.new.in_hand) }
-        ensures failures { (F.state feed.new).failures ≡ (F.state feed.old).failures + fails result }
+        ensures failures { (F.state feed.new).failures
+            ≡ (F.state feed.old).failures + fails result }
         ensures told { (F.state feed.new).tells ≡ (F.state feed.old).tells }
     {
         self.make_room();

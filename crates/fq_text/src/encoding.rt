@@ -1,4 +1,4 @@
-//! How quality bytes stand for Phred scores.
+//! Quality encodings: the Phred score that each quality byte stands for.
 
 ghost use Rattle.std.specs.Prelude.{◌≡◌, ◌≤◌, ◌+◌, true, map};
 ghost use Rattle.std.specs.List.{list_all};
@@ -7,15 +7,15 @@ ghost use Rattle.fq_text.specs.declared.encoding.Encoding.TheVariants.{Solexa};
 
 use crate::vectors::are_from;
 
-// The Phred scores of the bytes 59 to 126 in Solexa's encoding, which stand for the Solexa scores -5 to 62.
+// The Phred scores of the bytes 59 to 126 in Solexa's encoding: of the Solexa scores -5 to 62.
 const PHRED_OF_SOLEXA: [u8; 68] = [
     1, 1, 2, 2, 3, 3, 4, 4, 5, 5, 6, 7, 8, 9, 10, 10, 11, 12, 13, 14, 15, 16, 17, 18, 19, 20, 21,
     22, 23, 24, 25, 26, 27, 28, 29, 30, 31, 32, 33, 34, 35, 36, 37, 38, 39, 40, 41, 42, 43, 44, 45,
     46, 47, 48, 49, 50, 51, 52, 53, 54, 55, 56, 57, 58, 59, 60, 61, 62,
 ];
 
-/// The encoding of quality bytes: one byte for each base, a printable character that stands for the base's Phred score
-/// (Cock, Fields, Goto, Heuer and Rice, Nucleic Acids Research 38(6), 2010).
+/// How quality bytes stand for Phred scores. Each base has one quality byte, a printable ASCII
+/// character (Cock, Fields, Goto, Heuer and Rice, Nucleic Acids Research 38(6), 2010).
 #[derive(Clone, Copy, Debug, PartialEq, Eq)]
 pub enum Encoding {
     /// Sanger: Phred scores 0 to 93, as bytes 33 (`!`) to 126 (`~`).
@@ -24,21 +24,22 @@ pub enum Encoding {
     Illumina13,
     /// Solexa, also Illumina before 1.3: Solexa scores -5 to 62, as bytes 59 (`;`) to 126 (`~`).
     ///
-    /// A Solexa score, which is the byte less 64, is no Phred score: it is 10 times the decimal logarithm of the odds that the base
-    /// is right. Each counts as the nearest Phred score:
+    /// A Solexa score is the byte minus 64. It is not a Phred score, but 10 times the decimal
+    /// logarithm of the odds that the base is right. Each Solexa score counts as the nearest Phred
+    /// score:
     ///
     /// | Solexa | -5 | -4 | -3 | -2 | -1 | 0 | 1 | 2 | 3 | 4 | 5 | 6 | 7 | 8 | 9 | 10 to 62 |
     /// |---|---|---|---|---|---|---|---|---|---|---|---|---|---|---|---|---|
     /// | Phred | 1 | 1 | 2 | 2 | 3 | 3 | 4 | 4 | 5 | 5 | 6 | 7 | 8 | 9 | 10 | the same number |
     ///
-    /// So two bytes may have one score.
+    /// So two bytes can have the same score.
     Solexa,
 }
 
 impl Encoding {
     ghost use Rattle.fq_text.specs.Scores.{lowest, score, recoded};
 
-    // The least byte that has a score.
+    // The lowest byte that has a score.
     fn lowest(self) -> u8
         ensures { result ≡ lowest self }
     {
@@ -49,7 +50,7 @@ impl Encoding {
         }
     }
 
-    /// The Phred score of a quality byte. `None` where the byte has none in this encoding.
+    /// The Phred score of a quality byte, or `None` if the byte has no score in this encoding.
     pub fn score(self, byte: u8) -> Option<u8>
         ensures { result ≡ score self byte }
     {
@@ -60,7 +61,8 @@ impl Encoding {
         }
     }
 
-    /// The Phred score of a quality byte that has one: [`Encoding::score`] without its test, for reads that are known to have scores.
+    /// The Phred score of a quality byte that has one: [`Encoding::score`] without its test, for
+    /// reads whose bytes are known to have scores.
     pub fn phred(self, byte: u8) -> u8
         requires { is_scored self byte ≡ true }
         ensures { result ≡ value_of self byte }
@@ -72,14 +74,14 @@ impl Encoding {
         }
     }
 
-    /// Whether each of these quality bytes has a score. So it is with no bytes.
+    /// Whether every byte has a score in this encoding. True for an empty slice.
     pub fn all_scored(self, bytes: &[u8]) -> bool
         ensures { result ≡ list_all (is_scored self) bytes.now }
     {
         are_from(self.lowest(), bytes)
     }
 
-    // Writes each byte's score at offset 33.
+    // Replaces each byte by the byte that has the same score at offset 33.
     pub(crate) fn recode(self, bytes: &mut [u8])
         requires { list_all (is_scored self) bytes.old ≡ true }
         ensures { bytes.new ≡ map (recoded self) bytes.old }
@@ -90,7 +92,7 @@ impl Encoding {
     }
 }
 
-// What the table at [`Encoding::Solexa`] has for the Solexa score byte - 64.
+// The Phred score that the table at [`Encoding::Solexa`] has for the Solexa score `byte - 64`.
 fn phred_of_solexa(byte: u8) -> u8
     requires { is_scored Solexa byte ≡ true }
     ensures { result ≡ value_of Solexa byte }
@@ -98,7 +100,7 @@ fn phred_of_solexa(byte: u8) -> u8
     PHRED_OF_SOLEXA[usize::from(byte - 59)]
 }
 
-/// The quality byte of a Phred score, 0 to 93, in Sanger's encoding: the score plus 33.
+/// The quality byte of a Phred score from 0 to 93 in Sanger's encoding: the score plus 33.
 pub fn from_score33(score: u8) -> u8
     requires { score ≤ 93 }
     ensures { result ≡ score + 33 }

@@ -1,11 +1,11 @@
-//! What can be wrong with a text.
+//! The faults of a text, and the other reasons why reading stops.
 
 ghost use Rattle.std.specs.Prelude.{◌≡◌};
 
 use std::alloc::AllocError;
 use thiserror::Error;
 
-/// A fault of a record.
+/// What is wrong with a record.
 #[derive(Clone, Copy, Debug, PartialEq, Eq)]
 pub(crate) enum Fault {
     NoTitle,
@@ -18,12 +18,14 @@ pub(crate) enum Fault {
     TooLong,
 }
 
-/// Why a text gave no further record. The number that a fault of the text carries is its record's, counted from 1.
+/// Why no further record was read. A fault of the text carries the number of its record, counted
+/// from 1.
 ///
-/// The rules are those of the FASTQ format (Cock et al., Nucleic Acids Research 38(6), 1767 to 1771, 2010).
+/// The rules are those of the FASTQ format (Cock et al., Nucleic Acids Research 38(6), 1767 to
+/// 1771, 2010).
 #[derive(Clone, Copy, Debug, PartialEq, Eq, Error)]
 pub enum TextFault {
-    /// A line where a title is expected doesn't begin with `@`.
+    /// The line is expected to be a title line, but does not begin with `@`.
     #[error("record {0}: the title line doesn't begin with @")]
     NoTitle(u64),
     /// A sequence line begins with `@`, or holds a byte outside 33 to 126.
@@ -32,7 +34,7 @@ pub enum TextFault {
     /// The text ends before the line that begins with `+`.
     #[error("record {0}: the text ends before the + line")]
     NoPlus(u64),
-    /// The line that begins with `+` holds more, and not the title.
+    /// The text after the `+` is neither empty nor the title.
     #[error("record {0}: the + line holds another title")]
     PlusDiffers(u64),
     /// A quality byte has no score in the encoding.
@@ -47,10 +49,10 @@ pub enum TextFault {
     /// A line, or the joined sequence, has more than 1,048,576 bytes.
     #[error("record {0}: a line or the sequence has more than 1048576 bytes")]
     TooLong(u64),
-    /// The feed failed.
+    /// A read call on the feed failed.
     #[error("the input could not be read")]
     Read,
-    /// As many reads were made as are allowed, and one more is needed.
+    /// The allowed number of read calls was made, and one more is needed.
     #[error("the input does not end")]
     Endless,
     /// Memory was refused.
@@ -58,7 +60,7 @@ pub enum TextFault {
     OutOfMemory,
 }
 
-/// Why a record couldn't be read.
+/// Why a record could not be read, without the record's number.
 #[derive(Clone, Copy, Debug, PartialEq, Eq)]
 pub(crate) enum ReadError {
     Fault(Fault),
@@ -70,7 +72,7 @@ pub(crate) enum ReadError {
 impl ReadError {
     ghost use Rattle.fq_text.specs.Sources.{text_fault};
 
-    /// The fault of the record of this number.
+    /// This error as a [`TextFault`] of the record with this number.
     pub(crate) fn numbered(self, number: u64) -> TextFault
         ensures { result ≡ text_fault self number }
     {

@@ -1,4 +1,4 @@
-//! What is wrong with one line of a record. The length of a line is judged where it is read.
+//! Checks of one line of a record. The length of the line is checked where it is read.
 
 ghost use Rattle.std.specs.Prelude.{◌≡◌, ◌+◌, ◌<◌, ◌≤◌, ℕ, true, length};
 ghost use Rattle.std.specs.List.{list_all};
@@ -8,10 +8,10 @@ use crate::encoding::Encoding;
 use crate::fault::Fault;
 use crate::vectors::are_from;
 
-/// The most bytes of a line, and of a sequence whose lines are joined.
+/// The most bytes of a line, and of a sequence after its lines are joined.
 pub(crate) const LIMIT: usize = 1_048_576;
 
-/// Whether a line begins with a mark.
+/// Whether a line begins with this byte.
 pub(crate) fn begins_with(line: &[u8], mark: u8) -> bool
     ensures { result ≡ begins mark line.now }
 {
@@ -21,7 +21,7 @@ pub(crate) fn begins_with(line: &[u8], mark: u8) -> bool
     }
 }
 
-/// Whether each byte is printable and not blank: 33 to 126.
+/// Whether every byte is printable and not blank: 33 to 126.
 pub(crate) fn all_bases(line: &[u8]) -> bool
     ensures { result ≡ list_all is_base line.now }
 {
@@ -39,7 +39,7 @@ pub(crate) fn title_fault(line: &[u8]) -> Option<Fault>
     }
 }
 
-/// The fault of a sequence line behind so many bases.
+/// The fault of a sequence line after `bases` bases of the same record, if there is one.
 pub(crate) fn sequence_fault(bases: usize, line: &[u8]) -> Option<Fault>
     requires before { bases ≤ limit }
     requires line { length line.now ≤ limit }
@@ -70,7 +70,8 @@ pub(crate) fn plus_fault(title: &[u8], line: &[u8]) -> Option<Fault>
     }
 }
 
-/// The fault of a quality line behind so many quality bytes.
+/// The fault of a quality line after `before` quality bytes of the same record, which has `bases`
+/// bases, if there is one.
 pub(crate) fn quality_fault(
     encoding: Encoding,
     bases: usize,

@@ -2,11 +2,13 @@
 
 ghost use Rattle.fq_text.specs.Written.{ReadsBack};
 
-/// What [`put_record`](crate::put_record) writes is read again, whatever follows it.
+/// What [`put_record`](crate::put_record) writes reads back as the same record, whatever follows
+/// it.
 ///
-/// For each lawful record whose title doesn't end in CR, written as it stands or with its scores at offset 33, and for any bytes
-/// behind it: the text's records are this one, with the quality as it was written (in Sanger's encoding where it was recoded), and
-/// then exactly the records of those bytes, up to the same fault.
+/// This holds for each valid record whose title does not end in CR, written as it is or with its
+/// scores at offset 33, and for any bytes after it. The first record of the text is this record,
+/// with the quality as it was written (in Sanger's encoding if it was recoded). After it come
+/// exactly the records of those bytes, up to the same fault.
 pub fn read_back()
     ensures { ReadsBack }
 {}

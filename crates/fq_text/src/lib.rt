@@ -1,4 +1,4 @@
-//! FASTQ texts: reading, writing, and the devices that they come from and go to.
+//! Reads and writes FASTQ text, from and to devices: feeds and outlets.
 #![tactic(auto)]
 
 mod adapters;

@@ -12,7 +12,7 @@ use crate::judge::LIMIT;
 use memchr::memchr;
 use std::marker::Model;
 
-/// A feed that is read by lines.
+/// A reader of the lines of a feed.
 #[derive(Drop)]
 pub(crate) struct LineReader<F: Feed> {
     feed: F,
@@ -20,7 +20,7 @@ pub(crate) struct LineReader<F: Feed> {
     max_reads: u64,
     reads: u64,
     taken: u64,
-    // The feed has answered that nothing comes any more.
+    // Whether the feed has reported its end.
     ended: bool,
     buffer: Buffer,
 }
@@ -41,7 +41,8 @@ impl<F: Feed> Model for LineReader<F> {
       max_reads = r.max_reads;
     } };
 
-    ghost invariant = { λ r. (0 < r.chunk) × (r.chunk ≤ 1048576) × (r.max_reads ≤ 2 ^ 40) × (r.reads ≤ r.max_reads) × (r.taken ≤ r.reads * r.chunk)
+    ghost invariant = { λ r. (0 < r.chunk) × (r.chunk ≤ 1048576) × (r.max_reads ≤ 2 ^ 40)
+        × (r.reads ≤ r.max_reads) × (r.taken ≤ r.reads * r.chunk)
         × (r.ended ≡ false → r.reads ≤ r.taken)
         × (IsTrue r.ended → IsTrue (F.state r.feed).tells → (F.state r.feed).to_come ≡ []) };
 }
@@ -56,7 +57,15 @@ impl<F: Feed> LineReader<F> {
         requires some { 0 < chunk }
         requires small { chunk ≤ 1048576 }
         requires few { max_reads ≤ 2 ^ 40 }
-        ensures { result ≡ record { feed = feed; line = []; in_hand = []; ended = false; taken = 0; chunk = chunk; max_reads = max_reads } }
+        ensures { result ≡ record {
+          feed = feed;
+          line = [];
+          in_hand = [];
+          ended = false;
+          taken = 0;
+          chunk = chunk;
+          max_reads = max_reads;
+        } }
     {
         LineReader {
             feed,
@@ -69,51 +78,56 @@ impl<F: Feed> LineReader<F> {
         }
     }
 
-    /// The feed, as it stands.
+    /// The feed in its current state.
     pub(crate) fn feed(&self) -> &F
         ensures { result.now ≡ self.now.feed }
     {
         &self.feed
     }
 
-    /// The feed, as it stands.
+    /// The feed in its current state.
     pub(crate) fn into_feed(self) -> F
         ensures { result ≡ self.feed }
     {
         self.feed
     }
 
-    /// The last line.
+    /// The line that was read last.
     pub(crate) fn line(&self) -> &[u8]
         ensures { result.now ≡ self.now.line }
     {
         self.buffer.line()
     }
 
-    /// The bytes in hand.
+    /// The bytes in hand: those read from the feed and not used yet.
     pub(crate) fn hand(&self) -> &[u8]
         ensures { result.now ≡ self.now.in_hand }
     {
         self.buffer.in_hand()
     }
 
-    /// Takes the next line out of the bytes in hand: `len` bytes without its line end, `used` with it.
+    /// Takes the next line out of the bytes in hand. `len` is its length without the line end, and
+    /// `used` its length with the line end.
     pub(crate) fn take_line(&mut self, len: usize, used: usize)
         requires within { len ≤ used }
         requires in_hand { used ≤ length self.old.in_hand }
-        ensures { self.new ≡ record self.old { line = without_cr (take len self.old.in_hand); in_hand = drop used self.old.in_hand } }
+        ensures { self.new ≡ record self.old {
+          line = without_cr (take len self.old.in_hand);
+          in_hand = drop used self.old.in_hand;
+        } }
     {
         self.buffer.use_line(len, used);
     }
 
-    // Reads once more.
+    // Makes one more read call.
     fn fill(&mut self) -> Result<(), ReadError>
         requires failures { (F.state self.old.feed).failures < u64.MAX }
         requires going { self.old.ended ≡ false }
         requires small { length self.old.in_hand ≤ 1048577 }
         ensures fills { Fills F.state self.old self.new result }
         ensures sound { IsSound F.state self.new }
-        ensures failures { (F.state self.new.feed).failures ≡ (F.state self.old.feed).failures + fails result }
+        ensures failures { (F.state self.new.feed).failures
+            ≡ (F.state self.old.feed).failures + fails result }
     {
         if self.reads == self.max_reads {
             return Err(ReadError::Endless);
@@ -125,15 +139,17 @@ impl<F: Feed> LineReader<F> {
         Ok(())
     }
 
-    /// Goes on to the next line, if there is one.
+    /// Reads the next line. Returns `false` at the end of the text.
     pub(crate) fn advance(&mut self) -> Result<bool, ReadError>
         requires failures { (F.state self.old.feed).failures < u64.MAX }
         requires sound { IsSound F.state self.old }
-        ensures step { MatchResult result (Advances F.state self.old self.new) (Halts F.state self.old self.new) }
+        ensures step { MatchResult result (Advances F.state self.old self.new)
+            (Halts F.state self.old self.new) }
         ensures sound { IsSound F.state self.new }
-        ensures failures { (F.state self.new.feed).failures ≡ (F.state self.old.feed).failures + fails result }
+        ensures failures { (F.state self.new.feed).failures
+            ≡ (F.state self.old.feed).failures + fails result }
     {
-        // So many bytes in hand hold no LF.
+        // How many of the bytes in hand are known to hold no LF.
         let mut scanned = 0;
         loop {
             if let Some(at) = self.line_end_from(scanned) {
@@ -162,7 +178,7 @@ impl<F: Feed> LineReader<F> {
         self.buffer.len()
     }
 
-    // The place of the first LF in hand, of which the first bytes hold none.
+    // The index of the first LF in hand. The first `scanned` bytes are known to hold none.
     fn line_end_from(&self, scanned: usize) -> Option<usize>
         requires within { scanned ≤ length self.now.in_hand }
         requires none { NoLf self.now.in_hand scanned }
@@ -175,10 +191,11 @@ impl<F: Feed> LineReader<F> {
         }
     }
 
-    // The answer behind a line that was taken.
+    // The result of reading the line that was just taken, which may be too long.
     fn judged(&self) -> Result<bool, ReadError>
         ensures ok { IfOk result (λ more. (more ≡ true) × (length self.now.line ≤ limit)) }
-        ensures err { IfErr result (λ error. (error ≡ ReadError.Fault TooLong) × (limit < length self.now.line)) }
+        ensures err { IfErr result (λ error. (error ≡ ReadError.Fault TooLong)
+            × (limit < length self.now.line)) }
     {
         if self.line().len() > LIMIT {
             Err(ReadError::Fault(Fault::TooLong))

@@ -1,7 +1,7 @@
-//! Want of memory.
+//! The error of a refused allocation.
 
-/// A growth was refused: there is no memory left for it.
+/// Memory was refused.
 ///
-/// Each call that answers this says what it leaves. It's the standard library's error of an allocation under the name that this
-/// crate's calls give it, so `?` takes either.
+/// Each function that returns this error says what state it leaves. It is the allocation error of
+/// the standard library, under the name that this crate uses, so `?` works on both.
 pub use std::alloc::AllocError as OutOfMemory;

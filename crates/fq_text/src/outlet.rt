@@ -14,17 +14,19 @@ pub struct OutletFailed;
 
 /// A device that takes bytes, such as a file that is written.
 ///
-/// An outlet tells its bytes for good or never. Memory does ([`ScriptOutlet`]), and a file doesn't
-/// ([`FromWrite`](crate::FromWrite)). What the contracts say of the bytes taken is said of outlets that tell them; the counts hold
-/// of all.
+/// An outlet that tells its bytes is one whose bytes contracts can name, as memory
+/// ([`ScriptOutlet`]); a file ([`FromWrite`](crate::FromWrite)) does not tell its bytes. Whether an
+/// outlet tells them never changes. Promises about bytes hold for outlets that tell them. Promises
+/// about counts hold for all outlets.
 pub trait Outlet {
-    /// What contracts see of the outlet: whether it tells its bytes, those taken so far, and how many writes and flushes have
-    /// failed.
+    /// What contracts see of the outlet: whether it tells its bytes, those taken so far, and how
+    /// many writes and flushes have failed.
     ghost state: { Self → OutletState };
 
-    /// Takes the first n of these bytes behind those that it has, and answers n: 1 or more, unless there are none to take.
+    /// Takes the first n of these bytes, after those taken before, and returns n: 1 or more, unless
+    /// there are no bytes.
     ///
-    /// A failure takes nothing, and is counted.
+    /// A failed call takes nothing and is counted.
     fn write(&mut self, bytes: &[u8]) -> Result<usize, OutletFailed>
         requires { (state self.old).failures < u64.MAX }
         ensures within { IfOk result (λ n. n ≤ length bytes.now) }
@@ -46,14 +48,15 @@ pub trait Outlet {
         ensures { result ≡ (state self.now).failures };
 }
 
-/// An outlet into memory that cuts its writes, and fails when it is told to. It shows how a program behaves on such a device.
+/// An outlet into memory that limits the bytes of each write and fails at a chosen one. It shows
+/// how a program behaves on such a device.
 ///
-/// A growth that is refused in a write is a failure of that write.
+/// If a write needs more memory and is refused it, the write fails.
 #[derive(Drop)]
 pub struct ScriptOutlet {
     bytes: Vec<u8>,
     cut: usize,
-    // The writes up to and with the one that fails, or 0.
+    // The number of writes up to and including the one that fails, or 0 if none fails.
     fails_in: u64,
     flush_fails: bool,
     failures: u64,
@@ -78,9 +81,10 @@ impl Model for ScriptOutlet {
 }
 
 impl ScriptOutlet {
-    /// An outlet that has taken nothing. It takes at most `cut` bytes (1 or more) with each write.
+    /// An outlet that has taken nothing. It takes at most `cut` bytes (1 or more) in each write.
     ///
-    /// The write of number `fail_at` fails, counted from 1, or none at 0. Each flush fails where `flush_fails` is true.
+    /// The write number `fail_at`, counted from 1, fails; if `fail_at` is 0, none fails. Every
+    /// flush fails if `flush_fails` is true.
     pub fn new(alloc: Global, cut: usize, fail_at: u64, flush_fails: bool) -> ScriptOutlet
         requires { 0 < cut }
         ensures { result ≡ record { bytes = []; room = 0; cut = cut; fails_in = fail_at; flush_fails = flush_fails; failures = 0 } }
@@ -117,8 +121,8 @@ impl Outlet for ScriptOutlet {
     fn write(&mut self, bytes: &[u8]) -> Result<usize, OutletFailed>
         requires { self.old.failures < u64.MAX }
 
-        // The write that the script names fails, and any other only where more memory is needed. Else it takes all the bytes, or
-        // as many as go in one write.
+        // The chosen write fails, and any other only if more memory is needed. Otherwise a write
+        // takes all the bytes, but no more than `cut`.
         ensures fails { self.old.fails_in ≡ 1 → IsErr result }
         ensures full { OnErr result (self.old.fails_in ≢ 1 → self.old.room < length self.old.bytes + min (length bytes.now) self.old.cut) }
         ensures count { IfOk result (λ n. n ≡ min (length bytes.now) self.old.cut) }
@@ -146,7 +150,7 @@ impl Outlet for ScriptOutlet {
     fn flush(&mut self) -> Result<(), OutletFailed>
         requires { self.old.failures < u64.MAX }
 
-        // It fails exactly where the script says so, and changes nothing but the count of failures.
+        // It fails exactly if `flush_fails` is true, and changes nothing but the count of failures.
         ensures fails { is_err result ≡ self.old.flush_fails }
         ensures kept { self.new ≡ record self.old { failures = self.new.failures } }
         ensures failures { self.new.failures ≡ self.old.failures + (if is_ok result then 0 else 1) }
@@ -171,9 +175,11 @@ pub struct Sent {
     pub count: usize,
 }
 
-/// Sends all bytes, by as many writes as the outlet makes of them. It makes no write where there are no bytes, and doesn't flush.
+/// Sends all bytes, by as many writes as the outlet needs. If there are no bytes, nothing is
+/// written. It does not flush.
 ///
-/// The first failure ends it: the outlet has then taken the first `count` bytes, and failed once in this call.
+/// It stops at the first failure: the outlet has then taken the first `count` bytes, and has failed
+/// once in this call.
 pub fn send<O: Outlet>(outlet: &mut O, bytes: &[u8]) -> Result<(), Sent>
     requires { (O.state outlet.old).failures < u64.MAX }
     ensures ok { OnOk result (IsTrue (O.state outlet.old).tells → (O.state outlet.new).taken ≡ (O.state outlet.old).taken ++ bytes.now) }

@@ -1,4 +1,4 @@
-//! Reads a record line by line.
+//! Reads a record: as a whole if it is in hand as four unwrapped lines, otherwise line by line.
 
 ghost use Rattle.std.specs.Prelude.{◌≡◌, ◌+◌, ◌*◌, ◌<◌, ◌≤◌, ℕ, true, List, [], ◌∷◌, length, drop, MatchResult, IfOk, IfSome, Ok, Some, None};
 ghost use Rattle.fq_text.specs.Grammar.{limit, begins_with, front, Read, Found};
@@ -17,16 +17,17 @@ use crate::lines::LineReader;
 use crate::record::Parts;
 use crate::unwrapped::{Shape, first_record};
 
-/// Where a record lies that has been read.
+/// Where the parts of the record that was read last are.
 #[derive(Clone, Copy)]
 pub(crate) enum Place {
-    /// In the four lines of this shape that were taken last.
+    /// In the four lines that were taken last. They have this shape.
     Unwrapped(Shape),
-    /// In the parts, their lines joined.
+    /// In the [`Parts`], with their lines joined.
     Joined,
 }
 
-// Reads to the first title, if there is one, and begins the parts of its record.
+// Reads up to the next title and begins the parts of its record. Returns `false` at the end of the
+// text.
 fn read_title<F: Feed>(
     encoding: Encoding,
     lines: &mut LineReader<F>,
@@ -34,9 +35,11 @@ fn read_title<F: Feed>(
 ) -> Result<bool, ReadError>
     requires failures { (F.state lines.old.feed).failures < u64.MAX }
     requires sound { IsSound F.state lines.old }
-    ensures step { MatchResult result (FindsTitle F.state lines.old lines.new encoding parts.new) (Stops F.state lines.old lines.new (front encoding)) }
+    ensures step { MatchResult result (FindsTitle F.state lines.old lines.new encoding parts.new)
+        (Stops F.state lines.old lines.new (front encoding)) }
     ensures sound { IsSound F.state lines.new }
-    ensures failures { (F.state lines.new.feed).failures ≡ (F.state lines.old.feed).failures + fails result }
+    ensures failures { (F.state lines.new.feed).failures
+        ≡ (F.state lines.old.feed).failures + fails result }
 {
     while lines.advance()? {
         let line = lines.line();
@@ -53,7 +56,7 @@ fn read_title<F: Feed>(
     Ok(false)
 }
 
-// Reads the sequence lines, and the plus line.
+// Reads the sequence lines and the plus line.
 fn read_sequence<F: Feed>(lines: &mut LineReader<F>, parts: &mut Parts) -> Result<(), ReadError>
     requires failures { (F.state lines.old.feed).failures < u64.MAX }
     requires sound { IsSound F.state lines.old }
@@ -62,7 +65,8 @@ fn read_sequence<F: Feed>(lines: &mut LineReader<F>, parts: &mut Parts) -> Resul
     ensures step { MatchResult result (FindsPlus F.state lines.old lines.new parts.old parts.new)
         (Stops F.state lines.old lines.new (in_sequence parts.old.encoding parts.old.title [])) }
     ensures sound { IsSound F.state lines.new }
-    ensures failures { (F.state lines.new.feed).failures ≡ (F.state lines.old.feed).failures + fails result }
+    ensures failures { (F.state lines.new.feed).failures
+        ≡ (F.state lines.old.feed).failures + fails result }
 {
     while lines.advance()? {
         let line = lines.line();
@@ -84,9 +88,11 @@ fn read_quality<F: Feed>(lines: &mut LineReader<F>, parts: &mut Parts) -> Result
     requires bases { length parts.old.seq ≤ limit }
     requires scores { parts.old.qual ≡ [] }
     ensures step { MatchResult result (FindsRecord F.state lines.old lines.new parts.old parts.new)
-        (Stops F.state lines.old lines.new (in_quality parts.old.encoding parts.old.title parts.old.seq [])) }
+        (Stops F.state lines.old lines.new
+        (in_quality parts.old.encoding parts.old.title parts.old.seq [])) }
     ensures sound { IsSound F.state lines.new }
-    ensures failures { (F.state lines.new.feed).failures ≡ (F.state lines.old.feed).failures + fails result }
+    ensures failures { (F.state lines.new.feed).failures
+        ≡ (F.state lines.old.feed).failures + fails result }
 {
     let bases = parts.seq().len();
     while parts.qual().len() < bases {
@@ -102,17 +108,20 @@ fn read_quality<F: Feed>(lines: &mut LineReader<F>, parts: &mut Parts) -> Result
     Ok(())
 }
 
-// Takes the next record, where it stands whole in hand in four unwrapped lines. So many bases are a guess.
+// Takes the next record if it is whole in hand as four unwrapped lines. `guess` is the number of
+// bases that is tried first.
 fn take_in_hand<F: Feed>(
     encoding: Encoding,
     guess: usize,
     lines: &mut LineReader<F>,
 ) -> Option<Shape>
     requires { IsSound F.state lines.old }
-    ensures found { IfSome result (λ shape. Goes F.state lines.old lines.new (front encoding) (Found (unwrapped encoding shape (drop 1 lines.new.line)))) }
+    ensures found { IfSome result (λ shape. Goes F.state lines.old lines.new (front encoding)
+        (Found (unwrapped encoding shape (drop 1 lines.new.line)))) }
     ensures whole { IfSome result (λ shape. lines_len shape ≤ length lines.new.line) }
     ensures none { result ≡ None → lines.new ≡ lines.old }
-    ensures passed_by { result ≡ None → (shape : Shape) → StandsFirst encoding lines.old.in_hand shape → ⊥ }
+    ensures passed_by { result ≡ None → (shape : Shape)
+        → StandsFirst encoding lines.old.in_hand shape → ⊥ }
     ensures sound { IsSound F.state lines.new }
     ensures feed { lines.new.feed ≡ lines.old.feed }
 {
@@ -126,7 +135,8 @@ fn take_in_hand<F: Feed>(
     Some(shape)
 }
 
-// Reads the next record, if there is one, and answers where it lies. Of one in four unwrapped lines so many bases are a guess.
+// Reads the next record and returns where it is, or `None` at the end of the text. `guess` is the
+// number of bases that is tried first.
 pub(crate) fn read_record<F: Feed>(
     encoding: Encoding,
     guess: usize,
@@ -135,12 +145,15 @@ pub(crate) fn read_record<F: Feed>(
 ) -> Result<Option<Place>, ReadError>
     requires failures { (F.state lines.old.feed).failures < u64.MAX }
     requires sound { IsSound F.state lines.old }
-    ensures step { MatchResult result (λ o. FindsNext F.state lines.old lines.new encoding (current_at encoding lines.new.line parts.new o))
+    ensures step { MatchResult result (λ o. FindsNext F.state lines.old lines.new encoding
+        (current_at encoding lines.new.line parts.new o))
         (Stops F.state lines.old lines.new (front encoding)) }
     ensures place { IfOk result (λ o. IfSome o (IsPlace lines.new.line)) }
-    ensures lent { result ≡ Ok (Some Joined) → (shape : Shape) → StandsFirst encoding lines.old.in_hand shape → ⊥ }
+    ensures lent { result ≡ Ok (Some Joined) → (shape : Shape)
+        → StandsFirst encoding lines.old.in_hand shape → ⊥ }
     ensures sound { IsSound F.state lines.new }
-    ensures failures { (F.state lines.new.feed).failures ≡ (F.state lines.old.feed).failures + fails result }
+    ensures failures { (F.state lines.new.feed).failures
+        ≡ (F.state lines.old.feed).failures + fails result }
 {
     match take_in_hand(encoding, guess, lines) {
         Some(shape) => Ok(Some(Place::Unwrapped(shape))),
@@ -154,7 +167,7 @@ pub(crate) fn read_record<F: Feed>(
     }
 }
 
-// Reads what follows a title.
+// Reads what follows a title: the sequence, the plus line and the quality.
 fn read_rest<F: Feed>(lines: &mut LineReader<F>, parts: &mut Parts) -> Result<(), ReadError>
     requires failures { (F.state lines.old.feed).failures < u64.MAX }
     requires sound { IsSound F.state lines.old }
@@ -163,7 +176,8 @@ fn read_rest<F: Feed>(lines: &mut LineReader<F>, parts: &mut Parts) -> Result<()
     ensures step { MatchResult result (FindsRest F.state lines.old lines.new parts.old parts.new)
         (Stops F.state lines.old lines.new (in_sequence parts.old.encoding parts.old.title [])) }
     ensures sound { IsSound F.state lines.new }
-    ensures failures { (F.state lines.new.feed).failures ≡ (F.state lines.old.feed).failures + fails result }
+    ensures failures { (F.state lines.new.feed).failures
+        ≡ (F.state lines.old.feed).failures + fails result }
 {
     read_sequence(lines, parts)?;
     match plus_fault(parts.title(), lines.line()) {

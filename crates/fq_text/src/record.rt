@@ -1,4 +1,4 @@
-//! What a record holds.
+//! Records that own their bytes.
 
 ghost use Rattle.std.specs.Prelude.{◌≡◌, ◌++◌, [], IfOk, OnOk, OnErr};
 
@@ -8,7 +8,8 @@ use crate::view::ReadView;
 use std::alloc::{AllocError, Global};
 use std::marker::Model;
 
-/// The parts of a record that is being read, in one buffer: title, sequence, quality. The buffer is used again for the next record.
+/// The title, sequence and quality of the record that is being read, in one buffer, which is reused
+/// for the next record.
 #[derive(Drop)]
 pub(crate) struct Parts {
     encoding: Encoding,
@@ -36,7 +37,7 @@ impl Model for Parts {
 impl Parts {
     ghost use Rattle.fq_text.specs.Grammar.{Read, IsLawful};
 
-    /// Each part is empty.
+    /// Empty parts.
     pub(crate) fn new(alloc: Global, encoding: Encoding) -> Parts
         ensures { result ≡ record { encoding = encoding; title = []; seq = []; qual = [] } }
     {
@@ -48,9 +49,10 @@ impl Parts {
         }
     }
 
-    /// Begins a record of which the title is known.
+    /// Begins a record that has this title.
     pub(crate) fn begin(&mut self, encoding: Encoding, title: &[u8]) -> Result<(), AllocError>
-        ensures { OnOk result (self.new ≡ record { encoding = encoding; title = title.now; seq = []; qual = [] }) }
+        ensures { OnOk result (self.new
+            ≡ record { encoding = encoding; title = title.now; seq = []; qual = [] }) }
     {
         self.encoding = encoding;
         self.title_len = 0;
@@ -62,7 +64,7 @@ impl Parts {
         Ok(())
     }
 
-    /// Copies a read. A refusal leaves what there was.
+    /// Copies a read. If memory is refused, the parts are unchanged.
     pub(crate) fn copy_from(&mut self, read: &ReadView<'_>) -> Result<(), AllocError>
         ensures ok { OnOk result (self.new ≡ read.now) }
         ensures err { OnErr result (self.new ≡ self.old) }
@@ -123,7 +125,7 @@ impl Parts {
         &self.bytes[self.title_len + self.seq_len..]
     }
 
-    /// A whole record, lent.
+    /// Borrows the parts as a read. They have to make a valid record.
     pub(crate) fn view(&self) -> ReadView<'_>
         requires { IsLawful self.now }
         ensures { result ≡ self.now }
@@ -134,9 +136,10 @@ impl Parts {
 
 /// One read of a FASTQ text: its title, its sequence and its quality, one line each.
 ///
-/// The type keeps what the format asks of each part: the title has no line feed and is shorter than the longest line,
-/// the sequence has at most 1,048,576 bytes, all printable and not blank (33 to 126), and begins neither with `@` nor
-/// with `+`, and the quality has one byte for each base, each with a score in the record's encoding.
+/// The type keeps what the format asks of each part. The title has no line feed and fewer than
+/// 1,048,576 bytes. The sequence has at most 1,048,576 bytes, all printable and not blank (33 to
+/// 126), and begins with neither `@` nor `+`. The quality has one byte for each base, each with a
+/// score in the record's encoding.
 #[derive(Drop)]
 pub struct FastqRecord {
     parts: Parts,
@@ -155,7 +158,8 @@ impl Model for FastqRecord {
 impl FastqRecord {
     ghost use Rattle.fq_text.specs.Grammar.{Read, IsLawful};
 
-    /// A record of which each part is empty, to be [copied into](FastqRecord::copy_from). It asks for no memory.
+    /// A record whose parts are all empty, to be [copied into](FastqRecord::copy_from). It asks for
+    /// no memory.
     pub fn empty(alloc: Global, encoding: Encoding) -> FastqRecord
         ensures { result ≡ record { encoding = encoding; title = []; seq = []; qual = [] } }
     {
@@ -164,7 +168,8 @@ impl FastqRecord {
         }
     }
 
-    /// A copy of a read, for one that is to be kept when its lender goes on. Want of memory is its one error.
+    /// A copy of a read, which stays when the record or block that the read is borrowed from
+    /// changes. The only error is that memory was refused.
     pub fn copy_of(alloc: Global, read: &ReadView<'_>) -> Result<FastqRecord, OutOfMemory>
         ensures { IfOk result (λ copy. copy ≡ read.now) }
     {
@@ -173,8 +178,8 @@ impl FastqRecord {
         Ok(copy)
     }
 
-    /// Makes this record a copy of a read. Memory is asked for only where no record that it held before was as long; a refusal
-    /// leaves the record as it was.
+    /// Makes this record a copy of a read. Memory is asked for only if no record that it held
+    /// before was as long. If memory is refused, the record is unchanged.
     pub fn copy_from(&mut self, read: &ReadView<'_>) -> Result<(), OutOfMemory>
         ensures ok { OnOk result (self.new ≡ read.now) }
         ensures err { OnErr result (self.new ≡ self.old) }
@@ -182,14 +187,14 @@ impl FastqRecord {
         self.parts.copy_from(read)
     }
 
-    /// How the quality bytes stand for scores.
+    /// How the quality bytes stand for Phred scores.
     pub fn encoding(&self) -> Encoding
         ensures { result ≡ self.now.encoding }
     {
         self.parts.encoding()
     }
 
-    /// The title: what follows the `@` of the title line, without the line end.
+    /// The title: the title line without its `@` and its line end.
     pub fn title(&self) -> &[u8]
         ensures title { result.now ≡ self.now.title }
         ensures lawful { IsLawful self.now }
@@ -197,21 +202,21 @@ impl FastqRecord {
         self.parts.title()
     }
 
-    /// The sequence, one byte a base, its lines joined.
+    /// The sequence, one byte per base, with its lines joined.
     pub fn seq(&self) -> &[u8]
         ensures { result.now ≡ self.now.seq }
     {
         self.parts.seq()
     }
 
-    /// The quality bytes, one a base, its lines joined.
+    /// The quality, one byte per base, with its lines joined.
     pub fn qual(&self) -> &[u8]
         ensures { result.now ≡ self.now.qual }
     {
         self.parts.qual()
     }
 
-    /// The record, lent.
+    /// Borrows the record as a [`ReadView`].
     pub fn view(&self) -> ReadView<'_>
         ensures { result ≡ self.now }
     {

@@ -1,4 +1,4 @@
-//! Records out of a feed.
+//! Reads the records of a feed.
 
 ghost use Rattle.std.specs.Prelude.{◌≡◌, ℕ, ◌+◌, ◌-◌, ◌*◌, ◌<◌, ◌≤◌, ◌^◌, [], true, false, Some, None, Ok, Err, IfOk, IfErr, IfSome, IsSome, MatchOption};
 
@@ -16,26 +16,26 @@ use std::fmt::Debug;
 use std::marker::Model;
 use thiserror::Error;
 
-/// Memory was refused to a source. It hands the feed back as it was.
+/// The source could not be allocated. The feed is returned unchanged.
 #[derive(Debug, Drop, Error)]
 #[error_bound(F: Debug + Drop)]
 #[error("out of memory")]
 pub struct NoSource<F> {
-    /// The feed that was handed in.
+    /// The feed that was passed in.
     pub feed: F,
 }
 
-/// The records of a feed's text, one after the other.
+/// Reads the records of a feed's text, one after the other.
 #[derive(Drop)]
 pub struct Source<F: Feed> {
     alloc: Global,
     encoding: Encoding,
     lines: LineReader<F>,
     parts: Parts,
-    // Where the record in hand lies.
+    // Where the parts of the record in hand are.
     place: Option<Place>,
     given: u64,
-    // The end or the fault that was answered.
+    // The end or the fault that was returned.
     last: Option<Result<(), TextFault>>,
 }
 
@@ -75,7 +75,8 @@ impl<F: Feed> Source<F> {
     ghost use Rattle.fq_text.specs.declared.fault.TextFault.TheVariants.{OutOfMemory};
     ghost use Rattle.fq_text.specs.Sources.{Sourced, answer_of, more_of, KeepsCount, GivesRecord, EndsText, StopsText, failed_in};
 
-    /// A source of the records of a feed's text: at most `max_reads` reads of at most `chunk` bytes each.
+    /// A source of the records of a feed's text. It makes at most `max_reads` read calls, each for
+    /// at most `chunk` bytes.
     pub fn new(
         alloc: Global,
         feed: F,
@@ -116,31 +117,35 @@ impl<F: Feed> Source<F> {
         }
     }
 
-    /// The feed, as it stands. Bytes that were read and are still in hand go.
+    /// Gives the feed back in its current state. Bytes that were read and not used yet are dropped.
     pub fn into_feed(self) -> F
         ensures { result ≡ self.feed }
     {
         self.lines.into_feed()
     }
 
-    /// The feed, as it stands.
+    /// The feed in its current state.
     pub fn feed(&self) -> &F
         ensures { result.now ≡ self.now.feed }
     {
         self.lines.feed()
     }
 
-    /// A record in the source's encoding of which each part is empty, to be [copied into](Source::next_into). It asks for no memory.
+    /// A record in the source's encoding whose parts are all empty, to be [copied
+    /// into](Source::next_into). It asks for no memory.
     pub fn empty_record(&self) -> FastqRecord
-        ensures { result ≡ record { encoding = self.now.encoding; title = []; seq = []; qual = [] } }
+        ensures { result
+            ≡ record { encoding = self.now.encoding; title = []; seq = []; qual = [] } }
     {
         FastqRecord::empty(self.alloc, self.encoding)
     }
 
-    /// Goes on to the next record and leaves it in hand, to be lent by [`record`](Source::record); `false` at the end. A fault, or the
-    /// end, is the answer from then on, and no record is in hand.
+    /// Reads the next record, which is then in hand: [`record`](Source::record) borrows it. Returns
+    /// `false` at the end of the text. After the end or a fault no record is in hand, and each
+    /// further call returns the same again.
     ///
-    /// No record is copied, but for one whose lines are joined, into memory that is used again.
+    /// A record that is whole in the buffer as four unwrapped lines is not copied. The lines of any
+    /// other record are joined in memory that is reused.
     ///
     /// ```text
     /// while source.advance()? {
@@ -149,17 +154,21 @@ impl<F: Feed> Source<F> {
     /// }
     /// ```
     pub fn advance(&mut self) -> Result<bool, TextFault>
-        // A last answer stays, and nothing more is read.
-        ensures again { MatchOption self.old.last (Unit {0}) (λ last. (result ≡ more_of last) × (self.new ≡ self.old)) }
+        // After the end or a fault, the result is the same again and nothing is read.
+        ensures again { MatchOption self.old.last (Unit {0})
+            (λ last. (result ≡ more_of last) × (self.new ≡ self.old)) }
 
-        // Otherwise the answer is what stands in front of the rest.
-        ensures found { self.old.last ≡ None → result ≡ Ok true → MatchOption self.new.current ⊥ (GivesRecord F.state self.old self.new) }
+        // Otherwise the result is what the rest of the text begins with.
+        ensures found { self.old.last ≡ None → result ≡ Ok true
+            → MatchOption self.new.current ⊥ (GivesRecord F.state self.old self.new) }
         ensures in_hand { result ≡ Ok true → IsSome self.new.current }
-        ensures end { self.old.last ≡ None → result ≡ Ok false → EndsText F.state self.old self.new }
+        ensures end { self.old.last ≡ None → result ≡ Ok false
+            → EndsText F.state self.old self.new }
         ensures fault { self.old.last ≡ None → IfErr result (StopsText F.state self.old self.new) }
 
-        // The feed fails where the answer says so, and what it gives is counted.
-        ensures failures { self.old.last ≡ None → (F.state self.new.feed).failures ≡ (F.state self.old.feed).failures + failed_in result }
+        // The feed failed exactly if the result says so, and the bytes that it gave are counted.
+        ensures failures { self.old.last ≡ None → (F.state self.new.feed).failures
+            ≡ (F.state self.old.feed).failures + failed_in result }
         ensures count { KeepsCount F.state self.old self.new }
         ensures bound { self.new.given ≤ self.new.taken }
         ensures limit { self.new.taken ≤ self.new.max_reads * self.new.chunk }
@@ -172,7 +181,8 @@ impl<F: Feed> Source<F> {
         }
     }
 
-    /// The record in hand, lent: [`advance`](Source::advance) has just answered `true`, or [`next`](Source::next) a record.
+    /// Borrows the record in hand: there is one if [`advance`](Source::advance) has just returned
+    /// `true`, or [`next`](Source::next) a record.
     pub fn record(&self) -> ReadView<'_>
         requires { IsSome self.now.current }
         ensures record { self.now.current ≡ Some result }
@@ -184,18 +194,22 @@ impl<F: Feed> Source<F> {
         }
     }
 
-    /// A copy of the next record, which is in hand too. A fault, or the end, is the answer from then on.
+    /// Reads the next record and returns a copy, or `None` at the end of the text. The record is
+    /// also in hand. After the end or a fault, each further call returns the same again.
     pub fn next(&mut self) -> Result<Option<FastqRecord>, TextFault>
-        // A last answer stays, and nothing more is read.
-        ensures again { MatchOption self.old.last (Unit {0}) (λ last. (result ≡ answer_of last) × (self.new ≡ self.old)) }
+        // After the end or a fault, the result is the same again and nothing is read.
+        ensures again { MatchOption self.old.last (Unit {0})
+            (λ last. (result ≡ answer_of last) × (self.new ≡ self.old)) }
 
-        // Otherwise the answer is what stands in front of the rest.
-        ensures found { self.old.last ≡ None → IfOk result (λ o. IfSome o (GivesRecord F.state self.old self.new)) }
+        // Otherwise the result is what the rest of the text begins with.
+        ensures found { self.old.last ≡ None
+            → IfOk result (λ o. IfSome o (GivesRecord F.state self.old self.new)) }
         ensures end { self.old.last ≡ None → result ≡ Ok None → EndsText F.state self.old self.new }
         ensures fault { self.old.last ≡ None → IfErr result (StopsText F.state self.old self.new) }
 
-        // The feed fails where the answer says so, and what it gives is counted.
-        ensures failures { self.old.last ≡ None → (F.state self.new.feed).failures ≡ (F.state self.old.feed).failures + failed_in result }
+        // The feed failed exactly if the result says so, and the bytes that it gave are counted.
+        ensures failures { self.old.last ≡ None → (F.state self.new.feed).failures
+            ≡ (F.state self.old.feed).failures + failed_in result }
         ensures count { KeepsCount F.state self.old self.new }
         ensures bound { self.new.given ≤ self.new.taken }
         ensures limit { self.new.taken ≤ self.new.max_reads * self.new.chunk }
@@ -209,23 +223,28 @@ impl<F: Feed> Source<F> {
         }
     }
 
-    /// A copy of the next record, put into `copy`, whose memory is used again; `false` at the end. It is in hand too. A fault, or the
-    /// end, is the answer from then on, and leaves `copy` as it was.
+    /// Reads the next record and copies it into `copy`, whose memory is reused. The record is also
+    /// in hand. Returns `false` at the end of the text. At the end or a fault `copy` is unchanged,
+    /// and each further call returns the same again.
     pub fn next_into(&mut self, copy: &mut FastqRecord) -> Result<bool, TextFault>
-        // A last answer stays, and nothing more is read.
-        ensures again { MatchOption self.old.last (Unit {0}) (λ last. (result ≡ more_of last) × (self.new ≡ self.old)) }
+        // After the end or a fault, the result is the same again and nothing is read.
+        ensures again { MatchOption self.old.last (Unit {0})
+            (λ last. (result ≡ more_of last) × (self.new ≡ self.old)) }
 
-        // Otherwise the answer is what stands in front of the rest.
-        ensures found { self.old.last ≡ None → result ≡ Ok true → GivesRecord F.state self.old self.new copy.new }
-        ensures end { self.old.last ≡ None → result ≡ Ok false → EndsText F.state self.old self.new }
+        // Otherwise the result is what the rest of the text begins with.
+        ensures found { self.old.last ≡ None → result ≡ Ok true
+            → GivesRecord F.state self.old self.new copy.new }
+        ensures end { self.old.last ≡ None → result ≡ Ok false
+            → EndsText F.state self.old self.new }
         ensures fault { self.old.last ≡ None → IfErr result (StopsText F.state self.old self.new) }
 
-        // Where no record is answered there is still what there was.
+        // If no record is returned, `copy` is unchanged.
         ensures kept_at_end { result ≡ Ok false → copy.new ≡ copy.old }
         ensures kept_at_fault { IfErr result (λ why. copy.new ≡ copy.old) }
 
-        // The feed fails where the answer says so, and what it gives is counted.
-        ensures failures { self.old.last ≡ None → (F.state self.new.feed).failures ≡ (F.state self.old.feed).failures + failed_in result }
+        // The feed failed exactly if the result says so, and the bytes that it gave are counted.
+        ensures failures { self.old.last ≡ None → (F.state self.new.feed).failures
+            ≡ (F.state self.old.feed).failures + failed_in result }
         ensures count { KeepsCount F.state self.old self.new }
         ensures bound { self.new.given ≤ self.new.taken }
         ensures limit { self.new.taken ≤ self.new.max_reads * self.new.chunk }
@@ -238,13 +257,18 @@ impl<F: Feed> Source<F> {
         }
     }
 
-    // Copies the record in hand. Where it is refused the record was not given.
+    // Copies the record in hand. If memory is refused, the record does not count as given.
     fn copied_into(&mut self, copy: &mut FastqRecord) -> Result<bool, TextFault>
         requires current { IsSome self.old.current }
         requires given { 0 < self.old.given }
-        ensures ok { IfOk result (λ more. (more ≡ true) × (self.old.current ≡ Some copy.new) × (self.new ≡ self.old)) }
+        ensures ok { IfOk result (λ more. (more ≡ true) × (self.old.current ≡ Some copy.new)
+            × (self.new ≡ self.old)) }
         ensures err { IfErr result (λ why. (why ≡ OutOfMemory) × (copy.new ≡ copy.old)
-            × (self.new ≡ record self.old { given = self.old.given - 1; last = Some (Err OutOfMemory); current = None })) }
+            × (self.new ≡ record self.old {
+              given = self.old.given - 1;
+              last = Some (Err OutOfMemory);
+              current = None;
+            })) }
     {
         let copied = copy.copy_from(&self.record());
         match copied {
@@ -258,19 +282,22 @@ impl<F: Feed> Source<F> {
         }
     }
 
-    // Reads the next record, which comes into hand, or the last answer.
+    // Reads the next record, which is then in hand, or the end or the fault.
     fn read_next(&mut self) -> Result<bool, TextFault>
         requires { self.old.last ≡ None }
-        ensures found { result ≡ Ok true → MatchOption self.new.current ⊥ (GivesRecord F.state self.old self.new) }
+        ensures found { result ≡ Ok true
+            → MatchOption self.new.current ⊥ (GivesRecord F.state self.old self.new) }
         ensures end { result ≡ Ok false → EndsText F.state self.old self.new }
         ensures fault { IfErr result (StopsText F.state self.old self.new) }
-        ensures failures { (F.state self.new.feed).failures ≡ (F.state self.old.feed).failures + failed_in result }
+        ensures failures { (F.state self.new.feed).failures
+            ≡ (F.state self.old.feed).failures + failed_in result }
         ensures count { KeepsCount F.state self.old self.new }
         ensures bound { self.new.given ≤ self.new.taken }
         ensures limit { self.new.taken ≤ self.new.max_reads * self.new.chunk }
         ensures fits { self.new.taken ≤ 2 ^ 60 }
     {
-        // No record is in hand while the next is read. It may have as many bases.
+        // No record is in hand while the next is read. The guess is that it has as many bases as
+        // this one.
         let guess = match self.place.take() {
             Some(Place::Unwrapped(shape)) => shape.bases,
             _ => self.parts.seq().len(),

@@ -1,4 +1,5 @@
-//! A record of four unwrapped lines that is whole in hand: most files hold no other, and it is lent as it stands there.
+//! Finds a record of four unwrapped lines that is whole in hand. Most files hold no other records,
+//! and such a record is borrowed from the buffer without a copy.
 
 ghost use Rattle.std.specs.Prelude.{◌≡◌, ◌↔◌, ◌+◌, ◌*◌, ◌-◌, ◌≤◌, ◌⊎◌, ℕ, None, take, drop, length, slice_index, IsTrue, IfSome};
 ghost use Rattle.fq_text.specs.Grammar.{limit, IsLawful};
@@ -11,8 +12,9 @@ use crate::judge::{LIMIT, begins_with};
 use crate::view::{ReadView, is_lawful_line};
 use memchr::memchr;
 
-/// How long the parts of a record are: the title, the sequence, each line end (LF, or CR and LF), and what follows the mark of the third
-/// line, which is nothing or the title again.
+/// The lengths in bytes of a record of four unwrapped lines: the title, the bases, each line end (1
+/// for LF, 2 for CR and LF), and the text after the `+` of the third line (0, or the length of the
+/// title).
 #[derive(Clone, Copy)]
 pub(crate) struct Shape {
     pub(crate) title: usize,
@@ -21,14 +23,14 @@ pub(crate) struct Shape {
     pub(crate) again: usize,
 }
 
-// How long a line is, and its end: LF, or CR and LF.
+// The lengths in bytes of a line and of its line end: 1 for LF, 2 for CR and LF.
 #[derive(Clone, Copy)]
 struct FirstLine {
     len: usize,
     end: usize,
 }
 
-// Whether a line end of so many bytes stands at this place.
+// Whether there is a line end of `end` bytes at this index.
 fn ends_at(hand: &[u8], place: usize, end: usize) -> bool
     requires some { 1 ≤ end }
     requires within { place + end ≤ length hand.now }
@@ -37,7 +39,7 @@ fn ends_at(hand: &[u8], place: usize, end: usize) -> bool
     hand[place + end - 1] == b'\n' && (end == 1 || hand[place] == b'\r')
 }
 
-// Whether so many bytes at this place are those behind the first.
+// Whether the `len` bytes at this index are those after the first byte.
 fn repeats(hand: &[u8], place: usize, len: usize) -> bool
     requires some { 1 ≤ place }
     requires within { place + len ≤ length hand.now }
@@ -46,10 +48,11 @@ fn repeats(hand: &[u8], place: usize, len: usize) -> bool
     len == 0 || hand[place..place + len] == hand[1..1 + len]
 }
 
-// Whether each of four lines of this shape ends where it does.
+// Whether each of the four line ends of this shape is where it has to be.
 fn do_lines_end(hand: &[u8], shape: Shape) -> bool
     requires some { 1 ≤ shape.end }
-    requires fits { shape.title + shape.bases + shape.bases + shape.again + 4 * shape.end + 2 ≤ length hand.now }
+    requires fits { shape.title + shape.bases + shape.bases + shape.again + 4 * shape.end + 2
+        ≤ length hand.now }
     ensures { IsTrue result ↔ DoLinesEnd hand.now shape }
 {
     let Shape {
@@ -64,7 +67,7 @@ fn do_lines_end(hand: &[u8], shape: Shape) -> bool
         && ends_at(hand, title + bases + bases + again + 3 * end + 2, end)
 }
 
-// Whether the marks, the line ends and what follows the second mark stand where they do in four lines of this shape.
+// Whether `@`, `+`, the line ends and the text after the `+` are where this shape has them.
 fn are_four_lines(hand: &[u8], shape: Shape) -> bool
     requires some { 1 ≤ shape.end }
     requires end { shape.end ≤ 2 }
@@ -89,7 +92,7 @@ fn are_four_lines(hand: &[u8], shape: Shape) -> bool
         && repeats(hand, plus + 1, again)
 }
 
-// Whether a record of this shape stands first in these bytes.
+// Whether these bytes begin with a valid record of this shape.
 fn stands_first(encoding: Encoding, hand: &[u8], shape: Shape) -> bool
     requires shape { IsShape shape }
     requires title { IsFirstLine (drop 1 hand.now) shape.title shape.end }
@@ -114,12 +117,13 @@ fn stands_first(encoding: Encoding, hand: &[u8], shape: Shape) -> bool
     )
 }
 
-// The shape of a record with this title and so many bases that stands first in these bytes.
+// The shape of the record that these bytes begin with, if it has this title and `bases` bases.
 fn shape_of(encoding: Encoding, hand: &[u8], title: FirstLine, bases: usize) -> Option<Shape>
     requires { IsFirstLine (drop 1 hand.now) title.len title.end }
     ensures found { IfSome result (StandsFirst encoding hand.now) }
     ensures none { result ≡ None → (again : ℕ)
-        → StandsFirst encoding hand.now (record { title = title.len; bases = bases; end = title.end; again = again }) → ⊥ }
+        → StandsFirst encoding hand.now
+        (record { title = title.len; bases = bases; end = title.end; again = again }) → ⊥ }
 {
     let FirstLine { len: title, end } = title;
     if title >= LIMIT || bases > LIMIT || hand.get(title + bases + 2 * end + 1) != Some(&b'+') {
@@ -147,14 +151,14 @@ fn shape_of(encoding: Encoding, hand: &[u8], title: FirstLine, bases: usize) -> 
     }
 }
 
-// The place of the first LF, if there is one.
+// The index of the first LF, if there is one.
 fn line_end(text: &[u8]) -> Option<usize>
     ensures { IsLineEnd text.now result }
 {
     memchr(b'\n', text)
 }
 
-// The first line of a text, and how many bytes its line end has. A CR before the LF belongs to the end.
+// The lengths of the first line and of its line end. A CR before the LF belongs to the line end.
 fn first_line(text: &[u8]) -> Option<FirstLine>
     ensures found { IfSome result (λ l. IsFirstLine text.now l.len l.end) }
     ensures none { result ≡ None → NoLf text.now (length text.now) }
@@ -173,10 +177,12 @@ fn first_line(text: &[u8]) -> Option<FirstLine>
     }
 }
 
-/// The shape of a record that stands first in these bytes, in four lines that all end in LF or all in CR and LF, the third a bare `+`
-/// or one with the title behind it. Where it is `None` there is none, and may be a record of another form.
+/// The shape of the record that these bytes begin with, if it has four lines that all end in LF or
+/// all in CR and LF, and a third line that is `+` alone or `+` and the title. `None` if these bytes
+/// do not begin with such a record; they may begin with a record of another form.
 ///
-/// The end of the title is searched for. So is that of the sequence, but where as many bases as guessed make a record.
+/// The end of the title is searched for. The end of the sequence is searched for only if `guess`
+/// bases do not make a record.
 #[inline(always)]
 pub(crate) fn first_record(encoding: Encoding, hand: &[u8], guess: usize) -> Option<Shape>
     ensures found { IfSome result (StandsFirst encoding hand.now) }
@@ -198,7 +204,7 @@ pub(crate) fn first_record(encoding: Encoding, hand: &[u8], guess: usize) -> Opt
     }
 }
 
-/// The record of this shape in four lines, lent. The last line needs no end.
+/// Borrows the record of this shape from its four lines. The last line needs no line end.
 pub(crate) fn view_of(encoding: Encoding, lines: &[u8], shape: Shape) -> ReadView<'_>
     requires lawful { IsLawful (unwrapped encoding shape (drop 1 lines.now)) }
     requires whole { lines_len shape ≤ length lines.now }

@@ -1,4 +1,4 @@
-//! Bytes that are judged side by side, in a vector (SIMD).
+//! Checks of bytes in vectors (SIMD).
 
 ghost use Rattle.std.specs.Prelude.{◌≡◌, ◌&&◌, nat_le};
 ghost use Rattle.std.specs.List.{list_all};
@@ -9,8 +9,9 @@ use std::simd::prelude::*;
 // How many bytes a vector has.
 const WIDTH: usize = 32;
 
-/// Whether each byte is one from `lowest` to 126. Of the bytes at each place of a vector the least and the most are kept, and judged
-/// at the end. The last bytes are looked at first, and some of them once more with those before them.
+/// Whether every byte is from `lowest` to 126. The least and the greatest byte at each index of a
+/// vector are kept, and checked at the end. The last vector is read first. The vector before it may
+/// overlap it, so that no bytes are left over.
 pub(crate) fn are_from(lowest: u8, bytes: &[u8]) -> bool
     ensures { result ≡ list_all (is_from lowest) bytes.now }
 {
@@ -30,7 +31,7 @@ pub(crate) fn are_from(lowest: u8, bytes: &[u8]) -> bool
     are_between(lowest, least, most)
 }
 
-// Whether the least bytes are all at least `lowest`, and the most at most 126.
+// Whether all bytes of `least` are at least `lowest`, and all of `most` at most 126.
 #[inline(always)]
 fn are_between(lowest: u8, least: u8x32, most: u8x32) -> bool
     ensures { result ≡ list_all (λ b. nat_le lowest b) least && list_all (λ b. nat_le b 126) most }

@@ -1,4 +1,4 @@
-//! A read whose parts lie elsewhere.
+//! Reads that borrow their bytes.
 
 ghost use Rattle.std.specs.Prelude.{true, ◌≡◌, ◌↔◌, ◌==◌, not, IsTrue};
 ghost use Rattle.std.specs.List.{list_all};
@@ -9,7 +9,7 @@ use crate::judge::{LIMIT, all_bases, begins_with};
 use memchr::memchr;
 use std::marker::Model;
 
-// Whether a title is one line.
+// Whether a title is one line: it has no LF.
 fn is_one_line(title: &[u8]) -> bool
     ensures { result ≡ list_all (λ b. not (b == 10)) title.now }
 {
@@ -19,19 +19,22 @@ fn is_one_line(title: &[u8]) -> bool
     }
 }
 
-/// Whether the parts make a record that a FASTQ text can hold: the title has no line feed and fewer than 1,048,576
-/// bytes, the sequence has at most 1,048,576 bytes, all from 33 to 126, and begins neither with `@` nor with `+`,
-/// and the quality has as many bytes, each with a score in the encoding.
+/// Whether these parts make a valid record, one that a FASTQ text can hold. The title has no line
+/// feed and fewer than 1,048,576 bytes. The sequence has at most 1,048,576 bytes, all from 33 to
+/// 126, and begins with neither `@` nor `+`. The quality has as many bytes, each with a score in
+/// the encoding.
 pub fn is_lawful(encoding: Encoding, title: &[u8], seq: &[u8], qual: &[u8]) -> bool
-    ensures { IsTrue result ↔ IsLawful (record { encoding = encoding; title = title.now; seq = seq.now; qual = qual.now }) }
+    ensures { IsTrue result ↔ IsLawful
+        (record { encoding = encoding; title = title.now; seq = seq.now; qual = qual.now }) }
 {
     is_one_line(title) && is_lawful_line(encoding, title, seq, qual)
 }
 
-/// Whether the parts make such a record, where the title is known to be one line.
+/// [`is_lawful`] for a title that is known to be one line.
 pub(crate) fn is_lawful_line(encoding: Encoding, title: &[u8], seq: &[u8], qual: &[u8]) -> bool
     requires { list_all (λ b. not (b == 10)) title.now ≡ true }
-    ensures { IsTrue result ↔ IsLawful (record { encoding = encoding; title = title.now; seq = seq.now; qual = qual.now }) }
+    ensures { IsTrue result ↔ IsLawful
+        (record { encoding = encoding; title = title.now; seq = seq.now; qual = qual.now }) }
 {
     if title.len() >= LIMIT {
         return false;
@@ -42,8 +45,8 @@ pub(crate) fn is_lawful_line(encoding: Encoding, title: &[u8], seq: &[u8], qual:
     qual.len() == seq.len() && encoding.all_scored(qual)
 }
 
-/// One read, lent out of a record or a block: title, sequence and quality as [`FastqRecord`](crate::FastqRecord) has them,
-/// with the same rules.
+/// One read, borrowed from a record or a block: title, sequence and quality, with the same rules as
+/// in a [`FastqRecord`](crate::FastqRecord).
 #[derive(Drop)]
 pub struct ReadView<'a> {
     encoding: Encoding,
@@ -57,18 +60,30 @@ impl<'a> Model for ReadView<'a> {
 
     ghost Value = { Read };
 
-    ghost view = { λ v. record { encoding = v.encoding; title = v.title.now; seq = v.seq.now; qual = v.qual.now } };
+    ghost view = { λ v. record {
+      encoding = v.encoding;
+      title = v.title.now;
+      seq = v.seq.now;
+      qual = v.qual.now;
+    } };
 
-    ghost invariant = { λ v. IsLawful (record { encoding = v.encoding; title = v.title.now; seq = v.seq.now; qual = v.qual.now }) };
+    ghost invariant = { λ v. IsLawful (record {
+      encoding = v.encoding;
+      title = v.title.now;
+      seq = v.seq.now;
+      qual = v.qual.now;
+    }) };
 }
 
 impl<'a> ReadView<'a> {
     ghost use Rattle.fq_text.specs.Grammar.{Read, IsLawful};
 
-    /// A read of these parts, which [`is_lawful`] tests.
+    /// A read of these parts. They have to be valid, which [`is_lawful`] tests.
     pub fn new(encoding: Encoding, title: &'a [u8], seq: &'a [u8], qual: &'a [u8]) -> ReadView<'a>
-        requires { IsLawful (record { encoding = encoding; title = title.now; seq = seq.now; qual = qual.now }) }
-        ensures { result ≡ record { encoding = encoding; title = title.now; seq = seq.now; qual = qual.now } }
+        requires { IsLawful
+            (record { encoding = encoding; title = title.now; seq = seq.now; qual = qual.now }) }
+        ensures { result
+            ≡ record { encoding = encoding; title = title.now; seq = seq.now; qual = qual.now } }
     {
         ReadView {
             encoding,
@@ -78,14 +93,14 @@ impl<'a> ReadView<'a> {
         }
     }
 
-    /// How the quality bytes stand for scores.
+    /// How the quality bytes stand for Phred scores.
     pub fn encoding(&self) -> Encoding
         ensures { result ≡ self.now.encoding }
     {
         self.encoding
     }
 
-    /// The title: what follows the `@` of the title line, without the line end.
+    /// The title: the title line without its `@` and its line end.
     pub fn title(&self) -> &'a [u8]
         ensures title { result.now ≡ self.now.title }
         ensures lawful { IsLawful self.now }
@@ -93,14 +108,14 @@ impl<'a> ReadView<'a> {
         self.title
     }
 
-    /// The sequence, one byte a base.
+    /// The sequence, one byte per base.
     pub fn seq(&self) -> &'a [u8]
         ensures { result.now ≡ self.now.seq }
     {
         self.seq
     }
 
-    /// The quality bytes, one a base.
+    /// The quality, one byte per base.
     pub fn qual(&self) -> &'a [u8]
         ensures { result.now ≡ self.now.qual }
     {

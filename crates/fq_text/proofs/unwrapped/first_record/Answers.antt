@@ -7,11 +7,11 @@ use Rattle.fq_text.specs.declared.unwrapped.Shape.{Shape}
 use Rattle.fq_text.proofs.UnwrappedLemmas.{same_line, first_line_ends, title_line, as_found, shape_is}
 use Rattle.fq_text.proofs.unwrapped.first_record.Goals as goal
 
--- what stands behind so many bytes
+-- the text after its first bytes
 abbrev behind : List ℕ → ℕ → List ℕ
 behind hand n = take (length hand - n) (drop n hand)
 
--- the two lines that were found first are those of the record that stands first
+-- the two lines that were found are the first lines of the record at the front
 two_lines : (e : Encoding) (hand : List ℕ) (s : Shape) (t k n m : ℕ) → StandsFirst e hand s → IsFirstLine (behind hand 1) t k → IsFirstLine (behind hand (t + k + 1)) n m →
     (t ≡ s.title) × (k ≡ s.end) × (n ≡ s.bases) × (m ≡ s.end)
 two_lines e hand s t k n m first title bases =

@@ -4,7 +4,8 @@ use lib.Lanes.{chunk}
 use Rattle.fq_text.specs.Scores.{is_from}
 use Rattle.fq_text.proofs.vectors.are_from.Given as goal
 
--- the least and the most bytes are in range where the last bytes and those before `start` are
+-- the least and the greatest bytes are in range exactly if the last bytes and those before
+-- `start` are
 abbrev pub invariant-loop-start : goal.invariant-loop-start
 invariant-loop-start l = record {
   room : l.start ≤ length l.bytes;

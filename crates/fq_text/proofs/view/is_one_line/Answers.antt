@@ -4,7 +4,7 @@ use Rattle.std.proofs.lemmas.Bool.{cases_Bool, and_from, not_from_false, not_fro
 use Rattle.std.proofs.lemmas.List.Folds.{list_all_at}
 use Rattle.fq_text.proofs.view.is_one_line.Goals as goal
 
--- no place has an LF
+-- no byte is LF
 without_lf : (xs : List ℕ) → ((k : ℕ) → 0 ≤ k → k < length xs → eqb (get_or xs k 0) 10 ≡ true → ⊥) → list_all (λ b. not (eqb b 10)) xs ≡ true
 without_lf [] none = refl
 without_lf (x ∷ xs) none = ⊎_elim

@@ -7,7 +7,7 @@ use Rattle.fq_text.specs.Scores.{is_scored, recoded}
 use Rattle.fq_text.proofs.ScoreLemmas.{at_place, value_small}
 use Rattle.fq_text.proofs.encoding.Encoding.recode.Goals as goal
 
--- the byte that comes next is still as it was
+-- the next byte is still unchanged
 next_byte : (e : Encoding) (was now : List ℕ) (i : ℕ) → i < length was → now ≡ map (recoded e) (take i was) ++ drop i was → get_or now i 0 ≡ get_or was i 0
 next_byte e was now i within is =
     ap (λ xs. get_or xs i 0) is
