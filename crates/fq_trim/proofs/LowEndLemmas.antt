@@ -1,4 +1,4 @@
--- Low scores at the end, in a vector that is turned round.
+-- Low scores at the end, in a reversed vector.
 use Rattle.std.proofs.Common.{◌≡◌, ℕ, suc, zero, ◌+◌, ◌-◌, ◌<◌, ◌≤◌, not, leb, List, [], ◌∷◌, ◌++◌, length, take, drop, get_or, map, refl, sym, ap, ◌∙◌, arith, ⊎_elim}
 use Rattle.std.specs.List.{prefix_len}
 use Rattle.std.proofs.lemmas.Bool.{leb-false, cases_lt}
@@ -26,7 +26,7 @@ turned_at v k long lt =
     ∙ ap (λ i. get_or (v ++ v) i 0) (get_or-countdown 16 k lt ∙ omega arith)
     ∙ get_or_append_left v v 0 (15 - k) (omega arith)
 
--- How many of the turned scores come before the first that is high.
+-- How many of the reversed scores are before the first that is high.
 module _ (v turned : List ℕ) (score r : ℕ) (long : length turned ≡ 16) (each : (k : ℕ) → k < 16 → get_or turned k 0 ≡ get_or v (15 - k) 0)
     (counted : r ≡ prefix_len (λ x. not (leb score x)) turned) where
   of_all : r ≡ prefix_len (λ x. not (leb score x)) (take 16 turned)
@@ -55,7 +55,7 @@ part_at offset start k qual part room lt is =
     ∙ ap (λ byte. byte - offset) (get_or-chunk start 16 qual k 0 lt)
     ∙ sym (get_or-map (λ byte. byte - offset) qual (start + k) 0 0 (omega arith))
 
--- scores that are low behind others, and those before them
+-- low scores at the end, and the scores before them
 pub lower : (offset score stop r : ℕ) (qual part : List ℕ) → 16 ≤ stop → stop ≤ length qual → part ≡ map (λ byte. byte - offset) (take 16 (drop (stop - 16) qual)) →
     ((k : ℕ) → 16 ≤ k + r → k < 16 → get_or part k 0 < score) → ((k : ℕ) → stop ≤ k → k < length qual → get_or (distances offset qual) k 0 < score) →
     r ≤ 16 → (k : ℕ) → stop - r ≤ k → k < length qual → get_or (distances offset qual) k 0 < score

@@ -1,4 +1,4 @@
--- The steps of words, one word after another.
+-- The steps of arguments, one after the other.
 use Rattle.std.proofs.Common.{◌≡◌, ℕ, zero, suc, ◌+◌, ◌-◌, ◌<◌, ◌≤◌, true, List, [], ◌∷◌, ◌++◌, length, take, drop, get_or, set, map, is_ok, refl, ap, sym, ◌∙◌, add-one, arith, Result, Ok, Err, eqb, ltb}
 use Rattle.std.proofs.lemmas.Bool.{cond-false, ne_eqb, le-ltb}
 use Rattle.std.proofs.lemmas.List.{append_assoc, append-nil, drop_all, drop_more, take_more_set}
@@ -7,7 +7,7 @@ use Rattle.fq_trim.specs.declared.fault.StepFault.{StepFault}
 use Rattle.fq_trim.specs.declared.fault.StepFaultKind.{StepFaultKind}
 use Rattle.fq_trim.specs.Words.{result_map, step_of, put_before, steps_from, steps_of, IsFirstFault}
 
--- what a list of words gives whose first words are steps
+-- what a list of arguments gives whose first ones are steps
 abbrev pub put_all : List Step → Result (List Step) StepFault → Result (List Step) StepFault
 put_all steps rest = result_map (λ others. steps ++ others) rest
 
@@ -35,17 +35,17 @@ module _ (words : List (List ℕ)) (held : List Step) (i : ℕ) (lt : i < length
       ∙ ap (put_all (take i held)) (next ∙ ap (λ r. put_before (suc i) r (steps_from (suc (suc i)) (drop (i + 1) words))) is)
       ∙ ap fault (sym (add-one i))
 
--- after the last word
+-- after the last argument
 pub all_held : (words : List (List ℕ)) (held : List Step) (i : ℕ) → length words ≤ i → steps_from 1 words ≡ put_all (take i held) (steps_from (suc i) (drop i words)) → steps_from 1 words ≡ Ok (take i held)
 all_held words held i le so_far = so_far ∙ ap (λ left. put_all (take i held) (steps_from (suc i) left)) (drop_all i words le) ∙ ap Ok (append-nil (take i held))
 
--- 1 to 64 words
+-- 1 to 64 arguments
 pub steps_of_few : (words : List (List ℕ)) → 0 < length words → length words ≤ 64 → steps_of words ≡ steps_from 1 words
 steps_of_few words some few =
     cond-false (eqb (length words) 0) _ _ (ne_eqb (length words) 0 (λ none. omega arith))
     ∙ cond-false (ltb 64 (length words)) _ _ (le-ltb 64 (length words) few)
 
--- Words that are all steps, and the first that is none.
+-- Arguments that are all steps, and the first that is not.
 record Put (place : ℕ) (one : Result Step StepFaultKind) (rest : Result (List Step) StepFault) (steps : List Step) : Type 0 where
   step : Step
   others : List Step
@@ -66,7 +66,7 @@ all_steps place (word ∷ words) steps is =
     let list : Step → List Step → List (Result Step StepFaultKind) = λ step others. Ok step ∷ map Ok others in
     ap (map Ok) put.both ∙ ap (λ r. r ∷ map Ok put.others) (sym put.first) ∙ ap (λ rs. step_of word ∷ rs) rest
 
--- where the first faulty word stands, counted from 0
+-- the index of the first faulty argument, counted from 0
 record FirstAt (place : ℕ) (words : List (List ℕ)) (fault : StepFault) : Type 0 where
   index : ℕ
   within : index < length words

@@ -1,4 +1,4 @@
--- Places and the tests that select them.
+-- Indices and the tests that select them.
 use Rattle.std.proofs.Common.{◌≡◌, ℕ, zero, suc, ◌+◌, ◌-◌, ◌*◌, ◌<◌, ◌≤◌, ◌⊎◌, inl, inr, Bool, true, false, List, [], ◌∷◌, ◌++◌, length, take, drop, get_or, map, sum, max, refl, ap, sym, subst, ◌∙◌, arith, add-one, take-add, ⊎_elim, leb}
 use Rattle.std.specs.List.{list_any, list_all}
 use Rattle.std.proofs.lemmas.List.{append-nil, length-drop, drop_more, take_more, length-take, length-take-le, length-map, get_or-map, get_or-drop, get_or-take, take-map, take-take, take_all, drop-map, drop-take}
@@ -38,7 +38,7 @@ select_none : (test : ℕ → Bool) (j : ℕ) (xs : List ℕ) → ((k : ℕ) →
 select_none test j [] none = refl
 select_none test j (x ∷ xs) none = cond-false (test j) _ _ (none j (omega arith) (omega arith)) ∙ select_none test (suc j) xs (λ k le lt. none k (omega arith) (omega arith))
 
--- what a test between two places selects
+-- what a test between two indices selects
 pub select_between : (test : ℕ → Bool) (a n lo hi : ℕ) → IsBetween test n lo hi → select test 0 (places a n) ≡ places (a + lo) (hi - lo)
 select_between test a n lo hi b =
     let order = b.order in let within = b.within in
@@ -55,14 +55,14 @@ select_between test a n lo hi b =
     ∙ ap (λ ps. places (a + lo) (hi - lo) ++ ps) (select_none test (0 + length (places a lo) + length (places (a + lo) (hi - lo))) (places (a + lo + (hi - lo)) (n - hi)) (λ k le lt. b.behind k (omega arith) (omega arith)))
     ∙ append-nil _
 
--- the scores at places that follow each other
+-- the scores at consecutive indices
 pub scores_at : (q : List ℕ) (a n : ℕ) → a + n ≤ length q → map (λ p. get_or q p 0) (places a n) ≡ take n (drop a q)
 scores_at q a zero le = refl
 scores_at q a (suc n) le =
     ap (λ xs. get_or q a 0 ∷ xs) (scores_at q (suc a) n (omega arith))
     ∙ sym (ap (take (suc n)) (drop_more q a 0 (omega arith) ∙ ap (λ m. get_or q a 0 ∷ drop m q) (add-one a)))
 
--- one step of several, where it keeps what lies between two places
+-- one step of several, if it keeps the indices between two
 pub step_keeps : (step : Step) (steps : List Step) (q : List ℕ) (start stop lo hi : ℕ) → start ≤ stop → stop ≤ length q →
     IsBetween (keeps step (take (stop - start) (drop start q))) (stop - start) lo hi →
     kept_of (step ∷ steps) q (places start (stop - start)) ≡ kept_of steps q (places (start + lo) (hi - lo))
@@ -70,7 +70,7 @@ step_keeps step steps q start stop lo hi le within b =
     ap (λ xs. kept_of steps q (select (keeps step xs) 0 (places start (stop - start)))) (scores_at q start (stop - start) (omega arith))
     ∙ ap (kept_of steps q) (select_between _ start (stop - start) lo hi b)
 
--- one step alone, of all bases
+-- one step alone, applied to all bases
 pub step_alone : (step : Step) (e : Encoding) (qual : List ℕ) (lo hi : ℕ) → IsBetween (keeps step (scores e qual)) (length qual) lo hi →
     kept (step ∷ []) (scores e qual) ≡ places lo (hi - lo)
 step_alone step e qual lo hi b =
@@ -81,7 +81,7 @@ step_alone step e qual lo hi b =
     ∙ select_between (keeps step q) 0 (length qual) lo hi b
     ∙ ap (λ a. places a (hi - lo)) (omega arith)
 
--- The first place of a score.
+-- The first index with a score.
 pub any_from : (t : ℕ) (q : List ℕ) (lo j : ℕ) → lo ≤ j → lo < length q → t ≤ get_or q lo 0 → list_any (leb t) (take (suc j) q) ≡ true
 any_from t [] lo j le lt at = absurd (omega arith)
 any_from t (x ∷ xs) zero j le lt at = or_left _ _ (le-leb t x at)
@@ -102,7 +102,7 @@ leading_between t q lo le none at = record {
   behind = λ k from lt. absurd (omega arith);
 }
 
--- The last place of a score.
+-- The last index with a score.
 any_behind : (t : ℕ) (q : List ℕ) (k j : ℕ) → k ≤ j → j < length q → t ≤ get_or q j 0 → list_any (leb t) (drop k q) ≡ true
 any_behind t q k j le lt at =
     let there : k + (j - k) ≡ j = omega arith in
@@ -219,7 +219,7 @@ bad_end w t q s k some within bad = and_right _ _ (one_fails (is_good_window w t
 good_end : (w t : ℕ) (q : List ℕ) (k : ℕ) → t ≤ get_or q k 0 → ((s : ℕ) → s + w ≤ k + 1 → w * t ≤ sum (take w (drop s q))) → is_good_end w t q k ≡ true
 good_end w t q k at good = and_from _ _ (le-leb t (get_or q k 0) at) (all_places (is_good_window w t q) 0 (k + 2 - w) (λ s le lt. le-leb (w * t) (sum (take w (drop s q))) (good s (omega arith))))
 
--- what a sliding window keeps, where the first bad window ends at place `good`
+-- what a sliding window keeps, if the first bad window ends at index `good`
 pub window_kept : (w t : ℕ) (q : List ℕ) (good last : ℕ) → 0 < w → w ≤ length q → w ≤ good → good ≤ length q → last ≤ good →
     ((s : ℕ) → s + w ≤ good → w * t ≤ sum (take w (drop s q))) → (good < length q → sum (take w (drop (good + 1 - w) q)) < w * t) →
     (0 < last → t ≤ get_or q (last - 1) 0) → ((k : ℕ) → last ≤ k → k < good → get_or q k 0 < t) →
@@ -232,7 +232,7 @@ window_kept w t q good last some fits first within under windows bad high low =
     (λ (above : good ≤ k). bad_end w t q (good + 1 - w) k some (omega arith) (bad (omega arith)))
     (cases_lt k good))
 
--- the sum of the next window: one score more, one less
+-- the sum of the next window: one score is added, one subtracted
 pub window_moves : (w : ℕ) (q : List ℕ) (s : ℕ) → 0 < w → s + w < length q → sum (take w (drop (s + 1) q)) + get_or q s 0 ≡ sum (take w (drop s q)) + get_or q (s + w) 0
 window_moves zero q s some lt = absurd (omega arith)
 window_moves (suc w) q s some lt =
@@ -297,7 +297,7 @@ module _ (e : Encoding) (qual : List ℕ) where
       let len : length part ≤ n = omega (arith, length-take n (drop s qual)) in
       omega arith
 
-  -- the window that ends at a place, after that which ends before it
+  -- the window that ends at an index, after the window that ends before it
   pub next_window : (w end : ℕ) → 0 < w → w ≤ end → end < length qual →
       sum (take w (drop (end + 1 - w) (scores e qual))) + value_of e (get_or qual (end - w) 0) ≡ sum (take w (drop (end - w) (scores e qual))) + value_of e (get_or qual end 0)
   next_window w end some from lt =
@@ -311,7 +311,8 @@ module _ (e : Encoding) (qual : List ℕ) where
       let leaving = score_at e qual (end - w) (omega arith) in
       omega arith
 
-  -- what a sliding window keeps, where the first bad window ends at place `good` and the last score before it of t stands before `last`
+  -- what a sliding window keeps, if the first bad window ends at index `good` and the last score of
+  -- at least t before that is right before `last`
   pub window_scores : (w t least good last : ℕ) → least ≡ w * t → 0 < w → w ≤ length qual → w ≤ good → good ≤ length qual → last ≤ length (take good qual) →
       ((s : ℕ) → s + w ≤ good → least ≤ sum (take w (drop s (scores e qual)))) → (good < length qual → sum (take w (drop (good + 1 - w) (scores e qual))) < least) →
       (0 < last → t ≤ get_or (scores e (take good qual)) (last - 1) 0) → ((k : ℕ) → last ≤ k → k < length (take good qual) → get_or (scores e (take good qual)) k 0 < t) →
@@ -328,7 +329,8 @@ module _ (e : Encoding) (qual : List ℕ) where
       (λ has. subst (λ n. t ≤ n) (same (last - 1) (omega arith)) (high has))
       (λ k from lt. subst (λ n. n < t) (same k lt) (low k from (omega arith))))
 
--- The sum of windows begins with the one that ends at `from`: each of the first `front` scores is at least t.
+-- The first window that is summed is the one that ends at `from`. Each of the first `front` scores
+-- is at least t.
 module _ (e : Encoding) (qual : List ℕ) (w t score front from total : ℕ) (score_is : score ≡ t) (fits : w ≤ length qual) (within : front ≤ length qual)
     (high : list_all (leb t) (take front (scores e qual)) ≡ true) (from_is : from ≡ max front w) (total_is : total ≡ sum (scores e (take (from - (from - w)) (drop (from - w) qual)))) where
   least_is : w * score ≡ w * t

@@ -1,4 +1,4 @@
--- Windows that are judged side by side, in a vector.
+-- Windows that are compared in a vector.
 use Rattle.std.proofs.Common.{◌≡◌, ℕ, suc, zero, ◌+◌, ◌-◌, ◌%◌, ◌*◌, ◌^◌, ◌<◌, ◌≤◌, Fits, w8, Bool, true, false, not, ◌&&◌, cond, ltb, leb, eqb, List, [], ◌∷◌, length, take, drop, get_or, map, min, sum, refl, sym, ap, ap₂, ◌∙◌, arith, replicate, take-add, ⊎_elim}
 use Rattle.std.specs.List.{prefix_len, list_all}
 use Rattle.std.proofs.lemmas.Bool.{cases_Bool, cond-true, cond-false, ltb-true, ltb-false, lt-leb, le-leb, and_left, and_right, and_from, eq-eqb, ne_eqb, cases_eq, cases_lt}
@@ -12,12 +12,13 @@ use Rattle.fq_text.proofs.VectorLemmas.{flag, mask_of}
 use native.Mathlib.Nat.{mod-eq_of_lt, one-le-pow, two-pow-succ}
 use lib.Lanes.{Each1, zip2, sel_l, mask_l, chunk, top}
 
--- A vector of 255 at each place for which a comparison holds, and of 0 at others, chooses between two others.
+-- A vector with 255 at each index for which a comparison holds, and 0 at the others, chooses
+-- between two other vectors.
 chosen : (b : Bool) (x y : ℕ) → cond (top 7 (cond b 255 0)) x y ≡ cond b x y
 chosen true x y = refl
 chosen false x y = refl
 
--- the larger of two bytes less one of them
+-- the larger of two bytes minus one of them
 less_one : (x o : ℕ) → Fits w8 x → Fits w8 o → (cond (ltb x o) o x + (256 - o)) % 256 ≡ x - o
 less_one x o small off =
     let fx = small.fits in
@@ -30,7 +31,7 @@ less_one x o small off =
     (λ is. let le = ltb-false x o is in ap (λ v. (v + (256 - o)) % 256) (cond-false (ltb x o) o x is) ∙ omega arith)
     (cases_Bool (ltb x o))
 
--- a byte and the smaller of another and what is left of 255
+-- a byte plus the smaller of another byte and what is left of 255
 plus_one : (x y : ℕ) → Fits w8 x → Fits w8 y → (x + cond (ltb y (255 - x)) y (255 - x)) % 256 ≡ min 255 (x + y)
 plus_one x y small other =
     let fx = small.fits in
@@ -40,7 +41,7 @@ plus_one x y small other =
     (λ is. let le = ltb-false y (255 - x) is in ap (λ v. (x + v) % 256) (cond-false (ltb y (255 - x)) y (255 - x) is) ∙ mod-eq_of_lt (omega arith) ∙ omega arith)
     (cases_Bool (ltb y (255 - x)))
 
--- each byte less the same number
+-- each byte minus the same number
 pub each_less : (v : List ℕ) (o n : ℕ) → length v ≡ n → Each1 (Fits w8) v → Fits w8 o →
     zip2 (λ a b. (a + (256 - b)) % 256) (sel_l (map (top 7) (zip2 (λ a b. cond (ltb a b) 255 0) v (replicate n o))) (replicate n o) v) (replicate n o) ≡ map (λ x. x - o) v
 each_less [] o n long fits off = refl
@@ -48,7 +49,7 @@ each_less (x ∷ xs) o zero long fits off = absurd (omega arith)
 each_less (x ∷ xs) o (suc n) long fits off =
     ap₂ (λ y ys. y ∷ ys) (ap (λ v. (v + (256 - o)) % 256) (chosen (ltb x o) o x) ∙ less_one x o fits.0 off) (each_less xs o n (omega arith) fits.1 off)
 
--- two bytes, side by side
+-- the pair of bytes at an index of two vectors
 pub each_plus : (v u : List ℕ) → length v ≡ length u → Each1 (Fits w8) v → Each1 (Fits w8) u →
     zip2 (λ a b. (a + b) % 256) v (sel_l (map (top 7) (zip2 (λ a b. cond (ltb a b) 255 0) u (map (λ a. 255 - a) v))) u (map (λ a. 255 - a) v)) ≡ zip2 (λ x y. min 255 (x + y)) v u
 each_plus [] [] long fits others = refl
@@ -69,7 +70,7 @@ each_lower (x ∷ xs) (y ∷ ys) = ap₂ (λ z zs. z ∷ zs) (chosen (ltb x y) x
         (λ is. let le = ltb-false x y is in cond-false (ltb x y) x y is ∙ omega arith)
         (cases_Bool (ltb x y))
 
--- Whether the lower of two bytes has a score that is high: so have both.
+-- The lower of two bytes has a high score exactly if both have.
 both_high : (score o x y : ℕ) → leb score (min x y - o) ≡ leb score (x - o) && leb score (y - o)
 both_high score o x y = ⊎_elim
     (λ (low : min x y - o < score). lt-leb score (min x y - o) low ∙ ⊎_elim
@@ -94,7 +95,7 @@ all_both_high score o (x ∷ xs) (y ∷ ys) long =
     ap₂ (λ a b. a && b) (both_high score o x y) (all_both_high score o xs ys (omega arith))
     ∙ in_pairs (leb score (x - o)) (leb score (y - o)) (list_all (leb score) (distances o xs)) (list_all (leb score) (distances o ys))
 
--- so of 32 bytes those that stand 16 apart are judged by the lower
+-- so of 32 bytes, only the lower of two that are 16 apart is compared
 pub all_high_by_lower : (offset score : ℕ) (qual : List ℕ) {lower scores : List ℕ} → 32 ≤ length qual → lower ≡ zip2 min (chunk 0 16 qual) (chunk 16 16 qual) → scores ≡ distances offset lower →
     list_all (leb score) scores ≡ list_all (leb score) (take 32 (distances offset qual))
 all_high_by_lower offset score qual room lower_is scores_is =
@@ -124,7 +125,7 @@ module _ (sums : List ℕ) (least r : ℕ) (counted : r ≡ prefix_len (λ x. no
   pub there : r < length sums → get_or sums r 0 < least
   there lt = let place : r ≡ 0 + r = omega arith in ltb-true (get_or sums r 0) least (ap (λ n. ltb (get_or sums n 0) least) place ∙ run_in_chunk_stops (λ x. ltb x least) sums 0 (length sums) r 0 room of_all lt)
 
--- Whether each byte of a vector passes, by the mask of those that do: it has a bit for each.
+-- Whether each byte of a vector passes, by the mask of those that do: it has one bit per byte.
 each_bit : (b : Bool) (m full : ℕ) → 0 < full → eqb (cond b 1 0 + 2 * m) (2 * full - 1) ≡ b && eqb m (full - 1)
 each_bit true m full some = ⊎_elim
     (λ is. eq-eqb (1 + 2 * m) (2 * full - 1) (omega arith) ∙ sym (eq-eqb m (full - 1) is))
@@ -146,7 +147,7 @@ all_pass p v long same =
     let all : 65535 ≡ 2 ^ length v - 1 = ap (λ n. 2 ^ n - 1) (sym long) in
     ap₂ eqb (mask_of p v (omega arith) same) all ∙ all_set p v
 
--- the sum of a part that is one score longer
+-- the sum of a part with one more score
 one_more : (q : List ℕ) (i k : ℕ) → k + i < length q → sum (take (i + 1) (drop k q)) ≡ sum (take i (drop k q)) + get_or q (k + i) 0
 one_more q i k lt =
     let rest = drop k q in
@@ -154,7 +155,7 @@ one_more q i k lt =
     ∙ sum_by_push (λ x. x) (take i rest) (get_or rest i 0)
     ∙ ap (λ v. sum (take i rest) + v) (get_or-drop k q i 0)
 
--- so is each sum of a vector, kept at 255
+-- so is each sum of a vector, saturated at 255
 pub lane_more : (offset i k : ℕ) (qual sums scores : List ℕ) → length sums ≡ 32 → i + 32 ≤ length qual → k < 32 →
     scores ≡ map (λ byte. byte - offset) (take 32 (drop i qual)) →
     get_or sums k 0 ≡ min 255 (sum (take i (drop k (distances offset qual)))) →
@@ -176,7 +177,7 @@ lane_more offset i k qual sums scores long room lt is so_far =
     let both = get_or-zip2 (λ x y. min 255 (x + y)) sums scores k 0 0 0 (omega arith) (omega arith) in
     omega arith
 
--- a window of what is left behind `start`
+-- a window of the scores from `start` on
 abbrev behind : List ℕ → ℕ → List ℕ
 behind qual start = take (length qual - start) (drop start qual)
 
@@ -186,7 +187,7 @@ window_behind offset start k w qual =
     ∙ ap (λ xs. sum (take w (drop k xs))) (sym (drop-map (λ byte. byte - offset) start qual))
     ∙ ap (λ xs. sum (take w xs)) (drop-drop k start (distances offset qual) ∙ ap (λ n. drop n (distances offset qual)) (omega arith))
 
--- windows over scores that are all high, behind others that are good
+-- windows of scores that are all high, after others that are good
 pub good_over_high : (offset w score least start : ℕ) (qual : List ℕ) → least ≡ w * score → start + 32 ≤ length qual →
     list_all (leb score) (take 32 (distances offset (behind qual start))) ≡ true →
     ((s : ℕ) → s < start → least ≤ sum (take w (drop s (distances offset qual)))) →
@@ -203,7 +204,7 @@ good_over_high offset w score least start qual least_is fits high before s le = 
     omega arith)
     (cases_lt s start)
 
--- Windows from `start` on, of which the first `good` are good, behind others that are.
+-- Windows from `start` on, the first `good` of which are good, after others that are.
 module _ (offset w least start good : ℕ) (qual sums : List ℕ) (small : least < 256)
     (each : (k : ℕ) → k < 32 → get_or sums k 0 ≡ min 255 (sum (take w (drop k (distances offset (behind qual start))))))
     (few : good ≤ 32) (before : (s : ℕ) → s < start → least ≤ sum (take w (drop s (distances offset qual))))
@@ -223,7 +224,7 @@ module _ (offset w least start good : ℕ) (qual sums : List ℕ) (small : least
   pub bad_there : good < 32 → get_or sums good 0 < least → sum (take w (drop (start + good) (distances offset qual))) < least
   bad_there lt low = let lane = each good lt in let is = window_behind offset start good w qual in omega arith
 
-  -- the window behind the good ones is bad: it ends in the read
+  -- the window after the good ones is bad: it ends in the read
   pub stops_there : 0 < w → start + good + w ≤ length qual → good < 32 → get_or sums good 0 < least → IsGoodStop w least (distances offset qual) (start + good + w - 1)
   stops_there some fits lt low =
       let len = length-map qual (λ (byte : ℕ). byte - offset) in

@@ -1,4 +1,4 @@
--- The pieces of a word, and the numbers that they write.
+-- The pieces of an argument, and the numbers that they write.
 use Rattle.std.proofs.Common.{◌≡◌, ℕ, ◌+◌, ◌-◌, ◌*◌, ◌<◌, ◌≤◌, Bool, true, List, [], ◌∷◌, length, fold, Result, Ok, Err, Option, Some, None, is_some, not, arith, rules, leb, eqb}
 use Rattle.std.specs.Char.{is_ascii_digit}
 use Rattle.std.specs.List.{list_all, position_or_len}
@@ -12,13 +12,13 @@ use denote.Ref.{Bor}
 use Rattle.fq_trim.specs.declared.fault.StepFaultKind.TheVariants.{WrongCount}
 use Rattle.fq_trim.specs.Words.{pieces, pieces_in, is_number, number_of, numbers_of}
 
--- a word without a colon is its one piece
+-- an argument without a colon is its one piece
 pub pieces_none : (word : List ℕ) → position_or_len (λ b. eqb b 58) word ≡ length word → pieces word ≡ word ∷ []
 pieces_none word none =
     slice_split_none (λ b. eqb b 58) word
     (All-from_get_or (λ b. eqb b 58 ≡ Bool.false) word 0 (λ i lt. fails_before_first (λ b. eqb b 58) word i 0 (omega arith)))
 
--- a word has a piece
+-- an argument has a piece
 pieces_some : (word : List ℕ) → 0 < length (pieces word)
 pieces_some word = omega (arith, length-slice_split (λ b. eqb b 58) word)
 
@@ -42,7 +42,7 @@ number_small piece is =
     let small = digits_value_short decimal piece 9 parts.1 short in
     omega arith
 
--- what std reads of a piece that is a number
+-- what std parses from a piece that is a number
 pub number_read : {E : Type 0} (piece : List ℕ) (r : Result ℕ E) → ParsesUnsigned 32 10 piece r → is_number piece ≡ true → r ≡ Ok (number_of piece)
 number_read piece r h is =
     let parts = and_parts _ (list_all is_ascii_digit piece) is in
@@ -50,6 +50,6 @@ number_read piece r h is =
     let small = number_small piece is in
     parse_gives decimal 32 piece r h parts.1 some (omega arith)
 
--- another number of pieces than the kind takes
+-- more or fewer pieces than the kind takes
 pub wrong_count : (smallest : List ℕ) (numbers : List (List ℕ)) → (length numbers ≡ length smallest → ⊥) → numbers_of smallest numbers ≡ Err WrongCount
 wrong_count smallest numbers differ = cond-true (not (eqb (length numbers) (length smallest))) _ _ (not_from_false _ (ne_eqb _ _ differ))

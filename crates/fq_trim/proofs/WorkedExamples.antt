@@ -1,4 +1,4 @@
--- Worked reads and words: what the definitions give.
+-- Worked reads and arguments: what the definitions give.
 use Rattle.std.proofs.Common.{◌≡◌, ℕ, List, [], ◌∷◌, codes, refl, true, false, Result, Ok, Err}
 use Rattle.fq_text.specs.declared.encoding.Encoding.TheVariants.{Sanger, Illumina13, Solexa}
 use Rattle.fq_trim.specs.declared.step.Step.{Step}

@@ -8,7 +8,7 @@ use Rattle.fq_trim.specs.declared.step.Step.TheVariants.{ToPhred33}
 use Rattle.fq_trim.specs.declared.steps.Steps.TheInside.{Inside}
 use Rattle.fq_trim.specs.Keeping.{is_in_range}
 
--- the first 1 to 64 places hold the steps, and the others TOPHRED33
+-- the first 1 to 64 members are the steps, and the others are TOPHRED33
 pub record IsHeld (held : List Step) (count : ℕ) : Type 0 where
   pub some : 0 < count
   pub few : count ≤ 64
@@ -16,11 +16,19 @@ pub record IsHeld (held : List Step) (count : ℕ) : Type 0 where
   pub filled : held ≡ take count held ++ replicate (64 - count) ToPhred33
   pub whole : length held ≡ 64
 
--- the value tells what is held
-pub inverse_view : (a : Inside) → IsHeld a.held a.count → (let steps : List Step = take a.count a.held in let back : Inside = record { held = steps ++ replicate (64 - length steps) ToPhred33; count = length steps } in back ≡ a)
+-- the list of steps determines what is held
+pub inverse_view : (a : Inside) → IsHeld a.held a.count →
+    (let steps : List Step = take a.count a.held in
+    let back : Inside = record {
+      held = steps ++ replicate (64 - length steps) ToPhred33;
+      count = length steps;
+    } in back ≡ a)
 inverse_view a h =
     let steps : List Step = take a.count a.held in
-    let count : length steps ≡ a.count = let fits : a.count ≤ length a.held = (let few = h.few in let whole = h.whole in omega arith) in length-take-le a.count a.held fits in
-    let counted : ℕ → Inside = λ n. record { held = steps ++ replicate (64 - n) ToPhred33; count = n } in
+    let count : length steps ≡ a.count =
+    let fits : a.count ≤ length a.held = (let few = h.few in let whole = h.whole in omega arith) in
+    length-take-le a.count a.held fits in
+    let counted : ℕ → Inside = λ n.
+    record { held = steps ++ replicate (64 - n) ToPhred33; count = n } in
     let holding : List Step → Inside = λ held. record { held = held; count = a.count } in
     ap counted count ∙ ap holding (sym h.filled)

@@ -12,7 +12,8 @@ use crate::step::Step;
 use crate::windows::good_stop;
 use fq_text::Encoding;
 
-/// The bases that one step keeps of those that it is given: from `start` up to `stop`, maybe none.
+/// The bases that one step keeps: those from index `start` up to, not including, `stop`. There may
+/// be none.
 #[derive(Clone, Copy)]
 pub(crate) struct Span {
     pub(crate) start: usize,
@@ -20,7 +21,8 @@ pub(crate) struct Span {
 }
 
 /// The bases that a step keeps.
-// Two functions call it. Without this hint, here and at the sliding window, each would cost calls more for every step.
+// It is inlined because two functions call it: without the hint, here and at the sliding window,
+// each of them would make more calls for every step.
 #[inline(always)]
 pub(crate) fn kept_by(step: Step, encoding: Encoding, qual: &[u8]) -> Span
     requires in_range { is_in_range step ≡ true }
@@ -47,14 +49,14 @@ fn whole(qual: &[u8]) -> Span
     stop_at(qual.len())
 }
 
-// The bases before a place.
+// The bases before an index.
 fn stop_at(stop: usize) -> Span
     ensures { result ≡ record { start = 0; stop = stop } }
 {
     Span { start: 0, stop }
 }
 
-// The bases from a place on.
+// The bases from an index on.
 fn start_at(start: usize, qual: &[u8]) -> Span
     ensures { result ≡ record { start = start; stop = length qual.now } }
 {
@@ -103,7 +105,8 @@ fn head_crop(bases: u32, qual: &[u8]) -> Span
     start_at(qual.len().min(bases as usize), qual)
 }
 
-// Up to the last base of a score before the first bad window ends.
+// Up to the last base with a score of at least `score` that is before the end of the first bad
+// window. A window is bad if its scores sum to less than `width * score`.
 #[inline(always)]
 fn sliding_window(encoding: Encoding, width: u32, score: u32, qual: &[u8]) -> Span
     requires window { 0 < width }
@@ -122,7 +125,7 @@ fn sliding_window(encoding: Encoding, width: u32, score: u32, qual: &[u8]) -> Sp
     stop_at(behind_last(encoding, score, &qual[..good]))
 }
 
-// All bases where the scores sum to at least `score` for each base, else none.
+// All bases if the scores sum to at least `score` times their number, otherwise none.
 fn average_quality(encoding: Encoding, score: u32, qual: &[u8]) -> Span
     requires { list_all (is_scored encoding) qual.now ≡ true }
     ensures { IsBetween (keeps (AverageQuality score) (scores encoding qual.now))
@@ -136,7 +139,7 @@ fn average_quality(encoding: Encoding, score: u32, qual: &[u8]) -> Span
     }
 }
 
-// All bases where there are enough, else none.
+// All bases if there are at least `bases`, otherwise none.
 fn min_len(bases: u32, qual: &[u8]) -> Span
     ensures { (encoding : Encoding) → IsBetween (keeps (MinLen bases) (scores encoding qual.now))
         (length qual.now) result.start result.stop }

@@ -1,9 +1,9 @@
-//! Trimming a read by a list of steps.
+//! Trims a read by a list of steps.
 //!
-//! [`Steps::parse`] reads the list from words such as `LEADING:3` and `SLIDINGWINDOW:4:15`, whose
-//! names are those of the Trimmomatic manual. [`Steps::trim`] tells which bases of a read the list
-//! keeps, from the quality bytes alone; they always follow each other, so the answer is a first
-//! place and the place behind the last. Nothing here takes memory.
+//! [`Steps::parse`] reads the list from arguments such as `LEADING:3` and `SLIDINGWINDOW:4:15`,
+//! whose names are those of the Trimmomatic manual. [`Steps::trim`] returns which bases of a read
+//! the list keeps, from the quality bytes alone. The bases kept are always consecutive, so the
+//! result is the index of the first and the index after the last. Nothing here takes memory.
 #![tactic(auto)]
 
 mod fault;

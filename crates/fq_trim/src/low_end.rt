@@ -1,4 +1,4 @@
-//! The low scores at the end of a read.
+//! Low scores at the end of a read.
 
 ghost use Rattle.std.specs.Prelude.{true, ◌≡◌, ℕ, ◌+◌, ◌-◌, ◌<◌, ◌≤◌, length, slice_index};
 ghost use Rattle.std.specs.List.{list_all};
@@ -10,10 +10,10 @@ use crate::vectors::{less_16, offset_of};
 use fq_text::Encoding;
 use std::simd::prelude::*;
 
-// How many scores are judged together, each in a byte of a vector.
+// How many scores are compared at once, each in a byte of a vector.
 const TOGETHER: usize = 16;
 
-/// The place behind the last base with a score of at least `score`, or 0.
+/// The index after the last base with a score of at least `score`, or 0 if there is none.
 #[inline(always)]
 pub(crate) fn behind_last(encoding: Encoding, score: u32, qual: &[u8]) -> usize
     requires { list_all (is_scored encoding) qual.now ≡ true }
@@ -34,11 +34,13 @@ pub(crate) fn behind_last(encoding: Encoding, score: u32, qual: &[u8]) -> usize
     0
 }
 
-// A place from which on each score is below `score`. Where there are as many scores before it as a vector has, it is the first.
+// An index from which on every score is below `score`. It is the lowest such index if a whole
+// vector of scores is before it.
 #[inline(always)]
 fn low_from(offset: u8, score: u8, qual: &[u8]) -> usize
     ensures within { result ≤ length qual.now }
-    ensures low { (k : ℕ) → result ≤ k → k < length qual.now → slice_index (distances offset qual.now) k < score }
+    ensures low { (k : ℕ) → result ≤ k → k < length qual.now
+        → slice_index (distances offset qual.now) k < score }
 {
     let mut stop = qual.len();
     while TOGETHER <= stop {
@@ -54,7 +56,7 @@ fn low_from(offset: u8, score: u8, qual: &[u8]) -> usize
     stop
 }
 
-// How many scores stand behind the last that is at least `score`.
+// How many scores are after the last that is at least `score`.
 #[inline(always)]
 fn low_behind(scores: u8x16, score: u8) -> usize
     ensures { IsLowEnd score scores result }
@@ -67,7 +69,7 @@ fn low_behind(scores: u8x16, score: u8) -> usize
     }
 }
 
-// The last score first.
+// The scores in reverse order.
 #[inline(always)]
 fn turned(scores: u8x16) -> u8x16
     ensures long { length result ≡ 16 }

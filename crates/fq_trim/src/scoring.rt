@@ -7,7 +7,7 @@ ghost use Rattle.fq_trim.specs.Keeping.{scores};
 
 use fq_text::Encoding;
 
-// As many scores as surely sum to a u32: a read longer than this is summed in parts.
+// So few scores that their sum always fits in a u32. A longer read is summed in parts.
 const CHUNK: usize = 1 << 24;
 
 /// The sum of the scores.

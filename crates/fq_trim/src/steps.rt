@@ -1,4 +1,4 @@
-//! Lists of steps.
+//! Lists of trimming steps.
 
 ghost use Rattle.std.specs.Prelude.{◌≡◌, ◌<◌, ◌≤◌, ◌-◌, MatchOption, IfSome, IfOk, IfErr, [], length, map, true};
 ghost use Rattle.std.specs.List.{list_all};
@@ -12,12 +12,12 @@ use crate::words::parse_word;
 use fq_text::Encoding;
 use std::marker::Model;
 
-/// How many steps a list may have.
+/// The most steps in a list.
 const MOST: usize = 64;
 
-/// A list of 1 to 64 steps, each taken on what the one before left.
+/// A list of 1 to 64 trimming steps. Each is applied to the bases that the step before it kept.
 ///
-/// The numbers of its steps are at most 999,999,999, and a window has at least one base. It is
+/// The numbers of its steps are at most 999,999,999, and a window has at least one base. A list is
 /// held in place, and copied without taking memory.
 #[derive(Clone, Copy, Debug, PartialEq, Eq)]
 pub struct Steps {
@@ -50,23 +50,24 @@ impl Steps {
     ghost use Rattle.fq_trim.specs.Keeping.{kept, only, scores, places, recodes, is_in_range};
     ghost use Rattle.fq_trim.specs.Words.{step_of, steps_of, IsFault};
 
-    /// Reads a list of steps, one word a step, in their order. It takes no memory.
+    /// Reads a list of steps, one from each of `words` (command-line arguments), in their order. It
+    /// takes no memory.
     ///
-    /// A word is split at its colons. The first piece is the name of a step, in capitals; the
-    /// others are its numbers, as many as the step takes: one threshold or length, the window and
-    /// the threshold of SLIDINGWINDOW, none for TOPHRED33. A number has 1 to 9 ASCII digits, so no
-    /// sign; leading zeros are allowed. A window is at least 1.
+    /// An argument is split at its colons. The first piece is the name of a step, in capitals. The
+    /// others are its numbers, as many as the step takes: one threshold or length; for
+    /// SLIDINGWINDOW the window and the threshold; for TOPHRED33 none. A number has 1 to 9 ASCII
+    /// digits, so no sign; leading zeros are allowed. A window is at least 1.
     ///
     /// # Errors
     ///
-    /// [`NoSteps`](StepFaultKind::NoSteps) at place 0 where there is no word, and
-    /// [`TooMany`](StepFaultKind::TooMany) at place 65 where there are more than 64. Else the place
-    /// of the first faulty word, counted from 1, with the first of its faults in the order
-    /// `Unknown`, `WrongCount`, `BadNumber`, `OutOfRange`.
+    /// [`NoSteps`](StepFaultKind::NoSteps) at place 0 if there is no argument, and
+    /// [`TooMany`](StepFaultKind::TooMany) at place 65 if there are more than 64. Otherwise the
+    /// place of the first faulty argument, counted from 1, with the first of its faults in the
+    /// order `Unknown`, `WrongCount`, `BadNumber`, `OutOfRange`.
     pub fn parse(words: &[&str]) -> Result<Steps, StepFault>
         ensures value { result ≡ steps_of (map (λ word. word.now) words.now) }
 
-        // The same as laws: each word is its step, or the fault is the first.
+        // This follows from the clause above: each argument is its step, or the fault is the first.
         ensures all { IfOk result (λ steps.
             map Ok steps ≡ map step_of (map (λ word. word.now) words.now)) }
         ensures first { IfErr result (λ fault.
@@ -97,7 +98,7 @@ impl Steps {
         })
     }
 
-    /// The steps in their order: 1 to 64, their numbers within the limits.
+    /// The steps in their order: 1 to 64, with their numbers within the limits.
     pub fn as_slice(&self) -> &[Step]
         ensures steps { result.now ≡ self.now }
         ensures some { 0 < length self.now }
@@ -107,11 +108,11 @@ impl Steps {
         &self.held[..self.count]
     }
 
-    /// The bases that the steps keep of a read with these quality bytes, or `None` where they keep
-    /// none and the read is dropped. Each byte has to have a score in the encoding.
+    /// The bases that the steps keep of a read with these quality bytes, or `None` if they keep
+    /// none and the read is dropped. Each byte must have a score in the encoding.
     ///
-    /// Each step is taken on the bases that the one before left, so their order counts. An empty
-    /// read is dropped by every list. It takes no memory, and a read may have any length.
+    /// Each step is applied to the bases that the step before it kept, so the order matters. Every
+    /// list drops a read without bases. It takes no memory, and a read may have any length.
     #[inline(always)]
     pub fn trim(&self, encoding: Encoding, qual: &[u8]) -> Option<Kept>
         requires { list_all (is_scored encoding) qual.now ≡ true }
@@ -123,19 +124,21 @@ impl Steps {
         kept_between(kept.start, kept.stop)
     }
 
-    /// The same by one step of the list alone, that at `place`, counted from 0.
+    /// [`Steps::trim`] by only one step of the list: the one at index `place`, counted from 0.
     pub fn trim_at(&self, place: usize, encoding: Encoding, qual: &[u8]) -> Option<Kept>
         requires within { place < length self.now }
         requires scored { list_all (is_scored encoding) qual.now ≡ true }
-        ensures kept { MatchOption result (kept (only place self.now) (scores encoding qual.now) ≡ [])
-            (λ k. kept (only place self.now) (scores encoding qual.now) ≡ places k.start (k.stop - k.start)) }
+        ensures kept { MatchOption result
+            (kept (only place self.now) (scores encoding qual.now) ≡ [])
+            (λ k. kept (only place self.now) (scores encoding qual.now)
+            ≡ places k.start (k.stop - k.start)) }
         ensures within { IfSome result (λ k. k.stop ≤ length qual.now) }
     {
         let left = kept_by(self.as_slice()[place], encoding, qual);
         kept_between(left.start, left.stop)
     }
 
-    /// Whether TOPHRED33 is in the list, so that the quality is to be written as score + 33.
+    /// Whether TOPHRED33 is in the list, so that the quality has to be written as score + 33.
     pub fn reencodes(&self) -> bool
         ensures { result ≡ recodes self.now }
     {

@@ -1,4 +1,4 @@
-//! What a list of steps leaves of a read.
+//! The bases of a read that a list of steps keeps.
 
 ghost use Rattle.std.specs.Prelude.{true, ◌≡◌, ◌-◌, ◌<◌, ◌≤◌, [], length, MatchOption, IfSome};
 ghost use Rattle.std.specs.List.{list_all};
@@ -9,22 +9,25 @@ use crate::keeping::{Span, kept_by};
 use crate::step::Step;
 use fq_text::Encoding;
 
-/// The bases that stay of a read: those from `start` up to `stop`, at least one.
+/// The bases of a read that stay: those from index `start` up to, not including, `stop`. There is
+/// at least one.
 #[derive(Clone, Copy, Debug, PartialEq, Eq)]
 pub struct Kept {
-    /// The place of the first base that stays, counted from 0.
+    /// The index of the first base that stays, counted from 0.
     pub start: usize,
-    /// The place behind the last base that stays.
+    /// The index after the last base that stays.
     pub stop: usize,
     ghost some: { start < stop },
 }
 
-/// The bases that a list of steps keeps, each step taken on what the one before left. A span is two numbers, which go back in
-/// registers; a value with a tag besides would go through memory.
+/// The bases that a list of steps keeps. Each step is applied to the bases that the step before it
+/// kept. The result is a `Span` and not an `Option`, since its two numbers are returned in
+/// registers; with a tag they would go through memory.
 pub(crate) fn trim_by(steps: &[Step], encoding: Encoding, qual: &[u8]) -> Span
     requires in_range { list_all is_in_range steps.now ≡ true }
     requires scored { list_all (is_scored encoding) qual.now ≡ true }
-    ensures kept { kept steps.now (scores encoding qual.now) ≡ places result.start (result.stop - result.start) }
+    ensures kept { kept steps.now (scores encoding qual.now)
+        ≡ places result.start (result.stop - result.start) }
     ensures within { result.stop ≤ length qual.now }
 {
     let mut start = 0;
@@ -37,7 +40,7 @@ pub(crate) fn trim_by(steps: &[Step], encoding: Encoding, qual: &[u8]) -> Span
     Span { start, stop }
 }
 
-/// The bases from `start` up to `stop`, or `None` where there are none.
+/// The bases from `start` up to, not including, `stop`, or `None` if there are none.
 #[inline(always)]
 pub(crate) fn kept_between(start: usize, stop: usize) -> Option<Kept>
     ensures kept { MatchOption result (places start (stop - start) ≡ [])

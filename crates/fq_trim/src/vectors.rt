@@ -1,4 +1,4 @@
-//! Scores side by side, in a vector (SIMD).
+//! Scores in vectors (SIMD).
 
 ghost use Rattle.std.specs.Prelude.{◌≡◌, ◌-◌, List, ℕ, None, map, IfSome};
 ghost use Rattle.fq_text.specs.declared.encoding.Encoding.TheVariants.{Solexa};
@@ -8,10 +8,11 @@ ghost use Rattle.fq_trim.specs.Windows.{distances};
 use fq_text::Encoding;
 use std::simd::prelude::*;
 
-/// What a quality byte is more than its score, where that is the same for each.
+/// The difference between a quality byte and its score, if it is the same for all bytes.
 #[inline(always)]
 pub(crate) fn offset_of(encoding: Encoding) -> Option<u8>
-    ensures same { IfSome result (λ offset. (qual : List ℕ) → scores encoding qual ≡ distances offset qual) }
+    ensures same { IfSome result
+        (λ offset. (qual : List ℕ) → scores encoding qual ≡ distances offset qual) }
     ensures none { result ≡ None → encoding ≡ Solexa }
 {
     match encoding {
@@ -21,7 +22,7 @@ pub(crate) fn offset_of(encoding: Encoding) -> Option<u8>
     }
 }
 
-/// Each of 16 bytes less the same number, or 0 where it is smaller.
+/// Subtracts `offset` from each of 16 bytes. A byte that is smaller becomes 0.
 #[inline(always)]
 pub(crate) fn less_16(bytes: u8x16, offset: u8) -> u8x16
     ensures { result ≡ map (λ byte. byte - offset) bytes }
@@ -29,7 +30,7 @@ pub(crate) fn less_16(bytes: u8x16, offset: u8) -> u8x16
     bytes.saturating_sub(u8x16::splat(offset))
 }
 
-/// The same, of 32 bytes.
+/// Subtracts `offset` from each of 32 bytes. A byte that is smaller becomes 0.
 #[inline(always)]
 pub(crate) fn less_32(bytes: u8x32, offset: u8) -> u8x32
     ensures { result ≡ map (λ byte. byte - offset) bytes }

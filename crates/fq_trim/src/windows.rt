@@ -1,4 +1,5 @@
-//! The windows of a read, and where the first bad one ends.
+//! The windows of a read, and where the first bad one ends. A window is bad if its scores sum to
+//! less than its width times the score asked for; otherwise it is good.
 
 ghost use Rattle.std.specs.Prelude.{true, ◌≡◌, ℕ, ◌+◌, ◌-◌, ◌*◌, ◌<◌, ◌≤◌, ◌^◌, nat_le, length, map, min, sum, take, drop, slice_index, IfSome, IfOk, IfErr};
 ghost use Rattle.std.specs.List.{list_all};
@@ -12,16 +13,17 @@ use crate::vectors::{less_16, less_32, offset_of};
 use fq_text::Encoding;
 use std::simd::prelude::*;
 
-// How many windows are judged together, each by a byte of a vector.
+// How many windows are compared at once, each in a byte of a vector.
 const TOGETHER: usize = 32;
 
-// The widest windows that are summed side by side: each base of a window costs a turn of a loop.
+// The widest windows that are summed in vectors: each base of a window costs a turn of a loop.
 const WIDEST: usize = 16;
 
-// How many bases are looked at together for a low score.
+// How many bases are compared at once to find a low score.
 const HIGH_CHUNK: usize = 16;
 
-/// The place of the last base of the first bad window, or the length where each window is good.
+/// The index of the last base of the first bad window, or the length of the read if every window is
+/// good.
 #[inline(always)]
 pub(crate) fn good_stop(encoding: Encoding, width: usize, score: u32, qual: &[u8]) -> usize
     requires window { 0 < width }
@@ -39,7 +41,8 @@ pub(crate) fn good_stop(encoding: Encoding, width: usize, score: u32, qual: &[u8
     }
 }
 
-// The same as `good_stop`, by vectors. The last windows are judged with some of those before them, which are known to be good.
+// `good_stop` by vectors. The last vector of windows may overlap the one before, whose windows are
+// known to be good.
 #[inline(always)]
 fn stop_together(offset: u8, width: usize, score: u8, least: u8, qual: &[u8]) -> usize
     requires window { 0 < width }
@@ -62,10 +65,10 @@ fn stop_together(offset: u8, width: usize, score: u8, least: u8, qual: &[u8]) ->
     }
 }
 
-// A place further on than `start` such that each window that begins before it is good, as each before `start` is; or the place of the
-// last base of the first bad window.
+// An index after `start` such that each window that begins before it is good, if each that begins
+// before `start` is; or the index of the last base of the first bad window.
 //
-// Where the scores of a vector are all high, each window over them alone is good, and none of these is summed.
+// If the scores in a vector are all high, every window of them alone is good, and none is summed.
 #[inline(always)]
 fn pass_good(
     offset: u8,
@@ -80,8 +83,10 @@ fn pass_good(
     requires least { least ≡ width * score }
     requires fits { start + 32 ≤ length qual.now }
     requires long { width + 32 ≤ length qual.now + 1 }
-    requires good { (s : ℕ) → s < start → least ≤ sum (take width (drop s (distances offset qual.now))) }
-    ensures next { IfOk result (λ next. (start < next) × (length qual.now ≤ start + 32 → length qual.now < next + width)
+    requires good { (s : ℕ) → s < start
+        → least ≤ sum (take width (drop s (distances offset qual.now))) }
+    ensures next { IfOk result (λ next. (start < next)
+        × (length qual.now ≤ start + 32 → length qual.now < next + width)
         × ((s : ℕ) → s < next → least ≤ sum (take width (drop s (distances offset qual.now))))) }
     ensures stop { IfErr result (λ stop. IsGoodStop width least (distances offset qual.now) stop) }
 {
@@ -96,7 +101,8 @@ fn pass_good(
     Ok(from + TOGETHER)
 }
 
-// Whether each of the first 32 bytes has a score of at least `score`. Of two that stand 16 apart the lower alone is looked at.
+// Whether each of the first 32 bytes has a score of at least `score`. Of two bytes that are 16
+// apart, only the lower is compared.
 #[inline(always)]
 fn are_all_high(offset: u8, score: u8, qual: &[u8]) -> bool
     requires long { 32 ≤ length qual.now }
@@ -106,7 +112,7 @@ fn are_all_high(offset: u8, score: u8, qual: &[u8]) -> bool
     are_at_least(score, less_16(lower, offset))
 }
 
-// The lower of each two bytes that stand at the same place.
+// The lower of the two bytes at each index.
 #[inline(always)]
 fn lower_of(left: u8x16, right: u8x16) -> u8x16
     ensures { result ≡ zip2 min left right }
@@ -122,12 +128,14 @@ fn are_at_least(score: u8, scores: u8x16) -> bool
     scores.simd_ge(u8x16::splat(score)).all()
 }
 
-// The sums of the scores of 32 windows, of which each begins a base behind the one before. A sum larger than 255 is kept at that.
+// The sums of the scores of 32 windows, each of which begins one base after the one before. Sums
+// saturate at 255.
 #[inline(always)]
 fn sums_of(offset: u8, width: usize, qual: &[u8]) -> u8x32
     requires fits { width + 32 ≤ length qual.now + 1 }
     ensures long { length result ≡ 32 }
-    ensures each { (k : ℕ) → k < 32 → slice_index result k ≡ min 255 (sum (take width (drop k (distances offset qual.now)))) }
+    ensures each { (k : ℕ) → k < 32 → slice_index result k
+        ≡ min 255 (sum (take width (drop k (distances offset qual.now)))) }
 {
     let mut sums = u8x32::splat(0);
     for i in 0..width {
@@ -137,7 +145,7 @@ fn sums_of(offset: u8, width: usize, qual: &[u8]) -> u8x32
     sums
 }
 
-// Each byte and the one beside it, or 255 where their sum is larger.
+// The sum of the two bytes at each index. Sums saturate at 255.
 #[inline(always)]
 fn plus(left: u8x32, right: u8x32) -> u8x32
     ensures { result ≡ zip2 (λ x y. min 255 (x + y)) left right }
@@ -145,7 +153,7 @@ fn plus(left: u8x32, right: u8x32) -> u8x32
     left.saturating_add(right)
 }
 
-// How many sums stand before the first that is below `least`, or all of them.
+// How many sums are before the first that is below `least`, or all if there is none.
 #[inline(always)]
 fn first_below(sums: u8x32, least: u8) -> usize
     ensures { IsFirstBelow least sums result }
@@ -158,9 +166,10 @@ fn first_below(sums: u8x32, least: u8) -> usize
     }
 }
 
-// The same as `good_stop`, window by window.
+// `good_stop` window by window.
 //
-// Where a read begins with high scores the windows over them are good, so the first sum that is taken is that of the last of these.
+// If a read begins with high scores, the windows of these alone are good, so the first window that
+// is summed is the last of them.
 fn stop_one_by_one(encoding: Encoding, width: usize, score: u32, least: u64, qual: &[u8]) -> usize
     requires window { 0 < width }
     requires fits { width ≤ length qual.now }
@@ -177,9 +186,9 @@ fn stop_one_by_one(encoding: Encoding, width: usize, score: u32, least: u64, qua
     stop_from(encoding, width, from, first, least, qual)
 }
 
-// The same, where each window that ends at or before `from` is good.
+// `good_stop` if each window that ends at or before `from` is known to be good.
 //
-// The sum of a window is that of the one before, with one score added and one taken away.
+// The sum of a window is that of the window before, with one score added and one subtracted.
 fn stop_from(
     encoding: Encoding,
     width: usize,
@@ -193,7 +202,8 @@ fn stop_from(
     requires fits { from ≤ length qual.now }
     requires narrow { width < 2 ^ 32 }
     requires sum { first ≡ sum (take width (drop (from - width) (scores encoding qual.now))) }
-    requires good { (s : ℕ) → s + width ≤ from → least ≤ sum (take width (drop s (scores encoding qual.now))) }
+    requires good { (s : ℕ) → s + width ≤ from
+        → least ≤ sum (take width (drop s (scores encoding qual.now))) }
     requires scored { list_all (is_scored encoding) qual.now ≡ true }
     ensures { IsGoodStop width least (scores encoding qual.now) result }
 {
@@ -209,9 +219,10 @@ fn stop_from(
     qual.len()
 }
 
-// A place before which each base has a score of at least `score`: no window that ends at or before it is bad.
+// An index before which each base has a score of at least `score`, so no window that ends at or
+// before it is bad.
 //
-// Whole chunks are looked at, so there may be more such bases behind it.
+// Whole chunks are compared, so more such bases may follow.
 fn high_stop(encoding: Encoding, score: u32, qual: &[u8]) -> usize
     requires { list_all (is_scored encoding) qual.now ≡ true }
     ensures within { result ≤ length qual.now }

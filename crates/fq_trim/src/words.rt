@@ -1,4 +1,4 @@
-//! The words that name steps.
+//! Arguments that name steps.
 
 ghost use Rattle.std.specs.Prelude.{true, ◌≡◌, ◌∷◌, [], ◌≤◌, IfOk, slice_index, if◌then◌else◌};
 ghost use Rattle.std.specs.Char.{is_ascii_digit};
@@ -10,7 +10,7 @@ ghost use Rattle.fq_trim.specs.declared.step.Step.TheVariants.{SlidingWindow};
 use crate::fault::StepFaultKind;
 use crate::step::Step;
 
-/// The step that a word is, or its first fault.
+/// The step that an argument names, or its first fault.
 pub(crate) fn parse_word(word: &str) -> Result<Step, StepFaultKind>
     ensures value { result ≡ step_of word.now }
     ensures in_range { IfOk result (λ step. is_in_range step ≡ true) }
@@ -19,7 +19,7 @@ pub(crate) fn parse_word(word: &str) -> Result<Step, StepFaultKind>
     parse_step(name, numbers)
 }
 
-// The first piece of a text, and the text behind its colon.
+// The first piece of a text, and the text after its colon.
 fn cut_piece(text: &str) -> (&str, Option<&str>)
     ensures { pieces text.now ≡ result.0.now ∷ pieces_in result.1 }
 {
@@ -66,7 +66,7 @@ fn one_number(numbers: Option<&str>) -> Result<u32, StepFaultKind>
     number(piece)
 }
 
-// The sliding window of its width and its score.
+// The sliding window step with the width and the score in this text.
 fn sliding_window(numbers: Option<&str>) -> Result<Step, StepFaultKind>
     ensures value { result
         ≡ result_map (λ values. SlidingWindow (slice_index values 0) (slice_index values 1))
@@ -92,7 +92,7 @@ fn sliding_window(numbers: Option<&str>) -> Result<Step, StepFaultKind>
     Ok(Step::SlidingWindow { width, score })
 }
 
-// The number that a piece writes.
+// The number that a piece of text writes.
 fn number(piece: &str) -> Result<u32, StepFaultKind>
     ensures value { result
         ≡ (if is_number piece.now then Ok (number_of piece.now) else Err StepFaultKind.BadNumber) }

@@ -6,7 +6,7 @@ use Rattle.fq_trim.specs.Words.{steps_from}
 use Rattle.fq_trim.proofs.ParseLemmas.{put_all}
 use Rattle.fq_trim.proofs.steps.Steps.parse.Given as goal
 
--- the first words are the steps held so far
+-- the first arguments are the steps held so far
 abbrev pub invariant-loop-i : goal.invariant-loop-i
 invariant-loop-i l = record {
   whole : length l.held ≡ 64;

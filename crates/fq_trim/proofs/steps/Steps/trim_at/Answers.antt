@@ -5,7 +5,7 @@ use Rattle.fq_trim.specs.Keeping.{scores, kept}
 use Rattle.fq_trim.proofs.PlaceLemmas.{step_alone}
 use Rattle.fq_trim.proofs.steps.Steps.trim_at.Goals as goal
 
--- the step alone is the list of one step
+-- the list of only this step
 pub returns-clause-kept : goal.returns-clause-kept
 returns-clause-kept c =
     let q = scores c.args.encoding c.args.qual.now in
