@@ -1,4 +1,4 @@
-//! The devices that texts come from and go to.
+//! Tests of the devices that texts are read from and written to.
 
 use fq_text::*;
 use std::io;
@@ -6,14 +6,14 @@ use std::io::{ErrorKind, Read, Write};
 use std::process::Abort;
 use std::test::Fail;
 
-// What an outlet is asked for, with the answer to that.
+// A call on an outlet, with the expected result.
 enum Asked<'a> {
     Send(&'a [u8], Result<(), Sent>),
     Write(&'a [u8], Result<usize, OutletFailed>),
     Flush(Result<(), OutletFailed>),
 }
 
-// The outlet answers so, and counts so many failures then.
+// The outlet returns the expected result, and has then counted `failures` failures.
 fn assert_answer<O: Outlet>(rt: &impl Abort, outlet: &mut O, asked: Asked<'_>, failures: u64) {
     assert!(rt; outlet.failures() < 9);
     let is_so = match asked {
@@ -70,7 +70,7 @@ fn failures_have_texts(rt: HostRuntime) -> Result<(), Fail> {
     Ok(())
 }
 
-// A file's other end: each first call is cut short by a signal.
+// A reader and writer whose first call is interrupted by a signal.
 #[derive(Drop)]
 struct Signalled {
     calls: u8,
@@ -104,7 +104,7 @@ impl Write for Signalled {
     }
 }
 
-// A read gives this answer, and the feed counts so many failures then.
+// A read call returns this result, and the feed has then counted `failures` failures.
 fn assert_read<F: Feed>(
     rt: &impl Abort,
     feed: &mut F,

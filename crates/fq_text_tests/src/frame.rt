@@ -1,4 +1,5 @@
-//! What the tests call. The contracts behind it are not passed on, so no test is proved with what it doesn't need.
+//! The functions of `fq_text` that the tests call. Their contracts are not repeated here, so that a
+//! test is proved without what it does not need.
 
 ghost use Rattle.std.specs.Prelude.{◌<◌, ◌≤◌};
 
@@ -10,7 +11,7 @@ const LONG: u64 = 1 << 40;
 
 pub type InMemory = Source<ScriptFeed>;
 
-/// A source over a text in memory, of which at most `cut` bytes come with each read.
+/// A source of a text in memory, of which each read call moves at most `cut` bytes.
 pub fn source(
     alloc: Global,
     text: &[u8],
@@ -39,7 +40,7 @@ pub fn ends(source: &mut InMemory) -> bool {
     matches!(next(source), Ok(None))
 }
 
-/// Whether this fault comes.
+/// Whether this fault is returned next.
 pub fn faults(source: &mut InMemory, wanted: TextFault) -> bool {
     match next(source) {
         Ok(_) => false,

@@ -1,5 +1,6 @@
-//! Tests of `fq_text` by what it gives to everybody: devices, and a plain reader to compare with. They have a crate of their own, as Rust's
-//! `tests/` folders have, so that they are proved without proving `fq_text` once more. Worked texts are rows of `fq_rows`.
+//! Tests of `fq_text` by its public interface: its devices, and a plain reader to compare it with.
+//! They are a crate of their own, like the `tests/` folder of a Rust crate, so that they are proved
+//! without proving `fq_text` again. Worked texts are rows of `fq_rows`.
 #![tactic(auto)]
 
 #[cfg(test)]

@@ -1,5 +1,5 @@
-//! A plain reader of a whole text, by the rules of the format one after the other, and what the streaming reader makes of
-//! the same texts.
+//! A plain reader of a whole text, which follows the rules of the format one after the other, to
+//! compare the streaming reader with.
 
 ghost use Rattle.std.specs.Prelude.{◌<◌, ◌≤◌};
 
@@ -11,7 +11,7 @@ use std::test::Fail;
 
 const LIMIT: usize = 1_048_576;
 
-/// A record, and how many lines it takes.
+/// A record, and the number of its lines.
 #[derive(Drop)]
 struct Plain {
     title: Vec<u8>,
@@ -20,7 +20,7 @@ struct Plain {
     lines: usize,
 }
 
-/// What is at the front of a text: a record, the end or a fault.
+/// What a text begins with: a record, the end or a fault.
 type Front = Result<Option<Plain>, TextFault>;
 
 // The lines of a text, each without its line end and without one CR before that.
@@ -62,7 +62,7 @@ fn title_fault(title: &Vec<u8>, k: u64) -> Option<TextFault> {
     None
 }
 
-// What stands behind the mark of a title line or of a plus line.
+// The text after the first byte of a title line or a plus line.
 fn name(line: &Vec<u8>) -> &[u8] {
     line.get(1..).unwrap_or(&[])
 }
@@ -77,7 +77,7 @@ fn plus_fault(title: &Vec<u8>, plus: &Vec<u8>, k: u64) -> Option<TextFault> {
     None
 }
 
-// A byte is below the lowest or above `~`.
+// Whether a byte is below `lowest` or above `~`.
 fn has_byte_outside(line: &Vec<u8>, lowest: u8) -> bool {
     line.iter().any(|byte| *byte < lowest || *byte > 126)
 }
@@ -122,13 +122,13 @@ fn quality_fault(
     None
 }
 
-// How many lines stand before the first that isn't empty.
+// How many lines are before the first that is not empty.
 fn empty_lines(lines: &[Vec<u8>]) -> usize {
     let first = lines.iter().position(|line| !line.is_empty());
     first.unwrap_or(lines.len())
 }
 
-// How many lines stand before the plus line.
+// How many lines are before the plus line.
 fn sequence_lines(lines: &[Vec<u8>]) -> usize {
     let plus = lines.iter().position(|line| begins(line, b'+'));
     plus.unwrap_or(lines.len())
@@ -146,7 +146,7 @@ fn sequence(alloc: Global, lines: &[Vec<u8>], k: u64) -> Result<Result<Vec<u8>, 
     Ok(Ok(seq))
 }
 
-// The quality at the front of these lines, for so many bases, and how many lines it takes.
+// The quality at the front of these lines, for `bases` bases, and the number of its lines.
 fn quality(
     alloc: Global,
     encoding: Encoding,
@@ -182,7 +182,7 @@ fn before(lines: &[Vec<u8>], end: usize) -> &[Vec<u8>] {
     lines.get(..end).unwrap_or(lines)
 }
 
-// The record at the front of the lines, numbered k, or `None` at the end.
+// The record at the front of the lines, which has number k, or `None` at the end.
 fn front(alloc: Global, encoding: Encoding, lines: &[Vec<u8>], k: u64) -> Result<Front, Fail> {
     let skipped = empty_lines(lines);
     let Some((title, rest)) = behind(lines, skipped).split_first() else {
@@ -223,7 +223,7 @@ fn is_plain(record: &FastqRecord, plain: &Plain) -> bool {
         && record.qual() == plain.qual.as_slice()
 }
 
-// Whether the plain record comes next.
+// Whether the source returns this record next.
 fn gives(source: &mut InMemory, plain: &Plain) -> bool {
     match next(source) {
         Ok(Some(record)) => is_plain(&record, plain),
@@ -231,7 +231,7 @@ fn gives(source: &mut InMemory, plain: &Plain) -> bool {
     }
 }
 
-// Whether the source answers as the plain reader does.
+// Whether the source returns next what the plain reader found.
 fn answers(source: &mut InMemory, front: &Front) -> bool {
     match front {
         Ok(Some(plain)) => gives(source, plain),
@@ -240,7 +240,7 @@ fn answers(source: &mut InMemory, front: &Front) -> bool {
     }
 }
 
-// How many lines a record takes. `None` where there is none.
+// The number of lines of a record. `None` if there is none.
 fn lines_of(front: &Front) -> Option<usize> {
     match front {
         Ok(Some(plain)) => Some(plain.lines),
@@ -248,7 +248,8 @@ fn lines_of(front: &Front) -> Option<usize> {
     }
 }
 
-// Both readers give the same next. How many lines it takes, or `None` behind the last record.
+// Asserts that both readers find the same next. Returns the number of its lines, or `None` after
+// the last record.
 fn same_next(
     rt: &impl Abort,
     alloc: Global,
@@ -262,7 +263,8 @@ fn same_next(
     Ok(lines_of(&front))
 }
 
-// Both readers give the same records, and end in the same way.
+// Asserts that both readers find the same records and end in the same way. Returns the number of
+// records.
 fn same_records(
     rt: &impl Abort,
     alloc: Global,
@@ -282,7 +284,7 @@ fn same_records(
     Ok(records)
 }
 
-// The same of a text.
+// Asserts that both readers read this text alike. Returns the number of records.
 fn same(
     rt: &impl Abort,
     alloc: Global,
@@ -298,7 +300,7 @@ fn same(
     same_records(rt, alloc, &lines, &mut source, encoding)
 }
 
-// Numbers that look drawn at random, the same in each run.
+// A pseudo-random generator, whose numbers are the same in each run.
 #[derive(Drop)]
 struct Draws(u64);
 
@@ -321,7 +323,7 @@ const PARTS: [&[u8]; 14] = [
     b"+I\n", b"I", b"h",
 ];
 
-// One half is drawn byte by byte, the other put together of lines and parts of lines.
+// Half of the texts are random bytes, the others random lines and parts of lines.
 fn drawn(alloc: Global, draws: &mut Draws, number: u32) -> Result<Vec<u8>, Fail> {
     let mut text = Vec::new(alloc);
     let len = draws.below(201);
