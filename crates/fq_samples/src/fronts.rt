@@ -1,4 +1,5 @@
-//! The seven pairs: what each adds to the outputs, and whether the outputs of a run are those of the first of them.
+//! The seven pairs: what each adds to the outputs, and a test that the outputs of a run are those
+//! of the first of the pairs.
 
 use fq_pair::{Counts, Out};
 use fq_text::{Outlet, ScriptOutlet};
@@ -13,7 +14,7 @@ pub const OUTS: [Out; 5] = [
     Out::Log,
 ];
 
-/// What each of the pairs adds to each of the outputs.
+/// What each pair adds to each output.
 const ADDED: [[&[u8]; 5]; 7] = [
     [
         b"@n1/1\nACGT\n+\nIIII\n",
@@ -66,7 +67,8 @@ const ADDED: [[&[u8]; 5]; 7] = [
     ],
 ];
 
-/// Of how many of the first pairs, from none to all seven, both mates survive, and of how many the forward mate alone.
+/// For the first 0 to 7 pairs: in how many of them both mates survive, and in how many only the
+/// forward mate.
 const SURVIVORS: [(u64, u64); 8] = [
     (0, 0),
     (1, 0),
@@ -78,21 +80,22 @@ const SURVIVORS: [(u64, u64); 8] = [
     (5, 2),
 ];
 
-/// The outputs that a run left.
+/// What a run left in its outputs.
 #[derive(Clone, Copy, Debug, PartialEq, Eq)]
 pub struct Front {
-    /// How many pairs are written whole and counted.
+    /// How many pairs are written completely and counted.
     pub pairs: usize,
-    /// The output of which a write failed.
+    /// The output whose write failed, if one did.
     pub failed: Option<Out>,
 }
 
-/// The first of the seven pairs that a run has written to outlets, which are in the order of [`OUTS`], or what is wrong with its
-/// outputs and counts.
+/// How many of the seven pairs, from the first on, a run has written to its outlets, which are in
+/// the order of [`OUTS`]. An error says what is wrong with its outputs or counts.
 ///
-/// The outputs are the texts of the first pairs, and the counts are theirs. Where a write failed, no other did, and further pairs
-/// were begun, at most those of a block: the outputs before the one that failed have the texts of these too, and that one has a
-/// first part of its text that isn't the whole.
+/// The outputs must be the texts of the first pairs, and the counts must be theirs. If a write
+/// failed, it must be the only one, and the run may have begun further pairs, at most those of one
+/// block. Then the outputs before the one that failed also have the texts of these pairs, and the
+/// one that failed has an incomplete part of its text.
 pub fn front_in_order(
     outlets: [&ScriptOutlet; 5],
     counts: Counts,
@@ -122,7 +125,7 @@ pub fn front_in_order(
     }
 }
 
-// How many pairs these are the counts of.
+// The number of pairs that these counts belong to.
 fn counted(counts: Counts) -> Option<usize> {
     let pairs = usize::try_from(counts.pairs).ok()?;
     let (both, forward_only) = *SURVIVORS.get(pairs)?;
@@ -136,7 +139,7 @@ fn counted(counts: Counts) -> Option<usize> {
     (counts == wanted).then_some(pairs)
 }
 
-// Whether these are the texts of so many pairs.
+// Whether these are the texts of the first `pairs` pairs.
 fn are_whole(texts: [&[u8]; 5], pairs: usize) -> bool {
     texts
         .iter()
@@ -144,7 +147,8 @@ fn are_whole(texts: [&[u8]; 5], pairs: usize) -> bool {
         .all(|(place, text)| is_whole(text, place, pairs))
 }
 
-// Whether these texts have so many pairs, and further ones, at most those of a block, up to a place within the output that failed.
+// Whether these texts have the first `pairs` pairs, and further ones, at most those of one block,
+// up to a byte within the output that failed.
 fn break_off(texts: [&[u8]; 5], failed: usize, pairs: usize, block_pairs: usize) -> bool {
     (1..=block_pairs).any(|more| {
         let begun = pairs.saturating_add(more);
@@ -157,12 +161,13 @@ fn break_off(texts: [&[u8]; 5], failed: usize, pairs: usize, block_pairs: usize)
     })
 }
 
-// Whether this is the text of so many pairs in the output at this place.
+// Whether this is the text of the first `pairs` pairs in the output at index `place`.
 fn is_whole(text: &[u8], place: usize, pairs: usize) -> bool {
     matches!(behind(text, place, pairs), Some(rest) if rest.is_empty())
 }
 
-// Whether this text has so many pairs, and behind them a part that isn't the whole of what those up to `begun` add.
+// Whether this text has the first `pairs` pairs, and after them an incomplete part of what the
+// pairs up to `begun` add.
 fn breaks_off(text: &[u8], place: usize, pairs: usize, begun: usize) -> bool {
     let Some(mut rest) = behind(text, place, pairs) else {
         return false;
@@ -179,7 +184,7 @@ fn breaks_off(text: &[u8], place: usize, pairs: usize, begun: usize) -> bool {
     false
 }
 
-// What stands in this text behind what so many pairs add to the output at this place.
+// The rest of this text after what the first `pairs` pairs add to the output at index `place`.
 fn behind<'a>(text: &'a [u8], place: usize, pairs: usize) -> Option<&'a [u8]> {
     let mut rest = text;
     for outputs in ADDED.iter().take(pairs) {

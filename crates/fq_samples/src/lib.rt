@@ -1,4 +1,5 @@
-//! Worked texts: pairs of which each trimmed base was counted by hand. Tests of the other crates read them, each at its own level.
+//! Worked texts: pairs whose trimmed bases were counted by hand. The tests of the other crates use
+//! them, each at its own level.
 #![tactic(auto)]
 
 mod fronts;

@@ -1,11 +1,11 @@
-//! A text in memory as a source.
+//! A source of a text in memory.
 
 ghost use Rattle.std.specs.Prelude.{◌≡◌, None, [], IfOk};
 
 use fq_text::{Encoding, OutOfMemory, ScriptFeed, Source};
 use std::alloc::Global;
 
-// Bytes of a read, of which a source makes at most so many.
+// The most bytes of a read call. A source makes at most `READS` calls.
 const CHUNK: usize = 1000;
 
 const READS: u64 = 1000;

@@ -1,17 +1,18 @@
-//! Two pairs, those that the program's example trims, and each of them alone. All scores are in Sanger's encoding.
+//! The two pairs that the program's EXAMPLE command trims, and each of them alone. All scores are
+//! in Sanger's encoding.
 
 use crate::written::Written;
 
 /// The forward read of the first pair: scores 2, 0, 40 and 40.
 pub const FIRST_FORWARD: &[u8] = b"@p1/1\nACGT\n+\n#!II\n";
 
-/// Its mate, whose scores are all 40.
+/// The reverse read of the first pair, whose scores are all 40.
 pub const FIRST_REVERSE: &[u8] = b"@p1/2\nTTTT\n+\nIIII\n";
 
 /// The forward read of the second pair, whose scores are all 40.
 pub const SECOND_FORWARD: &[u8] = b"@p2/1\nGGCC\n+\nIIII\n";
 
-/// Its mate: scores 0, 0, 0 and 1.
+/// The reverse read of the second pair: scores 0, 0, 0 and 1.
 pub const SECOND_REVERSE: &[u8] = b"@p2/2\nAAAA\n+\n!!!\"\n";
 
 /// The forward reads of both pairs.
@@ -24,7 +25,7 @@ pub const TWO_REVERSE: &[u8] = b"@p1/2\nTTTT\n+\nIIII\n@p2/2\nAAAA\n+\n!!!\"\n";
 pub const TWO_INTERLEAVED: &[u8] =
     b"@p1/1\nACGT\n+\n#!II\n@p1/2\nTTTT\n+\nIIII\n@p2/1\nGGCC\n+\nIIII\n@p2/2\nAAAA\n+\n!!!\"\n";
 
-/// The step by which they are trimmed: the first pair loses two bases, and the second its reverse read.
+/// The step that trims both pairs: the first pair loses two bases, and the second its reverse read.
 pub const TWO_STEPS: &[&str] = &["LEADING:3"];
 
 /// What is written of the first pair.

@@ -1,16 +1,17 @@
-//! What is written of pairs.
+//! The expected outputs of a run.
 
-/// What is to be written of a sample's pairs: the texts of the four outputs, and the trim log.
+/// What has to be written of the pairs of a sample: the texts of the four outputs, and the trim
+/// log.
 #[derive(Clone, Copy, Debug, PartialEq, Eq)]
 pub struct Written {
-    /// The forward reads whose mate survives too.
+    /// The forward reads whose mate also survives.
     pub forward_paired: &'static [u8],
-    /// The forward reads that lose their mate.
+    /// The forward reads whose mate is dropped.
     pub forward_unpaired: &'static [u8],
-    /// The reverse reads whose mate survives too.
+    /// The reverse reads whose mate also survives.
     pub reverse_paired: &'static [u8],
-    /// The reverse reads that lose their mate.
+    /// The reverse reads whose mate is dropped.
     pub reverse_unpaired: &'static [u8],
-    /// Two lines for each pair.
+    /// The trim log: two lines for each pair.
     pub log: &'static [u8],
 }
