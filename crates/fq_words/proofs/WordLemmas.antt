@@ -1,4 +1,4 @@
--- What `clap` finds in words, and the commands that it reads them by.
+-- What `clap` finds in arguments, and the commands by which it parses them.
 use Rattle.std.proofs.Common.{◌≡◌, ◌≢◌, ◌∙◌, ◌&&◌, ◌||◌, ◌<◌, ◌^◌, ℕ, Bool, true, false, true≢false, refl, sym, ap, ap₂, subst, arith, List, [], ◌∷◌, length, Option, Some, None, Result, Ok, Err, codes, nat_lt, nat_le, lt-ltb, ltb-true, if◌then◌else◌}
 use Rattle.std.specs.Prelude.{unwrap_or, option_map, IsSomeAnd, Box}
 use Rattle.std.specs.List.{list_all}
@@ -36,7 +36,7 @@ more old new (arg ∷ args) app (rule ∷ rules) adds are command = more adds.0 
 more old new [] app (rule ∷ rules) adds are command = absurd are
 more old new (arg ∷ args) app [] adds are command = absurd are
 
--- the value of an argument, and the text in its place
+-- the value of an argument, and its text
 pub text_read : (found : Option (Bor Text)) (other : Bor Text) (first : Option Text) → option_map (λ s. s.now) found ≡ first → other.now ≡ [] → (unwrap_or found other).now ≡ unwrap_or first []
 text_read (Some text) other first is empty = ap (λ o. unwrap_or o []) is
 text_read None other first is empty = empty ∙ ap (λ o. unwrap_or o []) is
@@ -72,7 +72,7 @@ pub fails_by : (app : App) (words : List Text) (e : Error) → app ≡ program_a
 unfolding words_fault
 fails_by app words e is fails = subst (λ kinds. HasKind kinds e) (ap (λ a. fault_of a words) is) (fails (ap is_simple_and_free is ∙ is_free))
 
--- the name of the subcommand that was met
+-- the name of the subcommand that was found
 pub name_met : (m : ArgMatches) → subcommand_name_of m ≡ option_map (λ p. p.0) (subcommand_rows_of m)
 name_met m = go (out-ArgMatches m).subcommand
   where
@@ -80,7 +80,7 @@ name_met m = go (out-ArgMatches m).subcommand
     go None = refl
     go (Some b) = refl
 
--- a subcommand that was met, by its name and its rows
+-- the subcommand that was found, by its name and its rows
 pub met_is : (found : Option (Text × List Row)) (name : Text) (rows : List Row) → Some name ≡ option_map (λ p. p.0) found → Some rows ≡ option_map (λ p. p.1) found → asked_in found ≡ asked_of name rows
 met_is (Some found) name rows named has =
     let name_is : found.0 ≡ name = cc in
@@ -88,7 +88,7 @@ met_is (Some found) name rows named has =
     ap₂ asked_of name_is rows_are
 met_is None name rows named has = absurd cc
 
--- no subcommand was met
+-- no subcommand was found
 pub not_met : (found : Option (Text × List Row)) → None ≡ option_map (λ p. p.0) found → asked_in found ≡ None
 not_met None none = refl
 not_met (Some found) none = absurd cc

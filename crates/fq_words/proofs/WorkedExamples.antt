@@ -1,11 +1,11 @@
--- What is asked in words that are written out.
+-- What given command lines ask for.
 use Rattle.std.proofs.Common.{◌≡◌, ℕ, Bool, true, false, Option, Some, None, List, [], ◌∷◌, refl, codes}
 use Rattle.clap.proofs.OnLiterals.{clap_on_literals}
 use Rattle.fq_words.specs.Requests.{Asking, InputNames, interleaved_file, two_files}
 use Rattle.clap.specs.declared.error.kind.ErrorKind.TheVariants.{DisplayVersion, MissingRequiredArgument, MissingSubcommand}
 use Rattle.fq_words.specs.Words.{asking_in, interleaved_app, pairs_app, pairs_asked, program_app, words_fault}
 
--- what is asked with a log and one step, but for what the examples differ in
+-- what is asked with a log and one step; the examples differ in the parameters
 asked : ℕ → ℕ → Bool → Bool → Option (List ℕ) → InputNames → Asking
 asked threads block check_names sync report inputs = record {
   encoding = codes "sanger";
@@ -51,7 +51,7 @@ two_files_asked : pairs_asked two_files_words ≡ Some (asked 2 1 true false Non
 unfolding clap_on_literals program_app pairs_app interleaved_app asked pairs_asked asking_in
 two_files_asked = refl
 
--- options behind the steps
+-- options after the steps
 abbrev late_words : List (List ℕ)
 late_words = codes "fq" ∷ codes "PE" ∷ codes "f" ∷ codes "r" ∷ codes "fp" ∷ codes "fu" ∷ codes "rp" ∷ codes "ru" ∷ codes "LEADING:3" ∷ codes "--threads" ∷ codes "2" ∷ codes "MINLEN:2" ∷ []
 

@@ -1,4 +1,4 @@
--- What is to be trimmed, from where and to where.
+-- Requests: what to trim, from which files and into which.
 use Rattle.std.specs.Prelude.{ℕ, Bool, false, unwrap_or, ◌||◌, Option, Some, None, List, map, codes, if◌then◌else◌}
 use Rattle.std.specs.Option.{option_map}
 use Rattle.std.specs.Str.{bytes_eq}
@@ -13,7 +13,7 @@ use Rattle.fq_words.specs.declared.request.Request.{Request}
 use Rattle.fq_words.specs.declared.request.Inputs.{Inputs}
 use Rattle.fq_words.specs.declared.request.Inputs.TheVariants.{Apart, Interleaved}
 
--- The names of the inputs, and their form. An interleaved file is the file of both sides.
+-- The names of the inputs, and their form. An interleaved file holds both sides.
 pub record InputNames : Type 0 where
   pub form : Form
   pub forward : List ℕ
@@ -29,7 +29,7 @@ abbrev pub names_of : Inputs → InputNames
 names_of (Apart forward reverse) = two_files forward.now reverse.now
 names_of (Interleaved both) = interleaved_file both.now
 
--- What is to be trimmed, as the words give it.
+-- What to trim, as the command line gives it.
 pub record Asking : Type 0 where
   pub encoding : List ℕ
   pub threads : ℕ
@@ -66,7 +66,7 @@ asking_of r = record {
   steps = map (λ word. word.now) r.steps.items;
 }
 
--- the encoding of a name
+-- the encoding with this name
 abbrev pub encoding_of : List ℕ → Option Encoding
 encoding_of name =
     if bytes_eq name (codes "sanger") then Some Sanger
@@ -80,7 +80,7 @@ abbrev pub input_name : InputNames → Side → List ℕ
 input_name inputs Forward = inputs.forward
 input_name inputs Reverse = inputs.reverse
 
--- the name of an output, if it is wanted
+-- the name of an output, if it is to be written
 abbrev pub output_name : Asking → Out → Option (List ℕ)
 output_name a ForwardPaired = Some a.forward_paired
 output_name a ForwardUnpaired = Some a.forward_unpaired
@@ -88,7 +88,7 @@ output_name a ReversePaired = Some a.reverse_paired
 output_name a ReverseUnpaired = Some a.reverse_unpaired
 output_name a Log = a.log
 
--- a name is that of an input
+-- this is the name of an input
 abbrev pub is_input : InputNames → List ℕ → Bool
 is_input inputs name = bytes_eq name inputs.forward || bytes_eq name inputs.reverse
 
@@ -96,7 +96,7 @@ abbrev pub same_log : Asking → Option (List ℕ) → Option Out
 same_log a (Some log) = if is_input a.inputs log then Some Log else None
 same_log a None = None
 
--- the first output whose name is that of an input
+-- the first output that has the name of an input
 abbrev pub same_name : Asking → Option Out
 same_name a =
     if is_input a.inputs a.forward_paired then Some ForwardPaired

@@ -1,4 +1,4 @@
-//! The texts of help that the commands and their options don't give.
+//! Help texts other than those of single options and arguments.
 
 pub(crate) const ABOUT: &str =
     "Trims paired-end FASTQ reads. Mates stay in step, and the outputs keep the order of the inputs.";
@@ -19,7 +19,7 @@ pub(crate) const START: &str = "Start with:
 Example:
   fq_prog PE r1.fq r2.fq r1.paired.fq r1.unpaired.fq r2.paired.fq r2.unpaired.fq LEADING:3 TRAILING:3 SLIDINGWINDOW:4:15 MINLEN:36";
 
-// The help of a command that trims: what it says of its inputs, of the steps, an example, and the exit status.
+// The help of a trimming command: its inputs, the steps, an example, and the exit status.
 macro_rules! trimming_help {
     ($inputs:literal, $example:literal) => {
         concat!(

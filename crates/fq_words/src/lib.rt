@@ -1,6 +1,7 @@
-//! The words of a command line: the program's commands with their help, and what a call asks for.
+//! The command line: the program's commands with their help, and what a call asks for.
 //!
-//! [`read_words`] reads the words by `clap` and gives a [`Request`], in which no number and no word is judged yet.
+//! [`read_words`] parses the arguments with `clap` and gives a [`Request`]. The ranges of its
+//! numbers and the texts of its steps are not checked yet.
 #![tactic(auto)]
 
 mod help;

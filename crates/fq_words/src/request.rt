@@ -1,4 +1,4 @@
-//! What is to be trimmed, from where and to where.
+//! Requests: what to trim, from which files and into which.
 
 ghost use Rattle.std.specs.Prelude.{◌≡◌, [], unwrap_or};
 ghost use Rattle.fq_words.specs.Requests.{asking_of, encoding_of, same_name, output_name, input_name, is_input, report_is_input};
@@ -6,48 +6,50 @@ ghost use Rattle.fq_words.specs.Requests.{asking_of, encoding_of, same_name, out
 use fq_pair::{Out, Side};
 use fq_text::Encoding;
 
-/// Where the pairs come from, by the names of files.
+/// The input files, by their names.
 #[derive(Clone, Copy)]
 pub enum Inputs<'a> {
-    /// Forward and reverse reads, each in a file.
+    /// Forward and reverse reads, in one file each.
     Apart { forward: &'a str, reverse: &'a str },
     /// One interleaved file: a forward read, then its reverse mate, and so on.
     Interleaved(&'a str),
 }
 
-/// What is to be trimmed, as the words give it: no number is in its range yet, and no word is judged.
+/// What to trim, as the command line gives it. The ranges of its numbers and the texts of its
+/// encoding and steps are not checked yet.
 #[derive(Drop)]
 pub struct Request<'a> {
-    /// The name of the encoding.
+    /// The name of the encoding (`--encoding`).
     pub encoding: &'a str,
-    /// How many threads trim.
+    /// The number of threads that trim (`--threads`).
     pub threads: u64,
-    /// Pairs that are trimmed and written at a time.
+    /// The number of pairs that are trimmed and written at a time (`--block`).
     pub block: u64,
-    /// Items that a lane between threads holds.
+    /// The number of blocks that can wait for each thread (`--depth`).
     pub depth: u64,
-    /// Bytes that are read at a time.
+    /// The number of bytes that are read at a time (`--chunk`).
     pub chunk: u64,
-    /// Whether the names of mates have to match.
+    /// Whether the names of mates must match: not if `--no-name-check` is given.
     pub check_names: bool,
-    /// Whether the end waits until the outputs are on their disk, whatever disk it is.
+    /// Whether the run waits at its end until the outputs are on their disk, whatever disk that is
+    /// (`--sync`).
     pub sync: bool,
-    /// Where the pairs come from.
+    /// The input files.
     pub inputs: Inputs<'a>,
     /// The names of the four outputs.
     pub forward_paired: &'a str,
     pub forward_unpaired: &'a str,
     pub reverse_paired: &'a str,
     pub reverse_unpaired: &'a str,
-    /// The name of the log, if one is wanted.
+    /// The name of the log, if there is to be one (`--trimlog`).
     pub log: Option<&'a str>,
-    /// The name of the report, if one is wanted.
+    /// The name of the report, if there is to be one (`--report`).
     pub report: Option<&'a str>,
-    /// The words of the steps.
+    /// The arguments that name the steps.
     pub steps: Vec<&'a str>,
 }
 
-/// The encoding of this name, as `--encoding` has it: `sanger`, `illumina13` or `solexa`.
+/// The encoding with this name, as `--encoding` takes it: `sanger`, `illumina13` or `solexa`.
 pub fn encoding_of(name: &str) -> Option<Encoding>
     ensures { result ≡ encoding_of name.now }
 {
@@ -59,7 +61,7 @@ pub fn encoding_of(name: &str) -> Option<Encoding>
     }
 }
 
-/// The first output whose name is that of an input, in the order of [`Out`].
+/// The first output, in the order of [`Out`], that has the name of an input.
 pub fn same_name(request: &Request<'_>) -> Option<Out>
     ensures { result ≡ same_name (asking_of request.now) }
 {
@@ -81,7 +83,7 @@ pub fn same_name(request: &Request<'_>) -> Option<Out>
     }
 }
 
-/// Whether the name of the report is that of an input.
+/// Whether the report has the name of an input.
 pub fn report_is_input(request: &Request<'_>) -> bool
     ensures { result ≡ report_is_input (asking_of request.now) }
 {
@@ -91,7 +93,7 @@ pub fn report_is_input(request: &Request<'_>) -> bool
     }
 }
 
-// Whether a name is that of an input.
+// Whether this is the name of an input.
 fn is_input(request: &Request<'_>, name: &str) -> bool
     ensures { result ≡ is_input (asking_of request.now).inputs name.now }
 {
@@ -102,7 +104,7 @@ fn is_input(request: &Request<'_>, name: &str) -> bool
 }
 
 impl Request<'_> {
-    /// The name of an output, or nothing for a log that isn't wanted.
+    /// The name of an output, or an empty text for a log that is not written.
     pub fn output_name(&self, out: Out) -> &str
         ensures { result.now ≡ unwrap_or (output_name (asking_of self.now) out) [] }
     {
@@ -118,7 +120,7 @@ impl Request<'_> {
         }
     }
 
-    /// The name of the file in which the reads of a side are.
+    /// The name of the file that holds the reads of a side.
     pub fn input_name(&self, side: Side) -> &str
         ensures { result.now ≡ input_name (asking_of self.now).inputs side }
     {

@@ -1,4 +1,4 @@
-//! What the words of a command line ask for.
+//! Parses the command line.
 
 ghost use Rattle.std.specs.Prelude.{◌≡◌, List, [], IfOk, IfErr, map, false, codes, option_map, unwrap_or};
 ghost use Rattle.clap.specs.Words.{Rule, all_of, app_of, found_of, rows_of, HasKind};
@@ -14,19 +14,21 @@ use std::alloc::{AllocError, Global};
 /// The program's version.
 pub const VERSION: &str = "1.1.0";
 
-/// What the words ask for.
+/// What the command line asks for.
 #[derive(Drop)]
 pub enum Asked<'a> {
-    /// What becomes of the built-in pairs.
+    /// To print what becomes of the built-in pairs.
     Example,
     /// To trim pairs.
     Pairs(Request<'a>),
 }
 
-/// What these words ask for, of which the first is the program's name. Otherwise what `clap` says of them: help that was asked
-/// for, what is wrong with them, or that memory was refused.
+/// Parses the arguments, the first of which is the name of the program. An error is what `clap`
+/// reports: help or the version that was asked for, what is wrong with the arguments, or that
+/// memory was refused.
 pub fn read_words<'a>(alloc: Global, words: &'a [&'a str]) -> Result<Asked<'a>, Error>
-    ensures ok { IfOk result (λ asked. AskedFor (map (λ word. word.now) words.entry.now) (asked_pairs asked)) }
+    ensures ok { IfOk result
+        (λ asked. AskedFor (map (λ word. word.now) words.entry.now) (asked_pairs asked)) }
     ensures err { IfErr result (HasKind (words_fault (map (λ word. word.now) words.entry.now))) }
 {
     let matches = command(alloc)?.try_get_matches_from(words)?;
@@ -36,9 +38,10 @@ pub fn read_words<'a>(alloc: Global, words: &'a [&'a str]) -> Result<Asked<'a>, 
     Ok(asked_of(alloc, name, found)?)
 }
 
-// What is asked of the command of this name.
+// What the command with this name asks for.
 fn asked_of<'a>(alloc: Global, name: &str, found: &ArgMatches<'a>) -> Result<Asked<'a>, AllocError>
-    ensures { IfOk result (λ asked. asked_of name.now (rows_of (found_of found.now)) ≡ asked_pairs asked) }
+    ensures { IfOk result
+        (λ asked. asked_of name.now (rows_of (found_of found.now)) ≡ asked_pairs asked) }
 {
     match inputs_of(name, found) {
         Some(inputs) => Ok(Asked::Pairs(request(alloc, found, inputs)?)),
@@ -46,7 +49,7 @@ fn asked_of<'a>(alloc: Global, name: &str, found: &ArgMatches<'a>) -> Result<Ask
     }
 }
 
-// The inputs of a command that trims.
+// The inputs of a trimming command, or `None` if the command does not trim.
 fn inputs_of<'a>(name: &str, found: &ArgMatches<'a>) -> Option<Inputs<'a>>
     ensures { option_map names_of result ≡ inputs_in name.now (rows_of (found_of found.now)) }
 {
@@ -60,7 +63,7 @@ fn inputs_of<'a>(name: &str, found: &ArgMatches<'a>) -> Option<Inputs<'a>>
     }
 }
 
-// The program's commands.
+// The commands of the program.
 fn command<'a>(alloc: Global) -> Result<Command<'a>, AllocError>
     ensures { IfOk result (λ r. app_of r ≡ program_app) }
 {
@@ -78,7 +81,7 @@ fn command<'a>(alloc: Global) -> Result<Command<'a>, AllocError>
         )
 }
 
-// The command that trims the pairs of two files.
+// The command `PE`, which trims the pairs of two files.
 fn pairs_command<'a>(alloc: Global) -> Result<Command<'a>, AllocError>
     ensures { IfOk result (IsCommand pairs_app) }
 {
@@ -88,7 +91,7 @@ fn pairs_command<'a>(alloc: Global) -> Result<Command<'a>, AllocError>
     trimming_command(alloc, "PE", help::ABOUT_PAIRS, help::PAIRS, inputs)
 }
 
-// The command that trims the pairs of an interleaved file.
+// The command `IL`, which trims the pairs of an interleaved file.
 fn interleaved_command<'a>(alloc: Global) -> Result<Command<'a>, AllocError>
     ensures { IfOk result (IsCommand interleaved_app) }
 {
@@ -115,7 +118,8 @@ fn trimming_command<'a>(
     more: &'a str,
     inputs: Vec<Arg<'a>>,
 ) -> Result<Command<'a>, AllocError>
-    ensures { IfOk result (λ command. (rules : List Rule) → AreArgs rules inputs.entry.items → IsCommand (trimming_app name.entry.now rules) command) }
+    ensures { IfOk result (λ command. (rules : List Rule) → AreArgs rules inputs.entry.items
+        → IsCommand (trimming_app name.entry.now rules) command) }
 {
     let options = options(alloc)?;
     let outputs = outputs(alloc)?;
@@ -125,7 +129,7 @@ fn trimming_command<'a>(
     with_inputs.args(outputs)
 }
 
-// The options of a run.
+// The options of a trimming command.
 fn options<'a>(alloc: Global) -> Result<Vec<Arg<'a>>, AllocError>
     ensures { IfOk result (λ options. AreArgs option_rules options.items) }
 {
@@ -158,7 +162,7 @@ fn options<'a>(alloc: Global) -> Result<Vec<Arg<'a>>, AllocError>
     ]?)
 }
 
-// The encoding of the inputs.
+// The option `--encoding`: the encoding of the inputs.
 fn encoding<'a>(alloc: Global) -> Arg<'a>
     ensures { IsArg (default_rule (codes "encoding") (codes "sanger")) result }
 {
@@ -171,7 +175,7 @@ fn encoding<'a>(alloc: Global) -> Arg<'a>
         )
 }
 
-// The file of the log.
+// The option `--trimlog`: the file of the log.
 fn log<'a>(alloc: Global) -> Arg<'a>
     ensures { IsArg (option_rule (codes "trimlog")) result }
 {
@@ -183,7 +187,7 @@ fn log<'a>(alloc: Global) -> Arg<'a>
         )
 }
 
-// Names of mates are left unread.
+// The flag `--no-name-check`.
 fn unchecked_names<'a>(alloc: Global) -> Arg<'a>
     ensures { IsArg (flag_rule (codes "no-name-check")) result }
 {
@@ -193,7 +197,7 @@ fn unchecked_names<'a>(alloc: Global) -> Arg<'a>
         .help("Takes mates with different names as pairs [default: names have to match]")
 }
 
-// The end waits for the disk.
+// The flag `--sync`.
 fn sync<'a>(alloc: Global) -> Arg<'a>
     ensures { IsArg (flag_rule (codes "sync")) result }
 {
@@ -205,7 +209,7 @@ fn sync<'a>(alloc: Global) -> Arg<'a>
         )
 }
 
-// The file of the report.
+// The option `--report`: the file of the report.
 fn report<'a>(alloc: Global) -> Arg<'a>
     ensures { IsArg (option_rule (codes "report")) result }
 {
@@ -217,7 +221,7 @@ fn report<'a>(alloc: Global) -> Arg<'a>
         )
 }
 
-// An option with a number.
+// An option that takes a number.
 fn number<'a>(alloc: Global, id: &'a str, default: &'a str, help: &'a str) -> Arg<'a>
     ensures { IsArg (number_rule id.entry.now default.entry.now) result }
 {
@@ -229,7 +233,7 @@ fn number<'a>(alloc: Global, id: &'a str, default: &'a str, help: &'a str) -> Ar
         .help(help)
 }
 
-// The files that are made, and the steps.
+// The arguments for the output files and the steps.
 fn outputs<'a>(alloc: Global) -> Result<Vec<Arg<'a>>, AllocError>
     ensures { IfOk result (λ outputs. AreArgs output_rules outputs.items) }
 {
@@ -247,7 +251,7 @@ fn outputs<'a>(alloc: Global) -> Result<Vec<Arg<'a>>, AllocError>
     ]?)
 }
 
-// The words of the steps.
+// The argument for the steps.
 fn steps<'a>(alloc: Global) -> Arg<'a>
     ensures { IsArg (steps_rule (codes "STEPS")) result }
 {
@@ -256,20 +260,21 @@ fn steps<'a>(alloc: Global) -> Arg<'a>
         .help("1 to 64 steps, as LEADING:3 (see below)")
 }
 
-// A file, which has to be named.
+// A required argument that names a file.
 fn file<'a>(alloc: Global, id: &'a str, help: &'a str) -> Arg<'a>
     ensures { IsArg (file_rule id.entry.now) result }
 {
     Arg::new(alloc, id).required(true).help(help)
 }
 
-// What was found in the words, beside the inputs.
+// The request that the parsed arguments make with these inputs.
 fn request<'a>(
     alloc: Global,
     found: &ArgMatches<'a>,
     inputs: Inputs<'a>,
 ) -> Result<Request<'a>, AllocError>
-    ensures { IfOk result (λ request. asking_of request ≡ asking_in (names_of inputs.entry) (rows_of (found_of found.now))) }
+    ensures { IfOk result (λ request. asking_of request
+        ≡ asking_in (names_of inputs.entry) (rows_of (found_of found.now))) }
 {
     let encoding = text_of(found, "encoding");
     let threads = number_of(found, "threads");
@@ -304,9 +309,10 @@ fn request<'a>(
     })
 }
 
-// The words of the steps.
+// The arguments that name the steps.
 fn steps_of<'a>(alloc: Global, found: &ArgMatches<'a>) -> Result<Vec<&'a str>, AllocError>
-    ensures { IfOk result (λ words. map (λ word. word.now) words.items ≡ unwrap_or (all_of (codes "STEPS") (rows_of (found_of found.now))) []) }
+    ensures { IfOk result (λ words. map (λ word. word.now) words.items
+        ≡ unwrap_or (all_of (codes "STEPS") (rows_of (found_of found.now))) []) }
 {
     match found.get_strs("STEPS") {
         Some(words) => Vec::from_slice(alloc, words),
@@ -314,21 +320,22 @@ fn steps_of<'a>(alloc: Global, found: &ArgMatches<'a>) -> Result<Vec<&'a str>, A
     }
 }
 
-// The text of an argument that has one: it is required, or has a default.
+// The text of an argument that always has one: it is required, or it has a default.
 fn text_of<'a>(found: &ArgMatches<'a>, id: &str) -> &'a str
     ensures { result.now ≡ text_in (rows_of (found_of found.now)) id.now }
 {
     found.get_str(id).unwrap_or("")
 }
 
-// The number of an argument that has one: it has a default, and each value is a number.
+// The number of an argument that always has one: it has a default, and `clap` refuses any other
+// text.
 fn number_of(found: &ArgMatches<'_>, id: &str) -> u64
     ensures { result ≡ number_in (rows_of (found_of found.now)) id.now }
 {
     found.get_one::<u64>(id).unwrap_or(0)
 }
 
-// Whether an option is there, which is written as a truth value.
+// Whether a flag is given. `clap` writes it as `true` or `false`.
 fn flag_of(found: &ArgMatches<'_>, id: &str) -> bool
     ensures { result ≡ flag_in (rows_of (found_of found.now)) id.now }
 {
