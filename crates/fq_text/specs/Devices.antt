@@ -8,8 +8,7 @@ pub record FeedState : Type 0 where
   pub to_come : List ℕ
   pub failures : ℕ
 
--- an outlet: whether it tells its bytes, those taken, oldest first, and how many writes and flushes
--- have failed
+-- an outlet: whether it tells its bytes, those taken, oldest first, and how many writes and flushes have failed
 pub record OutletState : Type 0 where
   pub tells : Bool
   pub taken : List ℕ
@@ -23,9 +22,8 @@ pub record Coming : Type 0 where
   pub fails_in : ℕ
   pub failures : ℕ
 
--- an outlet in memory: the bytes taken, how many it has memory for, the most that a write takes,
--- the number of writes up to and including the one that fails (0: none does), whether flushes fail,
--- and the failures so far
+-- the bytes that an outlet has taken, how many it has memory for, the most that a write takes, the number of writes up to
+-- and with the one that fails (0: none does), whether flushes fail, and its failures so far
 pub record Taken : Type 0 where
   pub bytes : List ℕ
   pub room : ℕ

@@ -137,7 +137,7 @@ impl<W: Write> Outlet for FromWrite<W> {
         ensures within { IfOk result (λ n. n ≤ length bytes.now) }
         ensures some { IfOk result (λ n. 0 < length bytes.now → 0 < n) }
         ensures failures { self.new.failures ≡ self.old.failures + (if is_ok result then 0 else 1) }
-        // If the bytes of the writer are known, they grow as a write makes them grow.
+        // Where the writer's own bytes are known, they grow as a write makes them.
         ensures writer { WriteAppends (W.contents self.old.inner) (W.contents self.new.inner) result bytes.now }
     {
         match self.writer.write(bytes) {
@@ -150,7 +150,7 @@ impl<W: Write> Outlet for FromWrite<W> {
     fn flush(&mut self) -> Result<(), OutletFailed>
         requires { self.old.failures < u64.MAX }
         ensures failures { self.new.failures ≡ self.old.failures + (if is_ok result then 0 else 1) }
-        // If the bytes of the writer are known, they stay.
+        // Where the writer's own bytes are known, they stay.
         ensures writer { Keeps (W.contents self.old.inner) (W.contents self.new.inner) }
     {
         match self.writer.flush() {

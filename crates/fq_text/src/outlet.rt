@@ -19,8 +19,8 @@ pub struct OutletFailed;
 /// outlet tells them never changes. Promises about bytes hold for outlets that tell them. Promises
 /// about counts hold for all outlets.
 pub trait Outlet {
-    /// What contracts see of the outlet: whether it tells its bytes, those taken so far, and how
-    /// many writes and flushes have failed.
+    /// What contracts see of the outlet: whether it tells its bytes, those taken so far, and how many writes and flushes have
+    /// failed.
     ghost state: { Self → OutletState };
 
     /// Takes the first n of these bytes, after those taken before, and returns n: 1 or more, unless
@@ -150,7 +150,7 @@ impl Outlet for ScriptOutlet {
     fn flush(&mut self) -> Result<(), OutletFailed>
         requires { self.old.failures < u64.MAX }
 
-        // It fails exactly if `flush_fails` is true, and changes nothing but the count of failures.
+        // It fails exactly where the script says so, and changes nothing but the count of failures.
         ensures fails { is_err result ≡ self.old.flush_fails }
         ensures kept { self.new ≡ record self.old { failures = self.new.failures } }
         ensures failures { self.new.failures ≡ self.old.failures + (if is_ok result then 0 else 1) }

@@ -197,6 +197,7 @@ impl FastqRecord {
     /// The title: the title line without its `@` and its line end.
     pub fn title(&self) -> &[u8]
         ensures title { result.now ≡ self.now.title }
+        // The type guarantees that the read is valid: a caller learns it by this call.
         ensures lawful { IsLawful self.now }
     {
         self.parts.title()

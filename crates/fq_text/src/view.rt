@@ -103,6 +103,7 @@ impl<'a> ReadView<'a> {
     /// The title: the title line without its `@` and its line end.
     pub fn title(&self) -> &'a [u8]
         ensures title { result.now ≡ self.now.title }
+        // The type guarantees that the read is valid: a caller learns it by this call.
         ensures lawful { IsLawful self.now }
     {
         self.title

@@ -18,7 +18,7 @@ const MOST: usize = 64;
 /// A list of 1 to 64 trimming steps. Each is applied to the bases that the step before it kept.
 ///
 /// The numbers of its steps are at most 999,999,999, and a window has at least one base. A list is
-/// held in place, and copied without taking memory.
+/// stored inline, and copied without taking memory.
 #[derive(Clone, Copy, Debug, PartialEq, Eq)]
 pub struct Steps {
     held: [Step; MOST],
