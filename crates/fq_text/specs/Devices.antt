@@ -2,7 +2,8 @@
 -- library are.
 use Rattle.std.specs.Prelude.{ℕ, List, Bool}
 
--- a feed: whether it tells its bytes, those still to come, and how many read calls have failed
+-- a feed: whether its bytes are known to the proof, those still to come, and how many read calls
+-- have failed
 pub record FeedState : Type 0 where
   pub tells : Bool
   pub to_come : List ℕ

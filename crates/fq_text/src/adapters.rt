@@ -10,9 +10,10 @@ use std::marker::Model;
 
 /// A reader as a feed, such as an opened file.
 ///
-/// The feed does not tell its bytes, since what a file holds is not known. Each error counts as a
-/// failed read call, also one that only says that a signal came (`ErrorKind::Interrupted`). The
-/// error itself is dropped: a feed reports that it failed, but not why.
+/// The bytes of the feed are not known to the proof, since those of a file are not. Each error
+/// counts as a failed read call, also one that only says that a signal came
+/// (`ErrorKind::Interrupted`). The error itself is dropped: a feed reports that it failed, but not
+/// why.
 #[derive(Drop)]
 pub struct FromRead<R: Read> {
     reader: R,
@@ -78,9 +79,9 @@ impl<R: Read> Feed for FromRead<R> {
 
 /// A writer as an outlet, such as a file that is written.
 ///
-/// The outlet does not tell its bytes. Each error counts as a failure, also one that only says that
-/// a signal came (`ErrorKind::Interrupted`), and so does a write that takes none of the bytes that
-/// it is given.
+/// The bytes of the outlet are not known to the proof. Each error counts as a failure, also one
+/// that only says that a signal came (`ErrorKind::Interrupted`), and so does a write that takes
+/// none of the bytes that it is given.
 #[derive(Drop)]
 pub struct FromWrite<W: Write> {
     writer: W,

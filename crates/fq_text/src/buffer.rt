@@ -129,8 +129,8 @@ impl Buffer {
         self.filled - self.start
     }
 
-    /// Takes the next line. `len` is its length without the line end, and `used` its length with
-    /// the line end.
+    /// Takes the next line: the first `len` bytes in hand, without a CR at their end. `used` is its
+    /// length with the line end.
     pub(crate) fn use_line(&mut self, len: usize, used: usize)
         requires within { len ≤ used }
         requires in_hand { used ≤ length self.old.in_hand }
@@ -147,7 +147,7 @@ impl Buffer {
     }
 
     // Moves the bytes in hand to the front of the buffer, if they are no more than the bytes before
-    // them.
+    // them: so all moves together move no more bytes than were used.
     fn make_room(&mut self)
         ensures { self.new ≡ record { line = []; in_hand = self.old.in_hand } }
     {

@@ -15,12 +15,12 @@ pub struct FeedFailed;
 
 /// A device that the bytes of a text are read from.
 ///
-/// A feed that tells its bytes is one whose bytes contracts can name, as memory; a file does not
-/// tell its bytes. Whether a feed tells them never changes. Promises about bytes hold for feeds
-/// that tell them. Promises about lengths and the count of failures hold for all feeds.
+/// The bytes of a feed are known to the proof (`tells`), as those of memory are, or not, as those
+/// of a file. This never changes. Promises about bytes hold for feeds whose bytes are known.
+/// Promises about lengths and the count of failures hold for all feeds.
 pub trait Feed {
-    /// What contracts see of the feed: whether it tells its bytes, the bytes still to come, and how
-    /// many read calls have failed.
+    /// What contracts see of the feed: whether its bytes are known to the proof, the bytes still to
+    /// come, and how many read calls have failed.
     ghost state: { Self → FeedState };
 
     /// Moves the next bytes to the front of `buf` and returns their number. If `buf` has room, 0
@@ -47,8 +47,8 @@ pub trait Feed {
         ensures { result ≡ (state self.now).failures };
 }
 
-/// A feed of bytes in memory that limits the bytes of each read call and fails at a chosen one. It
-/// tells its bytes.
+/// A feed of bytes in memory that limits the bytes of each read call and fails at a chosen one. Its
+/// bytes are known to the proof.
 #[derive(Drop)]
 pub struct ScriptFeed {
     bytes: Vec<u8>,

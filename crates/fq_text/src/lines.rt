@@ -106,8 +106,8 @@ impl<F: Feed> LineReader<F> {
         self.buffer.in_hand()
     }
 
-    /// Takes the next line out of the bytes in hand. `len` is its length without the line end, and
-    /// `used` its length with the line end.
+    /// Takes the next line: the first `len` bytes in hand, without a CR at their end. `used` is its
+    /// length with the line end.
     pub(crate) fn take_line(&mut self, len: usize, used: usize)
         requires within { len ≤ used }
         requires in_hand { used ≤ length self.old.in_hand }

@@ -14,10 +14,10 @@ pub struct OutletFailed;
 
 /// A device that takes bytes, such as a file that is written.
 ///
-/// An outlet that tells its bytes is one whose bytes contracts can name, as memory
-/// ([`ScriptOutlet`]); a file ([`FromWrite`](crate::FromWrite)) does not tell its bytes. Whether an
-/// outlet tells them never changes. Promises about bytes hold for outlets that tell them. Promises
-/// about counts hold for all outlets.
+/// The bytes of an outlet are known to the proof (`tells`), as those of memory are
+/// ([`ScriptOutlet`]), or not, as those of a file ([`FromWrite`](crate::FromWrite)). This never
+/// changes. Promises about bytes hold for outlets whose bytes are known. Promises about counts hold
+/// for all outlets.
 pub trait Outlet {
     /// What contracts see of the outlet: whether it tells its bytes, those taken so far, and how many writes and flushes have
     /// failed.

@@ -158,7 +158,7 @@ impl Model for FastqRecord {
 impl FastqRecord {
     ghost use Rattle.fq_text.specs.Grammar.{Read, IsLawful};
 
-    /// A record whose parts are all empty, to be [copied into](FastqRecord::copy_from). It asks for
+    /// A record whose parts are all empty, for [`copy_from`](FastqRecord::copy_from). It asks for
     /// no memory.
     pub fn empty(alloc: Global, encoding: Encoding) -> FastqRecord
         ensures { result ≡ record { encoding = encoding; title = []; seq = []; qual = [] } }
@@ -168,8 +168,8 @@ impl FastqRecord {
         }
     }
 
-    /// A copy of a read, which stays when the record or block that the read is borrowed from
-    /// changes. The only error is that memory was refused.
+    /// A copy of a read, which does not depend on the record or block that the read is borrowed
+    /// from. The only error is that memory was refused.
     pub fn copy_of(alloc: Global, read: &ReadView<'_>) -> Result<FastqRecord, OutOfMemory>
         ensures { IfOk result (λ copy. copy ≡ read.now) }
     {

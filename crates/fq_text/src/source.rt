@@ -131,8 +131,8 @@ impl<F: Feed> Source<F> {
         self.lines.feed()
     }
 
-    /// A record in the source's encoding whose parts are all empty, to be [copied
-    /// into](Source::next_into). It asks for no memory.
+    /// A record in the source's encoding whose parts are all empty, for
+    /// [`next_into`](Source::next_into). It asks for no memory.
     pub fn empty_record(&self) -> FastqRecord
         ensures { result
             ≡ record { encoding = self.now.encoding; title = []; seq = []; qual = [] } }
@@ -296,8 +296,7 @@ impl<F: Feed> Source<F> {
         ensures limit { self.new.taken ≤ self.new.max_reads * self.new.chunk }
         ensures fits { self.new.taken ≤ 2 ^ 60 }
     {
-        // No record is in hand while the next is read. The guess is that it has as many bases as
-        // this one.
+        // No record is in hand while the next is read, which is guessed to have as many bases.
         let guess = match self.place.take() {
             Some(Place::Unwrapped(shape)) => shape.bases,
             _ => self.parts.seq().len(),

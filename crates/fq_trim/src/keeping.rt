@@ -66,7 +66,7 @@ fn start_at(start: usize, qual: &[u8]) -> Span
     }
 }
 
-// From the first base with a score of at least `score` on.
+// The bases from the first with a score of at least `score` on.
 fn leading(encoding: Encoding, score: u32, qual: &[u8]) -> Span
     requires { list_all (is_scored encoding) qual.now ≡ true }
     ensures { IsBetween (keeps (Leading score) (scores encoding qual.now))
@@ -80,7 +80,7 @@ fn leading(encoding: Encoding, score: u32, qual: &[u8]) -> Span
     start_at(qual.len(), qual)
 }
 
-// Up to the last base with a score of at least `score`.
+// The bases up to the last with a score of at least `score`.
 fn trailing(encoding: Encoding, score: u32, qual: &[u8]) -> Span
     requires { list_all (is_scored encoding) qual.now ≡ true }
     ensures { IsBetween (keeps (Trailing score) (scores encoding qual.now))
@@ -105,7 +105,7 @@ fn head_crop(bases: u32, qual: &[u8]) -> Span
     start_at(qual.len().min(bases as usize), qual)
 }
 
-// Up to the last base with a score of at least `score` that is before the end of the first bad
+// The bases up to the last with a score of at least `score` that is before the end of the first bad
 // window. A window is bad if its scores sum to less than `width * score`.
 #[inline(always)]
 fn sliding_window(encoding: Encoding, width: u32, score: u32, qual: &[u8]) -> Span

@@ -12,7 +12,7 @@ use crate::words::parse_word;
 use fq_text::Encoding;
 use std::marker::Model;
 
-/// The most steps in a list.
+/// The most steps that a list can have.
 const MOST: usize = 64;
 
 /// A list of 1 to 64 trimming steps. Each is applied to the bases that the step before it kept.

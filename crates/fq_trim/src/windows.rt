@@ -65,8 +65,8 @@ fn stop_together(offset: u8, width: usize, score: u8, least: u8, qual: &[u8]) ->
     }
 }
 
-// An index after `start` such that each window that begins before it is good, if each that begins
-// before `start` is; or the index of the last base of the first bad window.
+// An index after `start` such that each window that begins before it is good (those that begin
+// before `start` are known to be); or the index of the last base of the first bad window.
 //
 // If the scores in a vector are all high, every window of them alone is good, and none is summed.
 #[inline(always)]
