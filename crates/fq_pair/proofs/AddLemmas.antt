@@ -1,4 +1,4 @@
--- The texts of one pair behind others.
+-- The texts of one pair after others.
 use Rattle.std.proofs.Common.{◌≡◌, ℕ, zero, suc, ◌+◌, ◌-◌, ◌<◌, Bool, true, false, Option, Some, None, List, [], ◌∷◌, ◌++◌, length, filter, flat_map, append_assoc, add-zero, refl, ap, sym, ◌∙◌, arith}
 use Rattle.std.proofs.lemmas.List.{append-nil}
 use Rattle.std.proofs.lemmas.Bool.{cond-true, cond-false}
@@ -15,11 +15,11 @@ some_places : (start n : ℕ) → 0 < n → is_empty (places start n) ≡ false
 some_places start zero some = absurd (omega arith)
 some_places start (suc n) some = refl
 
--- a read of which bases are kept
+-- bases of the read are kept
 pub kept_survives : (at : List ℕ) (o : Option Kept) (k : Kept) → at ≡ places_of o → o ≡ Some k → is_empty at ≡ false
 kept_survives at o k is some_is = let some = k.some in ap is_empty (is ∙ ap places_of some_is) ∙ some_places k.start (k.stop - k.start) (omega arith)
 
--- a read of which none are
+-- no bases of the read are kept
 pub dropped_is_gone : (at : List ℕ) (o : Option Kept) → at ≡ places_of o → o ≡ None → is_empty at ≡ true
 dropped_is_gone at o is none_is = ap is_empty (is ∙ ap places_of none_is)
 
@@ -47,7 +47,7 @@ same_outputs s t a b c d e f =
     } in
     let same : parts s ≡ parts t = cc in same
 
--- a text behind which a record was put
+-- a text after a record was appended
 pub text_with : (old room new : List ℕ) (recode : Bool) (steps : List Step) (o : Option Kept) (k : Kept) (read : Read) → room ≡ old → new ≡ room ++ record_at recode (places_of (Some k)) read
     → recode ≡ recodes steps → kept_places steps read ≡ places_of o → o ≡ Some k → new ≡ old ++ record_text steps read
 text_with old room new recode steps o k read same put recodes_is is some_is =
@@ -55,7 +55,7 @@ text_with old room new recode steps o k read same put recodes_is is some_is =
     ∙ ap (λ (b : Bool). old ++ record_at b (places_of (Some k)) read) recodes_is
     ∙ ap (λ (xs : List ℕ). old ++ record_at (recodes steps) xs read) (sym (is ∙ ap places_of some_is))
 
--- a log behind which a line was put
+-- a log after a line was appended
 pub log_with : (old room new : List ℕ) (side : Side) (steps : List Step) (o : Option Kept) (read : Read) (name : List ℕ) (bases : ℕ) → room ≡ old → new ≡ room ++ log_line_of name bases (places_of o)
     → name ≡ name_of side read.title → bases ≡ length read.seq → kept_places steps read ≡ places_of o → new ≡ old ++ log_line side (kept_places steps read) read
 log_with old room new side steps o read name bases same put named counted is =

@@ -1,4 +1,4 @@
--- What a call of a source of pairs answers, of its state.
+-- What a call of a source of pairs returns, in terms of the source's state.
 use Rattle.std.proofs.Common.{◌≡◌, ◌+◌, ◌*◌, Bool, true, false, [], ◌∷◌, Option, Some, None, Result, Ok, Err, IfOk, IfErr, refl, ap, sym, subst, ◌∙◌}
 use Rattle.std.specs.Option.{IfSome, IsSomeAnd}
 use Rattle.fq_text.specs.Devices.{FeedState}
@@ -37,7 +37,7 @@ module _ {F G : Type 0} (state : F → FeedState) (state' : G → FeedState) whe
         most_bytes = ap (λ n. n * new.forward.chunk) f.max_reads ∙ ap (λ n. old.forward.max_reads * n) f.chunk;
       }
 
-  -- the answer of a source that goes on
+  -- what a source that goes on returns
   pub asks : (old new : PairSourced F G) (r : Result (Option Mates) InputFault) →
       IfOk r (λ o. IfSome o (GivesPair state state' old new)) →
       (r ≡ Ok None → EndsPairs state state' old new) →
@@ -78,7 +78,7 @@ module _ {F G : Type 0} (state : F → FeedState) (state' : G → FeedState) whe
         endless = fault.endless;
       }
 
-  -- the same, where the pair is left in hand
+  -- what it returns if it keeps the pair as the current one
   pub advances : (old new : PairSourced F G) (r : Result Bool InputFault) →
       (r ≡ Ok true → IsSomeAnd new.current (GivesPair state state' old new)) →
       (r ≡ Ok false → EndsPairs state state' old new) →
@@ -94,7 +94,7 @@ module _ {F G : Type 0} (state : F → FeedState) (state' : G → FeedState) whe
       let e = end refl in (asks old new (Ok None) tt (λ is. e) tt ff fr k, e.current)
   advances old new (Err why) found end fault ff fr k = (asks old new (Err why) tt (λ is. absurd cc) fault ff fr k, fault.current)
 
-  -- the pair in hand is in the encoding of the sources
+  -- the current pair is in the encoding of the sources
   pub encoded : (old new : PairSourced F G) (r : Result Bool InputFault) → old.forward.encoding ≡ old.reverse.encoding →
       (r ≡ Ok true → IsSomeAnd new.current (GivesPair state state' old new)) →
       (r ≡ Ok false → EndsPairs state state' old new) →
@@ -106,7 +106,7 @@ module _ {F G : Type 0} (state : F → FeedState) (state' : G → FeedState) whe
   encoded old new (Ok false) is found end fault = let e = end refl in if_none new.current _ e.current
   encoded old new (Err why) is found end fault = if_none new.current _ fault.current
 
--- The same of an interleaved text.
+-- What a source of an interleaved text returns.
 module _ {F : Type 0} (state : F → FeedState) where
   same_interleaved : (old new : MixedSourced F) → interleaved.KeepsCounts state old new → KeepsSettings (interleaved_state state old) (interleaved_state state new)
   same_interleaved old new k =

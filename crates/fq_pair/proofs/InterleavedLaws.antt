@@ -1,4 +1,5 @@
--- The pairs of an interleaved text begin with the pair that stands in front of it, and so do the pairs that are left to a source.
+-- The pairs of an interleaved text begin with the pair that comes first in it, and so do the pairs
+-- that are left to a source.
 use Rattle.std.proofs.Common.{◌≡◌, ℕ, suc, ◌+◌, ◌*◌, Bool, Some, None, List, [], ◌∷◌, length, take_while, ap, sym, ◌∙◌, add-zero, add-one, arith, ⊎_elim}
 use Rattle.std.proofs.lemmas.Bool.{cond-true, cond-false, cases_Bool}
 use Rattle.std.proofs.lemmas.List.Sums.{take_while-cons}
@@ -16,7 +17,7 @@ use Rattle.fq_pair.specs.Interleaved.{interleaved_mates, interleaved_fault_at, i
 use Rattle.fq_pair.specs.MixedSources.{MixedSourced, front_of, pairs_left}
 use Rattle.fq_pair.proofs.PairLaws.{records_of-front}
 
--- the pairs of a text, where these mates belong together
+-- the pairs of a text, if these mates belong together
 abbrev up_to : List Mates → ℕ → Records → Pairs
 up_to mates k text = record { mates = mates; fault = interleaved_fault_at (suc (k + length mates)) (behind (2 * length mates) text) }
 
@@ -53,7 +54,7 @@ module _ (check : Bool) (k : ℕ) (T : List (List ℕ) → Records) where
       ∙ ap Q (sym (cond-false (belong check m) (Met m ls ls) (Stopped (NamesDiffer (suc k))) apart)))
       (cases_Bool (belong check m))
 
-  -- behind a forward mate
+  -- after a forward mate
   one_found : (f : Read) (A : Front) → interleaved_pairs_of check k (with_first f (from_front T A)) ≡ from_pair_front others (meeting_behind check (suc k) f A)
   one_found f End = none_up_to k (with_first f (from_front T End))
   one_found f (Faulty x) = none_up_to k (with_first f (from_front T (Faulty x)))
@@ -65,19 +66,19 @@ module _ (check : Bool) (e : Encoding) (k : ℕ) where
   by_front (Faulty x) = none_up_to k (from_front (records_of e) (Faulty x))
   by_front (Found f ls) = ap (λ (x : Records). interleaved_pairs_of check k (with_first f x)) (records_of-front e ls) ∙ one_found check k (records_of e) f (front e ls)
 
-  -- the pairs of a text are what stands in front of it, and the pairs of what is behind it
+  -- the pairs of a text are what comes first in it, and the pairs of what comes after that
   pub interleaved_pairs_of-front : (ls : List (List ℕ)) → interleaved_pairs_of check k (records_of e ls) ≡ from_pair_front (λ fs rs. interleaved_pairs_of check (suc k) (records_of e fs)) (interleaved_front check e k ls)
   interleaved_pairs_of-front ls = ap (interleaved_pairs_of check k) (records_of-front e ls) ∙ by_front (front e ls)
 
-  -- a pair in front is the first one
+  -- a pair that comes first is the first one
   pub interleaved_pairs_of-met : (m : Mates) (ls fs rs : List (List ℕ)) → interleaved_front check e k ls ≡ Met m fs rs → interleaved_pairs_of check k (records_of e ls) ≡ with_pair m (interleaved_pairs_of check (suc k) (records_of e fs))
   interleaved_pairs_of-met m ls fs rs is = interleaved_pairs_of-front ls ∙ ap (from_pair_front (λ fs rs. interleaved_pairs_of check (suc k) (records_of e fs))) is
 
-  -- a fault in front is how they end, without a pair
+  -- a fault that comes first ends the pairs, of which there are none
   pub interleaved_pairs_of-stopped : (ls : List (List ℕ)) (fault : InputFault) → interleaved_front check e k ls ≡ Stopped fault → interleaved_pairs_of check k (records_of e ls) ≡ record { mates = []; fault = Some fault }
   interleaved_pairs_of-stopped ls fault is = interleaved_pairs_of-front ls ∙ ap (from_pair_front (λ fs rs. interleaved_pairs_of check (suc k) (records_of e fs))) is
 
-  -- where nothing stands in front there is no pair and no fault
+  -- if nothing comes first, there is no pair and no fault
   pub interleaved_pairs_of-ended : (ls : List (List ℕ)) → interleaved_front check e k ls ≡ Ended → interleaved_pairs_of check k (records_of e ls) ≡ record { mates = []; fault = None }
   interleaved_pairs_of-ended ls is = interleaved_pairs_of-front ls ∙ ap (from_pair_front (λ fs rs. interleaved_pairs_of check (suc k) (records_of e fs))) is
 
@@ -85,7 +86,7 @@ module _ {F : Type 0} (state : F → FeedState) (old : MixedSourced F) where
   abbrev text : List (List ℕ)
   text = lines (rest_in state old.source)
 
-  -- a pair in front is the first of those left, and the others are left behind it
+  -- a pair that comes first is the first of those left, and the others are left after it
   pub interleaved_left_met : (new : MixedSourced F) (m : Mates) → new.source.encoding ≡ old.source.encoding → new.check_names ≡ old.check_names → new.given ≡ old.given + 1 →
       (let ls = lines (rest_in state new.source) in front_of state old ≡ Met m ls ls) → pairs_left state old ≡ with_pair m (pairs_left state new)
   interleaved_left_met new m encoding check_names given front =
@@ -96,6 +97,6 @@ module _ {F : Type 0} (state : F → FeedState) (old : MixedSourced F) where
       ∙ ap (λ check. P check new.source.encoding (suc old.given)) (sym check_names)
       ∙ ap (P new.check_names new.source.encoding) (sym (given ∙ add-one old.given))
 
-  -- where a fault stands in front no pair is left, and they end by it
+  -- if a fault comes first, no pair is left, and the pairs end with it
   pub interleaved_left_stopped : (why : InputFault) → front_of state old ≡ Stopped why → pairs_left state old ≡ record { mates = []; fault = Some why }
   interleaved_left_stopped why front = interleaved_pairs_of-stopped old.check_names old.source.encoding old.given text why front

@@ -25,9 +25,9 @@ use Rattle.fq_pair.specs.Walks.{SideState, side_state, Draws, Uses}
 use Rattle.fq_pair.proofs.SideLemmas.{draws_then, uses_then, more_lines, lines_before, lines_left, lines_behind}
 use Rattle.fq_pair.proofs.InterleavedLaws.{interleaved_pairs_of-stopped, interleaved_pairs_of-ended, interleaved_left_met, interleaved_left_stopped}
 
--- Of three states of a source, what its feed gave up to the second and up to the third.
+-- Three states of a source: what its feed gave up to the second and up to the third.
 module _ {F : Type 0} (state : F → FeedState) (a b c : Sourced F) (p : KeepsCount state a b) (q : KeepsCount state b c) where
-  -- the source as a side, of which failures don't count here
+  -- the source as a side, whose failures don't count here
   abbrev side : Sourced F → SideState
   side s = record (side_state state s) { failures = 0 }
 
@@ -51,14 +51,14 @@ module _ {F : Type 0} (state : F → FeedState) (a b c : Sourced F) (p : KeepsCo
         length = d.size;
       }
 
-  -- a rest of a rest of a text
+  -- the rest of a rest of a text
   tail_then : IsTail (rest_in state a) (rest_in state b) b.ended → IsTail (rest_in state b) (rest_in state c) c.ended → IsTail (rest_in state a) (rest_in state c) c.ended
   tail_then t u =
       let both = uses_then (side a) (side b) (side c) q.ended (used_in a b t) (used_in b c u) in
       let some = t.some in
       record { before = t.before ++ u.before; some = omega (arith, length-append t.before u.before); split = both.split; at_line = both.at_line }
 
-  -- two records that were given make a pair, where their names allow it
+  -- two records that were given make a pair if their names allow it
   pub two_given : (kept now_kept : Read) (check : Bool) (given : ℕ) (before now : Bool) (f r : Read) (m : Mates) → m ≡ mates_in f r → GivesRecord state a b f → GivesRecord state b c r → belong check (mates_in f r) ≡ true →
       GivesPair state (asked a kept check given before) (asked c now_kept check (given + 1) now) m
   two_given kept now_kept check given before now f r m is first second together =
@@ -112,7 +112,7 @@ module _ {F : Type 0} (state : F → FeedState) (a b c : Sourced F) (p : KeepsCo
       abbrev n : ℕ
       n = suc given
 
-      -- no second record stands there
+      -- there is no second record
       none_behind : (x y : Read) (ls rest : List (List ℕ)) → front a.encoding whole_lines ≡ Found x ls → front a.encoding ls ≡ Found y rest → ⊥
       none_behind x y ls rest one two =
           let longer : Found x (ls ++ more) ≡ Found f (lines (rest_in state b)) = sym (front_more more a.encoding x ls whole_lines one) ∙ ap (front a.encoding) (sym before) ∙ first in
@@ -132,11 +132,11 @@ module _ {F : Type 0} (state : F → FeedState) (a b c : Sourced F) (p : KeepsCo
       by_first (Faulty x) one = ap (λ (ps : Pairs). ps.mates) (interleaved_pairs_of-stopped check a.encoding given whole_lines _ (ap (interleaved_meeting check a.encoding n) one))
       by_first (Found x ls) one = by_second x ls one (front a.encoding ls) refl
 
-      -- the whole lines that came make no pair where the second record was not read
+      -- if the second record was not read, the whole lines that came make no pair
       pub no_pair : HasNone
       no_pair = by_first (front a.encoding whole_lines) refl
 
-      -- where the feed had not told its end they make one record
+      -- if the feed had not reported its end, they make one record
       pub one_came : b.ended ≡ false → length (records a.encoding (whole_part came)).reads ≡ 1
       one_came going =
           let behind = lines (whole_part (held state b c)) in
@@ -146,7 +146,7 @@ module _ {F : Type 0} (state : F → FeedState) (a b c : Sourced F) (p : KeepsCo
           one_record a.encoding f whole_lines behind found
           ∙ ap suc (no_records a.encoding behind (λ r rest is. lacks (p.told ∙ told) r rest (ap (λ (e : Encoding). front e behind) p.encoding ∙ is)))
 
--- a fault of the text is that of the record in front of it, with its number
+-- a fault of the text is that of the record that comes first, with its number
 stops_behind : (check : Bool) (n : ℕ) (f : Read) (x : Front) (k : ℕ) (why : TextFault) → k ≡ 2 * n → is_outside why ≡ false → FaultIs x k why → meeting_behind check n f x ≡ Stopped (Text Reverse why)
 stops_behind check n f x k (text.NoTitle j) is inside p = ap (meeting_behind check n f) p.0 ∙ ap (λ i. Stopped (Text Reverse (text.NoTitle i))) (sym (p.1 ∙ is))
 stops_behind check n f x k (text.BadSequence j) is inside p = ap (meeting_behind check n f) p.0 ∙ ap (λ i. Stopped (Text Reverse (text.BadSequence i))) (sym (p.1 ∙ is))
@@ -200,12 +200,12 @@ endless_behind P (text.QualityLong n) p = tt
 endless_behind P (text.QualityShort n) p = tt
 endless_behind P (text.TooLong n) p = tt
 
--- what stays, and is not so later, was not so before
+-- what stays, and is false later, was false before
 not_before : {before later : Bool} → (before ≡ true → later ≡ true) → later ≡ false → before ≡ false
 not_before {before} {later} stays none = ⊎_elim (λ over. absurd (let h = sym (stays over) ∙ none in cc)) (λ going. going) (cases_Bool before)
 
 module _ {F : Type 0} (state : F → FeedState) (a b c : Sourced F) (p : KeepsCount state a b) (q : KeepsCount state b c) (kept : Read) (check : Bool) (given : ℕ) (before : Bool) (f : Read) (first : GivesRecord state a b f) where
-  -- a fault behind a forward mate
+  -- a fault after a forward mate
   second_stops : (why : TextFault) → a.given ≡ 2 * given → StopsText state b c why →
       StopsPairs state (asked a kept check given before) (stopped c check given (Err (Text Reverse why))) (Text Reverse why)
   second_stops why even stops =
@@ -230,7 +230,7 @@ module _ {F : Type 0} (state : F → FeedState) (a b c : Sourced F) (p : KeepsCo
         current = refl;
       }
 
-  -- where the text ends behind a forward mate the reverse one is missing
+  -- if the text ends after a forward mate, the reverse mate is missing
   pub mate_missing : EndsText state b c →
       (let why = MateMissing Reverse (given + 1) in StopsPairs state (asked a kept check given before) (stopped c check given (Err why)) why)
   mate_missing ends =
@@ -253,7 +253,7 @@ module _ {F : Type 0} (state : F → FeedState) (a b c : Sourced F) (p : KeepsCo
         current = refl;
       }
 
-  -- two records that were given make no pair where their names differ
+  -- two records that were given make no pair if their names differ
   pub names_differ : (r : Read) (why : InputFault) → why ≡ NamesDiffer (given + 1) → GivesRecord state b c r → belong check (mates_in f r) ≡ false →
       StopsPairs state (asked a kept check given before) (stopped c check given (Err why)) why
   names_differ r why is second apart =
@@ -279,7 +279,7 @@ module _ {F : Type 0} (state : F → FeedState) (a b c : Sourced F) (p : KeepsCo
         current = refl;
       })
 
--- a source that was ready gave the forward mate, and failed behind it
+-- a source that was ready gave the forward mate, and failed after it
 pub second_fails : {F : Type 0} (state : F → FeedState) (a b c : Sourced F) → KeepsCount state a b → KeepsCount state b c → (kept : Read) (check : Bool) (given : ℕ) (before : Bool) (f : Read) →
     IsReady a given → (a.last ≡ None → GivesRecord state a b f) → (why : TextFault) → (b.last ≡ None → StopsText state b c why) →
     StopsPairs state (asked a kept check given before) (stopped c check given (Err (Text Reverse why))) (Text Reverse why)

@@ -1,4 +1,4 @@
--- Where the name of a mate ends.
+-- The end of a mate's name in its title.
 use Rattle.std.proofs.Common.{◌≡◌, ℕ, zero, suc, ◌+◌, ◌-◌, ◌<◌, ◌≤◌, true, false, eqb, nat_eq, Option, Some, None, unwrap_or, MatchOption, List, [], ◌∷◌, length, take, drop, get_or, zero-le, refl, ap, sym, ◌∙◌, arith, inl, inr, ⊎_elim}
 use Rattle.std.specs.Borrow.{Bor}
 use Rattle.std.specs.List.{before_first, position_or_len, ends_with}
@@ -77,7 +77,7 @@ pointwise_sym [] (y ∷ ys) = refl
 pointwise_sym (x ∷ xs) [] = refl
 pointwise_sym (x ∷ xs) (y ∷ ys) = let a = eqb_sym x y in let b = pointwise_sym xs ys in cc
 
--- what is left where a suffix is stripped
+-- what is left after a suffix is removed
 pub stripped : (mark word : List ℕ) (r : Option (Bor (List ℕ))) (d : Bor (List ℕ)) → d.now ≡ word →
     MatchOption r (pointwise nat_eq (drop (length word - length mark) word) mark ≡ false)
     (λ x. (pointwise nat_eq (drop (length word - length mark) word) mark ≡ true) × (x.now ≡ take (length word - length mark) word) × (length x.now + length mark ≡ length word)) →
@@ -87,7 +87,7 @@ stripped mark word None d is cases =
 stripped mark word (Some x) d is cases =
     cases.1 ∙ sym (cond-true _ (take (length word - length mark) word) word (pointwise_sym mark (drop (length word - length mark) word) ∙ cases.0))
 
--- A word without an ending is the front of it.
+-- A word without an ending is a prefix of it.
 get_or-without_end : (ending word : List ℕ) (k : ℕ) → k < length (without_end ending word) → get_or (without_end ending word) k 0 ≡ get_or word k 0
 get_or-without_end ending word k =
     let short = length-take (length word - length ending) word in
@@ -101,7 +101,7 @@ length-without_end ending word =
     (λ ends. omega (arith, length-take (length word - length ending) word))
     (λ other. omega arith)
 
--- A name is the front of its title.
+-- A name is a prefix of its title.
 take_front : (n : ℕ) (text : List ℕ) → take (length (take n text)) text ≡ take n text
 take_front zero text = refl
 take_front (suc n) [] = refl
@@ -127,17 +127,17 @@ name_front side title =
     sym (take-take len n title (omega (arith, length-without_end (mark_of side) word, length-take n title)))
     ∙ without_end_front (mark_of side) word
 
--- and so is that of a title that is the same
+-- a name is a prefix of an equal title, too
 pub named : (side : Side) (title same : List ℕ) (len : ℕ) → len ≡ length (name_of side title) → same ≡ title → take len same ≡ name_of side title
 named side title same len is equal = ap (λ (t : List ℕ). take len t) equal ∙ ap (λ (n : ℕ). take n title) is ∙ name_front side title
 
--- two lengths of names are those of titles, where each is
+-- two lengths are those of the names in two titles if each of them is
 pub same_lengths : (n : NameLengths) (forward reverse : List ℕ) → n.forward ≡ length (name_of Forward forward) → n.reverse ≡ length (name_of Reverse reverse) → n ≡ lengths_of forward reverse
 same_lengths n forward reverse one other =
     let parts : NameLengths → NameLengths = λ (k : NameLengths). record { forward = k.forward; reverse = k.reverse } in
     let same : parts n ≡ lengths_of forward reverse = cc in same
 
--- The names in two words that are alike but for their last bytes.
+-- The names in two words that differ at most in their last bytes.
 module _ (word mate : List ℕ) (some : 0 < length word) (like : take (length word - 1) mate ≡ take (length word - 1) word) where
   abbrev forward_name : List ℕ
   forward_name = without_end (mark_of Forward) word
@@ -150,7 +150,7 @@ module _ (word mate : List ℕ) (some : 0 < length word) (like : take (length wo
       let last = length word - 1 in
       sym (get_or-take last word k 0 lt) ∙ ap (λ (bytes : List ℕ). get_or bytes k 0) (sym like) ∙ get_or-take last mate k 0 lt
 
-  -- names of one length are one where the words are alike so far
+  -- names of one length are the same if the words are alike so far
   same_names : length forward_name ≡ length reverse_name → ((k : ℕ) → k < length forward_name → get_or word k 0 ≡ get_or mate k 0) → forward_name ≡ reverse_name
   same_names long alike = same_number_lists forward_name reverse_name long
       (λ k lt. get_or-without_end (mark_of Forward) word k lt ∙ alike k lt ∙ sym (get_or-without_end (mark_of Reverse) mate k (omega arith)))
@@ -159,7 +159,7 @@ module _ (word mate : List ℕ) (some : 0 < length word) (like : take (length wo
   pub short_names : length forward_name ≡ length reverse_name → length forward_name ≤ length word - 1 → bytes_eq forward_name reverse_name ≡ true
   short_names long short = (bytes_eq-Decides forward_name reverse_name).1 (same_names long (λ k lt. front_like k (omega arith)))
 
-  -- names as long as the words are one where the last bytes are
+  -- names as long as the words are the same if the last bytes are
   pub whole_names : length forward_name ≡ length reverse_name → length word - 1 < length forward_name →
       eqb (get_or word (length word - 1) 0) (get_or mate (length word - 1) 0) ≡ bytes_eq forward_name reverse_name
   whole_names long whole =

@@ -1,4 +1,4 @@
--- The texts of pairs are those of some of them and those of the others behind them.
+-- The texts of a list of pairs are those of its front followed by those of its rest.
 use Rattle.std.proofs.Common.{◌≡◌, ◌+◌, Bool, List, [], ◌∷◌, ◌++◌, length, filter, flat_map, refl, ap, sym, ◌∙◌, append_assoc, add_assoc, ⊎_elim}
 use Rattle.std.proofs.lemmas.List.{length-append}
 use Rattle.std.proofs.lemmas.List.Concat.{flat_map-append}
@@ -41,7 +41,7 @@ module _ (steps : List Step) (xs ys : List Mates) where
       let none = count-append (none_survive steps) in
       cc
 
-  -- the texts of two lists of pairs, one behind the other
+  -- the texts of two lists of pairs, one after the other
   pub texts_of-append : texts_of steps (xs ++ ys) ≡ joined (texts_of steps xs) (texts_of steps ys)
   texts_of-append =
       let a = forward_records-append (both_survive steps) in

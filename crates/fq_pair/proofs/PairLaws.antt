@@ -1,4 +1,4 @@
--- The pairs of two texts begin with the pair that stands in front of them.
+-- The pairs of two texts begin with the pair that comes first in them.
 use Rattle.std.proofs.Common.{◌≡◌, ℕ, suc, ◌+◌, Bool, Some, None, List, [], ◌∷◌, length, take_while, refl, ap, sym, ◌∙◌, add-zero, arith, ⊎_elim}
 use Rattle.std.proofs.lemmas.Bool.{cond-true, cond-false, cases_Bool}
 use Rattle.std.proofs.lemmas.List.Sums.{take_while-cons}
@@ -19,11 +19,11 @@ module _ (e : Encoding) (ls : List (List ℕ)) where
       let fewer = fewer_lines e ls r rest is in
       ap (with_first r) (room_enough (length ls) (suc (length rest)) e rest fewer (omega arith))
 
-  -- the records of a text begin with the one in front
+  -- the records of a text begin with the one that comes first
   pub records_of-front : records_of e ls ≡ from_front (records_of e) (front e ls)
   records_of-front = room_behind (front e ls) refl
 
--- the pairs of two texts, where these mates belong together
+-- the pairs of two texts, if these mates belong together
 abbrev up_to : List Mates → ℕ → Records → Records → Pairs
 up_to mates k forward reverse =
     record { mates = mates; fault = fault_at (suc (k + length mates)) (behind (length mates) forward) (behind (length mates) reverse) }
@@ -69,7 +69,7 @@ module _ (check : Bool) (k : ℕ) (F G : List (List ℕ) → Records) where
   by_fronts (Found f fls) (Found r rls) = two_found f r fls rls
 
 module _ (check : Bool) (e : Encoding) (k : ℕ) (forward reverse : List (List ℕ)) where
-  -- the pairs of two texts are what stands in front of them, and the pairs of what is behind it
+  -- the pairs of two texts are what comes first in them, and the pairs of what comes after that
   pub pairs_of-front : pairs_of check k (records_of e forward) (records_of e reverse)
       ≡ from_pair_front (λ fs rs. pairs_of check (suc k) (records_of e fs) (records_of e rs)) (pair_front check e k forward reverse)
   pairs_of-front =
@@ -77,17 +77,17 @@ module _ (check : Bool) (e : Encoding) (k : ℕ) (forward reverse : List (List �
       ∙ ap (λ (x : Records). pairs_of check k (from_front (records_of e) (front e forward)) x) (records_of-front e reverse)
       ∙ by_fronts check k (records_of e) (records_of e) (front e forward) (front e reverse)
 
-  -- a pair in front is the first one
+  -- a pair that comes first is the first one
   pub pairs_of-met : (m : Mates) (fs rs : List (List ℕ)) → pair_front check e k forward reverse ≡ Met m fs rs →
       pairs_of check k (records_of e forward) (records_of e reverse) ≡ with_pair m (pairs_of check (suc k) (records_of e fs) (records_of e rs))
   pairs_of-met m fs rs is = pairs_of-front ∙ ap (from_pair_front (λ fs rs. pairs_of check (suc k) (records_of e fs) (records_of e rs))) is
 
-  -- a fault in front is how they end, without a pair
+  -- a fault that comes first ends the pairs, of which there are none
   pub pairs_of-stopped : (fault : InputFault) → pair_front check e k forward reverse ≡ Stopped fault →
       pairs_of check k (records_of e forward) (records_of e reverse) ≡ record { mates = []; fault = Some fault }
   pairs_of-stopped fault is = pairs_of-front ∙ ap (from_pair_front (λ fs rs. pairs_of check (suc k) (records_of e fs) (records_of e rs))) is
 
-  -- where nothing stands in front there is no pair and no fault
+  -- if nothing comes first, there is no pair and no fault
   pub pairs_of-ended : pair_front check e k forward reverse ≡ Ended →
       pairs_of check k (records_of e forward) (records_of e reverse) ≡ record { mates = []; fault = None }
   pairs_of-ended is = pairs_of-front ∙ ap (from_pair_front (λ fs rs. pairs_of check (suc k) (records_of e fs) (records_of e rs))) is

@@ -12,7 +12,7 @@ use Rattle.fq_pair.proofs.WholeLemmas.{behind_whole, whole_split, is_whole-whole
 
 -- One source as a side.
 module _ {F : Type 0} (state : F → FeedState) (old new : Sourced F) where
-  -- what its feed gave in a call, in which it failed so often
+  -- what its feed gave in a call in which it failed this often
   pub drawn : (n : ℕ) → KeepsCount state old new → (state new.feed).failures ≡ (state old.feed).failures + n → Draws (side_state state old) (side_state state new) n
   drawn n k failed = record { told = k.told; max_reads = k.max_reads; grows = k.grows; ended = k.ended; bytes = k.fed; size = k.length; failures = failed }
 
@@ -48,7 +48,7 @@ draws_then a b c n p q =
 pub nothing_left : (xs ys zs : List ℕ) → zs ≡ [] → zs ≡ xs ++ ys → ys ≡ []
 nothing_left xs ys zs none is = let len = ap length (sym none ∙ is) in nil_from_length ys (omega (arith, length-append xs ys))
 
--- of two moves the second has kept an end that was told
+-- two moves in a row, of which the second keeps an end that was reported
 abbrev pub uses_then : (a b c : SideState) → (b.ended ≡ true → c.ended ≡ true) → Uses a b → Uses b c → Uses a c
 uses_then a b c stays p q = record {
   used = p.used ++ q.used;
@@ -62,7 +62,7 @@ uses_then a b c stays p q = record {
 none_before : (xs ys : List (List ℕ)) → xs ++ ys ≡ [] → xs ≡ []
 none_before xs ys is = let len = ap length is in nil_from_length xs (omega (arith, length-append xs ys))
 
--- A side that was read up to a record, and then on.
+-- A side that was read up to a record, and then further.
 module _ (old mid new : SideState) (n : ℕ) (a : Draws old mid 0) (b : Draws mid new n) (told : IsTrue old.tells) (u : Uses old mid) where
   rest_is : rest old ≡ came old new ++ new.to_come
   rest_is = let d = draws_then old mid new n a b in ap (λ xs. old.in_hand ++ xs) (d.bytes told) ∙ sym (append_assoc old.in_hand (fed old new) new.to_come)
@@ -95,14 +95,14 @@ module _ (old mid new : SideState) (n : ℕ) (a : Draws old mid 0) (b : Draws mi
   behind_used whole = split_lines (came mid new) (behind_whole (came old new) ++ new.to_come) (rest mid)
       (rest_then ∙ ap (λ xs. xs ++ new.to_come) (came_whole whole) ∙ append_assoc (whole_part (came mid new)) (behind_whole (came old new)) new.to_come)
 
-  -- what is left of the lines that came whole, behind those that were used
+  -- what is left of the lines that came whole, after those that were used
   pub lines_left : (ls : List (List ℕ)) → ls ++ more_lines ≡ lines (rest mid) → (ls ≡ lines (whole_part (came mid new))) ⊎ (ls ≡ [])
   lines_left ls is = ⊎_elim
       (λ (whole : is_whole u.used ≡ true). inl (append_cancel_right ls (lines (whole_part (came mid new))) more_lines (is ∙ behind_used whole)))
       (λ (over : (rest mid ≡ []) × (mid.ended ≡ true)). inr (none_before ls more_lines (is ∙ ap lines over.0)))
       u.at_line
 
-  -- where the end had not been told they are those that came whole behind it
+  -- if the end had not been reported, they are the whole lines that came after it
   pub lines_behind : mid.ended ≡ false → lines (rest mid) ≡ lines (whole_part (came mid new)) ++ more_lines
   lines_behind going = ⊎_elim behind_used (λ (over : (rest mid ≡ []) × (mid.ended ≡ true)). absurd (let h = sym going ∙ over.1 in cc)) u.at_line
 
@@ -111,11 +111,11 @@ pub some_records : (form : Form) (n : ℕ) → n ≤ records_of_pairs form n
 some_records TwoTexts n = omega arith
 some_records InterleavedText n = omega arith
 
--- so many pairs and more come in two lists, one behind the other
+-- the records of two lists of pairs, one after the other
 pub records_then : (form : Form) (m n : ℕ) → records_of_pairs form (m + n) ≡ records_of_pairs form m + records_of_pairs form n
 records_then TwoTexts m n = refl
 records_then InterleavedText m n = omega arith
 
--- a forward record at least was given for each pair
+-- at least a forward record was given for each pair
 pub walked_records : (old new : SourceState) (ms : List Mates) → Walks old new ms → old.forward.given + length ms ≤ new.forward.given
 walked_records old new ms w = let records = w.forward_records in let some = some_records old.form (length ms) in omega arith

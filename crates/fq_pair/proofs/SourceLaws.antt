@@ -1,4 +1,4 @@
--- The pairs that are left to a source of two texts, by what stands in front of them.
+-- The pairs that are left to a source of two texts, by what comes first in them.
 use Rattle.std.proofs.Common.{◌≡◌, ℕ, suc, ◌+◌, Bool, not, ◌||◌, true, IsTrue, Option, Some, None, MatchOption, List, refl, ap, sym, subst, ◌∙◌, add-one}
 use Rattle.std.specs.Option.{IsSome, IsSomeAnd}
 use Rattle.std.proofs.lemmas.Bool.{cond-true}
@@ -20,7 +20,7 @@ module _ {F G : Type 0} (state : F → FeedState) (state' : G → FeedState) (ol
   abbrev reverse : List (List ℕ)
   reverse = lines (rest_in state' old.reverse)
 
-  -- a pair in front is the first of those left, and the others are left behind it
+  -- a pair that comes first is the first of those left, and the others are left after it
   pub pairs_left_met : (new : PairSourced F G) (m : Mates) → new.forward.encoding ≡ old.forward.encoding → new.check_names ≡ old.check_names → new.given ≡ old.given + 1 →
       front_of state state' old ≡ Met m (lines (rest_in state new.forward)) (lines (rest_in state' new.reverse)) →
       pairs_left state state' old ≡ with_pair m (pairs_left state state' new)
@@ -33,7 +33,7 @@ module _ {F G : Type 0} (state : F → FeedState) (state' : G → FeedState) (ol
       ∙ ap (λ check. P check new.forward.encoding (suc old.given)) (sym check_names)
       ∙ ap (P new.check_names new.forward.encoding) (sym (given ∙ add-one old.given))
 
--- two records that were given make a pair, where their names allow it
+-- two records that were given make a pair if their names allow it
 pub two_given : {F G : Type 0} (state : F → FeedState) (state' : G → FeedState) (a b : Sourced F) (a' b' : Sourced G) (check : Bool) (given : ℕ)
     (before now : Bool) (f r : Read) (m : Mates) → m ≡ mates_in f r → a.encoding ≡ a'.encoding → b.encoding ≡ a.encoding → GivesRecord state a b f → GivesRecord state' a' b' r →
     belong check (mates_in f r) ≡ true → GivesPair state state' (asked a a' check given before) (asked b b' check (given + 1) now) m
@@ -57,22 +57,22 @@ two_given state state' a b a' b' check given before now f r m is encoding kept f
       last = refl;
     })
 
--- what holds of the record in hand
+-- what holds for the current record
 pub of_current : (o : Option Read) (x : Read) (P : Read → Type 0) → o ≡ Some x → MatchOption o ⊥ P → P x
 of_current o x P is held = subst (λ p. MatchOption p ⊥ P) is held
 
--- what holds of two records in hand, as the pair that they are
+-- what holds for two current records as the pair that they are
 pub of_pair : (o p : Option Read) (x y : Read) (P : Mates → Type 0) → o ≡ Some x → p ≡ Some y → P (mates_in x y) → IsSomeAnd (pair_of true o p) P
 of_pair o p x y P first second held =
     subst (λ q. IsSomeAnd (pair_of true q p) P) (sym first) (subst (λ q. IsSomeAnd (pair_of true (Some x) q) P) (sym second) held)
 
--- two records in hand that are a pair of which something holds
+-- two current records that are a pair for which something holds
 pub is_pair : (has_pair : Bool) (o p : Option Read) (P : Mates → Type 0) → has_pair ≡ true → IsSomeAnd (pair_of true o p) P → IsSome (pair_of has_pair o p)
 is_pair has_pair None p P is held = absurd held
 is_pair has_pair (Some f) None P is held = absurd held
 is_pair has_pair (Some f) (Some r) P is held = subst (λ h. IsSome (pair_of h (Some f) (Some r))) (sym is) refl
 
--- two reads belong together where their titles are found to
+-- two reads belong together if their titles are found to
 pub of_titles : (check b : Bool) (f r : Read) (title title' : List ℕ) → title ≡ f.title → title' ≡ r.title → b ≡ (not check || names_match title title') →
     belong check (mates_in f r) ≡ b
 of_titles check b f r title title' first second found =

@@ -1,4 +1,5 @@
--- The lines that the record in front of a list of lines takes: it stands there whatever lines follow them.
+-- The lines that the first record in a list of lines takes: it comes first whatever lines follow
+-- them.
 use Rattle.std.proofs.Common.{◌≡◌, ℕ, suc, ◌-◌, true, eqb, Some, None, List, [], ◌∷◌, ◌++◌, length, refl, ap, sym, ◌∙◌, append_assoc, ⊎_elim}
 use Rattle.std.specs.List.{concat}
 use Rattle.std.proofs.lemmas.Bool.{cond-true, cond-false, cases_Bool}
@@ -132,16 +133,16 @@ front_takes e r ((b ∷ bs) ∷ ls) rest is =
           ∙ t.always others;
     }
 
--- a record stands in front of fewer lines too, where those behind it are fewer by the same
+-- a record also comes first in fewer lines, if the same lines are missing after it
 pub front_fewer : (e : Encoding) (r : Read) (ls rest more : List (List ℕ)) → front e (ls ++ more) ≡ Found r (rest ++ more) → front e ls ≡ Found r rest
 front_fewer e r ls rest more is =
     let t = front_takes e r (ls ++ more) (rest ++ more) is in
     let same : ls ≡ t.taken ++ rest = append_cancel_right ls (t.taken ++ rest) more (t.split ∙ sym (append_assoc t.taken rest more)) in
     ap (front e) same ∙ t.always rest
 
--- How many records stand in some lines.
+-- How many records some lines hold.
 
--- none, where none is in front
+-- none, if none comes first
 pub no_records : (e : Encoding) (ls : List (List ℕ)) → ((r : Read) (rest : List (List ℕ)) → front e ls ≡ Found r rest → ⊥) → length (records_of e ls).reads ≡ 0
 no_records e ls none = by_front (front e ls) refl
   where
@@ -150,6 +151,6 @@ no_records e ls none = by_front (front e ls) refl
     by_front (Faulty y) is = ap (λ (t : Records). length t.reads) (records_of-front e ls ∙ ap (from_front (records_of e)) is)
     by_front (Found r rest) is = absurd (none r rest is)
 
--- the one in front, and those behind it
+-- the first one, and those after it
 pub one_record : (e : Encoding) (r : Read) (ls rest : List (List ℕ)) → front e ls ≡ Found r rest → length (records_of e ls).reads ≡ suc (length (records_of e rest).reads)
 one_record e r ls rest is = ap (λ (t : Records). length t.reads) (records_of-front e ls ∙ ap (from_front (records_of e)) is)

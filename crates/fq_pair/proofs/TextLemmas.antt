@@ -1,4 +1,4 @@
--- What a read is left with: the numbers of its log line, and its record.
+-- What is left of a read: the numbers of its log line, and its record.
 use Rattle.std.proofs.Common.{◌≡◌, ℕ, zero, suc, ◌+◌, ◌-◌, ◌<◌, ◌≤◌, Bool, true, false, Some, List, [], ◌∷◌, length, take, drop, ap, sym, ◌∙◌, arith}
 use Rattle.std.specs.Bool.{then_some}
 use Rattle.fq_trim.specs.declared.trimming.Kept.{Kept}

@@ -1,4 +1,4 @@
--- The whole lines of a text, and what stands behind them.
+-- The whole lines of a text, and what comes after them.
 use Rattle.std.proofs.Common.{◌≡◌, ℕ, ⊎_elim, true, false, cond, eqb, Bool, List, [], ◌∷◌, ◌++◌, ap, refl, sym, ◌∙◌}
 use Rattle.std.specs.List.{list_any}
 use Rattle.std.proofs.lemmas.Bool.{cond-true, cond-false, cases_Bool, or_left, or_right, or_from}
@@ -8,7 +8,7 @@ use Rattle.fq_text.specs.Lines.{is_whole, whole_part}
 abbrev is_lf : ℕ → Bool
 is_lf c = eqb c 10
 
--- the bytes behind the last LF
+-- the bytes after the last LF
 abbrev pub behind_whole : List ℕ → List ℕ
 behind_whole [] = []
 behind_whole (b ∷ bs) = cond (list_any is_lf (b ∷ bs)) (behind_whole bs) (b ∷ bs)
@@ -46,7 +46,7 @@ has_lf : (b : ℕ) (bs : List ℕ) → is_whole (b ∷ bs) ≡ true → list_any
 has_lf b [] whole = or_left _ _ whole
 has_lf b (c ∷ bs) whole = or_right _ _ (has_lf c bs whole)
 
--- whole lines in front stay
+-- whole lines at the front stay
 pub whole_part-whole : (xs ys : List ℕ) → is_whole xs ≡ true → whole_part (xs ++ ys) ≡ xs ++ whole_part ys
 whole_part-whole [] ys whole = refl
 whole_part-whole (b ∷ []) ys whole = cond-true _ (b ∷ whole_part ys) [] (or_left _ _ whole)

@@ -92,18 +92,18 @@ names_unchecked = refl
 
 -- Pairs of an interleaved text.
 
--- two pairs, of which the last record has this plus line
+-- two pairs, whose last record has this plus line
 abbrev two_pairs_with : List ℕ → List ℕ
 two_pairs_with plus = codes "@p1/1\nACGT\n+\n#!II\n@p1/2\nTTTT\n+\nIIII\n@p2/1\nGGCC\n+\nIIII\n@p2/2\nAAAA\n" ++ (plus ++ codes "\n!!!\"\n")
 
 two_interleaved : interleaved_pairs true Sanger 0 (two_pairs_with (codes "+")) ≡ record { mates = first ∷ second ∷ []; fault = None }
 two_interleaved = refl
 
--- the fourth record is at fault
+-- the fourth record has the fault
 fault_of_second_mate : interleaved_pairs true Sanger 0 (two_pairs_with (codes "+x")) ≡ record { mates = first ∷ []; fault = Some (Text Reverse (PlusDiffers 4)) }
 fault_of_second_mate = refl
 
--- the third one is
+-- the third record has the fault
 fault_of_first_mate : interleaved_pairs true Sanger 0 (codes "@p1/1\nACGT\n+\n#!II\n@p1/2\nTTTT\n+\nIIII\np2/1\n") ≡ record { mates = first ∷ []; fault = Some (Text Forward (NoTitle 3)) }
 fault_of_first_mate = refl
 
@@ -116,7 +116,7 @@ one_record = refl
 three_records : interleaved_pairs true Sanger 0 (codes "@p1/1\nACGT\n+\n#!II\n@p1/2\nTTTT\n+\nIIII\n@p2/1\nGGCC\n+\nIIII\n") ≡ record { mates = first ∷ []; fault = Some (MateMissing Reverse 2) }
 three_records = refl
 
--- behind five pairs stand records 11 and 12, of pair 6
+-- after five pairs come records 11 and 12, of pair 6
 later_first_mate : (interleaved_pairs true Sanger 5 (codes "@a\nA\n+x\nI\n")).fault ≡ Some (Text Forward (PlusDiffers 11))
 later_first_mate = refl
 
@@ -129,7 +129,7 @@ later_missing = refl
 later_names : (interleaved_pairs true Sanger 5 (codes "@a\nA\n+\nI\n@b\nA\n+\nI\n@r")).fault ≡ Some (NamesDiffer 6)
 later_names = refl
 
--- of two mates whose names differ, and a text that goes on
+-- two mates whose names differ, and a text that goes on
 interleaved_names : interleaved_pairs true Sanger 0 (codes "@p1/1\nACGT\n+\n#!II\n@p1/2\nTTTT\n+\nIIII\n@b/1\nA\n+\nI\n@c/2\nA\n+\nI\n@d/1\n") ≡ record { mates = first ∷ []; fault = Some (NamesDiffer 2) }
 interleaved_names = refl
 

@@ -1,4 +1,4 @@
--- The two forms in which pairs come: in two texts, or in an interleaved one.
+-- The two forms of paired inputs: two texts, or an interleaved one.
 use Rattle.std.specs.Prelude.{ℕ, ◌*◌, Bool, Result, List}
 use Rattle.fq_text.specs.declared.encoding.Encoding.{Encoding}
 use Rattle.fq_pair.specs.declared.side.Side.{Side}
@@ -8,22 +8,25 @@ use Rattle.fq_pair.specs.Interleaved.{interleaved_pairs, interleaved_front}
 use Rattle.fq_pair.specs.PairSources.{failed_on}
 use Rattle.fq_pair.specs.MixedSources.{failed_in}
 
--- The form of the inputs. An interleaved text stands for the forward and for the reverse one.
+-- The form of the inputs. An interleaved text is both the forward and the reverse text.
 pub data Form : Type 0 where
   TwoTexts : Form
   InterleavedText : Form
 
--- the pairs of the inputs, as bytes
+-- the pairs of inputs given as bytes
 abbrev pub pairs_in : Form → Bool → Encoding → ℕ → List ℕ → List ℕ → Pairs
 pairs_in TwoTexts check encoding given forward reverse = pairs check encoding given forward reverse
-pairs_in InterleavedText check encoding given text same = interleaved_pairs check encoding given text
+pairs_in InterleavedText check encoding given text same =
+    interleaved_pairs check encoding given text
 
--- what stands in front of the lines of the inputs, behind the pairs given
+-- what comes first in the lines of the inputs, after the pairs given
 abbrev pub front_in : Form → Bool → Encoding → ℕ → List (List ℕ) → List (List ℕ) → PairFront
-front_in TwoTexts check encoding given forward reverse = pair_front check encoding given forward reverse
-front_in InterleavedText check encoding given text same = interleaved_front check encoding given text
+front_in TwoTexts check encoding given forward reverse =
+    pair_front check encoding given forward reverse
+front_in InterleavedText check encoding given text same =
+    interleaved_front check encoding given text
 
--- how many records of a side's text so many pairs are
+-- how many records of a side's text make n pairs
 abbrev pub records_of_pairs : Form → ℕ → ℕ
 records_of_pairs TwoTexts n = n
 records_of_pairs InterleavedText n = 2 * n

@@ -1,4 +1,5 @@
--- Mates, and the names that tell which belong together: titles up to a blank, with the marks /1 and /2 of paired reads.
+-- Mates, and the names by which they are matched: titles up to a blank, without the marks /1 and /2
+-- of paired reads.
 use Rattle.std.specs.Prelude.{ℕ, ◌-◌, Bool, ◌||◌, ◌==◌, nat_eq, List, ◌∷◌, [], length, take, if◌then◌else◌}
 use Rattle.std.specs.List.{before_first, ends_with}
 use Rattle.std.specs.Str.{bytes_eq}
@@ -19,27 +20,31 @@ mates_in forward reverse = record { forward = forward; reverse = reverse }
 abbrev pub is_gap : ℕ → Bool
 is_gap byte = byte == 32 || byte == 9
 
--- what a title may end its name with: /1 or /2
+-- the mark at the end of a name: /1 or /2
 abbrev pub mark_of : Side → List ℕ
 mark_of Forward = 47 ∷ 49 ∷ []
 mark_of Reverse = 47 ∷ 50 ∷ []
 
--- without an ending, where a text has it
+-- a text without this ending, if it has it
 abbrev pub without_end : List ℕ → List ℕ → List ℕ
-without_end ending text = if ends_with nat_eq text ending then take (length text - length ending) text else text
+without_end ending text =
+    if ends_with nat_eq text ending then take (length text - length ending) text else text
 
--- the title up to its first blank or tab, less the mark of its side
+-- the title up to its first blank or tab, without the mark of its side
 abbrev pub name_of : Side → List ℕ → List ℕ
 name_of side title = without_end (mark_of side) (before_first is_gap title)
 
--- two titles have one name
+-- whether two titles have the same name
 abbrev pub names_match : List ℕ → List ℕ → Bool
 names_match forward reverse = bytes_eq (name_of Forward forward) (name_of Reverse reverse)
 
--- how long the names in two titles are
+-- the lengths of the names in two titles
 abbrev pub lengths_of : List ℕ → List ℕ → NameLengths
-lengths_of forward reverse = record { forward = length (name_of Forward forward); reverse = length (name_of Reverse reverse) }
+lengths_of forward reverse = record {
+  forward = length (name_of Forward forward);
+  reverse = length (name_of Reverse reverse);
+}
 
--- how long the names of two mates are
+-- the lengths of the names of two mates
 abbrev pub name_lengths : Mates → NameLengths
 name_lengths m = lengths_of m.forward.title m.reverse.title

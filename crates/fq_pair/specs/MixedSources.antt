@@ -1,4 +1,4 @@
--- What a source of pairs out of an interleaved text is, and what its calls answer.
+-- A source of pairs from an interleaved text, and what its calls return.
 use Rattle.std.specs.Prelude.{◌≡◌, ℕ, ◌+◌, ◌*◌, ◌<◌, ◌≤◌, Bool, true, false, IsTrue, Option, Some, None, Result, [], length}
 use Rattle.std.specs.declared.result.Result.TheVariants as res
 use Rattle.fq_text.specs.Devices.{FeedState}
@@ -15,8 +15,8 @@ use Rattle.fq_pair.specs.Pairing.{Pairs, PairFront, Ended, Stopped, Met, belong,
 use Rattle.fq_pair.specs.Interleaved.{side_behind, interleaved_pairs, interleaved_front}
 use Rattle.fq_pair.specs.PairSources.{is_from_outside, is_cut_short, if_cut, if_endless, failed_on, pair_of}
 
--- A source of pairs: the source of both mates, whether names are checked, how many pairs were given, once that is a fault or
--- the end its last answer, and the pair in hand.
+-- A source of pairs: the source of both mates, whether names are checked, how many pairs were
+-- given, the end or the fault once that was returned, and the current pair.
 pub record MixedSourced (F : Type 0) : Type 0 where
   pub source : Sourced F
   pub check_names : Bool
@@ -24,75 +24,93 @@ pub record MixedSourced (F : Type 0) : Type 0 where
   pub last : Option (Result (Unit {0}) InputFault)
   pub current : Option Mates
 
--- what stands next
+-- what comes next
 abbrev pub front_of : {F : Type 0} → (F → FeedState) → MixedSourced F → PairFront
-front_of state s = interleaved_front s.check_names s.source.encoding s.given (lines (rest_in state s.source))
+front_of state s = interleaved_front s.check_names s.source.encoding s.given
+    (lines (rest_in state s.source))
 
 -- the pairs that are left, and how they end
 abbrev pub pairs_left : {F : Type 0} → (F → FeedState) → MixedSourced F → Pairs
-pairs_left state s = interleaved_pairs s.check_names s.source.encoding s.given (rest_in state s.source)
+pairs_left state s = interleaved_pairs s.check_names s.source.encoding s.given
+    (rest_in state s.source)
 
--- What every call keeps: the number of bytes taken grows by those that the feed gave.
-pub record KeepsCounts {F : Type 0} (state : F → FeedState) (old new : MixedSourced F) : Type 0 where
+-- What every call keeps: the count of bytes taken grows by those that the feed gave.
+pub record KeepsCounts {F : Type 0} (state : F → FeedState)
+    (old new : MixedSourced F) : Type 0 where
   pub source : KeepsCount state old.source new.source
   pub check_names : new.check_names ≡ old.check_names
 
 -- two records were given, one after the other
-pub record GivesTwo {F : Type 0} (state : F → FeedState) (old new : Sourced F) (m : Mates) : Type 0 where
+pub record GivesTwo {F : Type 0} (state : F → FeedState) (old new : Sourced F)
+    (m : Mates) : Type 0 where
   pub forward : IsLawful m.forward
   pub reverse : IsLawful m.reverse
   pub forward_encoding : m.forward.encoding ≡ old.encoding
   pub reverse_encoding : m.reverse.encoding ≡ old.encoding
-  pub tail : IsTrue (state old.feed).tells → IsTail (rest_in state old) (rest_in state new) new.ended
+  pub tail : IsTrue (state old.feed).tells →
+      IsTail (rest_in state old) (rest_in state new) new.ended
   pub given : new.given ≡ old.given + 2
   pub last : new.last ≡ None
   pub in_hand : length new.in_hand < new.chunk
 
--- A pair was answered: it is the first of those that were left, and the others are left.
-pub record GivesPair {F : Type 0} (state : F → FeedState) (old new : MixedSourced F) (m : Mates) : Type 0 where
+-- A pair was returned: it is the first of those that were left, and the others are left.
+pub record GivesPair {F : Type 0} (state : F → FeedState) (old new : MixedSourced F)
+    (m : Mates) : Type 0 where
   pub pair_is : IsTrue (state old.source.feed).tells →
       (let ls = lines (rest_in state new.source) in front_of state old ≡ Met m ls ls)
-  pub left : IsTrue (state old.source.feed).tells → pairs_left state old ≡ with_pair m (pairs_left state new)
+  pub left : IsTrue (state old.source.feed).tells →
+      pairs_left state old ≡ with_pair m (pairs_left state new)
   pub records : GivesTwo state old.source new.source m
   pub names : belong old.check_names m ≡ true
   pub given : new.given ≡ old.given + 1
   pub last : new.last ≡ None
 
--- The end was answered: no pair was left, and no fault.
+-- The end was returned: no pair was left, and no fault.
 pub record EndsPairs {F : Type 0} (state : F → FeedState) (old new : MixedSourced F) : Type 0 where
   pub end_is : IsTrue (state old.source.feed).tells → front_of state old ≡ Ended
-  pub left : IsTrue (state old.source.feed).tells → pairs_left state old ≡ record { mates = []; fault = None }
+  pub left : IsTrue (state old.source.feed).tells →
+      pairs_left state old ≡ record { mates = []; fault = None }
   pub source : EndsText state old.source new.source
   pub given : new.given ≡ old.given
   pub last : new.last ≡ Some (res.Ok tt)
   pub current : new.current ≡ None
 
--- the whole lines of the bytes in hand before a call and those that the feed gave in it make no pair
+-- the whole lines of the bytes in hand before a call and of those that the feed gave in it make no
+-- pair
 abbrev pub LacksPair : {F : Type 0} → (F → FeedState) → MixedSourced F → MixedSourced F → Type 0
 LacksPair state old new = IsTrue (state old.source.feed).tells →
-    (interleaved_pairs old.check_names old.source.encoding old.given (whole_part (held state old.source new.source))).mates ≡ []
+    (interleaved_pairs old.check_names old.source.encoding old.given
+    (whole_part (held state old.source new.source))).mates ≡ []
 
--- this is the side of the record that comes next, behind those that stand in the whole lines of the bytes in hand before a call and those that
--- the feed gave in it
+-- this is the side of the next record, after those in the whole lines of the bytes in hand before a
+-- call and of those that the feed gave in it
 abbrev pub IsNext : {F : Type 0} → (F → FeedState) → Sourced F → Sourced F → Side → Type 0
-IsNext state old new side = IsTrue (state old.feed).tells → side_behind (length (records old.encoding (whole_part (held state old new))).reads) ≡ side
+IsNext state old new side = IsTrue (state old.feed).tells →
+    side_behind (length (records old.encoding (whole_part (held state old new))).reads) ≡ side
 
--- The fault of the text, of whatever kind, is the last answer of its source, and its side is that of the record that was being read: at
--- one of the reverse side the forward record had been given.
+-- A fault of the text, of whatever kind, is the last answer of its source, and its side is that of
+-- the record that was being read: if it is reverse, the forward record had been given.
 abbrev pub WasReading : {F : Type 0} → Sourced F → Sourced F → InputFault → Type 0
-WasReading old new (Text Forward fault) = (new.last ≡ Some (res.Err fault)) × (new.given ≡ old.given)
-WasReading old new (Text Reverse fault) = (new.last ≡ Some (res.Err fault)) × (new.given ≡ old.given + 1)
+WasReading old new (Text Forward fault) =
+    (new.last ≡ Some (res.Err fault)) × (new.given ≡ old.given)
+WasReading old new (Text Reverse fault) =
+    (new.last ≡ Some (res.Err fault)) × (new.given ≡ old.given + 1)
 WasReading old new _ = Unit {0}
 
--- A fault was answered: where it is one of the text no pair was left, and they end by it. A read that failed, or was one too many, was made for
--- the record that comes next, and the feed had not told its end.
-pub record StopsPairs {F : Type 0} (state : F → FeedState) (old new : MixedSourced F) (why : InputFault) : Type 0 where
-  pub fault_is : IsTrue (state old.source.feed).tells → is_from_outside why ≡ false → front_of state old ≡ Stopped why
-  pub left : IsTrue (state old.source.feed).tells → is_from_outside why ≡ false → pairs_left state old ≡ record { mates = []; fault = Some why }
+-- A fault was returned. If it is one of the text, no pair was left, and the pairs end with it. A
+-- read call that failed, or was one too many, was made for the next record, before the feed had
+-- reported its end.
+pub record StopsPairs {F : Type 0} (state : F → FeedState) (old new : MixedSourced F)
+    (why : InputFault) : Type 0 where
+  pub fault_is : IsTrue (state old.source.feed).tells → is_from_outside why ≡ false →
+      front_of state old ≡ Stopped why
+  pub left : IsTrue (state old.source.feed).tells → is_from_outside why ≡ false →
+      pairs_left state old ≡ record { mates = []; fault = Some why }
   pub lacks : is_cut_short why ≡ true → LacksPair state old new
   pub next : if_cut (IsNext state old.source new.source) why
   pub going : is_cut_short why ≡ true → old.source.ended ≡ false
-  pub endless : (let most : Type 0 = new.source.max_reads ≤ new.source.taken in if_endless most most why)
+  pub endless : (let most : Type 0 = new.source.max_reads ≤ new.source.taken in
+      if_endless most most why)
   pub reading : WasReading old.source new.source why
   pub given : new.given ≡ old.given
   pub last : new.last ≡ Some (res.Err why)
@@ -102,12 +120,12 @@ pub record StopsPairs {F : Type 0} (state : F → FeedState) (old new : MixedSou
 abbrev pub failed_in : {T : Type 0} → Result T InputFault → ℕ
 failed_in r = failed_on Forward r + failed_on Reverse r
 
--- a source that has given the records of so many pairs, and no last answer
+-- a source that has given the records of this many pairs and has no last answer
 pub record IsReady {F : Type 0} (source : Sourced F) (given : ℕ) : Type 0 where
   pub last : source.last ≡ None
   pub records : source.given ≡ 2 * given
 
--- a source of pairs that may be asked on, with the forward mate that was kept, and one that may not
+-- a source of pairs that goes on, with the forward mate that was kept, and one that has stopped
 abbrev pub asked : {F : Type 0} → Sourced F → Read → Bool → ℕ → Bool → MixedSourced F
 asked source forward check given has_pair = record {
   source = source;
@@ -117,5 +135,7 @@ asked source forward check given has_pair = record {
   current = pair_of has_pair (Some forward) source.current;
 }
 
-abbrev pub stopped : {F : Type 0} → Sourced F → Bool → ℕ → Result (Unit {0}) InputFault → MixedSourced F
-stopped source check given last = record { source = source; check_names = check; given = given; last = Some last; current = None }
+abbrev pub stopped : {F : Type 0} → Sourced F → Bool → ℕ → Result (Unit {0}) InputFault →
+    MixedSourced F
+stopped source check given last =
+    record { source = source; check_names = check; given = given; last = Some last; current = None }

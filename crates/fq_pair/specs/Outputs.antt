@@ -1,5 +1,5 @@
--- What is written of a list of pairs: four texts of records, a log, and counts, as paired-end mode of the Trimmomatic manual
--- parts them.
+-- What is written for a list of pairs: four texts of records, a log, and counts, as in the
+-- paired-end mode of the Trimmomatic manual.
 use Rattle.std.specs.Prelude.{◌≡◌, ℕ, ◌+◌, ◌-◌, ◌≤◌, Bool, true, false, not, ◌&&◌, Option, Some, None, List, [], ◌∷◌, ◌++◌, length, take, map, filter, flat_map, slice_index, decimal}
 use Rattle.std.specs.Bool.{then_some}
 use Rattle.fq_text.specs.Grammar.{Read}
@@ -22,7 +22,7 @@ abbrev pub is_empty : List ℕ → Bool
 is_empty [] = true
 is_empty (p ∷ ps) = false
 
--- a base of the read is kept
+-- whether a base of the read is kept
 abbrev pub survives : List Step → Read → Bool
 survives steps read = not (is_empty (kept_places steps read))
 
@@ -40,29 +40,31 @@ reverse_alone steps m = not (survives steps m.forward) && survives steps m.rever
 abbrev pub none_survive : List Step → Mates → Bool
 none_survive steps m = not (survives steps m.forward) && not (survives steps m.reverse)
 
--- What is written of it.
+-- What is written for a pair.
 
 -- the bytes at these places
 abbrev pub bytes_at : List ℕ → List ℕ → List ℕ
 bytes_at at bytes = map (slice_index bytes) at
 
--- the record of a read at these places
+-- the record of a read's bases at these places
 abbrev pub record_at : Bool → List ℕ → Read → List ℕ
 record_at recode kept_at read =
-    written read.title (bytes_at kept_at read.seq) (written_quality (then_some recode read.encoding) (bytes_at kept_at read.qual))
+    written read.title (bytes_at kept_at read.seq)
+    (written_quality (then_some recode read.encoding) (bytes_at kept_at read.qual))
 
--- the record of its kept places
+-- the record of a read's kept bases
 abbrev pub record_text : List Step → Read → List ℕ
 record_text steps read = record_at (recodes steps) (kept_places steps read) read
 
--- of n bases those at these places are kept: how many, how many were removed in front, where the last one ends, how many were removed behind
+-- the numbers of a log line if these places of n bases are kept: bases kept, bases removed at the
+-- front, where the last kept base ends, bases removed at the end
 abbrev pub log_numbers : ℕ → List ℕ → List ℕ
 log_numbers n [] = 0 ∷ 0 ∷ 0 ∷ 0 ∷ []
 log_numbers n (start ∷ others) =
     let bases = length (start ∷ others) in
     bases ∷ start ∷ (start + bases) ∷ (n - start - bases) ∷ []
 
--- a number behind a blank
+-- a number after a blank
 abbrev pub field : ℕ → List ℕ
 field n = 32 ∷ decimal n
 
@@ -74,9 +76,10 @@ abbrev pub log_line : Side → List ℕ → Read → List ℕ
 log_line side kept_at read = log_line_of (name_of side read.title) (length read.seq) kept_at
 
 abbrev pub log_lines : List Step → Mates → List ℕ
-log_lines steps m = log_line Forward (kept_places steps m.forward) m.forward ++ log_line Reverse (kept_places steps m.reverse) m.reverse
+log_lines steps m = log_line Forward (kept_places steps m.forward) m.forward
+    ++ log_line Reverse (kept_places steps m.reverse) m.reverse
 
--- Of a list of pairs.
+-- What is written for a list of pairs.
 
 -- the five texts and the counts
 pub record Outputs : Type 0 where
@@ -89,10 +92,12 @@ pub record Outputs : Type 0 where
 
 -- the records of one side of the pairs that pass a test
 abbrev pub forward_records : List Step → (Mates → Bool) → List Mates → List ℕ
-forward_records steps test pairs = flat_map (λ (m : Mates). record_text steps m.forward) (filter test pairs)
+forward_records steps test pairs =
+    flat_map (λ (m : Mates). record_text steps m.forward) (filter test pairs)
 
 abbrev pub reverse_records : List Step → (Mates → Bool) → List Mates → List ℕ
-reverse_records steps test pairs = flat_map (λ (m : Mates). record_text steps m.reverse) (filter test pairs)
+reverse_records steps test pairs =
+    flat_map (λ (m : Mates). record_text steps m.reverse) (filter test pairs)
 
 abbrev pub counts_of : List Step → List Mates → Counts
 counts_of steps pairs = record {
@@ -113,13 +118,20 @@ texts_of steps pairs = record {
   counts = counts_of steps pairs;
 }
 
--- One list of pairs behind another.
+-- One list of pairs after another.
 
 abbrev pub no_counts : Counts
 no_counts = record { pairs = 0; both = 0; forward_only = 0; reverse_only = 0; dropped = 0 }
 
 abbrev pub no_texts : Outputs
-no_texts = record { forward_paired = []; forward_unpaired = []; reverse_paired = []; reverse_unpaired = []; log = []; counts = no_counts }
+no_texts = record {
+  forward_paired = [];
+  forward_unpaired = [];
+  reverse_paired = [];
+  reverse_unpaired = [];
+  log = [];
+  counts = no_counts;
+}
 
 abbrev pub sum_of : Counts → Counts → Counts
 sum_of a b = record {
@@ -148,18 +160,18 @@ text_of ReversePaired texts = texts.reverse_paired
 text_of ReverseUnpaired texts = texts.reverse_unpaired
 text_of Log texts = texts.log
 
--- behind a text something may have been added
+-- the new text is the old one, or begins with it
 abbrev pub Begins : List ℕ → List ℕ → Type 0
 Begins new old = take (length old) new ≡ old
 
--- What a read is left with.
+-- What is left of a read.
 
--- the places that are kept of a read
+-- the places of a read that are kept
 abbrev pub places_of : Option Kept → List ℕ
 places_of None = []
 places_of (Some k) = places k.start (k.stop - k.start)
 
--- they are places of n bases
+-- the kept places are places of n bases
 abbrev pub IsWithin : ℕ → Option Kept → Type 0
 IsWithin n None = Unit {0}
 IsWithin n (Some k) = k.stop ≤ n

@@ -1,4 +1,4 @@
--- What a source of pairs is, and what its calls answer.
+-- A source of pairs from two texts, and what its calls return.
 use Rattle.std.specs.Prelude.{◌≡◌, ℕ, ◌+◌, ◌*◌, ◌≤◌, ◌⊎◌, Bool, true, false, IsTrue, Option, Some, None, IfSome, Result, []}
 use Rattle.std.specs.declared.result.Result.TheVariants as res
 use Rattle.fq_text.specs.Devices.{FeedState}
@@ -15,8 +15,8 @@ use Rattle.fq_pair.specs.declared.name.NameLengths.{NameLengths}
 use Rattle.fq_pair.specs.Mates.{Mates, mates_in, name_lengths}
 use Rattle.fq_pair.specs.Pairing.{Pairs, PairFront, Ended, Stopped, Met, belong, pair_front, pairs, with_pair}
 
--- A source of pairs: the sources of its mates, whether names are checked, how many pairs were given, once that is a fault or
--- the end its last answer, and the pair in hand.
+-- A source of pairs: the sources of its mates, whether names are checked, how many pairs were
+-- given, the end or the fault once that was returned, and the current pair.
 pub record PairSourced (F G : Type 0) : Type 0 where
   pub forward : Sourced F
   pub reverse : Sourced G
@@ -32,36 +32,42 @@ pub record IsUnasked {F : Type 0} (s : Sourced F) : Type 0 where
   pub given : s.given ≡ 0
   pub last : s.last ≡ None
 
--- the answer of a source that gave its last answer
+-- what a source returns after its last answer
 abbrev pub answer_of : Result (Unit {0}) InputFault → Result (Option Mates) InputFault
 answer_of (res.Ok x) = res.Ok None
 answer_of (res.Err fault) = res.Err fault
 
--- the same, as whether there was a further pair
+-- what it returns then from a call that only says whether there is a further pair
 abbrev pub more_of : Result (Unit {0}) InputFault → Result Bool InputFault
 more_of (res.Ok x) = res.Ok false
 more_of (res.Err fault) = res.Err fault
 
--- what stands next
-abbrev pub front_of : {F G : Type 0} → (F → FeedState) → (G → FeedState) → PairSourced F G → PairFront
+-- what comes next
+abbrev pub front_of : {F G : Type 0} → (F → FeedState) → (G → FeedState) → PairSourced F G →
+    PairFront
 front_of state state' s =
-    pair_front s.check_names s.forward.encoding s.given (lines (rest_in state s.forward)) (lines (rest_in state' s.reverse))
+    pair_front s.check_names s.forward.encoding s.given (lines (rest_in state s.forward))
+    (lines (rest_in state' s.reverse))
 
 -- the pairs that are left, and how they end
 abbrev pub pairs_left : {F G : Type 0} → (F → FeedState) → (G → FeedState) → PairSourced F G → Pairs
 pairs_left state state' s =
-    pairs s.check_names s.forward.encoding s.given (rest_in state s.forward) (rest_in state' s.reverse)
+    pairs s.check_names s.forward.encoding s.given (rest_in state s.forward)
+    (rest_in state' s.reverse)
 
--- What every call keeps: the numbers of bytes taken grow by those that the feeds gave.
-pub record KeepsCounts {F G : Type 0} (state : F → FeedState) (state' : G → FeedState) (old new : PairSourced F G) : Type 0 where
+-- What every call keeps: the counts of bytes taken grow by those that the feeds gave.
+pub record KeepsCounts {F G : Type 0} (state : F → FeedState) (state' : G → FeedState)
+    (old new : PairSourced F G) : Type 0 where
   pub forward : KeepsCount state old.forward new.forward
   pub reverse : KeepsCount state' old.reverse new.reverse
   pub check_names : new.check_names ≡ old.check_names
 
--- A pair was answered: it is the first of those that were left, and the others are left.
-pub record GivesPair {F G : Type 0} (state : F → FeedState) (state' : G → FeedState) (old new : PairSourced F G) (m : Mates) : Type 0 where
+-- A pair was returned: it is the first of those that were left, and the others are left.
+pub record GivesPair {F G : Type 0} (state : F → FeedState) (state' : G → FeedState)
+    (old new : PairSourced F G) (m : Mates) : Type 0 where
   pub pair_is : IsTrue (state old.forward.feed).tells → IsTrue (state' old.reverse.feed).tells →
-      front_of state state' old ≡ Met m (lines (rest_in state new.forward)) (lines (rest_in state' new.reverse))
+      front_of state state' old
+      ≡ Met m (lines (rest_in state new.forward)) (lines (rest_in state' new.reverse))
   pub left : IsTrue (state old.forward.feed).tells → IsTrue (state' old.reverse.feed).tells →
       pairs_left state state' old ≡ with_pair m (pairs_left state state' new)
   pub forward : GivesRecord state old.forward new.forward m.forward
@@ -70,9 +76,11 @@ pub record GivesPair {F G : Type 0} (state : F → FeedState) (state' : G → Fe
   pub given : new.given ≡ old.given + 1
   pub last : new.last ≡ None
 
--- The end was answered: no pair was left, and no fault.
-pub record EndsPairs {F G : Type 0} (state : F → FeedState) (state' : G → FeedState) (old new : PairSourced F G) : Type 0 where
-  pub end_is : IsTrue (state old.forward.feed).tells → IsTrue (state' old.reverse.feed).tells → front_of state state' old ≡ Ended
+-- The end was returned: no pair was left, and no fault.
+pub record EndsPairs {F G : Type 0} (state : F → FeedState) (state' : G → FeedState)
+    (old new : PairSourced F G) : Type 0 where
+  pub end_is : IsTrue (state old.forward.feed).tells → IsTrue (state' old.reverse.feed).tells →
+      front_of state state' old ≡ Ended
   pub left : IsTrue (state old.forward.feed).tells → IsTrue (state' old.reverse.feed).tells →
       pairs_left state state' old ≡ record { mates = []; fault = None }
   pub forward : EndsText state old.forward new.forward
@@ -81,7 +89,7 @@ pub record EndsPairs {F G : Type 0} (state : F → FeedState) (state' : G → Fe
   pub last : new.last ≡ Some (res.Ok tt)
   pub current : new.current ≡ None
 
--- a fault of a device or of memory, of which the texts say nothing
+-- a fault of a device or of memory, which no text determines
 abbrev pub is_outside : TextFault → Bool
 is_outside text.Read = true
 is_outside text.Endless = true
@@ -92,7 +100,7 @@ abbrev pub is_from_outside : InputFault → Bool
 is_from_outside (Text side fault) = is_outside fault
 is_from_outside _ = false
 
--- a text could not be read on: a read failed, or was one too many
+-- a text could not be read further: a read call failed, or was one too many
 abbrev pub is_cut : TextFault → Bool
 is_cut text.Read = true
 is_cut text.Endless = true
@@ -102,41 +110,50 @@ abbrev pub is_cut_short : InputFault → Bool
 is_cut_short (Text side fault) = is_cut fault
 is_cut_short _ = false
 
--- what holds of the side whose text could not be read on
+-- what holds for the side whose text could not be read further
 abbrev pub if_cut : (Side → Type 0) → InputFault → Type 0
 if_cut P (Text side text.Read) = P side
 if_cut P (Text side text.Endless) = P side
 if_cut P _ = Unit {0}
 
--- the whole lines of the bytes in hand before a call and those that the feeds gave in it make no pair
-abbrev pub LacksPair : {F G : Type 0} → (F → FeedState) → (G → FeedState) → PairSourced F G → PairSourced F G → Type 0
-LacksPair state state' old new = IsTrue (state old.forward.feed).tells → IsTrue (state' old.reverse.feed).tells →
+-- the whole lines of the bytes in hand before a call and of those that the feeds gave in it make no
+-- pair
+abbrev pub LacksPair : {F G : Type 0} → (F → FeedState) → (G → FeedState) → PairSourced F G →
+    PairSourced F G → Type 0
+LacksPair state state' old new = IsTrue (state old.forward.feed).tells →
+    IsTrue (state' old.reverse.feed).tells →
     (pairs old.check_names old.forward.encoding old.given
-    (whole_part (held state old.forward new.forward)) (whole_part (held state' old.reverse new.reverse))).mates ≡ []
+    (whole_part (held state old.forward new.forward))
+    (whole_part (held state' old.reverse new.reverse))).mates ≡ []
 
--- the first fact at Text(Forward, Endless), the second at Text(Reverse, Endless)
+-- the first fact if the fault is Text(Forward, Endless), the second if it is Text(Reverse, Endless)
 abbrev pub if_endless : Type 0 → Type 0 → InputFault → Type 0
 if_endless P Q (Text Forward text.Endless) = P
 if_endless P Q (Text Reverse text.Endless) = Q
 if_endless P Q _ = Unit {0}
 
--- The fault of a side's text, of whatever kind, is that of the source that was being read, and its last answer. The forward record is read
--- first: at a fault of its text the reverse source is as it was, and at one of the reverse text the forward source has given a record, or
--- has ended.
+-- A fault of a side's text, of whatever kind, is the last answer of the source that was being read.
+-- The forward record is read first: if the fault is in its text, the reverse source is unchanged,
+-- and if it is in the reverse text, the forward source has given a record or has ended.
 abbrev pub WasReading : {F G : Type 0} → PairSourced F G → PairSourced F G → InputFault → Type 0
-WasReading old new (Text Forward fault) = (new.forward.last ≡ Some (res.Err fault)) × (new.reverse ≡ old.reverse)
+WasReading old new (Text Forward fault) =
+    (new.forward.last ≡ Some (res.Err fault)) × (new.reverse ≡ old.reverse)
 WasReading old new (Text Reverse fault) = (new.reverse.last ≡ Some (res.Err fault))
     × ((new.forward.given ≡ old.forward.given + 1) ⊎ (new.forward.last ≡ Some (res.Ok tt)))
 WasReading old new _ = Unit {0}
 
--- A fault was answered: where it is one of the texts no pair was left, and they end by it.
-pub record StopsPairs {F G : Type 0} (state : F → FeedState) (state' : G → FeedState) (old new : PairSourced F G) (why : InputFault) : Type 0 where
-  pub fault_is : IsTrue (state old.forward.feed).tells → IsTrue (state' old.reverse.feed).tells → is_from_outside why ≡ false →
+-- A fault was returned. If it is one of the texts, no pair was left, and the pairs end with it.
+pub record StopsPairs {F G : Type 0} (state : F → FeedState) (state' : G → FeedState)
+    (old new : PairSourced F G) (why : InputFault) : Type 0 where
+  pub fault_is : IsTrue (state old.forward.feed).tells → IsTrue (state' old.reverse.feed).tells →
+      is_from_outside why ≡ false →
       front_of state state' old ≡ Stopped why
-  pub left : IsTrue (state old.forward.feed).tells → IsTrue (state' old.reverse.feed).tells → is_from_outside why ≡ false →
+  pub left : IsTrue (state old.forward.feed).tells → IsTrue (state' old.reverse.feed).tells →
+      is_from_outside why ≡ false →
       pairs_left state state' old ≡ record { mates = []; fault = Some why }
   pub lacks : is_cut_short why ≡ true → LacksPair state state' old new
-  pub endless : if_endless (new.forward.max_reads ≤ new.forward.taken) (new.reverse.max_reads ≤ new.reverse.taken) why
+  pub endless : if_endless (new.forward.max_reads ≤ new.forward.taken)
+      (new.reverse.max_reads ≤ new.reverse.taken) why
   pub reading : WasReading old new why
   pub given : new.given ≡ old.given
   pub last : new.last ≡ Some (res.Err why)
@@ -148,25 +165,26 @@ failed_on Forward (res.Err (Text Forward text.Read)) = 1
 failed_on Reverse (res.Err (Text Reverse text.Read)) = 1
 failed_on _ _ = 0
 
--- two sources that have given so many records each, and no last answer
-pub record IsReady {F G : Type 0} (forward : Sourced F) (reverse : Sourced G) (given : ℕ) : Type 0 where
+-- two sources that have given this many records each and have no last answer
+pub record IsReady {F G : Type 0} (forward : Sourced F) (reverse : Sourced G)
+    (given : ℕ) : Type 0 where
   pub forward_last : forward.last ≡ None
   pub reverse_last : reverse.last ≡ None
   pub forward_given : forward.given ≡ given
   pub reverse_given : reverse.given ≡ given
 
--- the pair of two records in hand, where they are one
+-- the pair of two current records, if they are one
 abbrev pub pair_of : Bool → Option Read → Option Read → Option Mates
 pair_of false forward reverse = None
 pair_of true None reverse = None
 pair_of true (Some forward) None = None
 pair_of true (Some forward) (Some reverse) = Some (mates_in forward reverse)
 
--- where a pair is in hand, these are how long its names are
+-- if there is a current pair, these are the lengths of its names
 abbrev pub HasNames : Option NameLengths → Option Mates → Type 0
 HasNames names current = IfSome current (λ m. names ≡ Some (name_lengths m))
 
--- a source of pairs that may be asked on, and one that may not
+-- a source of pairs that goes on, and one that has stopped
 abbrev pub asked : {F G : Type 0} → Sourced F → Sourced G → Bool → ℕ → Bool → PairSourced F G
 asked forward reverse check given has_pair = record {
   forward = forward;
@@ -177,11 +195,18 @@ asked forward reverse check given has_pair = record {
   current = pair_of has_pair forward.current reverse.current;
 }
 
-abbrev pub stopped : {F G : Type 0} → Sourced F → Sourced G → Bool → ℕ → Result (Unit {0}) InputFault → PairSourced F G
-stopped forward reverse check given last =
-    record { forward = forward; reverse = reverse; check_names = check; given = given; last = Some last; current = None }
+abbrev pub stopped : {F G : Type 0} → Sourced F → Sourced G → Bool → ℕ →
+    Result (Unit {0}) InputFault → PairSourced F G
+stopped forward reverse check given last = record {
+  forward = forward;
+  reverse = reverse;
+  check_names = check;
+  given = given;
+  last = Some last;
+  current = None;
+}
 
--- no number of a source passes what its feed may give
+-- no count of a source exceeds what its feed may give
 pub record IsBounded {F : Type 0} (s : Sourced F) : Type 0 where
   pub given : s.given ≤ s.taken
   pub taken : s.taken ≤ s.max_reads * s.chunk

@@ -12,7 +12,7 @@ use Rattle.fq_pair.specs.declared.fault.InputFault.{InputFault}
 use Rattle.fq_pair.specs.declared.fault.InputFault.TheVariants.{Text, MateMissing, NamesDiffer}
 use Rattle.fq_pair.specs.Mates.{Mates, mates_in, names_match}
 
--- pairs, and the fault behind them if there is one
+-- pairs, and the fault after them if there is one
 pub record Pairs : Type 0 where
   pub mates : List Mates
   pub fault : Option InputFault
@@ -23,15 +23,15 @@ mates_of [] rs = []
 mates_of (f ∷ fs) [] = []
 mates_of (f ∷ fs) (r ∷ rs) = mates_in f r ∷ mates_of fs rs
 
--- two mates belong together, as far as names are checked
+-- two mates belong together if their names are the same or aren't checked
 abbrev pub belong : Bool → Mates → Bool
 belong check m = not check || names_match m.forward.title m.reverse.title
 
--- the fault behind the records of a text, of the record of number n
+-- the fault after the records of a text, as that of record n
 abbrev pub fault_behind : ℕ → Records → Option TextFault
 fault_behind n text = option_map (λ fault. numbered fault n) text.fault
 
--- a text has no next record, for a fault
+-- the fault because of which a text has no next record
 abbrev pub text_fault : Side → List Read → Option TextFault → Option InputFault
 text_fault side [] (Some fault) = Some (Text side fault)
 text_fault side [] None = None
@@ -49,31 +49,36 @@ abbrev pub first_fault : Option InputFault → Option InputFault → Option Inpu
 first_fault (Some fault) later = Some fault
 first_fault None later = later
 
--- why there is no pair n, where what is left of two texts begins with their records n
+-- why there is no pair n, if the rests of two texts begin with their records n
 abbrev pub fault_at : ℕ → Records → Records → Option InputFault
 fault_at n forward reverse =
     first_fault (text_fault Forward forward.reads (fault_behind n forward))
     (first_fault (text_fault Reverse reverse.reads (fault_behind n reverse))
     (mate_fault n forward.reads reverse.reads))
 
--- what is left of a text behind its first n records
+-- what is left of a text after its first n records
 abbrev pub behind : ℕ → Records → Records
 behind n text = record text { reads = drop n text.reads }
 
--- The pairs of two texts, numbered on from those given: up to where a record is missing or two names differ.
+-- The pairs of two texts, numbered on from those given, until a record is missing or two names
+-- differ.
 abbrev pub pairs_of : Bool → ℕ → Records → Records → Pairs
 pairs_of check given forward reverse =
     let mates = take_while (belong check) (mates_of forward.reads reverse.reads) in
     let n = length mates in
-    record { mates = mates; fault = fault_at (suc (given + n)) (behind n forward) (behind n reverse) }
+    record {
+      mates = mates;
+      fault = fault_at (suc (given + n)) (behind n forward) (behind n reverse);
+    }
 
--- the pairs of two texts, as bytes
+-- the pairs of two texts given as bytes
 abbrev pub pairs : Bool → Encoding → ℕ → List ℕ → List ℕ → Pairs
-pairs check encoding given forward reverse = pairs_of check given (records encoding forward) (records encoding reverse)
+pairs check encoding given forward reverse =
+    pairs_of check given (records encoding forward) (records encoding reverse)
 
 -- One pair after the other.
 
--- what stands in front of two texts: nothing, a fault, or a pair with the lines behind its mates
+-- what comes first in two texts: nothing, a fault, or a pair with the lines after its mates
 pub data PairFront : Type 0 where
   Ended : PairFront
   Stopped : InputFault → PairFront
@@ -81,9 +86,10 @@ pub data PairFront : Type 0 where
 
 -- the pair of two records, if they belong together
 abbrev pub met : Bool → ℕ → Mates → List (List ℕ) → List (List ℕ) → PairFront
-met check n m forward reverse = if belong check m then Met m forward reverse else Stopped (NamesDiffer n)
+met check n m forward reverse =
+    if belong check m then Met m forward reverse else Stopped (NamesDiffer n)
 
--- pair n, where this stands in front of the two texts
+-- pair n, if this comes first in the two texts
 abbrev pub meeting : Bool → ℕ → Front → Front → PairFront
 meeting check n (Faulty fault) reverse = Stopped (Text Forward (numbered fault n))
 meeting check n End (Faulty fault) = Stopped (Text Reverse (numbered fault n))
@@ -93,19 +99,20 @@ meeting check n End (Found r rls) = Stopped (MateMissing Forward n)
 meeting check n End End = Ended
 meeting check n (Found f fls) (Found r rls) = met check n (mates_in f r) fls rls
 
--- what stands in front of two lists of lines, behind the pairs given
+-- what comes first in two lists of lines, after the pairs given
 abbrev pub pair_front : Bool → Encoding → ℕ → List (List ℕ) → List (List ℕ) → PairFront
-pair_front check encoding given forward reverse = meeting check (suc given) (front encoding forward) (front encoding reverse)
+pair_front check encoding given forward reverse =
+    meeting check (suc given) (front encoding forward) (front encoding reverse)
 
 -- the records of a list of lines
 abbrev pub records_of : Encoding → List (List ℕ) → Records
 records_of encoding ls = records_within (suc (length ls)) encoding ls
 
--- one pair more
+-- one more pair at the front
 abbrev pub with_pair : Mates → Pairs → Pairs
 with_pair m others = record { mates = m ∷ others.mates; fault = others.fault }
 
--- the pairs where this stands in front, and others behind it
+-- the pairs if this comes first, and others after it
 abbrev pub from_pair_front : (List (List ℕ) → List (List ℕ) → Pairs) → PairFront → Pairs
 from_pair_front others Ended = record { mates = []; fault = None }
 from_pair_front others (Stopped fault) = record { mates = []; fault = Some fault }

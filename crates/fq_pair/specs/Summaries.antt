@@ -1,4 +1,4 @@
--- Counts, added up and in words.
+-- Sums of counts, and counts in words.
 use Rattle.std.specs.Prelude.{ℕ, ◌+◌, List, ◌++◌, codes, decimal, min}
 use Rattle.fq_text.specs.Written.{line}
 use Rattle.fq_pair.specs.declared.counts.Counts.{Counts}
@@ -7,7 +7,7 @@ use Rattle.fq_pair.specs.declared.out.Out.TheVariants.{ForwardPaired, ForwardUnp
 use Rattle.fq_pair.specs.declared.side.Side.{Side}
 use Rattle.fq_pair.specs.declared.side.Side.TheVariants.{Forward, Reverse}
 
--- a sum, or the largest count where it is larger
+-- a sum, saturated at the largest count
 abbrev pub capped_sum : ℕ → ℕ → ℕ
 capped_sum a b = min (a + b) 18446744073709551615
 

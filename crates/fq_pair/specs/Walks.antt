@@ -17,7 +17,8 @@ use Rattle.fq_pair.specs.PairSources.{PairSourced, is_from_outside, is_cut_short
 use Rattle.fq_pair.specs.MixedSources.{MixedSourced}
 use Rattle.fq_pair.specs.Forms.{Form, TwoTexts, InterleavedText, pairs_in, front_in, records_of_pairs, failed_at}
 
--- one side of a source of pairs: its feed, the bytes in hand, whether the feed has told its end, and the bytes taken and records given so far
+-- one side of a source of pairs: its feed, the bytes in hand, whether the feed has reported its
+-- end, and the bytes taken and records given so far
 pub record SideState : Type 0 where
   pub tells : Bool
   pub in_hand : List ℕ
@@ -40,8 +41,8 @@ side_state state s = record {
   max_reads = s.max_reads;
 }
 
--- A source of pairs: its form, its two sides, what it was set to, how many pairs it gave, whether it goes on, and the pair in hand. Of an
--- interleaved text both sides are its own.
+-- A source of pairs: its form, its two sides, its settings, how many pairs it gave, whether it goes
+-- on, and the current pair. Both sides of an interleaved text are the same.
 pub record SourceState : Type 0 where
   pub form : Form
   pub forward : SideState
@@ -53,7 +54,8 @@ pub record SourceState : Type 0 where
   pub last : Option (Result (Unit {0}) InputFault)
   pub current : Option Mates
 
-abbrev pub source_state : {F G : Type 0} → (F → FeedState) → (G → FeedState) → PairSourced F G → SourceState
+abbrev pub source_state : {F G : Type 0} → (F → FeedState) → (G → FeedState) → PairSourced F G →
+    SourceState
 source_state state state' s = record {
   form = TwoTexts;
   forward = side_state state s.forward;
@@ -79,19 +81,20 @@ interleaved_state state s = record {
   current = s.current;
 }
 
--- the bytes that a side still has to read records from
+-- the bytes from which a side can still read records
 abbrev pub rest : SideState → List ℕ
 rest s = s.in_hand ++ s.to_come
 
--- the bytes that a feed gave in between
+-- the bytes that a feed gave between two states
 abbrev pub fed : SideState → SideState → List ℕ
 fed old new = take (new.taken - old.taken) old.to_come
 
--- the same, with the bytes that were in hand before them
+-- the bytes that were in hand before, and those that the feed gave
 abbrev pub came : SideState → SideState → List ℕ
 came old new = old.in_hand ++ fed old new
 
--- a side's feed gave bytes, which were counted, and failed so often, and an end that it told stays
+-- a side's feed gave bytes, which were counted, and failed this often; an end that it reported
+-- stays
 pub record Draws (old new : SideState) (failed : ℕ) : Type 0 where
   pub told : new.tells ≡ old.tells
   pub max_reads : new.max_reads ≡ old.max_reads
@@ -101,7 +104,7 @@ pub record Draws (old new : SideState) (failed : ℕ) : Type 0 where
   pub size : IsTrue old.tells → new.taken - old.taken ≤ length old.to_come
   pub failures : new.failures ≡ old.failures + failed
 
--- bytes were used up: whole lines, or all behind which the feed has told its end
+-- bytes were used up: whole lines, or all bytes up to the end that the feed has reported
 pub record Uses (old new : SideState) : Type 0 where
   pub used : List ℕ
   pub split : rest old ≡ used ++ rest new
@@ -114,29 +117,37 @@ pub record KeepsSettings (old new : SourceState) : Type 0 where
   pub check_names : new.check_names ≡ old.check_names
   pub most_bytes : new.most_bytes ≡ old.most_bytes
 
--- these pairs stand in front of the texts, one after the other, and these lines behind them
-abbrev pub Leads : Form → Bool → Encoding → ℕ → List Mates → List (List ℕ) → List (List ℕ) → List (List ℕ) → List (List ℕ) → Type 0
-Leads form check encoding given [] forward reverse forward' reverse' = (forward ≡ forward') × (reverse ≡ reverse')
+-- these pairs come first in the texts, in order, and these lines after them
+abbrev pub Leads : Form → Bool → Encoding → ℕ → List Mates → List (List ℕ) → List (List ℕ) →
+    List (List ℕ) → List (List ℕ) → Type 0
+Leads form check encoding given [] forward reverse forward' reverse' =
+    (forward ≡ forward') × (reverse ≡ reverse')
 Leads form check encoding given (m ∷ ms) forward reverse forward' reverse' =
-    (fs : List (List ℕ)) × (rs : List (List ℕ)) × (front_in form check encoding given forward reverse ≡ Met m fs rs) × Leads form check encoding (suc given) ms fs rs forward' reverse'
+    (fs : List (List ℕ)) × (rs : List (List ℕ))
+    × (front_in form check encoding given forward reverse ≡ Met m fs rs)
+    × Leads form check encoding (suc given) ms fs rs forward' reverse'
 
--- what stands next
+-- what comes next
 abbrev pub next_front : SourceState → PairFront
-next_front s = front_in s.form s.check_names s.encoding s.given (lines (rest s.forward)) (lines (rest s.reverse))
+next_front s = front_in s.form s.check_names s.encoding s.given (lines (rest s.forward))
+    (lines (rest s.reverse))
 
 -- these pairs were read, and the source goes on
 pub record Walks (old new : SourceState) (ms : List Mates) : Type 0 where
   pub same : KeepsSettings old new
   pub given : new.given ≡ old.given + length ms
-  pub forward_records : new.forward.given ≡ old.forward.given + records_of_pairs old.form (length ms)
-  pub reverse_records : new.reverse.given ≡ old.reverse.given + records_of_pairs old.form (length ms)
+  pub forward_records : new.forward.given
+      ≡ old.forward.given + records_of_pairs old.form (length ms)
+  pub reverse_records : new.reverse.given
+      ≡ old.reverse.given + records_of_pairs old.form (length ms)
   pub last : new.last ≡ None
   pub forward : Draws old.forward new.forward 0
   pub reverse : Draws old.reverse new.reverse 0
   pub forward_used : IsTrue old.forward.tells → Uses old.forward new.forward
   pub reverse_used : IsTrue old.reverse.tells → Uses old.reverse new.reverse
   pub leads : IsTrue old.forward.tells → IsTrue old.reverse.tells →
-      Leads old.form old.check_names old.encoding old.given ms (lines (rest old.forward)) (lines (rest old.reverse)) (lines (rest new.forward)) (lines (rest new.reverse))
+      Leads old.form old.check_names old.encoding old.given ms (lines (rest old.forward))
+      (lines (rest old.reverse)) (lines (rest new.forward)) (lines (rest new.reverse))
 
 -- the end of the texts was found
 pub record MeetsEnd (old new : SourceState) : Type 0 where
@@ -147,31 +158,37 @@ pub record MeetsEnd (old new : SourceState) : Type 0 where
 abbrev pub faulty : InputFault → Result (Option Mates) InputFault
 faulty why = res.Err why
 
--- this is the side of the record that comes next in an interleaved text, behind those that stand in the whole lines that came
+-- this is the side of the next record of an interleaved text, after those in the whole lines that
+-- came
 abbrev pub IsNext : SourceState → SourceState → Side → Type 0
-IsNext old new side = IsTrue old.forward.tells → side_behind (length (records old.encoding (whole_part (came old.forward new.forward))).reads) ≡ side
+IsNext old new side = IsTrue old.forward.tells →
+    side_behind (length (records old.encoding (whole_part (came old.forward new.forward))).reads)
+    ≡ side
 
--- A fault was met. In an interleaved text a read that failed, or was one too many, was made for the record that comes next, and the feed had
--- not told its end.
+-- A fault was met. In an interleaved text, a read call that failed, or was one too many, was made
+-- for the next record, before the feed had reported its end.
 pub record MeetsFault (old new : SourceState) (why : InputFault) : Type 0 where
   pub forward : Draws old.forward new.forward (failed_at old.form Forward (faulty why))
   pub reverse : Draws old.reverse new.reverse (failed_at old.form Reverse (faulty why))
-  pub fault_is : IsTrue old.forward.tells → IsTrue old.reverse.tells → is_from_outside why ≡ false → next_front old ≡ Stopped why
+  pub fault_is : IsTrue old.forward.tells → IsTrue old.reverse.tells → is_from_outside why ≡ false →
+      next_front old ≡ Stopped why
   pub lacks : is_cut_short why ≡ true → IsTrue old.forward.tells → IsTrue old.reverse.tells →
       (pairs_in old.form old.check_names old.encoding old.given
-      (whole_part (came old.forward new.forward)) (whole_part (came old.reverse new.reverse))).mates ≡ []
+      (whole_part (came old.forward new.forward)) (whole_part (came old.reverse new.reverse))).mates
+      ≡ []
   pub next : old.form ≡ InterleavedText → if_cut (IsNext old new) why
   pub going : old.form ≡ InterleavedText → is_cut_short why ≡ true → old.forward.ended ≡ false
-  pub endless : if_endless (new.forward.max_reads ≤ new.forward.taken) (new.reverse.max_reads ≤ new.reverse.taken) why
+  pub endless : if_endless (new.forward.max_reads ≤ new.forward.taken)
+      (new.reverse.max_reads ≤ new.reverse.taken) why
 
--- what a call of a source that goes on answers
+-- what a call returns if the source goes on
 abbrev pub Asks : SourceState → SourceState → Result (Option Mates) InputFault → Type 0
 Asks old new (res.Ok (Some m)) = Walks old new (m ∷ [])
 Asks old new (res.Ok None) = MeetsEnd old new
 Asks old new (res.Err why) = MeetsFault old new why
 
--- What a call answers of a source that goes on, where the pair is left in hand: it is the one that was read. Behind the end and behind a
--- fault none is.
+-- What a call that keeps the pair as the current one returns if the source goes on: the current
+-- pair is the one that was read. After the end or a fault there is none.
 abbrev pub Advances : SourceState → SourceState → Result Bool InputFault → Type 0
 Advances old new (res.Ok true) = IsSomeAnd new.current (λ m. Walks old new (m ∷ []))
 Advances old new (res.Ok false) = MeetsEnd old new × (new.current ≡ None)

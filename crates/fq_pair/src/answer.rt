@@ -1,11 +1,11 @@
-//! What a source of pairs keeps of its answers.
+//! Keeps what a source of pairs returned.
 
 ghost use Rattle.std.specs.Prelude.{◌≡◌, ◌+◌, ◌≤◌, ◌^◌, true, false, Some, None, Ok, Err, IfOk, IfErr, IfSome};
 
 use crate::fault::InputFault;
 use crate::pair::Pair;
 
-/// Keeps an answer and hands it on: a pair is counted, and the end or a fault is the last answer from then on.
+/// Returns `answer` unchanged. Counts a pair in `given`, and stores the end or a fault in `last`.
 pub(crate) fn keep(
     answer: Result<Option<Pair>, InputFault>,
     given: &mut u64,
@@ -13,7 +13,8 @@ pub(crate) fn keep(
 ) -> Result<Option<Pair>, InputFault>
     requires { IfOk answer (λ o. IfSome o (λ pair. given.old + 1 ≤ 2 ^ 60)) }
     ensures same { result ≡ answer }
-    ensures pair { IfOk answer (λ o. IfSome o (λ pair. (given.new ≡ given.old + 1) × (last.new ≡ last.old))) }
+    ensures pair { IfOk answer
+        (λ o. IfSome o (λ pair. (given.new ≡ given.old + 1) × (last.new ≡ last.old))) }
     ensures end { answer ≡ Ok None → (given.new ≡ given.old) × (last.new ≡ Some (Ok tt)) }
     ensures fault { IfErr answer (λ why. (given.new ≡ given.old) × (last.new ≡ Some (Err why))) }
 {
@@ -25,7 +26,8 @@ pub(crate) fn keep(
     answer
 }
 
-/// Keeps whether there is a further pair, and hands it on: a pair is counted, and the end or a fault is the last answer from then on.
+/// Returns `answer` unchanged. Counts a further pair (`true`) in `given`, and stores the end or a
+/// fault in `last`.
 pub(crate) fn keep_more(
     answer: Result<bool, InputFault>,
     given: &mut u64,

@@ -1,4 +1,4 @@
-//! How many pairs survived, and the summary of a run.
+//! Counts of surviving pairs, and the summary of a run.
 
 ghost use Rattle.std.specs.Prelude.{◌≡◌, ◌++◌, IfOk, OnOk, codes, decimal};
 ghost use Rattle.std.specs.String.{string_bytes};
@@ -8,19 +8,19 @@ use fq_text::OutOfMemory;
 use itoa::Buffer;
 use std::alloc::Global;
 
-/// How many pairs were trimmed, and what became of them. Each pair counts once in `pairs` and once in one of the
-/// others.
+/// How many pairs were trimmed, and in how many of them which mates survive. Each pair counts once
+/// in `pairs` and once in one of the other fields.
 #[derive(Clone, Copy, Debug, PartialEq, Eq)]
 pub struct Counts {
     /// All pairs.
     pub pairs: u64,
-    /// Pairs of which both mates survive.
+    /// Pairs in which both mates survive.
     pub both: u64,
-    /// Pairs of which the forward mate alone survives.
+    /// Pairs in which only the forward mate survives.
     pub forward_only: u64,
-    /// Pairs of which the reverse mate alone survives.
+    /// Pairs in which only the reverse mate survives.
     pub reverse_only: u64,
-    /// Pairs of which no mate survives.
+    /// Pairs in which no mate survives.
     pub dropped: u64,
 }
 
@@ -28,7 +28,7 @@ impl Counts {
     ghost use Rattle.std.specs.Prelude.{◌≡◌};
     ghost use Rattle.fq_pair.specs.Summaries.{capped};
 
-    /// Nothing was counted so far.
+    /// Counts of 0.
     pub const ZERO: Counts = Counts {
         pairs: 0,
         both: 0,
@@ -37,7 +37,7 @@ impl Counts {
         dropped: 0,
     };
 
-    /// The counts of both together. A sum that is larger than `u64::MAX` is kept at that.
+    /// Adds two counts field by field. Sums saturate at `u64::MAX`.
     pub fn plus(self, other: Counts) -> Counts
         ensures { result ≡ capped self other }
     {
@@ -51,11 +51,12 @@ impl Counts {
     }
 }
 
-/// The summary of a run: five lines, each ended by LF, with the counts in plain decimal. `Input Read Pairs` comes
-/// first, then `Both Surviving`, `Forward Only Surviving`, `Reverse Only Surviving` and `Dropped`.
+/// Returns the summary of a run: five lines, each ended by LF, with the counts in plain decimal.
+/// The order is `Input Read Pairs`, `Both Surviving`, `Forward Only Surviving`, `Reverse Only
+/// Surviving`, `Dropped`.
 ///
-/// The words are those that Trimmomatic prints, on a line each and without its percentages. Memory may be refused for
-/// the text.
+/// The labels are Trimmomatic's, but each has a line of its own, without percentages. It fails if
+/// memory is refused.
 pub fn summary(alloc: Global, counts: &Counts) -> Result<String, OutOfMemory>
     ensures { IfOk result (λ text. string_bytes text ≡ summary_of counts.now) }
 {
@@ -68,7 +69,7 @@ pub fn summary(alloc: Global, counts: &Counts) -> Result<String, OutOfMemory>
     Ok(text)
 }
 
-// Appends a line of the summary.
+// Appends one line of the summary.
 fn put_entry(text: &mut String, label: &str, count: u64) -> Result<(), OutOfMemory>
     ensures { OnOk result (string_bytes text.new ≡ string_bytes text.old ++ entry label.now count) }
 {

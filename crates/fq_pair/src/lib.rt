@@ -1,8 +1,8 @@
-//! Pairs of mates: read from two FASTQ texts, trimmed, and put into the four texts of records, the trim log and the
-//! counts that a run writes.
+//! Pairs of mates: read from FASTQ texts, trimmed, and turned into what a run writes, which is four
+//! texts of records, the trim log and the counts.
 //!
-//! [`PairSource`] gives the pairs of two inputs and [`MixedSource`] those of an interleaved one; [`Texts`] takes
-//! them, one after the other.
+//! [`PairSource`] reads the pairs of two inputs and [`MixedSource`] those of an interleaved one.
+//! [`Texts`] collects what is written for them, pair by pair.
 #![tactic(auto)]
 
 mod answer;

@@ -6,8 +6,8 @@ ghost use Rattle.fq_pair.specs.Outputs.{places_of, IsWithin, log_numbers, log_li
 use fq_trim::Kept;
 use itoa::write_digits;
 
-// The numbers of the log line of a read of so many bases: bases kept, removed in front, where the last one ends,
-// removed behind.
+// The numbers in the log line of a read: bases kept, bases removed at the front, where the last
+// kept base ends, bases removed at the end.
 fn kept_numbers(bases: usize, kept: Option<Kept>) -> [usize; 4]
     requires { IsWithin bases kept }
     ensures { result ≡ log_numbers bases (places_of kept) }
@@ -22,13 +22,13 @@ fn kept_numbers(bases: usize, kept: Option<Kept>) -> [usize; 4]
     }
 }
 
-// The most bytes that a number adds to a log line: a blank and 20 digits.
+// The most bytes that one number adds to a log line: a blank and 20 digits.
 const FIELD_ROOM: usize = 21;
 
-// The most bytes of a log line behind the name: four numbers and the line end.
+// The most bytes of a log line after the name: four numbers and LF.
 const NUMBERS_ROOM: usize = 4 * FIELD_ROOM + 1;
 
-// Writes a blank and a number so that they end at `end`. Gives the place where they begin.
+// Writes a blank and a number that end before `end`, and returns where they begin.
 #[inline(always)]
 fn put_field(text: &mut [u8], end: usize, number: usize) -> usize
     requires room { FIELD_ROOM ≤ end }
@@ -42,7 +42,7 @@ fn put_field(text: &mut [u8], end: usize, number: usize) -> usize
     at
 }
 
-// Writes the four numbers of a log line so that they end at the last byte. Gives the place where they begin.
+// Writes the four numbers of a log line before its last byte, and returns where they begin.
 #[inline(always)]
 fn put_numbers(text: &mut [u8; NUMBERS_ROOM], numbers: [usize; 4]) -> usize
     ensures text { drop result text.new ≡ flat_map field numbers ++ drop 84 text.old }
@@ -55,14 +55,14 @@ fn put_numbers(text: &mut [u8; NUMBERS_ROOM], numbers: [usize; 4]) -> usize
     put_field(text, at, kept)
 }
 
-/// The most bytes of the log line of a read of this name: the name, four numbers and the line end.
+/// The most bytes of the log line of a read with this name: the name, four numbers and LF.
 pub(crate) fn line_room(name: &[u8]) -> usize
     ensures { result ≡ length name.now + 85 }
 {
     name.len() + NUMBERS_ROOM
 }
 
-/// Appends the log line of a read of this name and so many bases, for which the log has room.
+/// Appends the log line of a read with this name and number of bases. The log must have room.
 pub(crate) fn put_line(log: &mut Vec<u8>, name: &[u8], bases: usize, kept: Option<Kept>)
     requires within { IsWithin bases kept }
     requires room { vec_len log.old + (length name.now + 85) ≤ vec_capacity log.old }

@@ -1,4 +1,4 @@
-//! Pairs out of one feed, which is interleaved: mates take turns.
+//! Reads pairs from one interleaved feed, in which mates alternate.
 
 ghost use Rattle.std.specs.Prelude.{◌≡◌, ◌↔◌, ℕ, ◌+◌, ◌*◌, ◌≤◌, ◌^◌, true, false, Some, None, Ok, IfOk, IfErr, IfSome, IsSome, IsTrue, MatchOption, is_some};
 ghost use Rattle.std.specs.Option.{IsSomeAnd};
@@ -15,21 +15,23 @@ use fq_text::{FastqRecord, Feed, Source};
 use std::marker::Model;
 use std::mem;
 
-/// The pairs of one interleaved text, one after the other: pair n is record 2n - 1, the forward mate, with record 2n, the
-/// reverse mate. Records and pairs are numbered from 1.
+/// Reads the pairs of one interleaved text in order: record 2n - 1 is the forward mate of pair n,
+/// and record 2n its reverse mate. Records and pairs are numbered from 1.
 ///
-/// The names of two mates have to match as [`names_match`](crate::names_match) tells, unless the check is off. A record that is
-/// missing in the midst of the text puts all later mates out of step. They are not searched for.
+/// The names of two mates must match by [`names_match`](crate::names_match), unless the check is
+/// off. If a record is missing in the middle of the text, all later mates are out of step; they are
+/// not re-paired.
 #[derive(Drop)]
 pub struct MixedSource<F: Feed> {
     source: Source<F>,
     check_names: bool,
     given: u64,
-    // The end or the fault that was answered.
+    // The end or the fault that was returned. Every later call returns it again.
     last: Option<Result<(), InputFault>>,
-    // The forward mate that was read last. Its memory is used again.
+    // The forward mate that was read last. Its memory is reused.
     forward: FastqRecord,
-    // How long the names of the pair are that it makes with the record in hand. `None` where it makes none.
+    // The lengths of the names of the current pair: `forward` and the current record of `source`.
+    // `None` if these are not a pair.
     names: Option<NameLengths>,
 }
 
@@ -60,10 +62,16 @@ impl<F: Feed> MixedSource<F> {
     ghost use Rattle.fq_pair.specs.PairSources.{IsUnasked, answer_of, more_of};
     ghost use Rattle.fq_pair.specs.MixedSources.{MixedSourced, KeepsCounts};
 
-    /// The pairs of this source, which has not been asked yet.
+    /// Makes a source of pairs from a source of records that has not been read from yet.
     pub fn new(source: Source<F>, check_names: bool) -> MixedSource<F>
         requires { IsUnasked source }
-        ensures { result ≡ record { source = source; check_names = check_names; given = 0; last = None; current = None } }
+        ensures { result ≡ record {
+          source = source;
+          check_names = check_names;
+          given = 0;
+          last = None;
+          current = None;
+        } }
     {
         let forward = source.empty_record();
         MixedSource {
@@ -76,23 +84,29 @@ impl<F: Feed> MixedSource<F> {
         }
     }
 
-    /// Goes on to the next pair and leaves it in hand, to be lent by [`pair`](MixedSource::pair); `false` at the end of the text. A
-    /// fault, or the end, is the answer from then on, and no pair is in hand.
+    /// Moves to the next pair, which [`pair`](MixedSource::pair) then lends. Returns `false` at the
+    /// end of the text. After the end or a fault there is no current pair, and every later call
+    /// returns the same.
     ///
-    /// What is read, and what is answered, is as at [`next`](MixedSource::next). No pair is in hand where a mate is missing, where
-    /// names differ and where the text is at fault.
+    /// Records are read, and faults reported, as by [`next`](MixedSource::next).
     pub fn advance(&mut self) -> Result<bool, InputFault>
-        // A last answer stays, and nothing more is read.
-        ensures again { MatchOption self.old.last (Unit {0}) (λ last. (result ≡ more_of last) × (self.new ≡ self.old)) }
+        // After the end or a fault, the same is returned again, and nothing more is read.
+        ensures again { MatchOption self.old.last (Unit {0})
+            (λ last. (result ≡ more_of last) × (self.new ≡ self.old)) }
 
-        // Otherwise the answer is what stands in front of the rest, and a pair is in hand.
-        ensures found { self.old.last ≡ None → result ≡ Ok true → IsSomeAnd self.new.current (GivesPair F.state self.old self.new) }
+        // Otherwise the result is what comes first in the rest, and a pair found is the current
+        // one.
+        ensures found { self.old.last ≡ None → result ≡ Ok true →
+            IsSomeAnd self.new.current (GivesPair F.state self.old self.new) }
         ensures in_hand { result ≡ Ok true → IsSome self.new.current }
-        ensures end { self.old.last ≡ None → result ≡ Ok false → EndsPairs F.state self.old self.new }
+        ensures end { self.old.last ≡ None → result ≡ Ok false →
+            EndsPairs F.state self.old self.new }
         ensures fault { self.old.last ≡ None → IfErr result (StopsPairs F.state self.old self.new) }
 
-        // The feed fails where the answer says so, and what it gives is counted.
-        ensures failures { self.old.last ≡ None → (F.state self.new.source.feed).failures ≡ (F.state self.old.source.feed).failures + failed_in result }
+        // The feed's failed reads are those that the result reports, and its bytes are counted.
+        ensures failures { self.old.last ≡ None →
+            (F.state self.new.source.feed).failures
+            ≡ (F.state self.old.source.feed).failures + failed_in result }
         ensures count { KeepsCounts F.state self.old self.new }
         ensures bound { IsBounded self.new.source }
         ensures pairs_bound { 2 * self.new.given ≤ self.new.source.given }
@@ -113,8 +127,8 @@ impl<F: Feed> MixedSource<F> {
         }
     }
 
-    /// The pair in hand, lent: [`advance`](MixedSource::advance) has just answered `true`. A pair that [`next`](MixedSource::next) gave
-    /// is in hand no more.
+    /// Lends the current pair. The last call must have been an [`advance`](MixedSource::advance)
+    /// that returned `true`: after [`next`](MixedSource::next) there is no current pair.
     pub fn pair(&self) -> PairView<'_>
         requires { IsSome self.now.current }
         ensures { self.now.current ≡ Some (mates_in result.forward result.reverse) }
@@ -125,7 +139,8 @@ impl<F: Feed> MixedSource<F> {
         }
     }
 
-    /// How long the names of the pair in hand are: [`advance`](MixedSource::advance) has just answered `true`.
+    /// The lengths of the names of the current pair. The last call must have been an
+    /// [`advance`](MixedSource::advance) that returned `true`.
     pub fn names(&self) -> NameLengths
         requires { IsSome self.now.current }
         ensures { IfSome self.now.current (λ m. result ≡ name_lengths m) }
@@ -133,24 +148,30 @@ impl<F: Feed> MixedSource<F> {
         self.names.unwrap()
     }
 
-    /// The next pair, or `None` at the end of the text. A fault, or the end, is the answer from then on.
+    /// Returns the next pair, or `None` at the end of the text. After the end or a fault, every
+    /// later call returns the same.
     ///
-    /// A fault of the text is answered with the side of the record that was being read and with that record's number in the
-    /// text. A failed or endless read, and want of memory, carry that side too. A forward record with no record behind it has no
-    /// reverse mate; this fault, and names that differ, carry the number of the pair. A forward record that makes no pair is
-    /// lost, and so is a reverse one of another name.
+    /// A fault of the text carries the side of the record that was being read, and that record's
+    /// number in the text. A failed or endless read, and refused memory, carry only that side. If
+    /// the text ends after a forward record, the reverse mate is missing; this fault, and names
+    /// that differ, carry the number of the pair. Records that make no pair are lost.
     pub fn next(&mut self) -> Result<Option<Pair>, InputFault>
-        // A last answer stays, and nothing more is read.
-        ensures again { MatchOption self.old.last (Unit {0}) (λ last. (result ≡ answer_of last) × (self.new ≡ self.old)) }
+        // After the end or a fault, the same is returned again, and nothing more is read.
+        ensures again { MatchOption self.old.last (Unit {0})
+            (λ last. (result ≡ answer_of last) × (self.new ≡ self.old)) }
 
-        // Otherwise the answer is what stands in front of the rest.
-        ensures found { self.old.last ≡ None → IfOk result (λ o. IfSome o (GivesPair F.state self.old self.new)) }
-        ensures end { self.old.last ≡ None → result ≡ Ok None → EndsPairs F.state self.old self.new }
+        // Otherwise the result is what comes first in the rest.
+        ensures found { self.old.last ≡ None →
+            IfOk result (λ o. IfSome o (GivesPair F.state self.old self.new)) }
+        ensures end { self.old.last ≡ None → result ≡ Ok None →
+            EndsPairs F.state self.old self.new }
         ensures fault { self.old.last ≡ None → IfErr result (StopsPairs F.state self.old self.new) }
         ensures in_hand { self.old.last ≡ None → self.new.current ≡ None }
 
-        // The feed fails where the answer says so, and what it gives is counted.
-        ensures failures { self.old.last ≡ None → (F.state self.new.source.feed).failures ≡ (F.state self.old.source.feed).failures + failed_in result }
+        // The feed's failed reads are those that the result reports, and its bytes are counted.
+        ensures failures { self.old.last ≡ None →
+            (F.state self.new.source.feed).failures
+            ≡ (F.state self.old.source.feed).failures + failed_in result }
         ensures count { KeepsCounts F.state self.old self.new }
         ensures bound { IsBounded self.new.source }
         ensures pairs_bound { 2 * self.new.given ≤ self.new.source.given }
@@ -171,7 +192,7 @@ impl<F: Feed> MixedSource<F> {
         }
     }
 
-    /// The feed, as it stands. Bytes that were read and are still in hand go.
+    /// Returns the feed. Bytes that were read but not used yet are dropped.
     pub fn into_feed(self) -> F
         ensures { result ≡ self.source.feed }
     {
@@ -191,17 +212,22 @@ fn read_mates<F: Feed>(
     requires bound { IsBounded source.old }
     requires fits { given ≤ 2 ^ 60 }
     ensures found { IfOk result (λ o. IfSome o
-        (GivesPair F.state (asked source.old forward.old check_names given (is_some names.old)) (asked source.new forward.new check_names (given + 1) false))) }
+        (GivesPair F.state (asked source.old forward.old check_names given (is_some names.old))
+        (asked source.new forward.new check_names (given + 1) false))) }
     ensures end { result ≡ Ok None →
-        EndsPairs F.state (asked source.old forward.old check_names given (is_some names.old)) (stopped source.new check_names given (Ok tt)) }
+        EndsPairs F.state (asked source.old forward.old check_names given (is_some names.old))
+        (stopped source.new check_names given (Ok tt)) }
     ensures fault { IfErr result (λ why.
-        StopsPairs F.state (asked source.old forward.old check_names given (is_some names.old)) (stopped source.new check_names given (Err why)) why) }
+        StopsPairs F.state (asked source.old forward.old check_names given (is_some names.old))
+        (stopped source.new check_names given (Err why)) why) }
     ensures in_hand { names.new ≡ None }
-    ensures failures { (F.state source.new.feed).failures ≡ (F.state source.old.feed).failures + failed_in result }
+    ensures failures { (F.state source.new.feed).failures
+        ≡ (F.state source.old.feed).failures + failed_in result }
     ensures count { KeepsCount F.state source.old source.new }
     ensures bounded { IsBounded source.new }
     ensures pairs_bound { 2 * given ≤ source.new.given }
-    ensures few { IfOk result (λ o. IfSome o (λ pair. (given + 1 ≤ 2 ^ 60) × (2 * (given + 1) ≤ source.new.given))) }
+    ensures few { IfOk result
+        (λ o. IfSome o (λ pair. (given + 1 ≤ 2 ^ 60) × (2 * (given + 1) ≤ source.new.given))) }
 {
     *names = None;
     let number = given + 1;
@@ -219,7 +245,8 @@ fn read_mates<F: Feed>(
     }
 }
 
-// Goes on to the mates of the next pair: the forward one is copied before the other is read, which is left in hand.
+// Moves to the next pair. The forward mate is copied before the reverse mate is read, which stays
+// the current record of `source`.
 fn advance_mates<F: Feed>(
     source: &mut Source<F>,
     forward: &mut FastqRecord,
@@ -230,15 +257,21 @@ fn advance_mates<F: Feed>(
     requires ready { IsReady source.old given }
     requires bound { IsBounded source.old }
     requires fits { given ≤ 2 ^ 60 }
-    ensures found { result ≡ Ok true → IsSomeAnd (pair_of true (Some forward.new) source.new.current)
-        (GivesPair F.state (asked source.old forward.old check_names given (is_some names.old)) (asked source.new forward.new check_names (given + 1) true)) }
+    ensures found { result ≡ Ok true →
+        IsSomeAnd (pair_of true (Some forward.new) source.new.current)
+        (GivesPair F.state (asked source.old forward.old check_names given (is_some names.old))
+        (asked source.new forward.new check_names (given + 1) true)) }
     ensures end { result ≡ Ok false →
-        EndsPairs F.state (asked source.old forward.old check_names given (is_some names.old)) (stopped source.new check_names given (Ok tt)) }
+        EndsPairs F.state (asked source.old forward.old check_names given (is_some names.old))
+        (stopped source.new check_names given (Ok tt)) }
     ensures fault { IfErr result (λ why.
-        StopsPairs F.state (asked source.old forward.old check_names given (is_some names.old)) (stopped source.new check_names given (Err why)) why) }
+        StopsPairs F.state (asked source.old forward.old check_names given (is_some names.old))
+        (stopped source.new check_names given (Err why)) why) }
     ensures in_hand { IsTrue (is_some names.new) ↔ result ≡ Ok true }
-    ensures names { HasNames names.new (pair_of (is_some names.new) (Some forward.new) source.new.current) }
-    ensures failures { (F.state source.new.feed).failures ≡ (F.state source.old.feed).failures + failed_in result }
+    ensures names { HasNames names.new
+        (pair_of (is_some names.new) (Some forward.new) source.new.current) }
+    ensures failures { (F.state source.new.feed).failures
+        ≡ (F.state source.old.feed).failures + failed_in result }
     ensures count { KeepsCount F.state source.old source.new }
     ensures bounded { IsBounded source.new }
     ensures pairs_bound { 2 * given ≤ source.new.given }

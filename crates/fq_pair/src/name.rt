@@ -24,13 +24,16 @@ fn first_word(title: &[u8]) -> &[u8]
     &title[..end]
 }
 
-// Whether a word stands at the front of a title, but for its last byte, and ends there.
+// Whether the first word of a title is as long as `word`, and differs from it at most in the last
+// byte. `false` if `word` is empty.
 fn begins_like(title: &[u8], word: &[u8]) -> bool
     ensures some { IsTrue result → 0 < length word.now }
     ensures within { IsTrue result → length word.now ≤ length title.now }
-    ensures like { IsTrue result → take (length word.now - 1) title.now ≡ take (length word.now - 1) word.now }
+    ensures like { IsTrue result →
+        take (length word.now - 1) title.now ≡ take (length word.now - 1) word.now }
     ensures last { IsTrue result → gap (get_or title.now (length word.now - 1) 0) ≡ false }
-    ensures end { IsTrue result → length word.now < length title.now → gap (get_or title.now (length word.now) 0) ≡ true }
+    ensures end { IsTrue result → length word.now < length title.now →
+        gap (get_or title.now (length word.now) 0) ≡ true }
 {
     let len = word.len();
     if len == 0 || len > title.len() || title[..len - 1] != word[..len - 1] {
@@ -39,17 +42,18 @@ fn begins_like(title: &[u8], word: &[u8]) -> bool
     !is_gap(title[len - 1]) && (len == title.len() || is_gap(title[len]))
 }
 
-// A word without the mark of its side.
+// Removes the mark of a side, `/1` or `/2`, from the end of a word.
 fn without_mark(word: &[u8], side: Side) -> &[u8]
     ensures { result.now ≡ without_end (mark side) word.now }
 {
     word.strip_suffix(mark_of(side)).unwrap_or(word)
 }
 
-/// The name of a mate, by which the mates of a pair are told: its title up to the first blank or tab, without a final
-/// `/1` on the forward side or `/2` on the reverse side.
+/// Returns the name of a mate, by which mates are matched: its title up to the first blank or tab,
+/// without a final `/1` on the forward side or `/2` on the reverse side.
 ///
-/// One mark goes at most, and no other ending: `a/1/1` becomes `a/1`, and a forward `a/2` stays. A name may be empty.
+/// At most one mark is removed, and no other ending: `a/1/1` becomes `a/1`, and a forward `a/2`
+/// stays. A name may be empty.
 pub fn name_of(title: &[u8], side: Side) -> &[u8]
     ensures name { result.now ≡ name side title.now }
     ensures short { length result.now ≤ length title.now }
@@ -66,7 +70,8 @@ fn mark_of(side: Side) -> &'static [u8]
     }
 }
 
-/// How long the names of two mates are, in bytes from the front of their titles. So who has them needs not search for the names.
+/// The lengths of the names of two mates, in bytes from the start of their titles, so that the
+/// names need not be searched for again.
 #[derive(Clone, Copy, Debug, PartialEq, Eq)]
 pub struct NameLengths {
     /// The bytes of the forward mate's name.
@@ -75,15 +80,15 @@ pub struct NameLengths {
     pub reverse: usize,
 }
 
-/// Whether two titles, of a forward and of a reverse mate, have one name, byte for byte.
+/// Whether the titles of a forward and a reverse mate have the same name, byte for byte.
 pub fn names_match(forward: &[u8], reverse: &[u8]) -> bool
     ensures { result ≡ same_names forward.now reverse.now }
 {
     compare_names(forward, reverse).1
 }
 
-/// How long the names in two titles are, of a forward and of a reverse mate, and whether they are one name. Where the titles begin
-/// alike, one of them alone is searched.
+/// Returns the lengths of the names in a forward and a reverse title, and whether the names are the
+/// same. If the titles begin alike, only one of them is searched.
 #[inline(always)]
 pub(crate) fn compare_names(forward: &[u8], reverse: &[u8]) -> (NameLengths, bool)
     ensures lengths { result.0 ≡ lengths_of forward.now reverse.now }
@@ -102,14 +107,15 @@ pub(crate) fn compare_names(forward: &[u8], reverse: &[u8]) -> (NameLengths, boo
     (lengths, forward == reverse)
 }
 
-// The same of two words that are alike but for their last bytes.
+// Compares the names in two first words that differ at most in their last bytes.
 fn compare_alike(word: &[u8], mate: &[u8]) -> (NameLengths, bool)
     requires some { 0 < length word.now }
     requires len { length mate.now ≡ length word.now }
     requires like { take (length word.now - 1) mate.now ≡ take (length word.now - 1) word.now }
     ensures forward { result.0.forward ≡ length (without_end (mark Forward) word.now) }
     ensures reverse { result.0.reverse ≡ length (without_end (mark Reverse) mate.now) }
-    ensures same { result.1 ≡ bytes_eq (without_end (mark Forward) word.now) (without_end (mark Reverse) mate.now) }
+    ensures same { result.1 ≡ bytes_eq (without_end (mark Forward) word.now)
+        (without_end (mark Reverse) mate.now) }
 {
     let last = word.len() - 1;
     let forward = without_mark(word, Side::Forward).len();

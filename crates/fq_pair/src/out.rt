@@ -2,18 +2,18 @@
 
 use std::fmt;
 
-/// A text that a run writes, in the order in which they are written.
+/// One of the texts that a run writes. The variants are in the order of writing.
 #[derive(Clone, Copy, Debug, PartialEq, Eq)]
 pub enum Out {
-    /// Forward reads whose mate survives too.
+    /// Forward reads whose mate also survives.
     ForwardPaired,
     /// Forward reads whose mate is dropped.
     ForwardUnpaired,
-    /// Reverse reads whose mate survives too.
+    /// Reverse reads whose mate also survives.
     ReversePaired,
     /// Reverse reads whose mate is dropped.
     ReverseUnpaired,
-    /// The trim log, with a line for each read, dropped or not.
+    /// The trim log, with one line for each read, kept or dropped.
     Log,
 }
 

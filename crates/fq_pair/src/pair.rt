@@ -1,4 +1,4 @@
-//! Two mates.
+//! Pairs of mates.
 
 ghost use Rattle.std.specs.Prelude.{◌≡◌, ◌||◌, not, IfOk, IfErr, is_ok};
 ghost use Rattle.fq_pair.specs.Mates.{names_match as same_names, lengths_of};
@@ -8,7 +8,7 @@ use crate::name::{NameLengths, compare_names};
 use fq_text::{Encoding, FastqRecord, ReadView};
 use std::marker::Model;
 
-/// The two reads of a pair as they were read, both in one encoding.
+/// The two reads of a pair as they were read, both in the same encoding.
 #[derive(Drop)]
 pub struct Pair {
     forward: FastqRecord,
@@ -30,7 +30,7 @@ impl Pair {
     ghost use Rattle.fq_pair.specs.Mates.{Mates, mates_in};
     ghost use Rattle.fq_pair.specs.Pairing.{belong};
 
-    /// The pair of two mates, which have one encoding.
+    /// Makes a pair of two mates in the same encoding.
     pub fn new(forward: FastqRecord, reverse: FastqRecord) -> Pair
         requires { forward.encoding ≡ reverse.encoding }
         ensures { result ≡ record { forward = forward; reverse = reverse } }
@@ -38,7 +38,8 @@ impl Pair {
         Pair { forward, reverse }
     }
 
-    /// The pair of two mates whose names match or aren't checked; the fault of pair `number` otherwise.
+    /// Makes a pair if the names of the mates match or aren't checked. Otherwise returns the fault
+    /// of pair `number`.
     pub(crate) fn matched(
         forward: FastqRecord,
         reverse: FastqRecord,
@@ -62,7 +63,7 @@ impl Pair {
         self.forward.encoding()
     }
 
-    /// The two mates, lent.
+    /// Lends both mates.
     pub fn view(&self) -> PairView<'_>
         ensures forward { result.forward ≡ self.now.forward }
         ensures reverse { result.reverse ≡ self.now.reverse }
@@ -74,19 +75,19 @@ impl Pair {
     }
 }
 
-/// The two reads of a pair, lent by a [`Pair`] or another owner of their bytes.
+/// The two reads of a pair, borrowed from a [`Pair`] or another owner of their bytes.
 #[derive(Drop)]
 pub struct PairView<'a> {
-    /// The mate of the forward input.
+    /// The forward mate.
     pub forward: ReadView<'a>,
-    /// The mate of the reverse input.
+    /// The reverse mate.
     pub reverse: ReadView<'a>,
 }
 
 impl PairView<'_> {
     ghost use Rattle.fq_pair.specs.Mates.{mates_in, name_lengths};
 
-    /// How long the names of the mates are. They are searched for.
+    /// Searches for the names of both mates and returns their lengths.
     #[inline(always)]
     pub fn name_lengths(&self) -> NameLengths
         ensures { result ≡ name_lengths (mates_in self.now.forward self.now.reverse) }
@@ -95,8 +96,8 @@ impl PairView<'_> {
     }
 }
 
-/// How long the names in two titles are, of a forward and of a reverse mate, where they are one name or names aren't checked; the
-/// fault of pair `number` otherwise.
+/// Returns the lengths of the names in a forward and a reverse title if the names are the same or
+/// aren't checked. Otherwise returns the fault of pair `number`.
 #[inline(always)]
 pub(crate) fn check_mates(
     check_names: bool,

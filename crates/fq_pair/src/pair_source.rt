@@ -1,4 +1,4 @@
-//! Pairs out of two feeds.
+//! Reads pairs from two feeds.
 
 ghost use Rattle.std.specs.Prelude.{◌≡◌, ◌↔◌, ℕ, suc, ◌+◌, ◌*◌, ◌≤◌, ◌^◌, true, false, Some, None, Ok, IfOk, IfErr, IfSome, IsSome, IsTrue, MatchOption, is_some};
 ghost use Rattle.std.specs.Option.{IsSomeAnd};
@@ -14,19 +14,21 @@ use crate::side::Side;
 use fq_text::{Feed, Source};
 use std::marker::Model;
 
-/// The pairs of two texts, one after the other: record k of the forward text with record k of the reverse text.
+/// Reads the pairs of two texts in order: record k of the forward text with record k of the reverse
+/// text.
 ///
-/// The names of two mates have to match as [`names_match`](crate::names_match) tells, unless the check is off. Mates that are
-/// out of step are not searched for.
+/// The names of two mates must match by [`names_match`](crate::names_match), unless the check is
+/// off. Mates that are out of step are not re-paired.
 #[derive(Drop)]
 pub struct PairSource<F: Feed, G: Feed> {
     forward: Source<F>,
     reverse: Source<G>,
     check_names: bool,
     given: u64,
-    // The end or the fault that was answered.
+    // The end or the fault that was returned. Every later call returns it again.
     last: Option<Result<(), InputFault>>,
-    // How long the names of the pair in hand are. `None` where the records in hand of both sources are no pair.
+    // The lengths of the names of the current pair. `None` if the current records of the sources
+    // are not a pair.
     names: Option<NameLengths>,
 }
 
@@ -59,12 +61,20 @@ impl<F: Feed, G: Feed> PairSource<F, G> {
     ghost use Rattle.fq_pair.specs.Mates.{mates_in, name_lengths};
     ghost use Rattle.fq_pair.specs.PairSources.{PairSourced, IsUnasked, answer_of, more_of, KeepsCounts};
 
-    /// The pairs of these sources, of which neither has been asked yet. Both have one encoding.
+    /// Makes a source of pairs from two sources of records in the same encoding, which have not
+    /// been read from yet.
     pub fn new(forward: Source<F>, reverse: Source<G>, check_names: bool) -> PairSource<F, G>
         requires forward { IsUnasked forward }
         requires reverse { IsUnasked reverse }
         requires encoding { forward.encoding ≡ reverse.encoding }
-        ensures { result ≡ record { forward = forward; reverse = reverse; check_names = check_names; given = 0; last = None; current = None } }
+        ensures { result ≡ record {
+          forward = forward;
+          reverse = reverse;
+          check_names = check_names;
+          given = 0;
+          last = None;
+          current = None;
+        } }
     {
         PairSource {
             forward,
@@ -76,33 +86,41 @@ impl<F: Feed, G: Feed> PairSource<F, G> {
         }
     }
 
-    /// Goes on to the next pair and leaves it in hand, to be lent by [`pair`](PairSource::pair); `false` at the end of both texts. A
-    /// fault, or the end, is the answer from then on, and no pair is in hand.
+    /// Moves to the next pair, which [`pair`](PairSource::pair) then lends. Returns `false` at the
+    /// end of both texts. After the end or a fault there is no current pair, and every later call
+    /// returns the same.
     ///
-    /// What is read, in which order, and what is answered, is as at [`next`](PairSource::next). No pair is in hand where a mate is
-    /// missing, where names differ and where a text is at fault.
+    /// Records are read, and faults reported, as by [`next`](PairSource::next).
     pub fn advance(&mut self) -> Result<bool, InputFault>
-        // A last answer stays, and nothing more is read.
-        ensures again { MatchOption self.old.last (Unit {0}) (λ last. (result ≡ more_of last) × (self.new ≡ self.old)) }
+        // After the end or a fault, the same is returned again, and nothing more is read.
+        ensures again { MatchOption self.old.last (Unit {0})
+            (λ last. (result ≡ more_of last) × (self.new ≡ self.old)) }
 
-        // Otherwise the answer is what stands in front of the two rests, and a pair is in hand.
-        ensures found { self.old.last ≡ None → result ≡ Ok true → IsSomeAnd self.new.current (GivesPair F.state G.state self.old self.new) }
+        // Otherwise the result is what comes first in the two rests, and a pair found is the
+        // current one.
+        ensures found { self.old.last ≡ None → result ≡ Ok true →
+            IsSomeAnd self.new.current (GivesPair F.state G.state self.old self.new) }
         ensures in_hand { result ≡ Ok true → IsSome self.new.current }
-        ensures end { self.old.last ≡ None → result ≡ Ok false → EndsPairs F.state G.state self.old self.new }
-        ensures fault { self.old.last ≡ None → IfErr result (StopsPairs F.state G.state self.old self.new) }
+        ensures end { self.old.last ≡ None → result ≡ Ok false →
+            EndsPairs F.state G.state self.old self.new }
+        ensures fault { self.old.last ≡ None →
+            IfErr result (StopsPairs F.state G.state self.old self.new) }
 
-        // Both mates are in the one encoding of the sources.
+        // Both sources, and so both mates, are in the same encoding.
         ensures encoding { self.old.forward.encoding ≡ self.old.reverse.encoding }
 
-        // A feed fails where the answer says so, and what the feeds give is counted.
+        // The feeds' failed reads are those that the result reports, and their bytes are counted.
         ensures forward_failures { self.old.last ≡ None
-            → (F.state self.new.forward.feed).failures ≡ (F.state self.old.forward.feed).failures + failed_on Forward result }
+            → (F.state self.new.forward.feed).failures
+            ≡ (F.state self.old.forward.feed).failures + failed_on Forward result }
         ensures reverse_failures { self.old.last ≡ None
-            → (G.state self.new.reverse.feed).failures ≡ (G.state self.old.reverse.feed).failures + failed_on Reverse result }
+            → (G.state self.new.reverse.feed).failures
+            ≡ (G.state self.old.reverse.feed).failures + failed_on Reverse result }
         ensures count { KeepsCounts F.state G.state self.old self.new }
         ensures forward_bound { IsBounded self.new.forward }
         ensures reverse_bound { IsBounded self.new.reverse }
-        ensures pairs_bound { (self.new.given ≤ self.new.forward.given) × (self.new.given ≤ self.new.reverse.given) }
+        ensures pairs_bound { (self.new.given ≤ self.new.forward.given)
+            × (self.new.given ≤ self.new.reverse.given) }
     {
         match self.last {
             Some(Ok(())) => Ok(false),
@@ -120,8 +138,8 @@ impl<F: Feed, G: Feed> PairSource<F, G> {
         }
     }
 
-    /// The pair in hand, lent: [`advance`](PairSource::advance) has just answered `true`. A pair that [`next`](PairSource::next) gave is
-    /// in hand no more.
+    /// Lends the current pair. The last call must have been an [`advance`](PairSource::advance)
+    /// that returned `true`: after [`next`](PairSource::next) there is no current pair.
     pub fn pair(&self) -> PairView<'_>
         requires { IsSome self.now.current }
         ensures { self.now.current ≡ Some (mates_in result.forward result.reverse) }
@@ -132,7 +150,8 @@ impl<F: Feed, G: Feed> PairSource<F, G> {
         }
     }
 
-    /// How long the names of the pair in hand are: [`advance`](PairSource::advance) has just answered `true`.
+    /// The lengths of the names of the current pair. The last call must have been an
+    /// [`advance`](PairSource::advance) that returned `true`.
     pub fn names(&self) -> NameLengths
         requires { IsSome self.now.current }
         ensures { IfSome self.now.current (λ m. result ≡ name_lengths m) }
@@ -140,30 +159,39 @@ impl<F: Feed, G: Feed> PairSource<F, G> {
         self.names.unwrap()
     }
 
-    /// The next pair, or `None` at the end of both texts. A fault, or the end, is the answer from then on.
+    /// Returns the next pair, or `None` at the end of both texts. After the end or a fault, every
+    /// later call returns the same.
     ///
-    /// The forward record is read first, and a fault of the forward text is answered before all others. Then come a
-    /// fault of the reverse text, a missing mate, and names that differ. A failed or endless read, and want of
-    /// memory, are answered as a fault of the side that was being read. The record of a mate that is no pair is lost.
+    /// The forward record is read first. A fault of the forward text comes before all others; then
+    /// come a fault of the reverse text, a missing mate, and names that differ. A failed or endless
+    /// read, and refused memory, are reported as a fault of the side that was being read. A record
+    /// that makes no pair is lost.
     pub fn next(&mut self) -> Result<Option<Pair>, InputFault>
-        // A last answer stays, and nothing more is read.
-        ensures again { MatchOption self.old.last (Unit {0}) (λ last. (result ≡ answer_of last) × (self.new ≡ self.old)) }
+        // After the end or a fault, the same is returned again, and nothing more is read.
+        ensures again { MatchOption self.old.last (Unit {0})
+            (λ last. (result ≡ answer_of last) × (self.new ≡ self.old)) }
 
-        // Otherwise the answer is what stands in front of the two rests.
-        ensures found { self.old.last ≡ None → IfOk result (λ o. IfSome o (GivesPair F.state G.state self.old self.new)) }
-        ensures end { self.old.last ≡ None → result ≡ Ok None → EndsPairs F.state G.state self.old self.new }
-        ensures fault { self.old.last ≡ None → IfErr result (StopsPairs F.state G.state self.old self.new) }
+        // Otherwise the result is what comes first in the two rests.
+        ensures found { self.old.last ≡ None →
+            IfOk result (λ o. IfSome o (GivesPair F.state G.state self.old self.new)) }
+        ensures end { self.old.last ≡ None → result ≡ Ok None →
+            EndsPairs F.state G.state self.old self.new }
+        ensures fault { self.old.last ≡ None →
+            IfErr result (StopsPairs F.state G.state self.old self.new) }
         ensures in_hand { self.old.last ≡ None → self.new.current ≡ None }
 
-        // A feed fails where the answer says so, and what the feeds give is counted.
+        // The feeds' failed reads are those that the result reports, and their bytes are counted.
         ensures forward_failures { self.old.last ≡ None
-            → (F.state self.new.forward.feed).failures ≡ (F.state self.old.forward.feed).failures + failed_on Forward result }
+            → (F.state self.new.forward.feed).failures
+            ≡ (F.state self.old.forward.feed).failures + failed_on Forward result }
         ensures reverse_failures { self.old.last ≡ None
-            → (G.state self.new.reverse.feed).failures ≡ (G.state self.old.reverse.feed).failures + failed_on Reverse result }
+            → (G.state self.new.reverse.feed).failures
+            ≡ (G.state self.old.reverse.feed).failures + failed_on Reverse result }
         ensures count { KeepsCounts F.state G.state self.old self.new }
         ensures forward_bound { IsBounded self.new.forward }
         ensures reverse_bound { IsBounded self.new.reverse }
-        ensures pairs_bound { (self.new.given ≤ self.new.forward.given) × (self.new.given ≤ self.new.reverse.given) }
+        ensures pairs_bound { (self.new.given ≤ self.new.forward.given)
+            × (self.new.given ≤ self.new.reverse.given) }
     {
         match self.last {
             Some(Ok(())) => Ok(None),
@@ -181,7 +209,7 @@ impl<F: Feed, G: Feed> PairSource<F, G> {
         }
     }
 
-    /// The two feeds, as they stand. Bytes that were read and are still in hand go.
+    /// Returns both feeds. Bytes that were read but not used yet are dropped.
     pub fn into_feeds(self) -> (F, G)
         ensures forward { result.0 ≡ self.forward.feed }
         ensures reverse { result.1 ≡ self.reverse.feed }
@@ -195,7 +223,7 @@ impl<F: Feed, G: Feed> PairSource<F, G> {
     }
 }
 
-// Reads the mates of the next pair.
+// Reads the mates of the next pair, the forward one first.
 fn read_mates<F: Feed, G: Feed>(
     forward: &mut Source<F>,
     reverse: &mut Source<G>,
@@ -209,17 +237,22 @@ fn read_mates<F: Feed, G: Feed>(
     requires reverse_bound { IsBounded reverse.old }
     requires fits { given ≤ 2 ^ 60 }
     ensures found { IfOk result (λ o. IfSome o
-        (GivesPair F.state G.state (asked forward.old reverse.old check_names given (is_some names.old))
+        (GivesPair F.state G.state
+        (asked forward.old reverse.old check_names given (is_some names.old))
         (asked forward.new reverse.new check_names (given + 1) false))) }
     ensures end { result ≡ Ok None →
-        EndsPairs F.state G.state (asked forward.old reverse.old check_names given (is_some names.old))
+        EndsPairs F.state G.state
+        (asked forward.old reverse.old check_names given (is_some names.old))
         (stopped forward.new reverse.new check_names given (Ok tt)) }
     ensures fault { IfErr result (λ why.
-        StopsPairs F.state G.state (asked forward.old reverse.old check_names given (is_some names.old))
+        StopsPairs F.state G.state
+        (asked forward.old reverse.old check_names given (is_some names.old))
         (stopped forward.new reverse.new check_names given (Err why)) why) }
     ensures in_hand { names.new ≡ None }
-    ensures forward_failures { (F.state forward.new.feed).failures ≡ (F.state forward.old.feed).failures + failed_on Forward result }
-    ensures reverse_failures { (G.state reverse.new.feed).failures ≡ (G.state reverse.old.feed).failures + failed_on Reverse result }
+    ensures forward_failures { (F.state forward.new.feed).failures
+        ≡ (F.state forward.old.feed).failures + failed_on Forward result }
+    ensures reverse_failures { (G.state reverse.new.feed).failures
+        ≡ (G.state reverse.old.feed).failures + failed_on Reverse result }
     ensures forward_count { KeepsCount F.state forward.old forward.new }
     ensures reverse_count { KeepsCount G.state reverse.old reverse.new }
     ensures forward_bounded { IsBounded forward.new }
@@ -244,7 +277,7 @@ fn read_mates<F: Feed, G: Feed>(
     }
 }
 
-// Goes on to the mates of the next pair, and leaves both in hand.
+// Moves to the next pair, whose mates stay the current records of their sources.
 fn advance_mates<F: Feed, G: Feed>(
     forward: &mut Source<F>,
     reverse: &mut Source<G>,
@@ -257,19 +290,26 @@ fn advance_mates<F: Feed, G: Feed>(
     requires forward_bound { IsBounded forward.old }
     requires reverse_bound { IsBounded reverse.old }
     requires fits { given ≤ 2 ^ 60 }
-    ensures found { result ≡ Ok true → IsSomeAnd (pair_of true forward.new.current reverse.new.current)
-        (GivesPair F.state G.state (asked forward.old reverse.old check_names given (is_some names.old))
+    ensures found { result ≡ Ok true →
+        IsSomeAnd (pair_of true forward.new.current reverse.new.current)
+        (GivesPair F.state G.state
+        (asked forward.old reverse.old check_names given (is_some names.old))
         (asked forward.new reverse.new check_names (given + 1) true)) }
     ensures end { result ≡ Ok false →
-        EndsPairs F.state G.state (asked forward.old reverse.old check_names given (is_some names.old))
+        EndsPairs F.state G.state
+        (asked forward.old reverse.old check_names given (is_some names.old))
         (stopped forward.new reverse.new check_names given (Ok tt)) }
     ensures fault { IfErr result (λ why.
-        StopsPairs F.state G.state (asked forward.old reverse.old check_names given (is_some names.old))
+        StopsPairs F.state G.state
+        (asked forward.old reverse.old check_names given (is_some names.old))
         (stopped forward.new reverse.new check_names given (Err why)) why) }
     ensures in_hand { IsTrue (is_some names.new) ↔ result ≡ Ok true }
-    ensures names { HasNames names.new (pair_of (is_some names.new) forward.new.current reverse.new.current) }
-    ensures forward_failures { (F.state forward.new.feed).failures ≡ (F.state forward.old.feed).failures + failed_on Forward result }
-    ensures reverse_failures { (G.state reverse.new.feed).failures ≡ (G.state reverse.old.feed).failures + failed_on Reverse result }
+    ensures names { HasNames names.new
+        (pair_of (is_some names.new) forward.new.current reverse.new.current) }
+    ensures forward_failures { (F.state forward.new.feed).failures
+        ≡ (F.state forward.old.feed).failures + failed_on Forward result }
+    ensures reverse_failures { (G.state reverse.new.feed).failures
+        ≡ (G.state reverse.old.feed).failures + failed_on Reverse result }
     ensures forward_count { KeepsCount F.state forward.old forward.new }
     ensures reverse_count { KeepsCount G.state reverse.old reverse.new }
     ensures forward_bounded { IsBounded forward.new }

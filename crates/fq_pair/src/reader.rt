@@ -1,4 +1,4 @@
-//! Sources of pairs, whatever they read.
+//! The trait of all sources of pairs.
 
 ghost use Rattle.std.specs.Prelude.{◌≡◌, ◌≤◌, true, Some, None, Ok, IfOk, IfSome, IsSome, MatchOption};
 ghost use Rattle.fq_pair.specs.Mates.{mates_in, name_lengths};
@@ -12,48 +12,62 @@ use crate::pair::{Pair, PairView};
 use crate::pair_source::PairSource;
 use fq_text::Feed;
 
-/// A source of pairs, one after the other: of two texts ([`PairSource`]), or of an interleaved one ([`MixedSource`]).
+/// A source of pairs, in order: of two texts ([`PairSource`]), or of an interleaved one
+/// ([`MixedSource`]).
 pub trait PairReader {
-    /// What contracts see of the source: its form, the bytes in hand and to come of each side, and what was counted so far.
+    /// The source as contracts see it: its form, the bytes in hand and to come of each side, and
+    /// the counts so far.
     ghost state: { Self → SourceState };
 
-    /// Goes on to the next pair and leaves it in hand, to be lent by [`pair_in_hand`](PairReader::pair_in_hand); `false` at the end. A
-    /// fault, or the end, is the answer from then on, and no pair is in hand.
+    /// Moves to the next pair, which [`pair_in_hand`](PairReader::pair_in_hand) then lends. Returns
+    /// `false` at the end. After the end or a fault there is no current pair, and every later call
+    /// returns the same.
     fn advance_pair(&mut self) -> Result<bool, InputFault>
-        // A last answer stays, and nothing more is read.
-        ensures again { MatchOption (state self.old).last (Unit {0}) (λ last. (result ≡ more_of last) × (state self.new ≡ state self.old)) }
+        // After the end or a fault, the same is returned again, and nothing more is read.
+        ensures again { MatchOption (state self.old).last (Unit {0})
+            (λ last. (result ≡ more_of last) × (state self.new ≡ state self.old)) }
 
-        // Otherwise the answer is what stands in front of the sides.
-        ensures advances { (state self.old).last ≡ None → Advances (state self.old) (state self.new) result }
+        // Otherwise the result is what comes first in the sides.
+        ensures advances { (state self.old).last ≡ None →
+            Advances (state self.old) (state self.new) result }
         ensures in_hand { result ≡ Ok true → IsSome (state self.new).current }
 
-        // No more records are given than bytes may come, and both mates are in the source's encoding.
+        // No more records are given than bytes may come, and both mates are in the encoding of the
+        // source.
         ensures within { (state self.new).forward.given ≤ (state self.new).most_bytes }
         ensures encoding { (state self.old).last ≡ None → IfSome (state self.new).current (λ m.
-            (m.forward.encoding ≡ (state self.old).encoding) × (m.reverse.encoding ≡ (state self.old).encoding)) };
+            (m.forward.encoding ≡ (state self.old).encoding)
+            × (m.reverse.encoding ≡ (state self.old).encoding)) };
 
-    /// The pair in hand, lent: [`advance_pair`](PairReader::advance_pair) has just answered `true`.
+    /// Lends the current pair. The last call must have been an
+    /// [`advance_pair`](PairReader::advance_pair) that returned `true`.
     fn pair_in_hand(&self) -> PairView<'_>
         requires { IsSome (state self.now).current }
         ensures { (state self.now).current ≡ Some (mates_in result.forward result.reverse) };
 
-    /// How long the names of the pair in hand are: [`advance_pair`](PairReader::advance_pair) has just answered `true`.
+    /// The lengths of the names of the current pair. The last call must have been an
+    /// [`advance_pair`](PairReader::advance_pair) that returned `true`.
     fn names_in_hand(&self) -> NameLengths
         requires { IsSome (state self.now).current }
         ensures { IfSome (state self.now).current (λ m. result ≡ name_lengths m) };
 
-    /// The next pair, or `None` at the end. A fault, or the end, is the answer from then on. The pair is in hand no more.
+    /// Returns the next pair, or `None` at the end. After the end or a fault, every later call
+    /// returns the same. There is no current pair afterwards.
     fn next_pair(&mut self) -> Result<Option<Pair>, InputFault>
-        // A last answer stays, and nothing more is read.
-        ensures again { MatchOption (state self.old).last (Unit {0}) (λ last. (result ≡ answer_of last) × (state self.new ≡ state self.old)) }
+        // After the end or a fault, the same is returned again, and nothing more is read.
+        ensures again { MatchOption (state self.old).last (Unit {0})
+            (λ last. (result ≡ answer_of last) × (state self.new ≡ state self.old)) }
 
-        // Otherwise the answer is what stands in front of the sides.
-        ensures asks { (state self.old).last ≡ None → Asks (state self.old) (state self.new) result }
+        // Otherwise the result is what comes first in the sides.
+        ensures asks { (state self.old).last ≡ None →
+            Asks (state self.old) (state self.new) result }
         ensures in_hand { (state self.old).last ≡ None → (state self.new).current ≡ None }
 
-        // No more records are given than bytes may come, and both mates are in the source's encoding.
+        // No more records are given than bytes may come, and both mates are in the encoding of the
+        // source.
         ensures within { (state self.new).forward.given ≤ (state self.new).most_bytes }
-        ensures encoding { (state self.old).last ≡ None → IfOk result (λ o. IfSome o (λ m. m.forward.encoding ≡ (state self.old).encoding)) };
+        ensures encoding { (state self.old).last ≡ None →
+            IfOk result (λ o. IfSome o (λ m. m.forward.encoding ≡ (state self.old).encoding)) };
 }
 
 impl<F: Feed, G: Feed> PairReader for PairSource<F, G> {

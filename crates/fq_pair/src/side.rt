@@ -4,7 +4,7 @@ ghost use Rattle.std.specs.Prelude.{Some};
 
 use std::fmt;
 
-/// The side of a mate: the input that it is read from, or its turn where both are read from one.
+/// The side of a mate: its input, or its position in the pair if both mates come from one input.
 #[derive(Clone, Copy, Debug, PartialEq, Eq)]
 pub enum Side {
     /// The first read of a pair.

@@ -15,8 +15,8 @@ use fq_trim::{Kept, Steps};
 use std::alloc::Global;
 use std::marker::Model;
 
-/// What is to be written of trimmed pairs: four texts of records, the trim log, and the counts. Pairs are added one
-/// after the other, and the texts are used again after [`clear`](Texts::clear).
+/// What a run writes for trimmed pairs: four texts of records, the trim log, and the counts. Pairs
+/// are added in order, and the memory is reused after [`clear`](Texts::clear).
 #[derive(Drop)]
 pub struct Texts {
     forward_paired: Vec<u8>,
@@ -42,13 +42,15 @@ impl Model for Texts {
       counts = t.counts;
     } };
 
-    ghost invariant = { λ t. t.counts.both + t.counts.forward_only + t.counts.reverse_only + t.counts.dropped ≤ t.counts.pairs };
+    ghost invariant = { λ t.
+        t.counts.both + t.counts.forward_only + t.counts.reverse_only + t.counts.dropped
+        ≤ t.counts.pairs };
 }
 
 impl Texts {
     ghost use Rattle.fq_pair.specs.Outputs.{Outputs, no_texts, joined, texts_of, text_of};
 
-    /// Empty texts, and counts of 0. It takes no memory.
+    /// Makes empty texts, and counts of 0. It allocates nothing.
     pub fn new(alloc: Global) -> Texts
         ensures { result ≡ no_texts }
     {
@@ -62,27 +64,31 @@ impl Texts {
         }
     }
 
-    /// Adds what is to be written of one pair: the records of the mates that survive the steps, a log line for each
-    /// mate, and the counts. Memory is asked for before anything is written, and a refusal leaves all as it was. The
-    /// condition is that the count of pairs can still grow.
+    /// Adds one pair: the records of the mates that survive the steps, a log line for each mate,
+    /// and the counts. Memory is reserved before anything is written, so if memory is refused,
+    /// nothing has changed. The count of pairs must be below `u64::MAX`.
     ///
-    /// The record of a mate goes to the paired text of its side where the other mate survives too, else to its
-    /// unpaired text. Where TOPHRED33 is in the list, quality bytes are written at offset 33.
+    /// The record of a mate goes to the paired text of its side if the other mate also survives,
+    /// and otherwise to the unpaired text. If TOPHRED33 is among the steps, quality bytes are
+    /// written at offset 33.
     ///
-    /// A log line is `name length start last end`, the fields of the trim log of the Trimmomatic manual: the name that
-    /// [`name_of`](crate::name_of) gives, the bases kept, the bases removed in front, `start + length`, and the bases
-    /// removed behind. A dropped read has four zeros. The forward line comes first.
+    /// A log line is `name length start last end`, the fields of the trim log in the Trimmomatic
+    /// manual: the name that [`name_of`](crate::name_of) returns, the bases kept, the bases removed
+    /// at the front, `start + length`, and the bases removed at the end. A dropped read has four
+    /// zeros. The forward line comes first.
     pub fn add(&mut self, pair: PairView<'_>, steps: &Steps) -> Result<(), OutOfMemory>
         requires { self.old.counts.pairs < u64.MAX }
-        ensures ok { OnOk result (self.new ≡ joined self.old (texts_of steps.now (mates_in pair.entry.forward pair.entry.reverse ∷ []))) }
+        ensures ok { OnOk result
+            (self.new ≡ joined self.old
+            (texts_of steps.now (mates_in pair.entry.forward pair.entry.reverse ∷ []))) }
         ensures err { OnErr result (self.new ≡ self.old) }
     {
         let names = pair.name_lengths();
         self.add_named(pair, names, steps)
     }
 
-    /// Adds the same, where it is known already how long the names of the mates are. So a source that has compared them
-    /// spares the search.
+    /// Adds one pair as [`add`](Texts::add) does. The caller already knows the lengths of the
+    /// names, so they are not searched for.
     #[inline(always)]
     pub fn add_named(
         &mut self,
@@ -92,7 +98,9 @@ impl Texts {
     ) -> Result<(), OutOfMemory>
         requires room { self.old.counts.pairs < u64.MAX }
         requires names { names ≡ name_lengths (mates_in pair.forward pair.reverse) }
-        ensures ok { OnOk result (self.new ≡ joined self.old (texts_of steps.now (mates_in pair.entry.forward pair.entry.reverse ∷ []))) }
+        ensures ok { OnOk result
+            (self.new ≡ joined self.old
+            (texts_of steps.now (mates_in pair.entry.forward pair.entry.reverse ∷ []))) }
         ensures err { OnErr result (self.new ≡ self.old) }
     {
         let forward = trimmed(&pair.forward, steps);
@@ -100,9 +108,9 @@ impl Texts {
         self.add_kept(pair, names, steps, forward, reverse)
     }
 
-    /// Adds the same, where it is known already what the steps keep of each mate. So who needs to know that too, as one
-    /// who counts the pair, trims it once.
-    // Two functions call it, so without this hint `add` would cost a call more.
+    /// Adds one pair as [`add`](Texts::add) does. The caller already knows what the steps keep of
+    /// each mate, so a caller that also counts bases trims the pair once.
+    // Two functions call this one, so without the hint `add` would cost one more call.
     #[inline(always)]
     pub fn add_kept(
         &mut self,
@@ -116,7 +124,9 @@ impl Texts {
         requires names { names ≡ name_lengths (mates_in pair.forward pair.reverse) }
         requires forward { kept_places steps.now pair.forward ≡ places_of forward }
         requires reverse { kept_places steps.now pair.reverse ≡ places_of reverse }
-        ensures ok { OnOk result (self.new ≡ joined self.old (texts_of steps.now (mates_in pair.entry.forward pair.entry.reverse ∷ []))) }
+        ensures ok { OnOk result
+            (self.new ≡ joined self.old
+            (texts_of steps.now (mates_in pair.entry.forward pair.entry.reverse ∷ []))) }
         ensures err { OnErr result (self.new ≡ self.old) }
     {
         let forward_title = pair.forward.title();
@@ -154,7 +164,7 @@ impl Texts {
         Ok(())
     }
 
-    /// One of the texts.
+    /// Returns one of the texts.
     pub fn text(&self, out: Out) -> &[u8]
         ensures { result.now ≡ text_of out self.now }
     {
@@ -167,14 +177,14 @@ impl Texts {
         }
     }
 
-    /// How many pairs were added, and what became of them.
+    /// How many pairs were added, and in how many of them which mates survive.
     pub fn counts(&self) -> Counts
         ensures { result ≡ self.now.counts }
     {
         self.counts
     }
 
-    /// Empties the texts and sets the counts to 0. The texts keep their memory for the next pairs.
+    /// Empties the texts, whose memory is kept for the next pairs, and sets the counts to 0.
     pub fn clear(&mut self)
         ensures { self.new ≡ no_texts }
     {
@@ -187,8 +197,8 @@ impl Texts {
     }
 }
 
-// The bases of a read that the steps keep.
-// Without this hint, here and below, the whole view would be copied to memory on the way.
+// What the steps keep of a read.
+// Without this hint, here and below, the compiler would copy the whole view to memory.
 #[inline(always)]
 fn trimmed(read: &ReadView<'_>, steps: &Steps) -> Option<Kept>
     requires { IsLawful read.now }
@@ -198,21 +208,24 @@ fn trimmed(read: &ReadView<'_>, steps: &Steps) -> Option<Kept>
     steps.trim(read.encoding(), read.qual())
 }
 
-// Makes room for the record of the kept bases of a read.
+// Reserves room for the record of the kept bases of a read.
 #[inline(always)]
 fn make_room(out: &mut Vec<u8>, read: &ReadView<'_>, kept: Kept) -> Result<(), OutOfMemory>
     requires { IsWithin (length read.now.seq) (Some kept) }
     ensures items { out.new.items ≡ out.old.items }
-    ensures room { OnOk result (vec_len out.new + (length read.now.title + 2 * (kept.stop - kept.start) + 6) ≤ vec_capacity out.new) }
+    ensures room { OnOk result
+        (vec_len out.new + (length read.now.title + 2 * (kept.stop - kept.start) + 6)
+        ≤ vec_capacity out.new) }
 {
     out.reserve(read.title().len() + 2 * (kept.stop - kept.start) + 6)
 }
 
-// Appends the record of the kept bases of a read, for which the text has room.
+// Appends the record of the kept bases of a read. The text must have room.
 #[inline(always)]
 fn put_kept(out: &mut Vec<u8>, read: &ReadView<'_>, kept: Kept, recode: bool)
     requires within { IsWithin (length read.now.seq) (Some kept) }
-    requires room { vec_len out.old + (length read.now.title + 2 * (kept.stop - kept.start) + 6) ≤ vec_capacity out.old }
+    requires room { vec_len out.old + (length read.now.title + 2 * (kept.stop - kept.start) + 6)
+        ≤ vec_capacity out.old }
     ensures { out.new.items ≡ out.old.items ++ record_at recode (places_of (Some kept)) read.now }
 {
     let title = read.title();

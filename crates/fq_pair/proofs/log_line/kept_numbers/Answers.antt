@@ -4,7 +4,7 @@ use Rattle.fq_pair.specs.Outputs.{IsWithin, places_of, log_numbers}
 use Rattle.fq_pair.proofs.TextLemmas.{log_numbers-places}
 use Rattle.fq_pair.proofs.log_line.kept_numbers.Goals as goal
 
--- the numbers of a read of which bases are kept
+-- the numbers of a read some of whose bases are kept
 numbers_of_kept : (n : ℕ) (k : Kept) → IsWithin n (Some k) → (k.stop - k.start) ∷ k.start ∷ k.stop ∷ (n - k.stop) ∷ [] ≡ log_numbers n (places_of (Some k))
 numbers_of_kept n k within =
     let order = k.some in

@@ -1,4 +1,4 @@
--- The forward mate is kept, and the record in hand is its reverse one.
+-- The forward mate is kept, and the current record is its reverse mate.
 use Rattle.std.proofs.Common.{true, false, Some, Ok, ap, refl, is_some}
 use Rattle.std.proofs.lemmas.Result.{err_from_is_err_and}
 use Rattle.fq_pair.proofs.SourceLaws.{of_current, of_pair, of_titles}

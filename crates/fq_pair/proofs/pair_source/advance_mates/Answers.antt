@@ -1,4 +1,4 @@
--- The records in hand of both sources are those in front of the two texts.
+-- The current records of both sources are the first ones of the two texts.
 use Rattle.std.proofs.Common.{true, Ok, ap, refl, is_some}
 use Rattle.fq_pair.proofs.SourceLaws.{two_given, of_current, of_pair, of_titles}
 use Rattle.fq_pair.proofs.pair_source.advance_mates.Goals as goal

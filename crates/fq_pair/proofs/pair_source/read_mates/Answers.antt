@@ -1,4 +1,4 @@
--- The two records of a pair are those in front of the two texts.
+-- The two records of a pair are the first ones of the two texts.
 use Rattle.std.proofs.Common.{false, sym, rules, is_some}
 use Rattle.fq_pair.proofs.SourceLaws.{two_given}
 use Rattle.fq_pair.proofs.pair_source.read_mates.Goals as goal

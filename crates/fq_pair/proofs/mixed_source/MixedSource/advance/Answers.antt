@@ -1,4 +1,4 @@
--- Where the answer is that there is a further pair, it is in hand.
+-- If there is a further pair, it is the current one.
 use Rattle.std.proofs.Common.{sym, ◌∙◌}
 use Rattle.fq_pair.proofs.SourceLaws.{is_pair}
 use Rattle.fq_pair.proofs.mixed_source.MixedSource.advance.Goals as goal

@@ -1,4 +1,4 @@
--- The answer of a source that goes on, and the pair that is left in hand.
+-- What a source that goes on returns, and the current pair.
 use Rattle.fq_pair.proofs.AskLemmas.{advances_interleaved, encoded_interleaved}
 use Rattle.fq_pair.proofs.reader.MixedSourcePairReader.advance_pair.Goals as goal
 

@@ -1,4 +1,4 @@
--- The answer of a source that goes on.
+-- What a source that goes on returns.
 use Rattle.fq_pair.proofs.AskLemmas.{asks}
 use Rattle.fq_pair.proofs.reader.PairSourcePairReader.next_pair.Goals as goal
 
