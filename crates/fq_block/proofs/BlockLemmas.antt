@@ -1,4 +1,4 @@
--- The pairs of a block that is packed, and of one with a pair more.
+-- The pairs of a packed block, and of one with one more pair.
 use Rattle.std.proofs.Common.{◌≡◌, ℕ, zero, suc, ◌+◌, ◌<◌, ◌≤◌, List, [], ◌∷◌, ◌++◌, length, drop, slice_index, slice_get, Some, option_map, refl, sym, ap, ◌∙◌, subst, append_assoc, length-append, zero-add, arith}
 use Rattle.std.proofs.Math.Seq.{drop-append_seam}
 use Rattle.std.proofs.lemmas.List.{append-nil, length-map, length-drop, length_push}
@@ -66,7 +66,7 @@ module _ (encoding : Encoding) where
     pub length-pairs_at : length (pairs_at encoding bytes starts) ≡ length starts
     length-pairs_at = length-map starts (λ start. pair_in encoding (drop start bytes))
 
-    -- a pair stands where place i says
+    -- at place i a pair begins
     pub held_at : (i : ℕ) → i < length starts → HoldsPair encoding (drop (slice_index starts i) bytes)
     held_at i within =
         let ms = pairs_at encoding bytes starts in
@@ -97,7 +97,7 @@ module _ (encoding : Encoding) where
           ∙ ap (λ n. starts_from 0 ms ++ n ∷ []) (ap length is.packed ∙ sym (zero-add (length (packed_pairs ms))))
           ∙ sym (starts_from-append 0 ms m)
 
-      -- a pair more
+      -- one more pair
       pub pairs_at-pushed : pairs_at encoding (bytes ++ packed_pair m) (starts ++ length bytes ∷ []) ≡ pairs_at encoding bytes starts ++ m ∷ []
       pairs_at-pushed = pairs_are (bytes ++ packed_pair m) (starts ++ length bytes ∷ []) (pairs_at encoding bytes starts ++ m ∷ []) all_fit bytes_more starts_more
 

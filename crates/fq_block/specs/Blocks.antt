@@ -16,13 +16,13 @@ pub record Numbered : Type 0 where
 abbrev pub IsOf : Encoding → Mates → Type 0
 IsOf encoding m = (m.forward.encoding ≡ encoding) × (m.reverse.encoding ≡ encoding)
 
--- How a block keeps its pairs: their bytes, where each begins, and how long their names are.
+-- How a block keeps its pairs: their bytes, where each begins, and the lengths of its names.
 
 -- the pairs that begin at these places
 abbrev pub pairs_at : Encoding → List ℕ → List ℕ → List Mates
 pairs_at encoding bytes starts = map (λ start. pair_in encoding (drop start bytes)) starts
 
--- where pairs begin whose first begins at n
+-- where pairs begin if the first begins at n
 abbrev pub starts_from : ℕ → List Mates → List ℕ
 starts_from n [] = []
 starts_from n (m ∷ ms) = n ∷ starts_from (n + length (packed_pair m)) ms
@@ -37,7 +37,7 @@ abbrev pub AllFit : Encoding → List Mates → Type 0
 AllFit encoding [] = Unit {0}
 AllFit encoding (m ∷ ms) = Fits encoding m × AllFit encoding ms
 
--- the bytes are the packing of the pairs that begin there, and of nothing else
+-- the bytes are the packing of the pairs that begin at these places, and nothing else
 pub record IsPacked (encoding : Encoding) (bytes starts : List ℕ) : Type 0 where
   pub packed : bytes ≡ packed_pairs (pairs_at encoding bytes starts)
   pub placed : starts ≡ starts_from 0 (pairs_at encoding bytes starts)

@@ -11,13 +11,14 @@ packed_length n = to_be_bytes w32 n
 
 -- a read: the length of its title, its number of bases, and then title, sequence and quality
 abbrev pub packed_read : Read → List ℕ
-packed_read read = packed_length (length read.title) ++ packed_length (length read.seq) ++ read.title ++ read.seq ++ read.qual
+packed_read read = packed_length (length read.title) ++ packed_length (length read.seq)
+    ++ read.title ++ read.seq ++ read.qual
 
 -- a pair: its forward read, then its reverse read
 abbrev pub packed_pair : Mates → List ℕ
 packed_pair m = packed_read m.forward ++ packed_read m.reverse
 
--- pairs, one behind the other
+-- pairs, one after the other
 abbrev pub packed_pairs : List Mates → List ℕ
 packed_pairs pairs = flat_map packed_pair pairs
 
@@ -31,7 +32,8 @@ room_of read = length read.title + 2 * length read.seq + 8
 unfoldable pub length_in : List ℕ → ℕ
 length_in packed = from_be_bytes w32 (take 4 packed)
 
--- how long the title is of the read at the front, how many bases it has, and its parts with what stands behind them
+-- the title length and the number of bases of the read at the front, and its parts with what comes
+-- after them
 abbrev pub title_len_in : List ℕ → ℕ
 title_len_in packed = length_in packed
 
@@ -47,22 +49,24 @@ read_in encoding packed = record {
   encoding = encoding;
   title = take (title_len_in packed) (parts_in packed);
   seq = take (bases_in packed) (drop (title_len_in packed) (parts_in packed));
-  qual = take (bases_in packed) (drop (bases_in packed) (drop (title_len_in packed) (parts_in packed)));
+  qual = take (bases_in packed)
+      (drop (bases_in packed) (drop (title_len_in packed) (parts_in packed)));
 }
 
--- what stands behind it
+-- what comes after it
 abbrev pub behind_read : List ℕ → List ℕ
-behind_read packed = drop (bases_in packed) (drop (bases_in packed) (drop (title_len_in packed) (parts_in packed)))
+behind_read packed = drop (bases_in packed)
+    (drop (bases_in packed) (drop (title_len_in packed) (parts_in packed)))
 
 -- the pair at the front
 abbrev pub pair_in : Encoding → List ℕ → Mates
 pair_in encoding packed = mates_in (read_in encoding packed) (read_in encoding (behind_read packed))
 
--- a read stands there, whole and lawful
+-- a whole lawful read is at the front
 pub record HoldsRead (encoding : Encoding) (packed : List ℕ) : Type 0 where
   pub whole : 8 + title_len_in packed + bases_in packed + bases_in packed ≤ length packed
   pub lawful : IsLawful (read_in encoding packed)
 
--- a pair stands there
+-- a pair is at the front
 abbrev pub HoldsPair : Encoding → List ℕ → Type 0
 HoldsPair encoding packed = HoldsRead encoding packed × HoldsRead encoding (behind_read packed)

@@ -1,4 +1,4 @@
-//! A block of pairs.
+//! Blocks of pairs.
 
 ghost use Rattle.std.specs.Prelude.{◌≡◌, ◌<◌, ◌≤◌, ◌++◌, ◌∷◌, [], Some, length, slice_get, IfSome, OnOk, OnErr};
 ghost use Rattle.fq_pair.specs.Mates.{mates_in, name_lengths};
@@ -11,8 +11,9 @@ use std::marker::Model;
 
 /// A number, an encoding, and at most 65,536 pairs, whose reads are all in that encoding.
 ///
-/// The pairs lie in one buffer, one behind the other, and where each begins is kept beside it. Contracts see the number,
-/// the encoding and the list of the pairs.
+/// The pairs are packed into one buffer, one after the other. Two more buffers hold where each pair
+/// begins and the lengths of its names. Contracts see the number, the encoding and the list of the
+/// pairs.
 #[derive(Drop)]
 pub struct Block {
     number: u64,
@@ -20,7 +21,7 @@ pub struct Block {
     bytes: Vec<u8>,
     // Where each pair begins in `bytes`.
     starts: Vec<usize>,
-    // How long the names of each pair are.
+    // The lengths of the names of each pair.
     names: Vec<NameLengths>,
 }
 
@@ -44,7 +45,7 @@ impl Block {
     ghost use Rattle.fq_block.specs.Packing.{packed_pairs};
     ghost use Rattle.fq_block.specs.Blocks.{Numbered, IsOf};
 
-    /// A block of this number with no pairs. It takes no memory until a pair is pushed.
+    /// Makes a block with this number and no pairs. It allocates nothing until a pair is pushed.
     pub fn new(alloc: Global, number: u64, encoding: Encoding) -> Block
         ensures { result ≡ record { number = number; encoding = encoding; pairs = [] } }
     {
@@ -57,40 +58,47 @@ impl Block {
         }
     }
 
-    /// Appends a copy of a pair. Memory is asked for before anything is written, and a refusal leaves the block as it was.
+    /// Appends a copy of a pair. Memory is reserved before anything is written, so if memory is
+    /// refused, the block has not changed.
     ///
-    /// The conditions are that the pair is in the block's encoding, and that the block has fewer than 65,536 pairs.
+    /// The pair must be in the encoding of the block, which must have fewer than 65,536 pairs.
     pub fn push(&mut self, pair: &Pair) -> Result<(), OutOfMemory>
         requires encoding { IsOf self.old.encoding pair.now }
         requires room { length self.old.pairs < 65536 }
-        ensures ok { OnOk result (self.new ≡ record self.old { pairs = self.old.pairs ++ pair.now ∷ [] }) }
+        ensures ok { OnOk result
+            (self.new ≡ record self.old { pairs = self.old.pairs ++ pair.now ∷ [] }) }
         ensures err { OnErr result (self.new ≡ self.old) }
     {
         let lent = pair.view();
         self.push_view(&lent)
     }
 
-    /// Appends a copy of a pair that is lent, as [`push`](Block::push) does. The conditions are the same.
+    /// Appends a copy of a borrowed pair, as [`push`](Block::push) does and on the same conditions.
     pub fn push_view(&mut self, pair: &PairView<'_>) -> Result<(), OutOfMemory>
         requires encoding { IsOf self.old.encoding (mates_in pair.now.forward pair.now.reverse) }
         requires room { length self.old.pairs < 65536 }
-        ensures ok { OnOk result (self.new ≡ record self.old { pairs = self.old.pairs ++ mates_in pair.now.forward pair.now.reverse ∷ [] }) }
+        ensures ok { OnOk result (self.new ≡ record self.old {
+          pairs = self.old.pairs ++ mates_in pair.now.forward pair.now.reverse ∷ [];
+        }) }
         ensures err { OnErr result (self.new ≡ self.old) }
     {
         self.push_named(pair, pair.name_lengths())
     }
 
-    /// Appends a copy of a pair that is lent, where it is known already how long its names are. So a source that has compared
-    /// them spares the search. Where the block has grown before, and has room for the pair, no memory is asked for.
+    /// Appends a copy of a borrowed pair as [`push`](Block::push) does. The caller already knows
+    /// the lengths of the names, so they are not searched for. If the block has grown before and
+    /// has room for the pair, nothing is allocated.
     ///
-    /// The conditions are that both reads are in the block's encoding, that the block has fewer than 65,536 pairs, and that
-    /// these are the lengths.
+    /// Both reads must be in the encoding of the block, which must have fewer than 65,536 pairs,
+    /// and `names` must be the lengths of their names.
     #[inline(always)]
     pub fn push_named(&mut self, pair: &PairView<'_>, names: NameLengths) -> Result<(), OutOfMemory>
         requires encoding { IsOf self.old.encoding (mates_in pair.now.forward pair.now.reverse) }
         requires room { length self.old.pairs < 65536 }
         requires names { names ≡ name_lengths (mates_in pair.now.forward pair.now.reverse) }
-        ensures ok { OnOk result (self.new ≡ record self.old { pairs = self.old.pairs ++ mates_in pair.now.forward pair.now.reverse ∷ [] }) }
+        ensures ok { OnOk result (self.new ≡ record self.old {
+          pairs = self.old.pairs ++ mates_in pair.now.forward pair.now.reverse ∷ [];
+        }) }
         ensures err { OnErr result (self.new ≡ self.old) }
     {
         append(
@@ -103,7 +111,7 @@ impl Block {
         Ok(())
     }
 
-    /// How many pairs it has.
+    /// How many pairs the block has.
     pub fn len(&self) -> usize
         ensures len { result ≡ length self.now.pairs }
         ensures limit { result ≤ 65536 }
@@ -111,29 +119,29 @@ impl Block {
         self.starts.len()
     }
 
-    /// Whether it has no pairs.
+    /// Whether the block has no pairs.
     pub fn is_empty(&self) -> bool
         ensures { result ≡ (length self.now.pairs == 0) }
     {
         self.starts.is_empty()
     }
 
-    /// Its place among the blocks of a run, from 0.
+    /// The position of the block among the blocks of a run, from 0.
     pub fn number(&self) -> u64
         ensures { result ≡ self.now.number }
     {
         self.number
     }
 
-    /// The encoding of all its reads.
+    /// The encoding of all reads of the block.
     pub fn encoding(&self) -> Encoding
         ensures { result ≡ self.now.encoding }
     {
         self.encoding
     }
 
-    /// The pair at place `i`, from 0 in the order of the pushes, lent out of the block's buffer. Nothing is copied. The
-    /// condition is that `i` is less than [`len`](Block::len).
+    /// Lends pair `i`, counted from 0 in the order of the pushes, out of the buffer of the block.
+    /// Nothing is copied. `i` must be less than [`len`](Block::len).
     pub fn pair(&self, i: usize) -> PairView<'_>
         requires { i < length self.now.pairs }
         ensures { slice_get self.now.pairs i ≡ Some (mates_in result.forward result.reverse) }
@@ -142,7 +150,7 @@ impl Block {
         unpack_pair(self.encoding, packed)
     }
 
-    /// How long the names of the pair at place `i` are, in bytes. They are not searched for. The condition is that `i` is less
+    /// Returns the lengths in bytes of the names of pair `i`, without a search. `i` must be less
     /// than [`len`](Block::len).
     pub fn names(&self, i: usize) -> NameLengths
         requires { i < length self.now.pairs }
@@ -151,16 +159,18 @@ impl Block {
         self.names[i]
     }
 
-    /// The bytes of its pairs, one pair behind the other, each its forward read and then its reverse read. A read is the
-    /// length of its title in bytes and its number of bases, four bytes each, most significant byte first, and then the
-    /// title, the sequence and the quality. Number and encoding are not in these bytes.
+    /// The bytes of the pairs, one pair after the other, each with its forward read first. A read
+    /// is the length of its title in bytes and its number of bases, four bytes each, most
+    /// significant byte first, and then the title, the sequence and the quality. The number and the
+    /// encoding of the block are not among these bytes.
     pub fn packed(&self) -> &[u8]
         ensures { result.now ≡ packed_pairs self.now.pairs }
     {
         &self.bytes
     }
 
-    /// Takes all pairs out and gives it another number. It keeps its encoding, and its memory for the next pairs.
+    /// Removes all pairs and gives the block another number. It keeps its encoding, and its memory
+    /// for the next pairs.
     pub fn reset(&mut self, number: u64)
         ensures { self.new ≡ record { number = number; encoding = self.old.encoding; pairs = [] } }
     {

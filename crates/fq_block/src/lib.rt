@@ -1,8 +1,8 @@
-//! Numbered blocks of pairs, packed into one buffer: what a run deals to its workers.
+//! Numbered blocks of pairs, packed into one buffer, in which a run deals pairs to its workers.
 //!
-//! A [`Block`] takes pairs by [`push`](Block::push), or lent ones by [`push_view`](Block::push_view), and lends them by
-//! [`pair`](Block::pair) out of its buffer, without a copy. It is emptied by [`reset`](Block::reset) and used again, with the
-//! memory that it has.
+//! A run appends pairs to a [`Block`] by [`push_named`](Block::push_named), and
+//! [`pair`](Block::pair) lends them out of its buffer without a copy. [`reset`](Block::reset)
+//! empties a block, which is then reused with its memory.
 #![tactic(auto)]
 
 mod block;

@@ -1,4 +1,4 @@
-//! Reads as bytes, and back.
+//! Packs reads into bytes, and unpacks them.
 
 ghost use Rattle.std.specs.Prelude.{◌≡◌, ◌+◌, ◌≤◌, ◌^◌, ◌<◌, ◌++◌, ◌∷◌, [], Some, length, drop, slice_get, OnOk, OnErr, vec_len, vec_capacity};
 ghost use Rattle.fq_text.specs.Grammar.{IsLawful};
@@ -9,8 +9,8 @@ ghost use Rattle.fq_block.specs.Blocks.{pairs_at, IsPacked};
 use fq_pair::{NameLengths, PairView};
 use fq_text::{Encoding, OutOfMemory, ReadView};
 
-/// Appends a pair, the place where it begins and the lengths of its names. Memory is asked for first, and a refusal leaves all as it
-/// was.
+/// Appends a pair, the offset where it begins and the lengths of its names. Memory is reserved
+/// first, so if memory is refused, nothing has changed.
 #[inline(always)]
 pub(crate) fn append(
     bytes: &mut Vec<u8>,
@@ -19,7 +19,9 @@ pub(crate) fn append(
     pair: &PairView<'_>,
     lengths: NameLengths,
 ) -> Result<(), OutOfMemory>
-    ensures bytes { OnOk result (bytes.new.items ≡ bytes.old.items ++ packed_pair (mates_in pair.now.forward pair.now.reverse)) }
+    ensures bytes { OnOk result
+        (bytes.new.items ≡ bytes.old.items
+        ++ packed_pair (mates_in pair.now.forward pair.now.reverse)) }
     ensures starts { OnOk result (starts.new.items ≡ starts.old.items ++ vec_len bytes.old ∷ []) }
     ensures names { OnOk result (names.new.items ≡ names.old.items ++ lengths ∷ []) }
     ensures err_bytes { OnErr result (bytes.new.items ≡ bytes.old.items) }
@@ -37,7 +39,7 @@ pub(crate) fn append(
     Ok(())
 }
 
-// How many bytes a pair takes.
+// How many bytes a packed pair takes.
 fn packed_len(pair: &PairView<'_>) -> usize
     ensures len { result ≡ room_of pair.now.forward + room_of pair.now.reverse }
     ensures forward { IsLawful pair.now.forward }
@@ -46,7 +48,7 @@ fn packed_len(pair: &PairView<'_>) -> usize
     read_len(&pair.forward) + read_len(&pair.reverse)
 }
 
-// How many bytes a read takes.
+// How many bytes a packed read takes.
 fn read_len(read: &ReadView<'_>) -> usize
     ensures len { result ≡ room_of read.now }
     ensures small { result < 2 ^ 23 }
@@ -55,17 +57,19 @@ fn read_len(read: &ReadView<'_>) -> usize
     read.title().len() + 2 * read.seq().len() + 8
 }
 
-// Appends a pair to bytes that have room for it.
+// Appends a pair. `out` must have room.
 fn append_pair(out: &mut Vec<u8>, pair: &PairView<'_>)
-    requires { vec_len out.old + (room_of pair.now.forward + room_of pair.now.reverse) ≤ vec_capacity out.old }
-    ensures { out.new.items ≡ out.old.items ++ packed_pair (mates_in pair.now.forward pair.now.reverse) }
+    requires { vec_len out.old + (room_of pair.now.forward + room_of pair.now.reverse)
+        ≤ vec_capacity out.old }
+    ensures { out.new.items ≡ out.old.items
+        ++ packed_pair (mates_in pair.now.forward pair.now.reverse) }
 {
     append_read(out, &pair.forward);
     append_read(out, &pair.reverse);
 }
 
-// Appends a read, for which there is room.
-// Without this hint the whole view would be copied to memory on the way.
+// Appends a read. `out` must have room.
+// Without this hint the compiler would copy the whole view to memory.
 #[inline(always)]
 fn append_read(out: &mut Vec<u8>, read: &ReadView<'_>)
     requires { vec_len out.old + room_of read.now ≤ vec_capacity out.old }
@@ -76,14 +80,17 @@ fn append_read(out: &mut Vec<u8>, read: &ReadView<'_>)
     append_parts(out, read.title(), read.seq(), read.qual());
 }
 
-// Appends the parts of a read, for which there is room.
+// Appends the parts of a read. `out` must have room.
 fn append_parts(out: &mut Vec<u8>, title: &[u8], seq: &[u8], qual: &[u8])
     requires title { length title.now < 2 ^ 32 }
     requires bases { length seq.now < 2 ^ 32 }
-    requires room { vec_len out.old + (length title.now + length seq.now + length qual.now + 8) ≤ vec_capacity out.old }
+    requires room { vec_len out.old + (length title.now + length seq.now + length qual.now + 8)
+        ≤ vec_capacity out.old }
     ensures items { out.new.items ≡ out.old.items
-        ++ (packed_length (length title.now) ++ packed_length (length seq.now) ++ title.now ++ seq.now ++ qual.now) }
-    ensures len { vec_len out.new ≡ vec_len out.old + (length title.now + length seq.now + length qual.now + 8) }
+        ++ (packed_length (length title.now) ++ packed_length (length seq.now)
+        ++ title.now ++ seq.now ++ qual.now) }
+    ensures len { vec_len out.new
+        ≡ vec_len out.old + (length title.now + length seq.now + length qual.now + 8) }
     ensures capacity { vec_capacity out.old ≤ vec_capacity out.new }
 {
     append_lengths(out, title.len(), seq.len());
@@ -92,13 +99,14 @@ fn append_parts(out: &mut Vec<u8>, title: &[u8], seq: &[u8], qual: &[u8])
     out.extend_from_slice(qual).unwrap();
 }
 
-// Appends two lengths, four bytes each, for which there is room.
+// Appends two lengths, four bytes each. `out` must have room.
 #[tactic(auto, unfolding(crate::specs::Packing::packed_length))]
 fn append_lengths(out: &mut Vec<u8>, title_len: usize, bases: usize)
     requires title { title_len < 2 ^ 32 }
     requires bases { bases < 2 ^ 32 }
     requires room { vec_len out.old + 8 ≤ vec_capacity out.old }
-    ensures items { out.new.items ≡ out.old.items ++ (packed_length title_len ++ packed_length bases) }
+    ensures items { out.new.items
+        ≡ out.old.items ++ (packed_length title_len ++ packed_length bases) }
     ensures len { vec_len out.new ≡ vec_len out.old + 8 }
     ensures capacity { vec_capacity out.old ≤ vec_capacity out.new }
 {
@@ -107,7 +115,7 @@ fn append_lengths(out: &mut Vec<u8>, title_len: usize, bases: usize)
     out.extend_from_slice(&[a, b, c, d, e, f, g, h]).unwrap();
 }
 
-/// The bytes from the pair at place `i` on.
+/// Returns the bytes from pair `i` on.
 pub(crate) fn packed_at<'a>(
     encoding: Encoding,
     bytes: &'a [u8],
@@ -117,13 +125,14 @@ pub(crate) fn packed_at<'a>(
     requires packed { IsPacked encoding bytes.now starts.now }
     requires within { i < length starts.now }
     ensures held { HoldsPair encoding result.now }
-    ensures pair { slice_get (pairs_at encoding bytes.now starts.now) i ≡ Some (pair_in encoding result.now) }
+    ensures pair { slice_get (pairs_at encoding bytes.now starts.now) i
+        ≡ Some (pair_in encoding result.now) }
 {
     let (_, packed) = bytes.split_at(starts[i]);
     packed
 }
 
-/// The pair at the front of packed bytes.
+/// Unpacks the pair at the front of these bytes.
 pub(crate) fn unpack_pair(encoding: Encoding, packed: &[u8]) -> PairView<'_>
     requires { HoldsPair encoding packed.now }
     ensures { mates_in result.forward result.reverse ≡ pair_in encoding packed.now }
@@ -133,7 +142,7 @@ pub(crate) fn unpack_pair(encoding: Encoding, packed: &[u8]) -> PairView<'_>
     PairView { forward, reverse }
 }
 
-// The read at the front of packed bytes, and the bytes behind it.
+// Unpacks the read at the front of these bytes, and returns the bytes after it too.
 fn unpack_read(encoding: Encoding, packed: &[u8]) -> (ReadView<'_>, &[u8])
     requires { HoldsRead encoding packed.now }
     ensures read { result.0 ≡ read_in encoding packed.now }
@@ -147,7 +156,7 @@ fn unpack_read(encoding: Encoding, packed: &[u8]) -> (ReadView<'_>, &[u8])
     (ReadView::new(encoding, title, seq, qual), behind)
 }
 
-// The length in the first four bytes, and the bytes behind them.
+// Returns the length in the first four bytes, and the bytes after them.
 #[tactic(auto, unfolding(crate::specs::Packing::length_in))]
 fn unpack_length(packed: &[u8]) -> (usize, &[u8])
     requires { 4 ≤ length packed.now }

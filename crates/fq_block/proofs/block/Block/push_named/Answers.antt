@@ -6,7 +6,7 @@ use Rattle.fq_block.specs.Blocks.{Numbered, Fits, IsPacked, AreNamed, pairs_at}
 use Rattle.fq_block.proofs.BlockLemmas.{length-pairs_at, pairs_at-pushed, IsPacked-pushed}
 use Rattle.fq_block.proofs.block.Block.push_named.Goals as goal
 
--- Behind the pushes.
+-- After the pushes.
 module _ (c : goal.In_ok-append) where
   abbrev pair_of : Mates
   pair_of = mates_in c.args.pair.now.forward c.args.pair.now.reverse
