@@ -9,7 +9,7 @@ use Rattle.fq_lane.specs.declared.slot.Slot.{Slot}
 use Rattle.fq_lane.specs.declared.slot.Slot.TheVariants.{Item, Mark}
 
 module _ {T : Type 0} where
-  -- nothing stands behind a mark
+  -- nothing comes after a mark
   abbrev EndsAtMark : List (Slot T) → Type 0
   EndsAtMark [] = Unit {0}
   EndsAtMark (Item x ∷ ss) = EndsAtMark ss
@@ -88,7 +88,7 @@ module _ {T : Type 0} where
   lane_is : (a b c d : List (Slot T)) → a ≡ b → c ≡ d → (let l : Lane T = record { sent = a; got = c } in l) ≡ (let l : Lane T = record { sent = b; got = d } in l)
   lane_is a b c d p q = cc
 
-  -- the slots of an open history, and one more behind them
+  -- the slots of an open history, and one more after them
   open_item : (l : History T) (x : T) → l.marked ≡ false → slots_of l.items l.marked ++ Item x ∷ [] ≡ slots_of (with_item l x).items (with_item l x).marked
   open_item l x unmarked =
       ap (λ b. slots_of l.items b ++ Item x ∷ []) unmarked ∙ slots-item l.items x ∙ ap (slots_of (l.items ++ x ∷ [])) (sym unmarked)

@@ -13,7 +13,7 @@ module _ {T : Type 0} where
   items-append (Item x ∷ ss) ts = ap (λ ys. x ∷ ys) (items-append ss ts)
   items-append (Mark ∷ ss) ts = items-append ss ts
 
-  -- slots of an item more, and of the mark behind
+  -- the slots after one more item, and after the mark
   pub slots-item : (xs : List T) (x : T) → slots_of xs false ++ Item x ∷ [] ≡ slots_of (xs ++ x ∷ []) false
   slots-item [] x = refl
   slots-item (y ∷ xs) x = ap (λ ss. Item y ∷ ss) (slots-item xs x)
@@ -27,7 +27,7 @@ module _ {T : Type 0} where
   items-slots [] true = refl
   items-slots (x ∷ xs) b = ap (λ ys. x ∷ ys) (items-slots xs b)
 
-  -- an item more
+  -- one more item
   pub item_items : (ss ts : List (Slot T)) (x : T) → IsHistory ss false → ts ≡ ss ++ Item x ∷ [] → items_of ts ≡ items_of ss ++ x ∷ []
   item_items ss ts x history is = ap items_of is ∙ items-append ss (Item x ∷ [])
 
@@ -35,7 +35,7 @@ module _ {T : Type 0} where
   item_history ss ts x history is =
       is ∙ ap (λ us. us ++ Item x ∷ []) history ∙ slots-item (items_of ss) x ∙ ap (λ ys. slots_of ys false) (sym (item_items ss ts x history is))
 
-  -- the mark behind the items
+  -- the mark after the items
   pub mark_items : (ss ts : List (Slot T)) → IsHistory ss false → ts ≡ ss ++ Mark ∷ [] → items_of ts ≡ items_of ss
   mark_items ss ts history is = ap items_of is ∙ items-append ss (Mark ∷ []) ∙ append-nil (items_of ss)
 
@@ -43,7 +43,7 @@ module _ {T : Type 0} where
   mark_history ss ts history is =
       is ∙ ap (λ us. us ++ Mark ∷ []) history ∙ slots-mark (items_of ss) ∙ ap (λ ys. slots_of ys true) (sym (mark_items ss ts history is))
 
-  -- nothing stands behind the mark
+  -- nothing comes after the mark
   whole : (xs ys : List T) (rest : List (Slot T)) → slots_of xs true ++ rest ≡ slots_of ys true → xs ≡ ys
   whole [] [] rest e = refl
   whole [] (y ∷ ys) rest e = cc

@@ -22,16 +22,18 @@ module _ {T A P : Type 0} where
 module _ {T A P : Type 0} where
   -- the items that were sent, and whether the mark was
   abbrev pub sender_history : Producer (Slot T) A P → Bool → History T
-  sender_history p marked = record { name = producer_name p; items = items_of (sent p); marked = marked }
+  sender_history p marked =
+      record { name = producer_name p; items = items_of (sent p); marked = marked }
 
   -- the items that were got, and whether the mark was
   abbrev pub receiver_history : Consumer (Slot T) A P → Bool → History T
-  receiver_history c marked = record { name = consumer_name c; items = items_of (received c); marked = marked }
+  receiver_history c marked =
+      record { name = consumer_name c; items = items_of (received c); marked = marked }
 
   -- the items that were ever sent, and the mark
   abbrev pub end_history : Finished (Slot T) A P → History T
   end_history f = record { name = finished_name f; items = items_of (all_sent f); marked = true }
 
-  -- items alone were sent, and a slot is kept for the mark
+  -- only items were sent, and a slot is kept for the mark
   abbrev pub IsOpen : Producer (Slot T) A P → Type 0
   IsOpen p = (0 < known_free p) × IsHistory (sent p) false

@@ -1,4 +1,4 @@
--- What goes through a lane's ring: items, and behind them one mark.
+-- What goes through the ring of a lane: items, and after them one mark.
 use Rattle.std.specs.Prelude.{◌≡◌, Bool, true, false, List, [], ◌∷◌}
 use Rattle.fq_lane.specs.declared.slot.Slot.{Slot}
 use Rattle.fq_lane.specs.declared.slot.Slot.TheVariants.{Item, Mark}
@@ -15,6 +15,6 @@ items_of [] = []
 items_of (Item x ∷ ss) = x ∷ items_of ss
 items_of (Mark ∷ ss) = items_of ss
 
--- items alone, and then the mark where b says so
+-- items alone, and then the mark if b says so
 abbrev pub IsHistory : {T : Type 0} → List (Slot T) → Bool → Type 0
 IsHistory ss b = ss ≡ slots_of (items_of ss) b

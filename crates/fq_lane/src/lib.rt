@@ -1,13 +1,16 @@
-//! Lanes: ordered delivery from one thread to another, with a proof of receipt.
+//! Lanes: queues that deliver items in order from one thread to another, with a proof of receipt.
 //!
-//! [`lane`] gives two ends, which can live on two threads. The sender [`Tx`] puts items in, and closes the lane by a mark
-//! behind the last one. The receiver [`Rx`] takes them out, in order, up to that mark. Closing gives an [`End`], and
-//! [`Rx::confirm`] with that end shows that what was got is what was sent: each item once, in order, and nothing else.
+//! [`lane`] returns two ends, which can live on two threads. The sender [`Tx`] puts items in, and
+//! closes the lane by a mark after the last one. The receiver [`Rx`] takes them out, in order, up
+//! to that mark. Closing returns an [`End`], and [`Rx::confirm`] with that end shows that what was
+//! got is what was sent: each item once, in order, and nothing else.
 //!
-//! Contracts see each end as a `History` of `specs/History.antt`: the lane's name, the items that went through this end, in order,
-//! and whether the mark did. While both ends run, neither knows the other's history.
+//! Contracts see each end as a `History` (`specs/History.antt`): the lane's name, the items that
+//! went through this end, in order, and whether the mark did. While both ends run, neither knows
+//! the history of the other.
 //!
-//! No contract says that a lane has room, that an item is there, or that a call that waits returns: tests show it.
+//! No contract says that a lane has room, that an item is there, or that a call that waits returns;
+//! tests check this.
 #![tactic(auto)]
 
 ghost use Rattle.std.specs.Prelude.{◌≡◌, ◌≤◌, false, [], IfOk};
@@ -30,10 +33,10 @@ use std::sync::Arc;
 pub use taken::Taken;
 pub use tx::{End, Full, NotEnded, Tx};
 
-/// A new lane with room for `depth` items, 1 to 64: its sender and its receiver.
+/// Makes a lane with room for `depth` items, 1 to 64, and returns its sender and its receiver.
 ///
-/// The ring has one slot more, which is kept for the closing mark, so closing never finds the lane full. All the memory
-/// that a lane needs is taken here.
+/// The ring has one more slot, which is kept for the closing mark, so closing never finds the lane
+/// full. All memory that a lane needs is allocated here.
 pub fn lane<T: Drop>(alloc: Global, depth: usize) -> Result<(Tx<T>, Rx<T>), AllocError>
     requires { (1 ≤ depth) × (depth ≤ 64) }
     ensures sender { IfOk result (λ ends. (ends.0.items ≡ []) × (ends.0.marked ≡ false)) }

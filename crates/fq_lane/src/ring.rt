@@ -1,9 +1,9 @@
-//! What a lane does with its ring, said of the histories that the ring's ends stand for.
+//! What a lane does with its ring, in terms of the histories of the ends of the ring.
 //!
-//! Each move that the other end may sleep for (a push of an item or of the mark, a pop of an item) answers a witness. A
-//! witness comes only out of its move, and can't be let go: it is taken apart by waking the other end, and by nothing else.
-//! So a caller that forgets the wake-up, or makes it depend on a condition, or does it before the move alone, doesn't
-//! compile.
+//! Each move for which the other end may be sleeping (a push of an item or of the mark, a pop of an
+//! item) returns a witness. A witness comes only from its move and cannot be dropped: waking the
+//! other end is the only way to take it apart. So a caller that forgets the wake-up, makes it
+//! depend on a condition, or does it only before the move, does not compile.
 
 ghost use Rattle.std.specs.Prelude.{◌≡◌, ◌<◌, false, true, IsTrue, IfSome};
 ghost use Rattle.rtrb.specs.Ring.{sent, known_free, received, all_sent};
@@ -16,40 +16,42 @@ use crate::parkers::Parkers;
 use crate::slot::Slot;
 use rtrb::{Consumer, Finished, Producer};
 
-/// A push that the receiver has not been woken for. It is no `Drop`: only [`Pushed::wake_receiver`] takes it apart.
+/// A push for which the receiver has not been woken yet. It does not implement `Drop`: only
+/// [`Pushed::wake_receiver`] takes it apart.
 pub(crate) struct Pushed {
     made_by_push: (),
 }
 
 impl Pushed {
-    /// Wakes the receiver, behind the push.
+    /// Wakes the receiver, after the push.
     pub(crate) fn wake_receiver(self, parkers: &Parkers) {
         let Pushed { made_by_push: () } = self;
         parkers.wake_receiver();
     }
 }
 
-/// A pop that the sender has not been woken for: a slot is free. It is no `Drop`: only [`Freed::wake_sender`] takes it apart.
+/// A pop for which the sender has not been woken yet: a slot is free. It does not implement `Drop`:
+/// only [`Freed::wake_sender`] takes it apart.
 pub(crate) struct Freed {
     made_by_pop: (),
 }
 
 impl Freed {
-    /// Wakes the sender, behind the pop.
+    /// Wakes the sender, after the pop.
     pub(crate) fn wake_sender(self, parkers: &Parkers) {
         let Freed { made_by_pop: () } = self;
         parkers.wake_sender();
     }
 }
 
-/// What a pop finds. The mark frees no slot that a sender could want, since the sender is closed then.
+/// What a pop finds. The mark has no [`Freed`]: the sender is closed by then and wants no slot.
 pub(crate) enum Popped<T> {
     Item(T, Freed),
     Mark,
     Nothing,
 }
 
-/// Whether a slot is free beside the one that is kept for the mark.
+/// Whether a slot is free besides the one that is kept for the mark.
 pub(crate) fn has_room<T>(producer: &mut Producer<Slot<T>>) -> bool
     requires { IsOpen producer.old }
     ensures open { IsOpen producer.new }
@@ -59,31 +61,34 @@ pub(crate) fn has_room<T>(producer: &mut Producer<Slot<T>>) -> bool
     producer.cached_slots() > 1 || producer.slots() > 1
 }
 
-/// Pushes an item, beside the slot that is kept for the mark.
+/// Pushes an item, but not into the slot that is kept for the mark.
 pub(crate) fn push_item<T>(producer: &mut Producer<Slot<T>>, item: T) -> Pushed
     requires open { IsOpen producer.old }
     requires room { 1 < known_free producer.old }
     ensures open { IsOpen producer.new }
-    ensures sent { sender_history producer.new false ≡ with_item (sender_history producer.old false) item }
+    ensures sent { sender_history producer.new false
+        ≡ with_item (sender_history producer.old false) item }
 {
     producer.push_reserved(Slot::Item(item));
     Pushed { made_by_push: () }
 }
 
-/// Pushes the mark, into the slot that is kept for it.
+/// Pushes the mark into the slot that is kept for it.
 pub(crate) fn push_mark<T>(producer: &mut Producer<Slot<T>>) -> Pushed
     requires { IsOpen producer.old }
     ensures marked { IsHistory (sent producer.new) true }
-    ensures sent { sender_history producer.new true ≡ with_mark (sender_history producer.old false) }
+    ensures sent { sender_history producer.new true
+        ≡ with_mark (sender_history producer.old false) }
 {
     producer.push_reserved(Slot::Mark);
     Pushed { made_by_push: () }
 }
 
-/// What is left of a producer behind the mark. `None` where the consumer was dropped before.
+/// What is left of a producer after the mark. `None` if the consumer was dropped before.
 pub(crate) fn finish<T: Drop>(producer: Producer<Slot<T>>) -> Option<Finished<Slot<T>>>
     requires { IsHistory (sent producer) true }
-    ensures { IfSome result (λ end. IsHistory (all_sent end) true × (end_history end ≡ sender_history producer true)) }
+    ensures { IfSome result (λ end. IsHistory (all_sent end) true
+        × (end_history end ≡ sender_history producer true)) }
 {
     producer.finish()
 }
@@ -100,7 +105,7 @@ pub(crate) fn pop<T>(consumer: &mut Consumer<Slot<T>>) -> Popped<T>
     }
 }
 
-/// Looks at all that was ever sent, from behind the mark: it is what was got.
+/// Looks at all that was ever sent, once the mark was got: it is what was got.
 pub(crate) fn see_all<T: Drop>(consumer: &mut Consumer<Slot<T>>, finished: Finished<Slot<T>>)
     requires got { IsHistory (received consumer.old) true }
     requires sent { IsHistory (all_sent finished) true }

@@ -1,4 +1,4 @@
-//! The end of a lane that receives.
+//! The receiving end of a lane.
 
 ghost use Rattle.std.specs.Prelude.{◌≡◌, [], false, true};
 ghost use Rattle.rtrb.specs.Ring.{received};
@@ -15,11 +15,13 @@ use rtrb::Consumer;
 use std::marker::Model;
 use std::sync::{Arc, Wait};
 
-/// The receiver of a lane. It can move to another thread where its items can.
+/// The receiver of a lane. It can move to another thread if its items can.
 ///
-/// Contracts see the lane's name, the items that were got, in order, and whether the mark was got behind them.
+/// Contracts see the lane's name, the items that were got, in order, and whether the mark was got
+/// after them.
 ///
-/// Keep it until the sender's end is there, also behind the mark: [`Tx::close`] gives an end only while it is.
+/// Keep the receiver until the sender's end is there, even after the mark: [`Tx::close`] returns an
+/// end only while the receiver exists.
 ///
 /// [`Tx::close`]: crate::Tx::close
 #[derive(Drop)]
@@ -54,10 +56,10 @@ impl<T: Drop> Rx<T> {
         }
     }
 
-    /// Takes the next item, or the mark, if it is there. After `Closed` the answer is `Closed` for good. It waits for
-    /// nobody.
+    /// Takes the next item, or the mark, if it is there. After `Closed`, every call returns
+    /// `Closed`. It never waits.
     ///
-    /// A sender that sleeps is woken, behind the pop.
+    /// If the sender sleeps, it is woken after the pop.
     pub fn take(&mut self) -> Taken<T>
         ensures { Takes result self.old self.new }
     {
@@ -77,14 +79,15 @@ impl<T: Drop> Rx<T> {
         }
     }
 
-    /// Takes the next item, and waits until it is there: it spins for a short while, and then sleeps until the sender
-    /// moves. `None` is the mark, and after it comes `None` for good.
+    /// Takes the next item, and waits until it is there: it spins for a short while, and then
+    /// sleeps until the sender moves. `None` is the mark, and after it every call returns `None`.
     ///
-    /// No wake-up is lost. The sender leaves a token behind each push, of an item or of the mark, and this end sleeps only
-    /// while there is none. So a push that the last look at the ring missed ends the sleep, and the next look finds what
-    /// was pushed.
+    /// No wake-up is lost. The sender leaves a token after each push, of an item or of the mark,
+    /// and this end sleeps only while there is none. So a push that the last look at the ring
+    /// missed ends the sleep, and the next look finds what was pushed.
     ///
-    /// Where the sender is dropped and not closed, the mark never comes, and a call on the empty lane does not return.
+    /// If the sender is dropped and not closed, the mark never comes, and a call on the empty lane
+    /// does not return.
     pub fn take_wait(&mut self, rt: &impl Wait) -> Option<T>
         ensures { Takes (taken_of result) self.old self.new }
     {
@@ -99,15 +102,16 @@ impl<T: Drop> Rx<T> {
         unreachable!()
     }
 
-    /// Whether the mark was got: `Closed`, or `None` of [`Rx::take_wait`], has been answered.
+    /// Whether the mark was got: a call has returned `Closed`, or `None` from [`Rx::take_wait`].
     pub fn is_closed(&self) -> bool
         ensures { result ≡ self.now.marked }
     {
         self.closed
     }
 
-    /// Shows that what was got is what was sent, each item once and in order. It needs the end of this very lane, and a
-    /// receiver that has come to the mark, and changes neither list. It waits for nobody.
+    /// Shows that what was got is what was sent, each item once and in order. It requires the end
+    /// of this very lane, and a receiver that has got the mark. It changes neither list and never
+    /// waits.
     pub fn confirm(&mut self, end: End<T>)
         requires closed { self.old.marked ≡ true }
         requires one_lane { end.name ≡ self.old.name }

@@ -1,6 +1,6 @@
-//! What goes through a lane's ring.
+//! What goes through the ring of a lane.
 
-/// An item, or the mark behind the last one.
+/// An item, or the mark after the last one.
 #[derive(Drop)]
 pub(crate) enum Slot<T> {
     Item(T),

@@ -5,8 +5,8 @@
 pub enum Taken<T> {
     /// The next item.
     Item(T),
-    /// Nothing was there. The sender may send more at any time.
+    /// Nothing was there. The sender can send more at any time.
     Empty,
-    /// The mark was there, now or in an earlier call. No item comes any more.
+    /// The mark was there, in this call or in an earlier one. No more items come.
     Closed,
 }

@@ -1,4 +1,5 @@
-//! Each move of an end wakes the other: what both ends sleep on is looked at by itself. All other tests are in `fq_lane_tests`.
+//! Each move of an end wakes the other. These tests look at what both ends sleep on, which is
+//! private; all other tests are in `fq_lane_tests`.
 
 ghost use Rattle.std.specs.Prelude.{◌<◌};
 
@@ -8,7 +9,7 @@ use std::process::Abort;
 use std::sync::Wait;
 use std::test::Fail;
 
-// A backoff that has spun for long enough, so that the next rest sleeps.
+// A backoff that has spun long enough, so that the next rest sleeps.
 fn spun() -> Backoff {
     let backoff = Backoff::new();
     for _ in 0..32u32 {
@@ -44,7 +45,7 @@ fn take_wait(rt: &impl Wait, rx: &mut Rx<u64>) -> Option<u64> {
     rx.take_wait(rt)
 }
 
-// In a new lane of one: by the calls that wait for nobody, and by those that wait.
+// In a new lane of one: by the calls that never wait, and by those that wait.
 fn assert_wakes<R: Abort + Wait>(rt: &R, tx: &mut Tx<u64>, rx: &mut Rx<u64>, parkers: &Parkers) {
     let spun = spun();
     assert!(rt; offers(tx, 1));

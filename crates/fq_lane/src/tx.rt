@@ -1,4 +1,4 @@
-//! The end of a lane that sends, and what is left of it.
+//! The sending end of a lane, and what is left of it.
 
 ghost use Rattle.std.specs.Prelude.{◌≡◌, ◌<◌, false, [], OnOk, IfOk, IfErr};
 ghost use Rattle.rtrb.specs.Ring.{sent, known_free};
@@ -14,12 +14,12 @@ use std::marker::Model;
 use std::sync::{Arc, Wait};
 use thiserror::Error;
 
-/// The sender of a lane. It can move to another thread where its items can.
+/// The sender of a lane. It can move to another thread if its items can.
 ///
 /// Contracts see the lane's name and the items that were sent, in order.
 ///
-/// A sender that is dropped without [`Tx::close`] leaves a lane that no mark ever comes through: what is still in it can be
-/// taken, and after that the receiver finds nothing, for good.
+/// If a sender is dropped without [`Tx::close`], no mark ever comes through the lane: what is still
+/// in it can be taken, and after that the receiver always finds it empty.
 #[derive(Drop)]
 pub struct Tx<T: Drop> {
     producer: Producer<Slot<T>>,
@@ -38,7 +38,7 @@ impl<T: Drop> Model for Tx<T> {
     ghost invariant = { λ t. IsOpen t.producer };
 }
 
-/// The lane had no room for the item, which comes back.
+/// The lane had no room for the item, which is returned.
 #[derive(Debug, Drop, PartialEq, Eq, Error)]
 #[error("the lane is full")]
 pub struct Full<T> {
@@ -46,15 +46,16 @@ pub struct Full<T> {
     pub item: T,
 }
 
-/// The receiver was gone when the lane was closed: the mark was sent all the same, but there is no [`End`], so this lane
-/// can never be confirmed. [`Tx::close`] alone makes this value.
+/// The receiver was dropped before the lane was closed: the mark was sent all the same, but there
+/// is no [`End`], so this lane can never be confirmed. Only [`Tx::close`] makes this value.
 #[derive(Debug, Drop, PartialEq, Eq, Error)]
 #[error("the lane's receiver was dropped before the lane was closed")]
 pub struct NotEnded {
     made_by_close: (),
 }
 
-/// What is left of a sender once its lane is closed. It can move to the receiver's thread, where [`Rx::confirm`] uses it up.
+/// What is left of a sender once its lane is closed. It can move to the receiver's thread, where
+/// [`Rx::confirm`] consumes it.
 ///
 /// Contracts see the lane's name and all the items that were sent, in order.
 ///
@@ -86,9 +87,10 @@ impl<T: Drop> Tx<T> {
         Tx { producer, parkers }
     }
 
-    /// Sends the item if the lane has room for it. Otherwise hands it back, and changes nothing. It waits for nobody.
+    /// Sends the item if the lane has room for it. Otherwise returns the item and changes nothing.
+    /// It never waits.
     ///
-    /// A receiver that sleeps is woken, behind the push.
+    /// If the receiver sleeps, it is woken after the push.
     pub fn offer(&mut self, item: T) -> Result<(), Full<T>>
         ensures ok { OnOk result (self.new ≡ with_item self.old item) }
         ensures full { IfErr result (λ refused. (refused.item ≡ item) × (self.new ≡ self.old)) }
@@ -101,13 +103,15 @@ impl<T: Drop> Tx<T> {
         }
     }
 
-    /// Sends the item, and waits until the lane has room for it: it spins for a short while, and then sleeps until the
-    /// receiver moves.
+    /// Sends the item, and waits until the lane has room for it: it spins for a short while, and
+    /// then sleeps until the receiver moves.
     ///
-    /// No wake-up is lost. The receiver leaves a token behind each pop, and this end sleeps only while there is none. So a
-    /// pop that the last look at the ring missed ends the sleep, and the next look finds the room.
+    /// No wake-up is lost. The receiver leaves a token after each pop, and this end sleeps only
+    /// while there is none. So a pop that the last look at the ring missed ends the sleep, and the
+    /// next look finds the room.
     ///
-    /// Where the receiver is dropped while the lane is full, room never comes, and the call does not return.
+    /// If the receiver is dropped while the lane is full, room never comes, and the call does not
+    /// return.
     pub fn put(&mut self, rt: &impl Wait, item: T)
         ensures { self.new ≡ with_item self.old item }
     {
@@ -123,12 +127,13 @@ impl<T: Drop> Tx<T> {
         unreachable!()
     }
 
-    /// Sends the mark, for which a slot was kept, and gives the lane's end. It waits for nobody.
+    /// Sends the mark, for which a slot was kept, and returns the lane's end. It never waits.
     ///
-    /// [`NotEnded`] comes where the receiver was dropped before the end was given, so keep the receiver, also once it has
-    /// come to the mark. The mark was sent then all the same, and the lane cannot be confirmed.
+    /// Returns [`NotEnded`] if the receiver was dropped before the end was given, so keep the
+    /// receiver even after it has got the mark. The mark was sent all the same, but the lane cannot
+    /// be confirmed.
     ///
-    /// A receiver that sleeps is woken, behind the push of the mark.
+    /// If the receiver sleeps, it is woken after the push of the mark.
     pub fn close(self) -> Result<End<T>, NotEnded>
         ensures { IfOk result (λ end. end ≡ with_mark self) }
     {
