@@ -1,5 +1,5 @@
-//! What the tests call. Of the contracts behind it only what a later call requires is passed on, so no test is proved with what it
-//! doesn't need.
+//! What the tests call. Each function passes on only the part of a contract that a later call
+//! requires, so no test is proved with more than it needs.
 
 ghost use Rattle.std.specs.Prelude.{◌≡◌, ◌≤◌, true, IfOk};
 
@@ -10,14 +10,14 @@ use std::sync::Wait;
 
 pub const DEPTHS: [usize; 3] = [1, 2, 64];
 
-/// A lane of numbers, of which no confirmation is asked.
+/// A lane of numbers that no test confirms.
 pub fn lane_of(alloc: Global, depth: usize) -> Result<(Tx<u64>, Rx<u64>), AllocError>
     requires { (1 ≤ depth) × (depth ≤ 64) }
 {
     lane(alloc, depth)
 }
 
-/// Both ends of two such lanes, each of one item.
+/// Both ends of two such lanes with room for one item each.
 #[derive(Drop)]
 pub struct TwoLanes {
     pub one_tx: Tx<u64>,
@@ -26,7 +26,7 @@ pub struct TwoLanes {
     pub other_rx: Rx<u64>,
 }
 
-/// Two lanes of one item each.
+/// Makes two lanes with room for one item each.
 pub fn two_lanes(alloc: Global) -> Result<TwoLanes, AllocError> {
     let (one_tx, one_rx) = lane_of(alloc, 1)?;
     let (other_tx, other_rx) = lane_of(alloc, 1)?;
@@ -38,21 +38,21 @@ pub fn two_lanes(alloc: Global) -> Result<TwoLanes, AllocError> {
     })
 }
 
-/// Whether there is room for the item, which is sent then.
+/// Whether there is room for the item, which is then sent.
 pub fn accepts(tx: &mut Tx<u64>, item: u64) -> bool
     ensures { tx.new.name ≡ tx.old.name }
 {
     tx.offer(item) == Ok(())
 }
 
-/// Whether the item comes back.
+/// Whether the item is returned.
 pub fn refuses(tx: &mut Tx<u64>, item: u64) -> bool
     ensures { tx.new.name ≡ tx.old.name }
 {
     tx.offer(item) == Err(Full { item })
 }
 
-/// What comes next.
+/// Returns what comes next.
 pub fn take(rx: &mut Rx<u64>) -> Taken<u64>
     ensures { rx.new.name ≡ rx.old.name }
 {
@@ -73,7 +73,7 @@ pub fn finds_mark(rx: &mut Rx<u64>) -> bool
     take(rx) == Taken::Closed
 }
 
-/// The mark comes, now or again.
+/// Asserts that the mark comes, now or again.
 pub fn assert_mark(rt: &impl Abort, rx: &mut Rx<u64>)
     ensures name { rx.new.name ≡ rx.old.name }
     ensures closed { rx.new.marked ≡ true }
@@ -82,29 +82,29 @@ pub fn assert_mark(rt: &impl Abort, rx: &mut Rx<u64>)
     assert!(rt; rx.is_closed());
 }
 
-/// Sends the item, once there is room.
+/// Sends the item as soon as there is room.
 pub fn put(rt: &impl Wait, tx: &mut Tx<u64>, item: u64) {
     tx.put(rt, item);
 }
 
-/// The next item, once it is there.
+/// Returns the next item as soon as it is there.
 pub fn take_wait(rt: &impl Wait, rx: &mut Rx<u64>) -> Option<u64> {
     rx.take_wait(rt)
 }
 
-/// Closes a lane whose receiver is there.
+/// Closes a lane whose receiver still exists.
 pub fn close(rt: &impl Abort, tx: Tx<u64>) -> End<u64>
     ensures { result.name ≡ tx.name }
 {
     tx.close().expect(rt, "the receiver is there")
 }
 
-/// Whether closing gives an end.
+/// Whether closing returns an end.
 pub fn gives_an_end(tx: Tx<u64>) -> bool {
     tx.close().is_ok()
 }
 
-/// Puts 1 to `last`, and closes.
+/// Puts 1 to `last`, and closes the lane.
 pub fn put_all(rt: &impl Wait, tx: Tx<u64>, last: u64) -> Result<End<u64>, NotEnded>
     ensures { IfOk result (λ end. end.name ≡ tx.name) }
 {
@@ -115,8 +115,8 @@ pub fn put_all(rt: &impl Wait, tx: Tx<u64>, last: u64) -> Result<End<u64>, NotEn
     tx.close()
 }
 
-/// Takes up to the mark, into a vector. An item for which memory is refused is left out, and the receiver goes on: one that
-/// stopped would leave the sender waiting.
+/// Takes items up to the mark, into a vector. An item for which memory is refused is left out, and
+/// the receiver goes on: if it stopped, the sender would wait for ever.
 pub fn take_all(rt: &impl Wait, alloc: Global, rx: Rx<u64>) -> (Vec<u64>, Rx<u64>)
     ensures name { result.1.name ≡ rx.name }
     ensures closed { result.1.marked ≡ true }

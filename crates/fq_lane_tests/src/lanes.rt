@@ -1,4 +1,5 @@
-//! Lanes on one thread and between two: what has no room, what comes in which order, and what is left where one end is gone.
+//! Lanes on one thread and between two: when there is no room, in which order items come, and what
+//! is left if one end is dropped.
 
 ghost use Rattle.std.specs.Prelude.{◌≡◌, true};
 
@@ -23,7 +24,7 @@ fn send_seven(rt: &impl Abort, mut tx: Tx<u64>) -> End<u64>
     close(rt, tx)
 }
 
-// The 7 comes, and the mark behind it, for good.
+// Asserts that the 7 comes, and then only the mark.
 fn assert_seven(rt: &impl Abort, rx: &mut Rx<u64>)
     ensures name { rx.new.name ≡ rx.old.name }
     ensures closed { rx.new.marked ≡ true }
@@ -35,7 +36,7 @@ fn assert_seven(rt: &impl Abort, rx: &mut Rx<u64>)
     assert_mark(rt, rx);
 }
 
-// Confirms the lane, behind which the mark stands as before.
+// Confirms the lane, after which the mark still comes.
 fn confirm(rt: &impl Abort, rx: &mut Rx<u64>, end: End<u64>)
     requires closed { rx.old.marked ≡ true }
     requires one_lane { end.name ≡ rx.old.name }
@@ -71,7 +72,7 @@ enum Move {
     FindsNothing,
 }
 
-// In a lane of two.
+// Moves in a lane of two, in order.
 const IN_TURN: [Move; 8] = [
     Move::FindsNothing,
     Move::Sends(1),
@@ -83,7 +84,7 @@ const IN_TURN: [Move; 8] = [
     Move::Gives(3),
 ];
 
-// Whether that comes of the move.
+// Whether the move has this outcome.
 fn goes(step: Move, tx: &mut Tx<u64>, rx: &mut Rx<u64>) -> bool {
     match step {
         Move::Sends(item) => accepts(tx, item),
@@ -105,7 +106,7 @@ fn items_taken_between_offers_come_in_order(rt: HostRuntime) -> Result<(), Fail>
     Ok(())
 }
 
-// Whether a new lane takes so many items and no more, and one more once one was taken.
+// Whether a new lane takes `depth` items and no more, and one more once one was taken.
 fn holds_just(tx: &mut Tx<u64>, rx: &mut Rx<u64>, depth: u64) -> bool {
     for item in 0..depth {
         if !accepts(tx, item) {
@@ -115,7 +116,7 @@ fn holds_just(tx: &mut Tx<u64>, rx: &mut Rx<u64>, depth: u64) -> bool {
     refuses(tx, depth) && gives(rx, 0) && accepts(tx, depth) && refuses(tx, depth)
 }
 
-// Whether the items from 1 to the depth come, and the mark behind them.
+// Whether the items from 1 to `depth` come, and the mark after them.
 fn comes_to_the_mark(rx: &mut Rx<u64>, depth: u64) -> bool {
     for item in 1..=depth {
         if !gives(rx, item) {
@@ -125,7 +126,7 @@ fn comes_to_the_mark(rx: &mut Rx<u64>, depth: u64) -> bool {
     finds_mark(rx)
 }
 
-// The same of a lane that is closed when it is full.
+// Whether both hold for a lane that is closed when it is full.
 fn is_held_and_given(mut tx: Tx<u64>, mut rx: Rx<u64>, depth: u64) -> bool {
     holds_just(&mut tx, &mut rx, depth) && gives_an_end(tx) && comes_to_the_mark(&mut rx, depth)
 }
@@ -139,7 +140,7 @@ fn a_lane_holds_just_its_depth_and_closes_when_full(rt: HostRuntime) -> Result<(
     Ok(())
 }
 
-// Behind the mark no item comes, nor is one waited for. The lane is confirmed.
+// Asserts that after the mark no item comes, and that none is waited for. Confirms the lane.
 fn assert_whole<R: Abort + Wait>(rt: &R, rx: &mut Rx<u64>, end: End<u64>)
     requires closed { rx.old.marked ≡ true }
     requires one_lane { end.name ≡ rx.old.name }
@@ -148,7 +149,7 @@ fn assert_whole<R: Abort + Wait>(rt: &R, rx: &mut Rx<u64>, end: End<u64>)
     rx.confirm(end);
 }
 
-// Takes all, and confirms the lane. Whether the items were 1 to 64.
+// Takes all items, and confirms the lane. Whether the items were 1 to 64.
 fn gives_all<R: Abort + Wait>(rt: &R, alloc: Global, rx: Rx<u64>, end: End<u64>) -> bool
     requires { end.name ≡ rx.name }
 {
@@ -165,7 +166,7 @@ fn one_end_after_the_other_on_one_thread(rt: HostRuntime) -> Result<(), Fail> {
     Ok(())
 }
 
-// Whether 1 to 1,000 come from one thread to another. The lane is confirmed.
+// Whether 1 to 1,000 come from one thread to another. Confirms the lane.
 fn delivers<R: Abort + Threads + Wait + Copy + Send + 'static>(
     rt: R,
     alloc: Global,
@@ -194,7 +195,7 @@ fn a_lane_between_two_threads_delivers_in_order_and_is_confirmed(
     Ok(())
 }
 
-// Takes until an item comes, so many times.
+// Takes up to `tries` times, until something comes.
 fn take_soon(rx: Rx<u64>, tries: u64) -> (Taken<u64>, Rx<u64>) {
     let mut rx = rx;
     for _ in 0..tries {
@@ -208,6 +209,7 @@ fn take_soon(rx: Rx<u64>, tries: u64) -> (Taken<u64>, Rx<u64>) {
 }
 
 // Sends a 1, and takes what comes from the other thread.
+// `cross` checks that the 1 comes, so the result of `offer` is ignored.
 fn exchange(mut tx: Tx<u64>, rx: Rx<u64>) -> (Taken<u64>, Rx<u64>) {
     let _ = tx.offer(1);
     take_soon(rx, 1_000_000_000)
@@ -236,13 +238,13 @@ fn two_lanes_crosswise_between_two_threads(rt: HostRuntime) -> Result<(), Fail> 
     Ok(())
 }
 
-// What closing says, where no end comes.
+// What closing reports if it returns no end.
 fn refusal(alloc: Global, tx: Tx<u64>) -> Result<String, Fail> {
     let refused = tx.close().err().ok_or("the receiver is gone")?;
     Ok(refused.to_string(alloc)?)
 }
 
-// The sender of a lane of one, whose receiver is gone.
+// The sender of a lane of one whose receiver was dropped.
 fn left_alone(alloc: Global) -> Result<Tx<u64>, Fail> {
     let (tx, _rx) = lane(alloc, 1)?;
     Ok(tx)
@@ -260,12 +262,12 @@ fn a_lane_whose_receiver_is_gone_has_no_end(rt: HostRuntime) -> Result<(), Fail>
     Ok(())
 }
 
-// Sends the item once more.
+// Sends one more reference to the item.
 fn send_shared(tx: &mut Tx<Arc<u64>>, item: &Arc<u64>) -> Result<(), Fail> {
     Ok(tx.offer(Arc::try_clone(item)?).ok().ok_or("there is room")?)
 }
 
-// A receiver of two items, whose sender is gone.
+// A receiver of two items whose sender was dropped.
 fn left_behind(alloc: Global, item: &Arc<u64>) -> Result<Rx<Arc<u64>>, Fail> {
     let (mut tx, rx) = lane(alloc, 2)?;
     send_shared(&mut tx, item)?;
@@ -273,7 +275,7 @@ fn left_behind(alloc: Global, item: &Arc<u64>) -> Result<Rx<Arc<u64>>, Fail> {
     Ok(rx)
 }
 
-// Whether one of the two items comes, and is let go. The receiver is let go behind it.
+// Whether one of the two items comes, and is dropped. The receiver is dropped after it.
 fn gives_one(mut rx: Rx<Arc<u64>>, item: &Arc<u64>) -> bool {
     let came = matches!(rx.take(), Taken::Item(_));
     came && Arc::strong_count(item) == 2

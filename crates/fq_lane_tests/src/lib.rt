@@ -1,5 +1,6 @@
-//! Tests of `fq_lane` by what it gives to everybody: lanes on one thread and between two, and ends that sleep. They have a crate of
-//! their own, as Rust's `tests/` folders have, so that they are proved without proving `fq_lane` once more.
+//! Tests of the public calls of `fq_lane`: lanes on one thread and between two, and ends that
+//! sleep. They are a crate of their own, like the `tests/` folder of a Rust crate, so that they are
+//! proved without proving `fq_lane` again.
 #![tactic(auto)]
 
 #[cfg(test)]

@@ -1,4 +1,4 @@
-//! No wake-up is lost. A test in which one is lost does not end, and fails when its time is up.
+//! No wake-up is lost. If one is lost, the test does not end, and fails when its time is up.
 
 use super::frame::{TwoLanes, accepts, gives_an_end, lane_of, put, take, take_wait, two_lanes};
 use fq_lane::{Rx, Taken, Tx};
@@ -15,8 +15,9 @@ fn nap(clock: &impl Clock) {
     thread::sleep(clock, Duration::from_millis(NAP_MILLISECONDS));
 }
 
-// Lets a while pass that differs from round to round: it spins, for up to some microseconds longer than an end that waits
-// spins, or it sleeps, so that on a single processor too the other end goes to sleep.
+// Waits for a time that differs from round to round: it spins, for up to some microseconds longer
+// than a waiting end spins, or it sleeps, so that the other end goes to sleep even on a single
+// processor.
 fn dawdle(clock: &impl Clock, round: u64) {
     let chance = round.wrapping_mul(0x9e37_79b9_7f4a_7c15) >> 54;
     if chance % 16 == 0 {
@@ -28,7 +29,7 @@ fn dawdle(clock: &impl Clock, round: u64) {
     }
 }
 
-// Sends 1 by `offer` and 2 by `put`, and closes, each behind a nap. Says whether there is an end.
+// Sends 1 by `offer` and 2 by `put`, and closes, each after a nap. Returns whether there is an end.
 fn send_seldom<R: Wait + Clock>(rt: &R, mut tx: Tx<u64>) -> bool {
     nap(rt);
     let _ = tx.offer(1);
@@ -46,7 +47,7 @@ fn take_three(rt: &impl Wait, mut rx: Rx<u64>) -> (Option<u64>, Option<u64>, Opt
     )
 }
 
-// Whether a receiver gets what is sent so, and whether it is told of the end.
+// Whether a receiver gets what is sent in this way, and the mark.
 fn is_woken_by_each_send<R: Threads + Wait + Clock + Copy + Send + 'static>(
     rt: R,
     tx: Tx<u64>,
@@ -73,7 +74,7 @@ fn put_three(rt: &impl Wait, mut tx: Tx<u64>) {
     }
 }
 
-// Takes by `take` and by `take_wait`, each behind a nap, and once more.
+// Takes by `take` and by `take_wait`, each after a nap, and once more.
 fn take_seldom<R: Wait + Clock>(rt: &R, mut rx: Rx<u64>) -> (Taken<u64>, Option<u64>, Option<u64>) {
     nap(rt);
     let taken = take(&mut rx);
@@ -82,7 +83,7 @@ fn take_seldom<R: Wait + Clock>(rt: &R, mut rx: Rx<u64>) -> (Taken<u64>, Option<
     (taken, waited, take_wait(rt, &mut rx))
 }
 
-// Whether a sender whose items are taken so sends all three.
+// Whether a sender whose items are taken in this way sends all three.
 fn is_woken_by_each_take<R: Threads + Wait + Clock + Copy + Send + 'static>(
     rt: R,
     tx: Tx<u64>,
@@ -109,7 +110,8 @@ fn wait_twice(rt: &impl Wait, mut full_tx: Tx<u64>, mut empty_rx: Rx<u64>) -> Op
     take_wait(rt, &mut empty_rx)
 }
 
-// Makes room in the full lane, and sends an item into the empty one, each behind 200 ms.
+// Makes room in the full lane, and sends an item into the empty one, each after 200 ms.
+// Only the time of waiting is measured, so the results are ignored.
 fn move_late(clock: &impl Clock, mut full_rx: Rx<u64>, mut empty_tx: Tx<u64>) {
     thread::sleep(clock, Duration::from_millis(200));
     let _ = take(&mut full_rx);
@@ -117,7 +119,8 @@ fn move_late(clock: &impl Clock, mut full_rx: Rx<u64>, mut empty_tx: Tx<u64>) {
     let _ = empty_tx.offer(3);
 }
 
-// Has both ends wait: the sender of one lane, which is full, and the receiver of the other, which is empty.
+// Lets both ends wait: the sender of one lane, which is full, and the receiver of the other, which
+// is empty.
 fn wait_for_each_other<R: Threads + Wait + Clock + Copy + Send + 'static>(rt: R, lanes: TwoLanes) {
     let TwoLanes {
         one_tx,
@@ -132,7 +135,7 @@ fn wait_for_each_other<R: Threads + Wait + Clock + Copy + Send + 'static>(rt: R,
     );
 }
 
-// The time of the processor that a thread uses while it waits so.
+// The processor time that the process uses while both ends wait.
 fn time_of_waiting<R: Threads + Wait + Clock + CpuClock + Copy + Send + 'static>(
     rt: R,
     lanes: TwoLanes,
@@ -176,8 +179,8 @@ fn take_somehow(rt: &impl Wait, rx: &mut Rx<u64>, at_once: bool) -> Option<u64> 
     }
 }
 
-// Takes up to the mark, at uneven times, by `take_wait` and by `take` in turn, and says how many items came in order.
-// The receiver comes back: a lane can only be closed with an end while it is there.
+// Takes up to the mark, at uneven times, by `take_wait` and by `take` in turn. Returns how many
+// items came in order, and the receiver: closing gives an end only while the receiver exists.
 fn take_unevenly<R: Wait + Clock>(rt: &R, rx: Rx<u64>, round: u64) -> (u64, Rx<u64>) {
     let mut rx = rx;
     let mut last = 0u64;
@@ -191,7 +194,7 @@ fn take_unevenly<R: Wait + Clock>(rt: &R, rx: Rx<u64>, round: u64) -> (u64, Rx<u
     (last, rx)
 }
 
-// Whether 1 to 12 come through a lane, at times that this round sets.
+// Whether 1 to 12 come through a lane, at times that depend on the round.
 fn comes_through<R: Threads + Wait + Clock + Copy + Send + 'static>(
     rt: R,
     tx: Tx<u64>,
@@ -218,7 +221,7 @@ fn many_small_lanes_at_uneven_times(rt: HostRuntime) -> Result<(), Fail> {
 
 const TURNS: u64 = 10_000;
 
-// Sends each number, and waits for it to come back. Says how many did.
+// Sends each number, and waits for it to come back. Returns how many did.
 fn ask<R: Wait + Clock>(rt: &R, mut there: Tx<u64>, mut back: Rx<u64>) -> u64 {
     let mut answered = 0u64;
     for n in 1..=TURNS {
