@@ -1,4 +1,5 @@
--- What is made of pairs and one more, replies to some blocks and one more, and histories with some items more.
+-- What is made of pairs and one more, replies to some blocks and one more, and histories with more
+-- items.
 use Rattle.std.proofs.Common.{◌≡◌, ℕ, Bool, true, false, List, [], ◌∷◌, ◌++◌, refl, sym, ap, ◌∙◌, append_assoc, Option, Some, None, is_some, Result, Ok, Err, IfOk}
 use Rattle.std.proofs.lemmas.List.{append-nil}
 use Rattle.std.proofs.lemmas.List.Sums.{fold-append}
@@ -24,7 +25,7 @@ pub is_asked : (tallied : Bool) (steps : List Step) (ms : List Mates) → is_som
 is_asked true steps ms = refl
 is_asked false steps ms = refl
 
--- with one pair more
+-- with one more pair
 tally_more : (tallied : Bool) (steps : List Step) (ms : List Mates) (m : Mates) →
     option_map (λ (t : Tally). with_pair (alone steps) t m) (tally_if tallied steps ms) ≡ tally_if tallied steps (ms ++ m ∷ [])
 tally_more true steps ms m = ap (λ (t : Tally). let s : Option Tally = Some t in s) (sym (fold-append (with_pair (alone steps)) no_tally ms (m ∷ [])))
@@ -38,7 +39,7 @@ made_more tallied steps number ms m =
     ∙ ap (with (texts_of steps (ms ++ m ∷ []))) (tally_more tallied steps ms m)
 
 module _ (tallied : Bool) (steps : List Step) where
-  -- with one block more, which is done
+  -- with one more block, which is done
   pub answers_done : (bs : List Numbered) (rs : List Reply) (b : Numbered) (d : Done) → d ≡ done_of tallied steps b → Answers tallied steps bs rs None → Answers tallied steps (bs ++ b ∷ []) (rs ++ done d ∷ []) None
   answers_done [] [] b d e h = (e, tt)
   answers_done [] (r ∷ rs) b d e h = absurd h
@@ -46,7 +47,7 @@ module _ (tallied : Bool) (steps : List Step) where
   answers_done (a ∷ bs) (done x ∷ rs) b d e h = (h.0, answers_done bs rs b d e h.1)
   answers_done (a ∷ bs) (Stop c ∷ rs) b d e h = cc
 
-  -- with one block more, which is refused
+  -- with one more block, which is refused
   pub answers_stop : (bs : List Numbered) (rs : List Reply) (b : Numbered) (c : Cause) → Answers tallied steps bs rs None → Answers tallied steps (bs ++ b ∷ []) (rs ++ Stop c ∷ []) (Some c)
   answers_stop [] [] b c h = (refl, refl)
   answers_stop [] (r ∷ rs) b c h = absurd h
@@ -54,7 +55,7 @@ module _ (tallied : Bool) (steps : List Step) where
   answers_stop (a ∷ bs) (done x ∷ rs) b c h = (h.0, answers_stop bs rs b c h.1)
   answers_stop (a ∷ bs) (Stop k ∷ rs) b c h = cc
 
-  -- behind a Stop, blocks go unanswered
+  -- after a Stop, blocks get no reply
   pub answers_more : (bs more : List Numbered) (rs : List Reply) (c : Cause) → Answers tallied steps bs rs (Some c) → Answers tallied steps (bs ++ more) rs (Some c)
   answers_more [] more [] c h = absurd h
   answers_more [] more (r ∷ rs) c h = absurd h
@@ -66,17 +67,17 @@ module _ {T : Type 0} where
   pub with_none : (l : History T) → l ≡ with_items l [] l.marked
   with_none l = ap (λ xs. let k : History T = record { name = l.name; items = xs; marked = l.marked } in k) (sym (append-nil l.items))
 
-  -- one item more than some
+  -- one item after some
   pub with_more : (l k n : History T) (xs : List T) (x : T) (m : Bool) → k ≡ with_items l xs m → n ≡ with_item k x → n ≡ with_items l (xs ++ x ∷ []) m
   with_more l k n xs x m e f =
       f ∙ ap (λ j. with_item j x) e ∙ ap (λ ys. let j : History T = record { name = l.name; items = ys; marked = m } in j) (append_assoc l.items xs (x ∷ []))
 
-  -- some items more than some, and the mark
+  -- some items after some, and the mark
   pub with_both : (l k n : History T) (xs ys : List T) (m : Bool) → k ≡ with_items l xs m → n ≡ with_items k ys true → n ≡ with_items l (xs ++ ys) true
   with_both l k n xs ys m e f =
       f ∙ ap (λ j. with_items j ys true) e ∙ ap (λ zs. let j : History T = record { name = l.name; items = zs; marked = true } in j) (append_assoc l.items xs ys)
 
--- what was taken and answered in all: up to a mark, behind a Stop drained up to it
+-- what was taken and answered in all: up to a mark, or drained up to it after a Stop
 module _ (tallied : Bool) (steps : List Step) where
   pub record HasWorked (cause : Option Cause) (rx rx_new : History Numbered) (tx tx_new : History Reply) : Type 0 where
     pub took : List Numbered

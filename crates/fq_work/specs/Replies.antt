@@ -13,25 +13,27 @@ use Rattle.fq_work.specs.declared.reply.Cause.{Cause}
 use Rattle.fq_work.specs.declared.reply.Reply.{Reply}
 use Rattle.fq_work.specs.declared.reply.Reply.TheVariants.{Done as done, Stop}
 
--- the tally of pairs, step for step, where one is asked for
+-- the tally of pairs, step by step, if one is asked for
 abbrev pub tally_if : Bool → List Step → List Mates → Option Tally
 tally_if true steps pairs = Some (tally_of (alone steps) pairs)
 tally_if false steps pairs = None
 
--- a number, the outputs, the log and the counts of pairs, and their tally where one is asked for
+-- a number, the outputs, the log and the counts of pairs, and their tally if one is asked for
 abbrev pub made_of : Bool → List Step → ℕ → List Mates → Done
-made_of tallied steps number pairs = record { number = number; texts = texts_of steps pairs; tally = tally_if tallied steps pairs }
+made_of tallied steps number pairs =
+    record { number = number; texts = texts_of steps pairs; tally = tally_if tallied steps pairs }
 
 -- what is made of a block
 abbrev pub done_of : Bool → List Step → Numbered → Done
 done_of tallied steps block = made_of tallied steps block.number block.pairs
 
--- the one reply to a block: a Stop where there is a cause, else a Done
+-- the one reply to a block: a Stop if there is a cause, else a Done
 abbrev pub reply_to : Bool → List Step → Numbered → Option Cause → Reply
 reply_to tallied steps block None = done (done_of tallied steps block)
 reply_to tallied steps block (Some cause) = Stop cause
 
--- one Done for each block, in order, or for the first of them, and behind those exactly one Stop, with this cause
+-- one Done for each block, in order, or for the first of them, and then exactly one Stop, with this
+-- cause
 abbrev pub Answers : Bool → List Step → List Numbered → List Reply → Option Cause → Type 0
 Answers tallied steps [] [] None = Unit {0}
 Answers tallied steps [] [] (Some cause) = ⊥
@@ -39,15 +41,20 @@ Answers tallied steps [] (reply ∷ replies) cause = ⊥
 Answers tallied steps (block ∷ blocks) [] cause = ⊥
 Answers tallied steps (block ∷ blocks) (done answer ∷ replies) cause =
     (answer ≡ done_of tallied steps block) × Answers tallied steps blocks replies cause
-Answers tallied steps (block ∷ blocks) (Stop why ∷ replies) cause = (replies ≡ []) × (cause ≡ Some why)
+Answers tallied steps (block ∷ blocks) (Stop why ∷ replies) cause =
+    (replies ≡ []) × (cause ≡ Some why)
 
--- On the way.
+-- Intermediate states.
 
--- nothing is made of any pair so far
+-- nothing has been made of any pair so far
 abbrev pub emptied : Done → Done
-emptied d = record { number = d.number; texts = no_texts; tally = option_map (λ t. no_tally) d.tally }
+emptied d = record {
+  number = d.number;
+  texts = no_texts;
+  tally = option_map (λ t. no_tally) d.tally;
+}
 
--- one pair more
+-- one more pair
 abbrev pub with_mates : List Step → Done → Mates → Done
 with_mates steps d m = record {
   number = d.number;

@@ -8,34 +8,37 @@ use Rattle.fq_work.specs.declared.reply.Cause.{Cause}
 use Rattle.fq_work.specs.declared.reply.Reply.{Reply}
 use Rattle.fq_work.specs.Replies.{Answers}
 
--- some items more, and the mark or not
+-- some more items, and the mark or not
 abbrev pub with_items : {T : Type 0} → History T → List T → Bool → History T
-with_items history items marked = record { name = history.name; items = history.items ++ items; marked = marked }
+with_items history items marked =
+    record { name = history.name; items = history.items ++ items; marked = marked }
 
--- it took some blocks, up to the mark, and what it sent answers them
-pub record IsWork (tallied : Bool) (steps : List Step) (rx : History Numbered) (tx : History Reply) (worked : Worked) : Type 0 where
+-- the worker took some blocks, up to the mark, and what it sent answers them
+pub record IsWork (tallied : Bool) (steps : List Step) (rx : History Numbered) (tx : History Reply)
+    (worked : Worked) : Type 0 where
   pub took : List Numbered
   pub replies : List Reply
   pub received : worked.rx ≡ with_items rx took true
   pub sent : IfOk worked.closing (λ end. end ≡ with_items tx replies true)
   pub answers : Answers tallied steps took replies worked.cause
 
--- On the way.
+-- Intermediate states.
 
--- where there is no cause the lane has come to its mark
+-- if there is no cause, the lane has come to its mark
 abbrev pub marked_by : Option Cause → Bool → Bool
 marked_by None marked = true
 marked_by (Some cause) marked = marked
 
--- so far it took some blocks, and what it sent answers them
-pub record HasAnswered (tallied : Bool) (steps : List Step) (cause : Option Cause) (rx rx_new : History Numbered) (tx tx_new : History Reply) : Type 0 where
+-- so far the worker took some blocks, and what it sent answers them
+pub record HasAnswered (tallied : Bool) (steps : List Step) (cause : Option Cause)
+    (rx rx_new : History Numbered) (tx tx_new : History Reply) : Type 0 where
   pub took : List Numbered
   pub replies : List Reply
   pub received : rx_new ≡ with_items rx took (marked_by cause rx.marked)
   pub sent : tx_new ≡ with_items tx replies tx.marked
   pub answers : Answers tallied steps took replies cause
 
--- it took some blocks, up to the mark
+-- the worker took some blocks, up to the mark
 pub record HasDrained (rx rx_new : History Numbered) : Type 0 where
   pub took : List Numbered
   pub received : rx_new ≡ with_items rx took true

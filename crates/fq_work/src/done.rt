@@ -1,4 +1,4 @@
-//! What is made of a block.
+//! The result of the work on a block.
 
 ghost use Rattle.std.specs.Prelude.{◌≡◌, ◌<◌, ◌∷◌, [], OnOk, OnErr};
 ghost use Rattle.fq_pair.specs.Mates.{mates_in, name_lengths};
@@ -12,15 +12,15 @@ use fq_text::{OutOfMemory, ReadView};
 use fq_trim::Steps;
 use std::alloc::Global;
 
-/// What is to be written of the pairs of a block, and what is counted of them for a report. Its memory is used again for other
-/// blocks.
+/// What is written for the pairs of a block, and what is counted for a report. Its memory is reused
+/// for other blocks.
 #[derive(Drop)]
 pub struct Done {
-    /// The block's number.
+    /// The number of the block.
     pub number: u64,
-    /// The texts, the trim log and the counts of its pairs.
+    /// The texts, the trim log and the counts of the block's pairs.
     pub texts: Texts,
-    /// The tally of its pairs, step for step. `None` where none is asked for; then none is made.
+    /// The tally of the block's pairs, step by step. `None` if no tally is asked for.
     pub tally: Option<Tally>,
 }
 
@@ -29,7 +29,7 @@ impl Done {
     ghost use Rattle.fq_pair.specs.Outputs.{no_texts};
     ghost use Rattle.fq_work.specs.Replies.{emptied, with_mates};
 
-    /// A block's number, empty texts and no tally. It takes no memory.
+    /// Makes a `Done` with this number, empty texts and no tally. It allocates nothing.
     pub fn new(alloc: Global, number: u64) -> Done
         ensures { result ≡ record { number = number; texts = no_texts; tally = None } }
     {
@@ -40,8 +40,8 @@ impl Done {
         }
     }
 
-    /// Asks for a tally, or for none. Memory for a tally is taken where there was none, and may be refused; then there is none.
-    /// Number and texts stay as they are.
+    /// Turns the tally on or off. Turning it on allocates one if there was none; if memory is
+    /// refused, there is no tally. The number and the texts stay as they are.
     pub fn ask(&mut self, alloc: Global, tallied: bool) -> Result<(), OutOfMemory>
         ensures asked { OnOk result (is_some self.new.tally ≡ tallied) }
         ensures refused { OnErr result (self.new.tally ≡ None) }
@@ -58,7 +58,8 @@ impl Done {
         Ok(())
     }
 
-    /// Takes away what was made of the pairs. The number stays, texts and tally keep their memory.
+    /// Removes what was made of the pairs. The number stays, and the texts and the tally keep their
+    /// memory.
     pub fn clear(&mut self)
         ensures { self.new ≡ emptied self.old }
     {
@@ -68,8 +69,9 @@ impl Done {
         }
     }
 
-    /// Adds what is to be written of one pair, and counts it where a tally is asked for. A refusal leaves all as it was. The
-    /// conditions are that the count of pairs can still grow, and that the names of the mates are so long.
+    /// Adds what is written for one pair, and counts the pair if there is a tally. If memory is
+    /// refused, nothing has changed. The count of pairs must be below `u64::MAX`, and `names` must
+    /// be the lengths of the names of the mates.
     #[inline(always)]
     pub fn add(
         &mut self,
@@ -79,7 +81,9 @@ impl Done {
     ) -> Result<(), OutOfMemory>
         requires room { self.old.texts.counts.pairs < u64.MAX }
         requires names { names ≡ name_lengths (mates_in pair.forward pair.reverse) }
-        ensures ok { OnOk result (self.new ≡ with_mates steps.now self.old (mates_in pair.entry.forward pair.entry.reverse)) }
+        ensures ok { OnOk result
+            (self.new ≡ with_mates steps.now self.old
+            (mates_in pair.entry.forward pair.entry.reverse)) }
         ensures err { OnErr result (self.new ≡ self.old) }
     {
         match &mut self.tally {
@@ -89,7 +93,8 @@ impl Done {
     }
 }
 
-// Adds what is to be written of one pair, and counts it. It stands by itself, so that what it needs costs nothing where nothing is counted.
+// Adds what is written for one pair, and counts it. It is not inlined, so that a run without a
+// tally doesn't pay for what counting needs.
 #[inline(never)]
 fn add_counted(
     texts: &mut Texts,
@@ -100,8 +105,12 @@ fn add_counted(
 ) -> Result<(), OutOfMemory>
     requires room { texts.old.counts.pairs < u64.MAX }
     requires names { names ≡ name_lengths (mates_in pair.forward pair.reverse) }
-    ensures texts { OnOk result (texts.new ≡ joined texts.old (texts_of steps.now (mates_in pair.entry.forward pair.entry.reverse ∷ []))) }
-    ensures tally { OnOk result (tally.new ≡ with_pair (alone steps.now) tally.old (mates_in pair.entry.forward pair.entry.reverse)) }
+    ensures texts { OnOk result
+        (texts.new ≡ joined texts.old
+        (texts_of steps.now (mates_in pair.entry.forward pair.entry.reverse ∷ []))) }
+    ensures tally { OnOk result
+        (tally.new ≡ with_pair (alone steps.now) tally.old
+        (mates_in pair.entry.forward pair.entry.reverse)) }
     ensures kept_texts { OnErr result (texts.new ≡ texts.old) }
     ensures kept_tally { OnErr result (tally.new ≡ tally.old) }
 {
@@ -116,8 +125,8 @@ fn add_counted(
     Ok(())
 }
 
-// The same read, lent once more. What counts is given this one and never the first, so where nothing is counted no view is copied
-// to memory.
+// Lends the same read once more. Counting gets this view and never the first one, so if nothing is
+// counted, the compiler copies no view to memory.
 #[inline(always)]
 fn again<'a>(read: &ReadView<'a>) -> ReadView<'a>
     ensures { result ≡ read.now }

@@ -1,15 +1,16 @@
-//! What is asked before a block is worked on.
+//! What a worker asks before it works on a block.
 
 ghost use Rattle.std.specs.Prelude.{IsTrue};
 
-/// Lets blocks pass, or not. All workers of a run ask it, each before each of its blocks. It may answer anything at any time,
-/// and waits for nobody.
+/// Lets blocks pass, or not. All workers of a run ask the gate, each before each of its blocks. It
+/// may return anything at any time, and never waits.
 pub trait Gate: Send + Sync + Drop {
-    /// Whether the block of this number may pass now. A worker that is answered `false` asks again, as often as it may.
+    /// Whether the block with this number may pass now. A worker that gets `false` asks again, up
+    /// to its limit.
     fn passes(&self, number: u64) -> bool;
 }
 
-/// The gate that lets each block pass.
+/// The gate that lets every block pass.
 #[derive(Drop)]
 pub struct OpenGate;
 

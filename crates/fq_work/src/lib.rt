@@ -1,9 +1,11 @@
-//! The worker of a threaded run: it takes blocks of pairs from one lane, and answers each through another, in order.
+//! The worker of a threaded run: it takes blocks of pairs from one lane, and sends a reply to each
+//! through another, in order.
 //!
-//! [`work_block`] trims the pairs of one block, and counts them for a report where a tally is asked for. [`work`] and
-//! [`work_tallied`] do so block after block, ask a [`Gate`] before each, and stop at want of memory, or where the gate does not
-//! let a block pass. Their contract says what was sent for what was taken: one
-//! [`Done`] for each block, in order, or for the first of them, and behind those one [`Reply::Stop`].
+//! [`work_block`] trims the pairs of one block, and counts them for a report if a tally is asked
+//! for. [`work`] and [`work_tallied`] do so block by block, ask a [`Gate`] before each, and stop if
+//! memory is refused or the gate does not let a block pass. Their contract says what was sent for
+//! what was taken: one [`Done`] for each block, in order, or for the first of them, and then one
+//! [`Reply::Stop`].
 #![tactic(auto)]
 
 mod done;

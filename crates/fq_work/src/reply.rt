@@ -1,4 +1,4 @@
-//! What a worker answers.
+//! What a worker replies.
 
 use crate::done::Done;
 
@@ -7,15 +7,15 @@ use crate::done::Done;
 pub enum Cause {
     /// Memory was refused for the texts of a block.
     Memory,
-    /// The gate did not let a block pass, as often as it was asked.
+    /// The gate refused a block as often as it was asked.
     Gate,
 }
 
-/// What a worker answers to a block.
+/// The reply of a worker to a block.
 #[derive(Drop)]
 pub enum Reply {
-    /// All its pairs were trimmed.
+    /// All pairs of the block were trimmed.
     Done(Done),
-    /// They were not, and no later block is answered.
+    /// They were not, and no later block gets a reply.
     Stop(Cause),
 }

@@ -1,4 +1,4 @@
-//! The worker.
+//! The worker of a threaded run.
 
 ghost use Rattle.std.specs.Prelude.{◌≡◌, true, false, IfOk};
 ghost use Rattle.fq_lane.specs.History.{with_item};
@@ -16,17 +16,19 @@ use fq_trim::Steps;
 use std::alloc::Global;
 use std::sync::{Arc, Wait};
 
-/// Answers each block that comes, in order, until the lane is closed, and then closes the lane of its replies.
+/// Replies to each block that comes, in order, until the lane of the blocks is closed, and then
+/// closes the lane of the replies.
 ///
-/// Before each block it asks the gate until that lets the block pass, at most `gate_turns` times. Where it doesn't, or where
-/// memory is refused for a block's texts, the reply is a [`Reply::Stop`], and no later block is answered. The blocks are
-/// taken all the same, up to the closing mark, so that nobody who sends them waits for good.
+/// Before each block the worker asks the gate until the gate lets the block pass, at most
+/// `gate_turns` times. If the gate does not, or if memory is refused for the texts of a block, the
+/// reply is a [`Reply::Stop`], and no later block gets a reply. The worker still takes all blocks,
+/// up to the closing mark, so that their sender does not wait for ever.
 ///
-/// Used blocks go back through `blocks_back`, and used texts come from `texts_back`, where there are any. Neither lane is
-/// waited for.
+/// Used blocks go back through `blocks_back`, and used texts come from `texts_back`, if there are
+/// any. The worker waits for neither lane.
 ///
-/// It waits for a block, and for room for a reply. So it does not return where nobody closes the lane of the blocks, or
-/// where nobody takes the replies.
+/// The worker waits for a block, and for room for a reply. So it does not return if nobody closes
+/// the lane of the blocks, or if nobody takes the replies.
 pub fn work<R: Wait, G: Gate>(
     alloc: Global,
     rt: &R,
@@ -40,7 +42,8 @@ pub fn work<R: Wait, G: Gate>(
     work_tallied(alloc, rt, ends, steps, false, gate, gate_turns)
 }
 
-/// The same, where the tally of each block may be asked for: with `tallied` each [`Done`] has one, without it none.
+/// Does what [`work`] does. With `tallied`, each [`Done`] has the tally of its block; without, none
+/// has one.
 pub fn work_tallied<R: Wait, G: Gate>(
     alloc: Global,
     rt: &R,
@@ -77,7 +80,7 @@ pub fn work_tallied<R: Wait, G: Gate>(
     }
 }
 
-// What is made of each block, and how often the gate is asked about one.
+// What the worker makes of each block, and how often it asks the gate about one.
 #[derive(Clone, Copy)]
 struct Making {
     steps: Steps,
@@ -85,7 +88,7 @@ struct Making {
     gate_turns: u64,
 }
 
-// Answers blocks until the lane is closed, or one can't be done.
+// Replies to blocks until the lane is closed, or a block can't be done.
 fn answer_blocks<R: Wait, G: Gate>(
     alloc: Global,
     rt: &R,
@@ -93,7 +96,8 @@ fn answer_blocks<R: Wait, G: Gate>(
     making: &Making,
     gate: &G,
 ) -> Option<Cause>
-    ensures { HasAnswered making.now.tallied making.now.steps result ends.old.rx ends.new.rx ends.old.tx ends.new.tx }
+    ensures { HasAnswered making.now.tallied making.now.steps result
+        ends.old.rx ends.new.rx ends.old.tx ends.new.tx }
 {
     for _ in rt.forever() {
         let Some(block) = ends.rx.take_wait(rt) else {
@@ -106,7 +110,8 @@ fn answer_blocks<R: Wait, G: Gate>(
     unreachable!()
 }
 
-// Sends the reply to a block, and the block back. Answers why, where it couldn't be done.
+// Sends the reply to a block, and sends the block back. Returns the cause if the block couldn't be
+// done.
 fn answer<R: Wait, G: Gate>(
     alloc: Global,
     rt: &R,
@@ -115,7 +120,8 @@ fn answer<R: Wait, G: Gate>(
     making: &Making,
     gate: &G,
 ) -> Option<Cause>
-    ensures sent { ends.new.tx ≡ with_item ends.old.tx (reply_to making.now.tallied making.now.steps block result) }
+    ensures sent { ends.new.tx
+        ≡ with_item ends.old.tx (reply_to making.now.tallied making.now.steps block result) }
     ensures blocks { ends.new.rx ≡ ends.old.rx }
 {
     let worked = work_on(alloc, &block, making, gate, &mut ends.texts_back);
@@ -146,7 +152,7 @@ fn drain<R: Wait>(rt: &R, ends: &mut WorkEnds)
     unreachable!()
 }
 
-// What becomes of a block.
+// Trims a block into used or new texts, or returns the cause why it couldn't.
 fn work_on<G: Gate>(
     alloc: Global,
     block: &Block,
@@ -169,7 +175,7 @@ fn work_on<G: Gate>(
     }
 }
 
-// Asks the gate until it lets the block pass, at most so many times.
+// Asks the gate until it lets the block pass, at most `gate_turns` times.
 fn passes<G: Gate>(gate: &G, number: u64, gate_turns: u64) -> bool {
     for _ in 0..gate_turns {
         if gate.passes(number) {
@@ -179,7 +185,7 @@ fn passes<G: Gate>(gate: &G, number: u64, gate_turns: u64) -> bool {
     false
 }
 
-// Texts that came back, as they were written and counted, or new ones.
+// Returns used texts that came back, which are not emptied yet, or new ones.
 fn used_texts(alloc: Global, number: u64, texts_back: &mut Rx<Done>) -> Done {
     match texts_back.take() {
         Taken::Item(done) => done,
@@ -187,7 +193,8 @@ fn used_texts(alloc: Global, number: u64, texts_back: &mut Rx<Done>) -> Done {
     }
 }
 
-// Sends a block back where there is room for it, and lets it go otherwise.
+// Sends a block back for reuse if the lane has room, and drops it otherwise. Reuse only saves
+// memory, so the result of `offer` is ignored.
 fn give_back(blocks_back: &mut Tx<Block>, block: Block) {
     let _ = blocks_back.offer(block);
 }
