@@ -24,7 +24,8 @@ const TWO_BLOCKS: Case<'static> = Case {
     used: 2,
 };
 
-// Nothing made yet. It is handed on in a `Box`: it has so many parts that each function that owns one on its stack has a long proof.
+// A `Done` of which nothing is made yet. It is passed in a `Box`: it has many parts, and each
+// function that owns one on its stack has a long proof.
 fn nothing_done(alloc: Global) -> Result<Box<Done>, Fail> {
     Ok(Box::new(alloc, Done::new(alloc, 0))?)
 }
@@ -35,7 +36,7 @@ fn make(block: &Block, steps: &Steps, done: &mut Done) -> Result<(), Fail> {
     Ok(())
 }
 
-// What is made of block 4, whose two pairs these are.
+// Asserts what is made of block 4, which has these two pairs.
 fn assert_two_pairs(
     rt: &impl Abort,
     block: &Block,
@@ -55,7 +56,7 @@ fn assert_two_pairs(
     Ok(())
 }
 
-// The same twice, the second time with texts that were used.
+// Asserts it twice, the second time with used texts.
 fn assert_two_pairs_twice(
     rt: &impl Abort,
     alloc: Global,
@@ -79,7 +80,7 @@ fn a_block_of_two_pairs_has_their_texts(rt: HostRuntime) -> Result<(), Fail> {
     assert_two_pairs_twice(&rt, rt.alloc(), &block, &steps)
 }
 
-// The worker's run leaves what the case says, behind a gate that lets each block pass.
+// Asserts that the worker leaves what the case says, if the gate lets each block pass.
 fn assert_works<R: Abort + Wait>(
     rt: &R,
     alloc: Global,
@@ -104,12 +105,13 @@ fn used_texts(rt: &impl Abort, alloc: Global) -> Result<Box<Done>, Fail> {
     Ok(done)
 }
 
-// Whether there is room for it. Of any type, since a proof of texts and tallies would be a long one.
+// Whether the lane has room for the item. Generic, since a proof about texts and tallies would be
+// long.
 fn offers<T: Drop>(lane: &mut Tx<T>, item: Box<T>) -> bool {
     lane.offer(Box::into_inner(item)).is_ok()
 }
 
-// There is room for used texts, and then for no others.
+// Asserts that there is room for used texts, and then for no others.
 fn fill(rt: &impl Abort, alloc: Global, texts: &mut Tx<Done>) -> Result<(), Fail> {
     assert!(rt; offers(texts, used_texts(rt, alloc)?));
     assert!(rt; !offers(texts, nothing_done(alloc)?));
@@ -125,7 +127,7 @@ fn assert_room(rt: &impl Abort, alloc: Global, texts: &mut Tx<Done>) -> Result<(
 fn used_texts_are_taken_and_emptied(rt: HostRuntime) -> Result<(), Fail> {
     let (mut texts, texts_back) = text_lane(rt.alloc())?;
     fill(&rt, rt.alloc(), &mut texts)?;
-    // The first answer has nothing of what the texts held, and their place is free.
+    // The first reply has nothing of what the texts held, and their place is free.
     assert_works(&rt, rt.alloc(), &TWO_BLOCKS, texts_back)?;
     assert_room(&rt, rt.alloc(), &mut texts)
 }
@@ -150,7 +152,8 @@ fn two_blocks_are_tallied_where_that_is_asked_for(rt: HostRuntime) -> Result<(),
     assert_works(&rt, rt.alloc(), &case, no_texts(rt.alloc())?)
 }
 
-// Reads, bases, those of a score of at least 20 and 30, the sum of the scores, G or C, the shortest and the longest.
+// Reads, bases, bases with a score of at least 20 and of at least 30, the sum of the scores, G and
+// C, the shortest and the longest read.
 fn numbers(reads: &ReadsTally) -> [u64; 8] {
     let bases = reads.bases;
     [
@@ -169,7 +172,7 @@ fn assert_numbers(rt: &impl Abort, reads: &ReadsTally, wanted: &[u64; 8]) {
     assert_eq!(rt; numbers(reads), *wanted);
 }
 
-// The numbers of the reads before, of the paired and of the unpaired ones.
+// Asserts the numbers of the reads before trimming, of the paired and of the unpaired ones.
 fn assert_reads(rt: &impl Abort, side: &SideTally, wanted: &[[u64; 8]; 3]) {
     let [before, paired, unpaired] = wanted;
     assert_numbers(rt, &side.before, before);
@@ -229,13 +232,13 @@ fn assert_tally(
     Ok(())
 }
 
-// Asks for a tally, or for none.
+// Turns the tally on or off.
 fn ask(alloc: Global, tallied: bool, done: &mut Done) -> Result<(), Fail> {
     done.ask(alloc, tallied)?;
     Ok(())
 }
 
-// There is a tally while one is asked for, the second time one that was used.
+// Asserts that there is a tally while one is asked for, the second time a used one.
 fn assert_asked(
     rt: &impl Abort,
     alloc: Global,
@@ -251,7 +254,7 @@ fn assert_asked(
     assert_no_tally(rt, block, steps, done)
 }
 
-// The same, with new texts.
+// Asserts it with new texts.
 fn assert_asked_anew(
     rt: &impl Abort,
     alloc: Global,

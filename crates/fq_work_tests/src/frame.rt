@@ -53,17 +53,17 @@ pub(super) const SECOND: Sample = Sample {
 // A worker's run, and what it leaves.
 #[derive(Clone, Copy)]
 pub(super) struct Case<'a> {
-    // The pairs that it is dealt, in blocks of one.
+    // The pairs that the worker is dealt, in blocks of one.
     pub(super) pairs: &'a [Sample],
-    // How often it may ask the gate.
+    // How often the worker may ask the gate about a block.
     pub(super) gate_turns: u64,
     // The room of the lane of used blocks.
     pub(super) room: usize,
-    // How many blocks it answers.
+    // How many blocks are answered.
     pub(super) answered: usize,
-    // Whether its blocks are tallied.
+    // Whether the blocks are tallied.
     pub(super) tallied: bool,
-    // Why it stops.
+    // Why the worker stops.
     pub(super) cause: Option<Cause>,
     // How many blocks come back.
     pub(super) used: u64,
@@ -94,7 +94,7 @@ fn push_next(
     }
 }
 
-// The pairs of two texts, their names checked.
+// The pairs of two texts, with their names checked.
 fn pairs_of(
     alloc: Global,
     forward: &[u8],
@@ -105,13 +105,13 @@ fn pairs_of(
     Ok(Box::new(alloc, PairSource::new(forward, reverse, true))?)
 }
 
-// A block of no pairs. Functions hand a block on in a `Box`, and so they do the source of its pairs and a reply: these have so many
-// parts that each function that owns one on its stack has a long proof.
+// A block with no pairs. Functions pass a block in a `Box`, and also the source of its pairs and a
+// reply: these have many parts, and each function that owns one on its stack has a long proof.
 fn no_pairs(alloc: Global, number: u64) -> Result<Box<Block>, Fail> {
     Ok(Box::new(alloc, Block::new(alloc, number, Encoding::Sanger))?)
 }
 
-// A block of the pairs of two texts, which have two at most.
+// A block of the pairs of two texts, which have at most two.
 pub(super) fn block_of(
     rt: &impl Abort,
     alloc: Global,
@@ -132,13 +132,13 @@ pub(super) fn text_lane(alloc: Global) -> Result<(Tx<Done>, Rx<Done>), Fail> {
     Ok(lane(alloc, 1)?)
 }
 
-// No texts come back.
+// A return lane from which no texts come.
 pub(super) fn no_texts(alloc: Global) -> Result<Rx<Done>, Fail> {
     let (_texts, texts_back) = text_lane(alloc)?;
     Ok(texts_back)
 }
 
-// The ends of a worker's lanes, and those of whom it works for.
+// The ends of a worker's lanes, and those of the dealer and the collector.
 #[derive(Drop)]
 struct Lanes {
     blocks: Tx<Block>,
@@ -149,7 +149,7 @@ struct Lanes {
     used: Rx<Block>,
 }
 
-// The lane of used blocks has this room.
+// Makes all lanes. That of used blocks has this room.
 fn lay_lanes(rt: &impl Abort, alloc: Global, room: usize) -> Result<Lanes, Fail>
     ensures blocks { IfOk result (λ lanes. lanes.rx.name ≡ lanes.blocks.name) }
     ensures replies { IfOk result (λ lanes. lanes.replies.name ≡ lanes.tx.name) }
@@ -168,7 +168,8 @@ fn lay_lanes(rt: &impl Abort, alloc: Global, room: usize) -> Result<Lanes, Fail>
     })
 }
 
-// Deals the pairs, works on them, looks at each reply, confirms both lanes, and looks at each block that comes back.
+// Deals the pairs, runs the worker, checks each reply, confirms both lanes, and checks each block
+// that comes back.
 pub(super) fn assert_work<R: Abort + Wait, G: Gate>(
     rt: &R,
     alloc: Global,
@@ -196,7 +197,7 @@ pub(super) fn assert_work<R: Abort + Wait, G: Gate>(
     assert_used(rt, alloc, used, case.used)
 }
 
-// Works on what was dealt.
+// Runs the worker on what was dealt.
 fn work_on<R: Abort + Wait, G: Gate>(
     rt: &R,
     alloc: Global,
@@ -215,7 +216,7 @@ fn work_on<R: Abort + Wait, G: Gate>(
     }
 }
 
-// Looks at each reply, and confirms both lanes.
+// Checks each reply, and confirms both lanes.
 fn assert_worked(
     rt: &impl Abort,
     alloc: Global,
@@ -256,7 +257,7 @@ fn deal<R: Abort + Wait>(
     Ok(tx.close().expect(rt, "the receiver is there"))
 }
 
-// Takes the replies to the blocks that are answered, a stop where there is a cause, and the mark.
+// Takes the replies to the blocks that are answered, a stop if there is a cause, and the mark.
 fn assert_replies(
     rt: &impl Abort,
     alloc: Global,
@@ -275,7 +276,7 @@ fn assert_replies(
     take_mark(alloc, replies)
 }
 
-// The next reply answers the block of one pair that has this number.
+// Asserts that the next reply answers the block of one pair that has this number.
 fn assert_answered(
     rt: &impl Abort,
     alloc: Global,
@@ -291,7 +292,7 @@ fn assert_answered(
     Ok(())
 }
 
-// The next reply is a stop for this cause.
+// Asserts that the next reply is a stop for this cause.
 fn assert_stopped(
     rt: &impl Abort,
     alloc: Global,
@@ -309,7 +310,8 @@ fn is_stop(reply: &Reply, cause: Option<Cause>) -> bool {
     matches!(reply, Reply::Stop(why) if Some(*why) == cause)
 }
 
-// What comes next, if something is there. Of any type, since a proof of blocks or replies would be a long one.
+// Returns what comes next, if something is there. Generic, since a proof about blocks or replies
+// would be long.
 fn next_item<T: Drop>(alloc: Global, lane: &mut Rx<T>) -> Result<Option<Box<T>>, Fail>
     ensures { lane.new.name ≡ lane.old.name }
 {
@@ -319,7 +321,7 @@ fn next_item<T: Drop>(alloc: Global, lane: &mut Rx<T>) -> Result<Option<Box<T>>,
     }
 }
 
-// Whether nothing is there, and something may come.
+// Whether nothing is there, but something can still come.
 fn is_empty<T: Drop>(lane: &mut Rx<T>) -> bool {
     matches!(lane.take(), Taken::Empty)
 }
@@ -357,7 +359,7 @@ fn assert_done(rt: &impl Abort, reply: &Reply, number: u64, pair: &Sample, talli
     }
 }
 
-// What was made of the block of one pair that has this number.
+// Asserts what was made of the block of one pair that has this number.
 fn assert_made(rt: &impl Abort, done: &Done, number: u64, pair: &Sample, tallied: bool) {
     assert_eq!(rt; done.number, number);
     assert_written(rt, &done.texts, &pair.written, pair.counts);
@@ -377,7 +379,7 @@ pub(super) fn assert_written(rt: &impl Abort, texts: &Texts, want: &Written, cou
     assert_eq!(rt; texts.counts(), counts);
 }
 
-// The next block that came back has this number.
+// Asserts that the next block that came back has this number.
 fn assert_next_used(
     rt: &impl Abort,
     alloc: Global,
@@ -389,7 +391,7 @@ fn assert_next_used(
     Ok(())
 }
 
-// Takes so many blocks that came back, from number 0. No further one is there.
+// Asserts that `count` blocks came back, from number 0, and no more.
 fn assert_used(
     rt: &impl Abort,
     alloc: Global,

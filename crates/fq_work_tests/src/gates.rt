@@ -6,7 +6,7 @@ use std::sync::atomic::{AtomicU64, Ordering};
 use std::sync::{Arc, Wait};
 use std::test::Fail;
 
-// A gate that refuses so many times, and counts how often it's asked.
+// A gate that refuses `refusals` times, and counts how often it is asked.
 #[derive(Drop)]
 struct LateGate {
     refusals: u64,
@@ -51,9 +51,9 @@ const ANSWERED: Case<'static> = Case {
     used: 2,
 };
 
-// The same two, of which none is.
+// Two blocks, neither of which is answered.
 const STOPPED: Case<'static> = Case {
-    // So the second block is let go.
+    // So the second block is dropped.
     room: 1,
     answered: 0,
     cause: Some(Cause::Gate),
@@ -61,7 +61,7 @@ const STOPPED: Case<'static> = Case {
     ..ANSWERED
 };
 
-// Where the gate refuses so many times, it is asked so often.
+// Asserts how often the gate is asked if it refuses `refusals` times.
 fn assert_asked<R: Abort + Wait>(
     rt: &R,
     alloc: Global,

@@ -1,5 +1,6 @@
-//! Tests of `fq_work` by what it gives to everybody: workers between lanes, what they answer, and what their gates let pass. They have
-//! a crate of their own, as Rust's `tests/` folders have, so that they are proved without proving `fq_work` once more.
+//! Tests of the public calls of `fq_work`: workers between lanes, what they reply, and what their
+//! gates let pass. They are a crate of their own, like the `tests/` folder of a Rust crate, so that
+//! they are proved without proving `fq_work` again.
 #![tactic(auto)]
 
 #[cfg(test)]
