@@ -32,8 +32,7 @@ room_of read = length read.title + 2 * length read.seq + 8
 unfoldable pub length_in : List ℕ → ℕ
 length_in packed = from_be_bytes w32 (take 4 packed)
 
--- the title length and the number of bases of the read at the front, and its parts with what comes
--- after them
+-- the title length and number of bases of the read at the front, and its parts with the rest
 abbrev pub title_len_in : List ℕ → ℕ
 title_len_in packed = length_in packed
 

@@ -23,8 +23,7 @@ abbrev pub taken_of : {T : Type 0} → Option T → Taken T
 taken_of (Some x) = Item x
 taken_of None = Closed
 
--- what a pop of the ring returns if the mark was not got before: one more item, nothing, or the
--- mark
+-- what a pop of the ring returns before the mark was got: one more item, nothing, or the mark
 abbrev pub Pops : {T A P : Type 0} → Popped T → Consumer (Slot T) A P → Consumer (Slot T) A P →
     Type 0
 Pops (popped.Item x freed) b c =

@@ -55,8 +55,8 @@ impl Parkers {
     }
 }
 
-// The first calls with one `backoff` spin or yield, for some microseconds in all. Each later call
-// sleeps.
+// The first calls with one `backoff` spin or yield, for some microseconds in all. The later ones
+// sleep.
 fn rest(rt: &impl Wait, parker: &Parker, backoff: &Backoff) {
     if backoff.is_completed() {
         parker.park(rt);

@@ -74,7 +74,7 @@ module _ (check : Bool) (e : Encoding) (k : ℕ) where
   pub interleaved_pairs_of-met : (m : Mates) (ls fs rs : List (List ℕ)) → interleaved_front check e k ls ≡ Met m fs rs → interleaved_pairs_of check k (records_of e ls) ≡ with_pair m (interleaved_pairs_of check (suc k) (records_of e fs))
   interleaved_pairs_of-met m ls fs rs is = interleaved_pairs_of-front ls ∙ ap (from_pair_front (λ fs rs. interleaved_pairs_of check (suc k) (records_of e fs))) is
 
-  -- a fault that comes first ends the pairs, of which there are none
+  -- if a fault comes first, there is no pair, and the fault ends them
   pub interleaved_pairs_of-stopped : (ls : List (List ℕ)) (fault : InputFault) → interleaved_front check e k ls ≡ Stopped fault → interleaved_pairs_of check k (records_of e ls) ≡ record { mates = []; fault = Some fault }
   interleaved_pairs_of-stopped ls fault is = interleaved_pairs_of-front ls ∙ ap (from_pair_front (λ fs rs. interleaved_pairs_of check (suc k) (records_of e fs))) is
 

@@ -82,7 +82,7 @@ module _ (check : Bool) (e : Encoding) (k : ℕ) (forward reverse : List (List �
       pairs_of check k (records_of e forward) (records_of e reverse) ≡ with_pair m (pairs_of check (suc k) (records_of e fs) (records_of e rs))
   pairs_of-met m fs rs is = pairs_of-front ∙ ap (from_pair_front (λ fs rs. pairs_of check (suc k) (records_of e fs) (records_of e rs))) is
 
-  -- a fault that comes first ends the pairs, of which there are none
+  -- if a fault comes first, there is no pair, and the fault ends them
   pub pairs_of-stopped : (fault : InputFault) → pair_front check e k forward reverse ≡ Stopped fault →
       pairs_of check k (records_of e forward) (records_of e reverse) ≡ record { mates = []; fault = Some fault }
   pairs_of-stopped fault is = pairs_of-front ∙ ap (from_pair_front (λ fs rs. pairs_of check (suc k) (records_of e fs) (records_of e rs))) is

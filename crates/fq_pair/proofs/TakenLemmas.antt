@@ -1,5 +1,4 @@
--- The lines that the first record in a list of lines takes: it comes first whatever lines follow
--- them.
+-- The lines that the first record in a list of lines takes, whatever lines follow them.
 use Rattle.std.proofs.Common.{◌≡◌, ℕ, suc, ◌-◌, true, eqb, Some, None, List, [], ◌∷◌, ◌++◌, length, refl, ap, sym, ◌∙◌, append_assoc, ⊎_elim}
 use Rattle.std.specs.List.{concat}
 use Rattle.std.proofs.lemmas.Bool.{cond-true, cond-false, cases_Bool}

@@ -18,7 +18,7 @@ side_behind zero = Forward
 side_behind (suc zero) = Reverse
 side_behind (suc (suc n)) = side_behind n
 
--- each two consecutive reads of a list as mates
+-- the reads of a list, taken as mates two by two
 abbrev pub interleaved_mates : List Read → List Mates
 interleaved_mates [] = []
 interleaved_mates (f ∷ []) = []

@@ -25,7 +25,7 @@ abbrev pub mark_of : Side → List ℕ
 mark_of Forward = 47 ∷ 49 ∷ []
 mark_of Reverse = 47 ∷ 50 ∷ []
 
--- a text without this ending, if it has it
+-- a text, with this ending removed if it has it
 abbrev pub without_end : List ℕ → List ℕ → List ℕ
 without_end ending text =
     if ends_with nat_eq text ending then take (length text - length ending) text else text

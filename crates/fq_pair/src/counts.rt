@@ -8,8 +8,8 @@ use fq_text::OutOfMemory;
 use itoa::Buffer;
 use std::alloc::Global;
 
-/// How many pairs were trimmed, and in how many of them which mates survive. Each pair counts once
-/// in `pairs` and once in one of the other fields.
+/// Counts of trimmed pairs, by the mates that survive. Each pair counts once in `pairs` and once in
+/// one of the other fields.
 #[derive(Clone, Copy, Debug, PartialEq, Eq)]
 pub struct Counts {
     /// All pairs.
@@ -52,11 +52,11 @@ impl Counts {
 }
 
 /// Returns the summary of a run: five lines, each ended by LF, with the counts in plain decimal.
-/// The order is `Input Read Pairs`, `Both Surviving`, `Forward Only Surviving`, `Reverse Only
-/// Surviving`, `Dropped`.
+/// The labels are `Input Read Pairs`, `Both Surviving`, `Forward Only Surviving`,
+/// `Reverse Only Surviving` and `Dropped`, in this order.
 ///
-/// The labels are Trimmomatic's, but each has a line of its own, without percentages. It fails if
-/// memory is refused.
+/// The labels are Trimmomatic's, but on a line each and without percentages. It fails if memory is
+/// refused.
 pub fn summary(alloc: Global, counts: &Counts) -> Result<String, OutOfMemory>
     ensures { IfOk result (λ text. string_bytes text ≡ summary_of counts.now) }
 {

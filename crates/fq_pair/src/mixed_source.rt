@@ -94,8 +94,7 @@ impl<F: Feed> MixedSource<F> {
         ensures again { MatchOption self.old.last (Unit {0})
             (λ last. (result ≡ more_of last) × (self.new ≡ self.old)) }
 
-        // Otherwise the result is what comes first in the rest, and a pair found is the current
-        // one.
+        // Otherwise the result is what the rest begins with, and a pair found is the current one.
         ensures found { self.old.last ≡ None → result ≡ Ok true →
             IsSomeAnd self.new.current (GivesPair F.state self.old self.new) }
         ensures in_hand { result ≡ Ok true → IsSome self.new.current }
@@ -127,8 +126,8 @@ impl<F: Feed> MixedSource<F> {
         }
     }
 
-    /// Lends the current pair. The last call must have been an [`advance`](MixedSource::advance)
-    /// that returned `true`: after [`next`](MixedSource::next) there is no current pair.
+    /// Lends the current pair. There must be one: the last [`advance`](MixedSource::advance)
+    /// returned `true`, and no [`next`](MixedSource::next) was called after it.
     pub fn pair(&self) -> PairView<'_>
         requires { IsSome self.now.current }
         ensures { self.now.current ≡ Some (mates_in result.forward result.reverse) }
@@ -139,8 +138,8 @@ impl<F: Feed> MixedSource<F> {
         }
     }
 
-    /// The lengths of the names of the current pair. The last call must have been an
-    /// [`advance`](MixedSource::advance) that returned `true`.
+    /// The lengths of the names of the current pair. There must be one, as for
+    /// [`pair`](MixedSource::pair).
     pub fn names(&self) -> NameLengths
         requires { IsSome self.now.current }
         ensures { IfSome self.now.current (λ m. result ≡ name_lengths m) }
@@ -160,7 +159,7 @@ impl<F: Feed> MixedSource<F> {
         ensures again { MatchOption self.old.last (Unit {0})
             (λ last. (result ≡ answer_of last) × (self.new ≡ self.old)) }
 
-        // Otherwise the result is what comes first in the rest.
+        // Otherwise the result is what the rest begins with.
         ensures found { self.old.last ≡ None →
             IfOk result (λ o. IfSome o (GivesPair F.state self.old self.new)) }
         ensures end { self.old.last ≡ None → result ≡ Ok None →

@@ -96,8 +96,7 @@ impl<F: Feed, G: Feed> PairSource<F, G> {
         ensures again { MatchOption self.old.last (Unit {0})
             (λ last. (result ≡ more_of last) × (self.new ≡ self.old)) }
 
-        // Otherwise the result is what comes first in the two rests, and a pair found is the
-        // current one.
+        // Otherwise the result is what the rests begin with, and a pair found is the current one.
         ensures found { self.old.last ≡ None → result ≡ Ok true →
             IsSomeAnd self.new.current (GivesPair F.state G.state self.old self.new) }
         ensures in_hand { result ≡ Ok true → IsSome self.new.current }
@@ -138,8 +137,8 @@ impl<F: Feed, G: Feed> PairSource<F, G> {
         }
     }
 
-    /// Lends the current pair. The last call must have been an [`advance`](PairSource::advance)
-    /// that returned `true`: after [`next`](PairSource::next) there is no current pair.
+    /// Lends the current pair. There must be one: the last [`advance`](PairSource::advance)
+    /// returned `true`, and no [`next`](PairSource::next) was called after it.
     pub fn pair(&self) -> PairView<'_>
         requires { IsSome self.now.current }
         ensures { self.now.current ≡ Some (mates_in result.forward result.reverse) }
@@ -150,8 +149,8 @@ impl<F: Feed, G: Feed> PairSource<F, G> {
         }
     }
 
-    /// The lengths of the names of the current pair. The last call must have been an
-    /// [`advance`](PairSource::advance) that returned `true`.
+    /// The lengths of the names of the current pair. There must be one, as for
+    /// [`pair`](PairSource::pair).
     pub fn names(&self) -> NameLengths
         requires { IsSome self.now.current }
         ensures { IfSome self.now.current (λ m. result ≡ name_lengths m) }
@@ -171,7 +170,7 @@ impl<F: Feed, G: Feed> PairSource<F, G> {
         ensures again { MatchOption self.old.last (Unit {0})
             (λ last. (result ≡ answer_of last) × (self.new ≡ self.old)) }
 
-        // Otherwise the result is what comes first in the two rests.
+        // Otherwise the result is what the rests begin with.
         ensures found { self.old.last ≡ None →
             IfOk result (λ o. IfSome o (GivesPair F.state G.state self.old self.new)) }
         ensures end { self.old.last ≡ None → result ≡ Ok None →

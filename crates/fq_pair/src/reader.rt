@@ -27,26 +27,26 @@ pub trait PairReader {
         ensures again { MatchOption (state self.old).last (Unit {0})
             (λ last. (result ≡ more_of last) × (state self.new ≡ state self.old)) }
 
-        // Otherwise the result is what comes first in the sides.
+        // Otherwise the result is what the sides begin with.
         ensures advances { (state self.old).last ≡ None →
             Advances (state self.old) (state self.new) result }
         ensures in_hand { result ≡ Ok true → IsSome (state self.new).current }
 
-        // No more records are given than bytes may come, and both mates are in the encoding of the
-        // source.
+        // No more records are given than bytes can come, and mates are in the source's encoding.
         ensures within { (state self.new).forward.given ≤ (state self.new).most_bytes }
         ensures encoding { (state self.old).last ≡ None → IfSome (state self.new).current (λ m.
             (m.forward.encoding ≡ (state self.old).encoding)
             × (m.reverse.encoding ≡ (state self.old).encoding)) };
 
-    /// Lends the current pair. The last call must have been an
-    /// [`advance_pair`](PairReader::advance_pair) that returned `true`.
+    /// Lends the current pair. There must be one: the last
+    /// [`advance_pair`](PairReader::advance_pair) returned `true`, and no
+    /// [`next_pair`](PairReader::next_pair) was called after it.
     fn pair_in_hand(&self) -> PairView<'_>
         requires { IsSome (state self.now).current }
         ensures { (state self.now).current ≡ Some (mates_in result.forward result.reverse) };
 
-    /// The lengths of the names of the current pair. The last call must have been an
-    /// [`advance_pair`](PairReader::advance_pair) that returned `true`.
+    /// The lengths of the names of the current pair. There must be one, as for
+    /// [`pair_in_hand`](PairReader::pair_in_hand).
     fn names_in_hand(&self) -> NameLengths
         requires { IsSome (state self.now).current }
         ensures { IfSome (state self.now).current (λ m. result ≡ name_lengths m) };
@@ -58,13 +58,12 @@ pub trait PairReader {
         ensures again { MatchOption (state self.old).last (Unit {0})
             (λ last. (result ≡ answer_of last) × (state self.new ≡ state self.old)) }
 
-        // Otherwise the result is what comes first in the sides.
+        // Otherwise the result is what the sides begin with.
         ensures asks { (state self.old).last ≡ None →
             Asks (state self.old) (state self.new) result }
         ensures in_hand { (state self.old).last ≡ None → (state self.new).current ≡ None }
 
-        // No more records are given than bytes may come, and both mates are in the encoding of the
-        // source.
+        // No more records are given than bytes can come, and mates are in the source's encoding.
         ensures within { (state self.new).forward.given ≤ (state self.new).most_bytes }
         ensures encoding { (state self.old).last ≡ None →
             IfOk result (λ o. IfSome o (λ m. m.forward.encoding ≡ (state self.old).encoding)) };

@@ -177,7 +177,7 @@ impl Texts {
         }
     }
 
-    /// How many pairs were added, and in how many of them which mates survive.
+    /// The counts of the pairs that were added, by the mates that survive.
     pub fn counts(&self) -> Counts
         ensures { result ≡ self.now.counts }
     {

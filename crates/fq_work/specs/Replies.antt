@@ -32,8 +32,7 @@ abbrev pub reply_to : Bool → List Step → Numbered → Option Cause → Reply
 reply_to tallied steps block None = done (done_of tallied steps block)
 reply_to tallied steps block (Some cause) = Stop cause
 
--- one Done for each block, in order, or for the first of them, and then exactly one Stop, with this
--- cause
+-- a Done for each block in order, or for the first of them and then exactly one Stop of this cause
 abbrev pub Answers : Bool → List Step → List Numbered → List Reply → Option Cause → Type 0
 Answers tallied steps [] [] None = Unit {0}
 Answers tallied steps [] [] (Some cause) = ⊥

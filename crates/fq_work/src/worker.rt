@@ -42,8 +42,7 @@ pub fn work<R: Wait, G: Gate>(
     work_tallied(alloc, rt, ends, steps, false, gate, gate_turns)
 }
 
-/// Does what [`work`] does. With `tallied`, each [`Done`] has the tally of its block; without, none
-/// has one.
+/// Does what [`work`] does. With `tallied` each [`Done`] has the tally of its block, else none has.
 pub fn work_tallied<R: Wait, G: Gate>(
     alloc: Global,
     rt: &R,
@@ -110,8 +109,7 @@ fn answer_blocks<R: Wait, G: Gate>(
     unreachable!()
 }
 
-// Sends the reply to a block, and sends the block back. Returns the cause if the block couldn't be
-// done.
+// Sends the reply to a block, and the block back. Returns the cause if the reply is a stop.
 fn answer<R: Wait, G: Gate>(
     alloc: Global,
     rt: &R,
@@ -152,7 +150,7 @@ fn drain<R: Wait>(rt: &R, ends: &mut WorkEnds)
     unreachable!()
 }
 
-// Trims a block into used or new texts, or returns the cause why it couldn't.
+// Trims a block into used or new texts. Returns the cause if the gate or memory refused it.
 fn work_on<G: Gate>(
     alloc: Global,
     block: &Block,

@@ -24,7 +24,7 @@ const TWO_BLOCKS: Case<'static> = Case {
     used: 2,
 };
 
-// A `Done` of which nothing is made yet. It is passed in a `Box`: it has many parts, and each
+// A `Done` with nothing made yet. It is passed in a `Box`: it has many parts, and each
 // function that owns one on its stack has a long proof.
 fn nothing_done(alloc: Global) -> Result<Box<Done>, Fail> {
     Ok(Box::new(alloc, Done::new(alloc, 0))?)
