@@ -1,4 +1,4 @@
--- A run that was made, with what its files hold.
+-- A run that was made, and what its files hold.
 use Rattle.std.proofs.Common.{◌≡◌, ◌≢◌, ◌⊎◌, ◌++◌, ◌∙◌, ℕ, Bool, true, IsTrue, IsSome, Option, Some, None, is_some, Ok, List, [], refl, sym, ap, subst}
 use Rattle.fq_files.specs.Holding.{Holding, IsUnchanged}
 use Rattle.fq_text.specs.declared.encoding.Encoding.{Encoding}
@@ -28,7 +28,8 @@ use Rattle.fq_job.proofs.TextLemmas.{texts_held}
 use Rattle.fq_job.proofs.EndingLemmas.{ends_so}
 use Rattle.fq_job.proofs.ReportingLemmas.{report_held, text_is}
 
--- The inputs of a run have the bytes of their files, its outlets began empty, and the files of the outputs hold what they have taken.
+-- The feeds of a run have the bytes of their files, its outlets began empty, and the files of the
+-- outputs hold what the outlets have taken.
 pub record IsHeld (a : Asking) (c : Choices) (old new : Holding) (run : Run) : Type 0 where
   pub settings : settings_of a ≡ Ok c
   pub form : run.form ≡ a.inputs.form
@@ -45,7 +46,7 @@ module _ (a : Asking) (c : Choices) (old new : Holding) (run : Run) (held : IsHe
       let P : Form → Type 0 = λ form. TrimsPairs c (pairs_of c form run.forward.to_come run.reverse.to_come) run.outlets run.outlets_left run.outcome run.counts in
       subst P held.form (record { took = trimmed.took; counts_are = trimmed.counts; outcome_is = trimmed.outcome })
 
-  -- all pairs were trimmed
+  -- a run that trimmed all pairs trimmed all pairs of the files
   pub trims_files : IsTrimmed c run → TrimsFiles a old new run.outcome run.counts
   trims_files ended =
       let trimmed = trims_pairs ended in
@@ -62,7 +63,7 @@ module _ (a : Asking) (c : Choices) (old new : Holding) (run : Run) (held : IsHe
         outcome_is = trimmed.outcome_is;
       }
 
-  -- the first pairs were
+  -- at any other ending the files hold the first pairs
   pub first_pairs : EveryEnding c run → HoldFirstPairs a old new run.outcome
   first_pairs every =
       let P : Form → Type 0 = λ form. TrimsFirst c (pairs_of c form run.forward.to_come run.reverse.to_come) run.outlets run.outlets_left run.outcome in
@@ -83,7 +84,7 @@ module _ (a : Asking) (c : Choices) (old new : Holding) (run : Run) (held : IsHe
         told = trimmed.told;
       }
 
--- What a report holds that was written of a run.
+-- What the report of a run holds once it is written.
 pub report_of_run : (a : Asking) (c : Choices) (old new : Holding) (run : Run) (account : Account) (encoding : Encoding) (reported : Reported) (name bytes : List ℕ)
     → settings_of a ≡ Ok c → run.form ≡ a.inputs.form → old a.inputs.forward ≡ Some run.forward.to_come → old a.inputs.reverse ≡ Some run.reverse.to_come
     → account.outcome ≡ run.outcome → account.counts ≡ run.counts → account.tally ≡ run.tally
@@ -107,7 +108,7 @@ report_of_run a c old new run account encoding reported name bytes settings form
       text_is = subst P form (text_is a c (all_pairs c run) account text is (counts ∙ trimmed.counts) (outcome ∙ trimmed.outcome) (tally ∙ trimmed.tally));
     }) at (subst R encoding_is took)
 
--- ---- the same said of other words
+-- ---- the same facts about equal feeds and outlets
 
 pub opened_as : (a : Asking) (x y : Bool) (old new : Holding) (inputs : Opened) (outlets : OutletStates) (report : Option OutletState) → x ≡ y → AreOpened a x old new inputs outlets report → AreOpened a y old new inputs outlets report
 opened_as a x y old new inputs outlets report same opened = let P : Bool → Type 0 = λ tells. AreOpened a tells old new inputs outlets report in subst P same opened

@@ -18,7 +18,7 @@ healthy_at states healthy Log outlet at = let P : Option OutletState → Type 0 
 pub none_counted : (a : Asking) (states : OutletStates) (failed : Failed) → AreCounted a states 0 failed failed
 none_counted a states failed = record { failed = λ out name outlet below. absurd (omega (arith, below)); sound = λ healthy. refl; still = λ name had. had }
 
--- one more output is done with
+-- one more outlet is handed back
 pub one_counted : (a : Asking) (states : OutletStates) (this : Out) (name : List ℕ) (outlet : OutletState) (start old new : Failed) → output_name a this ≡ Some name → outlet_at this states ≡ Some outlet
     → (0 < outlet.failures → IsTrue (new name)) → (outlet.failures ≡ 0 → new ≡ old) → KeepsFailed old new
     → AreCounted a states (place this) start old → AreCounted a states (suc (place this)) start new
@@ -38,7 +38,7 @@ one_counted a states this name outlet start old new named at fails sound still f
   still = λ n had. still n (first.still n had);
 }
 
--- where there is no log all are done with behind the fourth
+-- without a log, all outlets are handed back after the fourth
 pub no_log_counted : (a : Asking) (states : OutletStates) (start failed : Failed)
     → ((name : List ℕ) (outlet : OutletState) → output_name a Log ≡ Some name → outlet_at Log states ≡ Some outlet → ⊥) → AreCounted a states 4 start failed → AreCounted a states 5 start failed
 no_log_counted a states start failed none counted = record { failed = five; sound = counted.sound; still = counted.still }

@@ -17,7 +17,7 @@ done_is_whole (Endless side) e = absurd (omega (arith, e))
 done_is_whole (Input fault) e = refl
 done_is_whole Finished e = refl
 
--- and so has one whose outcome has status 3
+-- a run whose outcome has status 3 has ended whole
 pub faulty_is_whole : (outcome : Outcome) → outcome_status outcome ≡ 3 → IsTrue (ends_whole outcome)
 faulty_is_whole Spawn e = absurd (omega (arith, e))
 faulty_is_whole Lane e = absurd (omega (arith, e))
@@ -29,6 +29,6 @@ faulty_is_whole (Endless side) e = absurd (omega (arith, e))
 faulty_is_whole (Input fault) e = refl
 faulty_is_whole Finished e = refl
 
--- and so has one whose outcome has one of both
+-- a run whose outcome has status 0 or 3 has ended whole
 pub ends_so : (outcome : Outcome) (status : ℕ) → outcome_status outcome ≡ status → (status ≡ 0) ⊎ (status ≡ 3) → IsTrue (ends_whole outcome)
 ends_so outcome status is ends = ⊎_elim (λ zero. done_is_whole outcome (is ∙ zero)) (λ three. faulty_is_whole outcome (is ∙ three)) ends

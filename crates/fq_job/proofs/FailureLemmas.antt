@@ -1,4 +1,4 @@
--- What a run promises of failures.
+-- What a run promises about failures.
 use Rattle.std.proofs.Common.{◌≡◌, ◌≢◌, ◌++◌, ℕ, zero, suc, ◌+◌, ◌-◌, ◌*◌, ◌<◌, ◌≤◌, Bool, true, IsTrue, Option, Some, None, is_some, IfSome, Ok, List, [], ◌∷◌, length, option_map, refl, sym, ap, subst, ◌∙◌, arith}
 use Rattle.std.specs.Prelude.{take_while}
 use Rattle.std.proofs.lemmas.List.{length-take}
@@ -40,7 +40,7 @@ self_fails ReversePaired = omega arith
 self_fails ReverseUnpaired = omega arith
 self_fails Log = omega arith
 
--- an outlet that failed is there, and was there before
+-- an outlet that failed exists now and existed before the run
 pub record HadFailed (old new : Option OutletState) : Type 0 where
   pub outlet : OutletState
   pub was : is_some old ≡ true
@@ -62,7 +62,7 @@ some_in : (o : Option (List ℕ)) → is_some o ≡ true → (name : List ℕ) �
 some_in (Some name) is = (name, refl)
 some_in None is = absurd (cc is)
 
--- an outlet that is there is one of an output that is wanted
+-- an outlet that exists belongs to an output that was asked for
 pub wanted_output : (a : Asking) (outlets : OutletStates) → is_some outlets.log ≡ is_some a.log → (out : Out) → is_some (outlet_at out outlets) ≡ true → (name : List ℕ) × (output_name a out ≡ Some name)
 wanted_output a outlets log ForwardPaired there = (a.forward_paired, refl)
 wanted_output a outlets log ForwardUnpaired there = (a.forward_unpaired, refl)
@@ -114,7 +114,7 @@ healthy_behind old new texts took healthy = record {
 sound_behind : (old new : OutletStates) (texts : Out → List ℕ) (failed : Option Out) → failed ≡ None → OutletsTook old new texts failed → AreHealthy old → AreHealthy new
 sound_behind old new texts failed none took = let P : Option Out → Type 0 = λ f. OutletsTook old new texts f in healthy_behind old new texts (subst P none took)
 
--- where a run ended whole no outlet has failed
+-- if a run ended whole, no outlet has failed
 pub outlets_sound : (c : Choices) (run : Run) → EveryEnding c run → IsTrue (ends_whole run.outcome) → AreHealthy run.outlets → AreHealthy run.outlets_left
 outlets_sound c run every whole healthy =
     sound_behind run.outlets run.outlets_left (λ out. text_of out (texts_of c.steps every.whole) ++ part_begun c.steps every.fate out) (failed_outlet every.fate)
@@ -124,14 +124,14 @@ zero_if : (n : ℕ) → (0 < n → ⊥) → n ≡ 0
 zero_if zero none = refl
 zero_if (suc n) none = absurd (none (omega arith))
 
--- and no feed
+-- if a run ended whole, no feed has failed
 pub feed_sound : (c : Choices) (run : Run) → EveryEnding c run → IsTrue (ends_whole run.outcome) → (side : Side) → failures_in (feed_left side run) ≡ 0
 feed_sound c run every whole side = zero_if (failures_in (feed_left side run)) (λ some.
     let low = every.outcome.feed_failed side some in
     let high = whole_rank run.outcome whole in
     omega (arith, low, high))
 
--- ---- inputs without an end
+-- ---- endless inputs
 
 gave_within : (old : FeedState) (new : Option FeedState) → length (gave_to old new) ≤ length old.to_come
 gave_within old (Some new) = let e = length-take (length old.to_come - length new.to_come) old.to_come in omega (arith, e)
@@ -145,7 +145,7 @@ endless_input c run every side is told = within _ _ _ (every.outcome.endless sid
 
 -- ---- faults of texts
 
--- a fault is one of a text, and not of its device
+-- the fault is one of a text, and not of its device
 IsKnown : Option InputFault → Type 0
 IsKnown fault = end_of fault ≡ trimmed_outcome fault
 
@@ -200,14 +200,14 @@ settled_if (Endless side) whole = refl
 settled_if (Input found) whole = whole refl
 settled_if Finished whole = refl
 
--- the outcome of a run over feeds that tell their bytes is told as it is
+-- the outcome of a run over feeds that tell their bytes is reported unchanged
 pub as_it_is : (c : Choices) (run : Run) → (IsTrue (ends_whole run.outcome) → IsTrimmed c run) → settled run.outcome ≡ run.outcome
 as_it_is c run trims = settled_if run.outcome (λ whole.
     let is = (trims whole).outcome in
     let P : Outcome → Type 0 = λ o. settled o ≡ o in
     subst P (sym is) (settled_trimmed (all_pairs c run).fault (pairs_known run.form c.check_names c.encoding run.forward.to_come run.reverse.to_come)))
 
--- ---- the failure that is told
+-- ---- the failure that is reported
 
 has_failed : (a : Asking) (tells : Bool) (old : Holding) (failed : Failed) (o : Outcome)
     → ((out : Out) → o ≡ Write out → (name : List ℕ) × (output_name a out ≡ Some name) × IsTrue (failed name))
@@ -235,7 +235,8 @@ bytes_in a old inputs run forward reverse fed Reverse =
 one_or_more : (n : ℕ) → n ≡ 1 → 0 < n
 one_or_more n is = omega (arith, is)
 
--- The failure that a run tells is one of the device that it names: of the feeds and outlets that were handed back.
+-- The failure that a run reports is one of the device that it names, among the feeds and outlets
+-- that were handed back.
 pub fails_as_told : (a : Asking) (tells : Bool) (old : Holding) (c : Choices) (inputs : Opened) (run : Run) (left : Side → Option FeedState) (x y z w : Failed)
     → settings_of a ≡ Ok c → run.forward ≡ inputs.forward → run.reverse ≡ inputs.reverse → is_some run.outlets.log ≡ is_some a.log
     → ((side : Side) → feed_left side run ≡ left side) → (IsTrue tells → AreFed inputs a.inputs old) → EveryEnding c run

@@ -1,4 +1,4 @@
--- What the files of the outputs hold where the program ends otherwise than whole.
+-- What the files of the outputs hold if the program does not end whole.
 use Rattle.std.proofs.Common.{◌≡◌, ◌≢◌, ℕ, IsTrue, IsSome, Option, Some, None, Result, Ok, Err, List, [], ◌++◌, refl, sym, ap, subst, ◌∙◌, inl, inr, ◌⊎◌, ⊎_elim}
 use Rattle.std.proofs.lemmas.List.{append-nil}
 use Rattle.fq_files.specs.Holding.{Holding, IsUnchanged}
@@ -18,7 +18,7 @@ use Rattle.fq_job.specs.Trimming.{TrimsFiles, pairs_of}
 use Rattle.fq_job.specs.Leaving.{AreUntrimmed, RefusalLeaves, ReportLeft, TellsInputs, is_early, is_late, TrimsFirst, HoldFirstPairs}
 use Rattle.fq_job.proofs.MakingLemmas.{stops_untrimmed}
 
--- what a run promises of every ending, of its outlets
+-- what a run promises about its outlets, at every ending
 pub first_of : (c : Choices) (run : Run) → EveryEnding c run → AreTold run → TrimsFirst c (all_pairs c run) run.outlets run.outlets_left run.outcome
 first_of c run every told = record {
   whole = every.whole;
@@ -31,7 +31,7 @@ first_of c run every told = record {
 
 -- ---- refusals
 
--- a refusal before the outputs leaves the files as they were
+-- a refusal before the outputs are made leaves the files unchanged
 pub leaves_unchanged : (a : Asking) (refusal : Refusal) (old new : Holding) → IsTrue (is_early refusal) → IsUnchanged old new → RefusalLeaves a refusal old new
 leaves_unchanged a why.Encoding old new early same = same
 leaves_unchanged a (why.Step fault) old new early same = same
@@ -43,7 +43,7 @@ leaves_unchanged a why.SameReport old new early same = same
 leaves_unchanged a why.Report old new early same = absurd (cc early)
 leaves_unchanged a why.Memory old new early same = λ out name named. inl (same name)
 
--- and one behind the inputs tells nothing else of them than that both are there
+-- a refusal after the inputs are opened says only that both inputs exist
 pub tells_late : (inputs : InputNames) (refusal : Refusal) (old : Holding) (forward reverse : List ℕ) → IsTrue (is_late refusal)
     → old inputs.forward ≡ Some forward → old inputs.reverse ≡ Some reverse → TellsInputs inputs refusal old
 tells_late inputs (why.Target out) old forward reverse late first second = (subst IsSome (sym first) refl, subst IsSome (sym second) refl)
@@ -56,7 +56,7 @@ tells_late inputs (why.SameName out) old forward reverse late first second = abs
 tells_late inputs (why.Source side) old forward reverse late first second = absurd (cc late)
 tells_late inputs why.SameReport old forward reverse late first second = absurd (cc late)
 
--- nothing was trimmed where something was refused
+-- if something was refused, nothing was trimmed
 pub refusal_untrimmed : (a : Asking) (refusal : Refusal) (old new : Holding) → RefusalLeaves a refusal old new → AreUntrimmed a old new
 refusal_untrimmed a why.Encoding old new left = λ out name named. inl (left name)
 refusal_untrimmed a (why.Step fault) old new left = λ out name named. inl (left name)
@@ -68,7 +68,7 @@ refusal_untrimmed a why.SameReport old new left = λ out name named. inl (left n
 refusal_untrimmed a why.Report old new left = λ out name named. inr (left out name named)
 refusal_untrimmed a why.Memory old new left = left
 
--- what was left behind calls that changed nothing
+-- what a refusal left, after calls that changed nothing
 pub unchanged_or_nothing : (old mid new : Option (List ℕ)) → mid ≡ old → (new ≡ mid) ⊎ (new ≡ Some []) → (new ≡ old) ⊎ (new ≡ Some [])
 unchanged_or_nothing old mid new same (inl kept) = inl (kept ∙ same)
 unchanged_or_nothing old mid new same (inr nothing) = inr nothing
@@ -123,7 +123,7 @@ whole_first a old new outcome counts trims =
 
 -- ---- the report
 
--- a refusal before the report leaves it as it was
+-- a refusal before the report is made leaves its file unchanged
 pub report_behind : (refusal : Refusal) (old new : Option (List ℕ)) → new ≡ old → ReportLeft refusal old new
 report_behind why.Encoding old new same = same
 report_behind (why.Step fault) old new same = same
@@ -135,13 +135,13 @@ report_behind why.SameReport old new same = same
 report_behind why.Report old new same = inl same
 report_behind why.Memory old new same = inl same
 
--- a refusal of the report itself, or want of memory for it
+-- the report itself was refused, or memory for it
 pub report_refused : (refusal : Refusal) (old new : Option (List ℕ)) → (refusal ≡ why.Report) ⊎ (refusal ≡ why.Memory) → (new ≡ old) ⊎ (new ≡ Some []) → ReportLeft refusal old new
 report_refused refusal old new is left =
     let P : Refusal → Type 0 = λ r. ReportLeft r old new in
     ⊎_elim (λ report. subst P (sym report) left) (λ memory. subst P (sym memory) left) is
 
--- what each refusal leaves of the report
+-- what each refusal leaves in the file of the report
 pub left_or_nothing : (refusal : Refusal) (old new : Option (List ℕ)) → ReportLeft refusal old new → (new ≡ old) ⊎ (new ≡ Some [])
 left_or_nothing why.Encoding old new left = inl left
 left_or_nothing (why.Step fault) old new left = inl left

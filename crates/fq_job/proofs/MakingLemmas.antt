@@ -12,18 +12,18 @@ use Rattle.fq_job.specs.Leaving.{AreUntrimmed, StopsAt, RefusalLeaves}
 use Rattle.fq_job.specs.Making.{AreMade, Made, Unmade}
 use Rattle.fq_job.proofs.StoreLemmas.{same_place, below_next}
 
--- a name that is wanted is the one that is given
+-- the name of an output that was asked for is the one that is passed on
 pub wanted : (o : Option (List ℕ)) (name : List ℕ) → IsSome o → name ≡ unwrap_or o [] → o ≡ Some name
 wanted (Some n) name some is = ap Some (sym is)
 wanted None name some is = absurd cc
 
--- an output was made, empty, and no other file was touched
+-- an output was made, empty, and no other file changed
 record IsMade (a : Asking) (out : Out) (old new : Holding) : Type 0 where
   empty : (name : List ℕ) → output_name a out ≡ Some name → new name ≡ Some []
   names : KeepsNames old new
   others : (name : List ℕ) → output_name a out ≢ Some name → new name ≡ old name
 
--- it was not made: it holds what it held, or nothing, and no other file was touched
+-- an output was not made: its file holds what it held, or nothing, and no other file changed
 record IsUnmade (a : Asking) (out : Out) (old new : Holding) : Type 0 where
   there : (name : List ℕ) → output_name a out ≡ Some name → (new name ≡ old name) ⊎ (new name ≡ Some [])
   others : (name : List ℕ) → output_name a out ≢ Some name → new name ≡ old name
@@ -31,7 +31,7 @@ record IsUnmade (a : Asking) (out : Out) (old new : Holding) : Type 0 where
 same_name : (o : Option (List ℕ)) (one other : List ℕ) → o ≡ Some one → o ≡ Some other → one ≡ other
 same_name o one other first second = let same : Some one ≡ Some other = sym first ∙ second in cc
 
--- a call that emptied the file of an output, and kept the others, made it
+-- a call that emptied the file of an output and kept the others made that output
 made_of : (a : Asking) (this : Out) (name : List ℕ) (old new : Holding) → output_name a this ≡ Some name → new name ≡ Some [] → KeepsNames old new → KeepsOthers old new name → IsMade a this old new
 made_of a this name old new named emptied names others = record {
   empty = λ other is. ap new (same_name (output_name a this) other name is named) ∙ emptied;
@@ -47,7 +47,7 @@ unmade_of a this name old new named there others = record {
   others = λ other free. others other (λ same. free (named ∙ ap Some (sym same)));
 }
 
--- files tell their bytes for good
+-- whether files tell their bytes never changes
 pub along : (a b : Bool) → a ≡ b → IsTrue b → IsTrue a
 along a b e told = subst IsTrue (sym e) told
 
@@ -63,7 +63,7 @@ none_made a start tells told = record {
 apart : (a : Asking) → HasDistinctOutputs a → (one other : Out) (name : List ℕ) → output_name a one ≡ Some name → (place one ≡ place other → ⊥) → output_name a other ≢ Some name
 apart a distinct one other name named places same = places (ap place (distinct one other name named same))
 
--- an output is empty once it is made
+-- an output is empty once it has been made
 made_empty : (a : Asking) (this out : Out) (old new : Holding) (name : List ℕ) → IsMade a this old new → out ≡ this → output_name a out ≡ Some name → new name ≡ Some []
 made_empty a this out old new name made is named = made.empty name (ap (output_name a) (sym is) ∙ named)
 
@@ -71,7 +71,7 @@ is_there : (x : Option (List ℕ)) → x ≡ Some [] → IsSome x
 is_there (Some bytes) e = refl
 is_there None e = absurd cc
 
--- one more output is made
+-- one more output has been made
 next_made : (a : Asking) (start old new : Holding) (this : Out) → AreMade a start (place this) old → IsMade a this old new → AreMade a start (suc (place this)) new
 next_made a start old new this first made = record {
   held = λ out name named below. ⊎_elim
@@ -87,7 +87,7 @@ next_made a start old new this first made = record {
   rest = λ name free. made.others name (free this) ∙ first.rest name free;
 }
 
--- the next output is not made
+-- the next output could not be made
 rest_unmade : (a : Asking) (start old new : Holding) (this : Out) → AreMade a start (place this) old → IsUnmade a this old new → KeepsRest a start new
 rest_unmade a start old new this first unmade = λ name free. unmade.others name (free this) ∙ first.rest name free
 
@@ -100,18 +100,18 @@ stops_at a start old new this distinct first unmade = record {
   behind = λ other name named behind. unmade.others name (apart a distinct other this name named (λ e. omega (arith, behind, e))) ∙ first.kept distinct other name named (omega (arith, behind));
 }
 
--- an order of three
+-- two numbers are less, greater or equal
 three_ways : (m n : ℕ) → ((m < n) ⊎ (n < m)) ⊎ (m ≡ n)
 three_ways m n = grind arith
 
--- nothing was trimmed where an output was not made
+-- if an output was not made, nothing was trimmed
 pub stops_untrimmed : (a : Asking) (this : Out) (start new : Holding) → StopsAt a this start new → AreUntrimmed a start new
 stops_untrimmed a this start new stops out name named = ⊎_elim
     (λ unequal. ⊎_elim (λ before. inr (stops.before out name named before)) (λ behind. inl (stops.behind out name named behind)) unequal)
     (λ equal. stops.there name (ap (output_name a) (sym (same_place out this equal)) ∙ named))
     (three_ways (place out) (place this))
 
--- what a refusal in the making of the outputs leaves
+-- what the files hold after an output was refused
 leaves_made : (a : Asking) (start old new : Holding) (this : Out) (refusal : Refusal) → HasDistinctOutputs a → AreMade a start (place this) old → IsUnmade a this old new →
     (refusal ≡ why.Target this) ⊎ (refusal ≡ why.Memory) → RefusalLeaves a refusal start new
 leaves_made a start old new this refusal distinct first unmade is =
@@ -119,7 +119,7 @@ leaves_made a start old new this refusal distinct first unmade is =
     let P : Refusal → Type 0 = λ r. RefusalLeaves a r start new in
     ⊎_elim (λ target. subst P (sym target) stops) (λ memory. subst P (sym memory) (stops_untrimmed a this start new stops)) is
 
--- A call for one more output: it is made, or the making is refused.
+-- A call for one more output: the output is made, or it is refused.
 module _ (a : Asking) (start : Holding) (this : Out) (name : List ℕ) (wants : IsSome (output_name a this)) (name_is : name ≡ unwrap_or (output_name a this) [])
     (old new : Holding) (told_old told_new : Bool) (told_is : told_new ≡ told_old) (first : Made a start (place this) told_old old) (others : IsTrue told_old → KeepsOthers old new name) where
   pub one_made : (IsTrue told_old → new name ≡ Some []) → (IsTrue told_old → KeepsNames old new) → Made a start (suc (place this)) told_new new
@@ -136,7 +136,7 @@ module _ (a : Asking) (start : Holding) (this : Out) (name : List ℕ) (wants : 
         leaves = λ distinct. leaves_made a start old new this refusal distinct (first before) unmade is;
       }
 
--- where no log is wanted all are made behind the fourth
+-- without a log, all outputs are made after the fourth
 pub no_log_made : (a : Asking) (start files : Holding) (tells : Bool) → output_name a Log ≡ None → Made a start 4 tells files → Made a start 5 tells files
 no_log_made a start files tells none made told = record {
   held = λ out name named below. ⊎_elim (λ before. (made told).held out name named before) (λ four. absurd (not_log out name four named)) (below_next (place out) 4 below);
@@ -163,7 +163,7 @@ five_empty a start files distinct made ReversePaired name named = made.empty dis
 five_empty a start files distinct made ReverseUnpaired name named = made.empty distinct ReverseUnpaired name named (omega arith)
 five_empty a start files distinct made Log name named = made.empty distinct Log name named (omega arith)
 
--- where the report is not made behind them they stay empty
+-- if the report is not made after the outputs, they stay empty
 pub report_unmade : (a : Asking) (refusal : Refusal) (old new : Holding) → (refusal ≡ why.Report) ⊎ (refusal ≡ why.Memory)
     → ((out : Out) (name : List ℕ) → output_name a out ≡ Some name → new name ≡ Some []) → RefusalLeaves a refusal old new
 report_unmade a refusal old new is empty =

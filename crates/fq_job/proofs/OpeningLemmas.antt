@@ -32,7 +32,7 @@ pub fed_there : (inputs : Opened) (names : InputNames) (old : Holding) → AreFe
 fed_there inputs names old fed Forward none = not_none (old names.forward) _ fed.forward.bytes_are none
 fed_there inputs names old fed Reverse none = not_none (old names.reverse) _ fed.reverse.bytes_are none
 
--- the names of the inputs are held by files that let no name go
+-- the inputs exist in files that keep every name
 pub still_there : (inputs : Opened) (names : InputNames) (old new : Holding) → AreFed inputs names old → KeepsNames old new → AreThere names new
 still_there inputs names old new fed keeps = (keeps names.forward (some_there _ _ fed.forward.bytes_are), keeps names.reverse (some_there _ _ fed.reverse.bytes_are))
 
@@ -50,7 +50,7 @@ refused_late a refusal tells refuses old new inputs behind late refused fed left
   unopened = λ told side none. absurd (fed_there inputs a.inputs old (fed told) side none);
 }
 
--- a refusal of the report, or for want of memory, comes behind the inputs, and has no status 2
+-- a refusal of the report, or of memory for it, comes after the inputs, and its status is not 2
 pub report_late : (refusal : Refusal) → (refusal ≡ why.Report) ⊎ (refusal ≡ why.Memory) → IsTrue (is_late refusal)
 report_late refusal is = let P : Refusal → Type 0 = λ r. IsTrue (is_late r) in ⊎_elim (λ report. subst P (sym report) refl) (λ memory. subst P (sym memory) refl) is
 
@@ -67,7 +67,7 @@ late_status why.SameReport late e = absurd (cc late)
 
 -- ---- before the first file is opened
 
--- a refusal that comes before it
+-- a refusal that comes before the first file is opened
 is_first : Refusal → Bool
 is_first (why.Source side) = false
 is_first (why.Target out) = false
@@ -113,11 +113,11 @@ first_refused a why.Memory tells refuses files first = record { refused = tt; in
 pub wrong_refused : (a : Asking) (refusal : Refusal) (tells : Bool) (refuses : List ℕ → Bool) (files : Holding) → wrong_with a ≡ Some refusal → IsRefused a refusal tells refuses files files
 wrong_refused a refusal tells refuses files wrong = first_refused a refusal tells refuses files (wrong_first a (settings_of a) (same_name a) (report_is_input a) refusal refl wrong)
 
--- a name that may be refused stays so
+-- a name that may be refused still may be after calls that don't change `refuses`
 pub refusable_since : (a : Asking) (x y : List ℕ → Bool) (refusal : Refusal) → x ≡ y → IsRefusable a x refusal → IsRefusable a y refusal
 refusable_since a x y refusal same refused = let P : (List ℕ → Bool) → Type 0 = λ r. IsRefusable a r refusal in subst P same refused
 
--- ---- what is there
+-- ---- which files exist
 
 pub is_some_map : {X Y : Type 0} (f : X → Y) (o : Option X) → is_some (option_map f o) ≡ is_some o
 is_some_map f None = refl

@@ -38,7 +38,7 @@ pub not_stripped : (bs : List ℕ) (r : Option (Bor (List ℕ))) → MatchOption
 not_stripped bs None h e = refl
 not_stripped bs (Some x) h e = absurd (not_nil x.now (sym e ∙ h))
 
--- where a run ended whole its line without the line end has the words of its fault
+-- if a run ended whole, its line without the line end has the words of its fault
 words_are : (o : Outcome) (bs : List ℕ) (r : Option (Bor (List ℕ))) → bs ≡ line_when o → (status_when o ≡ 0) ⊎ (status_when o ≡ 3)
     → ((words : List ℕ) → bs ≡ line words → option_map (λ x. x.now) r ≡ Some words) → (bs ≡ [] → r ≡ None) → option_map (λ x. x.now) r ≡ words_when o
 words_are Spawn bs r is ends some none = absurd (⊎_elim (λ e. omega (arith, e)) (λ e. omega (arith, e)) ends)
@@ -55,19 +55,19 @@ pub fault_words_are : (outcome : Outcome) (bs : List ℕ) (r : Option (Bor (List
     → ((words : List ℕ) → bs ≡ line words → option_map (λ x. x.now) r ≡ Some words) → (bs ≡ [] → r ≡ None) → option_map (λ x. x.now) r ≡ fault_words outcome
 fault_words_are outcome bs r is ends some none = words_are (settled outcome) bs r is ends some none
 
--- A tally that is there is that of the pairs.
+-- if a run has a tally, it is the tally of its pairs
 tally_is : (tallied : Bool) (c : Choices) (all : Pairs) (tally : Tally) → Some tally ≡ tally_if tallied c.steps all.mates → tally ≡ tally_of (alone c.steps) all.mates
 tally_is true c all tally e = cc
 tally_is false c all tally e = absurd (cc e)
 
--- the text of a run that trimmed these pairs is their report
+-- the text for a run that trimmed these pairs is their report
 pub text_is : (a : Asking) (c : Choices) (all : Pairs) (account : Account) (text : List ℕ) → IsTextOf a c.encoding account text
     → account.counts ≡ counts_of c.steps all.mates → account.outcome ≡ trimmed_outcome all.fault → account.tally ≡ tally_if c.tallied c.steps all.mates → text ≡ report_of a c all
 text_is a c all account text is counts outcome tally =
     let same = tally_is c.tallied c all is.tally (sym is.tallied ∙ tally) in
     is.text_is ∙ (λ i. text_of (run_facts a c.encoding (outcome i) (counts i) (same i)))
 
--- what the file of the report holds, of what its outlet has taken
+-- what the file of the report holds, by what its outlet has taken
 pub report_held : (a : Asking) (c : Choices) (old new : Holding) (account : Account) (reported : Reported) (name bytes : List ℕ)
     → ((text : List ℕ) → IsTextOf a c.encoding account text → reported ≢ NotDue → IsReport a old text)
     → new name ≡ Some bytes → TookReport reported a c.encoding account [] bytes → ReportHeld reported a old new name

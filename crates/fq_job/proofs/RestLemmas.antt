@@ -1,4 +1,4 @@
--- Files that are no outputs keep what they had.
+-- Files that are not outputs keep what they held.
 use Rattle.std.proofs.Common.{◌≡◌, ℕ, Some, List, sym, ap, ◌∙◌}
 use Rattle.fq_pair.specs.declared.out.Out.{Out}
 use Rattle.fq_files.specs.Holding.{Holding, KeepsOthers}
@@ -9,6 +9,6 @@ use Rattle.fq_job.specs.Trimming.{KeepsRest}
 pub rest_of : (a : Asking) (out : Out) (name : List ℕ) (old new : Holding) → output_name a out ≡ Some name → KeepsOthers old new name → KeepsRest a old new
 rest_of a out name old new named others = λ other free. others other (λ same. free out (named ∙ ap Some (sym same)))
 
--- and so do two calls
+-- two calls keep the rest
 pub then_rest : (a : Asking) (x y z : Holding) → KeepsRest a x y → KeepsRest a y z → KeepsRest a x z
 then_rest a x y z one two = λ name free. two name free ∙ one name free

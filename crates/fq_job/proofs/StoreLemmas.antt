@@ -1,4 +1,4 @@
--- Outputs that are done with one after the other.
+-- Outlets that are handed back one after the other.
 use Rattle.std.proofs.Common.{◌≡◌, ℕ, suc, ◌<◌, ◌==◌, Bool, IsTrue, Some, List, refl, sym, ap, subst, ◌∙◌, arith, if◌then◌else◌, ◌⊎◌, ⊎_elim}
 use Rattle.fq_pair.specs.declared.out.Out.{Out}
 use Rattle.fq_pair.specs.declared.out.Out.TheVariants.{ForwardPaired, ForwardUnpaired, ReversePaired, ReverseUnpaired, Log}
@@ -27,11 +27,11 @@ out_at-place ReversePaired = refl
 out_at-place ReverseUnpaired = refl
 out_at-place Log = refl
 
--- outputs at one place are one
+-- two outputs at one place are the same output
 pub same_place : (one other : Out) → place one ≡ place other → one ≡ other
 same_place one other e = sym (out_at-place one) ∙ (ap out_at e ∙ out_at-place other)
 
--- below the next number is below this one, or this one
+-- a number below the next number is below this one, or is this one
 pub below_next : (m n : ℕ) → m < suc n → (m < n) ⊎ (m ≡ n)
 below_next m n h = grind arith
 
@@ -39,7 +39,7 @@ pub none_stored : (a : Asking) (states : OutletStates) (files : Holding) (tells 
 none_stored a states files tells told = record { rest = λ name free. refl; hold = λ distinct out name outlet h. absurd (omega arith) }
 
 module _ (a : Asking) (distinct : HasDistinctOutputs a) (states : OutletStates) (old new : Holding) where
-  -- one more output is done with
+  -- one more outlet has been handed back
   next_first : (this : Out) (name : List ℕ) (outlet : OutletState) → output_name a this ≡ Some name → outlet_at this states ≡ Some outlet →
       HoldFirst (place this) a states old → (IsTrue outlet.tells → new name ≡ Some outlet.taken) → KeepsOthers old new name → HoldFirst (suc (place this)) a states new
   next_first this name outlet named at first stored others = λ out n o below out_named out_at_is tells. ⊎_elim
@@ -54,7 +54,7 @@ module _ (a : Asking) (distinct : HasDistinctOutputs a) (states : OutletStates) 
       ap new n_is ∙ (stored told ∙ ap (λ (x : OutletState). Some x.taken) (sym o_is)))
       (below_next (place out) (place this) below)
 
--- one more output is done with, by a call that keeps the others
+-- one more outlet has been handed back, by a call that keeps the others
 pub one_stored : (a : Asking) (start : Holding) (states : OutletStates) (this : Out) (name : List ℕ) (outlet : OutletState) (old new : Holding) (told_old told_new : Bool) → output_name a this ≡ Some name → outlet_at this states ≡ Some outlet
     → told_new ≡ told_old → (IsTrue told_old → IsTrue outlet.tells → new name ≡ Some outlet.taken) → (IsTrue told_old → KeepsOthers old new name)
     → Stored a start states (place this) told_old old → Stored a start states (suc (place this)) told_new new
@@ -65,7 +65,7 @@ one_stored a start states this name outlet old new told_old told_new named at to
       hold = λ distinct. next_first a distinct states old new this name outlet named at ((first before).hold distinct) (kept before) (others before);
     }
 
--- where there is no log all are done with behind the fourth
+-- without a log, all outlets are handed back after the fourth
 pub no_log_stored : (a : Asking) (start : Holding) (states : OutletStates) (files : Holding) (tells : Bool)
     → ((name : List ℕ) (outlet : OutletState) → output_name a Log ≡ Some name → outlet_at Log states ≡ Some outlet → ⊥) → Stored a start states 4 tells files → Stored a start states 5 tells files
 no_log_stored a start states files tells none stored told = record { rest = (stored told).rest; hold = λ distinct. five ((stored told).hold distinct) }
@@ -77,7 +77,7 @@ no_log_stored a start states files tells none stored told = record { rest = (sto
     five first ReverseUnpaired name outlet below = first ReverseUnpaired name outlet (omega arith)
     five first Log name outlet below = λ named at told. absurd (none name outlet named at)
 
--- all five are done with
+-- all five outlets have been handed back
 pub all_hold : (a : Asking) (states : OutletStates) (files : Holding) → HoldFirst 5 a states files → HoldTaken a states files
 all_hold a states files first ForwardPaired name outlet = first ForwardPaired name outlet (omega arith)
 all_hold a states files first ForwardUnpaired name outlet = first ForwardUnpaired name outlet (omega arith)

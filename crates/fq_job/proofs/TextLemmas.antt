@@ -8,7 +8,7 @@ use Rattle.fq_run.specs.Devices.{OutletStates, TookText, Took, OutletsTook, fail
 use Rattle.fq_words.specs.Requests.{Asking, output_name}
 use Rattle.fq_job.specs.Trimming.{HoldTaken, AreEmpty, IsEmptyOutlet}
 
--- an outlet that has taken this text and no other
+-- an outlet that has taken this text and nothing else
 record HasText (outlet : OutletState) (text : List ℕ) : Type 0 where
   tells : IsTrue outlet.tells
   taken : outlet.taken ≡ text
@@ -19,7 +19,7 @@ text_in old new text failed empty took = record {
   taken = took.bytes empty.tells ∙ ap (λ bytes. bytes ++ text) empty.taken;
 }
 
--- the outlet that is there has taken the text
+-- an outlet that exists has taken the text
 found_in : (old new : Option OutletState) (text : List ℕ) (failed : ℕ) → ((o : OutletState) → old ≡ Some o → IsEmptyOutlet o) → is_some old ≡ true → Took old new text failed →
     (o : OutletState) × (new ≡ Some o) × HasText o text
 found_in (Some old) (Some new) text failed empty there took = (new, refl, text_in old new text failed (empty old refl) took)

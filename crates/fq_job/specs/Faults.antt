@@ -1,4 +1,4 @@
--- What the program says of the outcome of a run: the exit status, and the line on standard error.
+-- The exit status and the line on standard error for each outcome of a run.
 use Rattle.std.specs.Prelude.{ℕ, Some, List, [], ◌++◌, codes, decimal}
 use Rattle.fq_text.specs.Written.{line}
 use Rattle.fq_text.specs.declared.fault.TextFault.{TextFault}
@@ -11,7 +11,7 @@ use Rattle.fq_run.specs.Outcome.{Outcome}
 use Rattle.fq_run.specs.Outcome.TheVariants.{Spawn, Lane, Gate, Memory, Write, Read, Endless, Input, Finished}
 use Rattle.fq_run.specs.Outcomes.{end_of}
 
--- An outcome as it is told: a text that could not be read on is no fault of the text.
+-- The outcome to report: a text that could not be read to its end has no fault of its own.
 abbrev pub settled : Outcome → Outcome
 settled (Input fault) = end_of (Some fault)
 settled Spawn = Spawn
@@ -23,7 +23,7 @@ settled (Read side) = Read side
 settled (Endless side) = Endless side
 settled Finished = Finished
 
--- Exit statuses: all done; a fault of the input; a device; memory; threads.
+-- Exit statuses: 0 finished, 3 a fault in the input, 4 a device, 5 memory, 6 threads.
 abbrev pub status_when : Outcome → ℕ
 status_when Finished = 0
 status_when (Input fault) = 3
@@ -38,7 +38,8 @@ status_when Gate = 6
 abbrev pub outcome_status : Outcome → ℕ
 outcome_status outcome = status_when (settled outcome)
 
--- a fault of a text: the number of its record (none where the text could not be read on), and its name
+-- the number of the faulty record (0 if the text could not be read to its end), and the fault's
+-- name
 abbrev pub record_and_name : TextFault → ℕ × List ℕ
 record_and_name (text.NoTitle k) = (k, codes "NoTitle")
 record_and_name (text.BadSequence k) = (k, codes "BadSequence")
@@ -52,20 +53,21 @@ record_and_name text.Read = (0, codes "Read")
 record_and_name text.Endless = (0, codes "Endless")
 record_and_name text.OutOfMemory = (0, codes "OutOfMemory")
 
--- a fault of one side's record
+-- a fault in one side's record
 abbrev pub at_record : Side → ℕ → List ℕ → List ℕ
-at_record side k kind = codes "input: " ++ side_name side ++ codes " record " ++ decimal k ++ codes ": " ++ kind
+at_record side k kind =
+    codes "input: " ++ side_name side ++ codes " record " ++ decimal k ++ codes ": " ++ kind
 
 abbrev pub input_words : InputFault → List ℕ
 input_words (Text side fault) = at_record side (record_and_name fault).0 (record_and_name fault).1
 input_words (MateMissing side k) = at_record side k (codes "MateMissing")
 input_words (NamesDiffer k) = codes "input: record " ++ decimal k ++ codes ": NamesDiffer"
 
--- what is said of want of memory, wherever it came
+-- the line for refused memory, anywhere in the program
 abbrev pub memory_words : List ℕ
 memory_words = codes "out of memory"
 
--- The line of an outcome with its line end, and nothing where all is done.
+-- The line of an outcome with its line end; empty if the run finished.
 abbrev pub line_when : Outcome → List ℕ
 line_when Spawn = line (codes "cannot start a thread")
 line_when Lane = line (codes "lane not confirmed")

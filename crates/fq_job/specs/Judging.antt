@@ -1,4 +1,4 @@
--- What is wrong with what is asked, before a file is opened.
+-- What is wrong with a request, before a file is opened.
 use Rattle.std.specs.Prelude.{◌^◌, ℕ, Bool, true, false, Option, Some, None, Result, Ok, Err, List}
 use Rattle.fq_text.specs.declared.encoding.Encoding.{Encoding}
 use Rattle.fq_trim.specs.declared.step.Step.{Step}
@@ -11,7 +11,7 @@ use Rattle.fq_words.specs.Requests.{Asking, encoding_of, same_name, report_is_in
 use Rattle.fq_job.specs.declared.refusal.Refusal.{Refusal}
 use Rattle.fq_job.specs.declared.refusal.Refusal.TheVariants as why
 
--- the choices that are asked for, with these steps in this encoding
+-- the choices of the request, with these steps in this encoding
 abbrev pub choices_of : Asking → Encoding → List Step → Choices
 choices_of a encoding steps = record {
   encoding = encoding;
@@ -26,7 +26,7 @@ choices_of a encoding steps = record {
   tallied = false;
 }
 
--- the choices, with a tally where a report is asked for, or the setting that is out of its range
+-- the choices, with a tally if a report is asked for, or the setting that is out of its range
 abbrev pub judged : Result Choices BadSetting → Option (List ℕ) → Result Choices Refusal
 judged (Ok choices) None = Ok choices
 judged (Ok choices) (Some report) = Ok (tallying choices)
@@ -41,7 +41,7 @@ abbrev pub with_encoding : Asking → Option Encoding → Result Choices Refusal
 with_encoding a (Some encoding) = with_steps a encoding (steps_of a.steps)
 with_encoding a None = Err why.Encoding
 
--- the settings of a run, or the first that is wrong: the encoding, the steps, the numbers
+-- the settings of a run, or the first fault in the order encoding, steps, numbers
 abbrev pub settings_of : Asking → Result Choices Refusal
 settings_of a = with_encoding a (encoding_of a.encoding)
 
@@ -51,6 +51,6 @@ wrong_among (Ok choices) (Some out) same_report = Some (why.SameName out)
 wrong_among (Ok choices) None true = Some why.SameReport
 wrong_among (Ok choices) None false = None
 
--- the first thing that is wrong with what is asked: the encoding, the steps, the numbers, the names
+-- the first fault of a request, in the order encoding, steps, numbers, names
 abbrev pub wrong_with : Asking → Option Refusal
 wrong_with a = wrong_among (settings_of a) (same_name a) (report_is_input a)

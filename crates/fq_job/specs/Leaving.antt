@@ -1,4 +1,4 @@
--- What the files of the outputs hold where the program ends otherwise than whole.
+-- What the files of the outputs hold if the program does not end whole.
 use Rattle.std.specs.Prelude.{◌≡◌, ◌<◌, ◌≤◌, ◌⊎◌, ℕ, Bool, true, false, Option, Some, None, IsSome, Ok, List, [], ◌++◌}
 use Rattle.fq_files.specs.Holding.{Holding, IsUnchanged}
 use Rattle.fq_pair.specs.declared.out.Out.{Out}
@@ -19,26 +19,31 @@ use Rattle.fq_words.specs.Requests.{Asking, InputNames, output_name}
 use Rattle.fq_job.specs.Judging.{settings_of}
 use Rattle.fq_job.specs.Trimming.{pairs_of}
 
--- Where the trimming was begun.
+-- If trimming had begun.
 
--- What an outcome tells of the pairs whose block was written whole, and of the outlet that failed.
+-- What an outcome says about the pairs whose block was written whole, and about the outlet that
+-- failed.
 pub record IsTold (whole : List Mates) (fate : Fate) (ended : Outcome) : Type 0 where
   pub spawn : ended ≡ outcome.Spawn → whole ≡ []
   pub write : (out : Out) → ended ≡ outcome.Write out → failed_outlet fate ≡ Some out
   pub outlet_failed : (out : Out) → failed_outlet fate ≡ Some out → rank ended ≤ 5
 
--- The outlets took the texts of the first pairs, whose block was written whole, and of the block in which a write failed, if one did,
--- those before the failed outlet took their texts, that one a first part of its own, and those behind it nothing.
-pub record TrimsFirst (c : Choices) (all : Pairs) (old new : OutletStates) (ended : Outcome) : Type 0 where
+-- The outlets took the texts of the first pairs, whose block was written whole. If a write failed
+-- in the block after them, the outlets before the failed one took their texts of that block, the
+-- failed one took a first part of its text, and those after it took nothing.
+pub record TrimsFirst (c : Choices) (all : Pairs)
+    (old new : OutletStates) (ended : Outcome) : Type 0 where
   pub whole : List Mates
   pub fate : Fate
-  pub took : OutletsTook old new (λ out. text_of out (texts_of c.steps whole) ++ part_begun c.steps fate out) (failed_outlet fate)
+  pub took : OutletsTook old new (λ out. text_of out (texts_of c.steps whole)
+      ++ part_begun c.steps fate out) (failed_outlet fate)
   pub cut_short : IsCutShort c.block_pairs c.steps fate
   pub first : AreFirst (whole ++ block_begun fate) all.mates
   pub told : IsTold whole fate ended
 
--- The same of the files of the outputs: each holds a first part of the text that is defined for the bytes of the inputs and for the
--- settings, all for the same pairs but in the block in which a write failed.
+-- Each file of the outputs holds a first part of the text that is defined for the bytes of the
+-- inputs and for the settings. All hold the same pairs, except in the block in which a write
+-- failed.
 pub record HoldFirstPairs (a : Asking) (old new : Holding) (ended : Outcome) : Type 0 where
   pub choices : Choices
   pub forward : List ℕ
@@ -49,65 +54,76 @@ pub record HoldFirstPairs (a : Asking) (old new : Holding) (ended : Outcome) : T
   pub forward_is : old a.inputs.forward ≡ Some forward
   pub reverse_is : old a.inputs.reverse ≡ Some reverse
   pub texts : (out : Out) (name : List ℕ) → output_name a out ≡ Some name →
-      new name ≡ Some (text_of out (texts_of choices.steps whole) ++ part_begun choices.steps fate out)
+      new name ≡ Some (text_of out (texts_of choices.steps whole)
+      ++ part_begun choices.steps fate out)
   pub cut_short : IsCutShort choices.block_pairs choices.steps fate
-  pub first : AreFirst (whole ++ block_begun fate) (pairs_of choices a.inputs.form forward reverse).mates
+  pub first : AreFirst (whole ++ block_begun fate)
+      (pairs_of choices a.inputs.form forward reverse).mates
   pub told : IsTold whole fate ended
 
--- Where it was not.
+-- If trimming had not begun.
 
--- each output's file holds what it held, or nothing
+-- the file of each output holds what it held before, or nothing
 abbrev pub AreUntrimmed : Asking → Holding → Holding → Type 0
-AreUntrimmed a old new = (out : Out) (name : List ℕ) → output_name a out ≡ Some name → (new name ≡ old name) ⊎ (new name ≡ Some [])
+AreUntrimmed a old new = (out : Out) (name : List ℕ) →
+    output_name a out ≡ Some name → (new name ≡ old name) ⊎ (new name ≡ Some [])
 
--- an output could not be made: those before it are empty, and those behind it hold what they held
+-- an output could not be made: those before it are empty, and those after it hold what they held
 pub record StopsAt (a : Asking) (out : Out) (old new : Holding) : Type 0 where
-  pub before : (other : Out) (name : List ℕ) → output_name a other ≡ Some name → place other < place out → new name ≡ Some []
-  pub there : (name : List ℕ) → output_name a out ≡ Some name → (new name ≡ old name) ⊎ (new name ≡ Some [])
-  pub behind : (other : Out) (name : List ℕ) → output_name a other ≡ Some name → place out < place other → new name ≡ old name
+  pub before : (other : Out) (name : List ℕ) →
+      output_name a other ≡ Some name → place other < place out → new name ≡ Some []
+  pub there : (name : List ℕ) → output_name a out ≡ Some name →
+      (new name ≡ old name) ⊎ (new name ≡ Some [])
+  pub behind : (other : Out) (name : List ℕ) →
+      output_name a other ≡ Some name → place out < place other → new name ≡ old name
 
--- what a refusal leaves of the outputs; where the report could not be made, they are empty
+-- what a refusal leaves in the outputs; if the report could not be made, they are empty
 abbrev pub RefusalLeaves : Asking → Refusal → Holding → Holding → Type 0
 RefusalLeaves a (why.Target out) old new = StopsAt a out old new
-RefusalLeaves a why.Report old new = (out : Out) (name : List ℕ) → output_name a out ≡ Some name → new name ≡ Some []
+RefusalLeaves a why.Report old new = (out : Out) (name : List ℕ) →
+    output_name a out ≡ Some name → new name ≡ Some []
 RefusalLeaves a why.Memory old new = AreUntrimmed a old new
 RefusalLeaves a _ old new = IsUnchanged old new
 
--- what a refusal leaves of the report: what was there, or nothing where it was the report that was refused, or memory
+-- what a refusal leaves in the report's file: what it held before, or nothing if the report itself
+-- or memory was refused
 abbrev pub ReportLeft : Refusal → Option (List ℕ) → Option (List ℕ) → Type 0
 ReportLeft why.Report old new = (new ≡ old) ⊎ (new ≡ Some [])
 ReportLeft why.Memory old new = (new ≡ old) ⊎ (new ≡ Some [])
 ReportLeft _ old new = new ≡ old
 
--- What a refusal tells of the inputs.
+-- What a refusal says about the inputs.
 
--- both are there
+-- both inputs exist
 abbrev pub AreThere : InputNames → Holding → Type 0
 AreThere inputs old = IsSome (old inputs.forward) × IsSome (old inputs.reverse)
 
--- the input that is named is not there, the forward one being opened first; an output, or the report, is refused only where both are
+-- The input that is named does not exist; the forward one is opened first. An output or the report
+-- is refused only if both inputs exist.
 abbrev pub TellsInputs : InputNames → Refusal → Holding → Type 0
 TellsInputs inputs (why.Source side.Forward) old = old inputs.forward ≡ None
-TellsInputs inputs (why.Source side.Reverse) old = IsSome (old inputs.forward) × (old inputs.reverse ≡ None)
+TellsInputs inputs (why.Source side.Reverse) old =
+    IsSome (old inputs.forward) × (old inputs.reverse ≡ None)
 TellsInputs inputs (why.Target out) old = AreThere inputs old
 TellsInputs inputs why.Report old = AreThere inputs old
 TellsInputs inputs _ old = Unit {0}
 
--- a refusal that may come before the first output is made
+-- a refusal that can come before the first output is made
 abbrev pub is_early : Refusal → Bool
 is_early (why.Target out) = false
 is_early why.Report = false
 is_early _ = true
 
--- and one that may come once both inputs are opened and none of them is written to
+-- a refusal that can come once both inputs are opened, before an output is written
 abbrev pub is_late : Refusal → Bool
 is_late (why.Target out) = true
 is_late why.Report = true
 is_late why.Memory = true
 is_late _ = false
 
--- Both.
+-- Whether trimming had begun or not.
 
--- The files of the outputs hold what they held, or nothing, or first parts of the defined texts for the same pairs.
+-- The files of the outputs hold what they held before, or nothing, or first parts of the defined
+-- texts for the same pairs.
 abbrev pub AreLeft : Asking → Holding → Holding → Type 0
 AreLeft a old new = AreUntrimmed a old new ⊎ ((ended : Outcome) × HoldFirstPairs a old new ended)

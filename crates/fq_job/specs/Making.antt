@@ -1,4 +1,5 @@
--- Outputs that are made one after the other, and then done with one after the other, in the order of `Out`.
+-- Outputs that are made one after the other, and then handed back one after the other, in the order
+-- of `Out`.
 use Rattle.std.specs.Prelude.{◌≡◌, ◌<◌, ◌≤◌, ℕ, Bool, IsTrue, IsSome, Some, List, []}
 use Rattle.fq_files.specs.Holding.{Holding}
 use Rattle.fq_pair.specs.declared.out.Out.{Out}
@@ -9,19 +10,22 @@ use Rattle.fq_job.specs.declared.refusal.Refusal.{Refusal}
 use Rattle.fq_job.specs.Trimming.{HasDistinctOutputs, KeepsRest}
 use Rattle.fq_job.specs.Leaving.{RefusalLeaves}
 
--- the first n outputs are made, and the others are as they were
+-- the first n outputs have been made, and the others are unchanged
 pub record AreMade (a : Asking) (start : Holding) (n : ℕ) (files : Holding) : Type 0 where
-  pub held : (out : Out) (name : List ℕ) → output_name a out ≡ Some name → place out < n → IsSome (files name)
-  pub empty : HasDistinctOutputs a → (out : Out) (name : List ℕ) → output_name a out ≡ Some name → place out < n → files name ≡ Some []
-  pub kept : HasDistinctOutputs a → (out : Out) (name : List ℕ) → output_name a out ≡ Some name → n ≤ place out → files name ≡ start name
+  pub held : (out : Out) (name : List ℕ) → output_name a out ≡ Some name →
+      place out < n → IsSome (files name)
+  pub empty : HasDistinctOutputs a → (out : Out) (name : List ℕ) →
+      output_name a out ≡ Some name → place out < n → files name ≡ Some []
+  pub kept : HasDistinctOutputs a → (out : Out) (name : List ℕ) →
+      output_name a out ≡ Some name → n ≤ place out → files name ≡ start name
   pub rest : KeepsRest a start files
 
--- the making of the outputs was refused
+-- an output could not be made
 pub record StopsMaking (a : Asking) (why : Refusal) (start files : Holding) : Type 0 where
   pub rest : KeepsRest a start files
   pub leaves : HasDistinctOutputs a → RefusalLeaves a why start files
 
--- the same of files that may tell their bytes
+-- the first n outputs have been made, if the files tell their bytes
 abbrev pub Made : Asking → Holding → ℕ → Bool → Holding → Type 0
 Made a start n tells files = IsTrue tells → AreMade a start n files
 
@@ -31,13 +35,15 @@ Unmade a why start tells files = IsTrue tells → StopsMaking a why start files
 -- the first n outputs hold what their outlets have taken
 abbrev pub HoldFirst : ℕ → Asking → OutletStates → Holding → Type 0
 HoldFirst n a states files = (out : Out) (name : List ℕ) (outlet : OutletState) → place out < n →
-    output_name a out ≡ Some name → outlet_at out states ≡ Some outlet → IsTrue outlet.tells → files name ≡ Some outlet.taken
+    output_name a out ≡ Some name → outlet_at out states ≡ Some outlet →
+    IsTrue outlet.tells → files name ≡ Some outlet.taken
 
--- the first n outputs are done with
-pub record AreStored (a : Asking) (start : Holding) (states : OutletStates) (n : ℕ) (files : Holding) : Type 0 where
+-- the outlets of the first n outputs have been handed back
+pub record AreStored (a : Asking) (start : Holding)
+    (states : OutletStates) (n : ℕ) (files : Holding) : Type 0 where
   pub rest : KeepsRest a start files
   pub hold : HasDistinctOutputs a → HoldFirst n a states files
 
--- the same of files that may tell their bytes
+-- the outlets of the first n outputs have been handed back, if the files tell their bytes
 abbrev pub Stored : Asking → Holding → OutletStates → ℕ → Bool → Holding → Type 0
 Stored a start states n tells files = IsTrue tells → AreStored a start states n files

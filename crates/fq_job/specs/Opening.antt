@@ -11,9 +11,10 @@ use Rattle.fq_job.specs.Refusals.{status_of}
 use Rattle.fq_job.specs.Trimming.{Opened, HasDistinctFiles, KeepsUnnamed, AreFresh, AreFed, AreEmpty, IsEmptyOutlet, AreHeld}
 use Rattle.fq_job.specs.Leaving.{AreThere, TellsInputs, RefusalLeaves, ReportLeft}
 
--- All is opened that a run needs: no device has failed, the outlets tell their bytes and are empty where the files tell theirs, and the
--- names are held.
-pub record AreReady (a : Asking) (tells : Bool) (files : Holding) (inputs : Opened) (outlets : OutletStates) (report : Option OutletState) : Type 0 where
+-- Everything that a run needs is open: no device has failed, the names exist, and if the files tell
+-- their bytes, the outlets do too and are empty.
+pub record AreReady (a : Asking) (tells : Bool) (files : Holding)
+    (inputs : Opened) (outlets : OutletStates) (report : Option OutletState) : Type 0 where
   pub form : inputs.form ≡ a.inputs.form
   pub fresh : AreFresh inputs
   pub healthy : AreHealthy outlets
@@ -26,31 +27,38 @@ pub record AreReady (a : Asking) (tells : Bool) (files : Holding) (inputs : Open
   pub report_empty : IsTrue tells → IfSome report IsEmptyOutlet
   pub report_held : IsTrue tells → (name : List ℕ) → a.report ≡ Some name → IsSome (files name)
 
--- The same, with the bytes of the inputs, in files in which nothing else has changed.
-pub record AreOpened (a : Asking) (tells : Bool) (old new : Holding) (inputs : Opened) (outlets : OutletStates) (report : Option OutletState) : Type 0 where
+-- The devices are ready, the feeds have the bytes of the inputs, and no other file has changed.
+pub record AreOpened (a : Asking) (tells : Bool) (old new : Holding)
+    (inputs : Opened) (outlets : OutletStates) (report : Option OutletState) : Type 0 where
   pub ready : AreReady a tells new inputs outlets report
   pub fed : IsTrue tells → AreFed inputs a.inputs old
   pub rest : IsTrue tells → KeepsUnnamed a old new
 
--- An output, or the report, is refused only by a name that may be refused.
+-- an output or the report is refused only under a name that may be refused
 abbrev pub IsRefusable : Asking → (List ℕ → Bool) → Refusal → Type 0
-IsRefusable a refuses (why.Target out) = (name : List ℕ) × (output_name a out ≡ Some name) × IsTrue (refuses name)
+IsRefusable a refuses (why.Target out) =
+    (name : List ℕ) × (output_name a out ≡ Some name) × IsTrue (refuses name)
 IsRefusable a refuses why.Report = (name : List ℕ) × (a.report ≡ Some name) × IsTrue (refuses name)
 IsRefusable a refuses _ = Unit {0}
 
--- The same of all that may be wrong with a call, and what it leaves.
-pub record IsRefused (a : Asking) (why : Refusal) (tells : Bool) (refuses : List ℕ → Bool) (old new : Holding) : Type 0 where
+-- A call was refused for this reason: what the reason says, and what the call leaves in the files.
+pub record IsRefused (a : Asking) (why : Refusal)
+    (tells : Bool) (refuses : List ℕ → Bool) (old new : Holding) : Type 0 where
   pub refused : IsRefusable a refuses why
   pub inputs : IsTrue tells → TellsInputs a.inputs why old
   pub left : IsTrue tells → HasDistinctFiles a → RefusalLeaves a why old new
-  pub report_left : IsTrue tells → HasDistinctFiles a → (name : List ℕ) → a.report ≡ Some name → ReportLeft why (old name) (new name)
+  pub report_left : IsTrue tells → HasDistinctFiles a →
+      (name : List ℕ) → a.report ≡ Some name → ReportLeft why (old name) (new name)
 
--- Something was refused, or memory was, once the request was judged.
-pub record IsUnopened (a : Asking) (why : Refusal) (tells : Bool) (refuses : List ℕ → Bool) (old new : Holding) : Type 0 where
+-- A file or memory was refused after the request was checked.
+pub record IsUnopened (a : Asking) (why : Refusal)
+    (tells : Bool) (refuses : List ℕ → Bool) (old new : Holding) : Type 0 where
   pub late : status_of why ≢ 2
   pub refused : IsRefusable a refuses why
   pub inputs : IsTrue tells → TellsInputs a.inputs why old
   pub left : IsTrue tells → HasDistinctFiles a → RefusalLeaves a why old new
-  pub report_left : IsTrue tells → HasDistinctFiles a → (name : List ℕ) → a.report ≡ Some name → ReportLeft why (old name) (new name)
+  pub report_left : IsTrue tells → HasDistinctFiles a →
+      (name : List ℕ) → a.report ≡ Some name → ReportLeft why (old name) (new name)
   pub rest : IsTrue tells → KeepsUnnamed a old new
-  pub unopened : IsTrue tells → (side : Side) → old (input_name a.inputs side) ≡ None → IsUnchanged old new
+  pub unopened : IsTrue tells → (side : Side) →
+      old (input_name a.inputs side) ≡ None → IsUnchanged old new

@@ -1,4 +1,4 @@
--- What the program says where it refuses.
+-- The exit status and the line on standard error for each refusal.
 use Rattle.std.specs.Prelude.{ℕ, List, [], ◌++◌, codes, decimal, unwrap_or}
 use Rattle.fq_text.specs.Written.{line}
 use Rattle.fq_trim.specs.declared.fault.StepFaultKind.{StepFaultKind}
@@ -38,10 +38,11 @@ setting_name setting.Chunk = codes "chunk"
 setting_name setting.MaxReads = codes "reads"
 setting_name setting.GateTurns = codes "gate"
 
--- the line on standard error, for what was asked
+-- the line on standard error, for this request
 abbrev pub words_of : Asking → Refusal → List ℕ
 words_of a Encoding = codes "bad encoding: " ++ a.encoding
-words_of a (Step fault) = codes "bad step " ++ decimal fault.place ++ codes ": " ++ step_fault_name fault.kind
+words_of a (Step fault) =
+    codes "bad step " ++ decimal fault.place ++ codes ": " ++ step_fault_name fault.kind
 words_of a (Setting bad) = codes "bad setting: " ++ setting_name bad
 words_of a (SameName out) = codes "same name: " ++ unwrap_or (output_name a out) []
 words_of a (Source side) = codes "cannot read " ++ input_name a.inputs side

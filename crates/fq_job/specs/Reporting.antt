@@ -1,4 +1,4 @@
--- The report of a run: what it tells, and what its file holds.
+-- The report of a run: what it says, and what its file holds.
 use Rattle.std.specs.Prelude.{◌≡◌, ℕ, Option, Some, None, Ok, List, [], ◌++◌, codes, take}
 use Rattle.fq_text.specs.declared.encoding.Encoding.{Encoding}
 use Rattle.fq_pair.specs.declared.counts.Counts.{Counts}
@@ -23,9 +23,9 @@ use Rattle.fq_job.specs.declared.account.Account.{Account}
 use Rattle.fq_job.specs.declared.reporting.Reported.{Reported}
 use Rattle.fq_job.specs.declared.reporting.Reported.TheVariants.{Written, Failed}
 
--- What it tells.
+-- What the report says.
 
--- the words of a fault of the inputs, without a line end
+-- the words of a fault in the inputs, without a line end
 abbrev pub words_when : Outcome → Option (List ℕ)
 words_when (Input fault) = Some (input_words fault)
 words_when _ = None
@@ -41,7 +41,7 @@ inputs_in InterleavedText forward reverse = facts.InterleavedFile forward
 abbrev pub report_inputs : InputNames → facts.InputNames
 report_inputs names = inputs_in names.form names.forward names.reverse
 
--- what was asked and counted, and how the run ended
+-- what was asked for and counted, and how the run ended
 abbrev pub run_facts : Asking → Encoding → Outcome → Counts → Tally → facts.Facts
 run_facts a encoding outcome counts tally = record {
   program = codes "fq_prog";
@@ -60,11 +60,12 @@ run_facts a encoding outcome counts tally = record {
   tally = tally;
 }
 
--- the report of these pairs: their counts and their tally, and the fault behind them
+-- the report of these pairs: their counts, their tally, and the fault after them
 abbrev pub report_of : Asking → Choices → Pairs → List ℕ
-report_of a c all = text_of (run_facts a c.encoding (trimmed_outcome all.fault) (counts_of c.steps all.mates) (tally_of (alone c.steps) all.mates))
+report_of a c all = text_of (run_facts a c.encoding
+    (trimmed_outcome all.fault) (counts_of c.steps all.mates) (tally_of (alone c.steps) all.mates))
 
--- the report that is defined for the bytes of the inputs and for what was asked
+-- the report that is defined for the bytes of the inputs and for the request
 pub record IsReport (a : Asking) (old : Holding) (text : List ℕ) : Type 0 where
   pub choices : Choices
   pub forward : List ℕ
@@ -74,47 +75,50 @@ pub record IsReport (a : Asking) (old : Holding) (text : List ℕ) : Type 0 wher
   pub reverse_is : old a.inputs.reverse ≡ Some reverse
   pub text_is : text ≡ report_of a choices (pairs_of choices a.inputs.form forward reverse)
 
--- What its file holds.
+-- What the file of the report holds.
 
--- that report
+-- the file holds the whole report
 pub record HoldsReport (a : Asking) (old new : Holding) (name : List ℕ) : Type 0 where
   pub text : List ℕ
   pub is : IsReport a old text
   pub held : new name ≡ Some text
 
--- a first part of it
+-- the file holds a first part of the report
 pub record BeginsReport (a : Asking) (old new : Holding) (name : List ℕ) : Type 0 where
   pub text : List ℕ
   pub count : ℕ
   pub is : IsReport a old text
   pub held : new name ≡ Some (take count text)
 
--- the report is empty where it was not due, or memory was refused for it
+-- what the file holds; it is empty if no report was due or memory was refused
 abbrev pub ReportHeld : Reported → Asking → Holding → Holding → List ℕ → Type 0
 ReportHeld Written a old new name = HoldsReport a old new name
 ReportHeld Failed a old new name = BeginsReport a old new name
 ReportHeld _ a old new name = new name ≡ Some []
 
--- Its writing.
+-- How the report is written.
 
 -- the text of the report of a run that has a tally
-pub record IsTextOf (a : Asking) (encoding : Encoding) (account : Account) (text : List ℕ) : Type 0 where
+pub record IsTextOf (a : Asking) (encoding : Encoding)
+    (account : Account) (text : List ℕ) : Type 0 where
   pub tally : Tally
   pub tallied : account.tally ≡ Some tally
   pub text_is : text ≡ text_of (run_facts a encoding account.outcome account.counts tally)
 
-pub record TookWhole (a : Asking) (encoding : Encoding) (account : Account) (old new : List ℕ) : Type 0 where
+pub record TookWhole (a : Asking) (encoding : Encoding)
+    (account : Account) (old new : List ℕ) : Type 0 where
   pub text : List ℕ
   pub is : IsTextOf a encoding account text
   pub took : new ≡ old ++ text
 
-pub record TookStart (a : Asking) (encoding : Encoding) (account : Account) (old new : List ℕ) : Type 0 where
+pub record TookStart (a : Asking) (encoding : Encoding)
+    (account : Account) (old new : List ℕ) : Type 0 where
   pub text : List ℕ
   pub count : ℕ
   pub is : IsTextOf a encoding account text
   pub took : new ≡ old ++ take count text
 
--- what an outlet has taken of the report, and had taken before
+-- what an outlet has taken of the report, after what it had taken before
 abbrev pub TookReport : Reported → Asking → Encoding → Account → List ℕ → List ℕ → Type 0
 TookReport Written a encoding account old new = TookWhole a encoding account old new
 TookReport Failed a encoding account old new = TookStart a encoding account old new

@@ -1,4 +1,4 @@
--- Trimming the pairs of files into others.
+-- Trimming pairs from input files into output files.
 use Rattle.std.specs.Prelude.{◌≡◌, ◌≢◌, ℕ, Bool, IsTrue, IsSome, Option, Some, None, Ok, List, []}
 use Rattle.std.specs.Option.{option_map}
 use Rattle.fq_files.specs.Holding.{Holding}
@@ -22,55 +22,62 @@ use Rattle.fq_job.specs.declared.feeds.Feeds.TheVariants.{Apart, Interleaved}
 
 -- no two outputs have one name
 abbrev pub HasDistinctOutputs : Asking → Type 0
-HasDistinctOutputs a = (one other : Out) (name : List ℕ) → output_name a one ≡ Some name → output_name a other ≡ Some name → one ≡ other
+HasDistinctOutputs a = (one other : Out) (name : List ℕ) →
+    output_name a one ≡ Some name → output_name a other ≡ Some name → one ≡ other
 
--- no two files that are made have one name
+-- no two files that are made (outputs, report) have one name
 pub record HasDistinctFiles (a : Asking) : Type 0 where
   pub outputs : HasDistinctOutputs a
   pub report : (out : Out) (name : List ℕ) → output_name a out ≡ Some name → a.report ≢ Some name
 
--- every name that is no output's has what it had
+-- each name that is not an output's holds what it held before
 abbrev pub KeepsRest : Asking → Holding → Holding → Type 0
-KeepsRest a old new = (name : List ℕ) → ((out : Out) → output_name a out ≢ Some name) → new name ≡ old name
+KeepsRest a old new = (name : List ℕ) → ((out : Out) → output_name a out ≢ Some name) →
+    new name ≡ old name
 
--- every name that is neither an output's nor that of the report has what it had
+-- each name that is neither an output's nor the report's holds what it held before
 abbrev pub KeepsUnnamed : Asking → Holding → Holding → Type 0
-KeepsUnnamed a old new = (name : List ℕ) → ((out : Out) → output_name a out ≢ Some name) → a.report ≢ Some name → new name ≡ old name
+KeepsUnnamed a old new = (name : List ℕ) → ((out : Out) → output_name a out ≢ Some name) →
+    a.report ≢ Some name → new name ≡ old name
 
--- each output has a name that is held
+-- the file of each output exists
 abbrev pub AreHeld : Asking → Holding → Type 0
 AreHeld a files = (out : Out) (name : List ℕ) → output_name a out ≡ Some name → IsSome (files name)
 
--- the files of the outputs hold what these outlets, which tell their bytes, have taken
+-- the file of each output holds what its outlet has taken, if that outlet tells its bytes
 abbrev pub HoldTaken : Asking → OutletStates → Holding → Type 0
 HoldTaken a outlets files = (out : Out) (name : List ℕ) (outlet : OutletState) →
-    output_name a out ≡ Some name → outlet_at out outlets ≡ Some outlet → IsTrue outlet.tells → files name ≡ Some outlet.taken
+    output_name a out ≡ Some name → outlet_at out outlets ≡ Some outlet →
+    IsTrue outlet.tells → files name ≡ Some outlet.taken
 
--- an outlet that tells its bytes, and has taken none
+-- an outlet that tells its bytes and has taken none
 pub record IsEmptyOutlet (outlet : OutletState) : Type 0 where
   pub tells : IsTrue outlet.tells
   pub taken : outlet.taken ≡ []
 
--- each outlet tells its bytes, and has taken none
+-- each outlet tells its bytes and has taken none
 abbrev pub AreEmpty : OutletStates → Type 0
-AreEmpty outlets = (out : Out) (outlet : OutletState) → outlet_at out outlets ≡ Some outlet → IsEmptyOutlet outlet
+AreEmpty outlets = (out : Out) (outlet : OutletState) →
+    outlet_at out outlets ≡ Some outlet → IsEmptyOutlet outlet
 
 -- an input tells its bytes, which are those of its file
 pub record IsFed (tells : Bool) (to_come : List ℕ) (bytes : Option (List ℕ)) : Type 0 where
   pub told : IsTrue tells
   pub bytes_are : bytes ≡ Some to_come
 
--- Inputs that are opened, in their form. An interleaved one stands for both sides.
+-- The opened inputs, in their form. An interleaved input is both the forward and the reverse one.
 pub record Opened : Type 0 where
   pub form : Form
   pub forward : FeedState
   pub reverse : FeedState
 
 abbrev pub opened_of : {F : Type 0} → (F → FeedState) → Feeds F → Opened
-opened_of state (Apart forward reverse) = record { form = TwoTexts; forward = state forward; reverse = state reverse }
-opened_of state (Interleaved both) = record { form = InterleavedText; forward = state both; reverse = state both }
+opened_of state (Apart forward reverse) =
+    record { form = TwoTexts; forward = state forward; reverse = state reverse }
+opened_of state (Interleaved both) =
+    record { form = InterleavedText; forward = state both; reverse = state both }
 
--- the same feeds behind a run, as far as they came back
+-- the feeds that came back after a run
 abbrev pub left_of : {F : Type 0} → (F → FeedState) → Feeds (Option F) → Side → Option FeedState
 left_of state (Apart forward reverse) Forward = option_map state forward
 left_of state (Apart forward reverse) Reverse = option_map state reverse
@@ -111,14 +118,17 @@ abbrev pub pairs_of : Choices → Form → List ℕ → List ℕ → Pairs
 pairs_of c form forward reverse = pairs_in form c.check_names c.encoding 0 forward reverse
 
 -- the pairs were trimmed one after the other into these outlets
-pub record TrimsPairs (c : Choices) (all : Pairs) (old new : OutletStates) (outcome : Outcome) (counts : Counts) : Type 0 where
+pub record TrimsPairs (c : Choices) (all : Pairs)
+    (old new : OutletStates) (outcome : Outcome) (counts : Counts) : Type 0 where
   pub took : OutletsTook old new (λ out. text_of out (texts_of c.steps all.mates)) None
   pub counts_are : counts ≡ counts_of c.steps all.mates
   pub outcome_is : outcome ≡ trimmed_outcome all.fault
 
--- The pairs of the inputs were trimmed one after the other: the files of the outputs hold the texts that are defined for
--- the bytes of the inputs and for the settings, and the counts and the outcome are the defined ones.
-pub record TrimsFiles (a : Asking) (old new : Holding) (outcome : Outcome) (counts : Counts) : Type 0 where
+-- The pairs of the inputs were trimmed one after the other. The files of the outputs hold the texts
+-- that are defined for the bytes of the inputs and for the settings, and the counts and the outcome
+-- are the defined ones.
+pub record TrimsFiles (a : Asking) (old new : Holding)
+    (outcome : Outcome) (counts : Counts) : Type 0 where
   pub choices : Choices
   pub forward : List ℕ
   pub reverse : List ℕ
@@ -126,6 +136,8 @@ pub record TrimsFiles (a : Asking) (old new : Holding) (outcome : Outcome) (coun
   pub forward_is : old a.inputs.forward ≡ Some forward
   pub reverse_is : old a.inputs.reverse ≡ Some reverse
   pub texts : (out : Out) (name : List ℕ) → output_name a out ≡ Some name →
-      new name ≡ Some (text_of out (texts_of choices.steps (pairs_of choices a.inputs.form forward reverse).mates))
-  pub counts_are : counts ≡ counts_of choices.steps (pairs_of choices a.inputs.form forward reverse).mates
+      new name ≡ Some (text_of out
+      (texts_of choices.steps (pairs_of choices a.inputs.form forward reverse).mates))
+  pub counts_are : counts ≡ counts_of choices.steps
+      (pairs_of choices a.inputs.form forward reverse).mates
   pub outcome_is : outcome ≡ trimmed_outcome (pairs_of choices a.inputs.form forward reverse).fault

@@ -4,13 +4,13 @@ use fq_pair::Counts;
 use fq_run::Outcome;
 use fq_tally::Tally;
 
-/// What is told of a run.
+/// The outcome, the counts and the tally of a run.
 #[derive(Drop)]
 pub struct Account {
     /// How the run ended.
     pub outcome: Outcome,
     /// The counts of the pairs whose block was written whole.
     pub counts: Counts,
-    /// The tally of these pairs, where one was asked for.
+    /// The tally of these pairs, if one was asked for.
     pub tally: Option<Tally>,
 }

@@ -1,4 +1,4 @@
-//! The feeds of the inputs.
+//! Opens the inputs, and hands their feeds back after the run.
 
 ghost use Rattle.std.specs.Prelude.{◌≡◌, ◌≢◌, ◌⊎◌, None, IsTrue, IfOk, IfErr};
 ghost use Rattle.std.specs.Option.{option_map};
@@ -15,25 +15,29 @@ use fq_pair::Side;
 use fq_text::Feed;
 use fq_words::{Inputs, Request};
 
-/// The inputs, opened.
+/// The opened inputs.
 #[derive(Drop)]
 pub(crate) enum Feeds<F> {
-    /// Forward and reverse reads, each in a feed.
+    /// Forward and reverse reads, each in a feed of its own.
     Apart { forward: F, reverse: F },
-    /// One interleaved feed, a forward read before its reverse mate.
+    /// One interleaved feed: each forward read comes before its reverse mate.
     Interleaved(F),
 }
 
-/// The inputs, opened in the order of the command line. Where it was asked for, the files of the outputs are to wait for their disk.
+/// Opens the inputs in the order of the command line. With `--sync`, the files of the outputs will
+/// wait for their disk.
 pub(crate) fn inputs<T: Files>(
     request: &Request<'_>,
     files: &mut T,
 ) -> Result<Feeds<T::In>, Refusal>
     ensures fresh { IfOk result (λ feeds. AreFresh (opened_of T.In.state feeds)) }
-    ensures form { IfOk result (λ feeds. (opened_of T.In.state feeds).form ≡ (asking_of request.now).inputs.form) }
+    ensures form { IfOk result (λ feeds. (opened_of T.In.state feeds).form
+        ≡ (asking_of request.now).inputs.form) }
     ensures fed { IfOk result (λ feeds. IsTrue (T.tells_bytes files.old)
-        → AreFed (opened_of T.In.state feeds) (asking_of request.now).inputs (T.bytes_of files.old)) }
-    ensures unchanged { IsTrue (T.tells_bytes files.old) → IsUnchanged (T.bytes_of files.old) (T.bytes_of files.new) }
+        → AreFed (opened_of T.In.state feeds)
+        (asking_of request.now).inputs (T.bytes_of files.old)) }
+    ensures unchanged { IsTrue (T.tells_bytes files.old)
+        → IsUnchanged (T.bytes_of files.old) (T.bytes_of files.new) }
     ensures told { T.tells_bytes files.new ≡ T.tells_bytes files.old }
     ensures refusing { T.refuses files.new ≡ T.refuses files.old }
     ensures failed { T.has_failed files.new ≡ T.has_failed files.old }
@@ -56,16 +60,19 @@ pub(crate) fn inputs<T: Files>(
     Ok(feeds)
 }
 
-// The input of a side.
+// Opens the input of a side.
 fn input<T: Files>(request: &Request<'_>, files: &mut T, side: Side) -> Result<T::In, Refusal>
     ensures fresh { IfOk result (λ feed. (T.In.state feed).failures ≡ 0) }
     ensures fed { IfOk result (λ feed. IsTrue (T.tells_bytes files.old)
-        → IsFed (T.In.state feed).tells (T.In.state feed).to_come (T.bytes_of files.old (input_name (asking_of request.now).inputs side))) }
-    ensures unchanged { IsTrue (T.tells_bytes files.old) → IsUnchanged (T.bytes_of files.old) (T.bytes_of files.new) }
+        → IsFed (T.In.state feed).tells (T.In.state feed).to_come
+        (T.bytes_of files.old (input_name (asking_of request.now).inputs side))) }
+    ensures unchanged { IsTrue (T.tells_bytes files.old)
+        → IsUnchanged (T.bytes_of files.old) (T.bytes_of files.new) }
     ensures told { T.tells_bytes files.new ≡ T.tells_bytes files.old }
     ensures refusing { T.refuses files.new ≡ T.refuses files.old }
     ensures failed { T.has_failed files.new ≡ T.has_failed files.old }
-    ensures missing { IfErr result (λ why. (why ≡ Refusal.Memory) ⊎ ((why ≡ Refusal.Source side) × (IsTrue (T.tells_bytes files.old)
+    ensures missing { IfErr result (λ why. (why ≡ Refusal.Memory)
+        ⊎ ((why ≡ Refusal.Source side) × (IsTrue (T.tells_bytes files.old)
         → T.bytes_of files.old (input_name (asking_of request.now).inputs side) ≡ None))) }
     ensures early { IfErr result (λ why. IsTrue (is_early why)) }
     ensures late { IfErr result (λ why. status_of why ≢ 2) }
@@ -76,17 +83,21 @@ fn input<T: Files>(request: &Request<'_>, files: &mut T, side: Side) -> Result<T
     }
 }
 
-/// The inputs are done with: their files know which of them failed. A feed that was lost with its thread has not failed.
+/// Hands the feeds back to their files, which count the failed ones. A feed that was lost with its
+/// thread counts as not failed.
 pub(crate) fn inputs_done<T: Files>(
     request: &Request<'_>,
     files: &mut T,
     feeds: Feeds<Option<T::In>>,
 )
-    requires there { IsTrue (T.tells_bytes files.old) → AreThere (asking_of request.now).inputs (T.bytes_of files.old) }
+    requires there { IsTrue (T.tells_bytes files.old)
+        → AreThere (asking_of request.now).inputs (T.bytes_of files.old) }
     requires form { form_of feeds ≡ (asking_of request.now).inputs.form }
-    ensures unchanged { IsTrue (T.tells_bytes files.old) → IsUnchanged (T.bytes_of files.old) (T.bytes_of files.new) }
+    ensures unchanged { IsTrue (T.tells_bytes files.old)
+        → IsUnchanged (T.bytes_of files.old) (T.bytes_of files.new) }
     ensures told { T.tells_bytes files.new ≡ T.tells_bytes files.old }
-    ensures counted { AreFeedsCounted (asking_of request.now).inputs (left_of T.In.state feeds) (T.has_failed files.old) (T.has_failed files.new) }
+    ensures counted { AreFeedsCounted (asking_of request.now).inputs
+        (left_of T.In.state feeds) (T.has_failed files.old) (T.has_failed files.new) }
 {
     match feeds {
         Feeds::Apart { forward, reverse } => {
@@ -97,12 +108,15 @@ pub(crate) fn inputs_done<T: Files>(
     }
 }
 
-// The input of a side is done with, if it came back.
+// Hands the feed of a side back, if the run returned it.
 fn input_done<T: Files>(request: &Request<'_>, files: &mut T, side: Side, feed: Option<T::In>)
-    requires { IsTrue (T.tells_bytes files.old) → AreThere (asking_of request.now).inputs (T.bytes_of files.old) }
-    ensures unchanged { IsTrue (T.tells_bytes files.old) → IsUnchanged (T.bytes_of files.old) (T.bytes_of files.new) }
+    requires { IsTrue (T.tells_bytes files.old)
+        → AreThere (asking_of request.now).inputs (T.bytes_of files.old) }
+    ensures unchanged { IsTrue (T.tells_bytes files.old)
+        → IsUnchanged (T.bytes_of files.old) (T.bytes_of files.new) }
     ensures told { T.tells_bytes files.new ≡ T.tells_bytes files.old }
-    ensures counted { IsFeedCounted (input_name (asking_of request.now).inputs side) (option_map T.In.state feed) (T.has_failed files.old) (T.has_failed files.new) }
+    ensures counted { IsFeedCounted (input_name (asking_of request.now).inputs side)
+        (option_map T.In.state feed) (T.has_failed files.old) (T.has_failed files.new) }
 {
     if let Some(feed) = feed {
         files.source_done(request.input_name(side), feed);

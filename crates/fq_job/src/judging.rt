@@ -1,4 +1,4 @@
-//! What is wrong with what is asked, before a file is opened.
+//! Checks a request before a file is opened.
 
 ghost use Rattle.std.specs.Prelude.{◌≡◌, Some, None, Ok, IfOk, IfErr};
 ghost use Rattle.fq_words.specs.Requests.{asking_of};
@@ -9,10 +9,10 @@ use fq_run::Settings;
 use fq_trim::Steps;
 use fq_words::{Request, encoding_of, report_is_input, same_name};
 
-// The reads of an input, and the turns at a gate: 2 to the power of 40.
+// Limit of the read calls of an input and of the turns at a gate: 2 to the power of 40.
 const MOST: u64 = 1 << 40;
 
-/// The settings of the run, or the first thing that is wrong with the request.
+/// Returns the settings of the run, or the first thing that is wrong with the request.
 pub(crate) fn judge(request: &Request<'_>) -> Result<Settings, Refusal>
     ensures settings { IfOk result (λ settings. settings_of (asking_of request.now) ≡ Ok settings) }
     ensures right { IfOk result (λ settings. wrong_with (asking_of request.now) ≡ None) }
@@ -28,7 +28,7 @@ pub(crate) fn judge(request: &Request<'_>) -> Result<Settings, Refusal>
     Ok(settings)
 }
 
-// The settings of the run, or the first of the encoding, the steps and the numbers that is bad.
+// Returns the settings of the run, or the first fault in the order encoding, steps, numbers.
 fn settings_of(request: &Request<'_>) -> Result<Settings, Refusal>
     ensures { result ≡ settings_of (asking_of request.now) }
 {

@@ -1,8 +1,8 @@
-//! What the program does with files, once it is known what a call asks for: it judges the request, opens the inputs, makes the outputs,
-//! trims the pairs, and stores what was written of them.
+//! What the program does with files once a request is known: it checks the request, opens the
+//! inputs, makes the outputs, trims the pairs, and stores what was written.
 //!
-//! It is an inner layer of the program `fq_prog`, for `fq_command` above it, which reads the words of a call and tells how it ended.
-//! Whoever trims from a program of their own begins with `fq_run`.
+//! This is an inner layer of the program `fq_prog`. `fq_command` above it reads the arguments and
+//! reports how the run ended. To trim from a program of your own, begin with `fq_run`.
 #![tactic(auto)]
 
 mod account;

@@ -1,4 +1,4 @@
-//! What the program says of the outcome of a run.
+//! The exit status and the line on standard error for each outcome of a run.
 
 ghost use Rattle.std.specs.Prelude.{◌≡◌, ◌++◌, OnOk, OnErr, IfOk, codes, decimal};
 ghost use Rattle.std.specs.String.{string_bytes};
@@ -10,13 +10,14 @@ use fq_run::Outcome;
 use fq_text::{OutOfMemory, TextFault};
 use std::alloc::Global;
 
-/// What is said of want of memory, wherever it came, with its line end.
+/// The line for running out of memory, anywhere in the program, with its line end.
 pub const MEMORY_LINE: &str = "out of memory\n";
 
-/// What is said where a lane was not confirmed, with its line end.
+/// The line for a lane that was not confirmed, with its line end.
 pub const LANE_LINE: &str = "lane not confirmed\n";
 
-// The outcome as it is told: a text that could not be read on is no fault of the text.
+// The outcome to report: a text that could not be read to its end is a failed read, an endless
+// input or memory that was refused, and not a fault of the text.
 fn settled(outcome: &Outcome) -> Outcome
     ensures { result ≡ settled outcome.now }
 {
@@ -28,11 +29,12 @@ fn settled(outcome: &Outcome) -> Outcome
     }
 }
 
-/// The exit status of a run with this outcome.
+/// Returns the exit status of a run with this outcome.
 ///
-/// 0 where all pairs are written, 3 at a fault of the input, 4 where a device failed or an input doesn't end, 5 for want of memory,
-/// and 6 where threads failed. A text that couldn't be read on counts as the read, the endless input or the want of memory that it is.
-/// It takes no memory.
+/// 0 if all pairs were written, 3 for a fault in the input, 4 if a device failed or an input
+/// doesn't end, 5 if memory was refused, and 6 if threads failed. A text that could not be read to
+/// its end counts as the failed read, the endless input or the refused memory that stopped it.
+/// `status_of` allocates nothing.
 pub fn status_of(outcome: &Outcome) -> u8
     ensures { result ≡ outcome_status outcome.now }
 {
@@ -45,19 +47,20 @@ pub fn status_of(outcome: &Outcome) -> u8
     }
 }
 
-/// Appends the line of a run with this outcome, such as `input: reverse record 6: MateMissing`, with its line end. It appends
-/// nothing where the run finished.
+/// Appends the line for this outcome and its line end, such as
+/// `input: reverse record 6: MateMissing`. It appends nothing if the run finished.
 ///
-/// Where memory is refused the text is as it was.
+/// If memory is refused, `text` is unchanged.
 pub fn fault_line(alloc: Global, text: &mut String, outcome: &Outcome) -> Result<(), OutOfMemory>
-    ensures ok { OnOk result (string_bytes text.new ≡ string_bytes text.old ++ outcome_line outcome.now) }
+    ensures ok { OnOk result (string_bytes text.new
+        ≡ string_bytes text.old ++ outcome_line outcome.now) }
     ensures err { OnErr result (string_bytes text.new ≡ string_bytes text.old) }
 {
     let line = made_line(alloc, settled(outcome))?;
     text.push_str(line.as_str())
 }
 
-// The line of an outcome that is told as it is.
+// The line of an outcome that `settled` has returned.
 fn made_line(alloc: Global, outcome: Outcome) -> Result<String, OutOfMemory>
     ensures { IfOk result (λ line. string_bytes line ≡ line_when outcome) }
 {
@@ -74,7 +77,7 @@ fn made_line(alloc: Global, outcome: Outcome) -> Result<String, OutOfMemory>
     }
 }
 
-// The line of a fault of the input.
+// The line of a fault in the input.
 fn input_line(alloc: Global, fault: InputFault) -> Result<String, OutOfMemory>
     ensures { IfOk result (λ line. string_bytes line ≡ line_when (Outcome.Input fault)) }
 {
@@ -88,21 +91,23 @@ fn input_line(alloc: Global, fault: InputFault) -> Result<String, OutOfMemory>
     }
 }
 
-// The line of names that differ.
+// The line for names that differ.
 fn names_line(alloc: Global, k: u64) -> Result<String, OutOfMemory>
-    ensures { IfOk result (λ text. string_bytes text ≡ line (codes "input: record " ++ decimal k ++ codes ": NamesDiffer")) }
+    ensures { IfOk result (λ text. string_bytes text
+        ≡ line (codes "input: record " ++ decimal k ++ codes ": NamesDiffer")) }
 {
     format!(in alloc; "input: record {k}: NamesDiffer\n")
 }
 
-// The line of a fault of one side's record.
+// The line of a fault in one side's record.
 fn record_line(alloc: Global, side: Side, k: u64, kind: &str) -> Result<String, OutOfMemory>
     ensures { IfOk result (λ text. string_bytes text ≡ line (at_record side k kind.now)) }
 {
     format!(in alloc; "input: {side} record {k}: {kind}\n")
 }
 
-// The number of the record of a fault of a text, and the fault's name.
+// The number of the faulty record and the name of the fault. The number is 0 if the text could not
+// be read to its end.
 fn record_and_name(fault: TextFault) -> (u64, &'static str)
     ensures { (result.0 ≡ (record_and_name fault).0) × (result.1.now ≡ (record_and_name fault).1) }
 {

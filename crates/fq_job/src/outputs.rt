@@ -1,4 +1,4 @@
-//! The files of the outputs: they are made, and then done with.
+//! Makes the files of the outputs, and hands their outlets back after the run.
 
 ghost use Rattle.std.specs.Prelude.{◌≡◌, ◌≢◌, ◌⊎◌, [], suc, IsTrue, IsSome, IfOk, IfErr, OnOk, is_some};
 ghost use Rattle.fq_files.specs.Holding.{Holding, KeepsNames};
@@ -19,19 +19,25 @@ use fq_run::Outlets;
 use fq_text::Outlet;
 use fq_words::Request;
 
-/// The outputs, each made empty, in the order of [`Out`].
+/// Makes each output, empty, in the order of [`Out`].
 pub(crate) fn outputs<T: Files>(
     request: &Request<'_>,
     files: &mut T,
 ) -> Result<Outlets<T::Target>, Refusal>
     ensures healthy { IfOk result (λ outlets. AreHealthy (outlet_states T.Target.state outlets)) }
-    ensures empty { IfOk result (λ outlets. IsTrue (T.tells_bytes files.old) → AreEmpty (outlet_states T.Target.state outlets)) }
-    ensures log { IfOk result (λ outlets. is_some outlets.log ≡ is_some (asking_of request.now).log) }
-    ensures made { OnOk result (Made (asking_of request.now) (T.bytes_of files.old) 5 (T.tells_bytes files.new) (T.bytes_of files.new)) }
-    ensures unmade { IfErr result (λ why. Unmade (asking_of request.now) why (T.bytes_of files.old) (T.tells_bytes files.new) (T.bytes_of files.new)) }
+    ensures empty { IfOk result (λ outlets. IsTrue (T.tells_bytes files.old)
+        → AreEmpty (outlet_states T.Target.state outlets)) }
+    ensures log { IfOk result (λ outlets. is_some outlets.log
+        ≡ is_some (asking_of request.now).log) }
+    ensures made { OnOk result (Made (asking_of request.now)
+        (T.bytes_of files.old) 5 (T.tells_bytes files.new) (T.bytes_of files.new)) }
+    ensures unmade { IfErr result (λ why. Unmade (asking_of request.now)
+        why (T.bytes_of files.old) (T.tells_bytes files.new) (T.bytes_of files.new)) }
     ensures told { T.tells_bytes files.new ≡ T.tells_bytes files.old }
-    ensures names { IsTrue (T.tells_bytes files.old) → KeepsNames (T.bytes_of files.old) (T.bytes_of files.new) }
-    ensures refused { IfErr result (λ why. IsRefusable (asking_of request.now) (T.refuses files.old) why) }
+    ensures names { IsTrue (T.tells_bytes files.old)
+        → KeepsNames (T.bytes_of files.old) (T.bytes_of files.new) }
+    ensures refused { IfErr result (λ why.
+        IsRefusable (asking_of request.now) (T.refuses files.old) why) }
     ensures refusing { T.refuses files.new ≡ T.refuses files.old }
     ensures failed { T.has_failed files.new ≡ T.has_failed files.old }
     ensures opened { IfErr result (λ why. IsTrue (is_late why)) }
@@ -54,21 +60,29 @@ pub(crate) fn outputs<T: Files>(
     })
 }
 
-// One output that is wanted, made empty. Those before it are made.
+// Makes one output that was asked for, empty. The outputs before it have been made.
 fn output<T: Files>(request: &Request<'_>, files: &mut T, out: Out) -> Result<T::Target, Refusal>
     requires { IsSome (output_name (asking_of request.now) out) }
     ensures fresh { IfOk result (λ target. (T.Target.state target).failures ≡ 0) }
-    ensures telling { IfOk result (λ target. IsTrue (T.tells_bytes files.old) → IsTrue (T.Target.state target).tells) }
-    ensures nothing { IfOk result (λ target. IsTrue (T.tells_bytes files.old) → (T.Target.state target).taken ≡ []) }
-    ensures made { OnOk result ((start : Holding) → Made (asking_of request.now) start (place out) (T.tells_bytes files.old) (T.bytes_of files.old)
-        → Made (asking_of request.now) start (suc (place out)) (T.tells_bytes files.new) (T.bytes_of files.new)) }
-    ensures unmade { IfErr result (λ why. (start : Holding) → Made (asking_of request.now) start (place out) (T.tells_bytes files.old) (T.bytes_of files.old)
-        → Unmade (asking_of request.now) why start (T.tells_bytes files.new) (T.bytes_of files.new)) }
+    ensures telling { IfOk result (λ target. IsTrue (T.tells_bytes files.old)
+        → IsTrue (T.Target.state target).tells) }
+    ensures nothing { IfOk result (λ target. IsTrue (T.tells_bytes files.old)
+        → (T.Target.state target).taken ≡ []) }
+    ensures made { OnOk result ((start : Holding) → Made (asking_of request.now)
+        start (place out) (T.tells_bytes files.old) (T.bytes_of files.old)
+        → Made (asking_of request.now) start
+        (suc (place out)) (T.tells_bytes files.new) (T.bytes_of files.new)) }
+    ensures unmade { IfErr result (λ why. (start : Holding) → Made (asking_of request.now)
+        start (place out) (T.tells_bytes files.old) (T.bytes_of files.old)
+        → Unmade (asking_of request.now) why
+        start (T.tells_bytes files.new) (T.bytes_of files.new)) }
     ensures why { IfErr result (λ why. (why ≡ Refused.Target out) ⊎ (why ≡ Refused.Memory)) }
     ensures opened { IfErr result (λ why. IsTrue (is_late why)) }
     ensures told { T.tells_bytes files.new ≡ T.tells_bytes files.old }
-    ensures names { IsTrue (T.tells_bytes files.old) → KeepsNames (T.bytes_of files.old) (T.bytes_of files.new) }
-    ensures refused { IfErr result (λ why. IsRefusable (asking_of request.now) (T.refuses files.old) why) }
+    ensures names { IsTrue (T.tells_bytes files.old)
+        → KeepsNames (T.bytes_of files.old) (T.bytes_of files.new) }
+    ensures refused { IfErr result (λ why.
+        IsRefusable (asking_of request.now) (T.refuses files.old) why) }
     ensures refusing { T.refuses files.new ≡ T.refuses files.old }
     ensures failed { T.has_failed files.new ≡ T.has_failed files.old }
 {
@@ -78,14 +92,18 @@ fn output<T: Files>(request: &Request<'_>, files: &mut T, out: Out) -> Result<T:
     }
 }
 
-/// Each output is done with: its file has what its outlet has taken.
+/// Hands each outlet back: its file then holds what the outlet has taken.
 pub(crate) fn store<T: Files>(request: &Request<'_>, files: &mut T, outlets: Outlets<T::Target>)
-    requires { IsTrue (T.tells_bytes files.old) → AreHeld (asking_of request.now) (T.bytes_of files.old) }
-    ensures stored { Stored (asking_of request.now) (T.bytes_of files.old) (outlet_states T.Target.state outlets) 5
+    requires { IsTrue (T.tells_bytes files.old)
+        → AreHeld (asking_of request.now) (T.bytes_of files.old) }
+    ensures stored { Stored (asking_of request.now)
+        (T.bytes_of files.old) (outlet_states T.Target.state outlets) 5
         (T.tells_bytes files.new) (T.bytes_of files.new) }
-    ensures names { IsTrue (T.tells_bytes files.old) → KeepsNames (T.bytes_of files.old) (T.bytes_of files.new) }
+    ensures names { IsTrue (T.tells_bytes files.old)
+        → KeepsNames (T.bytes_of files.old) (T.bytes_of files.new) }
     ensures told { T.tells_bytes files.new ≡ T.tells_bytes files.old }
-    ensures counted { AreCounted (asking_of request.now) (outlet_states T.Target.state outlets) 5 (T.has_failed files.old) (T.has_failed files.new) }
+    ensures counted { AreCounted (asking_of request.now)
+        (outlet_states T.Target.state outlets) 5 (T.has_failed files.old) (T.has_failed files.new) }
 {
     let Outlets {
         forward_paired,
@@ -103,19 +121,27 @@ pub(crate) fn store<T: Files>(request: &Request<'_>, files: &mut T, outlets: Out
     }
 }
 
-// One output is done with. Those before it are.
+// Hands one outlet back. Those of the outputs before it have been handed back.
 fn store_one<T: Files>(request: &Request<'_>, files: &mut T, out: Out, outlet: T::Target)
     requires wanted { IsSome (output_name (asking_of request.now) out) }
-    requires held { IsTrue (T.tells_bytes files.old) → AreHeld (asking_of request.now) (T.bytes_of files.old) }
-    ensures held { IsTrue (T.tells_bytes files.new) → AreHeld (asking_of request.now) (T.bytes_of files.new) }
-    ensures stored { (start : Holding) (states : OutletStates) → outlet_at out states ≡ Some (T.Target.state outlet)
-        → Stored (asking_of request.now) start states (place out) (T.tells_bytes files.old) (T.bytes_of files.old)
-        → Stored (asking_of request.now) start states (suc (place out)) (T.tells_bytes files.new) (T.bytes_of files.new) }
-    ensures names { IsTrue (T.tells_bytes files.old) → KeepsNames (T.bytes_of files.old) (T.bytes_of files.new) }
+    requires held { IsTrue (T.tells_bytes files.old)
+        → AreHeld (asking_of request.now) (T.bytes_of files.old) }
+    ensures held { IsTrue (T.tells_bytes files.new)
+        → AreHeld (asking_of request.now) (T.bytes_of files.new) }
+    ensures stored { (start : Holding) (states : OutletStates)
+        → outlet_at out states ≡ Some (T.Target.state outlet)
+        → Stored (asking_of request.now) start
+        states (place out) (T.tells_bytes files.old) (T.bytes_of files.old)
+        → Stored (asking_of request.now) start
+        states (suc (place out)) (T.tells_bytes files.new) (T.bytes_of files.new) }
+    ensures names { IsTrue (T.tells_bytes files.old)
+        → KeepsNames (T.bytes_of files.old) (T.bytes_of files.new) }
     ensures told { T.tells_bytes files.new ≡ T.tells_bytes files.old }
-    ensures counted { (start : Failed) (states : OutletStates) → outlet_at out states ≡ Some (T.Target.state outlet)
+    ensures counted { (start : Failed) (states : OutletStates)
+        → outlet_at out states ≡ Some (T.Target.state outlet)
         → AreCounted (asking_of request.now) states (place out) start (T.has_failed files.old)
-        → AreCounted (asking_of request.now) states (suc (place out)) start (T.has_failed files.new) }
+        → AreCounted (asking_of request.now)
+        states (suc (place out)) start (T.has_failed files.new) }
 {
     files.done(request.output_name(out), outlet);
 }

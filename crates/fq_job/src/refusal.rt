@@ -1,4 +1,4 @@
-//! Why the program did not do what it was asked for.
+//! Why the program did not do what it was asked to do.
 
 ghost use Rattle.std.specs.Prelude.{◌≡◌, ◌≢◌, ◌⊎◌};
 ghost use Rattle.fq_job.specs.Refusals.{status_of};
@@ -9,12 +9,13 @@ use fq_run::BadSetting;
 use fq_text::OutOfMemory;
 use fq_trim::StepFault;
 
-/// Why the program did not do what it was asked for. Each has an exit status and a line on standard error.
+/// Why the program did not do what it was asked to do. Each variant has an exit status and a line
+/// on standard error.
 #[derive(Clone, Copy, Debug, PartialEq, Eq)]
 pub enum Refusal {
-    /// The encoding has no such name.
+    /// No encoding has this name.
     Encoding,
-    /// The words of the steps are no steps.
+    /// The arguments for the steps are invalid.
     Step(StepFault),
     /// A setting is out of its range.
     Setting(BadSetting),
@@ -43,7 +44,7 @@ impl From<OutOfMemory> for Refusal {
     }
 }
 
-/// An input that is not given, or an output that is not made: why, and otherwise want of memory.
+/// Returns `refused`, or `Refusal::Memory` if the file was refused for lack of memory.
 pub(crate) fn file_refused(fault: FileFault, refused: Refusal) -> Refusal
     ensures refused { fault ≡ FileFault.Refused → result ≡ refused }
     ensures memory { fault ≡ FileFault.OutOfMemory → result ≡ Refusal.Memory }

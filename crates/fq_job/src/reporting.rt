@@ -1,4 +1,4 @@
-//! The report of a run: its file is made last of all, and written once, at the end.
+//! Writes the report of a run. Its file is made after all outputs, and is written once, at the end.
 
 ghost use Rattle.std.specs.Prelude.{◌≡◌, ◌≢◌, ◌⊎◌, ◌++◌, ℕ, List, true, false, Some, None, [], take, is_some, option_map, IsTrue, IsSome, IfOk, IfSome, OnOk, IfErr};
 ghost use Rattle.std.specs.String.{string_bytes};
@@ -26,35 +26,45 @@ use std::alloc::Global;
 /// What became of the report of a run.
 #[derive(Clone, Copy, Debug, PartialEq, Eq)]
 pub enum Reported {
-    /// None was due: none was asked for, or the run did not end whole.
+    /// No report was due: none was asked for, or the run did not reach the end of its input or a
+    /// fault in it.
     NotDue,
-    /// It was written.
+    /// The report was written.
     Written,
-    /// A write of it failed.
+    /// A write of the report failed.
     Failed,
-    /// Memory was refused for it.
+    /// Memory for the report was refused.
     OutOfMemory,
 }
 
-/// The file of the report, made empty, if a report is asked for.
+/// Makes the file of the report, empty, if a report was asked for.
 pub(crate) fn report_target<T: Files>(
     request: &Request<'_>,
     files: &mut T,
 ) -> Result<Option<T::Target>, Refusal>
-    ensures there { IfOk result (λ target. is_some target ≡ is_some (asking_of request.now).report) }
+    ensures there { IfOk result (λ target. is_some target
+        ≡ is_some (asking_of request.now).report) }
     ensures fresh { IfOk result (λ target. IfSome target (λ t. (T.Target.state t).failures ≡ 0)) }
-    ensures telling { IfOk result (λ target. IsTrue (T.tells_bytes files.old) → IfSome target (λ t. IsTrue (T.Target.state t).tells)) }
-    ensures nothing { IfOk result (λ target. IsTrue (T.tells_bytes files.old) → IfSome target (λ t. (T.Target.state t).taken ≡ [])) }
-    ensures made { OnOk result (IsTrue (T.tells_bytes files.old) → (name : List ℕ) → (asking_of request.now).report ≡ Some name
+    ensures telling { IfOk result (λ target. IsTrue (T.tells_bytes files.old)
+        → IfSome target (λ t. IsTrue (T.Target.state t).tells)) }
+    ensures nothing { IfOk result (λ target. IsTrue (T.tells_bytes files.old)
+        → IfSome target (λ t. (T.Target.state t).taken ≡ [])) }
+    ensures made { OnOk result (IsTrue (T.tells_bytes files.old)
+        → (name : List ℕ) → (asking_of request.now).report ≡ Some name
         → IsSome (T.bytes_of files.new name)) }
     ensures why { IfErr result (λ why. (why ≡ Refused.Report) ⊎ (why ≡ Refused.Memory)) }
-    ensures left { IfErr result (λ why. IsTrue (T.tells_bytes files.old) → (name : List ℕ) → (asking_of request.now).report ≡ Some name
-        → (T.bytes_of files.new name ≡ T.bytes_of files.old name) ⊎ (T.bytes_of files.new name ≡ Some [])) }
-    ensures held { IsTrue (T.tells_bytes files.old) → KeepsNames (T.bytes_of files.old) (T.bytes_of files.new) }
-    ensures others { IsTrue (T.tells_bytes files.old) → (name : List ℕ) → (asking_of request.now).report ≢ Some name
+    ensures left { IfErr result (λ why. IsTrue (T.tells_bytes files.old)
+        → (name : List ℕ) → (asking_of request.now).report ≡ Some name
+        → (T.bytes_of files.new name ≡ T.bytes_of files.old name)
+        ⊎ (T.bytes_of files.new name ≡ Some [])) }
+    ensures held { IsTrue (T.tells_bytes files.old)
+        → KeepsNames (T.bytes_of files.old) (T.bytes_of files.new) }
+    ensures others { IsTrue (T.tells_bytes files.old)
+        → (name : List ℕ) → (asking_of request.now).report ≢ Some name
         → T.bytes_of files.new name ≡ T.bytes_of files.old name }
     ensures told { T.tells_bytes files.new ≡ T.tells_bytes files.old }
-    ensures refused { IfErr result (λ why. IsRefusable (asking_of request.now) (T.refuses files.old) why) }
+    ensures refused { IfErr result (λ why.
+        IsRefusable (asking_of request.now) (T.refuses files.old) why) }
     ensures refusing { T.refuses files.new ≡ T.refuses files.old }
     ensures failed { T.has_failed files.new ≡ T.has_failed files.old }
 {
@@ -67,7 +77,7 @@ pub(crate) fn report_target<T: Files>(
     }
 }
 
-/// Writes the report of a run, where one is asked for and the run ended whole, and is done with its file.
+/// Writes the report if one was asked for and the run ended whole, and hands its outlet back.
 pub(crate) fn store_report<T: Files>(
     alloc: Global,
     request: &Request<'_>,
@@ -78,19 +88,25 @@ pub(crate) fn store_report<T: Files>(
 ) -> Reported
     requires there { is_some target ≡ is_some (asking_of request.now).report }
     requires fresh { IfSome target (λ t. (T.Target.state t).failures ≡ 0) }
-    requires held { IsTrue (T.tells_bytes files.old) → (name : List ℕ) → (asking_of request.now).report ≡ Some name
+    requires held { IsTrue (T.tells_bytes files.old)
+        → (name : List ℕ) → (asking_of request.now).report ≡ Some name
         → IsSome (T.bytes_of files.old name) }
-    ensures due { result ≢ Reported.NotDue → (outcome_status account.now.outcome ≡ 0) ⊎ (outcome_status account.now.outcome ≡ 3) }
+    ensures due { result ≢ Reported.NotDue
+        → (outcome_status account.now.outcome ≡ 0) ⊎ (outcome_status account.now.outcome ≡ 3) }
     ensures not_due { result ≡ Reported.NotDue → IsSome (asking_of request.now).report
         → (outcome_status account.now.outcome ≢ 0) × (outcome_status account.now.outcome ≢ 3) }
-    ensures took { IsTrue (T.tells_bytes files.old) → IfSome target (λ t. IsTrue (T.Target.state t).tells)
+    ensures took { IsTrue (T.tells_bytes files.old)
+        → IfSome target (λ t. IsTrue (T.Target.state t).tells)
         → IfSome target (λ t. (T.Target.state t).taken ≡ [])
         → (name : List ℕ) → (asking_of request.now).report ≡ Some name
-        → (bytes : List ℕ) × (T.bytes_of files.new name ≡ Some bytes) × TookReport result (asking_of request.now) encoding account.now [] bytes }
-    ensures others { IsTrue (T.tells_bytes files.old) → (name : List ℕ) → (asking_of request.now).report ≢ Some name
+        → (bytes : List ℕ) × (T.bytes_of files.new name ≡ Some bytes)
+        × TookReport result (asking_of request.now) encoding account.now [] bytes }
+    ensures others { IsTrue (T.tells_bytes files.old)
+        → (name : List ℕ) → (asking_of request.now).report ≢ Some name
         → T.bytes_of files.new name ≡ T.bytes_of files.old name }
     ensures told { T.tells_bytes files.new ≡ T.tells_bytes files.old }
-    ensures failed { result ≡ Reported.Failed → ReportFailed (asking_of request.now) (T.has_failed files.new) }
+    ensures failed { result ≡ Reported.Failed
+        → ReportFailed (asking_of request.now) (T.has_failed files.new) }
     ensures sound { result ≢ Reported.Failed → T.has_failed files.new ≡ T.has_failed files.old }
     ensures still { KeepsFailed (T.has_failed files.old) (T.has_failed files.new) }
 {
@@ -104,7 +120,7 @@ pub(crate) fn store_report<T: Files>(
     }
 }
 
-// Writes the report of a run that ended whole.
+// Writes the report if the run ended whole.
 fn write_report<O: Outlet>(
     alloc: Global,
     request: &Request<'_>,
@@ -113,10 +129,13 @@ fn write_report<O: Outlet>(
     target: &mut O,
 ) -> Reported
     requires { (O.state target.old).failures ≡ 0 }
-    ensures due { result ≢ Reported.NotDue → (outcome_status account.now.outcome ≡ 0) ⊎ (outcome_status account.now.outcome ≡ 3) }
-    ensures not_due { result ≡ Reported.NotDue → (outcome_status account.now.outcome ≢ 0) × (outcome_status account.now.outcome ≢ 3) }
+    ensures due { result ≢ Reported.NotDue
+        → (outcome_status account.now.outcome ≡ 0) ⊎ (outcome_status account.now.outcome ≡ 3) }
+    ensures not_due { result ≡ Reported.NotDue
+        → (outcome_status account.now.outcome ≢ 0) × (outcome_status account.now.outcome ≢ 3) }
     ensures took { IsTrue (O.state target.old).tells
-        → TookReport result (asking_of request.now) encoding account.now (O.state target.old).taken (O.state target.new).taken }
+        → TookReport result (asking_of request.now)
+        encoding account.now (O.state target.old).taken (O.state target.new).taken }
     ensures sound { result ≢ Reported.Failed → (O.state target.new).failures ≡ 0 }
     ensures failed { result ≡ Reported.Failed → (O.state target.new).failures ≢ 0 }
     ensures told { (O.state target.new).tells ≡ (O.state target.old).tells }
@@ -125,7 +144,7 @@ fn write_report<O: Outlet>(
     if status != 0 && status != 3 {
         return Reported::NotDue;
     }
-    // A run that ended whole has its tally.
+    // Never `None` here: a run that ended whole has a tally if a report was asked for.
     let Some(tally) = &account.tally else {
         return Reported::OutOfMemory;
     };
@@ -139,12 +158,14 @@ fn write_report<O: Outlet>(
     }
 }
 
-// Sends a text, and passes it on. Answers whether neither failed.
+// Sends a text to the outlet and flushes the outlet. Returns whether both succeeded.
 fn put_text<O: Outlet>(target: &mut O, text: &[u8]) -> bool
     requires { (O.state target.old).failures ≡ 0 }
-    ensures whole { result ≡ true → IsTrue (O.state target.old).tells → (O.state target.new).taken ≡ (O.state target.old).taken ++ text.now }
+    ensures whole { result ≡ true → IsTrue (O.state target.old).tells
+        → (O.state target.new).taken ≡ (O.state target.old).taken ++ text.now }
     ensures part { result ≡ false → IsTrue (O.state target.old).tells
-        → (count : ℕ) × ((O.state target.new).taken ≡ (O.state target.old).taken ++ take count text.now) }
+        → (count : ℕ)
+        × ((O.state target.new).taken ≡ (O.state target.old).taken ++ take count text.now) }
     ensures sent { result ≡ true → (O.state target.new).failures ≡ 0 }
     ensures failed { result ≡ false → (O.state target.new).failures ≢ 0 }
     ensures told { (O.state target.new).tells ≡ (O.state target.old).tells }
@@ -155,7 +176,7 @@ fn put_text<O: Outlet>(target: &mut O, text: &[u8]) -> bool
     }
 }
 
-// The text of the report of a run that ended whole.
+// Returns the text of the report of a run that ended whole.
 fn run_text<'a>(
     alloc: Global,
     request: &'a Request<'a>,
@@ -165,7 +186,8 @@ fn run_text<'a>(
 ) -> Result<String, OutOfMemory>
     requires { (outcome_status account.now.outcome ≡ 0) ⊎ (outcome_status account.now.outcome ≡ 3) }
     ensures { IfOk result (λ text. string_bytes text
-        ≡ text_of (run_facts (asking_of request.now) encoding account.now.outcome account.now.counts tally.now)) }
+        ≡ text_of (run_facts (asking_of request.now)
+        encoding account.now.outcome account.now.counts tally.now)) }
 {
     let mut line = String::new(alloc);
     fault_line(alloc, &mut line, &account.outcome)?;
@@ -191,9 +213,10 @@ fn run_text<'a>(
     )
 }
 
-// A line without its line end, if there is a line.
+// Removes the line end. Returns `None` if there is no line.
 fn without_end(text: &str) -> Option<&str>
-    ensures some { (words : List ℕ) → text.now ≡ line words → option_map (λ stripped. stripped.now) result ≡ Some words }
+    ensures some { (words : List ℕ) → text.now ≡ line words
+        → option_map (λ stripped. stripped.now) result ≡ Some words }
     ensures none { text.now ≡ [] → result ≡ None }
 {
     text.strip_suffix('\n')

@@ -1,4 +1,4 @@
-//! Trimming the pairs of files into others.
+//! Trims pairs from input files into output files.
 
 ghost use Rattle.std.specs.Prelude.{◌≡◌, ◌≢◌, false, Some, None, Ok, Err, IsTrue, IfSome, IfOk, IfErr, OnErr};
 ghost use Rattle.std.specs.Option.{option_map};
@@ -29,38 +29,48 @@ use std::alloc::Global;
 use std::sync::{Arc, Wait};
 use std::thread::Threads;
 
-/// A call that was done: its run, and what became of its report.
+/// A run that was made, and what became of its report.
 #[derive(Drop)]
 pub struct Completed {
-    /// The run.
+    /// How the run went.
     pub account: Account,
-    /// Its report.
+    /// What became of its report.
     pub reported: Reported,
 }
 
-/// Trims the pairs of the inputs into the outputs. What is wrong with the request is found before a file is opened, the inputs
-/// are opened before an output is made, an output that is an input under another name is refused before one is made, and each
-/// output is done with, however the run ended. The report is made last of all, and written behind all others.
+/// Trims the pairs of the inputs into the outputs.
+///
+/// The request is checked before a file is opened. The inputs are opened before an output is made,
+/// and an output that is an input under another name is refused before any output is made. Each
+/// outlet is handed back, however the run ended. The report is made after all outputs, and written
+/// after them.
 pub fn trim_files<R: Threads + Wait + Copy + Send + 'static, T: Files>(
     alloc: Global,
     rt: &R,
     request: &Request<'_>,
     files: &mut T,
 ) -> Result<Completed, Refusal>
-    ensures completed { IfOk result (λ completed. IsCompleted (asking_of request.now) (T.tells_bytes files.old) (T.bytes_of files.old) (T.bytes_of files.new)
-        (T.has_failed files.old) (T.has_failed files.new) completed.account.outcome completed.account.counts completed.reported) }
-    ensures refused { IfErr result (λ why. IsRefused (asking_of request.now) why (T.tells_bytes files.old) (T.refuses files.old)
+    ensures completed { IfOk result (λ completed. IsCompleted (asking_of request.now)
+        (T.tells_bytes files.old) (T.bytes_of files.old) (T.bytes_of files.new)
+        (T.has_failed files.old) (T.has_failed files.new)
+        completed.account.outcome completed.account.counts completed.reported) }
+    ensures refused { IfErr result (λ why.
+        IsRefused (asking_of request.now) why (T.tells_bytes files.old) (T.refuses files.old)
         (T.bytes_of files.old) (T.bytes_of files.new)) }
     ensures unfailed { OnErr result (T.has_failed files.new ≡ T.has_failed files.old) }
 
-    ensures rest { IsTrue (T.tells_bytes files.old) → KeepsUnnamed (asking_of request.now) (T.bytes_of files.old) (T.bytes_of files.new) }
+    ensures rest { IsTrue (T.tells_bytes files.old)
+        → KeepsUnnamed (asking_of request.now) (T.bytes_of files.old) (T.bytes_of files.new) }
 
-    // What is wrong with the request comes first, and then no file is opened.
-    ensures wrong { (why : Refused) → wrong_with (asking_of request.now) ≡ Some why → (result ≡ Err why) × (files.new ≡ files.old) }
-    ensures right { wrong_with (asking_of request.now) ≡ None → IfErr result (λ why. status_of why ≢ 2) }
+    // If the request is wrong, no file is opened.
+    ensures wrong { (why : Refused) → wrong_with (asking_of request.now) ≡ Some why
+        → (result ≡ Err why) × (files.new ≡ files.old) }
+    ensures right { wrong_with (asking_of request.now) ≡ None
+        → IfErr result (λ why. status_of why ≢ 2) }
 
-    // No output is made where an input is not there.
-    ensures unopened { IsTrue (T.tells_bytes files.old) → (side : Side) → T.bytes_of files.old (input_name (asking_of request.now).inputs side) ≡ None
+    // If an input does not exist, no output is made.
+    ensures unopened { IsTrue (T.tells_bytes files.old) → (side : Side)
+        → T.bytes_of files.old (input_name (asking_of request.now).inputs side) ≡ None
         → IsUnchanged (T.bytes_of files.old) (T.bytes_of files.new) }
 {
     let settings = judge(request)?;
@@ -71,7 +81,7 @@ pub fn trim_files<R: Threads + Wait + Copy + Send + 'static, T: Files>(
     Ok(complete(alloc, rt, request, &settings, gate, files, devices))
 }
 
-// What is opened for a run: the inputs, the outputs, and the report if one is asked for.
+// The opened files of a run: the inputs, the outputs, and the report if one was asked for.
 #[derive(Drop)]
 struct Devices<F, O> {
     feeds: Feeds<F>,
@@ -79,14 +89,17 @@ struct Devices<F, O> {
     report: Option<O>,
 }
 
-// Opens the inputs, then makes the outputs, and the report last of all.
+// Opens the inputs, then makes the outputs, and last the report.
 fn open<T: Files>(
     request: &Request<'_>,
     files: &mut T,
 ) -> Result<Devices<T::In, T::Target>, Refusal>
-    ensures opened { IfOk result (λ devices. AreOpened (asking_of request.now) (T.tells_bytes files.old) (T.bytes_of files.old) (T.bytes_of files.new)
-        (opened_of T.In.state devices.feeds) (outlet_states T.Target.state devices.outlets) (option_map T.Target.state devices.report)) }
-    ensures unopened { IfErr result (λ why. IsUnopened (asking_of request.now) why (T.tells_bytes files.old) (T.refuses files.old)
+    ensures opened { IfOk result (λ devices. AreOpened (asking_of request.now)
+        (T.tells_bytes files.old) (T.bytes_of files.old) (T.bytes_of files.new)
+        (opened_of T.In.state devices.feeds)
+        (outlet_states T.Target.state devices.outlets) (option_map T.Target.state devices.report)) }
+    ensures unopened { IfErr result (λ why.
+        IsUnopened (asking_of request.now) why (T.tells_bytes files.old) (T.refuses files.old)
         (T.bytes_of files.old) (T.bytes_of files.new)) }
     ensures told { T.tells_bytes files.new ≡ T.tells_bytes files.old }
     ensures failed { T.has_failed files.new ≡ T.has_failed files.old }
@@ -107,7 +120,8 @@ fn open<T: Files>(
     })
 }
 
-// Trims the pairs of the inputs, and is done with each file, however the run ended. The report is written behind all others.
+// Trims the pairs of the inputs, and hands each feed and outlet back, however the run ended. The
+// report is written after all outputs.
 fn complete<R: Threads + Wait + Copy + Send + 'static, T: Files>(
     alloc: Global,
     rt: &R,
@@ -117,13 +131,18 @@ fn complete<R: Threads + Wait + Copy + Send + 'static, T: Files>(
     files: &mut T,
     devices: Devices<T::In, T::Target>,
 ) -> Completed
-    requires ready { AreReady (asking_of request.now) (T.tells_bytes files.old) (T.bytes_of files.old)
-        (opened_of T.In.state devices.feeds) (outlet_states T.Target.state devices.outlets) (option_map T.Target.state devices.report) }
-    ensures completed { (start : Holding) → AreOpened (asking_of request.now) (T.tells_bytes files.old) start (T.bytes_of files.old)
-        (opened_of T.In.state devices.feeds) (outlet_states T.Target.state devices.outlets) (option_map T.Target.state devices.report)
+    requires ready { AreReady (asking_of request.now)
+        (T.tells_bytes files.old) (T.bytes_of files.old)
+        (opened_of T.In.state devices.feeds)
+        (outlet_states T.Target.state devices.outlets) (option_map T.Target.state devices.report) }
+    ensures completed { (start : Holding)
+        → AreOpened (asking_of request.now) (T.tells_bytes files.old) start (T.bytes_of files.old)
+        (opened_of T.In.state devices.feeds)
+        (outlet_states T.Target.state devices.outlets) (option_map T.Target.state devices.report)
         → settings_of (asking_of request.now) ≡ Ok settings.now
         → IsCompleted (asking_of request.now) (T.tells_bytes files.old) start (T.bytes_of files.new)
-        (T.has_failed files.old) (T.has_failed files.new) result.account.outcome result.account.counts result.reported }
+        (T.has_failed files.old) (T.has_failed files.new)
+        result.account.outcome result.account.counts result.reported }
 {
     let Devices {
         feeds,
@@ -137,14 +156,14 @@ fn complete<R: Threads + Wait + Copy + Send + 'static, T: Files>(
     Completed { account, reported }
 }
 
-// A run, with the feeds that came back.
+// How a run went, and the feeds that it returned.
 #[derive(Drop)]
 struct Ran<F> {
     account: Account,
     feeds: Feeds<Option<F>>,
 }
 
-// Trims the pairs of the inputs. All that a run promises is handed on.
+// Trims the pairs of the inputs. The clauses pass on all that the run promises.
 fn run<R: Threads + Wait + Copy + Send + 'static, F: Feed + Drop + Send + 'static, O: Outlet>(
     alloc: Global,
     rt: &R,
@@ -155,10 +174,12 @@ fn run<R: Threads + Wait + Copy + Send + 'static, F: Feed + Drop + Send + 'stati
 ) -> Ran<F>
     requires fresh { AreFresh (opened_of F.state feeds) }
     requires healthy { AreHealthy (outlet_states O.state outlets.old) }
-    ensures whole { let run = run_in (opened_of F.state feeds) (outlet_states O.state outlets.old) (outlet_states O.state outlets.new)
+    ensures whole { let run = run_in (opened_of F.state feeds)
+        (outlet_states O.state outlets.old) (outlet_states O.state outlets.new)
         (left_of F.state result.feeds) result.account in
         IsTrue (ends_whole run.outcome) → AreTold run → IsTrimmed settings.now run }
-    ensures every { let run = run_in (opened_of F.state feeds) (outlet_states O.state outlets.old) (outlet_states O.state outlets.new)
+    ensures every { let run = run_in (opened_of F.state feeds)
+        (outlet_states O.state outlets.old) (outlet_states O.state outlets.new)
         (left_of F.state result.feeds) result.account in
         run.outcome ≢ Outcome.Lane → EveryEnding settings.now run }
     ensures form { form_of result.feeds ≡ (opened_of F.state feeds).form }
@@ -192,10 +213,11 @@ fn run<R: Threads + Wait + Copy + Send + 'static, F: Feed + Drop + Send + 'stati
     }
 }
 
-// The first output that is an input under another name.
+// Returns the first output that is an input under another name.
 fn input_among_outputs<T: Files>(request: &Request<'_>, files: &T) -> Option<Out>
     ensures none { IsTrue (T.tells_bytes files.now) → result ≡ None }
-    ensures refused { IfSome result (λ out. IsRefusable (asking_of request.now) (T.refuses files.now) (Refusal.Target out)) }
+    ensures refused { IfSome result (λ out.
+        IsRefusable (asking_of request.now) (T.refuses files.now) (Refusal.Target out)) }
 {
     if files.leads_to_input(request.forward_paired) {
         return Some(Out::ForwardPaired);
@@ -218,7 +240,8 @@ fn input_among_outputs<T: Files>(request: &Request<'_>, files: &T) -> Option<Out
 // Whether the report is an input under another name.
 fn input_as_report<T: Files>(request: &Request<'_>, files: &T) -> bool
     ensures none { IsTrue (T.tells_bytes files.now) → result ≡ false }
-    ensures refused { IsTrue result → IsRefusable (asking_of request.now) (T.refuses files.now) Refusal.Report }
+    ensures refused { IsTrue result
+        → IsRefusable (asking_of request.now) (T.refuses files.now) Refusal.Report }
 {
     match request.report {
         Some(report) => files.leads_to_input(report),

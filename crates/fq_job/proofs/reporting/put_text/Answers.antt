@@ -2,7 +2,7 @@ use Rattle.std.proofs.Common.{◌++◌, ◌∙◌, IsTrue, length, subst, sym, a
 use Rattle.std.proofs.lemmas.List.{take_all}
 use Rattle.fq_job.proofs.reporting.put_text.Goals as goal
 
--- what failed is the flush, behind the whole text
+-- the flush failed, after the whole text was sent
 pub returns-in-Ok-clause-part : goal.returns-in-Ok-clause-part
 returns-in-Ok-clause-part g c = λ failed told.
     let text = c.args.text.now in
