@@ -1,4 +1,4 @@
--- What is told of a refusal, and of a run that was made.
+-- What is reported for a refusal, and for a run that was made.
 use Rattle.std.proofs.Common.{◌≡◌, ◌≢◌, ◌⊎◌, ◌∙◌, ℕ, suc, Bool, IsTrue, IsSome, Option, Some, None, [], ◌∷◌, List, length, inl, inr, ⊎_elim, refl, sym, ap, subst, arith}
 use Rattle.std.proofs.lemmas.List.{take_all}
 use Rattle.std.specs.List.{All}
@@ -27,7 +27,7 @@ use Rattle.fq_job.specs.Completing.{Failed, HasFailed, ReportFailed}
 use Rattle.fq_job.specs.Reporting.{HoldsReport, ReportHeld}
 use Rattle.fq_job.specs.declared.refusal.Refusal.TheVariants as why
 
--- a refusal has a status of its own
+-- the status of a refusal is neither 0 nor 1
 pub refusal_fails : (refusal : Refusal) → (status_of refusal ≢ 0) × (status_of refusal ≢ 1) × (status_of refusal ≢ 3)
 refusal_fails why.Encoding = ((λ e. absurd (omega (arith, e))), (λ e. absurd (omega (arith, e))), (λ e. absurd (omega (arith, e))))
 refusal_fails (why.Step fault) = ((λ e. absurd (omega (arith, e))), (λ e. absurd (omega (arith, e))), (λ e. absurd (omega (arith, e))))
@@ -39,7 +39,7 @@ refusal_fails why.SameReport = ((λ e. absurd (omega (arith, e))), (λ e. absurd
 refusal_fails why.Report = ((λ e. absurd (omega (arith, e))), (λ e. absurd (omega (arith, e))), (λ e. absurd (omega (arith, e))))
 refusal_fails why.Memory = ((λ e. absurd (omega (arith, e))), (λ e. absurd (omega (arith, e))), (λ e. absurd (omega (arith, e))))
 
--- want of memory has its line
+-- refused memory has its line
 lacks_line : (a : Asking) (told : Bool) (old new : Holding) (out err : Device) (status : ℕ) → LacksMemory err status → (IsTrue told → HasDistinctFiles a → AreLeft a old new)
     → TookLine a told old new out err status
 lacks_line a told old new out err status lacks left = record {
@@ -48,7 +48,7 @@ lacks_line a told old new out err status lacks left = record {
   took = lacks.told;
 }
 
--- what was asked is answered by want of memory
+-- a request that ends because memory was refused
 pub lacks_answer : (a : Asking) (told : Bool) (old new : Holding) (out err : Device) (status : ℕ) → LacksMemory err status → (IsTrue told → HasDistinctFiles a → AreLeft a old new)
     → (IsTrue told → HasDistinctFiles a → (name : List ℕ) → a.report ≡ Some name → IsReportLeft a old new name)
     → (IsTrue told → (side : Side) → old (input_name a.inputs side) ≡ None → IsUnchanged old new) → PairsAnswered a told old new out err status
@@ -70,7 +70,7 @@ there_is : {X : Type 0} (o : Option X) → (o ≡ None → ⊥) → IsSome o
 there_is None none = absurd (none refl)
 there_is (Some x) none = refl
 
--- or by a refusal
+-- a request that is refused
 pub refused_answer : (a : Asking) (told : Bool) (old new : Holding) (out err : Device) (status : ℕ) (refusal : Refusal) → Refuses a refusal err status
     → ((other : Refusal) → wrong_with a ≡ Some other → refusal ≡ other) → (wrong_with a ≡ None → status_of refusal ≢ 2)
     → (IsTrue told → TellsInputs a.inputs refusal old) → (IsTrue told → HasDistinctFiles a → RefusalLeaves a refusal old new)
@@ -94,7 +94,8 @@ refused_answer a told old new out err status refusal (inr lacks) first late inpu
     lacks_answer a told old new out err status lacks (λ tells distinct. inl (refusal_untrimmed a refusal old new (left tells distinct)))
     (λ tells distinct name named. inl (left_or_nothing refusal (old name) (new name) (report_left tells distinct name named))) unopened
 
--- What is known of a run that was made: what its outputs hold, whether its report was due, and what that holds.
+-- What is known of a run that was made: what its outputs hold, whether its report was due, and what
+-- the report holds.
 pub record IsRun (a : Asking) (told : Bool) (old new : Holding) (outcome : Outcome) (counts : Counts) (reported : Reported) : Type 0 where
   pub trims : IsTrue told → HasDistinctFiles a → IsTrue (ends_whole outcome) → TrimsFiles a old new outcome counts
   pub ended : IsTrue told → HasDistinctFiles a → outcome ≢ Lane → HoldFirstPairs a old new outcome
@@ -118,7 +119,7 @@ module _ (a : Asking) (told : Bool) (old new : Holding) (outcome : Outcome) (cou
   due_as : (is : Reported) → reported ≡ is → is ≢ report.NotDue → (outcome_status outcome ≡ 0) ⊎ (outcome_status outcome ≡ 3)
   due_as is same other = run.due (λ none. other (sym same ∙ none))
 
-  -- a report that was told to be written, or not to be due, is there where the run ended whole
+  -- if the run ended whole, a report that was written or not due holds the defined text
   pub is_held : (reported ≡ report.NotDue) ⊎ (reported ≡ report.Written) → (outcome_status outcome ≡ 0) ⊎ (outcome_status outcome ≡ 3)
       → IsTrue told → (name : List ℕ) → a.report ≡ Some name → HoldsReport a old new name
   is_held (inl none) ends tells name named =
@@ -126,7 +127,7 @@ module _ (a : Asking) (told : Bool) (old new : Holding) (outcome : Outcome) (cou
       absurd (⊎_elim other.0 other.1 ends)
   is_held (inr written) ends tells name named = held_as report.Written written tells name named
 
-  -- and empty where it did not
+  -- if the run did not end whole, the report is empty
   is_empty : (reported ≡ report.NotDue) ⊎ (reported ≡ report.Written) → IsTrue told → outcome_status outcome ≢ 0 → outcome_status outcome ≢ 3
       → (name : List ℕ) → a.report ≡ Some name → new name ≡ Some []
   is_empty (inl none) tells some other name named = held_as report.NotDue none tells name named
@@ -199,7 +200,7 @@ failed_device a tells old refuses failed out err status outcome reported fails a
 failed_device a tells old refuses failed out err status outcome reported fails as_it_is report_fails (inr (inr lacks)) four =
     absurd (four_not_five status four lacks.1.status_is)
 
--- a report that was told to be written, or not to be due, has not failed
+-- a report that was written or not due has not failed
 pub not_failed : (reported : Reported) → (reported ≡ report.NotDue) ⊎ (reported ≡ report.Written) → reported ≢ report.Failed
 not_failed reported (inl none) failed = let bad : report.NotDue ≡ report.Failed = sym none ∙ failed in absurd (cc bad)
 not_failed reported (inr written) failed = let bad : report.Written ≡ report.Failed = sym written ∙ failed in absurd (cc bad)
@@ -211,7 +212,7 @@ is_left a old new name report.Written holds = inr (record { text = holds.text; c
 is_left a old new name report.Failed begins = inr begins
 is_left a old new name report.OutOfMemory empty = inl (inr empty)
 
--- what the line of a run says of the files
+-- what the line of a run says about the files
 fits_left : (a : Asking) (told : Bool) (old new : Holding) (out : Device) (status : ℕ) (text : List ℕ) → (IsRefusal a told old new status text ⊎ IsEnding a told old new status text)
     ⊎ (IsUnprinted a told old new out status text ⊎ (IsUntold a told old new status text ⊎ IsUnreported a told old new status text)) → status ≢ 6 → IsTrue told → HasDistinctFiles a → AreLeft a old new
 fits_left a told old new out status text (inl (inl refusal)) other tells distinct = inl (refusal_untrimmed a refusal.why old new (refusal.left tells distinct))
@@ -226,7 +227,7 @@ fits_left a told old new out status text (inr (inr (inr unreported))) other tell
 zero_or : (n : ℕ) → (n ≡ 0) ⊎ (n ≢ 0)
 zero_or n = grind arith
 
--- at every status but that of an unconfirmed lane
+-- what a call leaves in the files, at every status except that of an unconfirmed lane
 pub left_so : (a : Asking) (told : Bool) (old new : Holding) (out err : Device) (status : ℕ)
     → ((status ≡ 0) ⊎ (status ≡ 3) → IsTrue told → HasDistinctFiles a → EndsWhole a old new out err status) → (status ≢ 0 → TookLine a told old new out err status)
     → status ≢ 6 → IsTrue told → HasDistinctFiles a → AreLeft a old new
@@ -235,12 +236,12 @@ left_so a told old new out err status whole line other tells distinct = ⊎_elim
     (λ some. let took = line some in fits_left a told old new out status took.text took.fits other tells distinct)
     (zero_or status)
 
--- what is there
+-- an option that is not `None` holds a value
 pub some_in : {X : Type 0} (o : Option X) → IsSome o → (x : X) × (o ≡ Some x)
 some_in (Some x) is = (x, refl)
 some_in None is = absurd cc
 
--- one of several has what all have
+-- a property of all kinds in a list holds for each of them
 pub among_all : (P : ErrorKind → Type 0) (kind : ErrorKind) (kinds : Kinds) → IsAmong kind kinds → All P kinds → P kind
 among_all P kind [] among all = absurd among
 among_all P kind (k ∷ ks) (inl same) all = subst P (sym same) (all 0 k (omega arith))

@@ -26,7 +26,7 @@ took_all old new text wanted empty tells took is = took.bytes tells ∙ (ap (λ 
 same_bytes : (a b : List ℕ) → ◌≡◌ {A = Option (List ℕ)} (Some a) (Some b) → a ≡ b
 same_bytes a b e = cc
 
--- an outlet is there, and empty, and hasn't failed
+-- an outlet that exists, is empty and has not failed
 abbrev pub IsThere : {A : Type 0} → (A → OutletState) → Option A → Type 0
 IsThere state o = MatchOption o ⊥ (λ a. ((state a).taken ≡ []) × ((state a).failures ≡ 0))
 
@@ -38,13 +38,13 @@ pub all_healthy : (o : OutletStates) → o.forward_paired.failures ≡ 0 → o.f
     IfSome o.log (λ log. log.failures ≡ 0) → AreHealthy o
 all_healthy o fp fu rp ru log = record { forward_paired = fp; forward_unpaired = fu; reverse_paired = rp; reverse_unpaired = ru; log = log }
 
--- an empty outlet took a text, and what it has is known: so it has that text
+-- an empty outlet that took a text holds that text
 pub log_took : {A : Type 0} (state : A → OutletState) (old new : Option A) (text left : List ℕ) → IsThere state old → ((a : A) → IsTrue (state a).tells) → Took (option_map state old) (option_map state new) text 0 → option_map (λ a. (state a).taken) new ≡ Some left → left ≡ text
 log_took state (Some o) (Some a) text left there tells took is = sym (same_bytes _ _ is) ∙ took_all (state o) (state a) text text there.0 (tells o) took refl
 log_took state (Some o) None text left there tells took is = absurd took
 log_took state None new text left there tells took is = absurd there
 
--- six texts, one behind the other
+-- six texts, one after the other
 pub six_appended : (t0 t1 t2 t3 t4 t5 t6 a b c d e f : List ℕ) → t0 ≡ [] → t1 ≡ t0 ++ a → t2 ≡ t1 ++ b → t3 ≡ t2 ++ c → t4 ≡ t3 ++ d → t5 ≡ t4 ++ e → t6 ≡ t5 ++ f → t6 ≡ a ++ (b ++ (c ++ (d ++ (e ++ f))))
 six_appended t0 t1 t2 t3 t4 t5 t6 a b c d e f e0 e1 e2 e3 e4 e5 e6 =
     let one : t1 ≡ a = e1 ∙ ap (λ t. t ++ a) e0 in

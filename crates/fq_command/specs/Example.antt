@@ -18,12 +18,13 @@ example_forward = codes "@p1/1\nACGT\n+\n#!II\n@p2/1\nGGCC\n+\nIIII\n"
 abbrev pub example_reverse : List ℕ
 example_reverse = codes "@p1/2\nTTTT\n+\nIIII\n@p2/2\nAAAA\n+\n!!!\"\n"
 
--- an outlet has taken nothing, and hasn't failed
+-- an outlet that has taken nothing and has not failed
 abbrev pub IsEmpty : Taken → Type 0
 IsEmpty o = (o.bytes ≡ []) × (o.failures ≡ 0)
 
--- so it is with all five outlets of a run
-pub record AreEmpty (forward_paired forward_unpaired reverse_paired reverse_unpaired : Taken) (log : Option Taken) : Type 0 where
+-- the five outlets of a run have taken nothing and have not failed
+pub record AreEmpty (forward_paired forward_unpaired reverse_paired reverse_unpaired : Taken)
+    (log : Option Taken) : Type 0 where
   pub forward_paired_is : IsEmpty forward_paired
   pub forward_unpaired_is : IsEmpty forward_unpaired
   pub reverse_paired_is : IsEmpty reverse_paired
@@ -47,9 +48,10 @@ example_choices = record {
 
 -- the pairs of the inputs
 unfoldable pub example_pairs : Pairs
-example_pairs = pairs example_choices.check_names example_choices.encoding 0 example_forward example_reverse
+example_pairs =
+    pairs example_choices.check_names example_choices.encoding 0 example_forward example_reverse
 
--- what is written of them
+-- what the run writes to each output
 unfoldable pub example_output : Out → List ℕ
 example_output out = text_of out (texts_of example_choices.steps example_pairs.mates)
 
@@ -72,4 +74,5 @@ sections forward_paired forward_unpaired reverse_paired reverse_unpaired log sum
 
 unfoldable pub example_text : List ℕ
 example_text = sections (example_output ForwardPaired) (example_output ForwardUnpaired)
-    (example_output ReversePaired) (example_output ReverseUnpaired) (example_output Log) example_summary
+    (example_output ReversePaired) (example_output ReverseUnpaired)
+    (example_output Log) example_summary

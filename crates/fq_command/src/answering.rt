@@ -1,4 +1,4 @@
-//! The program, apart from where its words and files come from and its texts go to.
+//! The program, apart from where its arguments and files come from and where its texts go.
 
 ghost use Rattle.std.specs.Prelude.{◌≡◌, ◌≢◌, ◌⊎◌, ◌++◌, Some, None, [], IsSome, IsTrue, map};
 ghost use Rattle.fq_words.specs.Requests.{Asking, asking_of};
@@ -26,21 +26,24 @@ use std::alloc::Global;
 use std::sync::Wait;
 use std::thread::Threads;
 
-/// Runs the program on its words, of which the first is its name, and answers the exit status.
+/// Runs the program on its arguments, the first of which is the program's name, and returns the
+/// exit status.
 ///
-/// `PE [options] F R FP FU RP RU STEPS..` trims the pairs of the files F and R by these steps. The pairs of which both mates survive go
-/// to FP and RP, and a mate that survives alone goes to FU or RU. Where the run ends whole, at the end of the inputs or at a fault of theirs,
-/// the summary goes to `out`, and the report to its file, if one is asked for. Each refusal and each fault sends one line to `err`; whether
-/// that fails changes nothing.
+/// `PE [options] F R FP FU RP RU STEPS..` trims the pairs of the files F and R by these steps.
+/// Pairs in which both mates survive go to FP and RP; a mate that survives alone goes to FU or RU.
+/// If the run reaches the end of the inputs or a fault in them, the summary goes to `out`, and the
+/// report, if one is asked for, to its file. Each refusal and each fault sends one line to `err`;
+/// whether that succeeds changes nothing else.
 ///
-/// `IL [options] I FP FU RP RU STEPS..` does the same with the pairs of one interleaved file I: a forward record, then its
-/// reverse mate, and so on.
+/// `IL [options] I FP FU RP RU STEPS..` does so with the pairs of one interleaved file I, in which
+/// each forward record comes before its reverse mate.
 ///
-/// `EXAMPLE` prints what becomes of two built-in pairs under the step `LEADING:3`: the four outputs, the trim log and the
-/// summary, each below a label.
+/// `EXAMPLE` prints what becomes of two built-in pairs under the step `LEADING:3`: the four
+/// outputs, the trim log and the summary, each below a label.
 ///
-/// The statuses are 0 for all that is done, help too, 1 for other words, 2 for an encoding, a step, a setting or a name that is bad, 3 at a fault
-/// of the input, 4 for a device, 5 for want of memory, and 6 for threads.
+/// The statuses are 0 for success and for help, 1 for an invalid command line, 2 for an invalid
+/// encoding, step, setting or file name, 3 for a fault in the input, 4 for a device, 5 if memory
+/// was refused, and 6 for threads.
 pub fn program<'a, R: Threads + Wait + Copy + Send + 'static, T: Files, O: Outlet, E: Outlet>(
     alloc: Global,
     rt: &R,
@@ -52,44 +55,58 @@ pub fn program<'a, R: Threads + Wait + Copy + Send + 'static, T: Files, O: Outle
     requires out { (O.state out.old).failures ≡ 0 }
     requires err { (E.state err.old).failures ≡ 0 }
 
-    // Words that parse as `PE` or `IL` are answered as they ask: the pairs are trimmed, or it is told why not. What is wrong with the words
-    // is found before a file is touched.
+    // Arguments that parse as `PE` or `IL` are carried out: the pairs are trimmed, or `err` gets
+    // the reason why not. A wrong request is refused before a file is touched.
     ensures pairs { (a : Asking) → AskedFor (map (λ word. word.now) words.entry.now) (Some a)
         → PairsAnswered a (T.tells_bytes files.old) (T.bytes_of files.old) (T.bytes_of files.new)
         (device_of O.state out.old out.new) (device_of E.state err.old err.new) result }
-    ensures wrong { (a : Asking) → AskedFor (map (λ word. word.now) words.entry.now) (Some a) → IsSome (wrong_with a) → files.new ≡ files.old }
+    ensures wrong { (a : Asking) → AskedFor (map (λ word. word.now) words.entry.now) (Some a)
+        → IsSome (wrong_with a) → files.new ≡ files.old }
 
-    // At status 4 the line names what was refused or has failed, and that was or has. At 0 and 3 no device of the files has failed.
-    ensures device { (a : Asking) → AskedFor (map (λ word. word.now) words.entry.now) (Some a) → result ≡ 4
-        → NamesDevice a (T.tells_bytes files.old) (T.bytes_of files.old) (T.refuses files.old) (T.has_failed files.new)
+    // At status 4 the line names a file or device that was indeed refused or has failed. At 0 and 3
+    // no device of the files has failed.
+    ensures device { (a : Asking) → AskedFor (map (λ word. word.now) words.entry.now) (Some a)
+        → result ≡ 4
+        → NamesDevice a (T.tells_bytes files.old)
+        (T.bytes_of files.old) (T.refuses files.old) (T.has_failed files.new)
         (device_of O.state out.old out.new) (device_of E.state err.old err.new) }
     ensures sound { (result ≡ 0) ⊎ (result ≡ 3) → T.has_failed files.new ≡ T.has_failed files.old }
 
-    // No file is touched but those of the outputs and of the report.
-    ensures rest { (a : Asking) → AskedFor (map (λ word. word.now) words.entry.now) (Some a) → IsTrue (T.tells_bytes files.old)
+    // Only the files of the outputs and of the report change.
+    ensures rest { (a : Asking) → AskedFor (map (λ word. word.now) words.entry.now) (Some a)
+        → IsTrue (T.tells_bytes files.old)
         → KeepsUnnamed a (T.bytes_of files.old) (T.bytes_of files.new) }
 
-    // Other words touch no file. `EXAMPLE` is printed, but where `out`, memory or a thread fails; words that don't parse are refused, but
-    // calls for help or for the version are not.
+    // Other arguments touch no file. `EXAMPLE` is printed unless `out`, memory or a thread fails.
+    // Arguments that don't parse are refused; help and the version are printed.
     ensures example { AskedFor (map (λ word. word.now) words.entry.now) None
-        → (files.new ≡ files.old) × ((result ≡ 0) ⊎ ((result ≡ 4) ⊎ ((result ≡ 5) ⊎ (result ≡ 6)))) }
-    ensures shown { AskedFor (map (λ word. word.now) words.entry.now) None → result ≡ 0 → IsTrue (O.state out.old).tells
+        → (files.new ≡ files.old)
+        × ((result ≡ 0) ⊎ ((result ≡ 4) ⊎ ((result ≡ 5) ⊎ (result ≡ 6)))) }
+    ensures shown { AskedFor (map (λ word. word.now) words.entry.now) None
+        → result ≡ 0 → IsTrue (O.state out.old).tells
         → (O.state out.new).taken ≡ (O.state out.old).taken ++ example_text }
     ensures unshown { AskedFor (map (λ word. word.now) words.entry.now) None → result ≢ 0
         → IsUnshown (device_of O.state out.old out.new) (device_of E.state err.old err.new) result }
-    ensures refused { words_fault (map (λ word. word.now) words.entry.now) ≢ [] → files.new ≡ files.old }
-    ensures usage { AreRefused (words_fault (map (λ word. word.now) words.entry.now)) → (result ≡ 1) ⊎ (result ≡ 5) }
+    ensures refused { words_fault (map (λ word. word.now) words.entry.now) ≢ []
+        → files.new ≡ files.old }
+    ensures usage { AreRefused (words_fault (map (λ word. word.now) words.entry.now))
+        → (result ≡ 1) ⊎ (result ≡ 5) }
     ensures called { AreCalls (words_fault (map (λ word. word.now) words.entry.now)) → result ≢ 1 }
-    ensures usage_only { result ≡ 1 → (words_fault (map (λ word. word.now) words.entry.now) ≢ []) × (out.new ≡ out.old) }
+    ensures usage_only { result ≡ 1 → (words_fault (map (λ word. word.now) words.entry.now) ≢ [])
+        × (out.new ≡ out.old) }
     ensures unprinted { words_fault (map (λ word. word.now) words.entry.now) ≢ [] → result ≡ 4
-        → LacksPrint (device_of O.state out.old out.new) (device_of E.state err.old err.new) result }
+        → LacksPrint (device_of O.state out.old out.new)
+        (device_of E.state err.old err.new) result }
 
-    // Where all is done nothing is told, and `out` has taken all. Where it fails the status says so, or tells of the input; nothing is
-    // printed at any other status, and want of memory is told as such.
+    // At status 0 `err` has taken nothing and `out` has taken the whole text. If `out` fails, the
+    // status says so, unless it says that the input is faulty. At statuses other than 0 and 3
+    // nothing is printed, and refused memory is reported as such.
     ensures finished { result ≡ 0 → ((O.state out.new).failures ≡ 0) × (err.new ≡ err.old) }
     ensures quiet { result ≢ 0 → result ≢ 3 → (O.state out.new).failures ≡ 0 → out.new ≡ out.old }
-    ensures failed { (O.state out.new).failures ≢ 0 → (result ≡ 3) ⊎ ((result ≡ 4) × TookText (device_of E.state err.old err.new) print_line) }
-    ensures memory { result ≡ 5 → (out.new ≡ out.old) × LacksMemory (device_of E.state err.old err.new) result }
+    ensures failed { (O.state out.new).failures ≢ 0
+        → (result ≡ 3) ⊎ ((result ≡ 4) × TookText (device_of E.state err.old err.new) print_line) }
+    ensures memory { result ≡ 5 → (out.new ≡ out.old)
+        × LacksMemory (device_of E.state err.old err.new) result }
 {
     match read_words(alloc, words) {
         Ok(Asked::Example) => print_example(alloc, rt, out, err),
@@ -98,7 +115,7 @@ pub fn program<'a, R: Threads + Wait + Copy + Send + 'static, T: Files, O: Outle
     }
 }
 
-// Trims files, and reports.
+// Trims the files, and reports how that ended.
 fn trim_pairs<R: Threads + Wait + Copy + Send + 'static, T: Files, O: Outlet, E: Outlet>(
     alloc: Global,
     rt: &R,
@@ -109,17 +126,23 @@ fn trim_pairs<R: Threads + Wait + Copy + Send + 'static, T: Files, O: Outlet, E:
 ) -> u8
     requires out { (O.state out.old).failures ≡ 0 }
     requires err { (E.state err.old).failures ≡ 0 }
-    ensures pairs { PairsAnswered (asking_of request.now) (T.tells_bytes files.old) (T.bytes_of files.old) (T.bytes_of files.new)
+    ensures pairs { PairsAnswered (asking_of request.now)
+        (T.tells_bytes files.old) (T.bytes_of files.old) (T.bytes_of files.new)
         (device_of O.state out.old out.new) (device_of E.state err.old err.new) result }
-    ensures device { result ≡ 4 → NamesDevice (asking_of request.now) (T.tells_bytes files.old) (T.bytes_of files.old) (T.refuses files.old)
-        (T.has_failed files.new) (device_of O.state out.old out.new) (device_of E.state err.old err.new) }
+    ensures device { result ≡ 4 → NamesDevice (asking_of request.now)
+        (T.tells_bytes files.old) (T.bytes_of files.old) (T.refuses files.old)
+        (T.has_failed files.new) (device_of O.state out.old out.new)
+        (device_of E.state err.old err.new) }
     ensures sound { (result ≡ 0) ⊎ (result ≡ 3) → T.has_failed files.new ≡ T.has_failed files.old }
     ensures wrong { IsSome (wrong_with (asking_of request.now)) → files.new ≡ files.old }
-    ensures rest { IsTrue (T.tells_bytes files.old) → KeepsUnnamed (asking_of request.now) (T.bytes_of files.old) (T.bytes_of files.new) }
+    ensures rest { IsTrue (T.tells_bytes files.old)
+        → KeepsUnnamed (asking_of request.now) (T.bytes_of files.old) (T.bytes_of files.new) }
     ensures finished { result ≡ 0 → ((O.state out.new).failures ≡ 0) × (err.new ≡ err.old) }
     ensures quiet { result ≢ 0 → result ≢ 3 → (O.state out.new).failures ≡ 0 → out.new ≡ out.old }
-    ensures failed { (O.state out.new).failures ≢ 0 → (result ≡ 3) ⊎ ((result ≡ 4) × TookText (device_of E.state err.old err.new) print_line) }
-    ensures memory { result ≡ 5 → (out.new ≡ out.old) × LacksMemory (device_of E.state err.old err.new) result }
+    ensures failed { (O.state out.new).failures ≢ 0
+        → (result ≡ 3) ⊎ ((result ≡ 4) × TookText (device_of E.state err.old err.new) print_line) }
+    ensures memory { result ≡ 5 → (out.new ≡ out.old)
+        × LacksMemory (device_of E.state err.old err.new) result }
 {
     match trim_files(alloc, rt, request, files) {
         Ok(completed) => tell(alloc, &completed, out, err),
@@ -127,20 +150,26 @@ fn trim_pairs<R: Threads + Wait + Copy + Send + 'static, T: Files, O: Outlet, E:
     }
 }
 
-// Says how a run ended, or that its report was not written, and answers the exit status.
+// Reports how a run ended, or that its report was not written. Returns the exit status.
 fn tell<O: Outlet, E: Outlet>(alloc: Global, completed: &Completed, out: &mut O, err: &mut E) -> u8
     requires out { (O.state out.old).failures ≡ 0 }
     requires err { (E.state err.old).failures ≡ 0 }
-    ensures whole { (result ≡ 0) ⊎ (result ≡ 3) → outcome_status completed.now.account.outcome ≡ result }
-    ensures reported { (result ≡ 0) ⊎ (result ≡ 3) → (completed.now.reported ≡ Reported.NotDue) ⊎ (completed.now.reported ≡ Reported.Written) }
-    ensures printed { (result ≡ 0) ⊎ (result ≡ 3) → TookPart (device_of O.state out.old out.new) (summary_of completed.now.account.counts) }
+    ensures whole { (result ≡ 0) ⊎ (result ≡ 3)
+        → outcome_status completed.now.account.outcome ≡ result }
+    ensures reported { (result ≡ 0) ⊎ (result ≡ 3)
+        → (completed.now.reported ≡ Reported.NotDue) ⊎ (completed.now.reported ≡ Reported.Written) }
+    ensures printed { (result ≡ 0) ⊎ (result ≡ 3)
+        → TookPart (device_of O.state out.old out.new) (summary_of completed.now.account.counts) }
     ensures finished { result ≡ 0 → ((O.state out.new).failures ≡ 0) × (err.new ≡ err.old) }
-    ensures told { (result ≡ 0) ⊎ (result ≡ 3) → TookText (device_of E.state err.old err.new) (outcome_line completed.now.account.outcome) }
+    ensures told { (result ≡ 0) ⊎ (result ≡ 3) → TookText (device_of E.state err.old err.new)
+        (outcome_line completed.now.account.outcome) }
     ensures line { result ≢ 0 → Tells completed.now.account.outcome completed.now.reported
         (device_of O.state out.old out.new) (device_of E.state err.old err.new) result }
-    ensures memory { result ≡ 5 → (out.new ≡ out.old) × LacksMemory (device_of E.state err.old err.new) result }
+    ensures memory { result ≡ 5 → (out.new ≡ out.old)
+        × LacksMemory (device_of E.state err.old err.new) result }
     ensures quiet { result ≢ 0 → result ≢ 3 → (O.state out.new).failures ≡ 0 → out.new ≡ out.old }
-    ensures failed { (O.state out.new).failures ≢ 0 → (result ≡ 3) ⊎ ((result ≡ 4) × TookText (device_of E.state err.old err.new) print_line) }
+    ensures failed { (O.state out.new).failures ≢ 0
+        → (result ≡ 3) ⊎ ((result ≡ 4) × TookText (device_of E.state err.old err.new) print_line) }
     ensures known { (result ≢ 1) × (result ≢ 2) }
 {
     match completed.reported {
@@ -150,14 +179,14 @@ fn tell<O: Outlet, E: Outlet>(alloc: Global, completed: &Completed, out: &mut O,
     }
 }
 
-// Says why nothing was trimmed, and answers the exit status.
+// Reports why nothing was trimmed. Returns the exit status.
 fn refuse<E: Outlet>(alloc: Global, request: &Request<'_>, refusal: Refusal, err: &mut E) -> u8
     requires { (E.state err.old).failures ≡ 0 }
     ensures { Refuses (asking_of request.now) refusal (device_of E.state err.old err.new) result }
 {
     match refusal_line(alloc, request, refusal) {
         Ok(line) => {
-            // There is nowhere to say that this failed.
+            // A failed write to `err` has nowhere to be reported.
             let _ = send(err, line.as_bytes());
             refusal_status(refusal)
         }
@@ -165,7 +194,7 @@ fn refuse<E: Outlet>(alloc: Global, request: &Request<'_>, refusal: Refusal, err
     }
 }
 
-// Prints the example.
+// Prints the example. Returns the exit status.
 fn print_example<R: Threads + Wait + Copy + Send + 'static, O: Outlet, E: Outlet>(
     alloc: Global,
     rt: &R,
@@ -175,12 +204,16 @@ fn print_example<R: Threads + Wait + Copy + Send + 'static, O: Outlet, E: Outlet
     requires out { (O.state out.old).failures ≡ 0 }
     requires err { (E.state err.old).failures ≡ 0 }
     ensures status { (result ≡ 0) ⊎ ((result ≡ 4) ⊎ ((result ≡ 5) ⊎ (result ≡ 6))) }
-    ensures shown { result ≡ 0 → IsTrue (O.state out.old).tells → (O.state out.new).taken ≡ (O.state out.old).taken ++ example_text }
-    ensures unshown { result ≢ 0 → IsUnshown (device_of O.state out.old out.new) (device_of E.state err.old err.new) result }
+    ensures shown { result ≡ 0 → IsTrue (O.state out.old).tells
+        → (O.state out.new).taken ≡ (O.state out.old).taken ++ example_text }
+    ensures unshown { result ≢ 0
+        → IsUnshown (device_of O.state out.old out.new) (device_of E.state err.old err.new) result }
     ensures finished { result ≡ 0 → ((O.state out.new).failures ≡ 0) × (err.new ≡ err.old) }
     ensures quiet { result ≢ 0 → (O.state out.new).failures ≡ 0 → out.new ≡ out.old }
-    ensures failed { (O.state out.new).failures ≢ 0 → (result ≡ 4) × TookText (device_of E.state err.old err.new) print_line }
-    ensures memory { result ≡ 5 → (out.new ≡ out.old) × LacksMemory (device_of E.state err.old err.new) result }
+    ensures failed { (O.state out.new).failures ≢ 0
+        → (result ≡ 4) × TookText (device_of E.state err.old err.new) print_line }
+    ensures memory { result ≡ 5 → (out.new ≡ out.old)
+        × LacksMemory (device_of E.state err.old err.new) result }
 {
     match example(alloc, rt) {
         Ok(text) => match send(out, &text) {
@@ -192,18 +225,21 @@ fn print_example<R: Threads + Wait + Copy + Send + 'static, O: Outlet, E: Outlet
     }
 }
 
-// Prints help that was asked for, or what is wrong with the words.
+// Prints the help or the version, or what is wrong with the arguments. Returns the exit status.
 fn refuse_words<O: Outlet, E: Outlet>(alloc: Global, error: &Error, out: &mut O, err: &mut E) -> u8
     requires out { (O.state out.old).failures ≡ 0 }
     requires err { (E.state err.old).failures ≡ 0 }
     ensures status { (result ≡ 0) ⊎ ((result ≡ 1) ⊎ ((result ≡ 4) ⊎ (result ≡ 5))) }
     ensures no_memory { kind_of error.now ≡ OutOfMemory → result ≡ 5 }
-    ensures usage { kind_of error.now ≢ DisplayHelp → kind_of error.now ≢ DisplayVersion → (result ≡ 1) ⊎ (result ≡ 5) }
+    ensures usage { kind_of error.now ≢ DisplayHelp
+        → kind_of error.now ≢ DisplayVersion → (result ≡ 1) ⊎ (result ≡ 5) }
     ensures called { IsCall (kind_of error.now) → result ≢ 1 }
     ensures usage_only { result ≡ 1 → (out.new ≡ out.old) × (kind_of error.now ≢ OutOfMemory) }
     ensures finished { result ≡ 0 → ((O.state out.new).failures ≡ 0) × (err.new ≡ err.old) }
-    ensures failed { result ≡ 4 → ((O.state out.new).failures ≡ 1) × TookText (device_of E.state err.old err.new) print_line }
-    ensures memory { result ≡ 5 → (out.new ≡ out.old) × LacksMemory (device_of E.state err.old err.new) result }
+    ensures failed { result ≡ 4 → ((O.state out.new).failures ≡ 1)
+        × TookText (device_of E.state err.old err.new) print_line }
+    ensures memory { result ≡ 5 → (out.new ≡ out.old)
+        × LacksMemory (device_of E.state err.old err.new) result }
 {
     if error.kind() == ErrorKind::OutOfMemory {
         return out_of_memory(err);
@@ -212,7 +248,7 @@ fn refuse_words<O: Outlet, E: Outlet>(alloc: Global, error: &Error, out: &mut O,
         return out_of_memory(err);
     };
     if error.use_stderr() {
-        // There is nowhere to say that this failed.
+        // A failed write to `err` has nowhere to be reported.
         let _ = send(err, text.as_bytes());
         return 1;
     }

@@ -27,7 +27,7 @@ const FORWARD: &[u8] = b"@p1/1\nACGT\n+\n#!II\n@p2/1\nGGCC\n+\nIIII\n";
 
 const REVERSE: &[u8] = b"@p1/2\nTTTT\n+\nIIII\n@p2/2\nAAAA\n+\n!!!\"\n";
 
-// Bytes of a read or a write of the example's devices.
+// Bytes of each read or write call of the example's devices.
 const CUT: usize = 1000;
 
 const CHUNK: u64 = 65_536;
@@ -58,7 +58,8 @@ fn outlet(alloc: Global) -> ScriptOutlet
 
 // The outlets of the example.
 fn outlets(alloc: Global) -> Outlets<ScriptOutlet>
-    ensures { AreEmpty result.forward_paired result.forward_unpaired result.reverse_paired result.reverse_unpaired result.log }
+    ensures { AreEmpty result.forward_paired
+        result.forward_unpaired result.reverse_paired result.reverse_unpaired result.log }
 {
     Outlets {
         forward_paired: outlet(alloc),
@@ -69,10 +70,11 @@ fn outlets(alloc: Global) -> Outlets<ScriptOutlet>
     }
 }
 
-// Why no text is made. It owns nothing, so it's handed on at little cost.
+// Why the example has no text. The enum owns no memory, so passing it on costs little.
 #[derive(Drop)]
 enum Why {
-    // A thread was refused, or a lane could not be confirmed: how the run ended, and the counts of its pairs.
+    // A thread was refused, or a lane could not be confirmed: how the run ended, and the counts of
+    // its pairs.
     Unrun(Outcome, Counts),
     // Memory was refused.
     Memory,
@@ -89,17 +91,19 @@ impl From<OutOfMemory> for Why {
     }
 }
 
-/// What the example prints: the texts of the two pairs, each below its label. Its run has two workers and blocks of one pair.
+/// Returns what the example prints: the texts of the two pairs, each below its label. The run has
+/// two workers and blocks of one pair.
 pub(crate) fn example<R: Threads + Wait + Copy + Send + 'static>(
     alloc: Global,
     rt: &R,
 ) -> Result<Vec<u8>, Unshown>
     ensures text { IfOk result (λ text. text.items ≡ example_text) }
-    ensures unrun { IfErr result (λ why. (account : Account) → why ≡ Unrun account → outcome_status account.outcome ≡ 6) }
+    ensures unrun { IfErr result (λ why. (account : Account)
+        → why ≡ Unrun account → outcome_status account.outcome ≡ 6) }
 {
     match text(alloc, rt) {
         Ok(text) => Ok(text),
-        // A run of the example makes no tally.
+        // The example's settings ask for no tally.
         Err(Why::Unrun(outcome, counts)) => Err(Unshown::Unrun(Account {
             outcome,
             counts,
@@ -109,24 +113,27 @@ pub(crate) fn example<R: Threads + Wait + Copy + Send + 'static>(
     }
 }
 
-// What the example prints, or why it doesn't.
+// Returns what the example prints, or why it cannot.
 fn text<R: Threads + Wait + Copy + Send + 'static>(alloc: Global, rt: &R) -> Result<Vec<u8>, Why>
     ensures text { IfOk result (λ text. text.items ≡ example_text) }
-    ensures unrun { IfErr result (λ why. (outcome : Outcome) → (counts : Counts) → why ≡ Why.Unrun outcome counts → outcome_status outcome ≡ 6) }
+    ensures unrun { IfErr result (λ why. (outcome : Outcome)
+        → (counts : Counts) → why ≡ Why.Unrun outcome counts → outcome_status outcome ≡ 6) }
 {
     let mut outlets = outlets(alloc);
     text_over(alloc, rt, &mut outlets)
 }
 
-// The same, over outlets that have taken nothing.
+// Returns what the example prints, written to outlets that have taken nothing.
 fn text_over<R: Threads + Wait + Copy + Send + 'static>(
     alloc: Global,
     rt: &R,
     outlets: &mut Outlets<ScriptOutlet>,
 ) -> Result<Vec<u8>, Why>
-    requires { AreEmpty outlets.old.forward_paired outlets.old.forward_unpaired outlets.old.reverse_paired outlets.old.reverse_unpaired outlets.old.log }
+    requires { AreEmpty outlets.old.forward_paired outlets.old.forward_unpaired
+        outlets.old.reverse_paired outlets.old.reverse_unpaired outlets.old.log }
     ensures text { IfOk result (λ text. text.items ≡ example_text) }
-    ensures unrun { IfErr result (λ why. (outcome : Outcome) → (counts : Counts) → why ≡ Why.Unrun outcome counts → outcome_status outcome ≡ 6) }
+    ensures unrun { IfErr result (λ why. (outcome : Outcome)
+        → (counts : Counts) → why ≡ Why.Unrun outcome counts → outcome_status outcome ≡ 6) }
 {
     let Ok(gate) = Arc::new(alloc, OpenGate) else {
         return Err(Why::Memory);
@@ -137,7 +144,7 @@ fn text_over<R: Threads + Wait + Copy + Send + 'static>(
     shown(alloc, outcome, &counts, outlets)
 }
 
-// What a run left, each text below its label, or why it isn't shown.
+// Returns what a run wrote, each text below its label, or why it is not shown.
 fn shown(
     alloc: Global,
     outcome: Outcome,
@@ -147,18 +154,20 @@ fn shown(
     ensures text { IfOk result (λ text. (outcome ≡ Outcome.Finished)
         × ((log : List ℕ) × (option_map (λ l. l.bytes) outlets.now.log ≡ Some log)
         × (text.items ≡ sections outlets.now.forward_paired.bytes outlets.now.forward_unpaired.bytes
-        outlets.now.reverse_paired.bytes outlets.now.reverse_unpaired.bytes log (summary_of counts.now)))) }
-    ensures unrun { IfErr result (λ why. (ended : Outcome) → (counted : Counts) → why ≡ Why.Unrun ended counted → outcome_status ended ≡ 6) }
+        outlets.now.reverse_paired.bytes outlets.now.reverse_unpaired.bytes
+        log (summary_of counts.now)))) }
+    ensures unrun { IfErr result (λ why. (ended : Outcome)
+        → (counted : Counts) → why ≡ Why.Unrun ended counted → outcome_status ended ≡ 6) }
 {
     match (outcome, &outlets.log) {
         (Outcome::Finished, Some(log)) => Ok(labelled(alloc, outlets, log.bytes(), counts)?),
         (Outcome::Spawn | Outcome::Lane, _) => Err(Why::Unrun(outcome, *counts)),
-        // Outlets in memory fail for want of memory alone.
+        // Outlets in memory fail only if memory is refused.
         _ => Err(Why::Memory),
     }
 }
 
-// The run of the example, over its inputs: how it ended, and the counts of its pairs.
+// Runs the example on its inputs. Returns how the run ended, and the counts of its pairs.
 fn run<R: Threads + Wait + Copy + Send + 'static, F: Feed + Drop + Send + 'static, O: Outlet>(
     alloc: Global,
     rt: &R,
@@ -171,8 +180,10 @@ fn run<R: Threads + Wait + Copy + Send + 'static, F: Feed + Drop + Send + 'stati
     requires forward { (F.state forward).failures ≡ 0 }
     requires reverse { (F.state reverse).failures ≡ 0 }
     requires healthy { AreHealthy (outlet_states O.state outlets.old) }
-    ensures { IsTrue (ends_whole result.0) → IsTrue (F.state forward).tells → IsTrue (F.state reverse).tells
-        → TrimsPairs settings.now (pairs_of settings.now TwoTexts (F.state forward).to_come (F.state reverse).to_come)
+    ensures { IsTrue (ends_whole result.0) → IsTrue (F.state forward).tells
+        → IsTrue (F.state reverse).tells
+        → TrimsPairs settings.now
+        (pairs_of settings.now TwoTexts (F.state forward).to_come (F.state reverse).to_come)
         (outlet_states O.state outlets.old) (outlet_states O.state outlets.new) result.0 result.1 }
 {
     ended(run_threads(alloc, rt, settings, gate, forward, reverse, outlets))
@@ -192,8 +203,10 @@ fn labelled(
     log: &[u8],
     counts: &Counts,
 ) -> Result<Vec<u8>, OutOfMemory>
-    ensures { IfOk result (λ text. text.items ≡ sections outlets.now.forward_paired.bytes outlets.now.forward_unpaired.bytes
-        outlets.now.reverse_paired.bytes outlets.now.reverse_unpaired.bytes log.now (summary_of counts.now)) }
+    ensures { IfOk result (λ text. text.items
+        ≡ sections outlets.now.forward_paired.bytes outlets.now.forward_unpaired.bytes
+        outlets.now.reverse_paired.bytes outlets.now.reverse_unpaired.bytes
+        log.now (summary_of counts.now)) }
 {
     let summary = summary(alloc, counts)?;
     let forward_paired = outlets.forward_paired.bytes();

@@ -1,8 +1,8 @@
-//! The program, apart from where its words and files come from and its texts go to: [`program`] answers the words of a call with what
-//! it leaves in files, what it prints, and an exit status.
+//! The program, apart from where its arguments and files come from and where its texts go:
+//! [`program`] takes the arguments of a call, writes files and output, and returns an exit status.
 //!
-//! It is an inner layer of the program `fq_prog`, whose crate gives it the system's words, files and outputs. `fq_rows` gives it
-//! others, in memory.
+//! This is an inner layer of the program `fq_prog`, whose crate passes it the system's arguments,
+//! files and outputs. `fq_rows` passes it others, in memory.
 #![tactic(auto)]
 
 mod answering;

@@ -1,4 +1,4 @@
-//! What the program says where it refuses.
+//! The exit status and the line on standard error for each refusal.
 
 ghost use Rattle.std.specs.Prelude.{◌≡◌, ◌++◌, [], IfOk, codes, decimal, unwrap_or};
 ghost use Rattle.fq_text.specs.Written.{line};
@@ -13,7 +13,7 @@ use fq_trim::StepFaultKind;
 use fq_words::Request;
 use std::alloc::Global;
 
-/// The exit status of a refusal.
+/// Returns the exit status of a refusal.
 pub(crate) fn refusal_status(refusal: Refusal) -> u8
     ensures { result ≡ status_of refusal }
 {
@@ -25,7 +25,7 @@ pub(crate) fn refusal_status(refusal: Refusal) -> u8
     }
 }
 
-/// The line of a refusal of what was asked, with its line end.
+/// Returns the line of a refusal of this request, with its line end.
 pub(crate) fn refusal_line(
     alloc: Global,
     request: &Request<'_>,
@@ -55,7 +55,7 @@ pub(crate) fn refusal_line(
     }
 }
 
-// The name of the report, or nothing where none is wanted.
+// The name of the report, or an empty text if no report is asked for.
 fn report_name<'a>(request: &Request<'a>) -> &'a str
     ensures { result.now ≡ unwrap_or (asking_of request.now).report [] }
 {
@@ -65,28 +65,29 @@ fn report_name<'a>(request: &Request<'a>) -> &'a str
     }
 }
 
-// The line of a name that is that of an input.
+// The line for an output or report that has the name of an input.
 fn same_name_line(alloc: Global, name: &str) -> Result<String, OutOfMemory>
     ensures { IfOk result (λ text. string_bytes text ≡ line (codes "same name: " ++ name.now)) }
 {
     format!(in alloc; "same name: {name}\n")
 }
 
-// The line of a file that can't be made.
+// The line for a file that can't be made.
 fn unwritten_line(alloc: Global, name: &str) -> Result<String, OutOfMemory>
     ensures { IfOk result (λ text. string_bytes text ≡ line (codes "cannot write " ++ name.now)) }
 {
     format!(in alloc; "cannot write {name}\n")
 }
 
-// The line of a fault in the words of the steps.
+// The line for a fault in the arguments of the steps.
 fn step_line(alloc: Global, place: usize, kind: &str) -> Result<String, OutOfMemory>
-    ensures { IfOk result (λ text. string_bytes text ≡ line (codes "bad step " ++ decimal place ++ codes ": " ++ kind.now)) }
+    ensures { IfOk result (λ text. string_bytes text
+        ≡ line (codes "bad step " ++ decimal place ++ codes ": " ++ kind.now)) }
 {
     format!(in alloc; "bad step {place}: {kind}\n")
 }
 
-// The name of a kind of fault.
+// The name of a kind of fault in a step.
 fn step_fault_name(kind: StepFaultKind) -> &'static str
     ensures { result.now ≡ step_fault_name kind }
 {

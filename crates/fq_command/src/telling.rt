@@ -1,4 +1,4 @@
-//! What the program says at its end.
+//! What the program reports at its end.
 
 ghost use Rattle.std.specs.Prelude.{◌≡◌, ◌≢◌, ◌⊎◌, true, false, IfOk, OnErr};
 ghost use Rattle.fq_pair.specs.Summaries.{summary_of};
@@ -11,7 +11,8 @@ use fq_run::Outcome;
 use fq_text::{OutOfMemory, Outlet, send};
 use std::alloc::Global;
 
-/// Prints the summary of a run that ended whole to `out`, and the line of a fault to `err`. Answers the exit status.
+/// Prints the summary to `out` if the run ended whole, and the line of a fault to `err`. Returns
+/// the exit status.
 pub(crate) fn tell_account<O: Outlet, E: Outlet>(
     alloc: Global,
     account: &Account,
@@ -21,25 +22,32 @@ pub(crate) fn tell_account<O: Outlet, E: Outlet>(
     requires out { (O.state out.old).failures ≡ 0 }
     requires err { (E.state err.old).failures ≡ 0 }
 
-    // At the end of the inputs, or at a fault of theirs, the summary was printed, or at a fault a part of it.
+    // At the end of the inputs the summary was printed; at a fault in them, the summary or a part
+    // of it.
     ensures whole { (result ≡ 0) ⊎ (result ≡ 3) → outcome_status account.now.outcome ≡ result }
-    ensures printed { (result ≡ 0) ⊎ (result ≡ 3) → TookPart (device_of O.state out.old out.new) (summary_of account.now.counts) }
+    ensures printed { (result ≡ 0) ⊎ (result ≡ 3)
+        → TookPart (device_of O.state out.old out.new) (summary_of account.now.counts) }
     ensures finished { result ≡ 0 → ((O.state out.new).failures ≡ 0) × (err.new ≡ err.old) }
 
     ensures status { (result ≡ outcome_status account.now.outcome) ⊎ ((result ≡ 4) ⊎ (result ≡ 5)) }
 
-    // The line of the outcome.
-    ensures told { (result ≡ 0) ⊎ (result ≡ 3) → TookText (device_of E.state err.old err.new) (outcome_line account.now.outcome) }
-    ensures line { result ≢ 0 → Reports account.now.outcome (device_of O.state out.old out.new) (device_of E.state err.old err.new) result }
-    ensures memory { result ≡ 5 → (out.new ≡ out.old) × LacksMemory (device_of E.state err.old err.new) result }
+    // The line of the outcome went to `err`.
+    ensures told { (result ≡ 0) ⊎ (result ≡ 3)
+        → TookText (device_of E.state err.old err.new) (outcome_line account.now.outcome) }
+    ensures line { result ≢ 0 → Reports account.now.outcome
+        (device_of O.state out.old out.new) (device_of E.state err.old err.new) result }
+    ensures memory { result ≡ 5 → (out.new ≡ out.old)
+        × LacksMemory (device_of E.state err.old err.new) result }
 
-    // Where `out` failed the status says so, and otherwise nothing but the summary is printed.
+    // If `out` failed, the status says so. Nothing but the summary is printed.
     ensures quiet { result ≢ 0 → result ≢ 3 → (O.state out.new).failures ≡ 0 → out.new ≡ out.old }
-    ensures failed { (O.state out.new).failures ≢ 0 → (result ≡ 3) ⊎ ((result ≡ 4) × TookText (device_of E.state err.old err.new) print_line) }
+    ensures failed { (O.state out.new).failures ≢ 0
+        → (result ≡ 3) ⊎ ((result ≡ 4) × TookText (device_of E.state err.old err.new) print_line) }
     ensures known { (result ≢ 1) × (result ≢ 2) }
 {
     if matches!(account.outcome, Outcome::Lane) {
-        // It is told without memory: what is told of want of memory holds of every other outcome.
+        // This line takes no memory, because `Reports` allows refused memory for every outcome
+        // except this one.
         let _ = send(err, LANE_LINE.as_bytes());
         return 6;
     }
@@ -58,19 +66,20 @@ pub(crate) fn tell_account<O: Outlet, E: Outlet>(
             Err(_) => return out_of_memory(err),
         }
     }
-    // There is nowhere to say that this failed.
+    // A failed write to `err` has nowhere to be reported.
     let _ = send(err, line.as_bytes());
     status
 }
 
-// Prints the summary, and answers whether all of it went out.
+// Prints the summary. Returns whether `out` took all of it.
 fn print_summary<O: Outlet>(
     alloc: Global,
     counts: &Counts,
     out: &mut O,
 ) -> Result<bool, OutOfMemory>
     requires { (O.state out.old).failures ≡ 0 }
-    ensures printed { IfOk result (λ printed. TookPart (device_of O.state out.old out.new) (summary_of counts.now)) }
+    ensures printed { IfOk result (λ printed.
+        TookPart (device_of O.state out.old out.new) (summary_of counts.now)) }
     ensures whole { result ≡ Ok true → (O.state out.new).failures ≡ 0 }
     ensures failed { result ≡ Ok false → (O.state out.new).failures ≡ 1 }
     ensures memory { OnErr result (out.new ≡ out.old) }
@@ -82,7 +91,8 @@ fn print_summary<O: Outlet>(
     }
 }
 
-/// Memory was refused: says so on `err`, in the line `out of memory`, and answers the exit status, which is 5.
+/// Reports on `err`, by the line `out of memory`, that memory was refused. Returns the exit status,
+/// 5.
 pub fn out_of_memory<E: Outlet>(err: &mut E) -> u8
     requires { (E.state err.old).failures ≡ 0 }
     ensures { LacksMemory (device_of E.state err.old err.new) result }
@@ -91,7 +101,7 @@ pub fn out_of_memory<E: Outlet>(err: &mut E) -> u8
     5
 }
 
-/// What was to be printed was not: says so on `err`, and answers the exit status.
+/// Reports on `err` that the text for standard output was not printed. Returns the exit status, 4.
 pub(crate) fn cannot_print<E: Outlet>(err: &mut E) -> u8
     requires { (E.state err.old).failures ≡ 0 }
     ensures status { result ≡ 4 }
@@ -101,7 +111,7 @@ pub(crate) fn cannot_print<E: Outlet>(err: &mut E) -> u8
     4
 }
 
-/// The report was not written: says so on `err`, and answers the exit status.
+/// Reports on `err` that the report was not written. Returns the exit status, 4.
 pub(crate) fn cannot_report<E: Outlet>(err: &mut E) -> u8
     requires { (E.state err.old).failures ≡ 0 }
     ensures status { result ≡ 4 }

@@ -1,5 +1,5 @@
-//! Trims pairs of reads: the command `PE` for two files, `IL` for an interleaved one, and `EXAMPLE`, which shows what becomes of two
-//! built-in pairs.
+//! Trims pairs of reads: `PE` for two files, `IL` for an interleaved one, and `EXAMPLE`, which
+//! shows what becomes of two built-in pairs.
 #![tactic(auto)]
 
 ghost use Rattle.std.specs.Prelude.{◌≡◌};
@@ -12,10 +12,10 @@ use std::env::Env;
 use std::process::ExitCode;
 use std::{env, io, str};
 
-// The system passes on no longer word.
+// Linux passes no argument that is longer than 128 KiB.
 const LONGEST_WORD: usize = 1 << 17;
 
-// What stands below each such line, as `clap` has it.
+// The last lines of an error about the arguments, as `clap` prints them.
 const MORE: &str = "\nFor more information, try '--help'.\n";
 
 fn main(rt: HostRuntime) -> ExitCode {
@@ -32,6 +32,7 @@ fn main(rt: HostRuntime) -> ExitCode {
         return ExitCode::from(out_of_memory(&mut err));
     };
     let mut files = SystemFiles::new(rt.alloc(), &rt);
+    // An output that is the same regular file as standard output or standard error is refused.
     if files.keep("/dev/stdout").is_err() || files.keep("/dev/stderr").is_err() {
         return ExitCode::from(out_of_memory(&mut err));
     }
@@ -39,13 +40,13 @@ fn main(rt: HostRuntime) -> ExitCode {
     ExitCode::from(program(rt.alloc(), &rt, &words, &mut files, &mut out, &mut err))
 }
 
-// The words of the command line, of which the first is the program's name.
+// Returns the arguments of the command line. The first is the program's name.
 fn texts_of(rt: &HostRuntime) -> io::Result<Vec<String>> {
     let args: Vec<String> = env::args(rt)?.collect(rt.alloc())?;
     Ok(args)
 }
 
-// The same, lent.
+// Borrows the arguments as `&str`.
 fn words_of<'a>(alloc: Global, texts: &'a [String]) -> Result<Vec<&'a str>, AllocError> {
     let mut words = Vec::with_capacity(alloc, texts.len())?;
     for text in texts {
@@ -54,14 +55,15 @@ fn words_of<'a>(alloc: Global, texts: &'a [String]) -> Result<Vec<&'a str>, Allo
     Ok(words)
 }
 
-// A word of the command line is not UTF-8: says which, counted behind the program's name, and answers the exit status.
+// Reports on `err` which argument is not UTF-8, counted from 1 after the program's name. Returns
+// the exit status.
 fn refuse_bytes<E: Outlet>(rt: &HostRuntime, err: &mut E) -> u8
     requires { (E.state err.old).failures ≡ 0 }
 {
     let Ok(text) = bytes_line(rt) else {
         return out_of_memory(err);
     };
-    // There is nowhere to say that this failed.
+    // A failed write to `err` has nowhere to be reported.
     let _ = send(err, text.as_bytes());
     1
 }

@@ -2,7 +2,7 @@ use Rattle.std.proofs.Common.{ℕ, List, subst, ◌∙◌, arith}
 use Rattle.fq_command.specs.Answers.{TookPart, device_of}
 use Rattle.fq_command.proofs.telling.print_summary.Goals as goal
 
--- the text that was sent is the summary, and the outlet failed once in it
+-- the text that was sent is the summary, and the outlet failed once while taking it
 pub returns-clause-printed : goal.returns-clause-printed
 returns-clause-printed g c =
     let text_is = c.as_bytes.ensures.value ∙ c.in_ok-text.ensures in
