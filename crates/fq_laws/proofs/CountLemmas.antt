@@ -1,4 +1,4 @@
--- Each pair goes one way, and is counted once.
+-- Each pair goes one way and is counted once.
 use Rattle.std.proofs.Common.{◌≡◌, ℕ, ◌+◌, Bool, true, false, not, ◌&&◌, cond, List, [], ◌∷◌, length, filter, count_by, refl, arith}
 use Rattle.fq_trim.specs.declared.step.Step.{Step}
 use Rattle.fq_pair.specs.Mates.{Mates}

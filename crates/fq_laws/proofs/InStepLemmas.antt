@@ -34,7 +34,7 @@ reverse_in check e [] all = All-nil (IsReadIn e)
 reverse_in check e (m ∷ ms) all =
     All-cons (IsReadIn e) m.reverse (reverse_reads ms) (All-head (IsPairIn check e) m ms all).reverse (reverse_in check e ms (All-tail (IsPairIn check e) m ms all))
 
--- a text of records gives its reads, and so many
+-- a text of records gives its reads, and their number
 gives : (steps : List Step) (e : Encoding) (reads : List Read) (count : ℕ) (text : List ℕ) → text ≡ flat_map (record_text steps) reads → length reads ≡ count →
     All (IsReadIn e) reads → IsReadAgain steps e reads count text
 gives steps e reads count text is size are plain =
@@ -71,7 +71,7 @@ written_title true e r = refl
 written_title false e r = refl
 
 module _ (check : Bool) (steps : List Step) where
-  -- a title is kept, so names match as before
+  -- trimming keeps titles, so names match as before
   still_belong : (m : Mates) → belong check (trimmed_pair steps m) ≡ belong check m
   still_belong m =
       let f = written_title (recodes steps) m.forward.encoding (left_of steps m.forward) in
@@ -79,7 +79,7 @@ module _ (check : Bool) (steps : List Step) where
       ap (λ (t : List ℕ). not check || names_match t (trimmed steps m.reverse).title) f
       ∙ ap (λ (t : List ℕ). not check || names_match m.forward.title t) r
 
-  -- mates are at the same places
+  -- the mates of a pair are at one place in both texts
   mates_again : (ms : List Mates) → mates_of (map (trimmed steps) (forward_reads ms)) (map (trimmed steps) (reverse_reads ms)) ≡ map (trimmed_pair steps) ms
   mates_again [] = refl
   mates_again (m ∷ ms) = ap (λ (xs : List Mates). trimmed_pair steps m ∷ xs) (mates_again ms)
@@ -95,7 +95,7 @@ nothing_behind : {A : Type 0} (xs : List A) → drop (length xs) xs ≡ []
 nothing_behind [] = refl
 nothing_behind (x ∷ xs) = nothing_behind xs
 
--- two texts without a fault, with as many records each
+-- texts without a fault, with equally many records
 abbrev whole_text : List Read → Records
 whole_text reads = record { reads = reads; fault = None }
 
@@ -104,7 +104,7 @@ no_fault n k fs rs f r =
     ap (λ (xs : List Read). fault_at n (whole_text xs) (behind k (whole_text rs))) (ap (λ (j : ℕ). drop j fs) (sym f) ∙ nothing_behind fs)
     ∙ ap (λ (xs : List Read). fault_at n (whole_text []) (whole_text xs)) (ap (λ (j : ℕ). drop j rs) (sym r) ∙ nothing_behind rs)
 
--- what the pairs of two such texts are, if these are the mates that belong together
+-- the pairs of two such texts, if these mates belong together
 abbrev with_mates : List Read → List Read → List Mates → Pairs
 with_mates fs rs mates = record { mates = mates; fault = fault_at (suc (0 + length mates)) (behind (length mates) (whole_text fs)) (behind (length mates) (whole_text rs)) }
 

@@ -1,4 +1,4 @@
--- What is left of a read is one piece of it: steps keep places that follow one another.
+-- What is left of a read is one piece of it: steps keep consecutive places.
 use Rattle.std.proofs.Common.{◌≡◌, ℕ, zero, suc, ◌+◌, ◌-◌, ◌<◌, ◌≤◌, ◌⊎◌, inl, inr, Bool, true, false, not, ◌&&◌, List, [], ◌∷◌, length, take, drop, refl, ap, sym, subst, ◌∙◌, arith, ⊎_elim, leb, ltb, ◌++◌, flat_map}
 use Rattle.std.specs.List.{list_any}
 use Rattle.std.proofs.lemmas.Bool.{cases_Bool, cases_lt, and_parts, and_from, or_left, or_right, or_cases, le-leb, leb-true, lt-ltb, ltb-true, both_ways}
@@ -17,7 +17,7 @@ use Rattle.fq_pair.specs.Outputs.{kept_places, bytes_at, is_empty, log_numbers, 
 use Rattle.fq_pair.proofs.TextLemmas.{log_numbers-places}
 use Rattle.fq_laws.specs.Pieces.{left_of, quality_out, piece_numbers, ReadsStayInOnePiece}
 
--- A test that passes on from each place, or back to each.
+-- A test that holds from some place on, or up to some place.
 
 abbrev Rises : (ℕ → Bool) → ℕ → Type 0
 Rises test n = (k : ℕ) → suc k < n → test k ≡ true → test (suc k) ≡ true
@@ -150,7 +150,7 @@ any_longer p (x ∷ xs) (suc i) is = any_longer p xs i is
 any_earlier : (p : ℕ → Bool) (i n : ℕ) → list_any p (places (suc i) n) ≡ true → list_any p (places i (suc n)) ≡ true
 any_earlier p i n is = or_right _ _ is
 
--- a step keeps what lies between two places
+-- a step keeps the places between two places
 record Between (test : ℕ → Bool) (n : ℕ) : Type 0 where
   lo : ℕ
   hi : ℕ
@@ -178,7 +178,7 @@ between (AverageQuality t) q = fallen (up_to_there (keeps (AverageQuality t) q) 
 between (MinLen m) q = fallen (up_to_there (keeps (MinLen m) q) (length q) (λ k lt is. is))
 between ToPhred33 q = fallen (up_to_there (keeps ToPhred33 q) (length q) (λ k lt is. is))
 
--- so many places, from one on
+-- the kept places are those from `start` on, up to but not including `stop`
 record Span (q : List ℕ) (kept : List ℕ) : Type 0 where
   start : ℕ
   stop : ℕ
@@ -202,7 +202,7 @@ spans (step ∷ steps) q start stop order within =
     let next = spans steps q (start + b.lo) (start + b.hi) (omega arith) (omega arith) in
     span_on (step_keeps step steps q start stop b.lo b.hi order within is ∙ ap (λ n. kept_of steps q (places (start + b.lo) n)) (sym e)) next
 
--- what is written of a read is its title, its bases and its quality
+-- what is written for a read is its title, its bases and its quality
 written_title : (b : Bool) (e : Encoding) (r : Read) → (as_written (then_some b e) r).title ≡ r.title
 written_title true e r = refl
 written_title false e r = refl

@@ -1,4 +1,4 @@
--- What is left of a read is read again.
+-- What is left of a read can be read again.
 use Rattle.std.proofs.Common.{◌≡◌, ℕ, zero, suc, ◌<◌, ◌≤◌, Bool, true, false, cond, List, [], ◌∷◌, ◌++◌, length, get_or, map, flat_map, refl, ap, sym, subst, ◌∙◌, arith, ⊎_elim, None}
 use Rattle.std.specs.Bool.{then_some}
 use Rattle.std.specs.List.{All, list_all}
@@ -66,7 +66,7 @@ module _ (steps : List Step) (read : Read) where
       let bases = length-map (kept_places steps read) (λ (i : ℕ). get_or read.seq i 0) in
       omega arith
 
-  -- what is left of a plain read is lawful
+  -- what is left of a plain read is a valid read
   left_lawful : (encoding : Encoding) → IsReadIn encoding read → IsPlain steps read → IsLawful (left_of steps read)
   left_lawful encoding is plain =
       let lawful = is.lawful in
@@ -93,7 +93,7 @@ written_encoding : (b : Bool) (r : Read) → (as_written (then_some b r.encoding
 written_encoding true r = refl
 written_encoding false r = refl
 
--- the record of a read is read again, and then what follows it
+-- the record of one read is read again, then what follows it
 one_again : (steps : List Step) (encoding : Encoding) (read : Read) (text : List ℕ) → IsReadIn encoding read → IsPlain steps read →
     records (encoding_out steps encoding) (record_text steps read ++ text) ≡ with_first (trimmed steps read) (records (encoding_out steps encoding) text)
 one_again steps encoding read text is plain =
@@ -104,7 +104,7 @@ one_again steps encoding read text is plain =
     (reads_back (left_of steps read) (then_some (recodes steps) read.encoding) text lawful plain.title
     (can_recode (recodes steps) read.encoding (left_of steps read).qual lawful.scores))
 
--- and so are those of many
+-- the records of many reads are read again
 pub many_again : (steps : List Step) (encoding : Encoding) (reads : List Read) → All (IsReadIn encoding) reads → All (IsPlain steps) reads →
     records (encoding_out steps encoding) (flat_map (record_text steps) reads) ≡ record { reads = map (trimmed steps) reads; fault = None }
 many_again steps encoding [] are plain = refl
@@ -119,7 +119,7 @@ all_letters [] all = refl
 all_letters (x ∷ xs) all =
     and_from _ _ (All-head (λ base. is_letter base ≡ true) x xs all) (all_letters xs (All-tail (λ base. is_letter base ≡ true) x xs all))
 
--- the first of some letters is no mark
+-- a text of letters does not begin with a mark
 letter_first : (mark : ℕ) (at xs : List ℕ) → is_letter mark ≡ false → list_all is_letter (bytes_at at xs) ≡ true → begins_with mark (bytes_at at xs) ≡ false
 letter_first mark [] xs other all = refl
 letter_first mark (i ∷ is) xs other all =

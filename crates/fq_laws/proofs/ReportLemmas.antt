@@ -1,4 +1,4 @@
--- The sums of a report add up: each read that doesn't survive is dropped by one step.
+-- The sums in a report add up: each read that doesn't survive is dropped by exactly one step.
 use Rattle.std.proofs.Common.{◌≡◌, ◌≢◌, ◌<◌, ◌≤◌, ◌⊎◌, inl, inr, ℕ, zero, suc, ◌+◌, Bool, true, false, not, ◌&&◌, cond, List, [], ◌∷◌, length, get_or, map, filter, fold, sum, refl, ap, sym, subst, ◌∙◌, arith, ⊎_elim}
 use Rattle.std.specs.List.{All}
 use Rattle.std.proofs.lemmas.List.Sums.{sum_by-cons}
@@ -32,7 +32,7 @@ sum-cons x xs = sum_by-cons (λ (n : ℕ). n) x xs
 capped_small : (a b : ℕ) → a + b ≤ 18446744073709551615 → capped_sum a b ≡ a + b
 capped_small a b few = omega arith
 
--- one more in a row is one more in all
+-- one more in a row is one more in the sum
 sum_one : (row : ℕ) (xs : List ℕ) → sum xs < 18446744073709551615 → sum (with_one row xs) ≡ sum xs + 1
 sum_one zero [] few = refl
 sum_one zero (n ∷ ns) few =
@@ -50,7 +50,7 @@ sum_one (suc row) (n ∷ ns) few =
     let rest = sum_one row ns (omega arith) in
     omega arith
 
--- the numbers at so many places add up to all
+-- the numbers at the first places add up to the sum
 at_next : (x : ℕ) (xs : List ℕ) (a n : ℕ) → map (λ i. get_or (x ∷ xs) i 0) (places (suc a) n) ≡ map (λ i. get_or xs i 0) (places a n)
 at_next x xs a zero = refl
 at_next x xs a (suc n) = ap (λ (ns : List ℕ). get_or xs a 0 ∷ ns) (at_next x xs (suc a) n)
@@ -74,7 +74,8 @@ sum_at (x ∷ xs) (suc n) few =
 
 -- Which step drops a read.
 
--- it survives and none did, or it doesn't and one did, of those of this number and so many
+-- the read survives and no step has dropped it, or it doesn't and exactly one step has, with a
+-- number from `n` on, below `n + m`
 record IsDropped (n m : ℕ) (c : Course) : Type 0 where
   by : ℕ
   from : n ≤ by
@@ -105,7 +106,7 @@ goes n (steps ∷ lists) part some =
     goes_after n (length lists) at part (course_of (suc n) lists (part_at at part))
     (λ base. goes (suc n) lists (part_at at part) (inl (not_empty (λ (i : ℕ). get_or part.seq i 0) at ∙ base)))
 
--- by steps, each in a list of its own
+-- steps, each in a list of its own
 some_step : (steps : List Step) → steps ≢ [] → 0 < length steps
 some_step [] none = absurd (none refl)
 some_step (step ∷ steps) none = omega arith
@@ -127,8 +128,8 @@ dropped_once steps read some same =
 
 -- One side.
 
--- so many reads were counted, of which so many survive with their mate, so many alone, and so many
--- were dropped
+-- `all` reads were counted: `both` survive with their mate, `only` survive alone, and `gone` were
+-- dropped
 record Counts (steps : List Step) (t : SideTally) (all both only gone : ℕ) : Type 0 where
   before : t.before.reads ≡ all
   paired : t.paired.reads ≡ both
@@ -150,7 +151,7 @@ one_way_of false false = refl
 few_rows : (row by : ℕ) (xs : List ℕ) (n : ℕ) → row ≤ by → by < n → length xs ≤ n → length (with_one row xs) ≤ n
 few_rows row by xs n least below few = let size = length-with_one row xs in omega arith
 
--- a read more, whose course is this one
+-- one more read is counted, with this course
 module _ (steps : List Step) (t : SideTally) (all both only gone : ℕ) (counts : Counts steps t all both only gone) where
   one_counted : (read : Read) (c : Course) (mate : Bool) → Goes 0 (length steps) c → all < 18446744073709551615 →
       Counts steps (with_read read c mate t) (1 + all)
@@ -194,7 +195,7 @@ module _ (steps : List Step) (t : SideTally) (all both only gone : ℕ) (counts 
         sum_is = omega arith;
       }
 
-  -- by these steps, where it is known whether its mate survives
+  -- one more read is counted under these steps, if it is known whether its mate survives
   read_counted : (read : Read) (mate with_mate : Bool) → 0 < length steps → length read.qual ≡ length read.seq → all < 18446744073709551615 → mate ≡ with_mate →
       let s = outputs.survives steps read in
       Counts steps (with_read read (course (alone steps) read) mate t) (1 + all) (bit (s && with_mate) + both) (bit (s && not with_mate) + only) (bit (not s) + gone)
@@ -281,7 +282,7 @@ all_counted check e steps (m ∷ ms) t a b f r some are few sides =
           rest.reverse (omega arith) (omega arith) (omega arith) refl;
     }
 
--- All of it.
+-- The whole report.
 
 adds_up : (steps : List Step) (t : SideTally) (a b o g all both only : ℕ) → Counts steps t a b o g → a ≡ all → b ≡ both → o ≡ only → AddsUp steps t all both only
 adds_up steps t a b o g all both only c same_a same_b same_o =

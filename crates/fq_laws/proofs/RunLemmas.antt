@@ -49,7 +49,7 @@ pub all_first : {X : Type 0} (P : X → Type 0) (xs ys : List X) → All P (xs +
 all_first P [] ys all = All-nil P
 all_first P (x ∷ xs) ys all = All-cons P x xs (All-head P x (xs ++ ys) all) (all_first P xs ys (All-tail P x (xs ++ ys) all))
 
--- the first of the first pairs are first
+-- the first of the first pairs are first pairs
 pub still_first : (ms ns all : List Mates) → AreFirst (ms ++ ns) all → AreFirst ms all
 still_first ms ns all first = (ns ++ first.0, first.1 ∙ append_assoc ms ns first.0)
 

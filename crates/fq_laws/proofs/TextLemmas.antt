@@ -1,4 +1,4 @@
--- What inputs give are pairs of lawful reads, whose names match if they are checked.
+-- Inputs give pairs of valid reads, whose names match if they are checked.
 use Rattle.std.proofs.Common.{◌≡◌, ℕ, zero, suc, Bool, true, false, not, eqb, List, [], ◌∷◌, ◌++◌, length, map, flat_map, take_while, refl, ap, sym, subst, ◌∙◌, ⊎_elim}
 use Rattle.std.specs.List.{All, list_all}
 use Rattle.std.proofs.lemmas.Bool.{cond-true, cond-false, cases_Bool, and_parts, and_from, not_from_false}
@@ -20,7 +20,7 @@ use Rattle.fq_laws.specs.InStep.{IsReadIn, IsPairIn, InputsGivePairs}
 
 -- Lines.
 
--- no LF is in a line
+-- a line has no LF
 abbrev clean : List ℕ → Bool
 clean l = list_all (λ (b : ℕ). not (eqb b 10)) l
 
@@ -50,7 +50,7 @@ clean_map (p ∷ ps) all = let parts = and_parts _ _ all in and_from _ _ (clean_
 clean_lines : (text : List ℕ) → list_all clean (lines text) ≡ true
 clean_lines text = clean_map (pieces text) (clean_pieces text)
 
--- such lines are those of a text
+-- such lines are the lines of their text
 text_of_lines : (ls : List (List ℕ)) → list_all clean ls ≡ true → lines (flat_map (λ (l : List ℕ). l ++ 13 ∷ 10 ∷ []) ls) ≡ ls
 text_of_lines [] all = refl
 text_of_lines (l ∷ ls) all =
@@ -109,7 +109,7 @@ interleaved_are_in e (f ∷ r ∷ rs) all =
     both_in e f r (interleaved_mates rs) (All-head (IsReadIn e) f (r ∷ rs) all) (All-head (IsReadIn e) r rs others)
     (interleaved_are_in e rs (All-tail (IsReadIn e) r rs others))
 
--- up to the first whose names differ
+-- the pairs up to the first one whose names differ
 taken_are_pairs : (check : Bool) (e : Encoding) (ms : List Mates) → All (AreReadsIn e) ms → All (IsPairIn check e) (take_while (belong check) ms)
 taken_are_pairs check e [] all = All-nil (IsPairIn check e)
 taken_are_pairs check e (m ∷ ms) all = subst (All (IsPairIn check e)) (sym (take_while-cons (belong check) m ms)) (⊎_elim

@@ -1,5 +1,5 @@
--- Two worked pairs under LEADING:3, and what the laws say of them, computed from the definitions
--- alone. And the two kinds of read that are not read again.
+-- Two worked pairs under LEADING:3, and what the laws say about them, computed from the definitions
+-- alone. Then the two kinds of reads that can't be read again.
 use Rattle.std.proofs.Common.{◌≡◌, ℕ, true, Some, None, List, [], ◌∷◌, codes, length, filter, map, refl}
 use Rattle.std.specs.List.{All}
 use Rattle.std.proofs.lemmas.List.Elements.{All-nil, All-cons}
@@ -54,7 +54,7 @@ reverse_paired = refl
 reverse_unpaired : (texts_of steps both).reverse_unpaired ≡ []
 reverse_unpaired = refl
 
--- the numbers of the log, of a read
+-- the numbers of a read's log line
 abbrev numbers : Read → List ℕ
 numbers r = log_numbers (length r.seq) (kept_places steps r)
 
@@ -67,10 +67,10 @@ reverse_log = refl
 counts : counts_of steps both ≡ record { pairs = 2; both = 1; forward_only = 1; reverse_only = 0; dropped = 0 }
 counts = refl
 
--- Read again.
+-- Outputs that are read again.
 
--- one pair, as many as both survive: the forward mate without its first two bases, and the reverse
--- mate whole
+-- One pair is read, because both mates survive in one pair. The forward mate has lost its first two
+-- bases; the reverse mate is whole.
 in_step : pairs true Sanger 0 (codes "@p1/1\nGT\n+\nII\n") (codes "@p1/2\nTTTT\n+\nIIII\n")
     ≡ record { mates = record { forward = read (codes "p1/1") (codes "GT") (codes "II"); reverse = read (codes "p1/2") (codes "TTTT") (codes "IIII") } ∷ []; fault = None }
 in_step = refl
@@ -81,7 +81,7 @@ alone_again = refl
 none_again : records Sanger [] ≡ record { reads = []; fault = None }
 none_again = refl
 
--- the reads that are written are plain, as the laws ask
+-- the reads that are written are plain, as the laws require
 plain_forward : All (IsPlain steps) (forward_reads (filter (both_survive steps) both))
 plain_forward = All-cons (IsPlain steps) (read (codes "p1/1") (codes "ACGT") (codes "#!II")) [] (record { title = refl; no_title = refl; no_plus = refl }) (All-nil (IsPlain steps))
 
@@ -96,7 +96,7 @@ recoded : map (trimmed (Leading 3 ∷ ToPhred33 ∷ [])) (record { encoding = Il
     ≡ read (codes "i") (codes "CG") (codes "I%") ∷ []
 recoded = refl
 
--- Sums of the report: of two reverse reads the step drops one, and the other survives with its
+-- Sums of the report: the step drops one of two reverse reads, and the other survives with its
 -- mate.
 
 dropped : dropped_by steps (tally_of (alone steps) both).reverse.steps ≡ 1 ∷ []
@@ -108,7 +108,7 @@ paired = refl
 before : (tally_of (alone steps) both).reverse.before.reads ≡ 2
 before = refl
 
--- Not read again.
+-- Reads that can't be read again.
 
 -- a cut that leaves @ as the first base
 cut_to_a_mark : fault_behind 1 (records Sanger (record_text (HeadCrop 1 ∷ []) (read (codes "m") (codes "A@C") (codes "III")))) ≡ Some (BadSequence 1)

@@ -18,12 +18,13 @@ use Rattle.fq_laws.specs.InStep.{AreInStep}
 
 -- the files of the outputs hold these texts
 abbrev pub HoldTexts : Asking → Holding → (Out → List ℕ) → Type 0
-HoldTexts a files texts = (out : Out) (name : List ℕ) → output_name a out ≡ Some name → files name ≡ Some (texts out)
+HoldTexts a files texts = (out : Out) (name : List ℕ) →
+    output_name a out ≡ Some name → files name ≡ Some (texts out)
 
 -- At status 0 and 3.
 
--- The files hold the outputs of all pairs of the inputs, and these are in step with the summary
--- that was printed.
+-- The files hold the outputs of all pairs of the inputs, in step with each other and with the
+-- summary that was printed.
 pub record FilesAreInStep (a : Asking) (old new : Holding) (out : Device) : Type 0 where
   pub choices : Choices
   pub forward : List ℕ
@@ -35,17 +36,20 @@ pub record FilesAreInStep (a : Asking) (old new : Holding) (out : Device) : Type
   pub reverse_is : old a.inputs.reverse ≡ Some reverse
   pub printed : TookPart out (summary_of counts)
   pub held : HoldTexts a new texts
-  pub in_step : AreInStep choices.check_names choices.steps choices.encoding (pairs_of choices a.inputs.form forward reverse).mates counts texts
+  pub in_step : AreInStep choices.check_names choices.steps
+      choices.encoding (pairs_of choices a.inputs.form forward reverse).mates counts texts
 
--- so it is of files that tell their bytes, if the names of the files that are made differ
+-- the files are in step, if they tell their bytes and those that are made have different names
 abbrev pub WholeFilesAreInStep : Type 0
-WholeFilesAreInStep = (a : Asking) (told : Bool) (old new : Holding) (out err : Device) (status : ℕ) →
-    PairsAnswered a told old new out err status → (status ≡ 0) ⊎ (status ≡ 3) → IsTrue told → HasDistinctFiles a → FilesAreInStep a old new out
+WholeFilesAreInStep =
+    (a : Asking) (told : Bool) (old new : Holding) (out err : Device) (status : ℕ) →
+    PairsAnswered a told old new out err status →
+    (status ≡ 0) ⊎ (status ≡ 3) → IsTrue told → HasDistinctFiles a → FilesAreInStep a old new out
 
--- At every status but 6.
+-- At every status except 6.
 
--- The files hold the outputs of the first pairs of the inputs, and these are in step. After them
--- there is at most what went out of the one block in which a write failed.
+-- The files hold the outputs of the first pairs of the inputs, in step with each other. After these
+-- there is at most the part that was written of the one block in which a write failed.
 pub record FilesAreInStepUpTo (a : Asking) (old new : Holding) : Type 0 where
   pub choices : Choices
   pub forward : List ℕ
@@ -58,9 +62,13 @@ pub record FilesAreInStepUpTo (a : Asking) (old new : Holding) : Type 0 where
   pub reverse_is : old a.inputs.reverse ≡ Some reverse
   pub first : AreFirst whole (pairs_of choices a.inputs.form forward reverse).mates
   pub held : HoldTexts a new (λ out. texts out ++ part_begun choices.steps fate out)
-  pub in_step : AreInStep choices.check_names choices.steps choices.encoding whole (counts_of choices.steps whole) texts
+  pub in_step : AreInStep choices.check_names
+      choices.steps choices.encoding whole (counts_of choices.steps whole) texts
 
--- so it is, or each file of an output holds what it held before, or nothing
+-- the files are in step for the first pairs, or each file of an output holds what it held before,
+-- or nothing
 abbrev pub FilesLeftAreInStep : Type 0
-FilesLeftAreInStep = (a : Asking) (told : Bool) (old new : Holding) (out err : Device) (status : ℕ) →
-    PairsAnswered a told old new out err status → status ≢ 6 → IsTrue told → HasDistinctFiles a → AreUntrimmed a old new ⊎ FilesAreInStepUpTo a old new
+FilesLeftAreInStep =
+    (a : Asking) (told : Bool) (old new : Holding) (out err : Device) (status : ℕ) →
+    PairsAnswered a told old new out err status → status ≢ 6 →
+    IsTrue told → HasDistinctFiles a → AreUntrimmed a old new ⊎ FilesAreInStepUpTo a old new

@@ -13,25 +13,27 @@ use Rattle.fq_laws.specs.InStep.{AreInStep}
 
 -- the outlets have taken these texts
 abbrev pub HaveTaken : OutletStates → (Out → List ℕ) → Type 0
-HaveTaken outlets texts = (out : Out) (outlet : OutletState) → outlet_at out outlets ≡ Some outlet → outlet.taken ≡ texts out
+HaveTaken outlets texts = (out : Out) (outlet : OutletState) →
+    outlet_at out outlets ≡ Some outlet → outlet.taken ≡ texts out
 
 -- A run that ended whole.
 
--- The outlets have taken the outputs of all pairs, and these are in step with its counts.
+-- The outlets have taken the outputs of all pairs, in step with the counts of the run.
 pub record RunIsInStep (c : Choices) (run : Run) : Type 0 where
   pub texts : Out → List ℕ
   pub taken : HaveTaken run.outlets_left texts
   pub in_step : AreInStep c.check_names c.steps c.encoding (all_pairs c run).mates run.counts texts
 
--- so it is if the outlets tell their bytes and began empty
+-- the outputs are in step, if the outlets tell their bytes and begin empty
 abbrev pub WholeRunsAreInStep : Type 0
-WholeRunsAreInStep = (c : Choices) (run : Run) → IsTrimmed c run → AreEmpty run.outlets → RunIsInStep c run
+WholeRunsAreInStep = (c : Choices) (run : Run) →
+    IsTrimmed c run → AreEmpty run.outlets → RunIsInStep c run
 
--- A run that ended otherwise, but by an unconfirmed lane.
+-- A run with any other ending except an unconfirmed lane.
 
--- The outlets have taken the outputs of the first pairs, those whose block was written whole, and
--- these are in step with its counts. After them there is at most what went out of the one block in
--- which a write failed, and nothing if no write can have failed.
+-- The outlets have taken the outputs of the first pairs, those whose block was written whole, in
+-- step with the counts of the run. After these there is at most the part that was written of the
+-- one block in which a write failed, and nothing if no write can have failed.
 pub record RunIsInStepUpTo (c : Choices) (run : Run) : Type 0 where
   pub whole : List Mates
   pub fate : Fate
@@ -41,6 +43,7 @@ pub record RunIsInStepUpTo (c : Choices) (run : Run) : Type 0 where
   pub unbroken : 5 < rank run.outcome → fate ≡ Unbroken
   pub in_step : AreInStep c.check_names c.steps c.encoding whole run.counts texts
 
--- so it is if the feeds tell their bytes too
+-- the outputs are in step for the first pairs, if the feeds tell their bytes, too
 abbrev pub EndingsAreInStep : Type 0
-EndingsAreInStep = (c : Choices) (run : Run) → EveryEnding c run → AreTold run → AreEmpty run.outlets → RunIsInStepUpTo c run
+EndingsAreInStep = (c : Choices) (run : Run) →
+    EveryEnding c run → AreTold run → AreEmpty run.outlets → RunIsInStepUpTo c run

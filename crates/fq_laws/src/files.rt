@@ -1,17 +1,18 @@
-//! Laws of the program, over files that tell their bytes, if the names of those that are made
-//! differ.
+//! Laws of the files that the program leaves. They hold for files that tell their bytes, if the
+//! files that are made have different names.
 
 ghost use Rattle.fq_laws.specs.Files.{WholeFilesAreInStep, FilesLeftAreInStep};
 
-/// At status 0 and 3 the files of the outputs are in step, with the summary that was printed.
+/// At status 0 and 3 the files of the outputs are in step with each other and with the summary that
+/// was printed.
 ///
-/// The clause `pairs` of [`program`](fq_command::program) gives the premise `PairsAnswered`.
+/// The premise `PairsAnswered` is the clause `pairs` of [`program`](fq_command::program).
 pub fn whole_files_are_in_step()
     ensures { WholeFilesAreInStep }
 {}
 
-/// At every status but 6 each of these files holds what it held before, or nothing, or the same
-/// holds for the first pairs, up to the block in which a write failed.
+/// At every status except 6, each file of an output holds what it held before, or nothing, or the
+/// files of the outputs are in step for the first pairs, up to the block in which a write failed.
 pub fn files_left_are_in_step()
     ensures { FilesLeftAreInStep }
 {}

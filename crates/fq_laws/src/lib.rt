@@ -1,15 +1,15 @@
-//! What a laboratory relies on, as laws: the outputs are read again as they were written, mates are
-//! in step, and sums add up.
+//! What a laboratory relies on, as laws: the outputs can be read again as FASTQ, mates are in step,
+//! and the sums of a report add up.
 //!
-//! Each function of this crate has no parameters and does nothing. Its contract is a law of the
-//! definitions that the contracts of the other crates use, so the law holds for every list of
-//! steps, every text and every run. The laws need no premises but these:
+//! Each function of this crate has no parameters and does nothing. Its contract is a law about the
+//! definitions that the contracts of the other crates use, so it holds for every list of steps,
+//! every text and every run. The laws have only these premises:
 //!
-//! - The title of a read that is written doesn't end in CR, and the first base that is left of it is
-//!   neither `@` nor `+` ([`letters_are_plain`] says that letters are neither).
-//! - Under `TOPHRED33` the outputs are read in Sanger's encoding.
-//! - Outlets tell their bytes and began empty; for endings that aren't whole, feeds tell theirs too.
-//!   Files tell their bytes, and the names of those that are made differ.
+//! - A read can be read again if it is plain: its title doesn't end in CR, and the first base that
+//!   is left of it is neither `@` nor `+` ([`letters_are_plain`]).
+//! - Under `TOPHRED33` the outputs are read in Sanger's encoding (Phred+33).
+//! - Outlets tell their bytes and begin empty. For endings that aren't whole, feeds tell their
+//!   bytes too. Files tell their bytes, and the files that are made have different names.
 #![tactic(auto)]
 
 mod files;

@@ -1,14 +1,14 @@
-//! Laws of the sums of a report.
+//! Laws of the sums in a report.
 
 ghost use Rattle.fq_laws.specs.Reports.{ReadsAreDroppedOnce, ReportsAddUp};
 
-/// On each side of a report the reads that the steps dropped, with those of `paired` and
-/// `unpaired`, add up to those of `before`.
+/// On each side of a report, the reads that the steps dropped and those of `paired` and `unpaired`
+/// add up to those of `before`.
 ///
-/// A read that survives is dropped by no step, and another one by exactly one. `before` has as many
-/// reads as there are pairs, `paired` as many as pairs of which both mates survive, and `unpaired`
-/// as many as reads of the side that survive alone. The pairs must be those of inputs, and as many
-/// as a `u64` can count; a run can't read more.
+/// A read that survives is dropped by no step, and any other read by exactly one. `before` has one
+/// read for each pair, `paired` one for each pair in which both mates survive, and `unpaired` one
+/// for each read of the side that survives alone. The pairs must come from inputs, and a `u64` must
+/// be able to count them; a run can't read more.
 pub fn reports_add_up()
     ensures once { ReadsAreDroppedOnce }
     ensures sums { ReportsAddUp }
