@@ -1,10 +1,12 @@
-//! Calls of the program on files in memory.
+//! `do: call` calls the program on files in memory.
 //!
-//! `call: WORD ..` has the words, `file NAME: TEXT` a file that is there, and `trouble: NAME WHAT` what goes wrong with one: a number (that
-//! read or write of it fails), `refused`, `memory` (it is refused for want of memory) or `input` (it leads to an input). `print fails at: N`
-//! has a write to standard output fail.
+//! `call: WORD ..` gives the arguments, `file NAME: TEXT` a file that exists, and
+//! `trouble: NAME WHAT` what goes wrong with a file: a number (that read or write of the file
+//! fails), `refused`, `memory` (the file is refused because memory was) or `input` (the file leads
+//! to an input). With `print fails at: N`, write N to standard output fails.
 //!
-//! Answers: `status`, `out`, `err`, `printed` (which of the two were written to), and each file by its name.
+//! Answers: `status`, `out`, `err`, `printed` (which of the two were written to), and each file by
+//! its name.
 
 ghost use Rattle.std.specs.Prelude.{◌≡◌, true, false, None};
 
@@ -23,15 +25,15 @@ const NAMES: [&str; 9] = ["f", "r", "i", "fp", "fu", "rp", "ru", "log", "report"
 #[derive(Clone, Copy)]
 enum Trouble {
     Nothing,
-    // A call for it is refused.
+    // The file is refused.
     Refused(FileFault),
-    // This read or write of it fails.
+    // The read or write of this number fails.
     Call(u64),
-    // It leads to an input.
+    // The file leads to an input.
     Input,
 }
 
-// Files in memory, one of which makes trouble.
+// Files in memory; one of them may cause trouble.
 #[derive(Drop)]
 struct TroubledFiles<'a> {
     held: MemoryFiles,
@@ -41,7 +43,7 @@ struct TroubledFiles<'a> {
 }
 
 impl TroubledFiles<'_> {
-    // The call of this file that fails, or 0; or why the file is refused.
+    // Returns the number of the call of this file that fails, or 0; or why the file is refused.
     fn failing_call(&self, name: &str) -> std::result::Result<u64, FileFault> {
         if name != self.name {
             return Ok(0);
@@ -88,12 +90,12 @@ impl Files for TroubledFiles<'_> {
     }
 
     fn done(&mut self, name: &str, target: ScriptOutlet) {
-        // Where memory is refused the file stays empty, and the row fails.
+        // If memory is refused, the file stays empty and the row fails.
         let _ = self.held.put(name, target.bytes());
     }
 }
 
-// The files that a row has.
+// The files of a row.
 fn files_of(alloc: Global, given: &Given<'_>) -> Result<MemoryFiles> {
     let mut files = MemoryFiles::new(alloc);
     for (key, text) in given.lines() {
@@ -104,7 +106,7 @@ fn files_of(alloc: Global, given: &Given<'_>) -> Result<MemoryFiles> {
     Ok(files)
 }
 
-// The file that makes trouble, and which.
+// The file that causes trouble, and the kind of trouble.
 fn trouble_of<'a>(given: &'a Given<'_>) -> Result<(&'a str, Trouble)> {
     let Some((name, what)) = given.text("trouble")?.split_once(' ') else {
         return Ok(("", Trouble::Nothing));
@@ -139,7 +141,8 @@ fn outlet(alloc: Global, fail_at: u64) -> ScriptOutlet
     ScriptOutlet::new(alloc, 1000, fail_at, false)
 }
 
-// Calls the program, and answers what it printed and its status. Where no file makes trouble the files are plain ones.
+// Calls the program, and puts what it printed and its status. If no file causes trouble, the
+// program gets plain `MemoryFiles`.
 fn put_call<R: Threads + Wait + Copy + Send + 'static>(
     rt: &R,
     alloc: Global,
@@ -171,7 +174,7 @@ fn put_printed(answers: &mut Answers, out: &[u8], err: &[u8]) -> Result<()> {
     Ok(())
 }
 
-// Answers what files hold.
+// Puts what the files hold.
 fn put_files(files: &MemoryFiles, answers: &mut Answers) -> Result<()> {
     for name in NAMES {
         answers.put(name, files.get(name).unwrap_or(b"no file"))?;
@@ -179,7 +182,7 @@ fn put_files(files: &MemoryFiles, answers: &mut Answers) -> Result<()> {
     Ok(())
 }
 
-/// Answers a row.
+/// Puts the answers to a `do: call` row.
 pub fn answer<R: Threads + Wait + Copy + Send + 'static>(
     rt: &R,
     alloc: Global,

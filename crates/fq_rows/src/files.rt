@@ -1,9 +1,10 @@
-//! `do: files` puts the file `f`, which holds `text`, among files in memory, and writes `written` to the file `out`. Where `sync` is `yes`
-//! flushes wait from then on.
+//! `do: files` puts the file `f`, which holds `text`, among files in memory, and writes `written`
+//! to the file `out`. With `sync: yes`, flushes wait from then on.
 //!
-//! Answers: `refused`, whether `f` was refused before it was there; `held` and `read`, what it holds, and what a read of it gives; `made`
-//! and `done`, what `out` holds once it is made, and once it is done with; `flushed`, whether a flush of it succeeded; `other`, what a name
-//! holds that is not there.
+//! Answers: `refused`, whether `f` was refused before it existed; `held` and `read`, what it holds,
+//! and what a read of it returns; `made` and `done`, what `out` holds once it is made, and once it
+//! is handed back; `flushed`, whether a flush of it succeeded; `other`, what a name holds that does
+//! not exist.
 
 use anyhow::{Result, bail};
 use fq_files::{FileFault, Files, MemoryFiles};
@@ -11,7 +12,7 @@ use fq_text::{Feed, Outlet, ScriptFeed, send};
 use fq_worked::{Answers, Given};
 use std::alloc::Global;
 
-// What a name holds.
+// Puts what a name holds.
 fn put_held(files: &MemoryFiles, answers: &mut Answers, key: &str, name: &str) -> Result<()> {
     answers.put(key, files.get(name).unwrap_or(b"no file"))?;
     Ok(())
@@ -29,7 +30,7 @@ fn put_read(answers: &mut Answers, mut feed: ScriptFeed) -> Result<()> {
     Ok(())
 }
 
-// Writes to `out`.
+// Makes `out`, writes to it and hands it back, and puts what it held.
 fn put_written(files: &mut MemoryFiles, answers: &mut Answers, written: &[u8]) -> Result<()> {
     let mut target = files.target("out")?;
     put_held(files, answers, "made", "out")?;
@@ -39,7 +40,7 @@ fn put_written(files: &mut MemoryFiles, answers: &mut Answers, written: &[u8]) -
     put_held(files, answers, "done", "out")
 }
 
-/// Answers a row.
+/// Puts the answers to a `do: files` row.
 pub fn answer(alloc: Global, given: &Given<'_>, answers: &mut Answers) -> Result<()> {
     given.allow(&["text", "written", "sync"])?;
     let mut files = MemoryFiles::new(alloc);

@@ -1,11 +1,13 @@
-//! Trims pairs by a run to which memory or a thread may be refused, and judges what the run leaves. `tests/refused_growths.sh`
-//! refuses it each growth and each thread in turn.
+//! Runs on pairs while memory or a thread may be refused, and checks what the run leaves.
+//! `tests/refused_growths.sh` refuses each growth and each thread in turn.
 //!
-//! With the word `threads` the run has two workers, and else it is on one thread. With the word `interleaved` it reads an interleaved
-//! text, which ends with a forward record whose mate is missing; else it reads seven pairs out of two texts. Where the run has left what
-//! it may, `Whole` is printed, or the outcome where it did not end whole and what became of its feeds; else the status is 1.
+//! With the argument `threads` the run has two workers; otherwise it is on one thread. With the
+//! argument `interleaved` it reads one interleaved text, which ends with a forward record whose
+//! mate is missing; otherwise it reads seven pairs from two texts. If what the run leaves is
+//! correct, the program prints `Whole`, or, if the run did not end whole, its outcome and what
+//! became of its feeds. Otherwise the exit status is 1.
 //!
-//! `do: judge` does the same, by the words of `way`. Answer: `whole`, whether the run ended whole.
+//! `do: judge` does so by the words of `way`. Answer: `whole`, whether the run ended whole.
 
 ghost use Rattle.std.specs.Prelude.{◌≡◌, ◌<◌, ◌^◌, false, [], IfSome};
 ghost use Rattle.fq_run.specs.Devices.{outlet_states, AreHealthy};
@@ -29,10 +31,10 @@ use std::thread::Threads;
 
 const BLOCK_PAIRS: usize = 2;
 
-// The most bytes of a read or a write.
+// The most bytes that a read or write call moves.
 const CUT: usize = 5;
 
-/// Which run it is.
+/// The kind of run.
 #[derive(Clone, Copy, Debug)]
 struct Way {
     threads: bool,
@@ -47,15 +49,15 @@ const SERIAL: Way = Way {
 /// What became of the feeds of a run.
 #[derive(Clone, Copy, Debug, PartialEq, Eq)]
 enum Feeds {
-    /// They did not come back.
+    /// The run did not return them.
     Lost,
-    /// They came back, and give all their bytes still.
+    /// The run returned them, and they can still give all their bytes.
     Unread,
-    /// They came back, and give no more than a part of them.
+    /// The run returned them, and they can give only a part of their bytes.
     Read,
 }
 
-/// What a run left beside its outputs.
+/// What a run left, apart from its outputs.
 #[derive(Clone, Copy, Debug)]
 struct Left {
     outcome: Outcome,
@@ -63,7 +65,8 @@ struct Left {
     feeds: Feeds,
 }
 
-// How a run ended, and what became of each feed: of the one of an interleaved text twice.
+// How a run ended, and what became of each feed. An interleaved text has one feed, which is given
+// twice.
 #[derive(Clone, Copy)]
 struct Ended {
     outcome: Outcome,
@@ -72,7 +75,7 @@ struct Ended {
     reverse: Feeds,
 }
 
-// How many bytes a feed gives still.
+// Returns how many bytes a feed can still give.
 fn bytes_left(feed: &mut ScriptFeed) -> usize {
     let mut left = 0usize;
     let mut buf = [0; CUT];
@@ -88,7 +91,7 @@ fn bytes_left(feed: &mut ScriptFeed) -> usize {
     left
 }
 
-// What became of a feed over so many bytes.
+// What became of a feed that had this many bytes.
 fn feed_left(feed: &mut Option<ScriptFeed>, bytes: usize) -> Feeds {
     match feed.as_mut().map(bytes_left) {
         None => Feeds::Lost,
@@ -97,7 +100,7 @@ fn feed_left(feed: &mut Option<ScriptFeed>, bytes: usize) -> Feeds {
     }
 }
 
-// What became of both feeds, which come back together.
+// What became of both feeds. A run returns both or none.
 fn feeds_left(forward: Feeds, reverse: Feeds) -> Result<Feeds> {
     match (forward, reverse) {
         (Feeds::Unread, Feeds::Unread) => Ok(Feeds::Unread),
@@ -149,7 +152,8 @@ fn outlet(alloc: Global) -> FlushedOutlet
 }
 
 fn new_outlets(alloc: Global) -> Outlets<FlushedOutlet>
-    ensures { AreHealthy (outlet_states (λ o. record { tells = false; taken = []; failures = o.failures }) result) }
+    ensures { AreHealthy (outlet_states (λ o.
+        record { tells = false; taken = []; failures = o.failures }) result) }
 {
     Outlets {
         forward_paired: outlet(alloc),
@@ -160,16 +164,17 @@ fn new_outlets(alloc: Global) -> Outlets<FlushedOutlet>
     }
 }
 
-// Outlets that have taken nothing, in a `Box`: they have so many parts that each function that owns them on its stack has a long proof.
-// `None` where memory is refused.
+// Makes empty outlets, in a `Box`: they have many parts, and each function that holds them on its
+// stack has a long proof. `None` if memory is refused.
 fn outlets(alloc: Global) -> Option<Box<Outlets<FlushedOutlet>>>
     ensures { IfSome result (λ outlets. AreHealthy
-        (outlet_states (λ o. record { tells = false; taken = []; failures = o.failures }) outlets.value)) }
+        (outlet_states (λ o. record { tells = false; taken = []; failures = o.failures })
+        outlets.value)) }
 {
     Box::new(alloc, new_outlets(alloc)).ok()
 }
 
-// How often each outlet was flushed.
+// Returns how often each outlet was flushed.
 fn flushes(outlets: &Outlets<FlushedOutlet>, log: &FlushedOutlet) -> [u64; 5] {
     [
         outlets.forward_paired.flushes,
@@ -180,7 +185,7 @@ fn flushes(outlets: &Outlets<FlushedOutlet>, log: &FlushedOutlet) -> [u64; 5] {
     ]
 }
 
-// The front of the seven pairs that the outlets have.
+// Returns the first part of the seven pairs that the outlets have taken.
 fn front(
     outlets: &Outlets<FlushedOutlet>,
     log: &FlushedOutlet,
@@ -211,7 +216,7 @@ fn settings() -> Result<Settings> {
     )?)
 }
 
-// A feed that has given nothing. `None` where memory is refused.
+// Makes a feed over these bytes. `None` if memory is refused.
 fn feed(alloc: Global, bytes: &[u8]) -> Option<ScriptFeed>
     ensures { IfSome result (λ feed. feed.failures ≡ 0) }
 {
@@ -237,7 +242,7 @@ fn ended_mates(ending: &mut Ending<ScriptFeed, ScriptFeed>) -> Ended {
     }
 }
 
-// The run over an interleaved text.
+// Runs over an interleaved text.
 fn end_interleaved<R: Threads + Wait + Copy + Send + 'static>(
     alloc: Global,
     rt: &R,
@@ -248,7 +253,8 @@ fn end_interleaved<R: Threads + Wait + Copy + Send + 'static>(
     outlets: &mut Outlets<FlushedOutlet>,
 ) -> Ended
     requires text { text.failures ≡ 0 }
-    requires outlets { AreHealthy (outlet_states (λ o. record { tells = false; taken = []; failures = o.failures }) outlets.old) }
+    requires outlets { AreHealthy (outlet_states (λ o.
+        record { tells = false; taken = []; failures = o.failures }) outlets.old) }
 {
     let mut ending = if way.threads {
         run_threads_mixed(alloc, rt, settings, gate, text, outlets)
@@ -258,7 +264,7 @@ fn end_interleaved<R: Threads + Wait + Copy + Send + 'static>(
     ended_interleaved(&mut ending)
 }
 
-// That over two texts.
+// Runs over two texts.
 fn end_mates<R: Threads + Wait + Copy + Send + 'static>(
     alloc: Global,
     rt: &R,
@@ -271,7 +277,8 @@ fn end_mates<R: Threads + Wait + Copy + Send + 'static>(
 ) -> Ended
     requires forward { forward.failures ≡ 0 }
     requires reverse { reverse.failures ≡ 0 }
-    requires outlets { AreHealthy (outlet_states (λ o. record { tells = false; taken = []; failures = o.failures }) outlets.old) }
+    requires outlets { AreHealthy (outlet_states (λ o.
+        record { tells = false; taken = []; failures = o.failures }) outlets.old) }
 {
     let mut ending = if way.threads {
         run_threads(alloc, rt, settings, gate, forward, reverse, outlets)
@@ -281,7 +288,7 @@ fn end_mates<R: Threads + Wait + Copy + Send + 'static>(
     ended_mates(&mut ending)
 }
 
-// The run over the text or the texts. `None` where memory was refused before it.
+// Runs over one or two texts. `None` if memory was refused before the run.
 fn end<R: Threads + Wait + Copy + Send + 'static>(
     alloc: Global,
     rt: &R,
@@ -289,7 +296,8 @@ fn end<R: Threads + Wait + Copy + Send + 'static>(
     settings: &Settings,
     outlets: &mut Outlets<FlushedOutlet>,
 ) -> Option<Ended>
-    requires { AreHealthy (outlet_states (λ o. record { tells = false; taken = []; failures = o.failures }) outlets.old) }
+    requires { AreHealthy (outlet_states (λ o.
+        record { tells = false; taken = []; failures = o.failures }) outlets.old) }
 {
     let gate = Arc::new(alloc, OpenGate).ok()?;
     if way.interleaved {
@@ -301,7 +309,7 @@ fn end<R: Threads + Wait + Copy + Send + 'static>(
     Some(end_mates(alloc, rt, way, settings, gate, forward, reverse, outlets))
 }
 
-// What a run left, whose feeds came back together.
+// What a run left. It is an error if only one feed came back.
 fn left_of(ended: Ended) -> Result<Left> {
     Ok(Left {
         outcome: ended.outcome,
@@ -310,14 +318,15 @@ fn left_of(ended: Ended) -> Result<Left> {
     })
 }
 
-// The run, and what it left. An error, or nothing, comes before it.
+// Runs, and returns what the run left. `None` if memory was refused before the run.
 fn run<R: Threads + Wait + Copy + Send + 'static>(
     alloc: Global,
     rt: &R,
     way: Way,
     outlets: &mut Outlets<FlushedOutlet>,
 ) -> Result<Option<Left>>
-    requires { AreHealthy (outlet_states (λ o. record { tells = false; taken = []; failures = o.failures }) outlets.old) }
+    requires { AreHealthy (outlet_states (λ o.
+        record { tells = false; taken = []; failures = o.failures }) outlets.old) }
 {
     let settings = settings()?;
     match end(alloc, rt, way, &settings, outlets) {
@@ -326,7 +335,7 @@ fn run<R: Threads + Wait + Copy + Send + 'static>(
     }
 }
 
-// How a run ends to which no memory was refused, and how many pairs it has then written.
+// How a run ends if no memory is refused, and how many pairs it has written then.
 fn whole(way: Way) -> (Outcome, usize) {
     if way.interleaved {
         let fault = InputFault::MateMissing(Side::Reverse, 6);
@@ -336,8 +345,9 @@ fn whole(way: Way) -> (Outcome, usize) {
     }
 }
 
-// One growth may be refused, or one thread: a growth of an outlet is a failed write, and any other is want of memory, or of a thread.
-// Each outlet is flushed once, but where a write failed or a thread was refused: there none is.
+// At most one growth or one thread was refused. A refused growth of an outlet is a failed write;
+// any other one ends the run with `Memory`, a refused thread with `Spawn`. Each outlet is flushed
+// once, or never if a write failed or a thread was refused.
 fn judge(way: Way, left: Left, front: Front, flushes: [u64; 5]) -> Result<()> {
     let Left { outcome, feeds, .. } = left;
     let expected = match outcome {
@@ -356,7 +366,7 @@ fn judge(way: Way, left: Left, front: Front, flushes: [u64; 5]) -> Result<()> {
     Ok(())
 }
 
-// Judges the outlets, and what else a run left.
+// Checks the outlets and what else a run left.
 fn judge_run(way: Way, left: Left, outlets: &Outlets<FlushedOutlet>) -> Result<()> {
     let Some(log) = &outlets.log else {
         bail!("there is no log")
@@ -367,7 +377,7 @@ fn judge_run(way: Way, left: Left, outlets: &Outlets<FlushedOutlet>) -> Result<(
     }
 }
 
-// Runs and judges. `None` where memory was refused before the run.
+// Runs and checks. `None` if memory was refused before the run.
 fn run_and_judge<R: Threads + Wait + Copy + Send + 'static>(
     alloc: Global,
     rt: &R,
@@ -383,7 +393,7 @@ fn run_and_judge<R: Threads + Wait + Copy + Send + 'static>(
     Ok(Some(left))
 }
 
-// A word of the call.
+// Reads an argument.
 fn take_word(way: &mut Way, word: &str) {
     match word {
         "threads" => way.threads = true,
@@ -392,7 +402,7 @@ fn take_word(way: &mut Way, word: &str) {
     }
 }
 
-// Tells how a run ended that left what it may.
+// Prints how a run ended that left what it should.
 fn tell<R: Print>(rt: &R, way: Way, left: Left) -> Result<()> {
     if left.outcome == whole(way).0 {
         println!(rt; "Whole")?;
@@ -402,7 +412,7 @@ fn tell<R: Print>(rt: &R, way: Way, left: Left) -> Result<()> {
     Ok(())
 }
 
-/// The run of these words, judged and told of.
+/// Runs as these arguments say, checks what the run left, and prints how it ended.
 pub fn judge_words<R: Threads + Wait + Print + Copy + Send + 'static>(
     alloc: Global,
     rt: &R,
@@ -418,13 +428,13 @@ pub fn judge_words<R: Threads + Wait + Print + Copy + Send + 'static>(
     }
 }
 
-/// Says that memory was refused before a run.
+/// Prints that memory was refused before a run.
 pub fn refused<R: Print>(rt: &R) -> Result<()> {
     println!(rt; "Refused before the run")?;
     Ok(())
 }
 
-/// Answers a row.
+/// Puts the answers to a `do: judge` row.
 pub fn answer<R: Threads + Wait + Copy + Send + 'static>(
     rt: &R,
     alloc: Global,

@@ -1,7 +1,9 @@
-//! Answers worked rows, and compares: `fq_rows FILE ..` reads the rows of these files. It prints a line for each row whose answers are not
-//! those that are wanted, and how many rows passed. How rows are written is said in `fq_worked`.
+//! Runs worked rows: `fq_rows FILE ..` reads the rows of these files, computes their answers and
+//! compares them with the expected ones. It prints a line for each row that differs, and how many
+//! rows passed. The format of rows is described in `fq_worked`.
 //!
-//! `fq_rows judge` runs on seven pairs, and judges what the run leaves where memory or a thread is refused to it.
+//! `fq_rows judge` runs on seven pairs, and checks what the run leaves if memory or a thread is
+//! refused.
 #![tactic(auto)]
 
 mod call;
@@ -19,14 +21,14 @@ use std::sync::Wait;
 use std::thread::Threads;
 use std::{env, fs};
 
-// How many rows passed, and how many did not.
+// How many rows passed, and how many failed.
 #[derive(Clone, Copy)]
 struct Score {
     passed: u64,
     failed: u64,
 }
 
-// The answers that a row has.
+// Returns the answers to a row.
 fn answer<R: Threads + Wait + Print + AllocGlobal + Files + Copy + Send + 'static>(
     rt: &R,
     alloc: Global,
@@ -44,7 +46,7 @@ fn answer<R: Threads + Wait + Print + AllocGlobal + Files + Copy + Send + 'stati
     Ok(answers)
 }
 
-// Answers a row once. What differs is said.
+// Runs a row once. Returns what differs, or an empty text.
 fn run_once<R: Threads + Wait + Print + AllocGlobal + Files + Copy + Send + 'static>(
     rt: &R,
     names: &Names<'_>,
@@ -56,7 +58,7 @@ fn run_once<R: Threads + Wait + Print + AllocGlobal + Files + Copy + Send + 'sta
     compare(alloc, &given, &answers)
 }
 
-// The same. What was wrong with the row is said too.
+// Runs a row once. Returns what differs or what is wrong with the row, or an empty text.
 fn said_of<R: Threads + Wait + Print + AllocGlobal + Files + Copy + Send + 'static>(
     rt: &R,
     names: &Names<'_>,
@@ -68,7 +70,7 @@ fn said_of<R: Threads + Wait + Print + AllocGlobal + Files + Copy + Send + 'stat
     }
 }
 
-// Answers a row for each word of its two sweeps. Whether all fitted.
+// Runs a row for each word of its two sweeps. Returns whether all answers were as expected.
 fn run_row<'a, R: Threads + Wait + Print + AllocGlobal + Files + Copy + Send + 'static>(
     rt: &R,
     names: &mut Names<'a>,
@@ -95,7 +97,7 @@ fn run_row<'a, R: Threads + Wait + Print + AllocGlobal + Files + Copy + Send + '
     Ok(fits)
 }
 
-// Answers the rows of a text.
+// Runs the rows of a text.
 fn run_rows<R: Threads + Wait + Print + AllocGlobal + Files + Copy + Send + 'static>(
     rt: &R,
     text: &str,
@@ -114,7 +116,7 @@ fn run_rows<R: Threads + Wait + Print + AllocGlobal + Files + Copy + Send + 'sta
     Ok(())
 }
 
-// Answers the rows of a file.
+// Runs the rows of a file.
 fn run_file<R: Threads + Wait + Print + AllocGlobal + Files + Copy + Send + 'static>(
     rt: &R,
     name: &str,
@@ -124,7 +126,7 @@ fn run_file<R: Threads + Wait + Print + AllocGlobal + Files + Copy + Send + 'sta
     run_rows(rt, &text, score).context(format_args!("in {name}"))
 }
 
-// Answers the rows of files.
+// Runs the rows of files.
 fn run_files<R: Threads + Wait + Print + AllocGlobal + Files + Copy + Send + 'static>(
     rt: &R,
     files: &[String],
@@ -145,7 +147,7 @@ fn run_files<R: Threads + Wait + Print + AllocGlobal + Files + Copy + Send + 'st
     Ok(ExitCode::from(0))
 }
 
-// The words of the call. `None` where memory is refused.
+// Returns the arguments of the call. `None` if memory is refused.
 fn words_of(rt: &HostRuntime) -> Option<Vec<String>> {
     let mut words = Vec::new(rt.alloc());
     for word in env::args(rt).ok()? {

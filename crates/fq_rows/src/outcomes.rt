@@ -1,4 +1,5 @@
-//! `do: outcomes` says how each outcome of a run is told. Answers: for each outcome its exit status, a blank, and its line.
+//! `do: outcomes` shows how each outcome of a run is reported. Answers: for each outcome, its exit
+//! status, a space, and its line.
 
 use anyhow::Result;
 use fq_job::{fault_line, status_of};
@@ -29,7 +30,7 @@ fn put_outcome(alloc: Global, answers: &mut Answers, outcome: Outcome) -> Result
     Ok(())
 }
 
-/// Answers a row.
+/// Puts the answers to a `do: outcomes` row.
 pub fn answer(alloc: Global, given: &Given<'_>, answers: &mut Answers) -> Result<()> {
     given.allow(&[])?;
     for outcome in OUTCOMES {

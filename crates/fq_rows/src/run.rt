@@ -1,11 +1,14 @@
-//! `do: run` runs over the texts `forward` and `reverse`, or over the text `interleaved`, in `encoding`, by `steps`: on one thread where
-//! `workers` is 0, and else on the threads of so many. `block`, `depth`, `chunk` and `max reads` are numbers of the settings; names are
-//! compared, but where `names` is `unchecked`; pairs are counted where `tally` is `yes`. A read or a write moves at most `cut` bytes. The
-//! read of number `fails at read` of the forward or the interleaved text fails, and of an output `fails at write: OUTPUT NUMBER` that write,
-//! or its flush, where `fails at flush` names it.
+//! `do: run` runs over the texts `forward` and `reverse`, or over the text `interleaved`, in
+//! `encoding`, by `steps`. The run is on one thread if `workers` is 0, and otherwise on that many
+//! worker threads. `block`, `depth`, `chunk` and `max reads` are numbers of the settings. Names are
+//! compared unless `names` is `unchecked`; pairs are tallied if `tally` is `yes`. A read or write
+//! call moves at most `cut` bytes. Read call `fails at read` of the forward or the interleaved text
+//! fails. `fails at write: OUTPUT NUMBER` has that write to this output fail, and `fails at flush`
+//! names the output whose flush fails.
 //!
-//! Answers: `outcome`, `counts`, the outputs `fp`, `fu`, `rp`, `ru` and `log`, `intact` (whether each feed came back, and each lane was
-//! confirmed), `tallied`, and what a row of a tally answers.
+//! Answers: `outcome`, `counts`, the outputs `fp`, `fu`, `rp`, `ru` and `log`, `intact` (whether
+//! each feed came back, and each lane was confirmed), `tallied`, and the answers of a `do: tally`
+//! row.
 
 ghost use Rattle.std.specs.Prelude.{◌≡◌, true, [], IfOk};
 ghost use Rattle.fq_run.specs.Devices.{outlet_states, AreHealthy};
@@ -25,8 +28,8 @@ use std::alloc::Global;
 use std::sync::{Arc, Wait};
 use std::thread::Threads;
 
-// What a run left beside its outputs. It is handed on in a `Box`: it has so many parts that each function that owns it on its stack has a
-// long proof.
+// What a run left, apart from its outputs. It is passed on in a `Box`: it has many parts, and each
+// function that holds it on its stack has a long proof.
 #[derive(Drop)]
 struct Left {
     outcome: Outcome,
@@ -54,7 +57,7 @@ fn settings_of(alloc: Global, given: &Given<'_>, workers: u64) -> Result<Setting
     Ok(settings)
 }
 
-// The most bytes that a read or a write moves.
+// The most bytes that a read or write call moves.
 fn cut_of(given: &Given<'_>) -> Result<usize> {
     Ok(given.number("cut", 1000)? as usize)
 }
@@ -69,7 +72,7 @@ fn feed(alloc: Global, given: &Given<'_>, key: &str, fail_at: u64) -> Result<Scr
     Ok(ScriptFeed::new(alloc, given.bytes(key), cut, fail_at)?)
 }
 
-// The write of this output that fails, or 0.
+// The number of the write to this output that fails, or 0.
 fn failing_write(given: &Given<'_>, key: &str) -> Result<u64> {
     match given.text("fails at write")?.split_once(' ') {
         Some((name, number)) if name == key => Ok(number.parse::<u64>().context("a number")?),
@@ -91,7 +94,8 @@ fn outlet(alloc: Global, given: &Given<'_>, key: &str) -> Result<ScriptOutlet>
 
 fn outlets_of(alloc: Global, given: &Given<'_>) -> Result<Outlets<ScriptOutlet>>
     ensures { IfOk result (λ outlets. AreHealthy
-        (outlet_states (λ o. record { tells = true; taken = o.bytes; failures = o.failures }) outlets)) }
+        (outlet_states (λ o. record { tells = true; taken = o.bytes; failures = o.failures })
+        outlets)) }
 {
     Ok(Outlets {
         forward_paired: outlet(alloc, given, "fp")?,
@@ -102,10 +106,11 @@ fn outlets_of(alloc: Global, given: &Given<'_>) -> Result<Outlets<ScriptOutlet>>
     })
 }
 
-// The same, in a `Box`.
+// Makes the outlets, in a `Box` (see `Left`).
 fn boxed_outlets(alloc: Global, given: &Given<'_>) -> Result<Box<Outlets<ScriptOutlet>>>
     ensures { IfOk result (λ outlets. AreHealthy
-        (outlet_states (λ o. record { tells = true; taken = o.bytes; failures = o.failures }) outlets.value)) }
+        (outlet_states (λ o. record { tells = true; taken = o.bytes; failures = o.failures })
+        outlets.value)) }
 {
     Ok(Box::new(alloc, outlets_of(alloc, given)?)?)
 }
@@ -142,7 +147,8 @@ fn run_apart<R: Threads + Wait + Copy + Send + 'static>(
 ) -> Result<Ending<ScriptFeed, ScriptFeed>>
     requires forward { forward.failures ≡ 0 }
     requires reverse { reverse.failures ≡ 0 }
-    requires outlets { AreHealthy (outlet_states (λ o. record { tells = true; taken = o.bytes; failures = o.failures }) outlets.old) }
+    requires outlets { AreHealthy (outlet_states (λ o.
+        record { tells = true; taken = o.bytes; failures = o.failures }) outlets.old) }
 {
     if threads {
         let gate = Arc::new(alloc, OpenGate)?;
@@ -160,7 +166,8 @@ fn run_mixed<R: Threads + Wait + Copy + Send + 'static>(
     outlets: &mut Outlets<ScriptOutlet>,
 ) -> Result<MixedEnding<ScriptFeed>>
     requires text { text.failures ≡ 0 }
-    requires outlets { AreHealthy (outlet_states (λ o. record { tells = true; taken = o.bytes; failures = o.failures }) outlets.old) }
+    requires outlets { AreHealthy (outlet_states (λ o.
+        record { tells = true; taken = o.bytes; failures = o.failures }) outlets.old) }
 {
     if threads {
         let gate = Arc::new(alloc, OpenGate)?;
@@ -169,14 +176,15 @@ fn run_mixed<R: Threads + Wait + Copy + Send + 'static>(
     Ok(run_serial_mixed(alloc, settings, text, outlets))
 }
 
-// The run of a row.
+// Runs as a row says.
 fn run<R: Threads + Wait + Copy + Send + 'static>(
     rt: &R,
     alloc: Global,
     given: &Given<'_>,
     outlets: &mut Outlets<ScriptOutlet>,
 ) -> Result<Box<Left>>
-    requires { AreHealthy (outlet_states (λ o. record { tells = true; taken = o.bytes; failures = o.failures }) outlets.old) }
+    requires { AreHealthy (outlet_states (λ o.
+        record { tells = true; taken = o.bytes; failures = o.failures }) outlets.old) }
 {
     let workers = given.number("workers", 0)?;
     let settings = settings_of(alloc, given, workers.max(1))?;
@@ -220,7 +228,7 @@ fn put_outlets(answers: &mut Answers, outlets: &Outlets<ScriptOutlet>) -> Result
     Ok(())
 }
 
-/// Answers a row.
+/// Puts the answers to a `do: run` row.
 pub fn answer<R: Threads + Wait + Copy + Send + 'static>(
     rt: &R,
     alloc: Global,
