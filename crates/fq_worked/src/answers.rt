@@ -1,4 +1,4 @@
-//! What is answered of a row, and what was wanted.
+//! The answers to a row, and their comparison with the expected ones.
 
 use crate::row::Given;
 use anyhow::Result;
@@ -14,7 +14,7 @@ pub struct Answers {
 }
 
 impl Answers {
-    /// No answers.
+    /// Makes an empty list of answers.
     pub fn new(alloc: Global) -> Answers {
         Answers {
             lines: Vec::new(alloc),
@@ -30,13 +30,13 @@ impl Answers {
         Ok(())
     }
 
-    /// Adds an answer of yes or no.
+    /// Adds the answer `yes` or `no`.
     pub fn put_yes(&mut self, key: &str, yes: bool) -> Result<(), AllocError> {
         let said: &[u8] = if yes { b"yes" } else { b"no" };
         self.put(key, said)
     }
 
-    // The answer of this key.
+    // Returns the answer with this key.
     fn get(&self, key: &str) -> Option<&[u8]> {
         for (known, bytes) in self.lines.iter() {
             if known.as_str() == key {
@@ -47,7 +47,8 @@ impl Answers {
     }
 }
 
-/// Compares answers with those that are wanted, of which there has to be one. Says what differs.
+/// Compares the answers with the expected ones, of which there must be at least one. Returns what
+/// differs, or an empty text.
 pub fn compare(alloc: Global, given: &Given<'_>, answers: &Answers) -> Result<String> {
     let mut said = String::new(alloc);
     let mut wanted = 0u64;
@@ -66,7 +67,7 @@ pub fn compare(alloc: Global, given: &Given<'_>, answers: &Answers) -> Result<St
     Ok(said)
 }
 
-// Says where an answer is not what is wanted, or has no such part.
+// Appends a note if an answer is missing, is not the expected one, or lacks the expected part.
 fn compare_one(
     said: &mut String,
     key: &str,
@@ -94,7 +95,7 @@ fn compare_one(
     Ok(())
 }
 
-// The bytes as a text, or what stands for bytes that are none.
+// The bytes as text, or a note if they are not UTF-8.
 fn shown(bytes: &[u8]) -> &str {
     str::from_utf8(bytes).unwrap_or("bytes that are no text")
 }

@@ -1,8 +1,10 @@
-//! `do: block` pushes the first `pairs` pairs of the texts `forward` and `reverse` into a block of the number `number`, in `encoding`. Where
-//! there is a line `reset`, the block is first given all pairs and then reset to that number; where `lent` is `yes` the first pair is lent
-//! out of the block, and pushed into another, which is answered.
+//! `do: block` pushes the first `pairs` pairs of the texts `forward` and `reverse` into a block
+//! with the number `number`, in `encoding`. With a line `reset`, all pairs are pushed first, and
+//! the block is then reset to that number. With `lent: yes`, the first pair of the block is lent to
+//! another block, whose answers are put.
 //!
-//! Answers: `number`, `encoding`, `length`, `empty`, `bytes` (the packed pairs, byte by byte), `reads`, each as `(title|sequence|quality)`.
+//! Answers: `number`, `encoding`, `length`, `empty`, `bytes` (the packed pairs, byte by byte),
+//! `reads`, each as `(title|sequence|quality)`.
 
 use crate::answers::Answers;
 use crate::encoding_in;
@@ -23,7 +25,7 @@ fn push(block: &mut Block, pair: &Pair) -> Result<()> {
     Ok(())
 }
 
-// Pushes the pairs of two texts, as many as there are, up to `most`.
+// Pushes the pairs of two texts, at most `most` of them.
 fn push_pairs(
     alloc: Global,
     block: &mut Block,
@@ -54,7 +56,7 @@ fn push_row(alloc: Global, block: &mut Block, given: &Given<'_>, most: u64) -> R
     )
 }
 
-// Pushes a pair that is lent by another block.
+// Pushes a pair that another block lends.
 fn push_lent(block: &mut Block, pair: &PairView<'_>) -> Result<()> {
     let encoding = block.encoding();
     if pair.forward.encoding() != encoding
@@ -101,7 +103,7 @@ fn put_block(alloc: Global, answers: &mut Answers, block: &Block) -> Result<()> 
     Ok(())
 }
 
-// Answers with a block that gets the first pair of another.
+// Pushes the first pair of one block into another, and puts the answers for that one.
 fn put_first(alloc: Global, answers: &mut Answers, other: &mut Block, block: &Block) -> Result<()> {
     if block.is_empty() {
         bail!("no pair");
@@ -115,7 +117,7 @@ fn put_lent(alloc: Global, answers: &mut Answers, block: &Block) -> Result<()> {
     put_first(alloc, answers, &mut other, block)
 }
 
-// Pushes what the row says into a block, and answers.
+// Pushes the pairs of the row into a block, and puts the answers.
 fn fill(alloc: Global, given: &Given<'_>, answers: &mut Answers, block: &mut Block) -> Result<()> {
     if given.find("reset").is_some() {
         push_row(alloc, block, given, 100)?;
@@ -128,7 +130,7 @@ fn fill(alloc: Global, given: &Given<'_>, answers: &mut Answers, block: &mut Blo
     put_block(alloc, answers, block)
 }
 
-/// Answers a row of a block.
+/// Puts the answers to a `do: block` row.
 pub fn answer(alloc: Global, given: &Given<'_>, answers: &mut Answers) -> Result<()> {
     given.allow(&[
         "forward", "reverse", "encoding", "number", "pairs", "reset", "lent",

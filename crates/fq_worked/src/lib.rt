@@ -1,5 +1,7 @@
-//! Worked rows: how a file of them is written, and what the crates below make of each. The program `fq_rows` reads the files, has each row
-//! answered, and compares. A row is data, so it costs no proof: what is proved once is what answers it.
+//! Worked rows: the format of their files, and the answers of the crates below to each row. The
+//! program `fq_rows` reads the files, computes the answers and compares them with the expected
+//! ones. A row is data, so it costs no proof: only the code that computes its answers is proved,
+//! once.
 #![tactic(auto)]
 
 mod answers;
@@ -26,7 +28,7 @@ pub use row::{Given, Row, read_block};
 use std::alloc::{AllocError, Global};
 pub use tallies::put_tally;
 
-/// Answers a row that this word stands for.
+/// Puts the answers to a row with `do: WORD`. It is an error if no function here handles the word.
 pub fn answer(alloc: Global, word: &str, given: &Given<'_>, answers: &mut Answers) -> Result<()> {
     match word {
         "read" => reads::answer(alloc, given, answers),
@@ -48,7 +50,7 @@ pub fn answer(alloc: Global, word: &str, given: &Given<'_>, answers: &mut Answer
     }
 }
 
-/// The encoding of a row: Sanger's, where it names none.
+/// Returns the encoding of a row: Sanger's (Phred+33) if the row names none.
 pub fn encoding_in(given: &Given<'_>) -> Result<Encoding> {
     match given.text("encoding")? {
         "" => Ok(Encoding::Sanger),
@@ -56,7 +58,7 @@ pub fn encoding_in(given: &Given<'_>) -> Result<Encoding> {
     }
 }
 
-/// The words of a text, which are parted by blanks.
+/// Returns the words of a text, which are separated by single spaces.
 pub fn words_of<'a>(alloc: Global, text: &'a str) -> Result<Vec<&'a str>, AllocError> {
     if text.is_empty() {
         return Ok(Vec::new(alloc));

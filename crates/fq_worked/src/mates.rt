@@ -1,9 +1,10 @@
-//! `do: mates` takes the titles `forward` and `reverse`. Answers: `forward` and `reverse`, the names in them; `match`, whether mates with
-//! these titles have one name.
+//! `do: mates` takes the titles `forward` and `reverse`. Answers: `forward` and `reverse`, the
+//! names in them; `match`, whether mates with these titles have one name.
 //!
 //! `do: printed` prints values. Answers: `outs`, `sides`, `text`, `missing` and `names`.
 //!
-//! `do: sum` adds the counts `first` and `second`, five numbers each in the order of a summary. Answer: `sum`.
+//! `do: sum` adds the counts `first` and `second`, five numbers each in the order of a summary.
+//! Answer: `sum`.
 
 use crate::answers::Answers;
 use crate::row::Given;
@@ -13,7 +14,7 @@ use fq_text::TextFault;
 use std::alloc::Global;
 use std::fmt::Write;
 
-/// Answers a row of titles.
+/// Puts the answers to a `do: mates` row.
 pub fn answer(_alloc: Global, given: &Given<'_>, answers: &mut Answers) -> Result<()> {
     given.allow(&["forward", "reverse"])?;
     let (forward, reverse) = (given.bytes("forward"), given.bytes("reverse"));
@@ -36,7 +37,7 @@ fn put_fault(alloc: Global, answers: &mut Answers, key: &str, fault: InputFault)
     Ok(())
 }
 
-/// Answers a row of printed values.
+/// Puts the answers to a `do: printed` row.
 pub fn answer_printed(alloc: Global, given: &Given<'_>, answers: &mut Answers) -> Result<()> {
     given.allow(&[])?;
     let mut outs = String::new(alloc);
@@ -61,12 +62,12 @@ pub fn answer_printed(alloc: Global, given: &Given<'_>, answers: &mut Answers) -
     put_fault(alloc, answers, "names", InputFault::NamesDiffer(3))
 }
 
-// The number at a place, or 0.
+// Returns the number at a place, or 0 if there is none.
 fn number_at(numbers: &[u64], place: usize) -> u64 {
     numbers.get(place).copied().unwrap_or(0)
 }
 
-/// Counts, as they are written in a row.
+/// Reads counts as a row writes them.
 pub fn counts_of(alloc: Global, text: &str) -> Result<Counts> {
     let mut numbers = Vec::new(alloc);
     for word in text.split(' ') {
@@ -81,7 +82,7 @@ pub fn counts_of(alloc: Global, text: &str) -> Result<Counts> {
     })
 }
 
-/// Answers with counts.
+/// Puts counts as an answer.
 pub fn put_counts(alloc: Global, answers: &mut Answers, key: &str, counts: Counts) -> Result<()> {
     let Counts {
         pairs,
@@ -95,7 +96,7 @@ pub fn put_counts(alloc: Global, answers: &mut Answers, key: &str, counts: Count
     Ok(())
 }
 
-/// Answers a row of counts.
+/// Puts the answers to a `do: sum` row.
 pub fn answer_sum(alloc: Global, given: &Given<'_>, answers: &mut Answers) -> Result<()> {
     given.allow(&["first", "second"])?;
     let first = counts_of(alloc, given.text("first")?)?;

@@ -1,39 +1,40 @@
-//! The texts of rows: how odd bytes are written, and texts that have names.
+//! The texts of rows: how special bytes are written, and texts that have names.
 //!
-//! `\n`, `\r` and `\t` are LF, CR and a tab, and `\{92}` is the byte of that number, here a backslash. `\<two>` is the text of the name
-//! `two`, `\(3 two)` that text three times, and `\[5 two]` its first five bytes. Where such a number is a name, the text of that name is
-//! the number.
+//! `\n`, `\r` and `\t` are LF, CR and a tab, and `\{92}` is the byte with that number, here a
+//! backslash. `\<two>` is the text with the name `two`, `\(3 two)` is that text three times, and
+//! `\[5 two]` its first five bytes. If a name is given in place of such a number, the text with
+//! that name is the number.
 
 use anyhow::{Context, Result, bail};
 use std::alloc::Global;
 use std::str;
 
-/// Texts that have names. Of two with one name the later one counts.
+/// Texts that have names. If two have one name, the later one counts.
 #[derive(Drop)]
 pub struct Names<'a> {
     texts: Vec<(&'a str, Vec<u8>)>,
 }
 
 impl<'a> Names<'a> {
-    /// No names.
+    /// Makes an empty list of names.
     pub fn new(alloc: Global) -> Names<'a> {
         Names {
             texts: Vec::new(alloc),
         }
     }
 
-    /// Gives a text its name.
+    /// Gives a text a name.
     pub fn put(&mut self, name: &'a str, text: Vec<u8>) -> Result<()> {
         self.texts.push((name, text))?;
         Ok(())
     }
 
-    /// Takes away the name that was given last.
+    /// Removes the name that was given last.
     pub fn pop(&mut self) {
         self.texts.pop();
     }
 
-    // The text of a name.
+    // Returns the text with this name.
     fn get(&self, name: &str) -> Result<&[u8]> {
         for (known, text) in self.texts.iter().rev() {
             if *known == name {
@@ -43,7 +44,7 @@ impl<'a> Names<'a> {
         bail!("no text has the name {name:?}")
     }
 
-    // The number that is written, or that the text of this name is.
+    // Reads a number, or takes the text with this name as the number.
     fn number(&self, word: &str) -> Result<usize> {
         if let Ok(number) = word.parse::<usize>() {
             return Ok(number);
@@ -52,7 +53,7 @@ impl<'a> Names<'a> {
     }
 }
 
-/// The bytes that a text of a row stands for.
+/// Decodes a text of a row into bytes.
 pub fn decode(alloc: Global, names: &Names<'_>, text: &str) -> Result<Vec<u8>> {
     let mut out = Vec::new(alloc);
     for (place, part) in text.split('\\').enumerate() {
@@ -65,7 +66,7 @@ pub fn decode(alloc: Global, names: &Names<'_>, text: &str) -> Result<Vec<u8>> {
     Ok(out)
 }
 
-// Appends what stands for itself behind a backslash and what comes then.
+// Appends what a part after a backslash stands for, then the rest of the part.
 fn put_escaped(out: &mut Vec<u8>, names: &Names<'_>, part: &str) -> Result<()> {
     let behind = if let Some(behind) = part.strip_prefix('n') {
         out.push(b'\n')?;
@@ -95,12 +96,12 @@ fn put_escaped(out: &mut Vec<u8>, names: &Names<'_>, part: &str) -> Result<()> {
     Ok(())
 }
 
-// What stands between these, at the front, and what comes then.
+// Splits off the text between these two characters at the start. Returns that text and the rest.
 fn within(part: &str, open: char, close: char) -> Option<(&str, &str)> {
     part.strip_prefix(open)?.split_once(close)
 }
 
-// Appends the text of a name as often as is said.
+// Appends the named text the given number of times.
 fn put_times(out: &mut Vec<u8>, names: &Names<'_>, said: &str) -> Result<()> {
     let (times, name) = said.split_once(' ').context("a number and a name")?;
     let text = names.get(name)?;
@@ -110,7 +111,7 @@ fn put_times(out: &mut Vec<u8>, names: &Names<'_>, said: &str) -> Result<()> {
     Ok(())
 }
 
-// Appends as many bytes of the text of a name as is said.
+// Appends the given number of bytes from the start of the named text.
 fn put_front(out: &mut Vec<u8>, names: &Names<'_>, said: &str) -> Result<()> {
     let (bytes, name) = said.split_once(' ').context("a number and a name")?;
     let front = names.get(name)?.get(..names.number(bytes)?);

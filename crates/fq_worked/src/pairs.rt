@@ -1,10 +1,13 @@
-//! `do: pairs` reads pairs out of the texts `forward` and `reverse`, or out of the text `interleaved`, in `encoding`, by reads of at most
-//! `chunk` bytes, of which there may be `max reads`. The reads of the numbers `fails at read` (of the forward or the interleaved text) and
-//! `reverse fails at read` fail. Names are compared, but where `names` is `unchecked`; pairs are lent where `form` is `lent`, and given
-//! else; they are trimmed by `steps`.
+//! `do: pairs` reads pairs from the texts `forward` and `reverse`, or from the text `interleaved`,
+//! in `encoding`, by at most `max reads` read calls of at most `chunk` bytes. Read call
+//! `fails at read` (of the forward or the interleaved text) and read call `reverse fails at read`
+//! fail. Names are compared unless `names` is `unchecked`. Pairs are lent if `form` is `lent`, and
+//! owned otherwise. They are trimmed by `steps`.
 //!
-//! Answers: `titles`, the two titles of each pair as a line; `end`, which is what comes behind the pairs, again and again; the outputs `fp`,
-//! `fu`, `rp`, `ru` and `log`; `counts`; `number`, that of the pairs; `summary`; `failures`, how often each feed failed; `cleared`, all this once it is cleared.
+//! Answers: `titles`, a line with the two titles of each pair; `end`, what the source returns after
+//! the pairs, each time it is asked; the outputs `fp`, `fu`, `rp`, `ru` and `log`; `counts`;
+//! `number`, the number of pairs; `summary`; `failures`, how often each feed failed; `cleared`, the
+//! counts after the texts are cleared.
 
 ghost use Rattle.std.specs.Prelude.{◌≡◌, ◌<◌, ◌≤◌, ◌^◌, true, Ok, IfOk, IsSome};
 ghost use Rattle.fq_pair.specs.PairSources.{IsUnasked};
@@ -27,8 +30,8 @@ const LONG: u64 = 1 << 40;
 // Whether a pair came, or the fault.
 type Came = std::result::Result<bool, InputFault>;
 
-// What is written of pairs. Functions hand it on in a `Box`, and sources too: these have so many parts that each function that owns one on
-// its stack has a long proof.
+// What is written for pairs. It is passed on in a `Box`, as sources are: these have many parts, and
+// each function that holds one on its stack has a long proof.
 #[derive(Drop)]
 struct Left {
     texts: Texts,
@@ -57,7 +60,7 @@ fn source_of(
     }
 }
 
-// The pairs of two texts.
+// Makes a source of the pairs of two texts.
 fn pairs_of(
     alloc: Global,
     given: &Given<'_>,
@@ -71,7 +74,7 @@ fn pairs_of(
     Ok(Box::new(alloc, PairSource::new(forward, reverse, names))?)
 }
 
-// The pairs of an interleaved text.
+// Makes a source of the pairs of an interleaved text.
 fn mixed_of(
     alloc: Global,
     given: &Given<'_>,
@@ -84,7 +87,7 @@ fn mixed_of(
     Ok(Box::new(alloc, MixedSource::new(source, names))?)
 }
 
-// Adds a pair to what is written.
+// Adds what is written for a pair.
 fn add(left: &mut Left, pair: PairView<'_>, steps: &Steps) -> Result<()> {
     left.titles.extend_from_slice(pair.forward.title())?;
     left.titles.push(b' ')?;
@@ -126,7 +129,7 @@ fn add_lent<S: PairReader>(pairs: &mut S, left: &mut Left, steps: &Steps) -> Res
     Ok(came)
 }
 
-// Adds the next pair, where there is one.
+// Adds the next pair, if there is one.
 fn add_next<S: PairReader>(
     pairs: &mut S,
     left: &mut Left,
@@ -140,7 +143,8 @@ fn add_next<S: PairReader>(
     }
 }
 
-// Adds the pairs. What comes behind them stays.
+// Adds the pairs. Returns what comes after them; it is an error if the source does not return that
+// each time.
 fn add_all<S: PairReader>(
     pairs: &mut S,
     left: &mut Left,
@@ -158,7 +162,7 @@ fn add_all<S: PairReader>(
     Ok(last)
 }
 
-// The pairs of two texts are added: what comes behind them, and how often the feeds failed.
+// Adds the pairs of two texts. Returns what comes after them, and how often each feed failed.
 fn add_apart(
     alloc: Global,
     given: &Given<'_>,
@@ -173,7 +177,8 @@ fn add_apart(
     Ok((came, forward.failures(), reverse.failures()))
 }
 
-// The same of an interleaved text.
+// Adds the pairs of an interleaved text. Returns what comes after them, and how often the feed
+// failed.
 fn add_mixed(
     alloc: Global,
     given: &Given<'_>,
@@ -219,7 +224,7 @@ fn put_texts(alloc: Global, answers: &mut Answers, texts: &Texts) -> Result<()> 
     Ok(())
 }
 
-// All texts once they are cleared, and their counts.
+// Clears the texts, and puts their counts.
 fn put_cleared(alloc: Global, answers: &mut Answers, texts: &mut Texts) -> Result<()> {
     texts.clear();
     for (_, out) in OUTPUTS {
@@ -230,7 +235,7 @@ fn put_cleared(alloc: Global, answers: &mut Answers, texts: &mut Texts) -> Resul
     put_counts(alloc, answers, "cleared", texts.counts())
 }
 
-/// Answers a row of pairs.
+/// Puts the answers to a `do: pairs` row.
 pub fn answer(alloc: Global, given: &Given<'_>, answers: &mut Answers) -> Result<()> {
     given.allow(&[
         "forward",

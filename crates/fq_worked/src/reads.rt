@@ -1,11 +1,13 @@
-//! `do: read` reads the records of `text`, in `encoding`, by reads of at most `chunk` bytes, of which there may be `max reads`; the read of
-//! number `fails at read` fails. Its records are lent where `form` is `lent`, and given else.
+//! `do: read` reads the records of `text`, in `encoding`, by at most `max reads` read calls of at
+//! most `chunk` bytes. Read call `fails at read` fails. The records are lent if `form` is `lent`,
+//! and owned otherwise.
 //!
-//! Answers: `records`, each as `(title|sequence|quality)`; `end`, which is what comes then, again and again; `reads`, how many reads were
-//! made behind each of these; `failures`, how often the feed failed.
+//! Answers: `records`, each as `(title|sequence|quality)`; `end`, what the source returns after the
+//! records, each time it is asked; `reads`, the number of read calls made after each of these;
+//! `failures`, how often the feed failed.
 //!
-//! `do: copy` lends the first record of `text`, copies it, and goes on to the second. Answers: `kept`, the copy in memory that was there,
-//! and `copy`.
+//! `do: copy` copies the first record of `text`, which is lent, and goes on to the second. Answers:
+//! `kept`, the copy into a record that exists already, and `copy`, the copy into a new one.
 
 ghost use Rattle.std.specs.Prelude.{◌≡◌, ◌<◌, ◌≤◌, ◌^◌, false, [], IfOk};
 
@@ -19,7 +21,7 @@ use std::fmt::Write;
 
 const LONG: u64 = 1 << 40;
 
-/// A feed that counts its reads.
+/// A feed that counts its read calls.
 #[derive(Drop)]
 struct Counting {
     feed: ScriptFeed,
@@ -47,7 +49,7 @@ fn feed_of(alloc: Global, given: &Given<'_>) -> Result<Counting>
     Ok(Counting { feed, reads: 0 })
 }
 
-// The source of a row.
+// Makes the source of a row.
 fn source_of(alloc: Global, given: &Given<'_>) -> Result<Source<Counting>> {
     let chunk = given.number("chunk", 1000)? as usize;
     let max_reads = given.number("max reads", LONG)?;
@@ -94,7 +96,7 @@ fn put_lent(records: &mut Vec<u8>, source: &mut Source<Counting>) -> Result<Came
     Ok(came)
 }
 
-// Appends the next record, where there is one.
+// Appends the next record, if there is one.
 fn put_next(records: &mut Vec<u8>, source: &mut Source<Counting>, lent: bool) -> Result<Came> {
     if lent {
         put_lent(records, source)
@@ -103,7 +105,8 @@ fn put_next(records: &mut Vec<u8>, source: &mut Source<Counting>, lent: bool) ->
     }
 }
 
-// Appends the records and what comes behind them, and how many reads were made behind each.
+// Appends the records, and after each of them and after the end the number of read calls so far.
+// Returns what comes after the records.
 fn put_records(
     records: &mut Vec<u8>,
     reads: &mut String,
@@ -120,7 +123,8 @@ fn put_records(
     bail!("more than 100 records")
 }
 
-// What comes behind the records, which stays.
+// Appends the records. It is an error if the source does not return what comes after them each
+// time.
 fn put_all(
     records: &mut Vec<u8>,
     reads: &mut String,
@@ -136,12 +140,12 @@ fn put_all(
     Ok(last)
 }
 
-// How often the feed of a source failed, which it says in the source and out of it.
+// How often the feed of a source failed, asked within the source and after it is taken out.
 fn failures(source: Source<Counting>) -> (u64, u64) {
     (source.feed().failures(), source.into_feed().failures())
 }
 
-// Answers with the records of a source.
+// Puts the records of a source.
 fn put_source(
     alloc: Global,
     answers: &mut Answers,
@@ -159,7 +163,7 @@ fn put_source(
     Ok(())
 }
 
-/// Answers a row of records.
+/// Puts the answers to a `do: read` row.
 pub fn answer(alloc: Global, given: &Given<'_>, answers: &mut Answers) -> Result<()> {
     given.allow(&[
         "text",
@@ -186,7 +190,7 @@ fn kept_copy(alloc: Global, read: &ReadView<'_>) -> Result<FastqRecord> {
     Ok(kept)
 }
 
-// Two copies of the record that is lent next: one into memory that is there, and one into its own.
+// Makes two copies of the next record: one into a record that exists already, one into a new one.
 fn copies(alloc: Global, source: &mut Source<Counting>) -> Result<(FastqRecord, FastqRecord)> {
     let Ok(true) = source.advance() else {
         bail!("no record")
@@ -222,7 +226,7 @@ fn copy_first(alloc: Global, answers: &mut Answers, source: &mut Source<Counting
     put_copies(alloc, answers, &kept, &copy)
 }
 
-/// Answers a row of copies.
+/// Puts the answers to a `do: copy` row.
 pub fn answer_copies(alloc: Global, given: &Given<'_>, answers: &mut Answers) -> Result<()> {
     given.allow(&["text", "encoding"])?;
     let mut source = source_of(alloc, given)?;

@@ -1,6 +1,7 @@
-//! `do: report` reports pairs, which are given as in a row of a tally, with `counts` (five numbers, in the order of a summary) and
-//! `version`. Where there is a line `interleaved` it names the one input, there is no log, and names are not compared; `fault` says what was
-//! told of a fault. Answer: `report`.
+//! `do: report` reports pairs, which are given as in a `do: tally` row, with `counts` (five
+//! numbers, in the order of a summary) and `version`. With a line `interleaved`, that is the name
+//! of the one input, there is no log, and names are not compared. `fault` is the reported fault.
+//! Answer: `report`.
 
 use crate::answers::Answers;
 use crate::mates::counts_of;
@@ -17,7 +18,7 @@ fn text_of(alloc: Global, report: &Report<'_>) -> Result<String> {
     Ok(report_text(alloc, report)?)
 }
 
-/// Answers a row of a report.
+/// Puts the answers to a `do: report` row.
 pub fn answer(alloc: Global, given: &Given<'_>, answers: &mut Answers) -> Result<()> {
     given.allow(&[
         "steps",

@@ -2,29 +2,31 @@
 //!
 //! A line that begins with `#` is a comment. Each other line is a key, `: ` and a text:
 //!
-//! - `let NAME: TEXT` gives a text its name, for the rest of the file.
+//! - `let NAME: TEXT` gives a text a name, for the rest of the file.
 //! - `row: TEXT` says in plain words what the row is about.
-//! - `each NAME: WORD WORD ..` has the row answered once for each word, which is the text of that name then. There may be two.
-//! - `do: WORD` says who answers.
-//! - `= KEY: TEXT` is an answer that is wanted, and `~ KEY: TEXT` a part of one.
-//! - What other lines say is for whoever answers.
+//! - `each NAME: WORD WORD ..` runs the row once for each word, with that word as the text of the
+//!   name. There may be two such lines.
+//! - `do: WORD` selects the function that computes the answers.
+//! - `= KEY: TEXT` is an expected answer, and `~ KEY: TEXT` an expected part of one.
+//! - Other lines are inputs of that function.
 
 use crate::names::{Names, decode};
 use anyhow::{Context, Result, bail};
 use std::alloc::Global;
 use std::str;
 
-/// A row as it is written.
+/// A row as it is written in its file.
 #[derive(Drop)]
 pub struct Row<'a> {
-    /// What it is about.
+    /// What the row is about.
     pub name: &'a str,
     sweeps: Vec<(&'a str, &'a str)>,
     lines: Vec<(&'a str, &'a str)>,
 }
 
 impl<'a> Row<'a> {
-    /// The name and the words of a sweep of this row. Without one there is one word, of no name.
+    /// Returns the name and the words of a sweep of this row, counted from 0. If there is no such
+    /// sweep, it is one word, and its name is empty.
     pub fn sweep(&self, place: usize) -> (&'a str, &'a str) {
         match self.sweeps.get(place) {
             Some(sweep) => *sweep,
@@ -33,7 +35,7 @@ impl<'a> Row<'a> {
     }
 }
 
-/// Reads a block of lines: gives texts their names, and answers the row, if there is one.
+/// Reads a block of lines: gives texts their names, and returns the row, if there is one.
 pub fn read_block<'a>(
     alloc: Global,
     names: &mut Names<'a>,
@@ -55,7 +57,7 @@ pub fn read_block<'a>(
     Ok(Some(row))
 }
 
-// Reads a line that is no comment.
+// Reads a line that is not a comment.
 fn read_line<'a>(
     alloc: Global,
     names: &mut Names<'a>,
@@ -76,7 +78,7 @@ fn read_line<'a>(
     Ok(())
 }
 
-// The key and the text of a line.
+// Splits a line into its key and its text.
 fn parts_of(line: &str) -> Result<(&str, &str)> {
     if let Some(parts) = line.split_once(": ") {
         return Ok(parts);
@@ -87,14 +89,14 @@ fn parts_of(line: &str) -> Result<(&str, &str)> {
     }
 }
 
-/// What a row says: the texts of its lines, as they stand for bytes.
+/// What a row says: the texts of its lines, decoded to bytes.
 #[derive(Drop)]
 pub struct Given<'a> {
     lines: Vec<(&'a str, Vec<u8>)>,
 }
 
 impl<'a> Given<'a> {
-    /// What this row says.
+    /// Decodes the lines of a row.
     pub fn new(alloc: Global, names: &Names<'_>, row: &Row<'a>) -> Result<Given<'a>> {
         let mut lines = Vec::new(alloc);
         for (key, text) in row.lines.iter() {
@@ -103,12 +105,12 @@ impl<'a> Given<'a> {
         Ok(Given { lines })
     }
 
-    /// Its lines.
+    /// Returns the keys and bytes of all lines.
     pub fn lines(&self) -> &[(&'a str, Vec<u8>)] {
         &self.lines
     }
 
-    /// The bytes of the first line with this key, or `None`.
+    /// Returns the bytes of the first line with this key.
     pub fn find(&self, key: &str) -> Option<&[u8]> {
         for (known, text) in self.lines.iter() {
             if *known == key {
@@ -118,17 +120,17 @@ impl<'a> Given<'a> {
         None
     }
 
-    /// The bytes of this key, which are none where there is no such line.
+    /// Returns the bytes of this key, or none if there is no such line.
     pub fn bytes(&self, key: &str) -> &[u8] {
         self.find(key).unwrap_or(&[])
     }
 
-    /// The text of this key, which is empty where there is no such line.
+    /// Returns the text of this key, or an empty text if there is no such line.
     pub fn text(&self, key: &str) -> Result<&str> {
         Ok(str::from_utf8(self.bytes(key))?)
     }
 
-    /// The number of this key, or another where there is no such line.
+    /// Returns the number of this key, or `absent` if there is no such line.
     pub fn number(&self, key: &str, absent: u64) -> Result<u64> {
         match self.find(key) {
             Some(bytes) => Ok(str::from_utf8(bytes)?.parse::<u64>().context("a number")?),
@@ -136,7 +138,8 @@ impl<'a> Given<'a> {
         }
     }
 
-    /// Each line has one of these keys, or is about an answer that is wanted.
+    /// Refuses a row that has a line with another key. `do` and expected answers are always
+    /// allowed.
     pub fn allow(&self, keys: &[&str]) -> Result<()> {
         for (key, _) in self.lines.iter() {
             if !is_allowed(keys, key) {
@@ -147,7 +150,7 @@ impl<'a> Given<'a> {
     }
 }
 
-// Whether a line with this key may stand in a row, of whose keys these are read.
+// Whether a row may have a line with this key, if these keys are read.
 fn is_allowed(keys: &[&str], key: &str) -> bool {
     if key == "do" || key.starts_with("= ") || key.starts_with("~ ") {
         return true;

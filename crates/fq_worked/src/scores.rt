@@ -1,9 +1,11 @@
-//! `do: score` judges the quality bytes `qual` in `encoding`, and the read of `title`, `seq` and `qual`. Answers: `scores`, one for each
-//! byte; `all`, whether each has one; `phred`, the same scores where each has one; `written`, these at offset 33; `lawful`, whether a FASTQ
-//! text can hold the read.
+//! `do: score` judges the quality bytes `qual` in `encoding`, and the read of `title`, `seq` and
+//! `qual`. Answers: `scores`, one for each byte; `all`, whether each byte has a score; `phred`, the
+//! scores if each byte has one; `written`, these at offset 33; `lawful`, whether a FASTQ text can
+//! hold the read.
 //!
-//! `do: write` writes records behind the text `before`. Each is a line `record: RECODED|TITLE|SEQUENCE|QUALITY`, whose qualities are
-//! recoded from that encoding, or written as they are where it has no name. Answer: `text`.
+//! `do: write` writes records after the text `before`. Each is a line
+//! `record: RECODED|TITLE|SEQUENCE|QUALITY`. The quality bytes are recoded from the encoding that
+//! is named, or written as they are if none is named. Answer: `text`.
 
 use crate::answers::Answers;
 use crate::encoding_in;
@@ -15,7 +17,7 @@ use std::alloc::Global;
 use std::fmt::Write;
 use std::str;
 
-// The Phred score of a byte that has one.
+// Returns the Phred score of a byte that has one.
 fn phred_of(encoding: Encoding, byte: u8) -> Result<u8> {
     if !encoding.all_scored(&[byte]) {
         bail!("a byte without a score");
@@ -23,7 +25,7 @@ fn phred_of(encoding: Encoding, byte: u8) -> Result<u8> {
     Ok(encoding.phred(byte))
 }
 
-// The byte of a score at offset 33.
+// Returns the quality byte of a score at offset 33.
 fn byte_of(score: u8) -> Result<u8> {
     if score > 93 {
         bail!("a score that is too high");
@@ -57,7 +59,7 @@ fn put_scores(encoding: Encoding, qual: &[u8], scores: &mut String) -> Result<()
     Ok(())
 }
 
-/// Answers a row of scores.
+/// Puts the answers to a `do: score` row.
 pub fn answer(alloc: Global, given: &Given<'_>, answers: &mut Answers) -> Result<()> {
     given.allow(&["encoding", "title", "seq", "qual"])?;
     let encoding = encoding_in(given)?;
@@ -113,7 +115,7 @@ fn put_line(out: &mut Vec<u8>, line: &str) -> Result<()> {
     }
 }
 
-/// Answers a row of records that are written.
+/// Puts the answers to a `do: write` row.
 pub fn answer_written(alloc: Global, given: &Given<'_>, answers: &mut Answers) -> Result<()> {
     given.allow(&["before", "record"])?;
     let mut out = Vec::from_slice(alloc, given.bytes("before"))?;

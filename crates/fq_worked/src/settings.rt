@@ -1,5 +1,5 @@
-//! `do: settings` makes settings with six numbers: `workers`, `block`, `depth`, `chunk`, `max reads` and `gate turns`. Answer: `bad`, which
-//! of them is out of range.
+//! `do: settings` makes settings with six numbers: `workers`, `block`, `depth`, `chunk`,
+//! `max reads` and `gate turns`. Answer: `bad`, the first of them that is out of range.
 
 use crate::answers::Answers;
 use crate::row::Given;
@@ -9,7 +9,7 @@ use fq_text::Encoding;
 use fq_trim::Steps;
 use std::alloc::Global;
 
-// The first of the numbers that is out of range.
+// Returns the first of the numbers that is out of range.
 fn bad(given: &Given<'_>) -> Result<Option<BadSetting>> {
     let steps = Steps::parse(&["LEADING:3"])?;
     Ok(Settings::new(
@@ -26,7 +26,7 @@ fn bad(given: &Given<'_>) -> Result<Option<BadSetting>> {
     .err())
 }
 
-/// Answers a row of settings.
+/// Puts the answers to a `do: settings` row.
 pub fn answer(alloc: Global, given: &Given<'_>, answers: &mut Answers) -> Result<()> {
     given.allow(&[
         "workers",

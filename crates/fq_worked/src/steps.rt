@@ -1,8 +1,9 @@
-//! `do: trim` trims a read of the quality bytes `qual`, in `encoding`, by the words of `steps`. Answer: `kept`, the place of the first base
-//! that stays, from 0, and that behind the last.
+//! `do: trim` trims a read with the quality bytes `qual`, in `encoding`, by the arguments `steps`.
+//! Answer: `kept`, the place of the first base that is kept, counted from 0, and the place after
+//! the last one.
 //!
-//! `do: steps` reads `words`. Answers: `fault`, `place` and `kind` where there is one, and else `steps`, `number`, `recodes` (whether they
-//! recode qualities).
+//! `do: steps` reads the arguments `words`. Answers: `fault` and `place` if there is a fault, and
+//! otherwise `steps`, `number` and `recodes` (whether they recode qualities).
 
 use crate::answers::Answers;
 use crate::row::Given;
@@ -12,13 +13,14 @@ use fq_text::Encoding;
 use fq_trim::Steps;
 use std::alloc::Global;
 
-/// The steps of a row.
+/// Returns the steps of a row.
 pub fn steps_in(alloc: Global, given: &Given<'_>) -> Result<Steps> {
     let words = words_of(alloc, given.text("steps")?)?;
     Ok(Steps::parse(&words)?)
 }
 
-// What the steps keep of a read.
+// Returns what the steps keep of a read: the place of its first base, and the place after its last
+// one.
 fn kept(steps: &Steps, encoding: Encoding, qual: &[u8]) -> Result<Option<(usize, usize)>> {
     if !encoding.all_scored(qual) {
         bail!("a byte without a score");
@@ -30,7 +32,7 @@ fn kept(steps: &Steps, encoding: Encoding, qual: &[u8]) -> Result<Option<(usize,
     )
 }
 
-/// Answers a row of a read.
+/// Puts the answers to a `do: trim` row.
 pub fn answer(alloc: Global, given: &Given<'_>, answers: &mut Answers) -> Result<()> {
     given.allow(&["steps", "encoding", "qual"])?;
     let steps = steps_in(alloc, given)?;
@@ -53,7 +55,7 @@ fn put_steps(alloc: Global, steps: &Steps, answers: &mut Answers) -> Result<()> 
     Ok(())
 }
 
-/// Answers a row of words.
+/// Puts the answers to a `do: steps` row.
 pub fn answer_parsed(alloc: Global, given: &Given<'_>, answers: &mut Answers) -> Result<()> {
     given.allow(&["words"])?;
     let words = words_of(alloc, given.text("words")?)?;

@@ -1,6 +1,8 @@
-//! `do: words` reads `words`, of which the first is the program's name. Answers: `kind` and `text` where they are refused, as `clap` has
-//! them, and else what they ask for: `threads`, `block`, `depth`, `chunk`, `encoding`, `names` (whether they are compared), `sync`, `log`,
-//! `report`, `steps`, `same name` (the output that has the name of an input) and `report is input`.
+//! `do: words` reads the arguments `words`, the first of which is the program's name. Answers:
+//! `kind` and `text` of `clap`'s error if the arguments are refused, and otherwise what they ask
+//! for: `threads`, `block`, `depth`, `chunk`, `encoding`, `names` (whether they are compared),
+//! `sync`, `log`, `report`, `steps`, `same name` (the output that has the name of an input) and
+//! `report is input`.
 
 use crate::answers::Answers;
 use crate::row::Given;
@@ -31,7 +33,7 @@ fn put_request(alloc: Global, answers: &mut Answers, request: &Request<'_>) -> R
     Ok(())
 }
 
-/// Answers a row of words.
+/// Puts the answers to a `do: words` row.
 pub fn answer(alloc: Global, given: &Given<'_>, answers: &mut Answers) -> Result<()> {
     given.allow(&["words"])?;
     let words = words_of(alloc, given.text("words")?)?;
