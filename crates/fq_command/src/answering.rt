@@ -63,12 +63,9 @@ pub fn program<'a, R: Threads + Wait + Copy + Send + 'static, T: Files, O: Outle
     ensures wrong { (a : Asking) → AskedFor (map (λ word. word.now) words.entry.now) (Some a)
         → IsSome (wrong_with a) → files.new ≡ files.old }
 
-    // At status 4 the line names a file or device that was indeed refused or has failed. At 0 and 3
-    // no device of the files has failed.
-    ensures device { (a : Asking) → AskedFor (map (λ word. word.now) words.entry.now) (Some a)
-        → result ≡ 4
-        → NamesDevice a (T.tells_bytes files.old)
-        (T.bytes_of files.old) (T.refuses files.old) (T.has_failed files.new)
+    // At status 4 the line names what was refused or has failed, and that was or has. At 0 and 3 no device of the files has failed.
+    ensures device { (a : Asking) → AskedFor (map (λ word. word.now) words.entry.now) (Some a) → result ≡ 4
+        → NamesDevice a (T.tells_bytes files.old) (T.bytes_of files.old) (T.refuses files.old) (T.has_failed files.new)
         (device_of O.state out.old out.new) (device_of E.state err.old err.new) }
     ensures sound { (result ≡ 0) ⊎ (result ≡ 3) → T.has_failed files.new ≡ T.has_failed files.old }
 

@@ -102,8 +102,7 @@ pub(crate) fn store<T: Files>(request: &Request<'_>, files: &mut T, outlets: Out
     ensures names { IsTrue (T.tells_bytes files.old)
         → KeepsNames (T.bytes_of files.old) (T.bytes_of files.new) }
     ensures told { T.tells_bytes files.new ≡ T.tells_bytes files.old }
-    ensures counted { AreCounted (asking_of request.now)
-        (outlet_states T.Target.state outlets) 5 (T.has_failed files.old) (T.has_failed files.new) }
+    ensures counted { AreCounted (asking_of request.now) (outlet_states T.Target.state outlets) 5 (T.has_failed files.old) (T.has_failed files.new) }
 {
     let Outlets {
         forward_paired,
@@ -140,8 +139,7 @@ fn store_one<T: Files>(request: &Request<'_>, files: &mut T, out: Out, outlet: T
     ensures counted { (start : Failed) (states : OutletStates)
         → outlet_at out states ≡ Some (T.Target.state outlet)
         → AreCounted (asking_of request.now) states (place out) start (T.has_failed files.old)
-        → AreCounted (asking_of request.now)
-        states (suc (place out)) start (T.has_failed files.new) }
+        → AreCounted (asking_of request.now) states (suc (place out)) start (T.has_failed files.new) }
 {
     files.done(request.output_name(out), outlet);
 }
