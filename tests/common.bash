@@ -1,6 +1,7 @@
 # shellcheck shell=bash disable=SC2034  # what is set here is for the script that reads this file
-# What the scripts of this folder share. Each begins by `. "$(dirname "$0")/common.bash"`, which goes to the root
-# of the repository. `--help` as the first argument then prints the comment at the head of the script.
+# What the scripts of this directory share. Each begins with `. "$(dirname "$0")/common.bash"`,
+# which goes to the root of the repository. With `--help` as the first argument, it then prints the
+# comment at the head of the script.
 if [ -n "${FQ_PROG-}" ]; then FQ_PROG=$(realpath -- "$FQ_PROG"); fi
 cd "$(dirname "${BASH_SOURCE[0]}")/.." || exit 1
 tree=$PWD
@@ -19,13 +20,14 @@ fail() {
   failed=1
 }
 
-# skip WHY: ends the script as one that was skipped.
+# skip WHY: ends the script as skipped.
 skip() {
   echo "$this: skipped: $1"
   exit 77
 }
 
-# need COMMAND[:PACKAGE]..: ends the script as skipped if a command is missing, and names Debian's packages.
+# need COMMAND[:PACKAGE]..: ends the script as skipped if a command is missing, and names Debian's
+# packages.
 need() {
   local each missing=''
   for each in "$@"; do
@@ -34,18 +36,21 @@ need() {
   [ -z "$missing" ] || skip "needs $(printf '%s' "$missing" | sort -u | paste -sd' ')"
 }
 
-# find_program: sets `program` to that of FQ_PROG, or to that of this tree, which is built if it isn't new.
+# find_program: sets `program` to the one of FQ_PROG, or to the one of this tree, which is built
+# unless it is up to date.
 find_program() {
   program=${FQ_PROG:-$tree/crates/fq_prog/out/fq_prog}
   if [ -z "${FQ_PROG-}" ]; then make -s build > /dev/null || exit 1; fi
 }
 
-# need_proved PROGRAM..: ends the script as skipped unless these programs, which only a gate leaves, are there and new.
+# need_proved PROGRAM..: ends the script as skipped unless these programs, which only a gate leaves,
+# exist and are up to date.
 need_proved() {
   make -q "$@" 2> /dev/null || skip "needs $(printf '%s ' "${@##*/}")as the gate leaves it (make gate)"
 }
 
-# compile_library SOURCE LIBRARY: a library to load before others, made by cc, or else by the kit's compiler.
+# compile_library SOURCE LIBRARY: compiles a library for LD_PRELOAD, with cc or otherwise the kit's
+# compiler.
 compile_library() {
   local compiler=${CC:-cc}
   command -v "$compiler" > /dev/null || compiler=$(dirname "$(rt doc)")/toolchain/bin/clang
@@ -55,7 +60,8 @@ compile_library() {
   fi
 }
 
-# draw_lane LANE SEED PAIRS: the reads of a lane in LANE_1.fq and LANE_2.fq, 40 to 99 bases each, the last of them poor.
+# draw_lane LANE SEED PAIRS: the reads of a lane in LANE_1.fq and LANE_2.fq, with 40 to 99 bases
+# each, the last of them poor.
 draw_lane() {
   awk -v lane="$1" -v seed="$2" -v pairs="$3" 'BEGIN { srand(seed)
     for (k = 1; k <= pairs; k++) for (side = 1; side <= 2; side++) { s = ""; q = ""

@@ -1,8 +1,10 @@
 #!/usr/bin/env bash
-# What bash, zsh and fish offer at a line of fq_prog, tibzharuk, trim_gz and tibzharuk-gz: the options that help names, what each of
-# them takes, and after each of them with its value the files and the steps at their places. bash and zsh are asked as a user asks,
-# on a terminal. `completion.sh SHARE` asks what is installed in the folder SHARE, else the files of this tree are laid out in one.
-# A shell that isn't installed is named as skipped. Status 77 if python3 is missing.
+# What bash, zsh and fish offer for a command line of fq_prog, tibzharuk, trim_gz and tibzharuk-gz:
+# the options that the help names, the values of each option, and after each option with its value
+# the files and the steps at their places. bash and zsh are asked on a terminal, as a user asks.
+# `completion.sh SHARE` tests what is installed in the directory SHARE; otherwise the files of this
+# tree are laid out in a new one.
+# A shell that isn't installed is reported as skipped. Status 77 if python3 is missing.
 set -uo pipefail
 . "$(dirname "$0")/common.bash"
 need python3
@@ -23,10 +25,11 @@ lay_out() {
   install -D -m 644 "completions/_$1" "$share/zsh/site-functions/_$1"
 }
 
-# The options that fq_prog COMMAND --help names, as --trimlog FILE, or as --sync if they take no value.
+# The options that fq_prog COMMAND --help names, as --trimlog FILE, or as --sync if they take no
+# value.
 options_of_program() { "$program" "$1" --help | sed -nE 's/^ *(-[a-zA-Z], )?(--[a-z][a-z-]*)( <([A-Z]+)>)?( .*)?$/\2 \4/p' | sort -u; }
 
-# The same of trim_gz: its own, and those that go to the program.
+# The options of trim_gz: its own, and those that it passes to the program.
 options_of_script() {
   {
     "$tree/contrib/trim_gz" --help | sed -nE "s/^    (-[-0-9a-z]+( [A-Z']+)?(, -[-0-9a-z]+( [A-Z']+)?)*)  .*/\1/p" | sed "s/, /\n/g; s/'//g"
@@ -34,10 +37,10 @@ options_of_script() {
   } | awk '!seen[$1]++ { print $1, $2 }'
 }
 
-# want WORDS LINE: at the end of this line just these words are offered
+# want WORDS LINE: at the end of this line exactly these words are offered
 want() { printf '%s\t%s\n' "$2" "$1" >> "$work/wanted"; }
 
-# words_for OPTION VALUE: what is offered in the place of its value
+# words_for OPTION VALUE: what is offered as the option's value
 words_for() {
   case $1,$2 in
     --encoding,*) echo "$encodings" ;;
@@ -79,7 +82,7 @@ want_script() {
   done < <(options_of_script)
 }
 
-# in_fish < LINES: as typed.py does it for the other shells; fish tells without a terminal
+# in_fish < LINES: as typed.py does for the other shells; fish lists its offers without a terminal
 # shellcheck disable=SC2016,SC2317  # the variables are those of fish, and `compare` calls it
 in_fish() {
   HOME=$work/home XDG_DATA_DIRS=$share XDG_CONFIG_HOME=$work/home fish --private -c '
@@ -88,7 +91,7 @@ in_fish() {
     end'
 }
 
-# Short forms are left out. Those shells that complete a value after = repeat the option before it.
+# Short forms are left out. Shells that complete a value after = repeat the option before it.
 sorted() {
   awk -F '\t' '{ n = split($2, words, " "); printf "%s\t", $1
     for (k = 1; k <= n; k++) { w = words[k]; if (w !~ /^-[a-zA-Z0-9]$/) print w | "sort -u | paste -sd \" \"" }
@@ -109,7 +112,7 @@ compare() {
 $(head -n 6 "$work/difference")"
 }
 
-# check SHELL COMMAND..: compares, if the shell is installed, whose package has its name
+# check SHELL COMMAND..: compares, if the shell is installed; its package has its name
 check() {
   if command -v "$1" > /dev/null; then
     compare "$@"

@@ -1,8 +1,10 @@
 #!/usr/bin/env bash
-# The container image of packaging/Containerfile, on a Debian 12 of mmdebstrap: buildah builds it twice with the same bytes, and
-# trim_gz in it makes of compressed reads what the program here makes of the plain texts, run by buildah, and by Charliecloud from the
-# unpacked archive. Then the package on a fresh Debian 12 of its own: its manual pages are found, and bash completes its commands.
-# FQ_PROG is the program, crates/fq_prog/out/fq_prog if not set. Status 77, and 'skipped', if a package, root or the network is missing.
+# The container image of packaging/Containerfile, on a Debian 12 made by mmdebstrap. buildah builds
+# it twice with the same bytes. trim_gz in the image, run by buildah, and by Charliecloud from the
+# unpacked archive, makes of compressed reads what the program here makes of the plain texts. Then
+# the package on a fresh Debian 12: its manual pages are found, and bash completes its commands.
+# FQ_PROG is the program, crates/fq_prog/out/fq_prog if not set. Status 77, and 'skipped', if a
+# package, root or the network is missing.
 set -uo pipefail
 . "$(dirname "$0")/common.bash"
 need buildah mmdebstrap dpkg-deb:dpkg cc:gcc python3
@@ -31,7 +33,7 @@ draw_reads() {
   (cd "$work/direct" && "$program" PE ../1.fq ../2.fq p1.fq u1.fq p2.fq u2.fq "${steps[@]}" > summary) || fail 'the program'
 }
 
-# same_as_direct NAME: the outputs in the folder NAME are those of the direct call
+# same_as_direct NAME: the outputs in the directory NAME are those of the direct call
 same_as_direct() {
   local part
   for part in p1 u1 p2 u2; do
@@ -41,7 +43,7 @@ same_as_direct() {
   grep -q '"outcome":"finished"' "$work/$1/r.json" || fail "$1: the report is not that of a whole run"
 }
 
-# build_twice: two archives of the package on one base, made apart
+# build_twice: two archives of the package on one base, built separately
 build_twice() {
   local each
   for each in first second; do
@@ -81,7 +83,8 @@ run_by_buildah() {
   rm -rf "$work/images" "$work/run"
 }
 
-# As a user of Charliecloud unpacks it: the image has one layer, which is the largest file of the archive.
+# As a user of Charliecloud unpacks the image: it has one layer, which is the largest file of the
+# archive.
 run_by_charliecloud() {
   if ! command -v ch-run > /dev/null; then
     echo 'container: ch-run: skipped: needs charliecloud'
@@ -98,7 +101,8 @@ run_by_charliecloud() {
   rm -rf "$work/oci" "$work/root"
 }
 
-# The package alone, with man and bash's own completion, on a Debian 12 that leaves no document out.
+# The package by itself, with man and bash's own completion, on a Debian 12 that keeps all
+# documents.
 on_a_fresh_debian() {
   local root=$work/fresh name
   mkdir "$root"

@@ -1,7 +1,9 @@
 #!/usr/bin/env bash
-# The description of trim_gz for engines of the Common Workflow Language, run by cwltool: two lanes of a sample, each output compared
-# with what the program makes of the plain texts, and a damaged input, which ends as permanentFail and leaves nothing.
-# FQ_PROG is the program, crates/fq_prog/out/fq_prog if not set. Status 77, and 'skipped', if a package is missing.
+# The description of trim_gz for engines of the Common Workflow Language, run by cwltool: two lanes
+# of a sample, with each output compared with what the program makes of the plain texts, and a
+# damaged input, which ends as permanentFail and leaves nothing.
+# FQ_PROG is the program, crates/fq_prog/out/fq_prog if not set. Status 77, and 'skipped', if a
+# package is missing.
 set -uo pipefail
 . "$(dirname "$0")/common.bash"
 need cwltool python3
@@ -22,7 +24,8 @@ job() {
   printf 'threads: 2\nlevel: 1\nsteps: [%s]\n' "$(printf '"%s",' "${steps[@]}")"
 }
 
-# run NAME STATUS: cwltool on NAME.yaml, with the outputs in the folder NAME; a status of 0, or another one
+# run NAME STATUS: cwltool on NAME.yaml, with the outputs in the directory NAME; STATUS is 0, or any
+# other number for a failure
 run() {
   local got
   timeout 300 cwltool --outdir "$1" "$tree/workflow/cwl/trim_gz.cwl" "$1.yaml" > "$1.out" 2> "$1.err"

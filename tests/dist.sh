@@ -1,8 +1,9 @@
 #!/usr/bin/env bash
-# The files of a release: the tarball and the Debian package of `make dist` run as they are, by themselves, and are what they
-# say; and what `make install` puts somewhere `make uninstall` takes away. Each has every command under both of its names, with its
-# manual page and its completion. A part that lacks a Debian package prints 'skipped' and which. If nothing can be packed at all the
-# status is 77.
+# The files of a release. The tarball and the Debian package of `make dist` run without anything
+# else installed, and contain what they say. `make uninstall` removes what `make install` has
+# installed. Each has every command under both of its names, with its manual page and its
+# completion. A part that lacks a Debian package prints 'skipped' and the package's name. If nothing
+# can be packed, the status is 77.
 set -uo pipefail
 . "$(dirname "$0")/common.bash"
 dynamic=$tree/crates/fq_prog/out/fq_prog
@@ -22,7 +23,7 @@ program=$release/bin/fq_prog
 commands=(fq_prog:tibzharuk trim_gz:tibzharuk-gz)
 if [ -e contrib/report_to_html ]; then commands+=(report_to_html:tibzharuk-report); fi
 
-# run_example NAME WORDS..: the words run the program, which prints its stored example
+# run_example NAME WORDS..: these words run the program, which prints the stored example
 run_example() {
   local name=$1
   shift
@@ -30,7 +31,7 @@ run_example() {
     fail "$name prints another EXAMPLE: $(cat "$work/difference" "$work/err")"
 }
 
-# Each file to which a document below this folder leads is there.
+# Each file that a document below this directory links to exists.
 check_links() {
   local document link
   while IFS= read -r document; do
@@ -40,7 +41,8 @@ check_links() {
   done < <(find "$1" -name '*.md')
 }
 
-# installed_files: what is installed of each command, below the folder of the installation; of the scripts those in share/tibzharuk too
+# installed_files: what is installed for each command, below the directory of the installation; for
+# the scripts, those in share/tibzharuk too
 installed_files() {
   local command name second file
   for command in "${commands[@]}"; do
@@ -53,7 +55,8 @@ installed_files() {
   done
 }
 
-# check_commands FOLDER: each command answers there under both names, and its page is found under both
+# check_commands FOLDER: each command runs there under both names, and its manual page is found
+# under both
 check_commands() {
   local command name
   for command in "${commands[@]}"; do
@@ -69,7 +72,7 @@ check_commands() {
   [ "$(PATH=$1/bin:$PATH tibzharuk-gz --version)" = "fq_prog $version" ] || fail "tibzharuk-gz below $1 has another version"
 }
 
-# The tarball, in an empty folder, with no word of the environment.
+# The tarball, in an empty directory, with an empty environment.
 check_tarball() {
   local file
   (cd dist && sha256sum --quiet -c SHA256SUMS) || fail 'the sums of dist/ are not those of its files'
@@ -98,7 +101,7 @@ check_version() {
   [ "$(dpkg-deb -f "$package" Maintainer)" = "${DEBFULLNAME:-Tibzharuk maintainers} <${DEBEMAIL:-root@localhost}>" ] || fail 'the package names another maintainer'
 }
 
-# The program names neither a library nor a loader, and runs where there is no other file.
+# The program needs no library and no loader, and runs in a root with no other file.
 check_alone() {
   if objdump -p "$program" | grep -E 'NEEDED|INTERP'; then fail 'the program of the tarball needs a library'; fi
   ldd "$program" 2>&1 | grep -qE 'statically linked|not a dynamic executable' || fail 'ldd finds libraries'
@@ -111,7 +114,7 @@ check_alone() {
   fi
 }
 
-# It writes the bytes that the dynamic program writes, on many threads too.
+# It writes the bytes that the dynamic program writes, with many threads too.
 check_same_bytes() {
   local form runs
   awk 'BEGIN { srand(7); for (k = 1; k <= 4000; k++) { s = ""; q = ""; n = 30 + int(rand() * 90);
@@ -155,7 +158,8 @@ check_package() {
   if find "$root" -path "$root/var/lib/dpkg" -prune -o ! -type d -print | grep .; then fail 'the removed package leaves files'; fi
 }
 
-# Packing again, elsewhere and with other habits of the shell, makes the same bytes; and whoever has the tarball can link again.
+# Packing again, in another directory and with other settings of the shell, makes the same bytes.
+# With the tarball one can link the program again.
 check_again() {
   mkdir "$work/again"
   cp -r dist/fq_prog dist/objects "$work/again"
@@ -164,7 +168,8 @@ check_again() {
   cmp "$work/relinked" "$program" || fail 'linking again makes another program'
 }
 
-# A processor without SSE4.2 is refused in one line, before anything is done; the least that has it is enough.
+# A processor without SSE4.2 is refused in one line, before anything is done. The oldest processor
+# with SSE4.2 is enough.
 check_processors() {
   local form status
   if ! command -v qemu-x86_64 > /dev/null; then
@@ -181,7 +186,7 @@ check_processors() {
   run_example 'the program on the least processor' qemu-x86_64 -cpu Nehalem "$program"
 }
 
-# The scripts that are packed with the program answer where they are.
+# The scripts that are packed with the program run where they are.
 check_scripts() {
   local script
   for script in "$release"/contrib/*; do
@@ -191,7 +196,7 @@ check_scripts() {
   done
 }
 
-# What is installed runs, and is taken away to the last file; another's file stays.
+# What is installed runs, and all of its files are removed again; other files stay.
 check_install() {
   local stage=$work/stage
   install -D -m 644 README.md "$stage/usr/bin/other"

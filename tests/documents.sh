@@ -1,11 +1,14 @@
 #!/usr/bin/env bash
 # The documents say what the program and the code say.
 # - Help, README.md, docs/FORMAT.md and the manual page name the same steps, options and statuses.
-# - The first run of README.md prints and writes what it shows, and the program of docs/LIBRARY.md runs.
-# - docs/ARCHITECTURE.md lists the crates and what they depend on as crates.txt does, and each name in docs/PROVED.md is in the code.
-# - Each file, and each heading, that a document leads to is there.
-# - Every line of a document, outside tables and code, is at most 100 columns wide (DOCUMENTS_WIDTH sets another width, 0 none), and no
-#   sentence there has more than 40 words. Lines of code that are wider are counted, and fail nothing.
+# - The first run of README.md prints and writes what it shows, and the program of docs/LIBRARY.md
+#   runs.
+# - docs/ARCHITECTURE.md lists the crates and what they depend on as crates.txt does, and each name
+#   in docs/PROVED.md is in the code.
+# - Each file, and each heading, that a document links to exists.
+# - Every line of a document, outside tables and code, is at most 100 columns wide (DOCUMENTS_WIDTH
+#   sets another width, 0 none), and no sentence there has more than 40 words. Lines of code that
+#   are wider are counted, and fail nothing.
 set -uo pipefail
 . "$(dirname "$0")/common.bash"
 width=${DOCUMENTS_WIDTH:-100}
@@ -18,8 +21,8 @@ alike() {
   diff <(sort -u "$2") <(sort -u "$3") || fail "$1"
 }
 
-# The code of a document, or with `text` all else but its tables. Code is fenced, or indented by four columns behind an
-# empty line. Each block ends with a form feed.
+# The code of a document, or with `text` everything except its code and tables. Code is fenced, or
+# indented by four columns after an empty line. Each block ends with a form feed.
 parts() {
   awk -v wanted="$1" '
     /^ *(```|~~~)/ { if (fenced && wanted == "code") print "\f"; fenced = !fenced; next }
@@ -31,12 +34,13 @@ parts() {
     END { if (indented && wanted == "code") print "\f" }' "$2"
 }
 
-# The first cells of those rows of tables whose head begins with this cell.
+# The first cells of the rows of those tables whose head begins with this cell.
 cells() {
   awk -v head="$1" -F' *[|] *' '!/^\|/ { inside = 0; next } $2 == head { inside = 1; next } inside && $2 !~ /^-+$/ { print $2 }' "$2"
 }
 
-# The words of a text that are steps with the letters of their numbers, as LEADING:t, and TOPHRED33.
+# The words of a text that are steps with the letters of their numbers, such as LEADING:t, and
+# TOPHRED33.
 steps() { grep -oE '\b[A-Z]+(:[a-z]\b)+|\bTOPHRED33\b' | sort -u; }
 options() { grep -oE -- '(^|[^-[:alnum:]])--[a-z][a-z-]*' | grep -oE -- '--.*' | sort -u; }
 
@@ -50,7 +54,7 @@ compare_names() {
   steps < "$work/help" > "$work/steps"
   grep -v '^ *fq_prog [A-Z]* --help' "$work/help" | options > "$work/options"
   [ "$(wc -l < "$work/steps")" -ge 8 ] || fail 'help lists no steps'
-  # The manual page, as plain words: its steps are written LEADING: t there.
+  # The manual page, as plain words: it writes its steps as LEADING: t.
   sed 's/\\-/-/g; s/^\.[A-Z]* //; s/ *: *\([a-z]\)\b/:\1/g' man/fq_prog.1 > "$work/page"
   for document in README.md docs/FORMAT.md "$work/page"; do
     steps < "$document" > "$work/named"
@@ -77,7 +81,7 @@ compare_statuses() {
   alike 'help and the manual page list other statuses' "$work/statuses" "$work/named"
 }
 
-# shown FILE WHAT: a block of code of README.md holds the lines of FILE, one behind the other
+# shown FILE WHAT: a block of code of README.md holds the lines of FILE, one after the other
 shown() {
   awk -v RS='\f\n' -v want="$(cat "$1")" 'index("\n" $0, "\n" want "\n") { found = 1 } END { exit !found }' "$work/code" || fail "README.md doesn't show $2: $(cat "$1")"
 }
@@ -107,7 +111,7 @@ call_library() {
     fail 'docs/LIBRARY.md has no program that calls the library'
     return
   }
-  # The libraries below the program, which its build has made.
+  # The libraries below the program, which the build of the program has made.
   while IFS= read -r crate; do
     [ -d "crates/$crate/out/rlib" ] || continue
     grep -E "^${crate}[ :]" crates.txt >> "$room/crates.txt"
@@ -134,8 +138,8 @@ compare_crates() {
   alike 'docs/ARCHITECTURE.md and crates.txt differ (crates.txt is <)' "$work/on" "$work/named"
 }
 
-# Each name in the second column of docs/PROVED.md is in the code: a word of it that is no comment, a file, or a file without its ending.
-# After :: a function has to be defined.
+# Each name in the second column of docs/PROVED.md is in the code: a word outside comments, a file,
+# or a file without its ending. A name after :: must be defined as a function.
 compare_proved() {
   local name word
   # shellcheck disable=SC2016  # the backticks are those of the document
@@ -172,22 +176,24 @@ documents() {
   git ls-files --cached --others --exclude-standard -- '*.md' 2> /dev/null || find . -name '*.md' -not -path '*/out/*' -printf '%P\n'
 }
 
-# Where the links of a document lead, without those to other places of the net.
+# The targets of the links of a document, without those to the Internet.
 links() { grep -oE '\]\([^) ]+\)' "$1" | sed 's/^](//; s/)$//' | grep -vE '^[a-z]+:'; }
 
-# The places of a document that a link may name behind #: its headings in small letters, with dashes for blanks, without other marks.
+# The names by which a link may refer to a heading of the document after #: the heading in small
+# letters, with dashes for spaces, without other marks.
 headings() {
   parts text "$1" | sed -nE 's/^[0-9]+: #{1,6} +//p' | sed -E 's/\[([^]]*)\]\([^)]*\)/\1/g' |
     tr '[:upper:]' '[:lower:]' | sed 's/[^[:alnum:] _-]//g; s/ /-/g'
 }
 
-# The names in a document's backticks that begin with a folder of the tree.
+# The names in a document's backticks that begin with a directory of the tree.
 # shellcheck disable=SC2016  # the backticks are those of the document
 named_files() {
   grep -oE '`(bench|config|contrib|docs|man|completions|packaging|profiles|tests|workflow)/[A-Za-z0-9_./-]+`' "$1" | tr -d '`'
 }
 
-# Links and names lead to something. A name may also be that of a file beside the document.
+# Links and names lead to a file or a heading. A name may also be that of a file beside the
+# document.
 follow_links() {
   local document link target place
   while IFS= read -r document; do
@@ -207,7 +213,7 @@ follow_links() {
   done < <(documents)
 }
 
-# Lines with more characters than that, by their numbers.
+# The numbers of lines with more characters than that.
 measure_width() {
   local document
   while IFS= read -r document; do
@@ -219,7 +225,7 @@ measure_width() {
   fi
 }
 
-# Counts of lines of code over that width, which fail nothing: comments, clauses, and lines of definitions.
+# Counts of wider lines of code, which fail nothing: comments, clauses, and lines of definitions.
 count_wide_code() {
   local over=".{$((width + 1))}" comments clauses definitions
   comments=$(find crates -path '*/out' -prune -o -name '*.rt' -exec cat {} + | LC_ALL=C.UTF-8 grep -E "^$over" | grep -cE '^ *//')
@@ -228,8 +234,9 @@ count_wide_code() {
   echo "documents: over $width columns in the crates: $comments lines of comments, $clauses of clauses, $definitions of definitions"
 }
 
-# Sentences of more than 40 words, by the line on which they begin. One ends at . ? or ! before a blank, and with its paragraph or its
-# place in a list. Headings and quotes (behind >) are left out.
+# Sentences of more than 40 words, by the line on which they begin. A sentence ends at . ? or !
+# before a space, and with its paragraph or its list item. Headings and quotes (after >) are left
+# out.
 measure_sentences() {
   local document
   while IFS= read -r document; do

@@ -1,6 +1,6 @@
 #!/usr/bin/env bash
-# The reads in examples/ are those that examples/draw.py draws, and examples/trimmed/ is what the slow program
-# tests/examples/trim.py makes of them. `make run` and contrib/trim_gz give the same.
+# The reads in examples/ are those that examples/draw.py draws, and examples/trimmed/ is what the
+# slow program tests/examples/trim.py makes of them. `make run` and contrib/trim_gz make the same.
 # Status 77, and 'skipped', if a package is missing.
 set -uo pipefail
 . "$(dirname "$0")/common.bash"

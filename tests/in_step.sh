@@ -1,10 +1,12 @@
 #!/usr/bin/env bash
-# Other programs read the outputs in step: seqkit, samtools import and bwa mem find in them the reads, the names and the pairs that the
-# summary and the trim log have. Runs on drawn files: wrapped records, CR LF, empty lines, titles as those of Casava and of the SRA, names
-# with tabs, in three encodings, with and without TOPHRED33, of two files and of an interleaved one.
+# Other programs read the outputs in step: seqkit, samtools import and bwa mem find in them the
+# reads, the names and the pairs that the summary and the trim log show. The runs are on simulated
+# files: wrapped records, CR LF, empty lines, titles in the forms of Casava and of the SRA, names
+# with tabs, in three encodings, with and without TOPHRED33, from two files and from an interleaved
+# one.
 #
-# FQ_PROG is the program, crates/fq_prog/out/fq_prog if not set. A program that is missing is left out, and named. Status 77, and 'skipped',
-# where none of them is there.
+# FQ_PROG is the program, crates/fq_prog/out/fq_prog if not set. A reader that is missing is left
+# out, and reported. Status 77, and 'skipped', if none of them is installed.
 set -uo pipefail
 . "$(dirname "$0")/common.bash"
 readers=()
@@ -25,7 +27,8 @@ trap 'rm -rf "$work"' EXIT
 cd "$work" || exit 1
 runs=0
 
-# draw SEED KIND ENCODING PAIRS: r1.fq, r2.fq and both.fq, whose reads are those of ref.fa, with scores that fall towards the end
+# draw SEED KIND ENCODING PAIRS: r1.fq, r2.fq and both.fq, with reads of ref.fa and scores that fall
+# towards the end
 draw() {
   python3 - "$@" << 'END'
 import random, sys
@@ -95,7 +98,7 @@ with open("ref.fa", "w") as file:
 END
 }
 
-# check WHAT: what each reader finds in fp.fq, fu.fq, rp.fq and ru.fq is what summary and trim.log have
+# check WHAT: each reader finds in fp.fq, fu.fq, rp.fq and ru.fq what the summary and trim.log show
 check() {
   python3 - "$@" "${readers[@]}" << 'END'
 import itertools, subprocess, sys
@@ -129,7 +132,7 @@ reads = [(name, int(length)) for name, length, *_ in lines]
 mates = list(zip(reads[0::2], reads[1::2]))
 same("pairs of the log", len(mates), pairs)
 
-# The reads that each output is for, as the log has them: their names and lengths.
+# The reads of each output, as the log shows them: their names and lengths.
 wanted = {
     "fp.fq": [f for f, r in mates if f[1] and r[1]],
     "rp.fq": [r for f, r in mates if f[1] and r[1]],
@@ -151,7 +154,7 @@ def without_mark(name, mark):
 if "seqkit" in readers:
     for name in wanted:
         mark = "/1" if name[0] == "f" else "/2"
-        # By itself seqkit ends a name at a blank, but not at a tab.
+        # By default seqkit ends a name at a space, but not at a tab.
         table = output_of("seqkit", "fx2tab", "-t", "dna", "-j", "1", "--id-regexp", r"^(\S*)", "-n", "-i", "-l", name)
         rows = [row.split("\t") for row in table.splitlines()]
         same(f"{name}: reads by seqkit fx2tab", [(without_mark(row[0], mark), int(row[1])) for row in rows], wanted[name])
@@ -168,7 +171,7 @@ if "seqkit" in readers:
                 wrong.append(f"{name}: seqkit pair doesn't find exactly these pairs in this order")
 
 
-# SAM's flags: the first and the second mate, and those of records that are no further ones of the same read
+# SAM's flags: first mate, second mate, and the two flags of additional records of the same read
 def primary(text):
     rows = [line.split("\t") for line in text.splitlines() if not line.startswith("@")]
     return [(row[0], int(row[1]) & 0xC0) for row in rows if not int(row[1]) & 0x900]
@@ -187,7 +190,7 @@ sys.exit(1 if wrong else 0)
 END
 }
 
-# run WHAT ENCODING COMMAND INPUT.. -- STEP..: a run, whose outputs are checked
+# run WHAT ENCODING COMMAND INPUT.. -- STEP..: a run, then a check of its outputs
 run() {
   local what=$1 encoding=$2 command=$3 inputs=()
   shift 3

@@ -1,9 +1,9 @@
 #!/usr/bin/env bash
-# Runs the tests of a lane between two threads pinned to 1, 2 and 4 processors, as many as there are. A wake-up that is
-# lost shows as a test that does not end.
+# Runs the tests of a lane between two threads, pinned to 1, 2 and 4 processors, as far as the
+# machine has them. A lost wake-up shows as a test that does not end.
 #
-# ROUNDS, 5 if not set, is how often each test runs; SECONDS_EACH,
-# 60 if not set, is the time that each run has.
+# ROUNDS, 5 if not set, is how often each test runs. SECONDS_EACH, 60 if not set, is the time limit
+# of each run.
 set -uo pipefail
 . "$(dirname "$0")/common.bash"
 
@@ -15,7 +15,7 @@ programs=(crates/fq_lane/out/fq_lane_tests crates/fq_lane_tests/out/fq_lane_test
 need_proved "${programs[@]}"
 cp "${programs[@]}" "$room/"
 
-# The processors that this shell may run on, one number a line.
+# The processors that this shell may run on, one number on each line.
 allowed=$(taskset -cp $$ | sed 's/.*: //' | tr ',' '\n' | while IFS=- read -r from to; do seq "$from" "${to:-$from}"; done)
 count=$(echo "$allowed" | wc -l)
 # A line for each test: its program and its name.

@@ -1,8 +1,9 @@
 #!/usr/bin/env bash
-# Fails the wait for the disk of each output in turn, and of a report, as a file system over a network may do at the end of a run whose
-# writes were all taken: the program has to name that output and to print no summary. It waits for each output once and in order, and
-# for the report last: where no block device is behind the files' device, and with --sync everywhere. On a disk without --sync it
-# doesn't wait. A kind of folder that the machine lacks is skipped.
+# Fails the wait for the disk of each output in turn, and of a report, as a network file system may
+# do at the end of a run although it accepted all writes. The program must name that output and
+# print no summary. It waits once for each output, in order, and for the report last, if the device
+# of the files is not a block device, and everywhere with --sync. On a disk without --sync it does
+# not wait. A kind of directory that the machine lacks is skipped.
 set -uo pipefail
 . "$(dirname "$0")/common.bash"
 
@@ -13,14 +14,14 @@ trap 'rm -rf "${rooms[@]}"' EXIT
 
 compile_library tests/late_errors/fail_sync.c "$room/fail_sync.so"
 
-# has_disk FOLDER: whether a block device is behind the folder's device, by its major number.
+# has_disk FOLDER: whether the directory is on a block device, by the major number of its device.
 has_disk() {
   local device
   device=$(stat -c %d -- "$1")
   [ $(((device >> 8 & 0xfff) | (device >> 32 & ~0xfff))) -ne 0 ]
 }
 
-# enter FOLDER: goes to a new folder there that has the inputs.
+# enter FOLDER: goes to a new directory there that has the inputs.
 enter() {
   local new
   new=$(mktemp -d "$1/late_errors.XXXXXX") || exit 2
@@ -31,7 +32,7 @@ enter() {
   cat f r > i
 }
 
-# expect NUMBER STATUS LINE WORDS..: what this call answers where this wait fails.
+# expect NUMBER STATUS LINE WORDS..: how this call ends if the wait of this number fails.
 expect() {
   local number=$1 wanted=$2 line=$3 said status
   shift 3
@@ -45,7 +46,8 @@ expect() {
 
 outputs=('forward paired' 'forward unpaired' 'reverse paired' 'reverse unpaired' 'trim log')
 
-# each_fails WORDS..: each wait of this call fails in turn, those of `outputs` in their order, and there is no further one.
+# each_fails WORDS..: each wait of this call fails in turn, those of `outputs` in their order, and
+# there is no other wait.
 each_fails() {
   local number=0 output
   for output in "${outputs[@]}"; do
@@ -55,7 +57,8 @@ each_fails() {
   expect $((number + 1)) 0 '' "$@"
 }
 
-# all_fail [OPTION]: so it is with this option, of two texts, with a report too, and of an interleaved one.
+# all_fail [OPTION]: each wait of calls with this option fails in turn: with two texts, with a
+# report too, and with an interleaved text.
 all_fail() {
   each_fails PE "$@" --trimlog log f r fp fu rp ru LEADING:3
   each_fails IL "$@" --trimlog log i fp fu rp ru LEADING:3
@@ -79,7 +82,7 @@ fi
 if [ -n "$disk" ]; then
   enter "$disk"
   all_fail --sync
-  # No wait is made, or the first one failed.
+  # Without --sync the call waits for nothing: its first wait would have failed.
   expect 1 0 '' PE --trimlog log --report report f r fp fu rp ru LEADING:3
 else
   echo "late_errors: skipped: no folder on a disk"

@@ -1,13 +1,15 @@
 #!/usr/bin/env bash
 # What a lane's types rule out must not compile.
 #
-# By its callers: an offer after the lane was closed, and one end that confirms twice. Each must be refused by exactly one error, the
-# borrow error E0382: a use of a value that was moved (the check writes it error[borrow-e0382]). Beside each stands the same function
-# used rightly, in which no error may be found.
+# In its callers: an offer after the lane was closed, and one end that confirms twice. Each must be
+# refused by exactly one error, the borrow error E0382: a use of a value that was moved (the check
+# writes it error[borrow-e0382]). Beside each is the same function with correct use, in which there
+# must be no error.
 #
-# In the lane itself: a move of one end behind which the other is not woken, or only under a condition, or was woken before. Each must
-# be refused by exactly one error: the witness of the move is let go (error[linear-value-let-go]), or is forgotten without being `Drop`
-# (error[unsatisfied-bound]). The lane as it stands is used rightly.
+# In the lane itself: a move of one end after which the other is not woken, or is woken only under a
+# condition, or was woken before. Each must be refused by exactly one error: the witness of the move
+# is dropped (error[linear-value-let-go]), or is forgotten without being `Drop`
+# (error[unsatisfied-bound]). The unchanged lane must have no error.
 #
 # It works in a directory of its own, outside the tree, and needs rt on the path.
 set -uo pipefail
@@ -45,7 +47,8 @@ try() {
   judge "$1" "$2" $?
 }
 
-# try_in_lane NAME WANTED FILE OLD NEW: checks the lane with one text of one of its files in place of another.
+# try_in_lane NAME WANTED FILE OLD NEW: checks the lane with one text in one of its files replaced
+# by another.
 try_in_lane() {
   local file="$room/crates/fq_lane/src/$3" text
   text=$(cat "$tree/crates/fq_lane/src/$3")

@@ -1,6 +1,7 @@
 #!/usr/bin/env bash
-# The manual pages. Those of scripts are what packaging/man_page.py makes of the scripts' own help. Each has the version and the day
-# of CHANGELOG.md, authors and copyright, is shown without a warning, and is found under each name of its command.
+# The manual pages. Those of scripts are what packaging/man_page.py makes of the scripts' own help.
+# Each has the version and the day of CHANGELOG.md, authors and copyright, is shown without a
+# warning, and is found under each name of its command.
 # Status 77 if python3 is missing. A part that needs man is skipped if man-db isn't installed.
 set -uo pipefail
 . "$(dirname "$0")/common.bash"
@@ -8,7 +9,7 @@ need python3
 work=$(mktemp -d)
 trap 'rm -rf "$work"' EXIT
 
-# made NAME SECOND: the page of a script is that of its help
+# made NAME SECOND: the page of a script is the one made of its help
 made() {
   [ -e "contrib/$1" ] || return 0
   COLUMNS=80 "contrib/$1" --help | python3 packaging/man_page.py "$1,$2" > "$work/$1.1" || fail "no page is made of $1 --help"
@@ -16,7 +17,8 @@ made() {
 make it by: COLUMNS=80 contrib/$1 --help | python3 packaging/man_page.py $1,$2 > man/$1.1"
 }
 
-# shown NAME SECOND: the page has what each page has, and man shows it and knows it by both names
+# shown NAME SECOND: the page has all that each page must have, and man shows it and finds it under
+# both names
 shown() {
   local page=man/$1.1 heading
   [ -e "$page" ] || {

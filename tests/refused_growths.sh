@@ -1,14 +1,16 @@
 #!/usr/bin/env bash
-# Refuses each growth of memory in turn of a run on one thread, and then of a run with two workers, until a run meets no refusal; and
-# the same of runs over an interleaved text.
-# A run may then end by want of memory, by a failed write (a growth of an outlet) or by a refused thread, but never as if nothing
-# had been refused, and its outputs have to be those of the first pairs: the program fq_rows, called with `judge`, runs and judges that.
+# Refuses each memory growth in turn of a run on one thread, and then of a run with two workers,
+# until a run meets no refusal. Then the same with runs over an interleaved text.
+# Such a run may end because memory was refused, by a failed write (a growth of an outlet) or by a
+# refused thread, but never as if nothing had been refused. Its outputs must be those of the first
+# pairs. The program fq_rows, called with `judge`, runs and checks that.
 #
-# Then each thread of the runs with two workers is refused in turn: the run has to say so and to write nothing, and its feeds are lost
-# where the reading thread was refused, and else come back unread.
+# Then each thread of the runs with two workers is refused in turn. The run must report that and
+# write nothing. Its feeds are lost if the reading thread was refused, and otherwise come back
+# unread.
 #
-# Wants cc, or else takes the kit's own compiler. ROUNDS, 3 if not set, is how often each growth is refused to the run with two
-# workers, whose growths come in another order each time.
+# It needs cc, or uses the kit's own compiler. ROUNDS, 3 if not set, is how often each growth is
+# refused to the run with two workers, whose growths come in another order each time.
 set -uo pipefail
 . "$(dirname "$0")/common.bash"
 
@@ -24,7 +26,8 @@ for source in refuse refuse_thread; do
   compile_library "$here/$source.c" "$room/$source.so"
 done
 
-# try NUMBER WAY: runs once. Sets said to what the run printed and refused to whether it met the refusal.
+# try NUMBER WAY: runs once. Sets said to what the run printed, and refused to whether the run met
+# the refusal.
 try() {
   local words status
   read -ra words <<< "$2"

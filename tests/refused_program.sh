@@ -1,11 +1,14 @@
 #!/usr/bin/env bash
-# Refuses each growth of memory of the built program in turn, until a run meets no refusal: of PE, also with a report, of IL, of EXAMPLE,
-# of --help, and of a word that is not UTF-8. A run that met one has to say that memory was wanted (status 5), or that a thread was
-# refused for it (status 6), and print nothing. A growth that can be done without may be refused unseen: one in each call, at the most.
+# Refuses each memory growth of the built program in turn, until a run meets no refusal: of PE, also
+# with a report, of IL, of EXAMPLE, of --help, and of an argument that is not UTF-8. A run that met
+# a refusal must report that memory was refused (status 5) or that a thread was refused for lack of
+# memory (status 6), and print nothing. At most one growth in each call may be refused without any
+# effect: one that the program can do without.
 #
-# Then it is counted how often a run over many pairs asks for memory: once its buffers have grown no pair does, whether its reads are lent
-# as they lie in the buffer or their lines are joined. There are 500 blocks, and one that is made anew asks some twenty times: so buffers
-# that are let go now and then are seen too.
+# Then it counts how often a run over many pairs asks for memory. Once its buffers have grown, no
+# pair does, whether its reads are lent as they lie in the buffer or their lines are joined. There
+# are 500 blocks, and a new block asks about twenty times, so the test also notices buffers that are
+# dropped now and then.
 set -uo pipefail
 . "$(dirname "$0")/common.bash"
 
@@ -19,7 +22,8 @@ printf '@p1/1\nACGT\n+\n#!II\n@p2/1\nGGCC\n+\nIIII\n' > f
 printf '@p1/2\nTTTT\n+\nIIII\n@p2/2\nAAAA\n+\n!!!"\n' > r
 printf '@p1/1\nACGT\n+\n#!II\n@p1/2\nTTTT\n+\nIIII\n' > i
 
-# sweep WORDS..: refuses each growth of this call in turn. Where none was met it ends as ENDING says, and else with status 0 and no line.
+# sweep WORDS..: refuses each growth of this call in turn. At most one refusal may go unseen: the
+# call then ends as ENDING says, or with status 0 and no line if ENDING is not set.
 sweep() {
   local number said status unseen=0 ending=${ENDING:-0 }
   for number in $(seq 10000); do

@@ -1,11 +1,13 @@
 #!/usr/bin/env bash
-# What a report counts of files is what seqkit counts of them: reads, bases, bases G or C, bases N, the shortest and the longest read,
-# the reads of each length, and the per cent of bases with a score of at least 20 and of at least 30. Inputs and outputs of runs on
-# drawn files, of two files and of an interleaved one.
+# What a report counts in files is what seqkit counts in them: reads, bases, bases G or C, bases N,
+# the shortest and the longest read, the reads of each length, and the percentages of bases with a
+# score of at least 20 and of at least 30. It checks inputs and outputs of runs on simulated files,
+# two or one interleaved.
 #
-# With REPORT it checks that report alone, whose files are found from this folder on:
+# With REPORT it checks only that report; the names of its files are relative to this directory:
 #   tests/report_counts.sh [REPORT]
-# FQ_PROG is the program, crates/fq_prog/out/fq_prog if not set. Status 77, and 'skipped', where a package is missing.
+# FQ_PROG is the program, crates/fq_prog/out/fq_prog if not set. Status 77, and 'skipped', if a
+# package is missing.
 set -uo pipefail
 
 if [ "${1:-}" = --help ]; then
@@ -43,7 +45,7 @@ def same(where, what, told, counted, by="by seqkit"):
         wrong.append(f"{where}: {what}: {told} in the report, {counted} {by}")
 
 
-# The reads of one side of a file in which mates take turns, in a file of their own.
+# The reads of one side of a file with alternating mates, in a file of their own.
 def side_of(name, side):
     lines = open(name, "rb").read().splitlines(keepends=True)
     first = 0 if side == "forward" else 4
@@ -72,7 +74,7 @@ def compare(where, told, name):
     stats = dict(zip(head, row))
     same(where, "reads", told["reads"], int(stats["num_seqs"]))
     same(where, "bases", told["bases"], int(stats["sum_len"]))
-    # Two digits behind the point tell one number of bases from the next in up to 10,000 bases.
+    # Two decimals are enough to tell the number of bases, up to 10,000 bases.
     for field, column in (("q20_bases", "Q20(%)"), ("q30_bases", "Q30(%)")):
         percent = 100 * told[field] / told["bases"] if told["bases"] else 0
         if abs(percent - float(stats[column])) > 0.00501:
@@ -87,7 +89,7 @@ for side in ("forward", "reverse"):
     for kind in ("paired", "unpaired"):
         compare(f"{side} {kind}", told[kind], report["outputs"][f"{side}_{kind}"])
 
-# What the numbers of a report have to do with one another.
+# How the numbers of a report relate to each other.
 pairs = report["pairs"]
 for side, alone in (("forward", "forward_only_surviving"), ("reverse", "reverse_only_surviving")):
     told = report["reads"][side]
@@ -115,7 +117,7 @@ fi
 program=$(realpath "$program")
 cd "$work" || exit 1
 
-# draw SEED PAIRS LONGEST: r1.fq, r2.fq and both.fq, whose scores fall towards the end
+# draw SEED PAIRS LONGEST: r1.fq, r2.fq and both.fq, with scores that fall towards the end
 draw() {
   python3 - "$@" << 'END'
 import random, sys
@@ -140,7 +142,7 @@ with open("r1.fq", "w") as forward, open("r2.fq", "w") as reverse, open("both.fq
 END
 }
 
-# run COMMAND INPUT.. -- STEP..: a run with a report, which is checked
+# run COMMAND INPUT.. -- STEP..: a run with a report, then a check of the report
 run() {
   local command=$1 inputs=()
   shift

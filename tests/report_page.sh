@@ -1,10 +1,13 @@
 #!/usr/bin/env bash
-# Makes pages with contrib/report_to_html and reads them as HTML: each is well formed, loads nothing, runs nothing, and has the numbers of its
-# report. The reports are those of the program, and those of a slow count that have every field a page draws: with no read, with 150 bases and
-# with more than 10,000. No text of a report becomes markup. Faults, and scores that are too high, are at the top. A file that is no report is
-# refused with one line. contrib/report_to_mqc draws mean scores by position and reads by mean score of the same reports.
+# Makes pages with contrib/report_to_html and reads them as HTML. Each is well formed, loads
+# nothing, runs nothing, and has the numbers of its report. The reports are those of the program,
+# and those of a slow count with every field that a page draws: with no read, with 150 bases and
+# with more than 10,000. No text of a report becomes markup. Faults, and scores that are too high,
+# are at the top. A file that is not a report is refused in one line. contrib/report_to_mqc draws
+# mean scores by position and reads by mean score for the same reports.
 #
-# FQ_PROG is the program, crates/fq_prog/out/fq_prog if not set. With python3.6 in the path, the pages are made by that too.
+# FQ_PROG is the program, crates/fq_prog/out/fq_prog if not set. If python3.6 is on the path, it
+# makes the pages too.
 set -uo pipefail
 . "$(dirname "$0")/common.bash"
 script=$tree/contrib/report_to_html
@@ -13,12 +16,13 @@ work=$(mktemp -d) || exit 1
 trap 'rm -rf "$work"' EXIT
 cd "$work" || exit 1
 export PYTHONDONTWRITEBYTECODE=1
-# A name without a Python behind it is no Python.
+# A name that leads to no Python is not used.
 old=$(command -v python3.6) && "$old" -c '' 2> /dev/null || old=''
 
 check() { python3 "$tree/tests/report_page/check.py" "$@"; }
 
-# drawn NAME: the page of NAME.json is made and has its numbers; an old Python and another locale make the same page
+# drawn NAME: the page of NAME.json is made and has its numbers; an old Python and another locale
+# make the same page
 drawn() {
   row="the page of $1"
   "$script" "$1.json" > "$1.html" 2> told || fail "status $?: $(cat told)"
@@ -63,7 +67,8 @@ assert all(len(reads[side]["before"]["positions"]["bases"]) == 10_001 for side i
 END
 [ "$(wc -c < long.html)" -lt 2000000 ] || fail 'the page is too large'
 
-# Reports of the program: two files and one, no reads, a fault, names that have to be escaped, and scores that are too high.
+# Reports of the program: two files and one, no reads, a fault, names that must be escaped, and
+# scores that are too high.
 python3 - << 'END'
 import random
 random.seed(7)
@@ -109,7 +114,7 @@ check hostile "$script" small.json || fail 'a text becomes markup'
 row='a report with a change at each place'
 check changed "$script" small.json || fail 'one is neither drawn nor refused'
 
-# Files that are no reports.
+# Files that are not reports.
 head -c -3 two.json > torn.json
 sed 's/"q30_bases":[0-9]*,//' two.json > less.json
 sed 's/"input":/&-/' two.json > below.json

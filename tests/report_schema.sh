@@ -1,10 +1,12 @@
 #!/usr/bin/env bash
-# Each report of the program is what docs/report.schema.json says, and tells of its call what is true of it: runs of two files and of an
-# interleaved one, that finish or end at a fault, over empty inputs, in each encoding, with names that JSON has to escape. Beside it, each of
-# these runs prints, tells, writes and ends as it does without a report. The schema is one itself, and refuses reports that were changed.
-# The example of docs/FORMAT.md is what the program makes of its inputs.
+# Each report of the program conforms to docs/report.schema.json, and what it says about its call is
+# true: runs on two files and on an interleaved one, that finish or end at a fault, on empty inputs,
+# in each encoding, with names that JSON must escape. Each of these runs prints, reports, writes and
+# ends as it does without a report. The schema itself is valid, and refuses reports that were
+# changed. The example of docs/FORMAT.md is what the program makes of its inputs.
 #
-# FQ_PROG is the program, crates/fq_prog/out/fq_prog if not set. Status 77, and 'skipped', where a package is missing.
+# FQ_PROG is the program, crates/fq_prog/out/fq_prog if not set. Status 77, and 'skipped', if a
+# package is missing.
 set -uo pipefail
 . "$(dirname "$0")/common.bash"
 python3 -c 'from jsonschema import Draft202012Validator' 2> /dev/null || skip 'needs python3-jsonschema'
@@ -20,7 +22,7 @@ number=0
 # record TITLE BASES QUALITY
 record() { printf '@%s\n%s\n+\n%s\n' "$@"; }
 
-# Four pairs: of letters in both cases, of one base, of an empty read and of 300 bases.
+# Four pairs: letters in both cases, one base, an empty read, and 300 bases.
 {
   record p1/1 GcANn '#5?>I'
   record p2/1 A I
@@ -49,7 +51,8 @@ cp inputs/r2.fq "inputs/${strange[1]}"
 cp inputs/both.fq 'inputs/r"\u".fq'
 mkdir "inputs/${strange[6]%/*}"
 
-# call FOLDER WORDS..: the program in a folder of its own with the inputs; what it prints, tells and ends with is left in files
+# call FOLDER WORDS..: the program in a directory of its own with the inputs; its output, its error
+# lines and its status are left in files
 call() {
   local folder=$1
   shift
@@ -59,7 +62,8 @@ call() {
   echo "$?" > "$folder.status"
 }
 
-# run STATUS COMMAND WORDS..: calls without a report and with one, which differ by the report alone. It is kept, with its call.
+# run STATUS COMMAND WORDS..: calls without a report and with one, which differ only by the report.
+# Keeps the report, with its call.
 run() {
   local wanted=$1 report part
   shift
@@ -88,7 +92,7 @@ run 0 PE --trimlog trim.log r1.fq r2.fq "${outputs[@]}" LEADING:3 TRAILING:3 SLI
 run 0 PE --threads 1 --block 1 r1.fq r2.fq "${outputs[@]}" MINLEN:3 LEADING:0030 MINLEN:3
 run 0 IL both.fq "${outputs[@]}" AVGQUAL:30
 run 0 IL --trimlog trim.log --threads 3 both.fq "${outputs[@]}" HEADCROP:1 CROP:200 TOPHRED33
-# Nothing is left; nothing was there.
+# No pair is left; there was none.
 run 0 PE r1.fq r2.fq "${outputs[@]}" MINLEN:999999999
 run 0 PE none1.fq none2.fq "${outputs[@]}" MINLEN:36
 run 0 IL --trimlog trim.log none1.fq "${outputs[@]}" MINLEN:36
@@ -101,10 +105,10 @@ done
 # 64 steps.
 mapfile -t steps < <(seq -f 'MINLEN:%.0f' 1 63)
 run 0 PE r1.fq r2.fq "${outputs[@]}" "${steps[@]}" CROP:2
-# Names that JSON escapes, and such as it doesn't.
+# Names that JSON escapes, and names that it doesn't.
 run 0 PE --trimlog "${strange[6]}" "${strange[@]:0:6}" MINLEN:3
 run 0 IL 'r"\u".fq' "${strange[@]:2:4}" MINLEN:3
-# Faults of the inputs.
+# Faults in the inputs.
 run 3 PE r1.fq short2.fq "${outputs[@]}" MINLEN:3
 run 3 PE --trimlog trim.log r1.fq other2.fq "${outputs[@]}" MINLEN:3
 run 0 PE --no-name-check r1.fq other2.fq "${outputs[@]}" MINLEN:3
@@ -113,7 +117,7 @@ run 3 IL --trimlog trim.log odd.fq "${outputs[@]}" MINLEN:3
 run 3 IL --no-name-check odd.fq "${outputs[@]}" MINLEN:3
 run 3 PE --encoding illumina13 r1.fq r2.fq "${outputs[@]}" MINLEN:3
 run 3 PE none1.fq r2.fq "${outputs[@]}" MINLEN:3
-# Runs that don't end whole have none.
+# Runs that don't end whole have no report.
 run 2 PE r1.fq r2.fq "${outputs[@]}" minlen:3
 run 4 PE r1.fq r3.fq "${outputs[@]}" MINLEN:3
 run 4 IL both.fq no/fp.fq "${outputs[@]:1}" MINLEN:3
@@ -121,7 +125,7 @@ if [ -w /dev/full ]; then
   run 4 PE r1.fq r2.fq "${outputs[@]:0:3}" /dev/full LEADING:3 MINLEN:4
 fi
 
-# The example of docs/FORMAT.md: its inputs, as the words before it name them, and its report.
+# The example of docs/FORMAT.md: its inputs, as the text before it names them, and its report.
 row='the example of docs/FORMAT.md'
 python3 - "$format" << 'END' || fail 'the document has none'
 import json, re, sys
@@ -160,7 +164,7 @@ def words_of(path):
         return file.read().split("\0")[:-1]
 
 
-# What a report has to tell of a call: the words are options, then files, then steps.
+# What a report must say about a call: its words are options, then files, then steps.
 def told_of(words):
     command, *words = words
     options = {"--encoding": "sanger"}
@@ -210,7 +214,7 @@ def check(path):
     return report
 
 
-# Each value within a report, with what holds it and its name or place there.
+# Each value within a report, with what holds it and its name or index there.
 def places(value):
     for key in list(value) if isinstance(value, dict) else range(len(value)):
         yield value, key
@@ -218,7 +222,7 @@ def places(value):
             yield from places(value[key])
 
 
-# The reports that come of one by a change at one place.
+# The reports made from one report by a change at one place.
 def changed(report):
     for number in range(sum(1 for _ in places(report))):
         for change in (

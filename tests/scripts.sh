@@ -1,6 +1,7 @@
 #!/usr/bin/env bash
-# No shell script of the repository has a fault that shellcheck finds, and shfmt would change none. A shell script is a file whose
-# first line names sh or bash. Status 77, and 'skipped', if shellcheck is missing.
+# Each shell script of the repository has no fault that shellcheck finds, and the layout of shfmt. A
+# shell script is a file whose first line names sh or bash. Status 77, and 'skipped', if shellcheck
+# is missing.
 set -uo pipefail
 . "$(dirname "$0")/common.bash"
 need shellcheck

@@ -1,6 +1,8 @@
 #!/usr/bin/env bash
-# Runs contrib/trim_gz on good and on bad compressed files, and compares outputs, status and lines with the program over plain files.
-# FQ_PROG names another build of the program. A row whose tool isn't installed is skipped, and says so.
+# Runs contrib/trim_gz on good and on bad compressed files, and compares outputs, status and lines
+# with those of the program on plain files.
+# FQ_PROG names another build of the program. A row whose tool isn't installed is reported as
+# skipped.
 set -u
 . "$(dirname "$0")/common.bash"
 find_program
@@ -14,7 +16,7 @@ tools=$PATH # where the script finds its tools
 steps=(LEADING:3 TRAILING:3 SLIDINGWINDOW:4:15 MINLEN:36)
 last=(-- "${steps[@]}")
 
-# draw FIRST LAST SIDE: records, the same ones for the same words
+# draw FIRST LAST SIDE: records, always the same for the same arguments
 draw() {
   awk -v first="$1" -v last="$2" -v side="$3" 'BEGIN {
     for (k = first; k <= last; k++) {
@@ -34,7 +36,7 @@ both=(-1 data/f.gz -2 data/r.gz)
 outputs=(--paired1 out/p1.fq.gz --unpaired1 out/u1.fq.gz --paired2 out/p2.fq.gz --unpaired2 out/u2.fq.gz)
 rest=("${outputs[@]}" "${last[@]}")
 
-# Outputs of an earlier run, which a run that fails leaves as they are.
+# Outputs of an earlier run, which a failing run leaves unchanged.
 earlier() {
   rm -rf "$work/out"
   mkdir "$work/out"
@@ -75,7 +77,7 @@ refused() {
   untouched
 }
 
-# made WORDS..: all is done, and nothing is told
+# made WORDS..: all outputs are made, and nothing is reported
 made() {
   local got
   rm -rf "$work/out"
@@ -87,7 +89,7 @@ made() {
   no_rest
 }
 
-# as_plain NAME..: these outputs are those of the program over plain files
+# as_plain NAME..: these outputs are those of the program on plain files
 plain=$work/plain
 as_plain() {
   local name
@@ -101,7 +103,7 @@ as_plain() {
   cmp -s "$work/printed" "$plain/summary" || fail 'the summary is not as over plain files'
 }
 
-# same_report FILE: it is that of the program over plain files, but for the names of the files
+# same_report FILE: it is that of the program on plain files, except for the names of the files
 same_report() {
   diff <(nameless "$1") <(nameless "$work/plain/report") > /dev/null || fail 'the report is not as over plain files'
 }
@@ -128,7 +130,7 @@ done
 ln -s "$(python3 -c 'import sys; print(sys.executable)')" "$work/bin/python3"
 for tool in env sh bash gzip cat; do ln -s "$(command -v "$tool")" "$work/bin/$tool"; done
 
-# has TOOL PACKAGE: whether it is installed; else the row is skipped
+# has TOOL PACKAGE: whether it is installed; otherwise the row is skipped
 has() {
   command -v "$1" > /dev/null && return
   echo "trim_gz: skipped: $row: $1 is not installed (apt-get install $2)"
@@ -138,7 +140,7 @@ decompressors=(gzip)
 row='files that bgzip decompresses'
 if has bgzip tabix; then decompressors+=(bgzip); fi
 
-# damaged FILE WHY WORDS..: the input can't be decompressed: status 3 and one line, by each decompressor
+# damaged FILE WHY WORDS..: each decompressor refuses the input, with status 3 and one line
 damaged() {
   local file=$1 why=$2 by was=$row
   shift 2
@@ -233,7 +235,7 @@ gzip < /dev/null > none2.gz
 made -1 data/a1.short.gz -1 data/none1.gz -1 data/b1.members.gz -2 data/members.gz -2 data/none2.gz -2 data/empty "${rest[@]}"
 as_plain p1.fq u1.fq p2.fq u2.fq
 
-# late NAME FILE [SECONDS]: a named pipe whose writer comes a second later, or after so many
+# late NAME FILE [SECONDS]: a named pipe whose writer opens it a second later, or after this many
 writers=()
 late() {
   rm -f "$1"
@@ -365,7 +367,7 @@ done
 damaged data/f.member.gz 'decompression OK, trailing garbage ignored' -1 data/f.member.gz -2 data/r.member.gz "${outputs[@]}" \
   "${last[@]}"
 
-# loses TOOL FILE: this decompressor ends well on this file, and leaves out a part of the text
+# loses TOOL FILE: this decompressor reports success on this file, and leaves out a part of the text
 loses() {
   local package=isal
   [ "$1" = igzip ] || package=$1
@@ -374,7 +376,7 @@ loses() {
   echo "trim_gz: $row: this $1 doesn't end well on $2; others do"
 }
 
-# These are why pigz and igzip never decompress.
+# These files are why pigz and igzip never decompress.
 row='damage that pigz and igzip end well on'
 gzip -n < a1 > first.gz
 gzip -n < b1 > second.gz
@@ -538,7 +540,7 @@ earlier
 untouched
 
 row='an output that cannot get its name'
-# A program that puts a folder under the log's name while it runs.
+# A program that puts a directory under the log's name while it runs.
 cat > "$work/meddling" << END
 #!/usr/bin/env bash
 mkdir -p "$work/out/log.gz/folder"
@@ -553,7 +555,7 @@ earlier
 rm -r "$work/out/log.gz"
 untouched
 
-# endless TEXT: an input that doesn't end behind this text
+# endless TEXT: an input that doesn't end after this text
 endless() {
   rm -f endless
   mkfifo endless
@@ -574,7 +576,7 @@ stopped() {
     > "$work/printed" 2> "$work/told" &
   pid=$!
   set +m
-  # It works once the plain output beside the final name has something in it.
+  # The run works once the plain output beside the final name has something in it.
   for _ in {1..200}; do
     [ -n "$(find "$work/out" -name '.p1.fq.trim_gz.*' -size +0)" ] && break
     sleep 0.05
@@ -591,7 +593,8 @@ stopped() {
 }
 
 row='Ctrl-C'
-# A script's background jobs ignore SIGINT, and so would the run. The first number of SigIgn has it as bit 2.
+# A script's background jobs ignore SIGINT, and so would the run. SIGINT is bit 2 of the first
+# number of SigIgn.
 ignored=$(sed -n 's/^SigIgn:[[:space:]]*//p' /proc/self/status)
 if ((0x${ignored: -1} & 2)); then
   echo 'trim_gz: skipped: Ctrl-C, as SIGINT is ignored here (run in the foreground)'
@@ -688,7 +691,7 @@ if has script bsdutils; then
     fail "it says $(cat -v "$work/printed")"
 fi
 
-# Adapters in each fifth read, which cutadapt removes first.
+# Adapters in every fifth read, which cutadapt removes first.
 adapters=AGATCGGAAGAGCACACGTCTGAACTCCAGTCA,AGATCGGAAGAGCGTCGTGTAGGGAAAGAGTGT
 with_adapters() {
   awk -v adapter="$2" 'NR % 4 == 2 && int(NR / 4) % 5 == 0 { n = 20 + NR % 70; $0 = substr(substr($0, 1, n) adapter $0, 1, 100) } { print }' "$1"
@@ -704,7 +707,7 @@ if has cutadapt cutadapt; then
   printf '>one\n%s\n>two\n%s\n' "${adapters%,*}" "${adapters#*,}" > adapters.fa
   plain=$work/cut
   mkdir "$plain"
-  # cut_plainly WORDS..: what cutadapt and the program make of plain files, one after the other
+  # cut_plainly WORDS..: what cutadapt and then the program make of plain files
   cut_plainly() {
     cutadapt --interleaved --json "$plain/json" -o "$plain/il" "$@" xf xr > "$plain/text" || fail 'cutadapt alone'
     "$program" IL --trimlog "$plain/log" "$plain/il" "$plain/p1.fq" "$plain/u1.fq" "$plain/p2.fq" "$plain/u2.fq" "${steps[@]}" > "$plain/summary" ||

@@ -1,6 +1,6 @@
 #!/usr/bin/env bash
-# 40 runs of contrib/trim_gz with random faults (tests/trim_gz_faults.py), another 40 in each call. TRIM_GZ_RUNS sets another number,
-# and TRIM_GZ_SEED repeats the runs of a seed that was printed.
+# 40 runs of contrib/trim_gz with random faults (tests/trim_gz_faults.py), other ones in each call.
+# TRIM_GZ_RUNS sets another number, and TRIM_GZ_SEED repeats the runs of a seed that was printed.
 set -u
 . "$(dirname "$0")/common.bash"
 find_program

@@ -1,5 +1,5 @@
 #!/usr/bin/env bash
-# The parts of contrib/trim_gz by themselves.
+# Unit tests of the parts of contrib/trim_gz.
 set -u
 . "$(dirname "$0")/common.bash"
 told=$(python3 tests/trim_gz/pieces.py 2>&1) || fail "$told"

@@ -1,8 +1,10 @@
 #!/usr/bin/env bash
-# Runs the workflow of many samples with the real Snakemake and MultiQC, on this machine and on a Slurm that it starts for itself:
-# four samples, one of two lanes and one damaged. Compares each output with direct calls of the program, and reads the page's data.
+# Runs the workflow for many samples with the real Snakemake and MultiQC, on this machine and on a
+# Slurm that it starts for itself: four samples, one of two lanes and one damaged. Compares each
+# output with direct calls of the program, and reads the page's data.
 #
-# FQ_PROG is the program, crates/fq_prog/out/fq_prog if not set. Status 77, and 'skipped', where a package is missing.
+# FQ_PROG is the program, crates/fq_prog/out/fq_prog if not set. Status 77, and 'skipped', if a
+# package is missing.
 set -uo pipefail
 . "$(dirname "$0")/common.bash"
 PATH=$PATH:/usr/sbin:/sbin
@@ -10,22 +12,24 @@ PATH=$PATH:/usr/sbin:/sbin
 need snakemake multiqc slurmctld slurmd sbatch:slurm-client munged:munge
 find_program
 
-# Not below TMPDIR: the name of a socket in it may have no more than 107 bytes.
+# Not below TMPDIR, because the name of a socket in it may have no more than 107 bytes.
 work=$(mktemp -d -p /tmp tibzharuk.XXXXXX) || exit 1
-# All that is started has this in its environment, so that what is left of it can be found at the end.
+# Everything that is started has this in its environment, so that what is left of it can be found at
+# the end.
 export TIBZHARUK_TEST=$work
 export XDG_CACHE_HOME=$work/cache MPLCONFIGDIR=$work/cache PYTHONDONTWRITEBYTECODE=1 LC_ALL=C.UTF-8
 unset SNAKEMAKE_PROFILE SLURM_CONF SBATCH_PARTITION SBATCH_ACCOUNT
 steps=(LEADING:3 TRAILING:3 SLIDINGWINDOW:4:15 MINLEN:36)
 slurm_pids=()
 
-# left: the ids of the processes that this test started and that still run, without those that look for them
+# left: the ids of the processes that this test started and that still run, except those that look
+# for them
 left() {
   # shellcheck disable=SC2016
   env -u TIBZHARUK_TEST bash -c 'grep -lzxF "TIBZHARUK_TEST=$1" /proc/[0-9]*/environ | cut -d/ -f3' left "$work" 2> /dev/null
 }
 
-# stop_slurm: cancels its jobs, waits until they are gone, and ends its daemons by their ids
+# stop_slurm: cancels its jobs, waits until they are gone, and stops its daemons by their ids
 stop_slurm() {
   local id
   [ "${#slurm_pids[@]}" -gt 0 ] || return 0
@@ -59,7 +63,8 @@ trap clean_up EXIT
 trap 'exit 130' INT
 trap 'exit 143' TERM HUP
 
-# draw_reads: the reads of four samples. Less than half of the pairs of s3 are kept. The second file of s4 is cut off.
+# draw_reads: the reads of four samples. Less than half of the pairs of s3 are kept. The second file
+# of s4 is truncated.
 draw_reads() {
   mkdir "$work/reads"
   python3 - "$work/reads" << 'END'
@@ -86,7 +91,8 @@ with open(whole + ".whole", "rb") as file, open(whole, "wb") as half:
 END
 }
 
-# trim_directly SAMPLE LANES..: what the program makes of the plain texts, in the folder $work/direct
+# trim_directly SAMPLE LANES..: what the program makes of the plain texts, in the directory
+# $work/direct
 trim_directly() {
   local sample=$1 to=$work/direct/$1 side lane
   shift
@@ -98,7 +104,8 @@ trim_directly() {
     "${steps[@]}" > "$to.summary" || fail "the program on $sample"
 }
 
-# new_lab NAME: a folder with the workflow as a user has it, its table and its settings; the shell goes there
+# new_lab NAME: a directory with the workflow as a user has it, its table and its settings; the
+# shell goes there
 new_lab() {
   mkdir "$work/$1"
   cd "$work/$1" || exit 1
@@ -116,7 +123,7 @@ new_lab() {
     s/threads: .*/threads: 2/; s/memory_mb: .*/memory_mb: 200/; s/minutes: .*/minutes: 5/" config/config.yaml
 }
 
-# call STATUS WORDS..: calls snakemake, and wants it to end with 0 or with another status
+# call STATUS WORDS..: calls snakemake, which must end with 0, or with another status
 call() {
   local wanted=$1 got
   shift
@@ -129,14 +136,14 @@ call() {
   fi
 }
 
-# ran TRIM GRAPHS: that many jobs of each rule were begun
+# ran TRIM GRAPHS: that many jobs of each rule were started
 ran() {
   local got
   got="$(grep -c '^rule trim:' said) $(grep -c '^rule graphs:' said)"
   [ "$got" = "$1 $2" ] || fail "jobs of trim and graphs: $got, not $1 $2"
 }
 
-# same_as_direct SAMPLES..: all that was made of them holds what direct calls made
+# same_as_direct SAMPLES..: all their files hold what direct calls made
 same_as_direct() {
   local sample part
   for sample in "$@"; do
@@ -159,7 +166,8 @@ same_logs() {
   done
 }
 
-# page_tells SAMPLES..: the page's data are those of the direct calls, for these samples and no others
+# page_tells SAMPLES..: the page's data are those of the direct calls, for these samples and no
+# others
 page_tells() {
   local data=results/report_data sample text
   for sample in "$@"; do
@@ -172,7 +180,8 @@ page_tells() {
   done
 }
 
-# sample_pages SAMPLES..: each has a page of its own, which is linked; those of which less than half of the pairs are kept are marked
+# sample_pages SAMPLES..: each has a page of its own, which is linked; samples of which less than
+# half of the pairs are kept are marked
 sample_pages() {
   local sample pairs kept few=''
   for sample in "$@"; do
@@ -186,7 +195,7 @@ sample_pages() {
   [ "$(grep -o 'class="badge"' results/report.html | wc -l)" -eq "$(grep -o '</li>' <<< "$few" | wc -l)" ] || fail 'the table marks other samples'
 }
 
-# removed_bases SAMPLES..: the page's lines of removed bases are those of the logs, at each place
+# removed_bases SAMPLES..: the page's lines of removed bases are those of the logs, at each position
 removed_bases() {
   python3 "$tree/tests/workflow/page_tells.py" "$work/direct" results/report_data --removed "$@" || fail 'the line graphs of removed bases differ'
 }
@@ -203,12 +212,12 @@ no_lines() {
   [ -z "$(find results/report_data -name '*_front_*' -o -name '*_behind_*')" ] || fail 'the data of the page have removed bases'
 }
 
-# made: all that was made of samples, with its time
+# made: all files that were made of samples, with their times
 made() {
   find results/trimmed results/trim_logs results/summaries results/reports results/graphs -type f -printf '%p %T@\n' | sort
 }
 
-# a_whole_life PROFILE: a call with a damaged sample, a second one, and one behind its repair
+# a_whole_life PROFILE: a call with a damaged sample, a second one, and one after the repair
 a_whole_life() {
   row="$1: a damaged sample"
   call 1 --profile "profiles/$1"
@@ -256,7 +265,7 @@ same_after_cutadapt() {
   cmp "results/summaries/$1.summary" "$to.summary" || fail "$1: the summary differs"
 }
 
-# with_adapters: a sequence, a file that changes, none, and one that isn't there
+# with_adapters: a sequence, a file that changes, no adapters, and a file that doesn't exist
 with_adapters() {
   cp reads/s4_L001_R2.fq.gz.whole reads/s4_L001_R2.fq.gz
   sed -i "s/^adapters:.*/adapters: $adapter/" config/config.yaml
@@ -287,7 +296,7 @@ with_adapters() {
   refused "settings: adapters: 'none.fa' is no file and no sequence"
 }
 
-# refused LINE: the settings or the table as they stand are refused with that line, and nothing is made
+# refused LINE: the present settings or table are refused with that line, and nothing is made
 refused() {
   call 1 --profile profiles/local
   grep -qF -- "$1" said || fail "'$1' was not said, but: $(grep -v '^ *File' said | paste -sd' ' | cut -c 1-300)"
@@ -329,7 +338,7 @@ bad_tables() {
   refused "settings: line_graphs: 'perhaps' is not of type 'boolean'"
 }
 
-# An option that the program doesn't know fails each sample, and is named.
+# An option that the program doesn't know fails each sample, and is reported.
 bad_option() {
   row='an option that the program does not know'
   call 1 --profile profiles/local --config line_graphs=False options=--frob
@@ -383,7 +392,8 @@ for each in taken:
 print(*(each.getsockname()[1] for each in taken))'
 }
 
-# slurm_settings FOLDER HOST PORT PORT: those of a cluster of one node, of this user, without accounting
+# slurm_settings FOLDER HOST PORT PORT: settings of a cluster of one node, of this user, without
+# accounting
 slurm_settings() {
   cat << END
 ClusterName=test
@@ -415,7 +425,8 @@ PartitionName=main Nodes=$2 Default=YES MaxTime=60 State=UP
 END
 }
 
-# start_slurm: munged, slurmctld and slurmd in a folder of their own; returns 1 if no node comes up
+# start_slurm: munged, slurmctld and slurmd in a directory of their own; returns 1 if no node comes
+# up
 start_slurm() {
   local folder=$work/slurm host ports
   host=$(uname -n)
@@ -445,7 +456,7 @@ start_slurm() {
   return 1
 }
 
-# status_of JOB WANTED: what the profile's script says of a job, within some seconds
+# status_of JOB WANTED: the profile's script reports this status for a job, within some seconds
 status_of() {
   local got=''
   for _ in $(seq 20); do
@@ -456,7 +467,8 @@ status_of() {
   fail "job $1 is '$got', not $2"
 }
 
-# cluster_scripts: the profile's two scripts on jobs that end, fail, are cancelled, wait for ever, and are not known
+# cluster_scripts: the profile's two scripts on jobs that end, fail, are cancelled, wait for ever,
+# and are not known
 cluster_scripts() {
   local ends fails stays waits
   row='the scripts of the profile'

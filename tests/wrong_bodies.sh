@@ -1,5 +1,6 @@
 #!/usr/bin/env bash
-# The wrong bodies still apply to the code, and each public operation has one that the gate tries. Nothing is proved.
+# The wrong bodies still apply to the code, and each public operation has one that the gate tries.
+# Nothing is proved.
 # Status 77, and 'skipped', if a package is missing.
 set -u
 . "$(dirname "$0")/common.bash"

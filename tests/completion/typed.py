@@ -1,8 +1,9 @@
 #!/usr/bin/env python3
 """usage: typed.py bash|zsh SETUP < LINES
-Types each line into an interactive shell and asks it there for what it offers. Prints the line, a tab, and the offered words in
-their order with blanks between. SETUP is a file that the shell sources first. The environment's TYPED_IN is a folder in which the
-shell runs as in a system of its own (by chroot)."""
+Types each line into an interactive shell and asks it there for what it offers. Prints the line, a
+tab, and the offered words in their order, separated by spaces. SETUP is a file that the shell
+sources first. The environment's TYPED_IN is a directory in which the shell runs as in a system of
+its own (by chroot)."""
 
 import fcntl
 import os
@@ -40,7 +41,7 @@ class Shell:
         os.write(self.terminal, text.encode())
 
     def until_mark(self):
-        """What the shell prints up to the mark and the prompt after it, without the codes that move the cursor."""
+        """What the shell prints up to the mark and the prompt after it, without cursor codes."""
         raw = ''
         while True:
             text = re.sub(r'\x1b(\[[0-9;?]*[A-Za-z]|[=>]|\([A-B])|[\x00\x07\x0f\r]', '', raw)
@@ -52,7 +53,7 @@ class Shell:
             raw += os.read(self.terminal, 65536).decode(errors='replace')
 
     def mark(self):
-        # The shell puts the two parts together, so what is typed is not the mark.
+        # The shell joins the two parts, so what is typed is not the mark.
         self.type('echo %s""%s\r' % (MARK[:6], MARK[6:]))
 
 
@@ -60,7 +61,7 @@ def offered(shell, line):
     shell.type(line + '\x14\x15')
     shell.mark()
     first, *lines = shell.until_mark().split('\n')
-    # After a line with no answer, bash completes the word in its place if there is just one answer.
+    # After a line with no offer, bash completes the word in its place if there is exactly one.
     typed = first.split('echo ' + MARK[:6])[0].rstrip()
     if typed.startswith(line) and len(typed) > len(line.rstrip()):
         return typed.split()[-1:]
@@ -68,7 +69,7 @@ def offered(shell, line):
     for each in lines:
         if each.startswith('> ') or MARK[6:] in each:
             break
-        # zsh puts a description behind two dashes.
+        # zsh puts a description after two dashes.
         words += each.split(' -- ')[0].split()
     return words
 
@@ -77,7 +78,7 @@ def main():
     name, setup = sys.argv[1:]
     words, settings = SHELLS[name]
     if 'TYPED_IN' in os.environ:
-        # bash's `< <(..)` needs /proc. The mount is gone when the shell is.
+        # bash's `< <(..)` needs /proc. The mount goes away with the shell.
         mounted = 'mount -t proc proc "$0/proc" && exec chroot "$0" "$@"'
         words = ['unshare', '--mount', 'sh', '-c', mounted, os.environ['TYPED_IN'], *words]
     shell = Shell(words)

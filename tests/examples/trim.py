@@ -3,8 +3,8 @@
 
 usage: trim.py FORWARD REVERSE DIRECTORY STEP..
 
-Reads two files of unwrapped records with Sanger's scores, whose titles have a blank behind the name. Writes p1.fq, u1.fq,
-p2.fq, u2.fq, trim.log and summary.txt into DIRECTORY.
+Reads two files of unwrapped records with Sanger's scores, whose titles have a space after the name.
+Writes p1.fq, u1.fq, p2.fq, u2.fq, trim.log and summary.txt into DIRECTORY.
 """
 import os
 import sys

@@ -1,9 +1,10 @@
-"""Reads pages of contrib/report_to_html as HTML, and compares them with the reports from which they were made.
+"""Reads pages of contrib/report_to_html as HTML, and compares them with their reports.
 
     check.py page REPORT PAGE   the page has the numbers of its report, and loads and runs nothing
     check.py hostile SCRIPT REPORT   no text of a report becomes markup
     check.py changed SCRIPT REPORT   each change at one place gives a page or a refusal
-    check.py mqc REPORT START   the files of report_to_mqc, whose names begin with START, have the numbers of the report
+    check.py mqc REPORT START   the files of report_to_mqc, whose names begin with START, have the
+                                numbers of the report
 """
 
 import copy
@@ -21,7 +22,8 @@ LAST = 10_001
 
 
 class Page(html.parser.HTMLParser):
-    """The tags of a page with their attributes, its text, its parts with a class, and what its graphs say under the mouse."""
+    """The tags of a page with their attributes, its text, its parts with a class, and the titles
+    that its graphs show under the mouse."""
 
     def __init__(self, content):
         super().__init__(convert_charrefs=True)
@@ -77,7 +79,7 @@ def parsed(content):
     return page
 
 
-# The numbers of a page, worked out from the report once more.
+# The numbers of a page, computed a second time from the report.
 
 
 def after(report, side):
@@ -97,7 +99,7 @@ def at_least(parts, number):
 
 
 def per_cent(text):
-    """The bounds of a per cent as the page writes it."""
+    """The bounds of a percentage as the page writes it."""
     if text == "–":
         return 0, 0
     word, number = re.fullmatch(r"(under |over )?([0-9.]+) %", text).groups()
@@ -259,7 +261,7 @@ def loaded(path):
 
 
 def places(value, before=()):
-    """The way to each value within a report; of a long list only to its first items."""
+    """The path to each value within a report; in a long list only to its first items."""
     for key in list(value) if isinstance(value, dict) else range(min(len(value), 3)):
         yield (*before, key)
         if isinstance(value[key], (dict, list)):
@@ -299,7 +301,7 @@ def check_hostile(script, report):
 
 
 def check_changed(script, report):
-    """Some of the changes are made at each place, others at the next one: all together take too long."""
+    """Makes some of the changes at each place, others at the next one: all would take too long."""
     module = loaded(script)
     refused = drawn = 0
     changes = [

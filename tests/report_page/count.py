@@ -1,9 +1,10 @@
-"""A slow count of a run that this file makes up: pairs are drawn, trimmed and counted without the program.
+"""A slow count of a simulated run: pairs are drawn, trimmed and counted without the program.
 
     count.py KIND FILE
 
-writes the report of such a run into FILE, with all fields that the page draws. KIND is `plain` (500 pairs of 150 bases),
-`long` (a pair of 10,250 and 12,000 bases among 50 pairs), `small` (20 pairs of 40 bases) or `none` (no pair).
+writes the report of such a run into FILE, with all fields that the page draws. KIND is `plain`
+(500 pairs of 150 bases), `long` (a pair of 10,250 and 12,000 bases among 50 pairs), `small` (20
+pairs of 40 bases) or `none` (no pair).
 """
 
 import collections
@@ -17,7 +18,7 @@ SIDES = ("forward", "reverse")
 
 
 def drawn(bases, fall):
-    """A read whose scores fall along it, with a bad end at some reads."""
+    """A read whose scores fall along it; some reads have a bad end."""
     front = random.choice([0] * 8 + [1, 2, 3])
     bad = min(int(random.expovariate(1 / 25)) if random.random() < 0.5 else 0, max(bases - front - 20, 0))
     good = bases - front - bad
@@ -31,7 +32,8 @@ def drawn(bases, fall):
 
 
 def trimmed(read):
-    """What LEADING:3, TRAILING:6 and MINLEN:36 leave: the first place, the place behind the last, and what each did."""
+    """What LEADING:3, TRAILING:6 and MINLEN:36 leave: the first place, the place after the last
+    one, and what each step did."""
     letters, scores = read
     first, last, did = 0, len(scores), []
     while first < last and scores[first] < 3:
@@ -48,7 +50,7 @@ def trimmed(read):
 
 
 class Reads:
-    """What is counted of reads, one base after the other."""
+    """Counts over reads, one base after the other."""
 
     def __init__(self):
         self.lengths, self.means, self.gcs = (collections.Counter() for _ in range(3))
@@ -90,7 +92,7 @@ class Reads:
 
 
 class Side:
-    """What is counted of one side."""
+    """Counts over one side."""
 
     def __init__(self):
         self.parts = {part: Reads() for part in PARTS}

@@ -1,6 +1,8 @@
 #!/usr/bin/env bash
-# picture.sh FILE: draws docs/page.png again: trims simulated pairs, makes the page of their report, and takes a picture of its top with Chromium.
-# It needs Debian's packages chromium and pngquant. FQ_PROG is the program, crates/fq_prog/out/fq_prog if not set.
+# picture.sh FILE: draws docs/page.png again. It trims simulated pairs, makes the page of their
+# report, and takes a picture of its top with Chromium.
+# It needs Debian's packages chromium and pngquant. FQ_PROG is the program,
+# crates/fq_prog/out/fq_prog if not set.
 set -euo pipefail
 
 if [ "$#" -ne 1 ] || [ "$1" = --help ]; then

@@ -1,4 +1,4 @@
-"""Tests of the parts of contrib/trim_gz by themselves. No other program is started."""
+"""Unit tests of the parts of contrib/trim_gz. They start no other program."""
 
 import gzip
 import json
@@ -118,7 +118,7 @@ class ProgressTest(Pieces):
         self.assertEqual(progress.describe(0, 0, 0), "0 MB/s")
 
     def printed(self, writing, reading, is_wanted):
-        """What is printed on this descriptor in the place of standard error: two ticks and the end."""
+        """What is printed on this descriptor in place of standard error: two ticks and the end."""
         class Half:
             size = 2000000
 
@@ -223,7 +223,7 @@ class FilesTest(Pieces):
         self.assertEqual(self.refused(output.check, [], [files.Output("report", a)]), (2, f"{b} is given for two outputs"))
 
     def output(self, old):
-        """An output with new text in its hidden file; beside it an older one, if there is a text for it."""
+        """An output with new text in its hidden file, and an older output if its text is given."""
         for name in os.listdir(self.folder):
             os.unlink(os.path.join(self.folder, name))
         if old:

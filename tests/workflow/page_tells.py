@@ -1,9 +1,10 @@
-"""Compares what is on the workflow's page with direct calls of the program, for the samples that are named and no others.
+"""Compares the workflow's page with direct calls of the program, for exactly the named samples.
 
     page_tells.py DIRECT DATA SAMPLE..            the table, the dropped reads, and the lengths before and after
     page_tells.py DIRECT DATA --removed SAMPLE..  the lines of removed bases
 
-DIRECT has the texts that were read and written, the logs and the reports of the direct calls. DATA is the folder of the page's data.
+DIRECT has the texts that were read and written, the logs and the reports of the direct calls. DATA
+is the directory of the page's data.
 """
 
 import collections
@@ -14,7 +15,7 @@ SIDES = {"forward": 1, "reverse": 2}
 
 
 class Page:
-    """The page's data, and what they are compared with."""
+    """The page's data, and the data to compare them with."""
 
     def __init__(self, direct, data, samples):
         self.direct, self.data, self.samples = direct, data, samples
@@ -27,7 +28,7 @@ class Page:
         return header[1:], {row[0]: row[1:] for row in rows}
 
     def plot(self, graph):
-        """What is drawn of each side of each sample, without zeros."""
+        """What the page draws for each side of each sample, without zeros."""
         columns, rows = self.rows(f"tibzharuk_{graph}_plot")
         assert sorted(rows) == sorted(f"{sample} {side}" for sample, side in self.bars), (graph, rows)
         cells = {name: zip(columns, row) for name, row in rows.items()}
@@ -73,7 +74,7 @@ def check_dropped(page):
 
 
 def check_line(drawn, numbers, among, where):
-    """The line has the per cent of reads, among so many, that have each number of bases."""
+    """The line shows which percentage of the `among` reads has each number of bases."""
     wanted = {number: round(100 * reads / among, 4) for number, reads in collections.Counter(numbers).items()}
     assert {int(float(place)): percent for place, percent in drawn.items()} == wanted, (where, drawn, wanted)
 

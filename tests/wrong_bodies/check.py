@@ -1,9 +1,10 @@
 #!/usr/bin/env python3
 """Checks the wrong bodies of every crate without a proof. Run it in the root of the repository.
 
-Each edit in must-fail/ and wrong-bodies/ still applies: its file is there, each text after 'old:' is in it once, and something
-changes. No name is given twice in a crate. Each public function of a crate with wrong bodies has a row in guards.tsv beside
-this script, and the edit of each operation is one that the gate tries.
+Each edit in must-fail/ and wrong-bodies/ still applies: its file exists, each text after 'old:' is
+in the file once, and something changes. No name is given twice in a crate. Each public function of
+a crate with wrong bodies has a row in guards.tsv beside this script, and the edit of each operation
+is one that the gate tries.
 """
 import os
 import re
