@@ -95,9 +95,9 @@ pub fn program<'a, R: Threads + Wait + Copy + Send + 'static, T: Files, O: Outle
         → LacksPrint (device_of O.state out.old out.new)
         (device_of E.state err.old err.new) result }
 
-    // At status 0 `err` has taken nothing and `out` has taken the whole text. If `out` fails, the
-    // status says so, unless it says that the input is faulty. At statuses other than 0 and 3
-    // nothing is printed, and refused memory is reported as such.
+    // At status 0 `err` has taken nothing and `out` the whole text. Unless `out` failed, nothing is
+    // printed at statuses other than 0 and 3. If it failed, the status is 3, or 4 with the line for
+    // that. Refused memory is reported as such.
     ensures finished { result ≡ 0 → ((O.state out.new).failures ≡ 0) × (err.new ≡ err.old) }
     ensures quiet { result ≢ 0 → result ≢ 3 → (O.state out.new).failures ≡ 0 → out.new ≡ out.old }
     ensures failed { (O.state out.new).failures ≢ 0

@@ -39,7 +39,8 @@ pub(crate) fn tell_account<O: Outlet, E: Outlet>(
     ensures memory { result ≡ 5 → (out.new ≡ out.old)
         × LacksMemory (device_of E.state err.old err.new) result }
 
-    // If `out` failed, the status says so. Nothing but the summary is printed.
+    // Unless `out` failed, nothing is printed at statuses other than 0 and 3. If it failed, the
+    // status is 3, or 4 with the line for that.
     ensures quiet { result ≢ 0 → result ≢ 3 → (O.state out.new).failures ≡ 0 → out.new ≡ out.old }
     ensures failed { (O.state out.new).failures ≢ 0
         → (result ≡ 3) ⊎ ((result ≡ 4) × TookText (device_of E.state err.old err.new) print_line) }
