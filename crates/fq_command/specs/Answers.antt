@@ -25,8 +25,8 @@ use Rattle.fq_job.specs.Reporting.{HoldsReport, BeginsReport}
 use Rattle.fq_job.specs.declared.reporting.Reported.{Reported}
 use Rattle.fq_job.specs.declared.reporting.Reported.TheVariants as report
 
--- A device in a call: whether it tells its bytes, the bytes that it had taken before the call and
--- has taken after it, and how often it has failed.
+-- A device in a call: whether its bytes are known to the proof, those that it had taken before the
+-- call and has taken after it, and how often it has failed.
 pub record Device : Type 0 where
   pub tells : Bool
   pub before : List ℕ

@@ -200,7 +200,7 @@ settled_if (Endless side) whole = refl
 settled_if (Input found) whole = whole refl
 settled_if Finished whole = refl
 
--- the outcome of a run over feeds that tell their bytes is reported unchanged
+-- the outcome of a run over feeds with known bytes is reported unchanged
 pub as_it_is : (c : Choices) (run : Run) → (IsTrue (ends_whole run.outcome) → IsTrimmed c run) → settled run.outcome ≡ run.outcome
 as_it_is c run trims = settled_if run.outcome (λ whole.
     let is = (trims whole).outcome in

@@ -47,7 +47,7 @@ unmade_of a this name old new named there others = record {
   others = λ other free. others other (λ same. free (named ∙ ap Some (sym same)));
 }
 
--- whether files tell their bytes never changes
+-- whether the bytes of files are known to the proof never changes
 pub along : (a b : Bool) → a ≡ b → IsTrue b → IsTrue a
 along a b e told = subst IsTrue (sym e) told
 

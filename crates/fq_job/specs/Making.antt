@@ -25,7 +25,7 @@ pub record StopsMaking (a : Asking) (why : Refusal) (start files : Holding) : Ty
   pub rest : KeepsRest a start files
   pub leaves : HasDistinctOutputs a → RefusalLeaves a why start files
 
--- the first n outputs have been made, if the files tell their bytes
+-- the first n outputs have been made, if the bytes of the files are known
 abbrev pub Made : Asking → Holding → ℕ → Bool → Holding → Type 0
 Made a start n tells files = IsTrue tells → AreMade a start n files
 
@@ -44,6 +44,6 @@ pub record AreStored (a : Asking) (start : Holding)
   pub rest : KeepsRest a start files
   pub hold : HasDistinctOutputs a → HoldFirst n a states files
 
--- the outlets of the first n outputs have been handed back, if the files tell their bytes
+-- the outlets of the first n outputs have been handed back, if the bytes of the files are known
 abbrev pub Stored : Asking → Holding → OutletStates → ℕ → Bool → Holding → Type 0
 Stored a start states n tells files = IsTrue tells → AreStored a start states n files

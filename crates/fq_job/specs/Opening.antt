@@ -11,8 +11,8 @@ use Rattle.fq_job.specs.Refusals.{status_of}
 use Rattle.fq_job.specs.Trimming.{Opened, HasDistinctFiles, KeepsUnnamed, AreFresh, AreFed, AreEmpty, IsEmptyOutlet, AreHeld}
 use Rattle.fq_job.specs.Leaving.{AreThere, TellsInputs, RefusalLeaves, ReportLeft}
 
--- Everything that a run needs is open: no device has failed, the names exist, and if the files tell
--- their bytes, the outlets do too and are empty.
+-- Everything that a run needs is open: no device has failed and the names exist. If the bytes of
+-- the files are known to the proof, those of the outlets are too, and the outlets are empty.
 pub record AreReady (a : Asking) (tells : Bool) (files : Holding)
     (inputs : Opened) (outlets : OutletStates) (report : Option OutletState) : Type 0 where
   pub form : inputs.form ≡ a.inputs.form

@@ -44,23 +44,23 @@ KeepsUnnamed a old new = (name : List ℕ) → ((out : Out) → output_name a ou
 abbrev pub AreHeld : Asking → Holding → Type 0
 AreHeld a files = (out : Out) (name : List ℕ) → output_name a out ≡ Some name → IsSome (files name)
 
--- the file of each output holds what its outlet has taken, if that outlet tells its bytes
+-- the file of each output holds what its outlet has taken, if the outlet's bytes are known
 abbrev pub HoldTaken : Asking → OutletStates → Holding → Type 0
 HoldTaken a outlets files = (out : Out) (name : List ℕ) (outlet : OutletState) →
     output_name a out ≡ Some name → outlet_at out outlets ≡ Some outlet →
     IsTrue outlet.tells → files name ≡ Some outlet.taken
 
--- an outlet that tells its bytes and has taken none
+-- an outlet whose bytes are known to the proof, and that has taken none
 pub record IsEmptyOutlet (outlet : OutletState) : Type 0 where
   pub tells : IsTrue outlet.tells
   pub taken : outlet.taken ≡ []
 
--- each outlet tells its bytes and has taken none
+-- the bytes of each outlet are known, and it has taken none
 abbrev pub AreEmpty : OutletStates → Type 0
 AreEmpty outlets = (out : Out) (outlet : OutletState) →
     outlet_at out outlets ≡ Some outlet → IsEmptyOutlet outlet
 
--- an input tells its bytes, which are those of its file
+-- the bytes of an input are known, and are those of its file
 pub record IsFed (tells : Bool) (to_come : List ℕ) (bytes : Option (List ℕ)) : Type 0 where
   pub told : IsTrue tells
   pub bytes_are : bytes ≡ Some to_come
@@ -107,7 +107,7 @@ pub record AreFresh (inputs : Opened) : Type 0 where
   pub forward : inputs.forward.failures ≡ 0
   pub reverse : inputs.reverse.failures ≡ 0
 
--- each input tells its bytes, which are those of its file
+-- the bytes of each input are known, and are those of its file
 pub record AreFed (inputs : Opened) (names : InputNames) (files : Holding) : Type 0 where
   pub form : inputs.form ≡ names.form
   pub forward : IsFed inputs.forward.tells inputs.forward.to_come (files names.forward)

@@ -39,7 +39,7 @@ pub record FilesAreInStep (a : Asking) (old new : Holding) (out : Device) : Type
   pub in_step : AreInStep choices.check_names choices.steps
       choices.encoding (pairs_of choices a.inputs.form forward reverse).mates counts texts
 
--- the files are in step, if they tell their bytes and those that are made have different names
+-- the files are in step, if their bytes are known and those that are made have different names
 abbrev pub WholeFilesAreInStep : Type 0
 WholeFilesAreInStep =
     (a : Asking) (told : Bool) (old new : Holding) (out err : Device) (status : ℕ) →

@@ -24,7 +24,7 @@ pub record RunIsInStep (c : Choices) (run : Run) : Type 0 where
   pub taken : HaveTaken run.outlets_left texts
   pub in_step : AreInStep c.check_names c.steps c.encoding (all_pairs c run).mates run.counts texts
 
--- the outputs are in step, if the outlets tell their bytes and begin empty
+-- the outputs are in step, if the bytes of the outlets are known and the outlets begin empty
 abbrev pub WholeRunsAreInStep : Type 0
 WholeRunsAreInStep = (c : Choices) (run : Run) →
     IsTrimmed c run → AreEmpty run.outlets → RunIsInStep c run
@@ -43,7 +43,7 @@ pub record RunIsInStepUpTo (c : Choices) (run : Run) : Type 0 where
   pub unbroken : 5 < rank run.outcome → fate ≡ Unbroken
   pub in_step : AreInStep c.check_names c.steps c.encoding whole run.counts texts
 
--- the outputs are in step for the first pairs, if the feeds tell their bytes, too
+-- the outputs are in step for the first pairs, if the bytes of the feeds are known, too
 abbrev pub EndingsAreInStep : Type 0
 EndingsAreInStep = (c : Choices) (run : Run) →
     EveryEnding c run → AreTold run → AreEmpty run.outlets → RunIsInStepUpTo c run

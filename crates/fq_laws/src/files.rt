@@ -1,5 +1,5 @@
-//! Laws of the files that the program leaves. They hold for files that tell their bytes, if the
-//! files that are made have different names.
+//! Laws of the files that the program leaves. They hold for files whose bytes are known to the
+//! proof, if the files that are made have different names.
 
 ghost use Rattle.fq_laws.specs.Files.{WholeFilesAreInStep, FilesLeftAreInStep};
 

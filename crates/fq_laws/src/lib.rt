@@ -8,8 +8,9 @@
 //! - A read can be read again if it is plain: its title doesn't end in CR, and the first base that
 //!   is left of it is neither `@` nor `+` ([`letters_are_plain`]).
 //! - Under `TOPHRED33` the outputs are read in Sanger's encoding (Phred+33).
-//! - Outlets tell their bytes and begin empty. For endings that aren't whole, feeds tell their
-//!   bytes too. Files tell their bytes, and the files that are made have different names.
+//! - The bytes of outlets are known to the proof, as those of memory are, and outlets begin empty.
+//!   For endings that aren't whole, the bytes of feeds are known, too. The bytes of files are
+//!   known, and the files that are made have different names.
 #![tactic(auto)]
 
 mod files;

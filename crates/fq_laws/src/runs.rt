@@ -4,8 +4,8 @@ ghost use Rattle.fq_laws.specs.Runs.{WholeRunsAreInStep, EndingsAreInStep};
 
 /// After a run that ended whole, what its outlets have taken is in step, with its counts.
 ///
-/// The premise `IsTrimmed` is the clause `whole` of each run. The outlets must tell their bytes and
-/// have begun empty.
+/// The premise `IsTrimmed` is the clause `whole` of each run. The bytes of the outlets must be
+/// known to the proof, and the outlets must have begun empty.
 pub fn whole_runs_are_in_step()
     ensures { WholeRunsAreInStep }
 {}
@@ -13,8 +13,8 @@ pub fn whole_runs_are_in_step()
 /// After a run with any other ending except an unconfirmed lane, what its outlets have taken is in
 /// step for its first pairs, up to the block in which a write failed.
 ///
-/// The premise `EveryEnding` is the clause `every` of each run. The feeds must tell their bytes,
-/// too.
+/// The premise `EveryEnding` is the clause `every` of each run. The bytes of the feeds must be
+/// known, too.
 pub fn endings_are_in_step()
     ensures { EndingsAreInStep }
 {}
