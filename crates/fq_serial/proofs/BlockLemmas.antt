@@ -1,4 +1,4 @@
--- Blocks that are written one behind another.
+-- Blocks that are written one after another.
 use Rattle.std.proofs.Common.{◌≡◌, ◌-◌, ◌<◌, ◌≤◌, ◌^◌, Option, Some, None, List, [], ◌++◌, length, refl, sym, ap, subst, ◌∙◌, arith}
 use Rattle.std.proofs.lemmas.List.{append-nil}
 use Rattle.fq_pair.specs.declared.out.Out.{Out}
@@ -23,7 +23,7 @@ use Rattle.fq_serial.proofs.WalkLemmas.{walks_none, walks_then, reads_then}
 use Rattle.fq_pair.proofs.SideLemmas.{walked_records}
 
 module _ (c : Choices) (old : SourceState) (before : OutletStates) where
-  -- whole blocks have been read and written
+  -- complete blocks were read and written
   pub record Wrote (now : SourceState) (after : OutletStates) (counted : Total) : Type 0 where
     pub whole : List Mates
     pub counts : counted ≡ total_of c.tallied c.steps whole
@@ -63,7 +63,7 @@ module _ (c : Choices) (old : SourceState) (before : OutletStates) where
           missed_none = λ sound none. refl;
         }
 
-    -- both together
+    -- the blocks before and this one
     took_block : {then : OutletStates} (w : Wrote now after counted) (g : Gathers now next c.tallied c.steps c.block_pairs done why) → OutletsTook after then (λ out. text_of out done.texts) None →
         OutletsTook before then (λ out. text_of out (texts_of c.steps (w.whole ++ g.block))) None
     took_block {then} w g p =
@@ -110,7 +110,7 @@ module _ (c : Choices) (old : SourceState) (before : OutletStates) where
           goes = g.goes going;
         }
 
-  -- it brings the end nearer
+  -- each block brings the end nearer
   pub nearer : {now next : SourceState} {after : OutletStates} {counted : Total} {done : Done} {why : Option ReadingEnd} → Wrote now after counted → Gathers now next c.tallied c.steps c.block_pairs done why →
       1 ≤ c.block_pairs → why ≡ None → old.most_bytes - next.forward.given < old.most_bytes - now.forward.given
   nearer {now} {next} {after} {counted} {done} {why} w g some going =

@@ -1,4 +1,4 @@
--- The pairs of texts of which only a first part came.
+-- The pairs of texts that came only in part.
 use Rattle.std.proofs.Common.{◌≡◌, ℕ, suc, ◌+◌, ◌≤◌, Bool, List, [], ◌∷◌, ◌++◌, length, refl, ap, sym, subst, ◌∙◌, arith, append_assoc}
 use Rattle.std.proofs.lemmas.List.{append_cancel_right}
 use Rattle.fq_text.specs.declared.encoding.Encoding.{Encoding}
@@ -39,7 +39,7 @@ module _ (check : Bool) (e : Encoding) where
     abbrev LeavesNone : ℕ → List (List ℕ) → List (List ℕ) → Type 0
     LeavesNone n forward reverse = (fs rs : List (List ℕ)) → fs ++ more ≡ forward → rs ++ more' ≡ reverse → length (mates_at n fs rs) ≤ 0
 
-    -- one pair more, where this stands in front
+    -- one more pair, if it comes first
     one_more : (n : ℕ) (m : Mates) (ms : List Mates) (forward reverse forward' reverse' gs qs : List (List ℕ)) → pair_front check e n (forward ++ more) (reverse ++ more') ≡ Met m gs qs →
         Leads TwoTexts check e (suc n) ms gs qs forward' reverse' → LeavesNone (n + length (m ∷ ms)) forward' reverse' →
         ((fs rs : List (List ℕ)) → Leads TwoTexts check e (suc n) ms (fs ++ more) (rs ++ more') forward' reverse' → LeavesNone (suc n + length ms) forward' reverse' → length (mates_at (suc n) fs rs) ≤ length ms) →
@@ -60,7 +60,8 @@ module _ (check : Bool) (e : Encoding) where
         let h = ap (λ (q : Pairs). length q.mates) (pairs_of-met check e n forward reverse x fs rs is) in
         omega arith
 
-    -- at most so many pairs stand in the first lines of two texts, where as many lead to lines that begin with no pair
+    -- the first lines of two texts have at most as many pairs as `ms`, if `ms` leads to lines that
+    -- begin with no pair
     pub at_most : (n : ℕ) (ms : List Mates) (forward reverse forward' reverse' : List (List ℕ)) → Leads TwoTexts check e n ms (forward ++ more) (reverse ++ more') forward' reverse' →
         LeavesNone (n + length ms) forward' reverse' → length (mates_at n forward reverse) ≤ length ms
     at_most n [] forward reverse forward' reverse' p none =
@@ -70,7 +71,7 @@ module _ (check : Bool) (e : Encoding) where
     at_most n (m ∷ ms) forward reverse forward' reverse' p none =
         one_more n m ms forward reverse forward' reverse' p.0 p.1 p.2 p.3 none (λ fs rs. at_most (suc n) ms fs rs forward' reverse') (pair_front check e n forward reverse) refl
 
--- The same of an interleaved text.
+-- An interleaved text.
 module _ (check : Bool) (e : Encoding) where
   abbrev pub interleaved_at : ℕ → List (List ℕ) → List Mates
   interleaved_at n ls = (pairs_at InterleavedText check e n ls ls).mates
@@ -110,9 +111,9 @@ module _ (check : Bool) (e : Encoding) where
     interleaved_at_most n (m ∷ ms) ls same ls' same' p none =
         interleaved_one_more n m ms ls same ls' same' p.0 p.1 p.2 p.3 none (λ fs rs. interleaved_at_most (suc n) ms fs rs ls' same') (interleaved_front check e n ls) refl
 
--- The records of the first lines of an interleaved text, up to lines behind its pairs.
+-- The records of the first lines of an interleaved text, up to the lines after its pairs.
 module _ (check : Bool) (e : Encoding) where
-  -- what is left behind pairs was the last part of what was there before them
+  -- the lines that are left after the pairs are the end of the lines before
   leads_end : (n : ℕ) (ms : List Mates) (ls same ls' same' : List (List ℕ)) → Leads InterleavedText check e n ms ls same ls' same' → (before : List (List ℕ)) × (ls ≡ before ++ ls')
   leads_end n [] ls same ls' same' p = ([], p.0)
   leads_end n (m ∷ ms) ls same ls' same' p =

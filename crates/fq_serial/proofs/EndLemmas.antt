@@ -1,4 +1,4 @@
--- What a run promises, from what it read and wrote.
+-- What a run guarantees, from what it read and wrote.
 use Rattle.std.proofs.Common.{◌≡◌, ◌≤◌, ◌⊎◌, inl, inr, true, false, IsTrue, Option, Some, None, List, [], ◌++◌, length, ⊎_elim, refl, sym, ap, subst, ◌∙◌, arith, append_assoc}
 use Rattle.std.proofs.lemmas.List.{append-nil}
 use Rattle.fq_text.specs.Lines.{whole_part}
@@ -50,7 +50,7 @@ pub record Closes (c : Choices) (old new : SourceState) (before after : OutletSt
   pub missed_none : halt ≡ no_halt → block_begun fate ≡ [] → missed ≡ []
 
 module _ (c : Choices) (old new : SourceState) (before mid after : OutletStates) (counted : Total) (halt : Halt) (why : Option ReadingEnd) where
-  -- where no write failed
+  -- if no write failed
   flushed : (whole missed : List Mates) → IsCounted c whole halt why counted → Reads old new ((whole ++ []) ++ missed) why → OutletsTook before mid (λ out. text_of out (texts_of c.steps whole) ++ []) None →
       (why ≡ None → ⊥) → (halt ≡ no_halt → missed ≡ []) → (failed : Option Out) → OutletsTook mid after (λ out. []) failed → Closes c old new before after counted halt why failed
   flushed whole missed counts reads took over none None p = record {
@@ -116,7 +116,7 @@ unbroken Unbroken is = refl
 unbroken (FlushFailed out) is = absurd cc
 unbroken (WriteFailed out sent block) is = absurd cc
 
--- the first of the first
+-- the beginning of a beginning
 first_of : (ms ns all : List Mates) → AreFirst (ms ++ ns) all → AreFirst ms all
 first_of ms ns all p = (ns ++ p.0, p.1 ∙ append_assoc ms ns p.0)
 
@@ -143,7 +143,7 @@ module _ (form : Form) (c : Choices) (f r : FeedState) (new : SourceState) (befo
   reads_at : (s : ReadingEnd) → why ≡ Some s → Reads (fresh_source form c f r) new all_read (Some s)
   reads_at s is = let P : Option ReadingEnd → Type 0 = λ w. Reads (fresh_source form c f r) new all_read w in subst P is p.reads
 
-  -- so many bytes were given where one read more would have been one too many
+  -- at least `max_reads` bytes were given if one read call more would have been too many
   endless_bytes : (side : Side) → why ≡ Some (reading.Fault (Text side text.Endless)) → IsTrue (feed_of side run).tells → c.max_reads ≤ length (gave_to (feed_of side run) (feed_left side run))
   endless_bytes Forward is told =
       let q = reads_at (reading.Fault (Text Forward text.Endless)) is in let e = q.2 in let most = e.endless in
@@ -154,7 +154,7 @@ module _ (form : Form) (c : Choices) (f r : FeedState) (new : SourceState) (befo
       let d = reads_reverse form c f r new all_read why p.reads in let same = d.max_reads in
       let len = gave_length c r new.reverse _ d told in omega arith
 
-  -- at least the pairs of the whole lines that came
+  -- at least the pairs in the complete lines that came
   cut_pairs : AreTold run → (fault : InputFault) → why ≡ Some (reading.Fault fault) → is_cut_short fault ≡ true → length (pairs_given c run) ≤ length all_read
   cut_pairs told fault is short =
       let most = reads_cut c f r form new all_read fault (reads_at (reading.Fault fault) is) short told.forward told.reverse in
@@ -173,7 +173,7 @@ module _ (form : Form) (c : Choices) (f r : FeedState) (new : SourceState) (befo
   cut_whole : AreTold run → (fault : InputFault) → why ≡ Some (reading.Fault fault) → is_cut_short fault ≡ true → all_read ≡ p.whole → length (pairs_given c run) ≤ length p.whole
   cut_whole told fault is short whole = let most = cut_pairs told fault is short in let len = ap length whole in omega arith
 
-  -- in an interleaved text the read was made for the record that comes next
+  -- in an interleaved text the read call was made for the next record
   next_side : form ≡ InterleavedText → AreTold run → (side : Side) (fault : TextFault) → why ≡ Some (reading.Fault (Text side fault)) → is_cut fault ≡ true →
       ((P : Side → Type 0) → if_cut P (Text side fault) → P side) → IsNext c run side
   next_side one told side fault is cut of_side =
@@ -181,7 +181,7 @@ module _ (form : Form) (c : Choices) (f r : FeedState) (new : SourceState) (befo
       ap (λ xs. side_behind (length (records c.encoding (whole_part xs)).reads)) (forward_gave told.forward)
       ∙ reads_next c f r new all_read side fault (subst R one (reads_at (reading.Fault (Text side fault)) is)) cut of_side told.forward told.reverse
 
-  -- what was written where a flush failed
+  -- what was written if a flush failed
   came_by : (fault : InputFault) → Kind fault → why ≡ Some (reading.Fault fault) → AreTold run → all_read ≡ p.whole → (out : Out) → o ≡ outcome.Write out → IsAllThatCame c run p.whole
   came_by fault (OfText inside) is told whole out at =
       inl (sym whole ∙ sym (ap (λ (q : Pairs). q.mates) (reads_fault form c f r new all_read fault (reads_at (reading.Fault fault) is) inside told.forward told.reverse)))
@@ -239,7 +239,7 @@ module _ (form : Form) (c : Choices) (f r : FeedState) (new : SourceState) (befo
     outcome = justified;
   }
 
-  -- where all pairs were read and no outlet failed
+  -- if all pairs were read and no outlet failed
   trimmed_all : AreTold run → failed ≡ None → halt ≡ no_halt → (why ≡ Some reading.Memory → ⊥) → (fault : Option InputFault) → all_pairs c run ≡ record { mates = all_read; fault = fault } → o ≡ trimmed_outcome fault → IsTrimmed c run
   trimmed_all told none going enough fault all is =
       let sound_is = sound_fate none in
@@ -254,7 +254,7 @@ module _ (form : Form) (c : Choices) (f r : FeedState) (new : SourceState) (befo
         outcome = is ∙ ap trimmed_outcome (sym (ap (λ (q : Pairs). q.fault) all));
       }
 
-  -- a run that ends whole has trimmed all pairs
+  -- a run that ends at the end of the input, or at a fault in it, has trimmed all pairs
   trimmed_by : Verdict halt why failed o → IsTrue (ends_whole o) → AreTold run → IsTrimmed c run
   trimmed_by (IsRefused there is) ends told = absurd (let e = sym (ap ends_whole is) ∙ ends in cc)
   trimmed_by (WantsMemory is) ends told = absurd (let e = sym (ap ends_whole is) ∙ ends in cc)

@@ -12,7 +12,7 @@ use Rattle.fq_serial.specs.PairsRead.{Reads}
 use Rattle.fq_serial.proofs.WalkLemmas.{walks_none, walks_then}
 use Rattle.fq_pair.proofs.SideLemmas.{walked_records}
 
--- so many pairs have been read, and stand in the block
+-- `n` pairs were read, and are in the block
 pub record Filled (old now : SourceState) (empty block : Numbered) (n : ℕ) : Type 0 where
   pub number : block.number ≡ empty.number
   pub encoding : block.encoding ≡ empty.encoding
@@ -20,7 +20,7 @@ pub record Filled (old now : SourceState) (empty block : Numbered) (n : ℕ) : T
   pub walks : Walks old now block.pairs
   pub goes : GoesOn now
 
--- a pair more
+-- one more pair
 abbrev pub pushed : Numbered → Mates → Numbered
 pushed block m = record { number = block.number; encoding = block.encoding; pairs = block.pairs ++ m ∷ [] }
 
@@ -68,7 +68,7 @@ module _ (old now : SourceState) (empty block : Numbered) (n most : ℕ) (f : Fi
     goes = λ going. f.goes;
   }
 
-  -- the reading stopped behind the block
+  -- reading stopped after the block
   fills_stopped : (next : SourceState) (stop : ReadingEnd) → n < most → Reads old next block.pairs (Some stop) → (stop ≡ reading.Memory → next.given ≡ old.given + length block.pairs + 1) →
       Fills old next most empty block (Some stop)
   fills_stopped next stop room reads lost = let len = f.len in record {
@@ -95,6 +95,6 @@ module _ (old now : SourceState) (empty block : Numbered) (n most : ℕ) (f : Fi
       let P : Numbered → Type 0 = λ b. Fills old next most empty b (Some reading.Memory) in
       subst P (sym same) (fills_stopped next reading.Memory room (m ∷ [], walks) (λ refused. omega (arith, length-append block.pairs (m ∷ []))))
 
--- the same bound
+-- equal bounds may be exchanged
 pub fills_as : (old new : SourceState) (most most' : ℕ) (empty block : Numbered) (why : Option ReadingEnd) → most' ≡ most → Fills old new most' empty block why → Fills old new most empty block why
 fills_as old new most most' empty block why same f = let P : ℕ → Type 0 = λ n. Fills old new n empty block why in subst P same f

@@ -1,4 +1,4 @@
--- A pair that stands in front of lists of lines stands there too where more lines follow.
+-- A pair at the beginning of lists of lines is still there if more lines follow.
 use Rattle.std.proofs.Common.{◌≡◌, ℕ, suc, Bool, true, List, ◌++◌, refl, ap, sym, ◌∙◌, ⊎_elim}
 use Rattle.std.proofs.lemmas.Bool.{cond-true, cond-false, cases_Bool}
 use Rattle.fq_text.specs.declared.encoding.Encoding.{Encoding}
@@ -38,7 +38,7 @@ meets check n m fs rs (Found f gs) End is = absurd cc
 meets check n m fs rs (Found f gs) (Faulty y) is = absurd cc
 meets check n m fs rs (Found f gs) (Found r qs) is = found_met check n m f r gs qs fs rs is
 
--- a pair in front of two lists of lines stands there too where more lines follow each
+-- a pair at the beginning of two lists of lines is still there if more lines follow each
 pub met_more : (check : Bool) (e : Encoding) (n : ℕ) (m : Mates) (forward reverse fs rs more more' : List (List ℕ)) → pair_front check e n forward reverse ≡ Met m fs rs →
     pair_front check e n (forward ++ more) (reverse ++ more') ≡ Met m (fs ++ more) (rs ++ more')
 met_more check e n m forward reverse fs rs more more' is =
@@ -48,7 +48,7 @@ met_more check e n m forward reverse fs rs more more' is =
     ∙ cond-true (belong check (mates_in p.f p.r)) (Met (mates_in p.f p.r) (fs ++ more) (rs ++ more')) (Stopped (NamesDiffer (suc n))) p.together
     ∙ ap (λ x. Met x (fs ++ more) (rs ++ more')) p.pair
 
--- two records that make a pair, one behind the other
+-- two records that make a pair, one after the other
 pub record MeetsInterleaved (check : Bool) (e : Encoding) (m : Mates) (fs rs : List (List ℕ)) (x : Front) : Type 0 where
   pub f : Read
   pub r : Read
@@ -79,7 +79,7 @@ meets_interleaved check e n m fs rs (Found f ls) is = behind (front e ls) refl i
     behind (Faulty x) at there = absurd cc
     behind (Found r qs) at there = found_interleaved check e n m f r ls qs fs rs at there
 
--- the same of the lines of an interleaved text
+-- a pair at the beginning of the lines of an interleaved text is still there if more follow
 pub interleaved_met_more : (check : Bool) (e : Encoding) (n : ℕ) (m : Mates) (ls fs rs more : List (List ℕ)) → interleaved_front check e n ls ≡ Met m fs rs →
     interleaved_front check e n (ls ++ more) ≡ Met m (fs ++ more) (rs ++ more)
 interleaved_met_more check e n m ls fs rs more is =

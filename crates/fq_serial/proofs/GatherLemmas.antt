@@ -19,7 +19,7 @@ use Rattle.fq_serial.specs.PairsRead.{Reads}
 use Rattle.fq_serial.specs.Gathering.{Gathers}
 use Rattle.fq_serial.proofs.WalkLemmas.{walks_none, walks_then}
 
--- what a call says where it refused, and where it did not
+-- what a call guarantees if memory was refused, and if not
 pub err_says : {T E : Type 0} (r : Result T E) (refused : Bool) (P : Type 0) → refused ≡ is_err r → refused ≡ true → OnErr r P → P
 err_says (Ok x) refused P is yes_is p = absurd (let e = sym is ∙ yes_is in cc)
 err_says (Err x) refused P is yes_is p = p
@@ -28,7 +28,7 @@ pub ok_says : {T E : Type 0} (r : Result T E) (refused : Bool) (P : Type 0) → 
 ok_says (Ok x) refused P is no_is p = p
 ok_says (Err x) refused P is no_is p = absurd (let e = sym is ∙ no_is in cc)
 
--- so many pairs have been read and trimmed
+-- this number of pairs was read and trimmed
 pub record Gathered (old now : SourceState) (tallied : Bool) (steps : List Step) (gathered : Done) (n : ℕ) : Type 0 where
   pub block : List Mates
   pub len : length block ≡ n
@@ -76,7 +76,7 @@ module _ (tallied : Bool) (steps : List Step) where
     goes = λ going. g.goes;
   }
 
-  -- the reading stopped behind the block
+  -- reading stopped after the block
   gathers_stopped : (old now next : SourceState) (done : Done) (n most : ℕ) (stop : ReadingEnd) → n < most → (g : Gathered old now tallied steps done n) → Reads old next g.block (Some stop) →
       Gathers old next tallied steps most done (Some stop)
   gathers_stopped old now next done n most stop room g reads = let len = g.len in record {
@@ -103,7 +103,7 @@ module _ (tallied : Bool) (steps : List Step) where
       let P : Done → Type 0 = λ d. Gathers old next tallied steps most d (Some reading.Memory) in
       subst P (sym same) (gathers_stopped old now next done n most reading.Memory room g (m ∷ [], walks_then old now next g.block (m ∷ []) g.walks w))
 
--- the same wish, the same steps and the same bound
+-- equal flags, steps and bounds may be exchanged
 pub gathers_as : {old new : SourceState} {tallied tallied' : Bool} {steps steps' : List Step} {most most' : ℕ} {done : Done} {why : Option ReadingEnd} →
     tallied' ≡ tallied → steps' ≡ steps → most' ≡ most → Gathers old new tallied' steps' most' done why → Gathers old new tallied steps most done why
 gathers_as {old} {new} {tallied} {tallied'} {steps} {steps'} {most} {most'} {done} {why} asked same bound g =
@@ -112,11 +112,11 @@ gathers_as {old} {new} {tallied} {tallied'} {steps} {steps'} {most} {most'} {don
     let Q : ℕ → Type 0 = λ n. Gathers old new tallied' steps' n done why in
     subst O asked (subst P same (subst Q bound g))
 
--- what was gathered has a tally where one was asked for
+-- what was gathered has a tally if one was asked for
 pub gathered_asked : (old new : SourceState) (tallied : Bool) (steps : List Step) (most : ℕ) (done : Done) (why : Option ReadingEnd) → Gathers old new tallied steps most done why → is_some done.tally ≡ tallied
 gathered_asked old new tallied steps most done why g = ap (λ (t : Option Tally). is_some t) g.tally ∙ is_asked tallied steps g.block
 
--- why the reading has ended, if it has
+-- why reading stopped, if it did
 pub end_is : (why : Option ReadingEnd) (there : Bool) → there ≡ is_some why → there ≡ true → why ≡ None → ⊥
 end_is None there is yes_is none = let e = sym is ∙ yes_is in cc
 end_is (Some s) there is yes_is none = cc

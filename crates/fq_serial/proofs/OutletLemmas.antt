@@ -1,4 +1,4 @@
--- What outlets took, one text behind another.
+-- What outlets took, one text after another.
 use Rattle.std.proofs.Common.{◌≡◌, ℕ, Option, Some, None, Result, Err, List, [], ◌++◌, refl, sym, ap, subst, ◌∙◌, arith, append_assoc}
 use Rattle.std.specs.Option.{IfSome}
 use Rattle.std.proofs.lemmas.List.{append-nil}
@@ -20,7 +20,7 @@ took_none (Some o) = took_nothing o
 pub all_took_none : (o : OutletStates) → OutletsTook o o (λ out. []) None
 all_took_none o out = took_none (outlet_at out o)
 
--- one text behind another
+-- one text after another
 took_then : (a b c : OutletState) (s t : List ℕ) (n : ℕ) → TookText a b s 0 → TookText b c t n → TookText a c (s ++ t) n
 took_then a b c s t n p q =
     let first = p.failures in let second = q.failures in
@@ -42,7 +42,7 @@ pub all_took_then : (a b c : OutletStates) (s t : Out → List ℕ) (failed : Op
     OutletsTook a c (λ out. s out ++ t out) failed
 all_took_then a b c s t failed p q out = took_both (outlet_at out a) (outlet_at out b) (outlet_at out c) (s out) (t out) (failures_at failed out) (p out) (q out)
 
--- the same texts
+-- equal texts may be exchanged
 took_same : (a b : Option OutletState) (s t : List ℕ) (n : ℕ) → s ≡ t → Took a b s n → Took a b t n
 took_same a b s t n is p = let P : List ℕ → Type 0 = λ xs. Took a b xs n in subst P is p
 
@@ -64,7 +64,7 @@ module _ (old new : OutletStates) (texts : Outputs) where
   pub broken : (failed : Out) (r : Result (Unit {0}) Out) → r ≡ Err failed → BreaksAt old new texts failed → Sends old new texts r
   broken failed r is p = let P : Result (Unit {0}) Out → Type 0 = λ s. Sends old new texts s in subst P (sym is) p
 
--- outlets without failures have none where none failed
+-- outlets without failures still have none if none failed
 still : (a b : OutletState) (s : List ℕ) → a.failures ≡ 0 → TookText a b s 0 → b.failures ≡ 0
 still a b s sound p = let same = p.failures in omega arith
 

@@ -58,7 +58,7 @@ runs_nothing form c f r f' r' o w is same also =
     let P : Written → Type 0 = λ x. Runs form c f r f' r' o o x.total no_halt x.why x.failed in
     subst P (sym is) (runs_refused form c f r f' r' o (no_total false) same also refl)
 
--- what was passed from a fresh source on
+-- what was read from a fresh source and written
 pub runs_passed : (form : Form) (c : Choices) (f r f' r' : FeedState) (old new : SourceState) (before after : OutletStates) (counted : Total) (halt : Halt) (why : Option ReadingEnd) (failed : Option Out) →
     old ≡ fresh_source form c f r → f' ≡ feed_in new.forward → r' ≡ feed_in new.reverse → Passes c old new before after counted halt why failed → Runs form c f r f' r' before after counted halt why failed
 runs_passed form c f r f' r' old new before after counted halt why failed is first second p =

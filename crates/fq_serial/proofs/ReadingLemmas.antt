@@ -1,4 +1,4 @@
--- What a reading tells of the pairs of the inputs.
+-- What reading shows of the pairs of the inputs.
 use Rattle.std.proofs.Common.{◌≡◌, ℕ, suc, ◌+◌, ◌-◌, ◌≤◌, ⊎_elim, Bool, true, false, IsTrue, Option, Some, None, List, [], ◌∷◌, ◌++◌, length, take, ap, sym, subst, ◌∙◌, arith, append_assoc}
 use Rattle.std.proofs.lemmas.List.{append-nil, length-append, length-take-le}
 use Rattle.fq_text.specs.declared.encoding.Encoding.{Encoding}
@@ -31,7 +31,7 @@ use Rattle.fq_serial.proofs.CutLemmas.{mates_at, no_forward, no_reverse, at_most
 abbrev pub put_before : List Mates → Pairs → Pairs
 put_before ms p = record { mates = ms ++ p.mates; fault = p.fault }
 
--- the pairs of the inputs are those that lead, and those behind them
+-- the pairs of the inputs are the leading ones, and those after them
 pub leads_all : (form : Form) (check : Bool) (e : Encoding) (n : ℕ) (ms : List Mates) (f r f' r' : List (List ℕ)) → Leads form check e n ms f r f' r' →
     pairs_at form check e n f r ≡ put_before ms (pairs_at form check e (n + length ms) f' r')
 leads_all form check e n [] f r f' r' p =
@@ -96,21 +96,21 @@ module _ (form : Form) (c : Choices) (f r : FeedState) where
   is_first : (s : SourceState) (ms : List Mates) → Walks (fresh_source form c f r) s ms → IsTrue f.tells → IsTrue r.tells → AreFirst ms all_of.mates
   is_first s ms w tf tr = ((pairs_at form c.check_names c.encoding (length ms) (lines (rest s.forward)) (lines (rest s.reverse))).mates, ap (λ (p : Pairs). p.mates) (walked s ms w tf tr))
 
-  -- what was read are the first of all pairs
+  -- the pairs that were read are the first of all pairs
   pub reads_first : (s : SourceState) (ms : List Mates) (why : Option ReadingEnd) → Reads (fresh_source form c f r) s ms why → IsTrue f.tells → IsTrue r.tells → AreFirst ms all_of.mates
   reads_first s ms None p tf tr = is_first s ms p tf tr
   reads_first s ms (Some reading.End) p tf tr = is_first p.0 ms p.1 tf tr
   reads_first s ms (Some (reading.Fault w)) p tf tr = is_first p.0 ms p.1 tf tr
   reads_first s ms (Some reading.Memory) p tf tr = let q = is_first s (ms ++ p.0) p.1 tf tr in (p.0 ++ q.0, q.1 ∙ append_assoc ms p.0 q.0)
 
-  -- at the end they are all, and there is no fault
+  -- at the end of the inputs they are all pairs, and there is no fault
   pub reads_end : (s : SourceState) (ms : List Mates) → Reads (fresh_source form c f r) s ms (Some reading.End) → IsTrue f.tells → IsTrue r.tells → all_of ≡ record { mates = ms; fault = None }
   reads_end s ms p tf tr =
       let m = p.0 in let w = p.1 in let e = p.2 in let d = w.forward in let d' = w.reverse in
       walked p.0 ms w tf tr ∙ ap (put_before ms) (pairs_at-ended c.check_names c.encoding (length ms) form (lines (rest m.forward)) (lines (rest m.reverse)) (front_as p.0 ms Ended w (e.end_is (d.told ∙ tf) (d'.told ∙ tr))))
       ∙ ap (λ (xs : List Mates). let q : Pairs = record { mates = xs; fault = None } in q) (append-nil ms)
 
-  -- at a fault of the texts too, and this is the fault
+  -- at a fault in the texts they are all pairs too, and this is the fault
   pub reads_fault : (s : SourceState) (ms : List Mates) (why : InputFault) → Reads (fresh_source form c f r) s ms (Some (reading.Fault why)) → is_from_outside why ≡ false → IsTrue f.tells → IsTrue r.tells →
       all_of ≡ record { mates = ms; fault = Some why }
   reads_fault s ms why p inside tf tr =
@@ -144,7 +144,7 @@ module _ (form : Form) (c : Choices) (f r : FeedState) where
       ∙ ap (λ (e : Encoding). pairs_in s.form s.check_names e (0 + length ms) (whole_part xs) (whole_part ys)) (sym same.encoding)
       ∙ ap (λ (k : ℕ). pairs_in s.form s.check_names s.encoding k (whole_part xs) (whole_part ys)) (sym w.given)) ∙ is
 
--- Where the reading was cut short, the whole lines that came have no more pairs.
+-- If reading was cut short, the complete lines that came have no more pairs.
 module _ (c : Choices) (f r : FeedState) where
   cut_two : (s : SourceState) (ms : List Mates) (why : InputFault) → Reads (fresh_source TwoTexts c f r) s ms (Some (reading.Fault why)) → is_cut_short why ≡ true → IsTrue f.tells → IsTrue r.tells →
       length (pairs_in TwoTexts c.check_names c.encoding 0 (whole_part (fed (fresh_side c f) s.forward)) (whole_part (fed (fresh_side c r) s.reverse))).mates ≤ length ms
@@ -193,7 +193,7 @@ module _ (c : Choices) (f r : FeedState) where
   reads_cut TwoTexts = cut_two
   reads_cut InterleavedText = cut_one
 
-  -- in an interleaved text the read was made for the record that comes next
+  -- in an interleaved text the read call was made for the next record
   pub reads_next : (s : SourceState) (ms : List Mates) (side : Side) (fault : TextFault) → Reads (fresh_source InterleavedText c f r) s ms (Some (reading.Fault (Text side fault))) → is_cut fault ≡ true →
       ((P : Side → Type 0) → if_cut P (Text side fault) → P side) → IsTrue f.tells → IsTrue r.tells → side_behind (length (records c.encoding (whole_part (fed (fresh_side c f) s.forward))).reads) ≡ side
   reads_next s ms side fault p cut of_side tf tr =

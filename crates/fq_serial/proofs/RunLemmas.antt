@@ -1,4 +1,4 @@
--- What a run promises whose lanes are all confirmed, as those of a serial run are, which has none.
+-- What a run guarantees if all its lanes are confirmed. A serial run has no lanes.
 use Rattle.std.proofs.Common.{◌≡◌, ◌≤◌, IsTrue, Option, Some, None, ◌++◌, sym, ◌∙◌, subst}
 use Rattle.fq_pair.specs.declared.out.Out.{Out}
 use Rattle.fq_pair.specs.Outputs.{texts_of, text_of}
@@ -21,7 +21,7 @@ use Rattle.fq_serial.proofs.EndLemmas.{Closes, closes, every, trimmed}
 
 module _ (form : Form) (c : Choices) (f r f' r' : FeedState) (before mid : OutletStates) (counted : Total) (halt : Halt) (why : Option ReadingEnd) (broken : Option Out)
     (p : Runs form c f r f' r' before mid counted halt why broken) where
-  -- outlets of which none failed have no failures yet
+  -- outlets that did not fail have no failures yet
   pub runs_healthy : AreHealthy before → broken ≡ None → AreHealthy mid
   runs_healthy h none =
       let q = p.passes in

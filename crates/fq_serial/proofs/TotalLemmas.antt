@@ -1,4 +1,4 @@
--- Totals of pairs, one list behind another.
+-- Totals of pairs, one list after another.
 use Rattle.std.proofs.Common.{◌≡◌, ◌+◌, ◌<◌, ◌^◌, inl, Bool, true, false, Option, Some, List, [], ◌++◌, length, refl, sym, ap, ◌∙◌}
 use Rattle.fq_trim.specs.declared.step.Step.{Step}
 use Rattle.fq_pair.specs.declared.counts.Counts.{Counts}
@@ -41,6 +41,6 @@ total_added tallied steps ms ns total done first texts tally small =
     ∙ ap (λ (t : Option Tally). with (counts_of steps (ms ++ ns)) (tally_plus (tally_if tallied steps ms) t)) tally
     ∙ ap (with (counts_of steps (ms ++ ns))) (tally_added tallied steps ms ns)
 
--- a total of pairs counts them, whatever was read and whoever stopped
+-- a total of pairs counts them, whatever was read and whichever worker stopped
 pub is_counted : (c : Choices) (whole : List Mates) (halt : Halt) (why : Option ReadingEnd) (total : Total) → total ≡ total_of c.tallied c.steps whole → IsCounted c whole halt why total
 is_counted c whole halt why total is = record { counts = ap (λ (t : Total). t.counts) is; tally = inl (ap (λ (t : Total). t.tally) is) }

@@ -1,4 +1,4 @@
--- Which outcome a run has, and what it tells.
+-- Which outcome a run has, and what it implies.
 use Rattle.std.proofs.Common.{◌≡◌, ◌<◌, ◌≤◌, Bool, true, false, ◌||◌, Option, Some, None, refl, sym, ap, ◌∙◌, arith}
 use Rattle.fq_text.specs.declared.fault.TextFault.TheVariants as text
 use Rattle.fq_pair.specs.declared.out.Out.{Out}
@@ -31,7 +31,7 @@ kind (Text side text.Endless) = OfEndless side refl
 kind (Text side text.OutOfMemory) = OfMemory side refl
 kind _ = OfText refl
 
--- memory was wanted for a pair, or for the reading of one
+-- memory was refused to a pair, or to the reading of one
 abbrev pub lacks_memory : Option ReadingEnd → Bool
 lacks_memory why = wants_memory why || is_memory (end_of (fault_in why))
 
@@ -58,7 +58,7 @@ fault_verdict (Text side text.OutOfMemory) failed = WantsMemory refl
 fault_verdict _ None = HasFault _ refl refl refl refl refl
 fault_verdict _ (Some out) = FailedAt out refl refl refl refl
 
--- where no worker stopped
+-- if no worker stopped
 sound_verdict : (why : Option ReadingEnd) (failed : Option Out) → (why ≡ None → failed ≡ None → ⊥) → Verdict no_halt why failed (outcome_at no_halt why failed)
 sound_verdict None None over = absurd (over refl refl)
 sound_verdict None (Some out) over = FailedAt out refl refl refl refl
@@ -116,7 +116,7 @@ failed_once form side (Some reading.End) = omega arith
 failed_once form side (Some reading.Memory) = omega arith
 failed_once form side (Some (reading.Fault fault)) = failed_few form side fault
 
--- What an outcome tells.
+-- What an outcome implies.
 
 module _ (halt : Halt) (why : Option ReadingEnd) (failed : Option Out) (o : Outcome) where
   pub least : Verdict halt why failed o → 3 ≤ rank o
@@ -128,7 +128,7 @@ module _ (halt : Halt) (why : Option ReadingEnd) (failed : Option Out) (o : Outc
   least (HasFault fault none going at inside is) = let e = ap rank is in omega arith
   least (IsOver none going at is) = let e = ap rank is in omega arith
 
-  -- without a gate none refuses
+  -- if no worker stopped, the outcome is not `Spawn`, `Lane` or `Gate`
   pub is_serial : halt ≡ no_halt → Verdict halt why failed o → 4 ≤ rank o
   is_serial sound (IsRefused at is) = absurd (let e = sym at ∙ ap (λ (h : Halt). h.gate) sound in cc)
   is_serial sound (WantsMemory is) = let e = ap rank is in omega arith
@@ -141,7 +141,7 @@ module _ (halt : Halt) (why : Option ReadingEnd) (failed : Option Out) (o : Outc
   pub not_spawn : Verdict halt why failed o → o ≡ Spawn → ⊥
   not_spawn v is = let e = ap rank is in let n = least v in absurd (omega arith)
 
-  -- a failed write or flush is answered where no worker stopped and memory was not wanted
+  -- a failed write or flush is returned if no worker stopped and no memory was refused
   pub at_write : Verdict halt why failed o → (out : Out) → o ≡ Write out → (failed ≡ Some out) × (halt ≡ no_halt) × (lacks_memory why ≡ false)
   at_write (IsRefused there is) out at = absurd (let e = sym is ∙ at in cc)
   at_write (WantsMemory is) out at = absurd (let e = sym is ∙ at in cc)
@@ -171,7 +171,7 @@ module _ (halt : Halt) (why : Option ReadingEnd) (failed : Option Out) (o : Outc
   at_endless (HasFault fault none going there inside is) side at = absurd (let e = sym is ∙ at in cc)
   at_endless (IsOver none going there is) side at = absurd (let e = sym is ∙ at in cc)
 
-  -- where no worker stopped, memory that is refused to the reading is answered
+  -- if no worker stopped, memory that is refused to the reading is returned
   pub at_refusal : halt ≡ no_halt → why ≡ Some reading.Memory → Verdict halt why failed o → o ≡ Memory
   at_refusal sound at (IsRefused there is) = absurd (let e = sym there ∙ ap (λ (h : Halt). h.gate) sound in cc)
   at_refusal sound at (WantsMemory is) = is

@@ -1,4 +1,4 @@
--- Reading pairs, one list of them behind another.
+-- Reading pairs, one list of them after another.
 use Rattle.std.proofs.Common.{◌≡◌, ℕ, suc, ◌+◌, ◌-◌, inl, Bool, Option, Some, None, List, [], ◌∷◌, ◌++◌, length, take, refl, sym, ap, subst, ◌∙◌, arith, append_assoc}
 use Rattle.std.specs.Option.{IfSome, IsSome, IsSomeAnd}
 use Rattle.std.proofs.lemmas.List.{length-append}
@@ -89,7 +89,7 @@ walks_then a b c ms ns p q =
           (leads_as a.form b.form a.check_names b.check_names a.encoding b.encoding b.given ns _ _ _ _ s.form s.check_names s.encoding (q.leads (f.told ∙ tf) (r.told ∙ tr)));
     }
 
--- a reading behind a walk
+-- a reading after a walk
 pub reads_then : (a b c : SourceState) (ms ns : List Mates) (why : Option ReadingEnd) → Walks a b ms → Reads b c ns why → Reads a c (ms ++ ns) why
 reads_then a b c ms ns None p q = walks_then a b c ms ns p q
 reads_then a b c ms ns (Some reading.End) p q = (q.0, walks_then a b q.0 ms ns p q.1, q.2)
@@ -99,7 +99,7 @@ reads_then a b c ms ns (Some reading.Memory) p q =
 
 -- The pair in hand.
 
--- there is one, where something holds of it
+-- there is one, if something holds of it
 pub is_in_hand : (o : Option Mates) (P : Mates → Type 0) → IsSomeAnd o P → IsSome o
 is_in_hand None P held = absurd held
 is_in_hand (Some m) P held = refl

@@ -1,4 +1,4 @@
--- What a run is set to.
+-- The settings of a run.
 use Rattle.std.specs.Prelude.{ℕ, ◌≤◌, ◌^◌, Bool, true, not, Option, Some, None, Result, Ok, Err, List, if◌then◌else◌}
 use Rattle.fq_text.specs.declared.encoding.Encoding.{Encoding}
 use Rattle.fq_trim.specs.declared.step.Step.{Step}
@@ -6,8 +6,9 @@ use Rattle.fq_serial.specs.Ranges.{within}
 use Rattle.fq_serial.specs.declared.settings.BadSetting.{BadSetting}
 use Rattle.fq_serial.specs.declared.settings.BadSetting.TheVariants.{Workers, BlockPairs, Depth, Chunk, MaxReads, GateTurns}
 
--- What a run is set to: how scores are written, the steps, whether names are checked, the threads, the pairs of a block,
--- the items of a lane, the bytes and the number of reads, how often a gate is asked, and whether pairs are tallied.
+-- The settings of a run: how scores are encoded, the steps, whether names are checked, the threads,
+-- the pairs of a block, the items of a lane, the bytes and the number of read calls, how often a
+-- gate is asked, and whether pairs are tallied.
 pub record Choices : Type 0 where
   pub encoding : Encoding
   pub steps : List Step
@@ -20,11 +21,11 @@ pub record Choices : Type 0 where
   pub gate_turns : ℕ
   pub tallied : Bool
 
--- the same, and a tally of the pairs is asked for
+-- turns the tally on
 abbrev pub tallying : Choices → Choices
 tallying c = record c { tallied = true }
 
--- the first number that is out of its range
+-- the first number that is out of range
 abbrev pub first_bad : Choices → Option BadSetting
 first_bad c =
     if not (within 64 c.workers) then Some Workers
@@ -35,7 +36,7 @@ first_bad c =
     else (if not (within (2 ^ 40) c.gate_turns) then Some GateTurns
     else None)))))
 
--- the choices, unless one is bad
+-- the choices, unless one is out of range
 abbrev pub unless_bad : Choices → Option BadSetting → Result Choices BadSetting
 unless_bad c None = Ok c
 unless_bad c (Some bad) = Err bad

@@ -1,4 +1,4 @@
--- Devices as contracts see them, and what a run does with them.
+-- Devices (feeds and outlets) as contracts see them, and what a run does with them.
 use Rattle.std.specs.Prelude.{◌≡◌, ℕ, ◌+◌, ◌-◌, nat_lt, ◌==◌, IsTrue, if◌then◌else◌}
 use Rattle.std.specs.Prelude.{Option, Some, None, IfSome, List, [], ◌++◌, length, take}
 use Rattle.std.specs.Option.{option_map}
@@ -9,11 +9,11 @@ use Rattle.fq_serial.specs.declared.outlets.Outlets.{Outlets}
 
 -- Feeds.
 
--- what a feed gave: what its bytes to come lost
+-- the bytes that a feed gave: those that are no longer to come
 abbrev pub gave : FeedState → FeedState → List ℕ
 gave old new = take (length old.to_come - length new.to_come) old.to_come
 
--- a feed that gave bytes, and failed so often
+-- a feed gave bytes, and failed this number of times
 pub record Fed (old new : FeedState) (failed : ℕ) : Type 0 where
   pub told : new.tells ≡ old.tells
   pub bytes : IsTrue old.tells → old.to_come ≡ gave old new ++ new.to_come
@@ -21,7 +21,7 @@ pub record Fed (old new : FeedState) (failed : ℕ) : Type 0 where
 
 -- Outlets.
 
--- the outlets of a run
+-- the states of the outlets of a run
 pub record OutletStates : Type 0 where
   pub forward_paired : OutletState
   pub forward_unpaired : OutletState
@@ -46,7 +46,7 @@ pub record AreHealthy (o : OutletStates) : Type 0 where
   pub reverse_unpaired : o.reverse_unpaired.failures ≡ 0
   pub log : IfSome o.log (λ log. log.failures ≡ 0)
 
--- one of the outlets, if there is one
+-- the state of one of the outlets; only the log may be left out
 abbrev pub outlet_at : Out → OutletStates → Option OutletState
 outlet_at ForwardPaired o = Some o.forward_paired
 outlet_at ForwardUnpaired o = Some o.forward_unpaired
@@ -54,13 +54,13 @@ outlet_at ReversePaired o = Some o.reverse_paired
 outlet_at ReverseUnpaired o = Some o.reverse_unpaired
 outlet_at Log o = o.log
 
--- an outlet took a text, and failed so often
+-- an outlet took a text, and failed this number of times
 pub record TookText (old new : OutletState) (text : List ℕ) (failed : ℕ) : Type 0 where
   pub told : new.tells ≡ old.tells
   pub bytes : IsTrue old.tells → new.taken ≡ old.taken ++ text
   pub failures : new.failures ≡ old.failures + failed
 
--- the same of an outlet that may be left out
+-- `TookText` for an outlet that may be left out
 abbrev pub Took : Option OutletState → Option OutletState → List ℕ → ℕ → Type 0
 Took (Some old) (Some new) text failed = TookText old new text failed
 Took None None text failed = failed ≡ 0
@@ -75,15 +75,19 @@ place ReversePaired = 2
 place ReverseUnpaired = 3
 place Log = 4
 
--- how often an outlet failed, where this one failed once, if any
+-- how often an outlet failed, if this one failed once, and no other did
 abbrev pub failures_at : Option Out → Out → ℕ
 failures_at None out = 0
 failures_at (Some failed) out = if place out == place failed then 1 else 0
 
--- of a text for an outlet, what is sent where this one failed after n bytes: before it all, behind it nothing
+-- what an outlet is sent of its text if `failed` failed after n bytes: an outlet before `failed`
+-- all of it, one after `failed` nothing
 abbrev pub part_at : Out → ℕ → Out → List ℕ → List ℕ
-part_at failed n out text = if nat_lt (place out) (place failed) then text else (if place out == place failed then take n text else [])
+part_at failed n out text =
+    if nat_lt (place out) (place failed) then text
+    else (if place out == place failed then take n text else [])
 
 -- each outlet took its text, and the one that failed, if any, failed once
 abbrev pub OutletsTook : OutletStates → OutletStates → (Out → List ℕ) → Option Out → Type 0
-OutletsTook old new texts failed = (out : Out) → Took (outlet_at out old) (outlet_at out new) (texts out) (failures_at failed out)
+OutletsTook old new texts failed = (out : Out) →
+    Took (outlet_at out old) (outlet_at out new) (texts out) (failures_at failed out)

@@ -1,4 +1,4 @@
--- A block that is filled with pairs.
+-- How a block is filled with pairs.
 use Rattle.std.specs.Prelude.{◌≡◌, ℕ, ◌+◌, ◌≤◌, Option, Some, None, length}
 use Rattle.fq_block.specs.Blocks.{Numbered}
 use Rattle.fq_pair.specs.Walks.{SourceState, GoesOn}
@@ -6,9 +6,10 @@ use Rattle.fq_serial.specs.PairsRead.{Reads}
 use Rattle.fq_serial.specs.declared.reading_end.ReadingEnd.{ReadingEnd}
 use Rattle.fq_serial.specs.declared.reading_end.ReadingEnd.TheVariants as reading
 
--- Up to so many pairs were read, and stand in a block; where the reading has not stopped they are so many. A pair that was refused
--- for memory was given by the source, and is in no block.
-pub record Fills (old new : SourceState) (most : ℕ) (empty filled : Numbered) (why : Option ReadingEnd) : Type 0 where
+-- Up to `most` pairs were read into a block, and as many as `most` if reading has not stopped. A
+-- pair for which memory was refused was taken from the source, and is in no block.
+pub record Fills (old new : SourceState) (most : ℕ) (empty filled : Numbered)
+    (why : Option ReadingEnd) : Type 0 where
   pub number : filled.number ≡ empty.number
   pub encoding : filled.encoding ≡ empty.encoding
   pub few : length filled.pairs ≤ most

@@ -1,4 +1,4 @@
--- A block of pairs that was read, as its texts and its tally.
+-- The texts and the tally of a block of pairs that was read.
 use Rattle.std.specs.Prelude.{◌≡◌, ℕ, ◌≤◌, Bool, Option, None, List, length}
 use Rattle.fq_trim.specs.declared.step.Step.{Step}
 use Rattle.fq_pair.specs.Mates.{Mates}
@@ -9,8 +9,9 @@ use Rattle.fq_work.specs.Replies.{tally_if}
 use Rattle.fq_serial.specs.PairsRead.{Reads}
 use Rattle.fq_serial.specs.declared.reading_end.ReadingEnd.{ReadingEnd}
 
--- up to so many pairs were read, and are trimmed, and tallied where a tally is asked for
-pub record Gathers (old new : SourceState) (tallied : Bool) (steps : List Step) (most : ℕ) (gathered : Done) (why : Option ReadingEnd) : Type 0 where
+-- up to `most` pairs were read and trimmed, and tallied if a tally is asked for
+pub record Gathers (old new : SourceState) (tallied : Bool) (steps : List Step) (most : ℕ)
+    (gathered : Done) (why : Option ReadingEnd) : Type 0 where
   pub block : List Mates
   pub texts : gathered.texts ≡ texts_of steps block
   pub tally : gathered.tally ≡ tally_if tallied steps block

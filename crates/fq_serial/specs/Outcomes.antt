@@ -22,31 +22,31 @@ rank (Endless side) = 7
 rank (Input fault) = 8
 rank Finished = 9
 
--- what a text that could not be read on stands for
+-- the outcome of a text that could not be read further
 abbrev pub text_outcome : Side → TextFault → Outcome
 text_outcome side text.Read = Read side
 text_outcome side text.Endless = Endless side
 text_outcome side text.OutOfMemory = Memory
 text_outcome side fault = Input (Text side fault)
 
--- the outcome of a run in which nothing but the end of the input, or this fault of it, occurred
+-- the outcome of a run in which nothing occurred but the end of the input, or this fault in it
 abbrev pub end_of : Option InputFault → Outcome
 end_of None = Finished
 end_of (Some (Text side fault)) = text_outcome side fault
 end_of (Some (MateMissing side n)) = Input (MateMissing side n)
 end_of (Some (NamesDiffer n)) = Input (NamesDiffer n)
 
--- memory was wanted
+-- memory was refused
 abbrev pub is_memory : Outcome → Bool
 is_memory Memory = true
 is_memory _ = false
 
--- the write to an outlet that failed, or another outcome
+-- the outcome for the outlet that failed, or another outcome if none did
 abbrev pub or_write : Option Out → Outcome → Outcome
 or_write (Some out) other = Write out
 or_write None other = other
 
--- the first in the order of precedence of what occurred
+-- what occurred; of several, the first in the order of precedence
 abbrev pub outcome_of : Occurred → Outcome
 outcome_of o =
     if o.gate then Gate

@@ -8,16 +8,26 @@ use Rattle.fq_text.specs.Devices.{FeedState}
 use Rattle.fq_serial.specs.declared.reading_end.ReadingEnd.{ReadingEnd}
 use Rattle.fq_serial.specs.declared.reading_end.ReadingEnd.TheVariants as reading
 
--- pairs were read, and the reading goes on or has stopped
+-- pairs were read, and reading goes on or has stopped
 abbrev pub Reads : SourceState → SourceState → List Mates → Option ReadingEnd → Type 0
 Reads old new ms None = Walks old new ms
 Reads old new ms (Some reading.End) = (mid : SourceState) × Walks old mid ms × MeetsEnd mid new
-Reads old new ms (Some (reading.Fault why)) = (mid : SourceState) × Walks old mid ms × MeetsFault mid new why
+Reads old new ms (Some (reading.Fault why)) =
+    (mid : SourceState) × Walks old mid ms × MeetsFault mid new why
 Reads old new ms (Some reading.Memory) = (lost : List Mates) × Walks old new (ms ++ lost)
 
--- a source that has not been asked, over feeds in these states
+-- a source that nothing was read from, over feeds in these states
 abbrev pub fresh_side : Choices → FeedState → SideState
-fresh_side c feed = record { tells = feed.tells; in_hand = []; ended = false; to_come = feed.to_come; failures = feed.failures; taken = 0; given = 0; max_reads = c.max_reads }
+fresh_side c feed = record {
+  tells = feed.tells;
+  in_hand = [];
+  ended = false;
+  to_come = feed.to_come;
+  failures = feed.failures;
+  taken = 0;
+  given = 0;
+  max_reads = c.max_reads;
+}
 
 abbrev pub fresh_source : Form → Choices → FeedState → FeedState → SourceState
 fresh_source form c forward reverse = record {
@@ -32,6 +42,6 @@ fresh_source form c forward reverse = record {
   current = None;
 }
 
--- the feed of a side as it stands
+-- the state of the feed of a side
 abbrev pub feed_in : SideState → FeedState
 feed_in s = record { tells = s.tells; to_come = s.to_come; failures = s.failures }

@@ -6,13 +6,13 @@ use Rattle.fq_pair.specs.Outputs.{Outputs, text_of}
 use Rattle.fq_text.specs.Devices.{OutletState}
 use Rattle.fq_serial.specs.Devices.{OutletStates, TookText, OutletsTook, part_at}
 
--- one outlet failed after n bytes, and nothing went to those behind it
+-- one outlet failed after `sent` bytes, and nothing went to those after it
 pub record BreaksAt (old new : OutletStates) (texts : Outputs) (failed : Out) : Type 0 where
   pub sent : ℕ
   pub short : sent < length (text_of failed texts)
   pub took : OutletsTook old new (λ out. part_at failed sent out (text_of out texts)) (Some failed)
 
--- all texts went out, or one outlet failed
+-- all texts were sent, or one outlet failed
 abbrev pub Sends : OutletStates → OutletStates → Outputs → Result (Unit {0}) Out → Type 0
 Sends old new texts (res.Ok done) = OutletsTook old new (λ out. text_of out texts) None
 Sends old new texts (res.Err failed) = BreaksAt old new texts failed
@@ -22,9 +22,9 @@ abbrev pub Flushes : OutletStates → OutletStates → Result (Unit {0}) Out →
 Flushes old new (res.Ok done) = OutletsTook old new (λ out. []) None
 Flushes old new (res.Err failed) = OutletsTook old new (λ out. []) (Some failed)
 
--- The same of one outlet.
+-- What calls on one outlet do.
 
--- an outlet has taken a text, or failed in it
+-- an outlet failed before it had taken all of its text
 pub record FailsIn (old new : OutletState) (text : List ℕ) : Type 0 where
   pub sent : ℕ
   pub short : sent < length text

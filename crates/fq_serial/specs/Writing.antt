@@ -1,4 +1,4 @@
--- The blocks of a run, read and written.
+-- How the blocks of a run are read and written.
 use Rattle.std.specs.Prelude.{◌≡◌, ◌⊎◌, Bool, true, false, ◌||◌, Option, Some, None, List, [], ◌++◌}
 use Rattle.fq_pair.specs.declared.out.Out.{Out}
 use Rattle.fq_pair.specs.declared.fault.InputFault.{InputFault}
@@ -25,21 +25,24 @@ abbrev pub is_flush : Fate → Bool
 is_flush (FlushFailed out) = true
 is_flush _ = false
 
--- no worker has stopped before the last of its blocks
+-- no worker stopped early
 abbrev pub no_halt : Halt
 no_halt = record { gate = false; memory = false }
 
--- one worker more has stopped
+-- one more worker stopped
 abbrev pub with_stop : Cause → Halt → Halt
 with_stop Gate halt = record { gate = true; memory = halt.memory }
 with_stop Memory halt = record { gate = halt.gate; memory = true }
 
--- a total is that of these pairs; where memory was refused before the first pair there is no tally
-pub record IsCounted (c : Choices) (whole : List Mates) (halt : Halt) (why : Option ReadingEnd) (total : Total) : Type 0 where
+-- a total is that of these pairs; if memory was refused before the first pair, there is no tally
+pub record IsCounted (c : Choices) (whole : List Mates) (halt : Halt) (why : Option ReadingEnd)
+    (total : Total) : Type 0 where
   pub counts : total.counts ≡ counts_of c.steps whole
-  pub tally : (total.tally ≡ tally_if c.tallied c.steps whole) ⊎ ((total.tally ≡ None) × (halt ≡ no_halt) × (why ≡ Some reading.Memory))
+  pub tally : (total.tally ≡ tally_if c.tallied c.steps whole)
+      ⊎ ((total.tally ≡ None) × (halt ≡ no_halt) × (why ≡ Some reading.Memory))
 
--- Pairs were read, up to where the reading stopped, and written, up to where a write failed or a worker stopped: those behind these were missed.
+-- Pairs were read until reading stopped, and written until a write failed or a worker stopped; the
+-- pairs after that were missed.
 pub record Passes (c : Choices) (old new : SourceState) (before after : OutletStates)
     (counted : Total) (halt : Halt) (why : Option ReadingEnd) (broken : Option Out) : Type 0 where
   pub whole : List Mates
@@ -47,14 +50,16 @@ pub record Passes (c : Choices) (old new : SourceState) (before after : OutletSt
   pub missed : List Mates
   pub counts : IsCounted c whole halt why counted
   pub reads : Reads old new ((whole ++ block_begun fate) ++ missed) why
-  pub took : OutletsTook before after (λ out. text_of out (texts_of c.steps whole) ++ part_begun c.steps fate out) (failed_outlet fate)
+  pub took : OutletsTook before after
+      (λ out. text_of out (texts_of c.steps whole) ++ part_begun c.steps fate out)
+      (failed_outlet fate)
   pub failed : broken ≡ failed_outlet fate
   pub cut_short : IsCutShort c.block_pairs c.steps fate
   pub over : why ≡ None → broken ≡ None → ⊥
   pub unflushed : is_flush fate ≡ false
   pub missed_none : halt ≡ no_halt → broken ≡ None → missed ≡ []
 
--- the same from the feeds on
+-- `Passes` for a source that is made from these feeds
 pub record Runs (form : Form) (c : Choices) (f r f' r' : FeedState) (before after : OutletStates)
     (counted : Total) (halt : Halt) (why : Option ReadingEnd) (broken : Option Out) : Type 0 where
   pub new : SourceState
@@ -62,12 +67,12 @@ pub record Runs (form : Form) (c : Choices) (f r f' r' : FeedState) (before afte
   pub forward : f' ≡ feed_in new.forward
   pub reverse : r' ≡ feed_in new.reverse
 
--- where no write had failed each outlet was flushed, up to the first that failed in it
+-- if no write had failed, each outlet was flushed, up to the first whose flush failed
 abbrev pub FlushesAfter : Option Out → OutletStates → OutletStates → Option Out → Type 0
 FlushesAfter (Some failed) before after result = (result ≡ Some failed) × (after ≡ before)
 FlushesAfter None before after result = OutletsTook before after (λ out. []) result
 
--- what of a run's workers, reading and writing an outcome tells
+-- what an outcome is made of: how the workers, the reading and the writing ended
 abbrev pub wants_memory : Option ReadingEnd → Bool
 wants_memory (Some reading.Memory) = true
 wants_memory _ = false
@@ -77,4 +82,9 @@ fault_in (Some (reading.Fault fault)) = Some fault
 fault_in _ = None
 
 abbrev pub occurred : Halt → Option ReadingEnd → Option Out → Occurred
-occurred halt why failed = record { gate = halt.gate; memory = halt.memory || wants_memory why; failed = failed; fault = fault_in why }
+occurred halt why failed = record {
+  gate = halt.gate;
+  memory = halt.memory || wants_memory why;
+  failed = failed;
+  fault = fault_in why;
+}

@@ -1,38 +1,41 @@
-//! What a run leaves.
+//! What a run returns.
 
 use crate::outcome::Outcome;
 use fq_lane::NotEnded;
 use fq_pair::Counts;
 use fq_tally::Tally;
 
-/// How a run ended, and what it leaves.
+/// How a run over two inputs ended, and what it returns.
 #[derive(Drop)]
 pub struct Ending<F, G> {
     /// How the run ended.
     pub outcome: Outcome,
-    /// The counts of the pairs whose block was written whole.
+    /// The counts of the pairs whose block was written completely.
     pub counts: Counts,
-    /// The tally of these pairs, where the settings ask for one. `None` too where memory for it was refused before anything was read.
+    /// The tally of the same pairs, if the settings ask for one. `None` also if memory for it was
+    /// refused before anything was read.
     pub tally: Option<Tally>,
-    /// The feed of the forward input, as it stands.
+    /// The feed of the forward input, as the run left it. `None` if it was lost because a thread
+    /// couldn't be started.
     pub forward: Option<F>,
-    /// The feed of the reverse input, as it stands.
+    /// The feed of the reverse input. `None` exactly when `forward` is.
     pub reverse: Option<G>,
-    /// Why a lane couldn't be confirmed: there exactly where the outcome is [`Outcome::Lane`].
+    /// Why a lane couldn't be confirmed: `Some` exactly when the outcome is [`Outcome::Lane`].
     pub unended: Option<NotEnded>,
 }
 
-/// The same of a run over an interleaved text.
+/// How a run over one interleaved input ended, and what it returns.
 #[derive(Drop)]
 pub struct MixedEnding<F> {
     /// How the run ended.
     pub outcome: Outcome,
-    /// The counts of the pairs whose block was written whole.
+    /// The counts of the pairs whose block was written completely.
     pub counts: Counts,
-    /// The tally of these pairs, where the settings ask for one. `None` too where memory for it was refused before anything was read.
+    /// The tally of the same pairs, if the settings ask for one. `None` also if memory for it was
+    /// refused before anything was read.
     pub tally: Option<Tally>,
-    /// The feed, as it stands.
+    /// The feed, as the run left it. `None` if it was lost because a thread couldn't be started.
     pub feed: Option<F>,
-    /// Why a lane couldn't be confirmed: there exactly where the outcome is [`Outcome::Lane`].
+    /// Why a lane couldn't be confirmed: `Some` exactly when the outcome is [`Outcome::Lane`].
     pub unended: Option<NotEnded>,
 }

@@ -1,4 +1,4 @@
-//! The pairs of a block, read.
+//! Reads the pairs of a block.
 
 ghost use Rattle.std.specs.Prelude.{◌≡◌, ◌≤◌, []};
 ghost use Rattle.fq_serial.specs.Filling.{Fills};
@@ -8,8 +8,10 @@ use crate::reading_end::ReadingEnd;
 use fq_block::Block;
 use fq_pair::PairReader;
 
-/// Fills a block with the next pairs, up to `most`. Answers why no further pair is read, if the reading has stopped. A pair that
-/// the block refuses for memory is lost, and those before it stay in the block.
+/// Fills a block with the next pairs, up to `most`.
+///
+/// Returns why reading stopped, or `None` if the block has `most` pairs. If memory for a pair is
+/// refused, that pair is lost; the pairs before it stay in the block.
 pub fn fill<S: PairReader>(source: &mut S, most: u64, block: &mut Block) -> Option<ReadingEnd>
     requires goes { GoesOn (S.state source.old) }
     requires some { 1 ≤ most }

@@ -1,4 +1,4 @@
-//! The pairs of a block, read and trimmed.
+//! Reads and trims the pairs of a block.
 
 ghost use Rattle.std.specs.Prelude.{◌≡◌, ◌≤◌, [], is_some};
 ghost use Rattle.fq_pair.specs.Walks.{GoesOn};
@@ -10,7 +10,10 @@ use fq_pair::PairReader;
 use fq_trim::Steps;
 use fq_work::Done;
 
-/// Adds the texts of the next pairs, of up to `most`, and their tally where one is asked for. Answers why no further pair is read, if the reading has stopped.
+/// Reads and trims the next pairs, up to `most`, and adds their texts to `done`, and to its tally
+/// if it has one.
+///
+/// Returns why reading stopped, or `None` after `most` pairs.
 pub(crate) fn gather<S: PairReader>(
     source: &mut S,
     steps: &Steps,

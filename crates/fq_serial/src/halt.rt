@@ -1,8 +1,8 @@
-//! Why workers have stopped.
+//! Why workers stopped early.
 
 use fq_work::Cause;
 
-/// Why workers have stopped before the last of their blocks, if any has.
+/// Why workers stopped before their last block, if any did.
 #[derive(Clone, Copy, Debug, PartialEq, Eq)]
 pub struct Halt {
     /// The gate didn't let a block pass.
@@ -12,7 +12,7 @@ pub struct Halt {
 }
 
 impl Halt {
-    /// No worker has stopped before the last of its blocks.
+    /// No worker stopped early.
     pub const NONE: Halt = Halt {
         gate: false,
         memory: false,
@@ -21,7 +21,7 @@ impl Halt {
     ghost use Rattle.std.specs.Prelude.{◌≡◌};
     ghost use Rattle.fq_serial.specs.Writing.{with_stop};
 
-    /// The same where one worker more has stopped, for this cause.
+    /// Adds the cause for which one more worker stopped.
     pub fn with(self, cause: Cause) -> Halt
         ensures { result ≡ with_stop cause self }
     {

@@ -1,4 +1,4 @@
-//! A run on one thread, over an interleaved text.
+//! A run on one thread, over one interleaved input.
 
 ghost use Rattle.std.specs.Prelude.{◌≡◌, ◌≤◌, None, IsTrue, IsSome};
 ghost use Rattle.fq_pair.specs.Forms.{InterleavedText};
@@ -18,11 +18,12 @@ use crate::written::{Pass, Written};
 use fq_text::{Feed, Outlet};
 use std::alloc::Global;
 
-/// Trims the pairs of one interleaved input on this thread, one after the other, and writes them.
+/// Trims the pairs of one interleaved input on this thread, in order, and writes them.
 ///
-/// Records 2n - 1 and 2n of the input are pair n, the forward mate first. All else is as in [`run_serial`](crate::run_serial). A fault of the
-/// text carries the number of its record there, and the side of the mate that was being read; a missing mate is always a reverse
-/// one. `Read` and `Endless` carry the side of the mate that was being read.
+/// Records 2n - 1 and 2n of the input are pair n, the forward mate first. All else is as in
+/// [`run_serial`](crate::run_serial). A fault in the text carries the number of its record in the
+/// interleaved input, and the side of the mate that was being read; a missing mate is always a
+/// reverse mate. `Read` and `Endless` also carry the side of the mate that was being read.
 pub fn run_serial_mixed<F: Feed, O: Outlet>(
     alloc: Global,
     settings: &Settings,
@@ -34,10 +35,12 @@ pub fn run_serial_mixed<F: Feed, O: Outlet>(
     ensures feed { IsSome result.feed }
     ensures serial { 4 ≤ rank result.outcome }
     ensures unended { result.unended ≡ None }
-    // Where the run ends whole, it has trimmed all pairs up to the end of the input or its fault.
-    ensures whole { let run = interleaved_run_of F.state (outlet_states O.state) feed outlets.old outlets.new result in
+    // At `Input` and `Finished` all pairs before the fault or the end of the input were trimmed.
+    ensures whole { let run = interleaved_run_of F.state (outlet_states O.state)
+        feed outlets.old outlets.new result in
         IsTrue (ends_whole run.outcome) → AreTold run → IsTrimmed settings.now run }
-    // At every ending the outlets have the texts of the first pairs, but for a part of the block in which a write failed.
+    // However it ended, the outlets have the texts of the first pairs, and besides at most a part
+    // of the block in which a write failed.
     ensures every { EveryEnding settings.now
         (interleaved_run_of F.state (outlet_states O.state) feed outlets.old outlets.new result) }
 {
@@ -56,7 +59,7 @@ pub fn run_serial_mixed<F: Feed, O: Outlet>(
     }
 }
 
-// Reads and writes all pairs of an interleaved text.
+// Reads and writes all pairs of an interleaved input.
 fn pass<F: Feed, O: Outlet>(
     alloc: Global,
     settings: &Settings,

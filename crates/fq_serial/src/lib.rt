@@ -1,17 +1,17 @@
-//! Runs of the trimmer on one thread, and what a run on several threads shares with them.
+//! Runs of the trimmer on one thread, and the parts that runs on several threads share with them.
 #![tactic(auto)]
 
 // A run on one thread, by the form of its input.
 mod interleaved;
 mod two_texts;
 
-// Its way: sources are opened, pairs are gathered block for block, and written.
+// Its steps: open the sources, gather the pairs of each block, and write them.
 mod gathering;
 mod opening;
 mod writing;
 mod written;
 
-// What a run on several threads shares with it.
+// Shared with runs on several threads.
 mod filling;
 mod halt;
 mod occurred;
@@ -19,7 +19,7 @@ mod reading_end;
 pub mod shared;
 mod total;
 
-// What a run is given, and what it leaves.
+// What a run is given, and what it returns.
 mod ending;
 mod outcome;
 mod outlets;

@@ -16,9 +16,9 @@ pub struct Occurred {
     pub gate: bool,
     /// Memory was refused.
     pub memory: bool,
-    /// The outlet of which a write or the flush failed.
+    /// The outlet whose write or flush failed.
     pub failed: Option<Out>,
-    /// The fault at which the reading ended.
+    /// The fault that ended the reading.
     pub fault: Option<InputFault>,
 }
 
@@ -26,8 +26,7 @@ impl Occurred {
     ghost use Rattle.fq_serial.specs.Outcomes.{outcome_of};
     ghost use Rattle.fq_serial.specs.Writing.{occurred};
 
-    /// What occurred where workers stopped for these reasons, the reading stopped for this one, if it did, and this outlet failed, if
-    /// one did.
+    /// Combines why workers stopped, why reading stopped, and which outlet failed.
     pub fn new(halt: Halt, why: Option<ReadingEnd>, failed: Option<Out>) -> Occurred
         ensures { result ≡ occurred halt why failed }
     {
@@ -42,7 +41,7 @@ impl Occurred {
         }
     }
 
-    /// The first in the order of [`Outcome`] that occurred.
+    /// Returns what occurred; of several, the first in the order of [`Outcome`].
     pub fn outcome(self) -> Outcome
         ensures { result ≡ outcome_of self }
     {
@@ -60,7 +59,7 @@ impl Occurred {
     }
 }
 
-// The outcome of a run in which nothing else occurred.
+// The outcome of a run in which nothing occurred but this fault, or no fault.
 fn end_outcome(fault: Option<InputFault>) -> Outcome
     ensures { result ≡ end_of fault }
 {

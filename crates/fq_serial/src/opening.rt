@@ -1,4 +1,4 @@
-//! The sources of the pairs of a run.
+//! Opens the sources of the pairs of a run.
 
 ghost use Rattle.std.specs.Prelude.{◌≡◌, ◌≤◌, ◌*◌, ◌^◌, [], false, None, IfOk, IfErr};
 ghost use Rattle.fq_pair.specs.Forms.{TwoTexts, InterleavedText};
@@ -10,7 +10,7 @@ use fq_pair::{MixedSource, PairSource};
 use fq_text::{Feed, Source};
 use std::alloc::Global;
 
-// The source of the records of a feed, or the feed where memory was refused.
+// Returns the source of the records of a feed, or the feed if memory was refused.
 fn source_of<F: Feed>(alloc: Global, settings: &Settings, feed: F) -> Result<Source<F>, F>
     requires { (F.state feed).failures ≡ 0 }
     ensures ok { IfOk result (λ source. source ≡ record {
@@ -34,7 +34,7 @@ fn source_of<F: Feed>(alloc: Global, settings: &Settings, feed: F) -> Result<Sou
     Source::new(alloc, feed, encoding, chunk, max_reads).map_err(|refused| refused.feed)
 }
 
-/// The source of the pairs of two feeds, or the feeds where memory was refused.
+/// Returns the source of the pairs of two feeds, or both feeds if memory was refused.
 pub fn open<F: Feed, G: Feed>(
     alloc: Global,
     settings: &Settings,
@@ -58,7 +58,7 @@ pub fn open<F: Feed, G: Feed>(
     }
 }
 
-/// The source of the pairs of an interleaved feed, or the feed where memory was refused.
+/// Returns the source of the pairs of an interleaved feed, or the feed if memory was refused.
 pub fn open_interleaved<F: Feed>(
     alloc: Global,
     settings: &Settings,

@@ -1,15 +1,17 @@
-//! How a run ends.
+//! How a run ended.
 
 use fq_pair::{InputFault, Out, Side};
 
-/// How a run ended. Where more than one of these occurred, the first in this order is answered.
+/// How a run ended. If several of these occurred, the run returns the first in this order.
 ///
-/// A run ends whole at `Input` and `Finished`: all pairs before the end of the input or its fault are then written.
+/// At `Input` and `Finished` all pairs are written that come before the fault or the end of the
+/// input.
 #[derive(Clone, Copy, Debug, PartialEq, Eq)]
 pub enum Outcome {
-    /// A thread couldn't be started. Nothing was written, and nothing was read from the feeds that come back.
+    /// A thread couldn't be started. Nothing was written, and nothing was read from the feeds that
+    /// are handed back.
     Spawn,
-    /// A lane between threads couldn't be confirmed.
+    /// A lane (a queue between two threads) couldn't be confirmed.
     Lane,
     /// A gate didn't let a block pass.
     Gate,
@@ -17,9 +19,9 @@ pub enum Outcome {
     Memory,
     /// A write to this outlet failed, or its flush.
     Write(Out),
-    /// A read of the input of this side failed.
+    /// A read call on the input of this side failed.
     Read(Side),
-    /// The input of this side wasn't read to its end by as many reads as are allowed.
+    /// The input of this side didn't end within the read calls that are allowed.
     Endless(Side),
     /// The inputs have a fault. The pairs before it are written.
     Input(InputFault),

@@ -7,18 +7,18 @@ ghost use Rattle.fq_serial.specs.Sending.{SendsTo, FlushesOne};
 use fq_pair::{Out, Texts};
 use fq_text::{Outlet, send};
 
-/// Where the texts of a run go.
+/// The outlets that take the texts of a run.
 #[derive(Drop)]
 pub struct Outlets<O> {
-    /// Forward reads whose mate survives too.
+    /// Forward reads whose mate also survives.
     pub forward_paired: O,
     /// Forward reads whose mate is dropped.
     pub forward_unpaired: O,
-    /// Reverse reads whose mate survives too.
+    /// Reverse reads whose mate also survives.
     pub reverse_paired: O,
     /// Reverse reads whose mate is dropped.
     pub reverse_unpaired: O,
-    /// The trim log, if one is wanted.
+    /// The trim log, if one is written.
     pub log: Option<O>,
 }
 
@@ -28,13 +28,15 @@ impl<O: Outlet> Outlets<O> {
     ghost use Rattle.fq_serial.specs.Sending.{Sends, Flushes};
     ghost use Rattle.fq_serial.specs.Writing.{FlushesAfter};
 
-    /// Sends the texts to their outlets, in the order of [`Out`], up to the first outlet that fails, which is answered.
+    /// Sends each text to its outlet, in the order of [`Out`], and returns the first outlet that
+    /// fails.
     ///
-    /// The outlets before that one have then taken their texts, that one a first part of its text, and those behind it
-    /// nothing. A log is written only where one is wanted.
+    /// The outlets before that one have then taken their texts, that one the beginning of its text,
+    /// and those after it nothing. The log is written only if it has an outlet.
     pub fn write(&mut self, texts: &Texts) -> Result<(), Out>
         requires { AreHealthy (outlet_states O.state self.old) }
-        ensures { Sends (outlet_states O.state self.old) (outlet_states O.state self.new) texts.now result }
+        ensures { Sends (outlet_states O.state self.old)
+            (outlet_states O.state self.new) texts.now result }
     {
         send_to(&mut self.forward_paired, texts, Out::ForwardPaired)?;
         send_to(&mut self.forward_unpaired, texts, Out::ForwardUnpaired)?;
@@ -46,7 +48,8 @@ impl<O: Outlet> Outlets<O> {
         Ok(())
     }
 
-    /// Flushes each outlet once, in the order of [`Out`], up to the first that fails, which is answered.
+    /// Flushes each outlet once, in the order of [`Out`], up to the first that fails, and returns
+    /// it.
     pub(crate) fn flush(&mut self) -> Result<(), Out>
         requires { AreHealthy (outlet_states O.state self.old) }
         ensures { Flushes (outlet_states O.state self.old) (outlet_states O.state self.new) result }
@@ -61,10 +64,12 @@ impl<O: Outlet> Outlets<O> {
         Ok(())
     }
 
-    /// Flushes them where no write failed, each once and in the order of [`Out`], up to the first that fails. Answers the outlet that failed, now or before.
+    /// Flushes the outlets if no write failed, each once and in the order of [`Out`], up to the
+    /// first that fails. Returns the outlet that failed, now or before.
     pub fn flush_after(&mut self, failed: Option<Out>) -> Option<Out>
         requires { failed ≡ None → AreHealthy (outlet_states O.state self.old) }
-        ensures { FlushesAfter failed (outlet_states O.state self.old) (outlet_states O.state self.new) result }
+        ensures { FlushesAfter failed (outlet_states O.state self.old)
+            (outlet_states O.state self.new) result }
     {
         match failed {
             Some(out) => Some(out),

@@ -1,14 +1,14 @@
-//! Why the reading of a run ends.
+//! Why reading stopped.
 
 use fq_pair::InputFault;
 
 /// Why no further pair is read.
 #[derive(Clone, Copy, Debug, PartialEq, Eq)]
 pub enum ReadingEnd {
-    /// Both texts have ended.
+    /// The inputs have ended.
     End,
     /// The inputs have a fault.
     Fault(InputFault),
-    /// Memory was refused to a pair, which is lost with all later ones.
+    /// Memory for a pair was refused. That pair and all later pairs are lost.
     Memory,
 }

@@ -8,41 +8,41 @@ use fq_trim::Steps;
 use std::marker::Model;
 use thiserror::Error;
 
-/// The most workers.
+/// The largest number of workers.
 const MOST_WORKERS: u64 = 64;
-/// The most pairs of a block.
+/// The largest number of pairs in a block.
 const MOST_PAIRS: u64 = 65_536;
-/// The most items that a lane holds.
+/// The largest number of items in a lane.
 const MOST_DEPTH: u64 = 64;
-/// The most bytes that are asked for by one read.
+/// The largest number of bytes that one read call asks for.
 const MOST_BYTES: u64 = 1_048_576;
-/// The most reads of one input, and the most turns at a gate: 2 to the power of 40.
+/// The largest number of read calls per input, and of turns at a gate: 2^40.
 const MOST_TURNS: u64 = 1_099_511_627_776;
 
-/// The first setting that is out of its range.
+/// The first setting that is out of range.
 #[derive(Clone, Copy, Debug, PartialEq, Eq, Error)]
 pub enum BadSetting {
-    /// The workers aren't 1 to 64.
+    /// The number of workers isn't 1 to 64.
     #[error("workers")]
     Workers,
-    /// The pairs of a block aren't 1 to 65,536.
+    /// The number of pairs in a block isn't 1 to 65,536.
     #[error("block")]
     BlockPairs,
-    /// The depth of a lane isn't 1 to 64.
+    /// The depth of the lanes isn't 1 to 64.
     #[error("depth")]
     Depth,
-    /// The bytes of a read aren't 1 to 1,048,576.
+    /// The number of bytes per read call isn't 1 to 1,048,576.
     #[error("chunk")]
     Chunk,
-    /// The reads of an input aren't 1 to 2^40.
+    /// The number of read calls per input isn't 1 to 2^40.
     #[error("reads")]
     MaxReads,
-    /// The turns at a gate aren't 1 to 2^40.
+    /// The number of turns at a gate isn't 1 to 2^40.
     #[error("gate")]
     GateTurns,
 }
 
-/// The settings of a run, each number in its range.
+/// The settings of a run. Each number is in its range.
 #[derive(Clone, Copy, Debug, PartialEq, Eq)]
 pub struct Settings {
     encoding: Encoding,
@@ -76,7 +76,8 @@ impl Model for Settings {
       tallied = s.tallied;
     } };
 
-    ghost invariant = { λ s. AreInRange s.workers s.block_pairs s.depth s.chunk s.max_reads s.gate_turns };
+    ghost invariant = { λ s.
+        AreInRange s.workers s.block_pairs s.depth s.chunk s.max_reads s.gate_turns };
 
     ghost inverse = { λ c. record {
       encoding = c.encoding;
@@ -97,19 +98,19 @@ impl Settings {
 
     /// The settings of a run, without a tally.
     ///
-    /// - `encoding`: how the quality bytes of both inputs stand for Phred scores.
-    /// - `steps`: what is trimmed.
+    /// - `encoding`: how the quality bytes of both inputs encode Phred scores.
+    /// - `steps`: the trimming steps.
     /// - `check_names`: whether the names of mates are compared.
-    /// - `workers`: threads that trim, 1 to 64. A serial run has none.
+    /// - `workers`: threads that trim, 1 to 64. A serial run starts none.
     /// - `block_pairs`: pairs that are trimmed and written at a time, 1 to 65,536.
-    /// - `depth`: blocks or replies that a lane between threads holds, 1 to 64.
-    /// - `chunk`: bytes that are asked for by one read, 1 to 1,048,576.
-    /// - `max_reads`: reads of each input before it counts as endless, 1 to 2^40.
+    /// - `depth`: blocks or replies that a lane (a queue between two threads) can hold, 1 to 64.
+    /// - `chunk`: bytes that one read call asks for, 1 to 1,048,576.
+    /// - `max_reads`: read calls on an input before it counts as endless, 1 to 2^40.
     /// - `gate_turns`: how often a gate is asked about one block, 1 to 2^40.
     ///
     /// # Errors
     ///
-    /// The first of the six numbers, in this order, that is out of its range. It takes no memory.
+    /// The first of the six numbers, in this order, that is out of range. No memory is allocated.
     pub fn new(
         encoding: Encoding,
         steps: Steps,
@@ -154,7 +155,7 @@ impl Settings {
         })
     }
 
-    /// The same settings, by which a run makes a tally of its pairs too.
+    /// Turns the tally on: a run with these settings also tallies its pairs.
     pub fn with_tally(self) -> Settings
         ensures { result ≡ tallying self }
     {
@@ -164,14 +165,14 @@ impl Settings {
         }
     }
 
-    /// How the quality bytes of both inputs stand for scores.
+    /// How the quality bytes of both inputs encode Phred scores.
     pub fn encoding(&self) -> Encoding
         ensures { result ≡ self.now.encoding }
     {
         self.encoding
     }
 
-    /// What is trimmed.
+    /// The trimming steps.
     pub fn steps(&self) -> &Steps
         ensures { result.now ≡ self.now.steps }
     {
@@ -185,7 +186,7 @@ impl Settings {
         self.check_names
     }
 
-    /// Whether a run makes a tally of its pairs.
+    /// Whether a run tallies its pairs.
     pub fn tallied(&self) -> bool
         ensures { result ≡ self.now.tallied }
     {
@@ -210,7 +211,7 @@ impl Settings {
         self.block_pairs
     }
 
-    /// How many items a lane between threads holds.
+    /// How many items a lane between two threads can hold.
     pub fn depth(&self) -> u64
         ensures depth { result ≡ self.now.depth }
         ensures some { 1 ≤ result }
@@ -219,7 +220,7 @@ impl Settings {
         self.depth
     }
 
-    /// How many bytes are asked for by one read.
+    /// How many bytes one read call asks for.
     pub fn chunk(&self) -> usize
         ensures chunk { result ≡ self.now.chunk }
         ensures some { 1 ≤ result }
@@ -228,7 +229,7 @@ impl Settings {
         self.chunk as usize
     }
 
-    /// How many reads of each input are made before it counts as endless.
+    /// How many read calls are made on an input before it counts as endless.
     pub fn max_reads(&self) -> u64
         ensures reads { result ≡ self.now.max_reads }
         ensures some { 1 ≤ result }
@@ -247,7 +248,7 @@ impl Settings {
     }
 }
 
-// Whether a number is from 1 to the most; this answer where it is not.
+// Returns `bad` unless the number is from 1 to `most`.
 fn in_range(most: u64, number: u64, bad: BadSetting) -> Result<(), BadSetting>
     ensures ok { OnOk result (within most number ≡ true) }
     ensures err { IfErr result (λ why. (why ≡ bad) × (within most number ≡ false)) }

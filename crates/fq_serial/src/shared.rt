@@ -1,4 +1,4 @@
-//! Parts of a run that one on several threads is made of too. They are for `fq_run`; whoever trims calls a run.
+//! Parts that runs on several threads are made of, too. They are for `fq_run`; to trim, call a run.
 
 pub use crate::filling::fill;
 pub use crate::halt::Halt;

@@ -1,4 +1,4 @@
-//! What is counted of a run.
+//! What a run counts.
 
 use fq_pair::Counts;
 use fq_tally::Tally;
@@ -6,12 +6,12 @@ use fq_text::OutOfMemory;
 use fq_work::Done;
 use std::alloc::Global;
 
-/// What is counted of the pairs whose block was written whole.
+/// The counts and the tally of the pairs whose block was written completely.
 #[derive(Drop)]
 pub struct Total {
-    /// Their counts.
+    /// How many pairs there are, and how many of each kind.
     pub counts: Counts,
-    /// Their tally. `None` where none is asked for.
+    /// The tally. `None` if none is asked for.
     pub tally: Option<Tally>,
 }
 
@@ -19,7 +19,7 @@ impl Total {
     ghost use Rattle.std.specs.Prelude.{◌≡◌, false, IfOk, OnOk, OnErr};
     ghost use Rattle.fq_serial.specs.Totals.{no_total, total_plus};
 
-    /// That of no pairs. Memory for a tally is taken where one is asked for, and may be refused.
+    /// The total of no pairs. Allocates a tally if one is asked for; the memory may be refused.
     pub fn new(alloc: Global, tallied: bool) -> Result<Total, OutOfMemory>
         ensures { IfOk result (λ total. total ≡ no_total tallied) }
     {
@@ -28,7 +28,7 @@ impl Total {
         Ok(total)
     }
 
-    // Takes memory for a tally where one is asked for. It may be refused.
+    // Allocates a tally if one is asked for. The memory may be refused.
     pub(crate) fn ask(&mut self, alloc: Global, tallied: bool) -> Result<(), OutOfMemory>
         requires { self.old ≡ no_total false }
         ensures ok { OnOk result (self.new ≡ no_total tallied) }
@@ -40,7 +40,7 @@ impl Total {
         Ok(())
     }
 
-    /// That of no pairs, without a tally.
+    /// The total of no pairs, without a tally.
     pub fn without_tally() -> Total
         ensures { result ≡ no_total false }
     {
@@ -50,7 +50,7 @@ impl Total {
         }
     }
 
-    /// Adds what was made of a block.
+    /// Adds the counts of a block, and its tally if both have one.
     pub fn add(&mut self, done: &Done)
         ensures { self.new ≡ total_plus self.old done.now }
     {

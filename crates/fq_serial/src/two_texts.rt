@@ -1,4 +1,4 @@
-//! A run on one thread, over two texts.
+//! A run on one thread, over two inputs.
 
 ghost use Rattle.std.specs.Prelude.{◌≡◌, ◌≤◌, None, IsTrue, IsSome};
 ghost use Rattle.fq_serial.specs.Devices.{outlet_states, AreHealthy};
@@ -18,20 +18,23 @@ use crate::written::{Pass, Written};
 use fq_text::{Feed, Outlet};
 use std::alloc::Global;
 
-/// Trims the pairs of two inputs on this thread, one after the other, and writes them.
+/// Trims the pairs of two inputs on this thread, in order, and writes them.
 ///
-/// Record k of the forward input and record k of the reverse input are a pair. Pairs are read, trimmed and written in blocks of
-/// `settings.block_pairs()`; a block that the end of the input leaves part-filled is written too. The texts of a block go to
-/// their outlets in the order of [`Out`]. The pairs before a fault of the inputs are written, and the fault is answered.
+/// Record k of the forward input and record k of the reverse input are a pair. Pairs are read,
+/// trimmed and written in blocks of `settings.block_pairs()`; the last block may have fewer. The
+/// texts of a block go to their outlets in the order of [`Out`]. If the inputs have a fault, the
+/// pairs before it are written and the run returns the fault.
 ///
-/// Reading stops where memory is refused to a pair, which is lost with all later ones; the pairs in hand are still written. It stops
-/// at a failed write, and then nothing more goes to any outlet. Where no write failed each outlet is flushed once at the end, in
-/// the order of [`Out`], up to the first flush that fails.
+/// If memory for a pair is refused, reading stops: that pair and all later pairs are lost, and the
+/// pairs read so far are still written. If a write fails, reading stops and nothing more goes to
+/// any outlet. If no write failed, each outlet is flushed once at the end, in the order of [`Out`],
+/// up to the first flush that fails.
 ///
-/// Where more than one of these occurred the first in the order of [`Outcome`](crate::Outcome) is answered; `Spawn`, `Lane` and
-/// `Gate` don't arise. The counts are those of the pairs whose block was written whole, and so is the tally, where the settings ask for
-/// one; where memory for it is refused nothing is read. Both feeds are handed back as they stand.
-/// The settings for threads aren't used. No device may have failed before the run.
+/// If several of these occur, the run returns the first in the order of
+/// [`Outcome`](crate::Outcome); `Spawn`, `Lane` and `Gate` don't occur. The counts, and the tally
+/// if the settings ask for one, cover the pairs whose block was written completely. If memory for
+/// the tally is refused, nothing is read. Both feeds are handed back as the run left them. The
+/// settings for threads aren't used. No device may have failed before the run.
 pub fn run_serial<F: Feed, G: Feed, O: Outlet>(
     alloc: Global,
     settings: &Settings,
@@ -46,12 +49,14 @@ pub fn run_serial<F: Feed, G: Feed, O: Outlet>(
     ensures reverse { IsSome result.reverse }
     ensures serial { 4 ≤ rank result.outcome }
     ensures unended { result.unended ≡ None }
-    // Where the run ends whole, it has trimmed all pairs up to the end of the input or its fault.
-    ensures whole { let run = run_of F.state G.state (outlet_states O.state) forward reverse outlets.old outlets.new result in
+    // At `Input` and `Finished` all pairs before the fault or the end of the input were trimmed.
+    ensures whole { let run = run_of F.state G.state (outlet_states O.state)
+        forward reverse outlets.old outlets.new result in
         IsTrue (ends_whole run.outcome) → AreTold run → IsTrimmed settings.now run }
-    // At every ending the outlets have the texts of the first pairs, but for a part of the block in which a write failed.
-    ensures every { EveryEnding settings.now
-        (run_of F.state G.state (outlet_states O.state) forward reverse outlets.old outlets.new result) }
+    // However it ended, the outlets have the texts of the first pairs, and besides at most a part
+    // of the block in which a write failed.
+    ensures every { EveryEnding settings.now (run_of F.state G.state (outlet_states O.state)
+        forward reverse outlets.old outlets.new result) }
 {
     let Pass {
         written,
@@ -69,7 +74,7 @@ pub fn run_serial<F: Feed, G: Feed, O: Outlet>(
     }
 }
 
-// Reads and writes all pairs of two texts.
+// Reads and writes all pairs of two inputs.
 fn pass<F: Feed, G: Feed, O: Outlet>(
     alloc: Global,
     settings: &Settings,

@@ -1,4 +1,4 @@
-//! The blocks of a run on one thread, read and written.
+//! Reads and writes the blocks of a run on one thread.
 
 ghost use Rattle.std.specs.Prelude.{◌≡◌, ◌≤◌, ◌^◌, false, Some, None, is_some, OnOk, OnErr};
 ghost use Rattle.fq_pair.specs.Walks.{GoesOn};
@@ -20,7 +20,8 @@ use fq_trim::Steps;
 use fq_work::Done;
 use std::alloc::Global;
 
-/// Reads and writes block for block, until the reading stops or a write fails. Where memory for a tally is refused nothing is read.
+/// Reads and writes block by block, until reading stops or a write fails. If memory for a tally is
+/// refused, nothing is read.
 pub(crate) fn write_blocks<S: PairReader, O: Outlet>(
     alloc: Global,
     settings: &Settings,
@@ -41,7 +42,7 @@ pub(crate) fn write_blocks<S: PairReader, O: Outlet>(
     written
 }
 
-// The same, where what becomes of the pairs is lent: it tells of nothing.
+// Does the work of `write_blocks` on a borrowed result, which says so far that nothing was read.
 fn write_counted<S: PairReader, O: Outlet>(
     alloc: Global,
     settings: &Settings,
@@ -53,7 +54,8 @@ fn write_counted<S: PairReader, O: Outlet>(
     requires fresh { (S.state source.old).forward.given ≡ 0 }
     requires few { (S.state source.old).most_bytes ≤ 2 ^ 60 }
     requires outlets { AreHealthy (outlet_states O.state outlets.old) }
-    requires nothing { written.old ≡ record { total = no_total false; why = Some ReadingEnd.Memory; failed = None } }
+    requires nothing { written.old
+        ≡ record { total = no_total false; why = Some ReadingEnd.Memory; failed = None } }
     ensures { Passes settings.now (S.state source.old)
         (S.state source.new)
         (outlet_states O.state outlets.old) (outlet_states O.state outlets.new)
@@ -63,7 +65,7 @@ fn write_counted<S: PairReader, O: Outlet>(
     write_with(alloc, settings, source, outlets, written, &mut done);
 }
 
-// The same, where what is made of a block is lent too.
+// Does the work of `write_counted` with borrowed room for the texts of a block.
 fn write_with<S: PairReader, O: Outlet>(
     alloc: Global,
     settings: &Settings,
@@ -76,7 +78,8 @@ fn write_with<S: PairReader, O: Outlet>(
     requires fresh { (S.state source.old).forward.given ≡ 0 }
     requires few { (S.state source.old).most_bytes ≤ 2 ^ 60 }
     requires outlets { AreHealthy (outlet_states O.state outlets.old) }
-    requires nothing { written.old ≡ record { total = no_total false; why = Some ReadingEnd.Memory; failed = None } }
+    requires nothing { written.old
+        ≡ record { total = no_total false; why = Some ReadingEnd.Memory; failed = None } }
     ensures { Passes settings.now (S.state source.old)
         (S.state source.new)
         (outlet_states O.state outlets.old) (outlet_states O.state outlets.new)
@@ -90,7 +93,7 @@ fn write_with<S: PairReader, O: Outlet>(
     written.failed = failed;
 }
 
-// Asks for the memory of both tallies, where they are asked for.
+// Allocates the tallies of the block and of the total, if a tally is asked for.
 fn ask(alloc: Global, tallied: bool, total: &mut Total, done: &mut Done) -> Result<(), OutOfMemory>
     requires { total.old ≡ no_total false }
     ensures total { OnOk result (total.new ≡ no_total tallied) }
@@ -101,8 +104,8 @@ fn ask(alloc: Global, tallied: bool, total: &mut Total, done: &mut Done) -> Resu
     total.ask(alloc, tallied)
 }
 
-// Reads and writes block for block, and counts each that is written whole. Answers why no further pair is read, if the reading has
-// stopped, and the outlet in which a write failed, if one has.
+// Reads and writes block by block, and counts each block that is written completely. Returns why
+// reading stopped, if it did, and the outlet whose write failed, if one did.
 fn write_each<S: PairReader, O: Outlet>(
     settings: &Settings,
     source: &mut S,
@@ -123,6 +126,7 @@ fn write_each<S: PairReader, O: Outlet>(
 {
     let steps = settings.steps();
     let most = settings.block_pairs();
+    // The label is the loop's name in its proof.
     'writing: loop {
         let (why, sent) = write_block(source, steps, most, outlets, total, done);
         if let Err(out) = sent {
@@ -134,8 +138,8 @@ fn write_each<S: PairReader, O: Outlet>(
     }
 }
 
-// Reads and writes the next block, of up to `most` pairs, and counts it where it is written whole. Answers why no further pair is
-// read, if the reading has stopped, and how the writing went.
+// Reads and writes the next block, of up to `most` pairs, and counts it if it is written
+// completely. Returns why reading stopped, if it did, and the result of the write.
 fn write_block<S: PairReader, O: Outlet>(
     source: &mut S,
     steps: &Steps,
@@ -148,8 +152,10 @@ fn write_block<S: PairReader, O: Outlet>(
     requires some { 1 ≤ most }
     requires few { most ≤ 65536 }
     requires outlets { AreHealthy (outlet_states O.state outlets.old) }
-    ensures gathers { Gathers (S.state source.old) (S.state source.new) (is_some done.old.tally) steps.now most done.new result.0 }
-    ensures sends { Sends (outlet_states O.state outlets.old) (outlet_states O.state outlets.new) done.new.texts result.1 }
+    ensures gathers { Gathers (S.state source.old) (S.state source.new)
+        (is_some done.old.tally) steps.now most done.new result.0 }
+    ensures sends { Sends (outlet_states O.state outlets.old)
+        (outlet_states O.state outlets.new) done.new.texts result.1 }
     ensures counted { OnOk result.1 (total.new ≡ total_plus total.old done.new) }
     ensures uncounted { OnErr result.1 (total.new ≡ total.old) }
 {

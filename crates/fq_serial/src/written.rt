@@ -1,4 +1,4 @@
-//! What was read and written.
+//! What a run read and wrote.
 
 ghost use Rattle.std.specs.Prelude.{◌≡◌};
 
@@ -8,15 +8,15 @@ use fq_pair::Out;
 
 /// What became of the pairs of a run.
 pub(crate) struct Written {
-    /// What is counted of the pairs whose block was written whole.
+    /// The counts and the tally of the pairs whose block was written completely.
     pub(crate) total: Total,
-    /// Why no further pair was read, where that is the reason that the run is over.
+    /// Why reading stopped, if that ended the run.
     pub(crate) why: Option<ReadingEnd>,
-    /// The outlet in which a write failed.
+    /// The outlet whose write failed.
     pub(crate) failed: Option<Out>,
 }
 
-/// The same, and the feeds as they stand.
+/// What became of the pairs of a run, and the feeds as the run left them.
 pub(crate) struct Pass<T> {
     pub(crate) written: Written,
     pub(crate) feeds: T,
@@ -26,9 +26,10 @@ impl Written {
     ghost use Rattle.std.specs.Prelude.{◌≡◌, false, Some, None};
     ghost use Rattle.fq_serial.specs.Totals.{no_total};
 
-    /// Nothing, since memory was refused before the first pair.
+    /// Nothing was read or written: memory was refused before the first pair.
     pub(crate) fn nothing() -> Written
-        ensures { result ≡ record { total = no_total false; why = Some ReadingEnd.Memory; failed = None } }
+        ensures { result
+            ≡ record { total = no_total false; why = Some ReadingEnd.Memory; failed = None } }
     {
         Written {
             total: Total::without_tally(),

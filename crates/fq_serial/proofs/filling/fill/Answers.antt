@@ -1,4 +1,4 @@
--- Each pair that is read goes into the block, until one is refused or there is none.
+-- Each pair that is read goes into the block, until memory for one is refused or none is left.
 use Rattle.std.proofs.Common.{◌≡◌, arith, sym, ◌∙◌}
 use Rattle.fq_pair.specs.Mates.{name_lengths}
 use Rattle.fq_serial.proofs.WalkLemmas.{is_in_hand, of_in_hand, if_in_hand}

@@ -1,4 +1,4 @@
--- The block has as many pairs as the loop has gone round.
+-- After each round of the loop the block has one more pair.
 use Rattle.fq_serial.proofs.FillLemmas.{Filled}
 use Rattle.fq_serial.proofs.filling.fill.Given as goal
 

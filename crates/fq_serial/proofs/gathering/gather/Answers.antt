@@ -1,4 +1,5 @@
--- Each pair that is read goes to the block's texts and tally, until one is refused or there is none.
+-- Each pair that is read goes to the block's texts and tally, until memory is refused or no pair is
+-- left.
 use Rattle.std.proofs.Common.{◌≡◌, is_some, arith, refl}
 use Rattle.fq_pair.specs.Mates.{name_lengths}
 use Rattle.fq_serial.proofs.WalkLemmas.{is_in_hand, of_in_hand, if_in_hand}

@@ -1,4 +1,4 @@
--- Texts and tally are those of as many pairs as the loop has gone round.
+-- After each round of the loop the texts and the tally have one more pair.
 use Rattle.std.proofs.Common.{is_some}
 use Rattle.fq_serial.proofs.GatherLemmas.{Gathered}
 use Rattle.fq_serial.proofs.gathering.gather.Given as goal

@@ -1,4 +1,4 @@
--- What was read, written and flushed is what the run promises.
+-- What was read, written and flushed is what the run guarantees.
 use Rattle.std.proofs.Common.{refl, ap, ◌∙◌}
 use Rattle.fq_serial.specs.Outcomes.{outcome_of}
 use Rattle.fq_serial.proofs.RunLemmas.{runs_healthy, serial_rank, run_every, run_whole}

@@ -1,4 +1,5 @@
--- All blocks so far are written whole, and a tally is at hand where one is asked for. Each block that is full brings the end nearer, since it takes bytes.
+-- All blocks so far are written completely, and there is a tally if one is asked for. Each full
+-- block brings the end nearer, since it takes bytes.
 use Rattle.std.proofs.Common.{◌≡◌, ◌-◌, is_some}
 use Rattle.fq_serial.specs.Devices.{outlet_states}
 use Rattle.fq_serial.proofs.BlockLemmas.{Wrote}

@@ -1,4 +1,4 @@
--- All blocks are written, or nothing is read, since memory for a tally was refused.
+-- All blocks are written; or nothing is read, because memory for a tally was refused.
 use Rattle.fq_serial.proofs.PassLemmas.{passes_unasked}
 use Rattle.fq_serial.proofs.writing.write_with.Goals as goal
 

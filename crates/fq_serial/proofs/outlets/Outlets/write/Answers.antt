@@ -1,4 +1,4 @@
--- Where the fourth outlet fails.
+-- If the fourth outlet fails.
 use Rattle.std.proofs.Common.{◌≡◌, Err, refl, arith}
 use Rattle.std.proofs.lemmas.Grind.{common_steps}
 use Rattle.fq_pair.specs.declared.out.Out.TheVariants.{ReverseUnpaired}
