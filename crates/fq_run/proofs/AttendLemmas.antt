@@ -1,4 +1,4 @@
--- What a run promises whose threads were all started.
+-- What a run guarantees if all its threads were started.
 use Rattle.std.proofs.Common.{◌≡◌, ◌<◌, ◌≤◌, ℕ, false, IsTrue, Option, Some, None, Result, Ok, Err, IfOk, IsOkAnd, List, length, refl, sym, ap, ◌∙◌, subst, arith}
 use Rattle.std.specs.List.{AllZip}
 use Rattle.std.specs.Option.{option_map, IfSome}
@@ -30,7 +30,7 @@ use Rattle.fq_run.proofs.StartLemmas.{of_one}
 use Rattle.fq_serial.proofs.RunLemmas.{run_rank, run_every, run_whole}
 use Rattle.fq_run.proofs.ThreadLemmas.{runs_threaded}
 
--- a confirmed start lane had the item that was put
+-- a confirmed start lane carried the item that was put
 started_some : (r : Result (History (Unit {0})) NotEnded) (s start : History (Unit {0})) → 0 < length s.items → IfOk r (λ e. e ≡ with_mark s) → IsOkAnd r (λ e. start ≡ e) → 0 < length start.items
 started_some (Ok e) s start some ended same = subst (λ (l : History (Unit {0})). 0 < length l.items) (sym (same ∙ ended)) some
 started_some (Err e) s start some ended same = absurd same
@@ -44,14 +44,14 @@ module _ {S : Type 0} (state : S → SourceState) (c : Choices) (s : SourceState
   abbrev the_run : Run
   the_run = run_from state s before after ending
 
-  -- the sides of the source that is left
+  -- the sides of the source that is handed back
   abbrev forward_of : S → FeedState
   forward_of x = feed_in (state x).forward
 
   abbrev reverse_of : S → FeedState
   reverse_of x = feed_in (state x).reverse
 
-  -- the same, of which the total and the feeds are named otherwise
+  -- the run, with the total and the feeds named otherwise
   abbrev run_as : Total → Option FeedState → Option FeedState → Run
   run_as total x y = record { form = s.form; forward = feed_in s.forward; reverse = feed_in s.reverse; outlets = before; forward_left = x; reverse_left = y; outlets_left = after; outcome = ending.outcome; counts = total.counts; tally = total.tally }
 

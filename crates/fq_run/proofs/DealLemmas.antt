@@ -5,7 +5,7 @@ use Rattle.std.proofs.lemmas.Bool.{cases_lt}
 use mathlib.Core.List.{IsPrefix}
 use Rattle.fq_run.specs.Shares.{every, dealt_to, deal, gather_turns, gather, total_length}
 
--- the place after place n of w
+-- the index after index n of w, in turn
 pub next_wraps : (n w : ℕ) → 0 < w → suc (n % w) ≡ w → suc n % w ≡ 0
 next_wraps n w pos e = suc-mod n w ∙ ap (λ k. k % w) e ∙ mod_self w
 
@@ -71,7 +71,7 @@ module _ {T : Type 0} where
   gather-deal xs zero pos = absurd (omega arith)
   gather-deal xs (suc n) pos = ap (λ k. gather_turns k (deal xs (suc n))) (total_dealt xs n) ∙ gathered xs n
 
-  -- one member more, in the list whose turn it is
+  -- one more member, in the list whose turn it is
   pub every_here : (xs : List T) (x : T) (k w : ℕ) → k < w → length xs % w ≡ k → every k w (xs ++ x ∷ []) ≡ every k w xs ++ x ∷ []
   every_here [] x k w lt e =
       let z : k ≡ 0 = sym e ∙ zero-mod w in
@@ -144,7 +144,7 @@ every-map f k w [] = refl
 every-map f zero w (x ∷ xs) = ap (λ ys. f x ∷ ys) (every-map f (w - 1) w xs)
 every-map f (suc k) w (x ∷ xs) = every-map f k w xs
 
--- whose turn it is after one member more
+-- whose turn it is after one more member
 pub turn_more : {T : Type 0} (xs : List T) (x : T) (turn next w : ℕ) → turn ≡ length xs % w → next ≡ suc turn % w → next ≡ length (xs ++ x ∷ []) % w
 turn_more xs x turn next w here is =
     let grown : length (xs ++ x ∷ []) ≡ suc (length xs) = omega (arith, length-append xs (x ∷ [])) in

@@ -1,4 +1,4 @@
--- Facts place for place, and what is known of lanes as they are made.
+-- Facts about members at the same index, and what is known of new lanes.
 use Rattle.std.proofs.Common.{◌≡◌, false, List, [], ◌∷◌, ◌++◌, length, sym, ap, ◌∙◌, subst, Result, Ok, Err, IfOk}
 use Rattle.std.specs.List.{AllZip}
 use Rattle.fq_lane.specs.History.{History, Name}

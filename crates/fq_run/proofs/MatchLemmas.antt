@@ -1,4 +1,4 @@
--- What was written in turn, from what confirmed lanes have brought.
+-- What was written in turn, from what confirmed lanes carried.
 use Rattle.std.proofs.Common.{◌≡◌, ℕ, zero, suc, ◌-◌, ◌<◌, ◌%◌, false, Option, Result, Ok, Err, List, [], ◌∷◌, ◌++◌, length, map, get_or, refl, sym, ap, ◌∙◌, subst, arith, append_assoc, Bool}
 use Rattle.std.specs.List.{AllZip}
 use Rattle.std.proofs.lemmas.List.{length-map}
@@ -27,7 +27,7 @@ every_first k w [] ys = (every k w ys, refl)
 every_first zero w (x ∷ xs) ys = let p = every_first (w - 1) w xs ys in (p.0, ap (λ zs. x ∷ zs) p.1)
 every_first (suc k) w (x ∷ xs) ys = every_first k w xs ys
 
--- lanes that begin with two lists, one behind the other, begin with the first
+-- lanes that begin with two lists, one after the other, begin with the first
 pub begun_before : {T : Type 0} (w : ℕ) (xs ys : List T) (ls : List (History T)) → IsBegun w (xs ++ ys) ls → IsBegun w xs ls
 begun_before w xs ys ls b = record {
   lanes = b.lanes;
@@ -37,11 +37,11 @@ begun_before w xs ys ls b = record {
 -- Replies and blocks.
 
 module _ (tallied : Bool) (steps : List Step) where
-  -- the blocks, as a worker answers them
+  -- the replies to the blocks
   abbrev pub answered : List Numbered → List Done
   answered blocks = map (done_of tallied steps) blocks
 
-  -- the first replies, none of which is a stop, answer the first blocks
+  -- the first replies, if none is a stop, are those to the first blocks
   answers_first : (ds : List Done) (bs : List Numbered) (rs : List Reply) (cause : Option Cause) → IsPrefix (map done ds) rs → Answers tallied steps bs rs cause → IsPrefix ds (answered bs)
   answers_first [] bs rs cause p h = (answered bs, refl)
   answers_first (d ∷ ds) [] [] cause p h = let q = p.1 in cc
@@ -55,7 +55,7 @@ module _ (tallied : Bool) (steps : List Step) where
       (rest.0, ap (λ y. y ∷ (ds ++ rest.0)) (same ∙ h.0) ∙ ap (λ ys. done_of tallied steps b ∷ ys) rest.1)
   answers_first (d ∷ ds) (b ∷ bs) (Stop why ∷ rs) cause p h = let q : done d ∷ (map done ds ++ p.0) ≡ Stop why ∷ rs = p.1 in cc
 
-  -- where no reply is a stop, all blocks were answered
+  -- if no reply is a stop, each block has its reply
   answers_all : (ds : List Done) (bs : List Numbered) (rs : List Reply) (cause : Option Cause) → rs ≡ map done ds → Answers tallied steps bs rs cause → answered bs ≡ ds
   answers_all [] [] rs cause e h = refl
   answers_all [] (b ∷ bs) [] cause e h = absurd h
@@ -86,7 +86,7 @@ module _ (tallied : Bool) (steps : List Step) where
     no_history : {T : Type 0} → History T
     no_history = record { name = (null_ptr, (null_ptr, (0, (0, 0)))); items = []; marked = false }
 
-    -- the replies of lane j answer the blocks that were dealt to it
+    -- the replies of lane j are those to the blocks that were dealt to it
     replied : length fs ≡ w → (j : ℕ) → j < w → (cause : Option Cause) × Answers tallied steps (every j w bs) (get_or fs j no_history).items cause
     replied lanes j lt =
         let m = matched_at ts cs fs closed matched j no_history no_history (omega (arith, lanes)) in
@@ -98,11 +98,11 @@ module _ (tallied : Bool) (steps : List Step) where
         let p : IsPrefix (map done (every j w ds)) (get_or fs j no_history).items = subst (λ rs. IsPrefix rs (get_or fs j no_history).items) (every-map done j w ds) begins in
         subst (λ ys. IsPrefix (every j w ds) ys) (sym (every-map (done_of tallied steps) j w bs)) (answers_first (every j w ds) (every j w bs) (get_or fs j no_history).items r.0 p r.1)
 
-    -- what was written in turn are the answers to the first blocks
+    -- what was written in turn are the replies to the first blocks
     pub begun_first : (ds : List Done) → IsBegun w (map done ds) fs → IsPrefix ds (answered bs)
     begun_first ds b = prefix_from_turns ds (answered bs) w some (λ j lt. first_at ds b.lanes j lt (b.begins j no_history lt))
 
-    -- and up to a lane that had no more, those to all
+    -- and, if a lane had no more, the replies to all blocks
     pub at_mark_all : (ds : List Done) → IsAtMark w (map done ds) fs → ds ≡ answered bs
     at_mark_all ds k =
         let turn = mod_below (length ds) w some in

@@ -1,4 +1,4 @@
--- A run whose threads were not all started.
+-- A run whose threads could not all be started.
 use Rattle.std.proofs.Common.{◌≡◌, ◌↔◌, Option, Some, None, IfSome, false, IsTrue, Result, ℕ, ◌-◌, ◌<◌, List, [], ◌∷◌, ◌++◌, length, take, refl, sym, ap, ◌∙◌, subst, arith, ◌≤◌, ◌^◌, vec_len, inl}
 use Rattle.fq_lane.specs.History.{History}
 use Rattle.fq_lane.specs.declared.tx.NotEnded.{NotEnded}
@@ -40,7 +40,7 @@ pub of_one : {S A B : Type 0} (f : S → A) (h : S → B) (o : Option S) → (op
 of_one f h None = (λ gone. refl, λ gone. refl)
 of_one f h (Some x) = (λ gone. absurd cc, λ gone. absurd cc)
 
--- a source that is what it was has feeds that are what they were
+-- an unchanged source has unchanged feeds
 pub unread : {S : Type 0} (state : S → SourceState) (s : SourceState) (o : Option S) → IfSome o (λ x. state x ≡ s) →
     IfSome (option_map (λ x. feed_in (state x).forward) o) (λ left. left ≡ feed_in s.forward) × IfSome (option_map (λ x. feed_in (state x).reverse) o) (λ left. left ≡ feed_in s.reverse)
 unread state s None same = (tt, tt)
@@ -50,7 +50,7 @@ no_items : {T : Type 0} (xs : List T) → (0 < length xs → ⊥) → xs ≡ []
 no_items [] none = refl
 no_items (x ∷ xs) none = absurd (none (omega arith))
 
--- a dealer that has not come to a stop had no start, and has not read
+-- a dealer whose reading has not stopped got no start item, and has not read
 pub idle : {S : Type 0} (state : S → SourceState) (c : Choices) (s old new : SourceState) (start start_left : History (Unit {0})) (to : List (History Numbered)) (closings : List (Result (History Numbered) NotEnded)) (why : Option ReadingEnd) (x : S) (o : Option S) →
     old ≡ s → state x ≡ new → HasDealt c old new start start_left to closings why → IfSome o (λ y. (y ≡ x) × (why ≡ None)) → IfSome o (λ y. state y ≡ s)
 idle state c s old new start start_left to closings why x None same is h unread = tt
@@ -58,12 +58,12 @@ idle state c s old new start start_left to closings why x (Some y) same is h unr
     let none = no_items start_left.items (λ some. h.started some unread.1) in
     ap state unread.0 ∙ is ∙ (h.idle none).1 ∙ same
 
--- a side that lacks its feed lacks it before its state is asked
+-- if the state of a feed is missing, so is the feed
 pub none_of : {A B : Type 0} (f : A → B) (a : Option A) → option_map f a ≡ None → a ≡ None
 none_of f None is = refl
 none_of f (Some x) is = absurd cc
 
--- and they gave nothing
+-- an unchanged feed gave nothing
 gave_nothing : (n : ℕ) (xs : List ℕ) → take (n - n) xs ++ xs ≡ xs
 gave_nothing n xs = let e : n - n ≡ 0 = omega arith in rw e refl
 
@@ -73,7 +73,7 @@ back_as_it_was old (Some new) same =
     let P : FeedState → Type 0 = λ x. IsHandedBack old (Some x) in
     subst P (sym same) (0, omega arith, record { told = refl; bytes = λ tells. sym (gave_nothing (length old.to_come) old.to_come); failures = omega arith })
 
--- the outcome of a run in which a thread was refused is none of the others
+-- if a thread was refused, the outcome is no other
 apart : (run : Run) → run.outcome ≡ outcome.Spawn → (o : Outcome) → (rank o ≡ 1 → ⊥) → run.outcome ≡ o → ⊥
 apart run e o other is = other (sym (ap rank is) ∙ ap rank e)
 
@@ -127,7 +127,7 @@ module _ (c : Choices) (run : Run) (e : run.outcome ≡ outcome.Spawn) (none : r
     every = λ sound. every;
   }
 
--- where memory was refused before the threads the outlets were flushed, and no more
+-- if memory was refused before the threads started, the outlets were only flushed
 pub refused : (form : Form) (c : Choices) (f r f' r' : FeedState) (before after : OutletStates) (counted : Total) (failed : Option Out) → f' ≡ f → r' ≡ r → counted ≡ no_total false → FlushesAfter None before after failed → f.failures ≡ 0 → r.failures ≡ 0 →
     IsThreaded c (record { form = form; forward = f; reverse = r; outlets = before; forward_left = Some f'; reverse_left = Some r'; outlets_left = after; outcome = outcome.Memory; counts = counted.counts; tally = counted.tally }) None
 refused form c f r f' r' before after counted failed same also none flushed sound sound' =
@@ -143,12 +143,12 @@ refused form c f r f' r' before after counted failed same also none flushed soun
       every = λ lane. run_every form c f r f' r' before before counted no_halt (Some reading.Memory) None p after failed outcome.Memory flushed refl sound sound';
     }
 
--- the feeds of a source that is left, if one is
+-- the feeds of the source, if it was handed back
 left_as : {S A : Type 0} (feed : S → A) (fs : A → FeedState) (side : S → FeedState) → ((x : S) → fs (feed x) ≡ side x) → (o : Option S) (a : Option A) → a ≡ option_map feed o → option_map side o ≡ option_map fs a
 left_as feed fs side same None a is = sym (ap (option_map fs) is)
 left_as feed fs side same (Some x) a is = ap Some (sym (same x)) ∙ sym (ap (option_map fs) is)
 
--- what holds of a run over a source holds of it over the feeds of that source
+-- what holds of a run over a source holds of the run over the feeds of that source
 pub closed : {S F G : Type 0} (state : S → SourceState) (fs : F → FeedState) (gs : G → FeedState) (forward_of : S → F) (reverse_of : S → G) →
     ((x : S) → fs (forward_of x) ≡ feed_in (state x).forward) → ((x : S) → gs (reverse_of x) ≡ feed_in (state x).reverse) →
     (form : Form) (c : Choices) (s : SourceState) (f : F) (r : G) → s ≡ fresh_source form c (fs f) (gs r) → (before after : OutletStates) (e : Conclusion S) →
@@ -169,7 +169,7 @@ closed state fs gs forward_of reverse_of first second form c s f r is before aft
     ∙ ap (λ x. R fresh o counted (option_map fs f') x) (left_as reverse_of gs (λ x. feed_in (state x).reverse) second e.source r' right) in
     subst (λ (v : Run). IsThreaded c v u) same (subst (λ (v : Option NotEnded). IsThreaded c (run_from state s before after e) v) (sym ended) t)
 
--- a dealer whose lanes are as they are made, over a source that has not been asked
+-- a dealer whose lanes are new, over a source that nothing was read from
 pub can_deal : {S : Type 0} (workers : ℕ) (c : Choices) (s : SourceState) (dealer : Dealer S) (ready : Ready) → IsReady workers dealer ready → length dealer.to.items ≡ vec_len dealer.to → IsFresh c s → s.most_bytes ≤ 2 ^ 60 → CanDeal c s dealer
 can_deal workers c s dealer ready r len is few =
     let some = r.some in let to = r.to in let closings = r.closings in

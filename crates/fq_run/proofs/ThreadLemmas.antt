@@ -58,7 +58,7 @@ even_at most (x ∷ []) b rest e = even_at most [] b rest e.1
 even_at most (x ∷ y ∷ first) b rest e = even_at most (y ∷ first) b rest e.1
 
 module _ (tallied : Bool) (steps : List Step) where
-  -- the texts of answers are those of the pairs of their blocks
+  -- the texts of replies are those of the pairs of their blocks
   texts_in : (out : Out) (bs : List Numbered) → written_text out (answered tallied steps bs) ≡ text_of out (texts_of steps (pairs_in bs))
   texts_in out [] = sym (no_text steps out)
   texts_in out (b ∷ bs) = ap (λ text. text_of out (texts_of steps b.pairs) ++ text) (texts_in out bs) ∙ sym (text_then steps b.pairs (pairs_in bs) out)
@@ -72,7 +72,7 @@ module _ (tallied : Bool) (steps : List Step) where
       counts_in bs (ms ++ b.pairs) (total_plus total (done_of tallied steps b)) (total_added tallied steps ms b.pairs total (done_of tallied steps b) is refl refl (omega arith)) (omega arith)
       ∙ ap (total_of tallied steps) (append_assoc ms b.pairs (pairs_in bs))
 
-  -- the first answers are those to the first blocks
+  -- the first replies are those to the first blocks
   record Splits (ds es : List Done) (bs : List Numbered) : Type 0 where
     first : List Numbered
     rest : List Numbered
@@ -110,7 +110,7 @@ module _ (c : Choices) (old new : SourceState) (mates : List Mates) (why : Optio
       let sum = length-append (pairs_in first) (pairs_in rest) in
       ap (counted c.tallied) is ∙ counts_in c.tallied c.steps first [] (no_total c.tallied) (no_total_is c.tallied c.steps) (omega arith)
 
-  -- no write failed: the texts of the first blocks went out, and of the others none
+  -- no write failed: the texts of the first blocks were sent, and no others
   passes_first : (ds : List Done) (counts : Total) (halt : Halt) (first rest : List Numbered) → bs ≡ first ++ rest → ds ≡ answered c.tallied c.steps first → counts ≡ counted c.tallied ds → TookAll before mid ds →
       (halt ≡ no_halt → rest ≡ []) → Passes c old new before mid counts halt why None
   passes_first ds counts halt first rest all is totals took none =
@@ -130,7 +130,7 @@ module _ (c : Choices) (old new : SourceState) (mates : List Mates) (why : Optio
         missed_none = λ sound unbroken. ap pairs_in (none sound);
       }
 
-  -- a write failed in a block behind the first
+  -- a write failed in the block after the first ones
   passes_broken : (failed : Out) (ds : List Done) (counts : Total) (halt : Halt) (next : Done) (sent : ℕ) (first rest : List Numbered) (b : Numbered) → bs ≡ first ++ (b ∷ rest) → ds ≡ answered c.tallied c.steps first → next ≡ done_of c.tallied c.steps b →
       counts ≡ counted c.tallied ds → sent < length (text_of failed next.texts) → OutletsTook before mid (λ out. written_text out ds ++ part_at failed sent out (text_of out next.texts)) (Some failed) →
       Passes c old new before mid counts halt why (Some failed)
@@ -175,7 +175,7 @@ module _ (form : Form) (c : Choices) (f r : FeedState) (old new : SourceState) (
   dealt_to : IsDealt w d.blocks sent
   dealt_to = subst (λ n. IsDealt n d.blocks sent) lanes d.dealt
 
-  -- the answers of the first blocks, by how far the collector came
+  -- the replies to the first blocks, by the phase of the collector
   passes_by : (phase : Phase) (ds : List Done) → k.total ≡ counted c.tallied ds → Writes phase w before mid ds k → (phase ≡ Writing → ⊥) → Passes c old new before mid k.total k.halt why (failed_in phase)
   passes_by Writing ds totals writes over = absurd (over refl)
   passes_by AtMark ds totals writes over =

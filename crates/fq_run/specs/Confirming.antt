@@ -1,4 +1,4 @@
--- Behind the joins: when lanes can be confirmed, and what is then known.
+-- After the joins: when lanes can be confirmed, and what is then known.
 use Rattle.std.specs.Prelude.{◌≡◌, Bool, true, Option, Result, IfOk, IsOkAnd, List}
 use Rattle.fq_trim.specs.declared.step.Step.{Step}
 use Rattle.fq_lane.specs.History.{History}
@@ -9,18 +9,23 @@ use Rattle.fq_work.specs.declared.ends.Worked.{Worked}
 use Rattle.fq_work.specs.declared.reply.Cause.{Cause}
 use Rattle.fq_work.specs.declared.reply.Reply.{Reply}
 
--- What stands at one place before its two lanes are confirmed: the end of the block lane, what the worker left, the receiver of replies.
--- Both receivers have come to the mark, and each end has the name of its receiver.
-pub record CanConfirm (closing : Result (History Numbered) NotEnded) (worked : Worked) (replies : History Reply) : Type 0 where
+-- What one worker's two lanes have before they are confirmed: the end of the lane of blocks, what
+-- the worker handed back, and the receiver of replies. Both receivers were taken to the mark, and
+-- each end has the name of its receiver.
+pub record CanConfirm (closing : Result (History Numbered) NotEnded) (worked : Worked)
+    (replies : History Reply) : Type 0 where
   pub blocks : IfOk closing (λ e. e.name ≡ worked.rx.name)
   pub came : worked.rx.marked ≡ true
   pub sent : IfOk worked.closing (λ e. e.name ≡ replies.name)
   pub got : replies.marked ≡ true
 
--- both lanes are confirmed: what came at one end is what left the other
+-- both lanes are confirmed: what one end received is what the other end sent
 abbrev pub Confirmed : Result (History Numbered) NotEnded → Worked → History Reply → Type 0
-Confirmed closing worked replies = IsOkAnd closing (λ e. worked.rx ≡ e) × IsOkAnd worked.closing (λ e. replies ≡ e)
+Confirmed closing worked replies =
+    IsOkAnd closing (λ e. worked.rx ≡ e) × IsOkAnd worked.closing (λ e. replies ≡ e)
 
--- the replies that came answer the blocks that were sent
-abbrev pub Matched : Bool → List Step → Result (History Numbered) NotEnded → History Reply → Type 0
-Matched tallied steps closing replies = IsOkAnd closing (λ e. (cause : Option Cause) × Answers tallied steps e.items replies.items cause)
+-- the replies that came are those to the blocks that were sent
+abbrev pub Matched :
+    Bool → List Step → Result (History Numbered) NotEnded → History Reply → Type 0
+Matched tallied steps closing replies = IsOkAnd closing (λ e.
+    (cause : Option Cause) × Answers tallied steps e.items replies.items cause)

@@ -6,7 +6,7 @@ pub mod crew
 pub mod collector
 pub mod Confirming
 pub mod Threads
--- What callers of a run name, of the crate below.
+-- Definitions of `fq_serial` that callers of a run name.
 pub use Rattle.fq_serial.specs.Choices
 pub use Rattle.fq_serial.specs.Devices
 pub use Rattle.fq_serial.specs.Endings

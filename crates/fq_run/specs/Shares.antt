@@ -3,12 +3,12 @@ use Rattle.std.specs.Prelude.{◌≡◌, ℕ, zero, suc, ◌+◌, ◌-◌, ◌�
 
 -- Cutting.
 
--- the members of all pieces, one piece behind the other
+-- the members of all pieces, one piece after the other
 abbrev pub join : {T : Type 0} → List (List T) → List T
 join [] = []
 join (piece ∷ pieces) = piece ++ join pieces
 
--- each piece has so many members, but the last, which has 1 to so many
+-- each piece has `most` members, but the last may have fewer, and has at least 1
 abbrev pub AreEven : {T : Type 0} → ℕ → List (List T) → Type 0
 AreEven most [] = Unit {0}
 AreEven most (piece ∷ []) = (1 ≤ length piece) × (length piece ≤ most)
@@ -21,24 +21,25 @@ pub record IsCut {T : Type 0} (most : ℕ) (xs : List T) (pieces : List (List T)
 
 -- Dealing.
 
--- the members at the places skip, skip + w, skip + 2 * w and so on
+-- the members at the indices skip, skip + w, skip + 2 * w and so on
 abbrev pub every : {T : Type 0} → ℕ → ℕ → List T → List T
 every skip w [] = []
 every zero w (x ∷ xs) = x ∷ every (w - 1) w xs
 every (suc k) w (x ∷ xs) = every k w xs
 
--- the lists of the first n places
+-- the lists of the first n workers
 abbrev pub dealt_to : {T : Type 0} → ℕ → ℕ → List T → List (List T)
 dealt_to zero w xs = []
 dealt_to (suc n) w xs = dealt_to n w xs ++ every n w xs ∷ []
 
--- w lists; list j has the members at the places j, j + w, j + 2 * w and so on
+-- w lists; list j has the members at the indices j, j + w, j + 2 * w and so on
 abbrev pub deal : {T : Type 0} → List T → ℕ → List (List T)
 deal xs w = dealt_to w w xs
 
 -- Gathering.
 
--- so many turns: the next member of the list whose turn it is, which then goes to the end of the row, until that list has no more
+-- this number of turns: take the next member of the first list and move that list to the end of the
+-- row, until the first list has no more
 abbrev pub gather_turns : {T : Type 0} → ℕ → List (List T) → List T
 gather_turns zero ls = []
 gather_turns (suc n) [] = []

@@ -1,4 +1,5 @@
--- A run on several threads: what is ready before its threads, how it is concluded, and what it promises.
+-- A run on several threads: what is ready before its threads start, how it is concluded, and what
+-- it guarantees.
 use Rattle.std.specs.Prelude.{◌≡◌, ◌≤◌, ◌<◌, ℕ, IsTrue, ◌↔◌, List, [], length, vec_len, vec_capacity}
 use Rattle.std.specs.Prelude.{Option, Some, None, IfSome, IsSome, Result, IsOkAnd}
 use Rattle.std.specs.List.{AllZip}
@@ -29,7 +30,7 @@ use Rattle.fq_run.specs.declared.lanes.Lanes.{Lanes}
 use Rattle.fq_run.specs.declared.ready.Ready.{Ready}
 use Rattle.fq_run.specs.declared.crew.Crew.{Crew}
 
--- the lanes of so many workers and the start lane are as they are made, and there is room for what is handed back
+-- the lanes of the workers and the start lane are new, and there is room for what is handed back
 pub record AreLaidOut (workers : ℕ) (lanes : Lanes) : Type 0 where
   pub some : 0 < workers
   pub all : AreFor workers lanes.seats
@@ -40,7 +41,8 @@ pub record AreLaidOut (workers : ℕ) (lanes : Lanes) : Type 0 where
   pub hands : (lanes.hands.items ≡ []) × (workers ≤ vec_capacity lanes.hands)
   pub worked : (lanes.worked.items ≡ []) × (workers ≤ vec_capacity lanes.worked)
 
--- the lanes of so many workers are as they are made, the start lane too, and there is room for what is handed back
+-- what the dealer takes and what the calling thread keeps: new lanes for the workers, a new start
+-- lane, and room for what is handed back
 pub record IsReady {S : Type 0} (workers : ℕ) (dealer : Dealer S) (ready : Ready) : Type 0 where
   pub some : 0 < workers
   pub to : vec_len dealer.to ≡ workers
@@ -55,34 +57,41 @@ pub record IsReady {S : Type 0} (workers : ℕ) (dealer : Dealer S) (ready : Rea
   pub hands : (ready.hands.items ≡ []) × (workers ≤ vec_capacity ready.hands)
   pub worked : (ready.worked.items ≡ []) × (workers ≤ vec_capacity ready.worked)
 
--- a source that has not been asked, over feeds that have not failed
+-- a source that nothing was read from, over feeds that have not failed
 pub record IsFresh (c : Choices) (s : SourceState) : Type 0 where
   pub fresh : s ≡ fresh_source s.form c (feed_in s.forward) (feed_in s.reverse)
   pub forward : s.forward.failures ≡ 0
   pub reverse : s.reverse.failures ≡ 0
 
--- threads that hold the ends of these lanes, which are as they are made
+-- threads that hold the other ends of these lanes, which are new
 pub record IsManned {S : Type 0} (crew : Crew S) (replies : List (History Reply)) : Type 0 where
   pub ends : List WorkEnds
   pub some : 0 < length replies
   pub laid : Each3 Laid crew.dealer.promise.to.value.items ends replies
-  pub seated : AllZip (Seated crew.dealer.promise.settings.tallied crew.dealer.promise.settings.steps) ends crew.hands.items
+  pub seated : AllZip
+      (Seated crew.dealer.promise.settings.tallied crew.dealer.promise.settings.steps)
+      ends crew.hands.items
   pub start : crew.dealer.promise.start.value ≡ fresh crew.starter.name
   pub starter : crew.starter ≡ fresh crew.starter.name
   pub worked : (crew.worked.items ≡ []) × (vec_len crew.hands ≤ vec_capacity crew.worked)
 
--- Behind the joins the ends of all lanes are confirmed, or one is not; then the first that occurred is answered.
-pub record Concludes {S : Type 0} (started : Result (History (Unit {0})) NotEnded) (dealt : Dealt S) (worked : List Worked)
+-- After the joins all lanes are confirmed, or one is not. Of the outcomes that occurred, the first
+-- is returned.
+pub record Concludes {S : Type 0} (started : Result (History (Unit {0})) NotEnded)
+    (dealt : Dealt S) (worked : List Worked)
     (k : Collector) (failed : Option Out) (ending : Conclusion S) : Type 0 where
   pub total : ending.total ≡ k.total
   pub source : ending.source ≡ Some dealt.source
   pub lane : IfSome ending.unended (λ unended. ending.outcome ≡ outcome.Lane)
-  pub outcome_is : ending.unended ≡ None → ending.outcome ≡ outcome_of (occurred k.halt dealt.why failed)
+  pub outcome_is : ending.unended ≡ None →
+      ending.outcome ≡ outcome_of (occurred k.halt dealt.why failed)
   pub start : ending.unended ≡ None → IsOkAnd started (λ e. dealt.start ≡ e)
-  pub workers : ending.unended ≡ None → Each3 Confirmed dealt.closings.items worked k.replies.items
+  pub workers : ending.unended ≡ None →
+      Each3 Confirmed dealt.closings.items worked k.replies.items
 
 -- a run over a source
-abbrev pub run_from : {S : Type 0} → (S → SourceState) → SourceState → OutletStates → OutletStates → Conclusion S → Run
+abbrev pub run_from : {S : Type 0} → (S → SourceState) → SourceState →
+    OutletStates → OutletStates → Conclusion S → Run
 run_from state s before after ending = record {
   form = s.form;
   forward = feed_in s.forward;
@@ -96,9 +105,10 @@ run_from state s before after ending = record {
   tally = ending.total.tally;
 }
 
--- What a run on several threads promises: a lane that could not be confirmed is answered, and nothing else as Lane; a feed is lost where a
--- thread was refused, and only with the other one; where a thread was refused nothing was read or written; where the run ends whole it
--- has trimmed all pairs; and what holds at every other ending.
+-- What a run on several threads guarantees. The outcome is `Lane` exactly if a lane could not be
+-- confirmed. Feeds are lost only if a thread was refused, and only both together. If a thread was
+-- refused, nothing was read or written. If the run ended at the end of the input, or at a fault in
+-- it, all pairs before that were trimmed. `EveryEnding` holds unless the outcome is `Lane`.
 pub record IsThreaded (c : Choices) (run : Run) (unended : Option NotEnded) : Type 0 where
   pub lane : run.outcome ≡ outcome.Lane → IsSome unended
   pub no_other : IsSome unended → run.outcome ≡ outcome.Lane

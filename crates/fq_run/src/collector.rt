@@ -1,4 +1,4 @@
-//! The end of a threaded run that writes.
+//! The part of a threaded run that writes.
 
 ghost use Rattle.std.specs.Prelude.{◌≡◌, ◌+◌, ◌<◌, [], None, Bool, IsTrue, is_some, min, if◌then◌else◌, vec_len};
 ghost use Rattle.fq_run.specs.collector.Collecting.{Collects, TookAll, before_stop, failed_in};
@@ -21,32 +21,34 @@ use std::sync::Wait;
 use std::thread::Parker;
 use std::time::Duration;
 
-// How long a collector sleeps behind a round in which nothing had come, in microseconds: at first, and at most.
+// How long a collector sleeps after a round in which nothing came, in microseconds: at first, and
+// at most.
 const FIRST_REST: u64 = 100;
 
 const LONGEST_REST: u64 = 10_000;
 
-/// Takes replies in turn, writes their texts, and counts what was written whole.
+/// Takes replies in turn, writes their texts, and counts the blocks that were written completely.
 #[derive(Drop)]
 pub(crate) struct Collector {
-    /// The lanes of the replies, worker for worker.
+    /// The receivers of replies, one per worker.
     pub(crate) replies: Vec<Rx<Reply>>,
-    /// The lanes in which texts that were written go back to the workers, with their tally.
+    /// The lanes that take written texts, with their tally, back to the workers for reuse.
     pub(crate) texts_back: Vec<Tx<Done>>,
     /// The worker whose reply is next.
     pub(crate) turn: usize,
-    /// What is counted of what was written whole.
+    /// The counts and the tally of the blocks that were written completely.
     pub(crate) total: Total,
-    /// How far it is.
+    /// What the collector is doing now, or why it stopped writing.
     pub(crate) phase: Phase,
-    /// The stops that came.
+    /// The stops that were received.
     pub(crate) halt: Halt,
 }
 
-/// Takes replies in turn and writes their texts, until the lane whose turn it is is closed, a reply is a stop, or a write fails. Then
-/// takes what still comes from all lanes, round and round, until each is closed, and lets it go.
+/// Takes replies in turn and writes their texts, until the lane whose turn it is has closed, a
+/// reply is a stop, or a write fails. Then takes and drops what still comes from all lanes, until
+/// each has closed.
 ///
-/// Texts that were written go back to their worker where there is room for them.
+/// Texts that were written go back to their worker for reuse if the lane has room.
 pub(crate) fn collect<R: Wait, O: Outlet>(
     rt: &R,
     total: Total,
@@ -59,13 +61,16 @@ pub(crate) fn collect<R: Wait, O: Outlet>(
     requires fresh { IsDealt (vec_len replies) [] replies.items }
     requires backs { vec_len texts_back ≡ vec_len replies }
     requires outlets { AreHealthy (outlet_states O.state outlets.old) }
-    ensures collects { Collects (is_some total.tally) (vec_len replies) (outlet_states O.state outlets.old) (outlet_states O.state outlets.new) result }
+    ensures collects { Collects (is_some total.tally) (vec_len replies)
+        (outlet_states O.state outlets.old) (outlet_states O.state outlets.new) result }
     ensures names { names_of result.replies.items ≡ names_of replies.items }
     ensures over { (result.phase ≡ Phase.Writing → ⊥) × AllClosed result.replies.items }
-    // Where no write failed, the outlets have the texts of what came, gathered in turn, before its first stop.
-    ensures written { failed_in result.phase ≡ None → TookAll (outlet_states O.state outlets.old) (outlet_states O.state outlets.new)
+    // If no write failed, the outlets have the texts of the replies, gathered in turn, before the
+    // first stop.
+    ensures written { failed_in result.phase ≡ None
+        → TookAll (outlet_states O.state outlets.old) (outlet_states O.state outlets.new)
         (before_stop (gather (lists_of result.replies.items))) }
-    // Each stop that came was noted, and no other.
+    // Exactly the stops that were received are noted.
     ensures hears { HearsAll result }
 {
     let mut collector = Collector::new(total, replies, texts_back);
@@ -75,13 +80,14 @@ pub(crate) fn collect<R: Wait, O: Outlet>(
 }
 
 impl Collector {
-    // A collector that has taken nothing.
+    // A collector that has taken nothing so far.
     fn new(total: Total, replies: Vec<Rx<Reply>>, texts_back: Vec<Tx<Done>>) -> Collector
         requires none { total ≡ no_total (is_some total.tally) }
         requires some { 0 < vec_len replies }
         requires fresh { IsDealt (vec_len replies) [] replies.items }
         requires backs { vec_len texts_back ≡ vec_len replies }
-        ensures collects { (outlets : OutletStates) → Collects (is_some total.tally) (vec_len replies) outlets outlets result }
+        ensures collects { (outlets : OutletStates)
+            → Collects (is_some total.tally) (vec_len replies) outlets outlets result }
         ensures hears { HearsAll result }
         ensures replies { result.replies ≡ replies }
         ensures total { result.total ≡ total }
@@ -123,8 +129,10 @@ impl Collector {
         requires backs { vec_len self.old.texts_back ≡ vec_len self.old.replies }
         requires outlets { AreHealthy (outlet_states O.state outlets.old) }
         ensures collects { (tallied : Bool) (before : OutletStates)
-            → Collects tallied (vec_len self.old.replies) before (outlet_states O.state outlets.old) self.old
-            → Collects tallied (vec_len self.old.replies) before (outlet_states O.state outlets.new) self.new }
+            → Collects tallied (vec_len self.old.replies) before
+            (outlet_states O.state outlets.old) self.old
+            → Collects tallied (vec_len self.old.replies) before
+            (outlet_states O.state outlets.new) self.new }
         ensures names { names_of self.new.replies.items ≡ names_of self.old.replies.items }
         ensures hears { HearsAll self.old → HearsAll self.new }
     {
@@ -147,16 +155,16 @@ impl Collector {
         }
     }
 
-    // Takes from all lanes, round and round, until each is closed, and lets go of what comes.
+    // Takes from all lanes in turn, until each is closed, and drops what it takes.
     //
-    // It never waits for one lane alone: that lane's worker may want blocks which the dealer can't send while the lane of
-    // another worker is full.
+    // It never waits for one lane alone: the worker of that lane may need a block that the dealer
+    // can't send while the lane of another worker is full.
     fn drain<R: Wait>(&mut self, rt: &R)
         requires over { self.old.phase ≡ Phase.Writing → ⊥ }
         ensures drains { Drains self.old self.new }
         ensures closed { AllClosed self.new.replies.items }
     {
-        // Nobody unparks it, so each sleep lasts its time.
+        // Nothing unparks the sleeper, so each sleep lasts its full time.
         let sleeper = Parker::new();
         let mut rest = FIRST_REST;
         for _ in rt.forever() {
@@ -172,7 +180,7 @@ impl Collector {
         unreachable!()
     }
 
-    // Takes from each lane once. False where nothing had come.
+    // Takes from each lane once. Returns false if nothing had come.
     fn drain_round(&mut self) -> bool
         requires over { self.old.phase ≡ Phase.Writing → ⊥ }
         ensures drains { Drains self.old self.new }
@@ -186,7 +194,7 @@ impl Collector {
         found
     }
 
-    // Takes from one lane. False where nothing had come.
+    // Takes from one lane. Returns false if nothing had come.
     fn drain_lane(&mut self, at: usize) -> bool
         requires over { self.old.phase ≡ Phase.Writing → ⊥ }
         requires within { at < vec_len self.old.replies }
@@ -203,7 +211,8 @@ impl Collector {
     }
 }
 
-// Sends texts with their tally back to a worker where there is room for them, and lets them go otherwise.
+// Gives texts, with their tally, back to a worker for reuse if the lane has room; otherwise drops
+// them.
 fn give_back(texts_back: &mut Vec<Tx<Done>>, at: usize, done: Done)
     requires { at < vec_len texts_back.old }
     ensures { vec_len texts_back.new ≡ vec_len texts_back.old }
@@ -211,8 +220,8 @@ fn give_back(texts_back: &mut Vec<Tx<Done>>, at: usize, done: Done)
     let _ = texts_back[at].offer(done);
 }
 
-// How long a collector sleeps behind the next round in which nothing had come, where it slept so long behind the last one. Each is
-// twice as long as the one before, and the first one behind a round in which something came is short again.
+// How long a collector sleeps after the next round in which nothing comes: `FIRST_REST` if
+// something came in the last round, and otherwise twice as long as the last time.
 fn next_rest(found: bool, rest: u64) -> u64
     ensures { result ≡ (if found then FIRST_REST else min (rest + rest) LONGEST_REST) }
 {
@@ -223,7 +232,7 @@ fn next_rest(found: bool, rest: u64) -> u64
     }
 }
 
-// Whether each lane has come to its mark.
+// Whether each lane was taken to its mark, the last thing that a lane carries.
 fn are_closed(replies: &Vec<Rx<Reply>>) -> bool
     ensures { IsTrue result → AllClosed replies.now.items }
 {

@@ -1,28 +1,29 @@
-//! What a run on several threads leaves, over whatever source of pairs.
+//! What a run on several threads returns, over any source of pairs.
 
 use fq_lane::NotEnded;
 use fq_serial::Outcome;
 use fq_serial::shared::Total;
 
-/// How a run on several threads ended, and what it leaves.
+/// How a run on several threads ended, and what it returns.
 #[derive(Drop)]
 pub(crate) struct Conclusion<S> {
     /// How the run ended.
     pub(crate) outcome: Outcome,
-    /// What is counted of the pairs whose block was written whole.
+    /// The counts and the tally of the pairs whose block was written completely.
     pub(crate) total: Total,
-    /// The source of the pairs, as it stands.
+    /// The source of the pairs, as the run left it. `None` if it was lost.
     pub(crate) source: Option<S>,
-    /// Why a lane couldn't be confirmed.
+    /// Why a lane couldn't be confirmed, if one couldn't.
     pub(crate) unended: Option<NotEnded>,
 }
 
 impl<S> Conclusion<S> {
     ghost use Rattle.std.specs.Prelude.{◌≡◌, None};
 
-    /// That of a run whose threads were not all started.
+    /// The conclusion of a run whose threads could not all be started.
     pub(crate) fn unstarted(total: Total, source: Option<S>) -> Conclusion<S>
-        ensures { result ≡ record { outcome = Outcome.Spawn; total = total; source = source; unended = None } }
+        ensures { result
+            ≡ record { outcome = Outcome.Spawn; total = total; source = source; unended = None } }
     {
         Conclusion {
             outcome: Outcome::Spawn,

@@ -1,4 +1,4 @@
-//! Behind the joins: each lane is confirmed.
+//! Confirms each lane, after the threads are joined.
 
 ghost use Rattle.std.specs.Prelude.{◌≡◌, true, IfOk, OnOk, IsOkAnd};
 ghost use Rattle.fq_run.specs.Each.{Each3};
@@ -8,7 +8,7 @@ use fq_block::Block;
 use fq_lane::{End, NotEnded, Rx};
 use fq_work::{Reply, Worked};
 
-/// Confirms the start lane and the lanes of all workers, up to the first that has no end.
+/// Confirms the start lane and the lanes of all workers, up to the first that cannot be confirmed.
 pub(crate) fn confirm(
     started: Result<End<()>, NotEnded>,
     start: Rx<()>,

@@ -1,4 +1,4 @@
-//! The threads of a run: the dealer's and the workers'.
+//! The threads of a run: the dealer and the workers.
 
 pub(crate) mod job;
 pub(crate) mod workers;
@@ -11,7 +11,7 @@ use fq_work::Worked;
 use job::Job;
 use std::thread::PromisedHandle;
 
-/// The threads of a run, which wait for the start.
+/// The threads of a run, which wait for the start item.
 #[derive(Drop)]
 pub(crate) struct Crew<S: PairReader> {
     /// The sender of the start lane.

@@ -19,23 +19,23 @@ use fq_serial::shared::ReadingEnd;
 use std::alloc::Global;
 use std::sync::Wait;
 
-/// What a dealer works with.
+/// What a dealer takes to its thread.
 #[derive(Drop)]
 pub(crate) struct Dealer<S> {
     /// The receiver of the start lane.
     pub(crate) start: Rx<()>,
     /// The pairs.
     pub(crate) source: S,
-    /// The lanes of blocks, worker for worker.
+    /// The senders of blocks, one per worker.
     pub(crate) to: Vec<Tx<Block>>,
-    /// The lanes in which blocks that were answered come back, worker for worker.
+    /// The lanes that bring trimmed blocks back for reuse, one per worker.
     pub(crate) blocks_back: Vec<Rx<Block>>,
     /// Room for the ends of the lanes of blocks.
     pub(crate) closings: Vec<Result<End<Block>, NotEnded>>,
 }
 
-/// Waits for the start, reads all pairs, deals them out in blocks, in turn, and closes all lanes. Without a start it reads
-/// nothing, and closes the lanes.
+/// Waits for the start item, reads all pairs, deals them out in blocks to the workers in turn, and
+/// closes all lanes. If no start item comes, it reads nothing, and closes the lanes.
 pub(crate) fn deal<R: Wait, S: PairReader>(
     alloc: Global,
     rt: &R,
@@ -71,7 +71,8 @@ pub(crate) fn deal<R: Wait, S: PairReader>(
     }
 }
 
-// Deals once the start has come, and takes the start lane to its mark. Where the mark is all that comes, nothing is read.
+// Deals once the start item has come, and takes the start lane to its mark. If only the mark comes,
+// nothing is read.
 fn deal_from<R: Wait, S: PairReader>(
     alloc: Global,
     rt: &R,
@@ -82,11 +83,13 @@ fn deal_from<R: Wait, S: PairReader>(
     blocks_back: &mut Vec<Rx<Block>>,
 ) -> Option<ReadingEnd>
     requires start { start.old.items ≡ [] }
-    requires deals { MayDeal settings.now (S.state source.old) (vec_len to.old) (vec_len blocks_back.old) to.old.items }
+    requires deals { MayDeal settings.now (S.state source.old)
+        (vec_len to.old) (vec_len blocks_back.old) to.old.items }
     ensures name { start.new.name ≡ start.old.name }
     ensures closed { start.new.marked ≡ true }
     ensures started { 0 < length start.new.items → result ≡ None → ⊥ }
-    ensures idle { start.new.items ≡ [] → (result ≡ None) × (source.new ≡ source.old) × (to.new ≡ to.old) }
+    ensures idle { start.new.items ≡ []
+        → (result ≡ None) × (source.new ≡ source.old) × (to.new ≡ to.old) }
     ensures deals { DealsOut settings.now (S.state source.old)
         (S.state source.new) to.old.items to.new.items result }
 {

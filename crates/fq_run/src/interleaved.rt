@@ -1,4 +1,4 @@
-//! A run on several threads, over an interleaved text.
+//! A run on several threads, over one interleaved input.
 
 ghost use Rattle.std.specs.Prelude.{◌≡◌, None, IsTrue, IsSome};
 ghost use Rattle.std.specs.Option.{option_map};
@@ -17,10 +17,12 @@ use std::alloc::Global;
 use std::sync::{Arc, Wait};
 use std::thread::Threads;
 
-/// Trims the pairs of one interleaved input on several threads, and writes them as if they were trimmed one after the other.
+/// Trims the pairs of one interleaved input on several threads. The outputs are the same as if the
+/// pairs were trimmed one after the other.
 ///
-/// Records 2n - 1 and 2n of the input are pair n, as in [`run_serial_mixed`]. All else is as in [`run_threads`](crate::run_threads): the
-/// threads, the lanes, the order of writing, and how a run ends.
+/// Records 2n - 1 and 2n of the input are pair n, as in [`run_serial_mixed`]. All else is as in
+/// [`run_threads`](crate::run_threads): the threads, the lanes, the order of writing, and how a run
+/// ends.
 pub fn run_threads_mixed<
     R: Threads + Wait + Copy + Send + 'static,
     F: Feed + Drop + Send + 'static,
@@ -39,21 +41,23 @@ pub fn run_threads_mixed<
     ensures lane { result.outcome ≡ Outcome.Lane → IsSome result.unended }
     ensures no_other { IsSome result.unended → result.outcome ≡ Outcome.Lane }
     ensures feed { result.feed ≡ None → result.outcome ≡ Outcome.Spawn }
-    // Where a thread was refused the outlets are as they were, and so is the feed where it comes back.
+    // If a thread was refused, the outlets are unchanged, and so is the feed if it is handed back.
     ensures untouched { result.outcome ≡ Outcome.Spawn → IsUntouched
         (interleaved_run_of F.state (outlet_states O.state) feed outlets.old outlets.new result) }
-    // Where the run ends whole, it has trimmed all pairs one after the other, up to the end of the input or its fault.
-    ensures whole { let run = interleaved_run_of F.state (outlet_states O.state) feed outlets.old outlets.new result in
+    // At `Input` and `Finished` all pairs before the fault or the end of the input were trimmed, as
+    // if one after the other.
+    ensures whole { let run = interleaved_run_of F.state (outlet_states O.state)
+        feed outlets.old outlets.new result in
         IsTrue (ends_whole run.outcome) → AreTold run → IsTrimmed settings.now run }
-    // At every ending but that of an unconfirmed lane the outlets have the texts of the first pairs, but for a part of the block in
-    // which a write failed.
+    // Unless a lane couldn't be confirmed, the outlets have the texts of the first pairs, and
+    // besides at most a part of the block in which a write failed.
     ensures every { (result.outcome ≡ Outcome.Lane → ⊥) → EveryEnding settings.now
         (interleaved_run_of F.state (outlet_states O.state) feed outlets.old outlets.new result) }
 {
     begin(alloc, rt, settings, &gate, feed, outlets)
 }
 
-// Makes what a run needs before its threads, and runs.
+// Prepares what a run needs before its threads start, and runs.
 fn begin<
     R: Threads + Wait + Copy + Send + 'static,
     F: Feed + Drop + Send + 'static,
@@ -69,12 +73,13 @@ fn begin<
 ) -> MixedEnding<F>
     requires feed { (F.state feed).failures ≡ 0 }
     requires outlets { AreHealthy (outlet_states O.state outlets.old) }
-    ensures { IsThreaded settings.now (interleaved_run_of F.state (outlet_states O.state) feed outlets.old outlets.new result) result.unended }
+    ensures { IsThreaded settings.now (interleaved_run_of F.state (outlet_states O.state)
+        feed outlets.old outlets.new result) result.unended }
 {
     match prepare_interleaved(alloc, settings, feed) {
         Ok((dealer, ready)) => ending_of(start(alloc, rt, settings, gate, dealer, ready, outlets)),
         Err(feed) => {
-            // A failed flush comes behind want of memory in the order of `Outcome`.
+            // Refused memory comes before a failed flush in the order of `Outcome`.
             let _ = outlets.flush_after(None);
             MixedEnding {
                 outcome: Outcome::Memory,
@@ -87,7 +92,7 @@ fn begin<
     }
 }
 
-// The ending, with the feed.
+// The ending of a run over an interleaved input.
 fn ending_of<F: Feed>(conclusion: Conclusion<MixedSource<F>>) -> MixedEnding<F>
     ensures outcome { result.outcome ≡ conclusion.outcome }
     ensures total { record { counts = result.counts; tally = result.tally } ≡ conclusion.total }

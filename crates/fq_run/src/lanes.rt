@@ -1,4 +1,4 @@
-//! The lanes of a run, before its threads are started.
+//! The lanes of a run, before its threads start.
 
 pub(crate) mod places;
 pub(crate) mod seats;
@@ -16,7 +16,7 @@ use seats::{Seats, lay};
 use std::alloc::Global;
 use std::thread::PromisedHandle;
 
-/// The lanes of a run, room for what its threads hand back, and for what is counted.
+/// The lanes of a run, room for what its threads hand back, and the total.
 #[derive(Drop)]
 pub(crate) struct Lanes {
     pub(crate) starter: Tx<()>,
@@ -33,7 +33,7 @@ impl Lanes {
     ghost use Rattle.fq_run.specs.Threads.{AreLaidOut, IsReady};
     ghost use Rattle.fq_serial.specs.Totals.{no_total};
 
-    /// Makes all lanes, and takes memory for what is counted.
+    /// Makes all lanes, and allocates the total.
     pub(crate) fn new(alloc: Global, settings: &Settings) -> Result<Lanes, OutOfMemory>
         ensures lanes { IfOk result (AreLaidOut settings.now.workers) }
         ensures total { IfOk result (λ lanes. lanes.total ≡ no_total settings.now.tallied) }
@@ -51,7 +51,7 @@ impl Lanes {
         })
     }
 
-    /// What the dealer takes, and what stays.
+    /// Splits the lanes into what the dealer takes and what the calling thread keeps.
     pub(crate) fn over<S>(self, source: S) -> (Dealer<S>, Ready)
         ensures source { result.0.source ≡ source }
         ensures start { result.0.start ≡ self.start }

@@ -3,7 +3,8 @@
 ghost use Rattle.std.specs.Prelude.{◌≡◌, ℕ, ◌<◌, List};
 ghost use Rattle.fq_run.specs.Shares.{deal, gather};
 
-/// What is dealt out to several lists, in turn, and gathered from them again, in turn, is what there was.
+/// Dealing a list out to several lists in turn, and gathering from them in turn, gives the list
+/// back.
 pub fn gather_deal<T>()
     ensures { (xs : List T) (w : ℕ) → 0 < w → gather (deal xs w) ≡ xs }
 {}

@@ -1,22 +1,27 @@
-//! Runs of the trimmer: two texts of mates in, the texts of the trimmed pairs, their log and their counts out.
+//! Runs of the trimmer: from the texts of two mates to the texts of the trimmed pairs, their log
+//! and their counts.
+//!
+//! A run on several threads has a dealer (the thread that reads), workers (threads that trim) and a
+//! collector (the calling thread, which writes). They are connected by lanes, which are queues
+//! between two threads.
 #![tactic(auto)]
 
 // A run, by the form of its input.
 mod interleaved;
 mod two_texts;
 
-// What it needs before its threads.
+// What a run needs before its threads start.
 mod lanes;
 mod preparing;
 mod ready;
 
-// Its threads, on the way of a block.
+// The threads of a run, in the order in which a block passes them.
 mod collector;
 mod crew;
 mod dealer;
 mod threads;
 
-// What it leaves.
+// What a run returns.
 mod conclusion;
 mod confirming;
 pub mod laws;

@@ -1,4 +1,4 @@
-//! The memory that a threaded run needs before its threads.
+//! Allocates what a threaded run needs before its threads start.
 
 ghost use Rattle.std.specs.Prelude.{◌≡◌, ◌≤◌, ◌*◌, ◌^◌, IfOk, IfErr};
 ghost use Rattle.fq_pair.specs.Forms.{TwoTexts, InterleavedText};
@@ -16,7 +16,7 @@ use fq_serial::shared::{open, open_interleaved};
 use fq_text::Feed;
 use std::alloc::Global;
 
-/// Makes all lanes, and then the sources. The feeds come back where memory was refused.
+/// Makes all lanes, and then the sources. Returns the feeds if memory was refused.
 pub(crate) fn prepare<F: Feed, G: Feed>(
     alloc: Global,
     settings: &Settings,
@@ -29,7 +29,8 @@ pub(crate) fn prepare<F: Feed, G: Feed>(
     ensures total { IfOk result (λ made. made.1.total ≡ no_total settings.now.tallied) }
     ensures source { IfOk result (λ made. source_state F.state G.state made.0.source
         ≡ fresh_source TwoTexts settings.now (F.state forward) (G.state reverse)) }
-    ensures few { IfOk result (λ made. made.0.source.forward.max_reads * made.0.source.forward.chunk ≤ 2 ^ 60) }
+    ensures few { IfOk result (λ made.
+        made.0.source.forward.max_reads * made.0.source.forward.chunk ≤ 2 ^ 60) }
     ensures err { IfErr result (λ feeds. (feeds.0 ≡ forward) × (feeds.1 ≡ reverse)) }
 {
     let Ok(lanes) = Lanes::new(alloc, settings) else {
@@ -41,7 +42,8 @@ pub(crate) fn prepare<F: Feed, G: Feed>(
     }
 }
 
-/// Makes all lanes, and then the source of an interleaved text. The feed comes back where memory was refused.
+/// Makes all lanes, and then the source of an interleaved input. Returns the feed if memory was
+/// refused.
 pub(crate) fn prepare_interleaved<F: Feed>(
     alloc: Global,
     settings: &Settings,
@@ -52,7 +54,8 @@ pub(crate) fn prepare_interleaved<F: Feed>(
     ensures total { IfOk result (λ made. made.1.total ≡ no_total settings.now.tallied) }
     ensures source { IfOk result (λ made. interleaved_state F.state made.0.source
         ≡ fresh_source InterleavedText settings.now (F.state feed) (F.state feed)) }
-    ensures few { IfOk result (λ made. made.0.source.source.max_reads * made.0.source.source.chunk ≤ 2 ^ 60) }
+    ensures few { IfOk result (λ made.
+        made.0.source.source.max_reads * made.0.source.source.chunk ≤ 2 ^ 60) }
     ensures err { IfErr result (λ back. back ≡ feed) }
 {
     let Ok(lanes) = Lanes::new(alloc, settings) else {

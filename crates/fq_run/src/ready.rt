@@ -1,4 +1,4 @@
-//! What the calling thread has ready.
+//! What the calling thread keeps until the threads start.
 
 use crate::crew::job::Job;
 use fq_lane::{Rx, Tx};
@@ -6,21 +6,22 @@ use fq_serial::shared::Total;
 use fq_work::{Done, Reply, WorkEnds, Worked};
 use std::thread::PromisedHandle;
 
-/// What the calling thread has, beside what the dealer takes, once all memory that a run needs before its threads is there.
+/// What the calling thread keeps once everything is allocated that a run needs before its threads
+/// start. The dealer takes the rest.
 #[derive(Drop)]
 pub(crate) struct Ready {
     /// The sender of the start lane.
     pub(crate) starter: Tx<()>,
-    /// What each worker gets.
+    /// The ends of lanes that each worker gets.
     pub(crate) ends: Vec<WorkEnds>,
-    /// Room for the workers' handles.
+    /// Room for the handles of the workers' threads.
     pub(crate) hands: Vec<PromisedHandle<Worked, Job>>,
     /// Room for what the workers hand back.
     pub(crate) worked: Vec<Worked>,
-    /// What is counted, which is nothing so far.
+    /// The total so far, which is that of no pairs.
     pub(crate) total: Total,
-    /// The receivers of replies, worker for worker.
+    /// The receivers of replies, one per worker.
     pub(crate) replies: Vec<Rx<Reply>>,
-    /// The lanes in which texts that were written go back, worker for worker.
+    /// The lanes that take written texts back for reuse, one per worker.
     pub(crate) texts_back: Vec<Tx<Done>>,
 }

@@ -1,4 +1,4 @@
-//! The threads of a run, over whatever source of pairs: they are started and waited for.
+//! Starts the threads of a run over any source of pairs, and waits for them.
 
 ghost use Rattle.std.specs.Prelude.{◌≡◌, ◌≤◌, ◌^◌, true, IfOk, vec_len};
 ghost use Rattle.fq_run.specs.Confirming.{CanConfirm};
@@ -26,7 +26,7 @@ use std::alloc::Global;
 use std::sync::{Arc, Wait};
 use std::thread::Threads;
 
-/// Starts the threads, and takes part as the collector.
+/// Starts the threads, and writes on this thread, as the collector.
 pub(crate) fn start<
     R: Threads + Wait + Copy + Send + 'static,
     S: PairReader + Drop + Send + 'static,
@@ -47,7 +47,8 @@ pub(crate) fn start<
     requires few { (S.state dealer.source).most_bytes ≤ 2 ^ 60 }
     requires outlets { AreHealthy (outlet_states O.state outlets.old) }
     ensures { IsThreaded settings.now (run_from S.state (S.state dealer.source)
-        (outlet_states O.state outlets.old) (outlet_states O.state outlets.new) result) result.unended }
+        (outlet_states O.state outlets.old) (outlet_states O.state outlets.new) result)
+        result.unended }
 {
     let Ready {
         starter,
@@ -62,7 +63,8 @@ pub(crate) fn start<
         return Conclusion::unstarted(total, None);
     };
     if !start_workers(alloc, rt, settings, gate, ends, &mut hands) {
-        // Without an item in the start lane the dealer reads nothing, and closes the lanes of the workers that are there.
+        // The start lane is closed without an item, so the dealer reads nothing, and closes its
+        // lanes, which ends the workers that were started.
         let _ = starter.close();
         let source = dealer.join(rt).into_unread();
         let _ = join_workers(rt, hands, worked);
@@ -77,7 +79,7 @@ pub(crate) fn start<
     attend(rt, crew, total, replies, texts_back, outlets)
 }
 
-// Gives the start, collects, and waits for all threads.
+// Lets the dealer start, collects, and waits for all threads.
 fn attend<R: Threads + Wait, S: PairReader, O: Outlet>(
     rt: &R,
     crew: Crew<S>,
@@ -89,10 +91,13 @@ fn attend<R: Threads + Wait, S: PairReader, O: Outlet>(
     requires total { total ≡ no_total crew.dealer.promise.settings.tallied }
     requires manned { IsManned crew replies.items }
     requires backs { vec_len texts_back ≡ vec_len replies }
-    requires fresh { IsFresh crew.dealer.promise.settings (S.state crew.dealer.promise.source.value) }
+    requires fresh { IsFresh crew.dealer.promise.settings
+        (S.state crew.dealer.promise.source.value) }
     requires outlets { AreHealthy (outlet_states O.state outlets.old) }
-    ensures { IsThreaded crew.dealer.promise.settings (run_from S.state (S.state crew.dealer.promise.source.value)
-        (outlet_states O.state outlets.old) (outlet_states O.state outlets.new) result) result.unended }
+    ensures { IsThreaded crew.dealer.promise.settings
+        (run_from S.state (S.state crew.dealer.promise.source.value)
+        (outlet_states O.state outlets.old) (outlet_states O.state outlets.new) result)
+        result.unended }
 {
     let Crew {
         mut starter,
@@ -109,7 +114,7 @@ fn attend<R: Threads + Wait, S: PairReader, O: Outlet>(
     conclude(started, dealt, worked, collector, failed)
 }
 
-// Confirms all lanes, and answers the first that occurred.
+// Confirms all lanes. Of several outcomes that occurred, returns the first.
 fn conclude<S>(
     started: Result<End<()>, NotEnded>,
     dealt: Dealt<S>,

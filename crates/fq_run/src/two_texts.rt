@@ -1,4 +1,4 @@
-//! A run on several threads, over two texts.
+//! A run on several threads, over two inputs.
 
 ghost use Rattle.std.specs.Prelude.{◌≡◌, ◌↔◌, None, IsTrue, IsSome};
 ghost use Rattle.std.specs.Option.{option_map};
@@ -17,25 +17,33 @@ use std::alloc::Global;
 use std::sync::{Arc, Wait};
 use std::thread::Threads;
 
-/// Trims the pairs of two inputs on several threads, and writes them as if they were trimmed one after the other.
+/// Trims the pairs of two inputs on several threads. The outputs are the same as if the pairs were
+/// trimmed one after the other.
 ///
-/// One thread reads pairs and deals them out in blocks of `settings.block_pairs()`, numbered from 0: block n goes to worker n modulo
-/// `settings.workers()`. Each worker trims its blocks on a thread of its own, in order, once `gate` lets them pass. The calling thread
-/// takes their replies in the same turn and writes each block's texts in the order of [`Out`]. Blocks and replies go through lanes of
-/// `settings.depth()` items. The pairs before a fault of the inputs are written, and the fault is answered.
+/// One thread reads pairs and deals them out in blocks of `settings.block_pairs()`, numbered from
+/// 0: block n goes to worker n modulo `settings.workers()`. Each worker trims its blocks on a
+/// thread of its own, in order, once `gate` lets them pass. The calling thread takes the replies in
+/// the same order and writes each block's texts in the order of [`Out`]. Blocks and replies go
+/// through lanes (queues between two threads) of `settings.depth()` items. If the inputs have a
+/// fault, the pairs before it are written and the run returns the fault.
 ///
-/// Where a worker stops (memory was refused to it, or the gate didn't let a block pass as often as it was asked), nothing behind the
-/// blocks before is written. At a failed write nothing more goes to any outlet. The inputs are read on to their end all the
-/// same, or to a pair to which memory is refused; that pair is lost with all later ones. Where no write failed each outlet is flushed
-/// once at the end, in the order of [`Out`], up to the first flush that fails.
+/// If a worker stops, because memory was refused to it or because the gate didn't let a block pass
+/// within `settings.gate_turns()` turns, only the blocks before that one are written. After a
+/// failed write nothing more goes to any outlet. In both cases the inputs are still read to their
+/// end, or to a pair for which memory is refused; that pair and all later pairs are lost. If no
+/// write failed, each outlet is flushed once at the end, in the order of [`Out`], up to the first
+/// flush that fails.
 ///
-/// In the end all threads are joined, and all lanes are confirmed: what came at one end is what left the other. Where more than one
-/// of the outcomes occurred the first in the order of [`Outcome`] is answered. At [`Outcome::Lane`] the ending has the lane's
-/// [`NotEnded`], and nothing is said of outputs and counts. At every other outcome the counts are those of the pairs whose block was
-/// written whole, and so is the tally, where the settings ask for one; where memory for it is refused nothing is read. Both feeds are
-/// handed back as they stand, but where the reading thread could not be started both are lost.
-/// Where memory was refused before the first thread nothing is read or written. Where a thread was refused nothing is read or written
-/// either: no outlet is called, and feeds that are handed back are as they were.
+/// At the end all threads are joined and all lanes are confirmed: what one end received is what the
+/// other end sent. If several outcomes occurred, the run returns the first in the order of
+/// [`Outcome`]. At [`Outcome::Lane`] the ending has the lane's [`NotEnded`], and nothing is known
+/// of outputs and counts. At every other outcome the counts, and the tally if the settings ask for
+/// one, cover the pairs whose block was written completely.
+///
+/// If memory is refused before the first thread starts, for the tally or for anything else, nothing
+/// is read or written. If a thread is refused, nothing is read or written either: no outlet is
+/// called, and feeds that are handed back are unchanged. Both feeds are handed back as the run left
+/// them, but both are lost if the reading thread could not be started.
 ///
 /// No device may have failed before the run.
 pub fn run_threads<
@@ -61,21 +69,25 @@ pub fn run_threads<
     ensures forward { result.forward ≡ None → result.outcome ≡ Outcome.Spawn }
     ensures reverse { result.reverse ≡ None → result.outcome ≡ Outcome.Spawn }
     ensures together { (result.forward ≡ None) ↔ (result.reverse ≡ None) }
-    // Where a thread was refused the outlets are as they were, and so are the feeds where they come back.
+    // If a thread was refused, the outlets and the feeds that are handed back are unchanged.
     ensures untouched { result.outcome ≡ Outcome.Spawn → IsUntouched
-        (run_of F.state G.state (outlet_states O.state) forward reverse outlets.old outlets.new result) }
-    // Where the run ends whole, it has trimmed all pairs one after the other, up to the end of the input or its fault.
-    ensures whole { let run = run_of F.state G.state (outlet_states O.state) forward reverse outlets.old outlets.new result in
+        (run_of F.state G.state (outlet_states O.state) forward reverse
+        outlets.old outlets.new result) }
+    // At `Input` and `Finished` all pairs before the fault or the end of the input were trimmed, as
+    // if one after the other.
+    ensures whole { let run = run_of F.state G.state (outlet_states O.state)
+        forward reverse outlets.old outlets.new result in
         IsTrue (ends_whole run.outcome) → AreTold run → IsTrimmed settings.now run }
-    // At every ending but that of an unconfirmed lane the outlets have the texts of the first pairs, but for a part of the block in
-    // which a write failed.
+    // Unless a lane couldn't be confirmed, the outlets have the texts of the first pairs, and
+    // besides at most a part of the block in which a write failed.
     ensures every { (result.outcome ≡ Outcome.Lane → ⊥) → EveryEnding settings.now
-        (run_of F.state G.state (outlet_states O.state) forward reverse outlets.old outlets.new result) }
+        (run_of F.state G.state (outlet_states O.state) forward reverse
+        outlets.old outlets.new result) }
 {
     begin(alloc, rt, settings, &gate, forward, reverse, outlets)
 }
 
-// Makes what a run needs before its threads, and runs.
+// Prepares what a run needs before its threads start, and runs.
 fn begin<
     R: Threads + Wait + Copy + Send + 'static,
     F: Feed + Drop + Send + 'static,
@@ -94,12 +106,13 @@ fn begin<
     requires forward { (F.state forward).failures ≡ 0 }
     requires reverse { (G.state reverse).failures ≡ 0 }
     requires outlets { AreHealthy (outlet_states O.state outlets.old) }
-    ensures { IsThreaded settings.now (run_of F.state G.state (outlet_states O.state) forward reverse outlets.old outlets.new result) result.unended }
+    ensures { IsThreaded settings.now (run_of F.state G.state (outlet_states O.state)
+        forward reverse outlets.old outlets.new result) result.unended }
 {
     match prepare(alloc, settings, forward, reverse) {
         Ok((dealer, ready)) => ending_of(start(alloc, rt, settings, gate, dealer, ready, outlets)),
         Err((forward, reverse)) => {
-            // A failed flush comes behind want of memory in the order of `Outcome`.
+            // Refused memory comes before a failed flush in the order of `Outcome`.
             let _ = outlets.flush_after(None);
             Ending {
                 outcome: Outcome::Memory,
@@ -113,7 +126,7 @@ fn begin<
     }
 }
 
-// The ending, with both feeds.
+// The ending of a run over two inputs.
 fn ending_of<F: Feed, G: Feed>(conclusion: Conclusion<PairSource<F, G>>) -> Ending<F, G>
     ensures outcome { result.outcome ≡ conclusion.outcome }
     ensures total { record { counts = result.counts; tally = result.tally } ≡ conclusion.total }

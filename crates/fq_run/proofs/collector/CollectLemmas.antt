@@ -31,7 +31,7 @@ use Rattle.fq_serial.proofs.OutletLemmas.{all_took_then, all_took_same, still_he
 use Rattle.fq_run.proofs.collector.StopLemmas.{heard_at, stops_taken}
 use Rattle.fq_run.proofs.collector.TurnLemmas.{begun_gather, at_mark_gather}
 
--- One reply more.
+-- One more reply.
 
 pub written_more : (out : Out) (ds : List Done) (d : Done) → written_text out (ds ++ d ∷ []) ≡ written_text out ds ++ text_of out d.texts
 written_more out [] d = append-nil (text_of out d.texts)
@@ -54,7 +54,7 @@ before_one : (ds : List Done) (why : Cause) (rest : List Reply) → before_stop 
 before_one [] why rest = refl
 before_one (d ∷ ds) why rest = ap (λ es. d ∷ es) (before_one ds why rest)
 
--- while no write failed, what was written is what came, gathered in turn, before the first Stop
+-- if no write failed, what was written is what came, gathered in turn, before the first Stop
 pub written_gathers : (w : ℕ) (p : Phase) (before now : OutletStates) (ds : List Done) (k : Collector) → 0 < w → (p ≡ Writing → ⊥) → failed_in p ≡ None → Writes p w before now ds k →
     TookAll before now (before_stop (gather (lists_of k.replies.items)))
 written_gathers w Writing before now ds k pos over none h = absurd (over refl)
@@ -84,7 +84,7 @@ still_heard cause.Memory _ k l e h = ap (λ (h : Halt). h.memory) e ∙ h
 pub hears_take : (r : Taken Reply) (k l : Collector) (j : ℕ) → j < length k.replies.items → TakesAt r k.replies.items l.replies.items j → l.halt ≡ heard_at r k.halt → HearsAll k → HearsAll l
 hears_take r k l j lt t e h = e ∙ ap (heard_at r) h ∙ sym (stops_taken r k.replies.items l.replies.items j lt t)
 
--- While it writes.
+-- While the collector writes.
 
 -- what is dealt out is begun
 begun_now : {T : Type 0} (w : ℕ) (xs : List T) (ls : List (History T)) → IsDealt w xs ls → IsBegun w xs ls
@@ -147,7 +147,7 @@ module _ (tallied : Bool) (w : ℕ) (before old now : OutletStates) (k l : Colle
       }
 
 module _ (tallied : Bool) (w : ℕ) (before now : OutletStates) (k l : Collector) where
-  -- the lane whose turn it is is closed
+  -- the lane whose turn it is has closed
   pub collects_at_mark : Collects tallied w before now k → k.phase ≡ Writing → l.phase ≡ AtMark → TakesAt Closed k.replies.items l.replies.items k.turn →
       l.total ≡ k.total → l.texts_back ≡ k.texts_back → l.turn ≡ k.turn → Collects tallied w before now l
   collects_at_mark h at_k at_l t total backs turn =

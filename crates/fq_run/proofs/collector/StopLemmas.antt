@@ -1,4 +1,4 @@
--- How the stops that came change when a lane does.
+-- How the stops that came change when a lane changes.
 use Rattle.std.proofs.Common.{◌≡◌, ℕ, zero, suc, ◌<◌, Bool, false, ◌||◌, List, [], ◌∷◌, ◌++◌, length, get_or, refl, sym, ap, ◌∙◌, arith}
 use Rattle.std.proofs.Math.Bool.{or_assoc, or_comm, or-false, or-true}
 use Rattle.std.proofs.Math.ListN.{set}
@@ -24,7 +24,7 @@ heard_at _ halt = halt
 or_last : (a b c : Bool) → ((a || b) || c) ≡ ((a || c) || b)
 or_last a b c = or_assoc a b c ∙ ap (λ d. a || d) (or_comm b c) ∙ sym (or_assoc a c b)
 
--- a reply more in one lane
+-- one more reply in one lane
 come_more : (why : Cause) (ls : List (History Reply)) (j : ℕ) (l : History Reply) (x : Reply) → j < length ls → l.items ≡ (get_or ls j l).items ++ x ∷ [] →
     has_come why (set ls j l) ≡ (has_come why ls || is_stop why x)
 come_more why [] j l x lt e = absurd (omega arith)

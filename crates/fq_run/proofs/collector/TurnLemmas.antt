@@ -97,7 +97,7 @@ module _ {T : Type 0} where
       let h' : Turns (suc n) (x ∷ xs) ((x ∷ l) ∷ ls) = subst (λ z. Turns (suc n) (x ∷ xs) ((z ∷ l) ∷ ls)) same h in
       ap (λ z. z ∷ gather_turns m (ls ++ l ∷ [])) same ∙ ap (λ zs. x ∷ zs) (gathers n m xs (ls ++ l ∷ []) (omega arith) (turned_end n x xs l ls h'))
 
-  -- where lists begin as dealt, so does what is gathered from them
+  -- if lists begin with what was dealt to them, the gathered list begins with all that was dealt
   gathers_first : (n m : ℕ) (xs : List T) (ls : List (List T)) → length xs ≤ m → Begins (suc n) xs ls → IsPrefix xs (gather_turns m ls)
   gathers_first n m [] ls le h = (gather_turns m ls, refl)
   gathers_first n zero (x ∷ xs) ls le h = absurd (omega arith)

@@ -1,4 +1,4 @@
--- The lanes of the workers as they are made, and what the workers hand back.
+-- The new lanes of the workers, and what the workers hand back.
 use Rattle.std.proofs.Common.{◌≡◌, ℕ, zero, suc, ◌<◌, true, List, [], ◌∷◌, ◌++◌, length, get_or, refl, sym, ap, ◌∙◌, subst, arith, Option, Result, Ok, Err, IfOk, IsOkAnd, Bool}
 use Rattle.std.specs.List.{AllZip}
 use Rattle.std.specs.declared.thread.PromisedHandle.{PromisedHandle}
@@ -21,9 +21,9 @@ use Rattle.fq_run.specs.lanes.Items.{names_of, IsDealt, AllClosed}
 use Rattle.fq_run.specs.declared.crew.job.Job.{Job}
 use Rattle.fq_run.proofs.EachLemmas.{weaker}
 
--- Lanes as they are made.
+-- New lanes.
 
--- a lane more that has no items
+-- one more lane without items
 dealt_more : {T : Type 0} (w : ℕ) (l : History T) (ls : List (History T)) → l.items ≡ [] → IsDealt w [] ls → IsDealt (suc w) [] (l ∷ ls)
 dealt_more {T} w l ls none h = record { lanes = ap (λ n. suc n) h.lanes; items = at }
   where
@@ -34,7 +34,7 @@ dealt_more {T} w l ls none h = record { lanes = ap (λ n. suc n) h.lanes; items 
 dealt_none : {T : Type 0} → IsDealt {T = T} 0 [] []
 dealt_none = record { lanes = refl; items = λ j d lt. absurd (omega arith) }
 
--- nothing is dealt to lanes as they are made, and there are as many to the workers as from them
+-- nothing is dealt to new lanes, and there are as many lanes to the workers as from them
 laid_dealt : (ts : List (History Numbered)) (es : List WorkEnds) (fs : List (History Reply)) → Each3 Laid ts es fs → IsDealt (length ts) [] ts × IsDealt (length ts) [] fs
 laid_dealt [] [] [] h = (dealt_none, dealt_none)
 laid_dealt (t ∷ ts) (e ∷ es) (f ∷ fs) h =
@@ -55,7 +55,7 @@ to_dealt w ts es fs len h = subst (λ n. IsDealt n [] ts) len (laid_dealt ts es 
 pub replies_dealt : (w : ℕ) (ts : List (History Numbered)) (es : List WorkEnds) (fs : List (History Reply)) → length fs ≡ w → Each3 Laid ts es fs → IsDealt w [] fs
 replies_dealt w ts es fs len h = subst (λ n. IsDealt n [] fs) (laid_length ts es fs h ∙ len) (laid_dealt ts es fs h).1
 
--- Behind the joins.
+-- After the joins.
 
 module _ (tallied : Bool) (steps : List Step) where
   -- what a worker on the lanes n and m hands back
@@ -121,7 +121,7 @@ module _ (tallied : Bool) (steps : List Step) where
   can_confirm (t ∷ ts) (c ∷ cs) ws [] h a m = absurd a
   can_confirm (t ∷ ts) (c ∷ cs) [] (f ∷ fs) h a m = absurd a
 
-  -- Behind the confirms.
+  -- After the lanes are confirmed.
 
   matched_by : (n m : Name) (e r : History Numbered) (x f : History Reply) (cause : Option Cause) → r ≡ e → f ≡ x → Answers tallied steps r.items x.items cause → Answers tallied steps e.items f.items cause
   matched_by n m e r x f cause rx same a =

@@ -1,4 +1,4 @@
--- Blocks that are filled and dealt out, one behind another.
+-- Blocks that are filled and dealt out, one after another.
 use Rattle.std.proofs.Common.{◌≡◌, ℕ, suc, ◌+◌, ◌<◌, ◌≤◌, ◌^◌, ◌%◌, Option, Some, None, List, [], ◌∷◌, ◌++◌, length, map, refl, sym, ap, subst, ◌∙◌, arith, append_assoc, length-append}
 use Rattle.std.proofs.Math.Nat.{zero-mod}
 use Rattle.std.proofs.lemmas.List.{append-nil, map-append}
@@ -23,7 +23,7 @@ use Rattle.fq_pair.proofs.SideLemmas.{walked_records}
 -- Cutting.
 
 module _ {T : Type 0} where
-  -- each piece has so many members
+  -- each piece has `most` members
   abbrev AreFull : ℕ → List (List T) → Type 0
   AreFull most [] = Unit {0}
   AreFull most (piece ∷ pieces) = (length piece ≡ most) × AreFull most pieces
@@ -37,7 +37,7 @@ module _ {T : Type 0} where
   even_full most (piece ∷ []) some full = let is = full.0 in (omega arith, omega arith)
   even_full most (piece ∷ next ∷ pieces) some full = (full.0, even_full most (next ∷ pieces) some full.1)
 
-  -- and the last at most so many
+  -- and the last at most that number
   even_then : (most : ℕ) (pieces : List (List T)) (last : List T) → AreFull most pieces → 1 ≤ length last → length last ≤ most → AreEven most (pieces ++ last ∷ [])
   even_then most [] last full some few = (some, few)
   even_then most (piece ∷ []) last full some few = (full.0, (some, few))
@@ -97,7 +97,7 @@ module _ (c : Choices) (old : SourceState) (to : List (History Numbered)) where
     number_is = refl;
   }
 
-  -- One block more.
+  -- One more block.
   module _ (now next : SourceState) (lanes after : List (History Numbered)) (turn number : ℕ) (empty block : Numbered) (why : Option ReadingEnd) (d : DealsFull now lanes turn number)
       (f : Fills now next c.block_pairs empty block why) (numbered_as : empty.number ≡ number) (encoded_as : empty.encoding ≡ c.encoding)
       (sends : SendsFilled block lanes after turn) (len : length after ≡ length lanes) (same_names : names_of after ≡ names_of lanes) where
@@ -178,7 +178,7 @@ module _ (c : Choices) (old : SourceState) (to : List (History Numbered)) where
     last_of fresh bound most [] is = last_none fresh bound most is
     last_of fresh bound most (m ∷ ms) is = let len = ap length is in last_some fresh bound (omega arith)
 
-    -- the last block has pairs, or none
+    -- the last block has pairs or is empty
     pub deals_last : old.forward.given ≡ 0 → old.most_bytes ≤ 2 ^ 60 → 1 ≤ c.block_pairs → DealsOut c old next to after why
     deals_last fresh bound most = last_of fresh bound most block.pairs refl
 

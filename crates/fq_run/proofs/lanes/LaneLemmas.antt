@@ -1,4 +1,4 @@
--- How the lanes change when one of them does.
+-- How the lanes change when one of them changes.
 use Rattle.std.proofs.Common.{◌≡◌, ℕ, zero, suc, ◌<◌, ◌%◌, true, List, [], ◌∷◌, ◌++◌, length, get_or, refl, sym, ap, ◌∙◌, arith, append_assoc, subst, inl, inr, get_or-set_other}
 use Rattle.std.proofs.Math.ListN.{set, length-set}
 use Rattle.std.proofs.lemmas.List.{append-nil, get_or-set_same, get_or_default}
@@ -94,11 +94,11 @@ module _ {T : Type 0} where
         closed = λ d. ap (λ l. l.marked) (stays d) ∙ h.closed d;
       }
 
-  -- the names after one lane changed, of which this was read
+  -- the names after one lane changed
   pub names_written : (ls : List (History T)) (j : ℕ) (k l : History T) → j < length ls → k ≡ get_or ls j k → l.name ≡ k.name → names_of (set ls j l) ≡ names_of ls
   names_written ls j k l lt read same = names-set ls j l (same ∙ ap (λ (m : History T). m.name) (read ∙ get_or_default ls j k l lt))
 
-  -- the names after something was taken from one lane, which was read
+  -- the names after something was taken from one lane
   pub taken_names : (r : Taken T) (ls : List (History T)) (j : ℕ) (k l : History T) → j < length ls → k ≡ get_or ls j k → Takes r k l → names_of (set ls j l) ≡ names_of ls
   taken_names r ls j k l lt read t = names_written ls j k l lt read (follows_take r k l t).name
 

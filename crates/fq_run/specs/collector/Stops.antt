@@ -18,20 +18,21 @@ is_stop Gate (Stop Gate) = true
 is_stop Memory (Stop Memory) = true
 is_stop why reply = false
 
--- one came through one of these lanes
+-- such a Stop came through one of these lanes
 abbrev pub has_come : Cause → List (History Reply) → Bool
 has_come why ls = list_any (λ (l : History Reply). list_any (is_stop why) l.items) ls
 
 abbrev pub stops_of : List (History Reply) → Halt
 stops_of ls = record { gate = has_come Gate ls; memory = has_come Memory ls }
 
--- all stops that came are noted, and no others
+-- exactly the stops that came are noted
 abbrev pub HearsAll : Collector → Type 0
 HearsAll k = k.halt ≡ stops_of k.replies.items
 
--- More is taken from the lanes, and nothing is written: whatever was written so far is what is written.
+-- More is taken from the lanes, and nothing more is written.
 pub record Drains (old new : Collector) : Type 0 where
   pub phase : new.phase ≡ old.phase
   pub names : names_of new.replies.items ≡ names_of old.replies.items
-  pub collects : (tallied : Bool) (w : ℕ) (before now : OutletStates) → Collects tallied w before now old → Collects tallied w before now new
+  pub collects : (tallied : Bool) (w : ℕ) (before now : OutletStates) →
+      Collects tallied w before now old → Collects tallied w before now new
   pub hears : HearsAll old → HearsAll new

@@ -13,18 +13,21 @@ use Rattle.fq_serial.specs.PairsRead.{Reads}
 use Rattle.fq_serial.specs.declared.reading_end.ReadingEnd.{ReadingEnd}
 use Rattle.fq_serial.specs.declared.reading_end.ReadingEnd.TheVariants as reading
 
--- blocks are numbered on from n, and all are in one encoding
+-- blocks are numbered from n on, and all are in one encoding
 abbrev pub AreNumbered : Encoding → ℕ → List Numbered → Type 0
 AreNumbered encoding n [] = Unit {0}
-AreNumbered encoding n (block ∷ blocks) = (block.number ≡ n) × (block.encoding ≡ encoding) × AreNumbered encoding (suc n) blocks
+AreNumbered encoding n (block ∷ blocks) =
+    (block.number ≡ n) × (block.encoding ≡ encoding) × AreNumbered encoding (suc n) blocks
 
--- these blocks, numbered from 0, are the cut of these pairs
+-- these pairs are cut into these blocks, which are numbered from 0
 pub record AreBlocks (c : Choices) (ms : List Mates) (blocks : List Numbered) : Type 0 where
   pub cut : IsCut c.block_pairs ms (map (λ (b : Numbered). b.pairs) blocks)
   pub numbered : AreNumbered c.encoding 0 blocks
 
--- what may be dealt: the pairs of a source that has not been asked, to some lanes through which nothing has gone, with as many ways back
-pub record MayDeal (c : Choices) (s : SourceState) (w ways : ℕ) (to : List (History Numbered)) : Type 0 where
+-- what may be dealt: the pairs of a source that nothing was read from, to lanes through which
+-- nothing has gone, each with a lane back
+pub record MayDeal (c : Choices) (s : SourceState) (w ways : ℕ)
+    (to : List (History Numbered)) : Type 0 where
   pub some : 0 < w
   pub lanes : IsDealt w [] to
   pub backs : ways ≡ w
@@ -33,9 +36,10 @@ pub record MayDeal (c : Choices) (s : SourceState) (w ways : ℕ) (to : List (Hi
   pub encoding : s.encoding ≡ c.encoding
   pub few : s.most_bytes ≤ 2 ^ 60
 
--- pairs were read from a source, up to where the reading stopped, and their blocks were dealt out to lanes, which go on. Where that was
--- a want of memory, the source gave one pair more, which is lost
-pub record DealsOut (c : Choices) (old new : SourceState) (to sent : List (History Numbered)) (why : Option ReadingEnd) : Type 0 where
+-- pairs were read from a source until reading stopped, and their blocks were dealt out to lanes,
+-- which are still open; if memory was refused, the source gave one more pair, which is lost
+pub record DealsOut (c : Choices) (old new : SourceState) (to sent : List (History Numbered))
+    (why : Option ReadingEnd) : Type 0 where
   pub mates : List Mates
   pub blocks : List Numbered
   pub reads : Reads old new mates why
@@ -45,7 +49,8 @@ pub record DealsOut (c : Choices) (old new : SourceState) (to sent : List (Histo
   pub dealt : IsDealt (length to) blocks sent
   pub names : names_of sent ≡ names_of to
 
--- a block that has pairs was sent to one lane, and one that has none to no lane
+-- a block that has pairs was sent to one lane, and an empty block to none
 pub record SendsFilled (block : Numbered) (old new : List (History Numbered)) (j : ℕ) : Type 0 where
   pub none : block.pairs ≡ [] → new ≡ old
-  pub some : 0 < length block.pairs → (d : History Numbered) → new ≡ slice_set old j (with_item (slice_index_or old j d) block)
+  pub some : 0 < length block.pairs → (d : History Numbered) →
+      new ≡ slice_set old j (with_item (slice_index_or old j d) block)

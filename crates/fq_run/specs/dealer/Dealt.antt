@@ -1,4 +1,5 @@
--- What a dealer needs, and what it has done: it has read pairs, dealt out their blocks, and closed its lanes.
+-- What a dealer needs, and what it does: it reads pairs, deals out their blocks, and closes its
+-- lanes.
 use Rattle.std.specs.Prelude.{◌≡◌, ◌≤◌, ◌<◌, true, Option, None, Result, IfOk, List, [], length, vec_len, vec_capacity}
 use Rattle.std.specs.List.{AllZip}
 use Rattle.fq_lane.specs.History.{History, with_mark}
@@ -10,7 +11,7 @@ use Rattle.fq_run.specs.declared.dealer.Dealer.{Dealer}
 use Rattle.fq_pair.specs.Walks.{SourceState}
 use Rattle.fq_serial.specs.declared.reading_end.ReadingEnd.{ReadingEnd}
 
--- the end of a lane, if there is one, is that of its sender
+-- the end of a lane, if it has one, is what its sender sent, with the mark
 abbrev pub Closed : {T : Type 0} → History T → Result (History T) NotEnded → Type 0
 Closed to closing = IfOk closing (λ e. e ≡ with_mark to)
 
@@ -26,9 +27,10 @@ pub record Deals (c : Choices) (old new : SourceState) (to : List (History Numbe
   pub out : DealsOut c old new to sent why
   pub ends : AllZip Closed sent closings
 
--- The same, and the start lane is taken to its mark. Where there was a start, the reading has ended; where there was none, nothing was
--- read, and nothing sent.
-pub record HasDealt (c : Choices) (old new : SourceState) (start start_left : History (Unit {0})) (to : List (History Numbered))
+-- What a dealer has done when it ends: it took the start lane to its mark. If a start item came, it
+-- dealt until reading stopped; if none came, it read and sent nothing.
+pub record HasDealt (c : Choices) (old new : SourceState)
+    (start start_left : History (Unit {0})) (to : List (History Numbered))
     (closings : List (Result (History Numbered) NotEnded)) (why : Option ReadingEnd) : Type 0 where
   pub name : start_left.name ≡ start.name
   pub closed : start_left.marked ≡ true

@@ -19,19 +19,23 @@ module _ {T : Type 0} where
     pub lanes : length ls ≡ w
     pub items : (j : ℕ) (d : History T) → j < w → (slice_index_or ls j d).items ≡ every j w xs
 
-  -- the items of each lane begin with those of xs that are dealt to it, and where the next of xs would come from, the lane is closed and has no more
+  -- the items of each lane begin with those of xs that are dealt to it, and the lane that the next
+  -- of xs would come from is closed and has no more
   pub record IsAtMark (w : ℕ) (xs : List T) (ls : List (History T)) : Type 0 where
     pub lanes : length ls ≡ w
-    pub begins : (j : ℕ) (d : History T) → j < w → IsPrefix (every j w xs) (slice_index_or ls j d).items
-    pub ends : (d : History T) → (slice_index_or ls (length xs % w) d).items ≡ every (length xs % w) w xs
+    pub begins : (j : ℕ) (d : History T) → j < w →
+        IsPrefix (every j w xs) (slice_index_or ls j d).items
+    pub ends : (d : History T) →
+        (slice_index_or ls (length xs % w) d).items ≡ every (length xs % w) w xs
     pub closed : (d : History T) → (slice_index_or ls (length xs % w) d).marked ≡ true
 
   -- the items of each lane begin with those of xs that are dealt to it
   pub record IsBegun (w : ℕ) (xs : List T) (ls : List (History T)) : Type 0 where
     pub lanes : length ls ≡ w
-    pub begins : (j : ℕ) (d : History T) → j < w → IsPrefix (every j w xs) (slice_index_or ls j d).items
+    pub begins : (j : ℕ) (d : History T) → j < w →
+        IsPrefix (every j w xs) (slice_index_or ls j d).items
 
-  -- what a take at one place answers and changes
+  -- what a take from one lane returns and changes
   pub record TakesAt (r : Taken T) (old new : List (History T)) (j : ℕ) : Type 0 where
     pub history : History T
     pub takes : Takes r (slice_index_or old j history) history

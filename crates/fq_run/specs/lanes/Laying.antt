@@ -1,4 +1,4 @@
--- The lanes of a run as they are made, worker for worker.
+-- The lanes of a run when they are made, one set per worker.
 use Rattle.std.specs.Prelude.{◌≡◌, ◌≤◌, ℕ, false, [], vec_len, vec_capacity}
 use Rattle.fq_lane.specs.History.{History, Name}
 use Rattle.fq_block.specs.Blocks.{Numbered}
@@ -7,11 +7,11 @@ use Rattle.fq_work.specs.declared.reply.Reply.{Reply}
 use Rattle.fq_run.specs.Each.{Each3}
 use Rattle.fq_run.specs.declared.lanes.seats.Seats.{Seats}
 
--- a lane as it is made
+-- a new lane
 abbrev pub fresh : {T : Type 0} → Name → History T
 fresh n = record { name = n; items = []; marked = false }
 
--- at one place: the lane of blocks and the lane of replies of one worker, and its own ends of them, as they are made
+-- for one worker: the lane of blocks, the lane of replies, and the worker's ends of both, all new
 pub record Laid (to : History Numbered) (ends : WorkEnds) (replies : History Reply) : Type 0 where
   pub to_is : to ≡ fresh to.name
   pub replies_are : replies ≡ fresh replies.name
@@ -21,21 +21,25 @@ pub record Laid (to : History Numbered) (ends : WorkEnds) (replies : History Rep
 abbrev pub IsLaid : Seats → Type 0
 IsLaid seats = Each3 Laid seats.to.items seats.ends.items seats.replies.items
 
--- there are so many of each
+-- there is this number of each
 abbrev pub AreFor : ℕ → Seats → Type 0
 AreFor workers seats =
-    (vec_len seats.to ≡ workers) × (vec_len seats.blocks_back ≡ workers) × (vec_len seats.ends ≡ workers)
+    (vec_len seats.to ≡ workers) × (vec_len seats.blocks_back ≡ workers)
+    × (vec_len seats.ends ≡ workers)
     × (vec_len seats.replies ≡ workers) × (vec_len seats.texts_back ≡ workers)
 
--- there is room for so many of each
+-- there is room for this number of each
 abbrev pub HaveRoom : ℕ → Seats → Type 0
 HaveRoom workers seats =
-    (workers ≤ vec_capacity seats.to) × (workers ≤ vec_capacity seats.blocks_back) × (workers ≤ vec_capacity seats.ends)
+    (workers ≤ vec_capacity seats.to) × (workers ≤ vec_capacity seats.blocks_back)
+    × (workers ≤ vec_capacity seats.ends)
     × (workers ≤ vec_capacity seats.replies) × (workers ≤ vec_capacity seats.texts_back)
 
--- the room stays
+-- the room is unchanged
 abbrev pub KeepRoom : Seats → Seats → Type 0
 KeepRoom old new =
-    (vec_capacity new.to ≡ vec_capacity old.to) × (vec_capacity new.blocks_back ≡ vec_capacity old.blocks_back)
+    (vec_capacity new.to ≡ vec_capacity old.to)
+    × (vec_capacity new.blocks_back ≡ vec_capacity old.blocks_back)
     × (vec_capacity new.ends ≡ vec_capacity old.ends)
-    × (vec_capacity new.replies ≡ vec_capacity old.replies) × (vec_capacity new.texts_back ≡ vec_capacity old.texts_back)
+    × (vec_capacity new.replies ≡ vec_capacity old.replies)
+    × (vec_capacity new.texts_back ≡ vec_capacity old.texts_back)

@@ -1,13 +1,13 @@
-//! How far a collector is.
+//! What a collector is doing.
 
 use fq_pair::Out;
 
-/// How far a collector is.
+/// What a collector is doing, or why it stopped writing.
 #[derive(Clone, Copy, Debug, PartialEq, Eq)]
 pub(crate) enum Phase {
     /// Replies are written in turn.
     Writing,
-    /// The lane whose turn it was has come to its mark.
+    /// The lane whose turn it was came to its mark, the last thing that a lane carries.
     AtMark,
     /// The next reply in turn was a stop.
     Stopped,

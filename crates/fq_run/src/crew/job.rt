@@ -7,7 +7,8 @@ use fq_work::{Reply, Worked};
 use std::snapshot::Snapshot;
 use std::thread::Promise;
 
-/// The steps, whether blocks are tallied, and the two lanes that a worker is started with, which say what its join gives.
+/// What a worker is started with: the steps, whether blocks are tallied, and its two lanes.
+/// `kept_by` states in these what its join returns.
 #[derive(Drop)]
 pub(crate) struct Job {
     pub(crate) steps: Steps,

@@ -1,4 +1,4 @@
-//! The workers are started and waited for.
+//! Starts the workers, and waits for them.
 
 ghost use Rattle.std.specs.Prelude.{◌≡◌, ◌≤◌, [], IfSome, IsTrue, vec_len, vec_capacity};
 ghost use Rattle.std.specs.List.{AllZip};
@@ -13,7 +13,7 @@ use std::sync::{Arc, Wait};
 use std::thread;
 use std::thread::{PromisedHandle, Threads};
 
-/// Starts a worker at each seat. False where one was refused.
+/// Starts a worker for each seat. Returns false if one was refused.
 pub(crate) fn start_workers<R: Threads + Wait + Copy + Send + 'static, H: Gate + 'static>(
     alloc: Global,
     rt: &R,
@@ -23,7 +23,8 @@ pub(crate) fn start_workers<R: Threads + Wait + Copy + Send + 'static, H: Gate +
     hands: &mut Vec<PromisedHandle<Worked, Job>>,
 ) -> bool
     requires { (hands.old.items ≡ []) × (vec_len seats ≤ vec_capacity hands.old) }
-    ensures all { IsTrue result → AllZip (Seated settings.now.tallied settings.now.steps) seats.items hands.new.items }
+    ensures all { IsTrue result
+        → AllZip (Seated settings.now.tallied settings.now.steps) seats.items hands.new.items }
     ensures few { vec_len hands.new ≤ vec_len seats }
 {
     for ends in seats {
@@ -38,7 +39,7 @@ pub(crate) fn start_workers<R: Threads + Wait + Copy + Send + 'static, H: Gate +
     true
 }
 
-// Starts one worker. `None` where its thread was refused.
+// Starts one worker. Returns `None` if its thread was refused.
 fn start_worker<R: Threads + Wait + Copy + Send + 'static, H: Gate + 'static>(
     alloc: Global,
     rt: &R,

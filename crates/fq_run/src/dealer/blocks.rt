@@ -1,4 +1,4 @@
-//! Blocks are filled, and dealt out in turn.
+//! Fills blocks, and deals them out in turn.
 
 ghost use Rattle.std.specs.Prelude.{◌≡◌, ◌<◌, Some, [], vec_len};
 ghost use Rattle.fq_run.specs.dealer.DealingOut.{MayDeal, DealsOut, SendsFilled};
@@ -14,7 +14,7 @@ use fq_text::Encoding;
 use std::alloc::Global;
 use std::sync::Wait;
 
-/// Reads block for block and deals them out in turn, until the reading stops. Answers why it did.
+/// Reads blocks and deals them out in turn, until reading stops. Returns why it stopped.
 pub(crate) fn deal_blocks<R: Wait, S: PairReader>(
     alloc: Global,
     rt: &R,
@@ -23,13 +23,15 @@ pub(crate) fn deal_blocks<R: Wait, S: PairReader>(
     to: &mut Vec<Tx<Block>>,
     blocks_back: &mut Vec<Rx<Block>>,
 ) -> ReadingEnd
-    requires { MayDeal settings.now (S.state source.old) (vec_len to.old) (vec_len blocks_back.old) to.old.items }
+    requires { MayDeal settings.now (S.state source.old)
+        (vec_len to.old) (vec_len blocks_back.old) to.old.items }
     ensures { DealsOut settings.now (S.state source.old)
         (S.state source.new) to.old.items to.new.items (Some result) }
 {
     let lanes = to.len();
     let mut turn = 0;
     let mut number = 0;
+    // The label is the loop's name in its proof.
     'dealing: loop {
         let back = &mut blocks_back[turn];
         let mut block = ready_block(alloc, back, number, settings.encoding());
@@ -43,7 +45,8 @@ pub(crate) fn deal_blocks<R: Wait, S: PairReader>(
     }
 }
 
-// A block of this number without pairs: one that came back, or a new one. A block in another encoding is let go.
+// An empty block with this number: one that came back, or a new one. A block in another encoding is
+// dropped.
 fn ready_block(alloc: Global, blocks_back: &mut Rx<Block>, number: u64, encoding: Encoding) -> Block
     ensures { result ≡ record { number = number; encoding = encoding; pairs = [] } }
 {
@@ -56,7 +59,7 @@ fn ready_block(alloc: Global, blocks_back: &mut Rx<Block>, number: u64, encoding
     }
 }
 
-// Sends a block to one lane, and waits for room. A block without pairs is let go.
+// Sends a block to one lane, and waits for room. An empty block is dropped.
 fn put_filled<R: Wait>(rt: &R, to: &mut Vec<Tx<Block>>, at: usize, block: Block)
     requires { at < vec_len to.old }
     ensures sends { SendsFilled block to.old.items to.new.items at }

@@ -1,4 +1,4 @@
-//! A dealer is started, with what its join gives.
+//! Starts a dealer.
 
 ghost use Rattle.std.specs.Prelude.{◌≡◌, [], IfSome};
 ghost use Rattle.fq_run.specs.dealer.Dealt.{CanDeal};
@@ -15,8 +15,8 @@ use std::sync::Wait;
 use std::thread;
 use std::thread::{Promise, PromisedHandle, Threads};
 
-/// The settings, the start lane, the lanes of blocks and the pairs that a dealer is started with, which say what its join
-/// gives.
+/// What a dealer is started with: the settings, the start lane, the lanes of blocks and the pairs.
+/// `kept_by` states in these what its join returns.
 #[derive(Drop)]
 pub(crate) struct Dealing<S> {
     pub(crate) settings: Settings,
@@ -28,11 +28,12 @@ pub(crate) struct Dealing<S> {
 impl<S: PairReader> Promise<Dealt<S>> for Dealing<S> {
     ghost use Rattle.fq_run.specs.dealer.Dealt.{HasDealt};
 
-    ghost kept_by = { λ dealing dealt. HasDealt dealing.settings (S.state dealing.source.value) (S.state dealt.source)
+    ghost kept_by = { λ dealing dealt. HasDealt dealing.settings
+        (S.state dealing.source.value) (S.state dealt.source)
         dealing.start.value dealt.start dealing.to.value.items dealt.closings.items dealt.why };
 }
 
-/// Starts the dealer. `None` where its thread was refused, and the source is then lost.
+/// Starts the dealer. Returns `None` if its thread was refused; the source is then lost.
 pub(crate) fn start_dealer<
     R: Threads + Wait + Copy + Send + 'static,
     S: PairReader + Drop + Send + 'static,

@@ -1,4 +1,4 @@
-//! What is left of a dealer.
+//! What a dealer hands back.
 
 ghost use Rattle.std.specs.Prelude.{◌≡◌, None, IfSome};
 
@@ -6,21 +6,23 @@ use fq_block::Block;
 use fq_lane::{End, NotEnded, Rx};
 use fq_serial::shared::ReadingEnd;
 
-/// What is left of a dealer: what is needed to confirm its lanes, how the reading ended, and the source as it stands.
+/// What a dealer hands back: what is needed to confirm its lanes, why reading stopped, and the
+/// source.
 #[derive(Drop)]
 pub(crate) struct Dealt<S> {
-    /// The receiver of the start lane, which has come to the mark.
+    /// The receiver of the start lane, which was taken to its mark.
     pub(crate) start: Rx<()>,
-    /// The ends of the lanes of blocks, worker for worker.
+    /// The ends of the lanes of blocks, one per worker.
     pub(crate) closings: Vec<Result<End<Block>, NotEnded>>,
-    /// Why no further pair was read. `None` where there was no start.
+    /// Why no further pair was read. `None` if no start item came.
     pub(crate) why: Option<ReadingEnd>,
-    /// The pairs that are left.
+    /// The source, with the pairs that were not read.
     pub(crate) source: S,
 }
 
 impl<S: Drop> Dealt<S> {
-    /// The source of a dealer that had no start, which has read nothing. `None` where it had one.
+    /// The source of a dealer that got no start item, from which nothing was read. `None` if it got
+    /// one.
     pub(crate) fn into_unread(self) -> Option<S>
         ensures { IfSome result (λ source. (source ≡ self.source) × (self.why ≡ None)) }
     {

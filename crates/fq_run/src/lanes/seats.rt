@@ -1,4 +1,4 @@
-//! The lanes of all workers, before the threads are started.
+//! The lanes of all workers, before the threads start.
 
 ghost use Rattle.std.specs.Prelude.{◌≡◌, ◌≤◌, IfOk};
 ghost use Rattle.fq_run.specs.lanes.Laying.{IsLaid, AreFor};
@@ -9,27 +9,29 @@ use fq_text::OutOfMemory;
 use fq_work::{Done, Reply, WorkEnds};
 use std::alloc::Global;
 
-/// The ends of the lanes of all workers, worker for worker: those of the dealer, of the workers and of the collector.
+/// The ends of the lanes of all workers, one per worker: for the dealer, the workers and the
+/// collector.
 #[derive(Drop)]
 pub(crate) struct Seats {
     /// The senders of blocks, for the dealer.
     pub(crate) to: Vec<Tx<Block>>,
-    /// The receivers of blocks that were answered, for the dealer.
+    /// The receivers of trimmed blocks, for the dealer to reuse.
     pub(crate) blocks_back: Vec<Rx<Block>>,
-    /// What each worker gets.
+    /// The ends that each worker gets.
     pub(crate) ends: Vec<WorkEnds>,
     /// The receivers of replies, for the collector.
     pub(crate) replies: Vec<Rx<Reply>>,
-    /// The senders of texts that were written, for the collector.
+    /// The senders of written texts, for the collector, so that workers reuse them.
     pub(crate) texts_back: Vec<Tx<Done>>,
 }
 
-// The most items that a lane may have room for.
+// The largest room of a lane, in items.
 const MOST_ROOM: usize = 64;
 
-// The room of a return lane, where the others have room for `depth` items. Blocks or texts are made only where none has come back.
-// So with each worker go round at most those in a lane, one in the worker's hands, and one in those of the thread at the other
-// end. A lane has room for all of them, so none is let go to be made anew.
+// The room of a lane that takes blocks or texts back, if the other lanes have room for `depth`
+// items. A block or a text is made only if none has come back, so each worker has at most `depth`
+// of them in a lane, one in use, and one at the thread at the other end. The lane back has room for
+// all of these, so none is dropped and made again, unless `MOST_ROOM` limits it.
 fn room_back(depth: usize) -> usize
     requires depth { (1 ≤ depth) × (depth ≤ MOST_ROOM) }
     ensures { (1 ≤ result) × (result ≤ MOST_ROOM) }
@@ -37,7 +39,7 @@ fn room_back(depth: usize) -> usize
     (depth + 2).min(MOST_ROOM)
 }
 
-/// The lanes of so many workers. Those of blocks and of replies have room for `depth` items.
+/// Makes the lanes of all workers. Those of blocks and of replies have room for `depth` items.
 pub(crate) fn lay(alloc: Global, workers: usize, depth: usize) -> Result<Seats, OutOfMemory>
     requires depth { (1 ≤ depth) × (depth ≤ 64) }
     ensures laid { IfOk result IsLaid }
@@ -54,7 +56,7 @@ impl Seats {
     ghost use Rattle.std.specs.Prelude.{◌≡◌, ◌≤◌, ◌<◌, ◌+◌, IfOk, OnOk, vec_len};
     ghost use Rattle.fq_run.specs.lanes.Laying.{IsLaid, AreFor, HaveRoom, KeepRoom};
 
-    // No lanes, with room for those of so many workers.
+    // No lanes yet, but room for those of this number of workers.
     fn new(alloc: Global, workers: usize) -> Result<Seats, OutOfMemory>
         ensures laid { IfOk result IsLaid }
         ensures none { IfOk result (AreFor 0) }
@@ -69,7 +71,7 @@ impl Seats {
         })
     }
 
-    // The lanes of one worker more.
+    // Adds the lanes of one more worker.
     fn add(&mut self, alloc: Global, depth: usize) -> Result<(), OutOfMemory>
         requires depth { (1 ≤ depth) × (depth ≤ 64) }
         requires laid { IsLaid self.old }

@@ -1,4 +1,4 @@
--- What was written stays so while the rest is let go.
+-- What was written is unchanged while the rest is dropped.
 use Rattle.std.proofs.Common.{is_some, sym, ◌∙◌, arith, subst, vec_len}
 use Rattle.fq_serial.specs.declared.total.Total.{Total}
 use Rattle.fq_run.specs.collector.Collecting.{Collects}

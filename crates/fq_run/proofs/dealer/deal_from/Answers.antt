@@ -1,4 +1,4 @@
--- Without a start nothing is read.
+-- Without a start item nothing is read.
 use Rattle.std.proofs.Common.{Option, sym, subst}
 use Rattle.fq_run.specs.dealer.DealingOut.{DealsOut}
 use Rattle.fq_serial.specs.declared.reading_end.ReadingEnd.{ReadingEnd}

@@ -1,4 +1,5 @@
--- What the threads leave is what the run leaves; where memory was refused before them nothing was written.
+-- What the threads hand back is what the run returns; if memory was refused before they started,
+-- nothing was written.
 use Rattle.std.proofs.Common.{refl, ap}
 use Rattle.fq_pair.specs.Forms.{InterleavedText}
 use Rattle.fq_pair.specs.Walks.{interleaved_state}

@@ -1,4 +1,4 @@
--- Where a thread was refused nothing was written.
+-- If a thread was refused, nothing was written.
 use Rattle.std.proofs.Common.{refl, sym, ap, subst, arith}
 use Rattle.fq_serial.specs.declared.total.Total.{Total}
 use Rattle.fq_serial.specs.Devices.{outlet_states}

@@ -1,4 +1,4 @@
--- One reply, or none, is taken and let go.
+-- One reply, or none, is taken and dropped.
 use Rattle.std.proofs.Common.{◌≡◌, ℕ, ◌<◌, length, refl, sym, ap, ◌∙◌, arith, inl, inr}
 use Rattle.fq_lane.specs.declared.taken.Taken.{Taken}
 use Rattle.fq_lane.specs.declared.taken.Taken.TheVariants.{Item}
@@ -11,7 +11,7 @@ use Rattle.fq_run.proofs.collector.StopLemmas.{heard_at}
 use Rattle.fq_run.proofs.collector.CollectLemmas.{drains_take}
 use Rattle.fq_run.proofs.collector.Collector.drain_lane.Goals as goal
 
--- what was taken, by what it was found to be, is let go
+-- what was taken is dropped, case by case
 lets_go : (r s : Taken Reply) (k l : Collector) (j : ℕ) → r ≡ s → (k.phase ≡ Writing → ⊥) → l.phase ≡ k.phase → j < length k.replies.items → TakesAt r k.replies.items l.replies.items j →
     l.halt ≡ heard_at s k.halt → l.total ≡ k.total → l.texts_back ≡ k.texts_back → l.turn ≡ k.turn → Drains k l
 lets_go r s k l j is over phase lt takes halt total backs turn = drains_take r k l j over phase lt takes (halt ∙ sym (ap (λ (x : Taken Reply). heard_at x k.halt) is)) total backs turn

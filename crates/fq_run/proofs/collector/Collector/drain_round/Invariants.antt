@@ -1,4 +1,4 @@
--- Whatever was taken from the lanes so far, nothing was written.
+-- Whatever was taken from the lanes so far, nothing more was written.
 use Rattle.std.proofs.Common.{◌≡◌, vec_len}
 use Rattle.fq_run.specs.collector.Stops.{Drains}
 use Rattle.fq_run.proofs.collector.Collector.drain_round.Given as goal

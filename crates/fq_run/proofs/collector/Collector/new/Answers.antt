@@ -1,4 +1,4 @@
--- Nothing came yet.
+-- Nothing has come so far.
 use Rattle.std.proofs.Common.{sym, subst, arith, length, ◌≡◌, []}
 use Rattle.fq_run.specs.lanes.Items.{IsDealt}
 use Rattle.fq_run.proofs.collector.StopLemmas.{no_stops}

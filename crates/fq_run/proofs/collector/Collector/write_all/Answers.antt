@@ -1,4 +1,4 @@
--- While replies are written no outlet has failed.
+-- No outlet has failed while replies are written.
 use Rattle.fq_run.proofs.collector.CollectLemmas.{still_writes}
 use Rattle.fq_run.proofs.collector.Collector.write_all.Goals as goal
 

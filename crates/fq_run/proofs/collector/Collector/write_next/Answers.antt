@@ -1,4 +1,4 @@
--- The next reply in turn is written, is a stop, or does not come any more.
+-- The next reply in turn is written, is a stop, or does not come.
 use Rattle.std.proofs.Common.{◌≡◌, ℕ, ◌<◌, refl, ap, ◌∙◌, arith, subst, Option, Some, List, length}
 use Rattle.fq_lane.specs.History.{History}
 use Rattle.fq_lane.specs.Take.{taken_of}
@@ -11,11 +11,11 @@ use Rattle.fq_run.proofs.collector.CollectLemmas.{collects_written, collects_bro
 use Rattle.fq_run.proofs.collector.StopLemmas.{heard_at}
 use Rattle.fq_run.proofs.collector.Collector.write_next.Goals as goal
 
--- what was taken, by what it was found to be
+-- what was taken, case by case
 takes_as : (r s : Option Reply) (old new : List (History Reply)) (j : ℕ) → r ≡ s → TakesAt (taken_of r) old new j → TakesAt (taken_of s) old new j
 takes_as r s old new j is t = subst (λ o. TakesAt (taken_of o) old new j) is t
 
--- what is heard of it
+-- the stops that are noted, with what was taken
 hears_as : (r s : Option Reply) (k l : Collector) → r ≡ s → k.turn < length k.replies.items → TakesAt (taken_of r) k.replies.items l.replies.items k.turn → l.halt ≡ heard_at (taken_of s) k.halt → HearsAll k → HearsAll l
 hears_as r s k l is lt t halt = hears_take (taken_of s) k l k.turn lt (takes_as r s _ _ k.turn is t) halt
 

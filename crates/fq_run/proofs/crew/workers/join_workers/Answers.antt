@@ -1,4 +1,4 @@
--- Another is joined.
+-- One more worker is joined.
 use Rattle.std.proofs.Common.{arith, ◌∙◌, length-append, [], ◌∷◌}
 use Rattle.fq_run.specs.crew.Workers.{Joined}
 use Rattle.fq_run.proofs.EachLemmas.{zip_pushed}

@@ -1,4 +1,4 @@
--- Another is started.
+-- One more worker is started.
 use Rattle.std.proofs.Common.{arith, ◌∙◌, length-append, [], ◌∷◌}
 use Rattle.fq_run.specs.crew.Workers.{Seated}
 use Rattle.fq_run.proofs.EachLemmas.{zip_pushed}

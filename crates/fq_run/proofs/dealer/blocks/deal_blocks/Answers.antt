@@ -1,4 +1,4 @@
--- Each block is filled and dealt out, until the reading stops.
+-- Each block is filled and dealt out, until reading stops.
 use Rattle.std.proofs.Common.{◌≡◌, ◌%◌, suc, length, ap, ◌∙◌, arith}
 use Rattle.fq_block.specs.Blocks.{Numbered}
 use Rattle.fq_serial.proofs.FillLemmas.{fills_as}

@@ -1,4 +1,4 @@
--- So many workers have their lanes.
+-- The workers so far have their lanes.
 use Rattle.fq_run.specs.lanes.Laying.{IsLaid, AreFor, KeepRoom}
 use Rattle.fq_run.proofs.lanes.seats.lay.Given as goal
 

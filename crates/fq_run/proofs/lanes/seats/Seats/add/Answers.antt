@@ -1,4 +1,4 @@
--- The lanes of the new worker are as they are made.
+-- The lanes of the added worker are new.
 use Rattle.std.proofs.Common.{refl, sym}
 use Rattle.fq_run.specs.lanes.Laying.{Laid}
 use Rattle.fq_run.proofs.EachLemmas.{each3_pushed, fresh_is}
