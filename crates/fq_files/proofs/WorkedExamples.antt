@@ -1,4 +1,4 @@
--- Numbers of devices, as the C library's `makedev` makes them.
+-- Device numbers, as the C library's `makedev` makes them.
 use Rattle.std.proofs.Common.{◌≡◌, ℕ, refl}
 use Rattle.fq_files.specs.Devices.{device_of}
 
@@ -9,7 +9,8 @@ in_memory = refl
 nine_bits : device_of 0 256 ≡ 1048576
 nine_bits = refl
 
--- 8:1, the first part of a disk: 0x801; 254:0, a virtual disk: 0xfe00; 259:3, a part of a disk on the bus: 0x10303.
+-- 8:1, the first partition of a disk: 0x801; 254:0, a virtual disk: 0xfe00; 259:3, a partition of a
+-- disk on the bus: 0x10303.
 first_part : device_of 8 1 ≡ 2049
 first_part = refl
 
@@ -19,8 +20,8 @@ virtual_disk = refl
 on_the_bus : device_of 259 3 ≡ 66307
 on_the_bus = refl
 
--- Numbers of thirteen bits and more: 0x100000000000, and 0x123459abcde678f0, whose major number is 0x12345678 and whose minor number
--- is 0x9abcdef0.
+-- Numbers of thirteen bits and more: 0x100000000000, and 0x123459abcde678f0, whose major number is
+-- 0x12345678 and whose minor number is 0x9abcdef0.
 thirteen_bits : device_of 4096 0 ≡ 17592186044416
 thirteen_bits = refl
 

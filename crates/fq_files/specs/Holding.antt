@@ -13,6 +13,6 @@ IsUnchanged old new = (name : List ℕ) → new name ≡ old name
 abbrev pub KeepsOthers : Holding → Holding → List ℕ → Type 0
 KeepsOthers old new name = (other : List ℕ) → other ≢ name → new other ≡ old other
 
--- no name is let go
+-- no name is removed
 abbrev pub KeepsNames : Holding → Holding → Type 0
 KeepsNames old new = (name : List ℕ) → IsSome (old name) → IsSome (new name)

@@ -5,10 +5,10 @@ use fq_text::{Feed, OutOfMemory, Outlet, OutletFailed, ScriptFeed};
 use std::alloc::Global;
 use std::collections::BTreeMap;
 
-/// Files in memory. They tell their bytes.
+/// Files in memory. Their bytes are known to the proof.
 ///
-/// A name that isn't held is refused as an input, and made as an output. No name is refused as an output, but for want of memory. The
-/// feeds cut nothing. A failure counts for every name.
+/// A name that isn't held is refused as an input, and created as an output. No name is refused as
+/// an output unless memory is refused. No read call is cut short. A failure counts for every name.
 #[derive(Drop)]
 pub struct MemoryFiles {
     held: BTreeMap<String, Vec<u8>>,
@@ -35,7 +35,7 @@ impl MemoryFiles {
         }
     }
 
-    /// Sets the bytes of a name. Where memory is refused nothing has changed.
+    /// Sets the bytes of a name. If memory is refused, nothing changes.
     pub fn put(&mut self, name: &str, bytes: &[u8]) -> Result<(), OutOfMemory>
         ensures ok { OnOk result (bytes_in self.new name.now ≡ Some bytes.now) }
         ensures held { KeepsNames (bytes_in self.old) (bytes_in self.new) }
@@ -78,11 +78,12 @@ impl Files for MemoryFiles {
     ghost has_failed = { failed_in };
 
     fn source(&mut self, name: &str) -> Result<ScriptFeed, FileFault>
-        // A feed of the name's bytes, which no read cuts short and no read fails to give.
+        // A feed of the name's bytes. No read call is cut short or fails.
         ensures given { IfOk result (λ feed. bytes_in self.old name.now ≡ Some feed.bytes) }
-        ensures uncut { IfOk result (λ feed. feed ≡ record { bytes = feed.bytes; cut = usize.MAX; fails_in = 0; failures = 0 }) }
+        ensures uncut { IfOk result (λ feed. feed
+            ≡ record { bytes = feed.bytes; cut = usize.MAX; fails_in = 0; failures = 0 }) }
 
-        // What all files do that tell their bytes.
+        // As for all files whose bytes are known to the proof.
         ensures refused { result ≡ Err FileFault.Refused → bytes_in self.old name.now ≡ None }
         ensures unchanged { IsUnchanged (bytes_in self.old) (bytes_in self.new) }
         ensures failed { failed_in self.new ≡ failed_in self.old }
@@ -114,7 +115,7 @@ impl Files for MemoryFiles {
     }
 }
 
-/// What a file in memory is written to.
+/// The outlet that a file in memory is written to.
 #[derive(Drop)]
 pub struct MemoryTarget {
     bytes: Vec<u8>,
@@ -150,13 +151,15 @@ impl Outlet for MemoryTarget {
     fn write(&mut self, bytes: &[u8]) -> Result<usize, OutletFailed>
         requires { self.old.failures < u64.MAX }
 
-        // It takes all the bytes, and fails only where more memory is needed.
-        ensures full { OnErr result (vec_capacity self.old.bytes < length self.old.bytes.items + length bytes.now) }
+        // A write takes all bytes. It fails only if more memory is needed.
+        ensures full { OnErr result
+            (vec_capacity self.old.bytes < length self.old.bytes.items + length bytes.now) }
         ensures count { IfOk result (λ n. n ≡ length bytes.now) }
 
-        // What each outlet does.
+        // As for all outlets.
         ensures some { IfOk result (λ n. 0 < length bytes.now → 0 < n) }
-        ensures moved { IfOk result (λ n. self.new.bytes.items ≡ self.old.bytes.items ++ take n bytes.now) }
+        ensures moved { IfOk result (λ n. self.new.bytes.items
+            ≡ self.old.bytes.items ++ take n bytes.now) }
         ensures err { OnErr result (self.new.bytes.items ≡ self.old.bytes.items) }
         ensures failures { self.new.failures ≡ self.old.failures + (if is_ok result then 0 else 1) }
     {
@@ -172,7 +175,7 @@ impl Outlet for MemoryTarget {
     fn flush(&mut self) -> Result<(), OutletFailed>
         requires { self.old.failures < u64.MAX }
 
-        // It has nothing to wait for.
+        // There is nothing to wait for.
         ensures ok { IsOk result }
         ensures kept { self.new ≡ self.old }
     {

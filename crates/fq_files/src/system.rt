@@ -1,4 +1,4 @@
-//! Files of the system.
+//! Files of the operating system.
 
 use crate::device::major_of;
 use crate::files::{FileFault, Files};
@@ -9,7 +9,7 @@ use std::io::Write;
 use std::os::unix::fs::MetadataExt;
 use std::rt;
 
-/// What tells one file of the system from all others: its device, and its number there.
+/// What identifies a file of the system: its device, and its number (inode) there.
 #[derive(Clone, Copy, PartialEq, Eq)]
 struct Identity {
     device: u64,
@@ -25,18 +25,19 @@ impl Identity {
     }
 }
 
-/// The files of the system, which tell no bytes.
+/// The files of the operating system. Their bytes are not known to the proof.
 ///
-/// A file that was opened as an input is refused as an output, under whatever name, and is left as it is. A regular file that is an
-/// input already is refused as another input, and one that is an output already as another output. Every name may be refused, and a
-/// failure counts for every name.
+/// A file that was opened as an input is refused as an output, under any name, and is left
+/// unchanged. A regular file that is already an input is refused as another input, and one that is
+/// already an output is refused as another output. Every name may be refused, and a failure counts
+/// for every name.
 #[derive(Drop)]
 pub struct SystemFiles<'a, R: rt::Files<File = File>> {
     runtime: &'a R,
     inputs: Vec<Identity>,
-    // The regular ones alone: several outputs may go to one pipe or to `/dev/null`.
+    // Only regular files: several outputs may go to one pipe or to `/dev/null`.
     outputs: Vec<Identity>,
-    // Whether a flush waits for the disk on each device.
+    // Whether a flush waits for the disk on every device.
     syncs_always: bool,
     // Whether a device that was handed back has failed.
     has_failed: bool,
@@ -54,7 +55,8 @@ impl<'a, R: rt::Files<File = File>> SystemFiles<'a, R> {
         }
     }
 
-    /// The file that this name leads to, if it is a regular one, is refused as an output from now on: something else writes to it.
+    /// Refuses the file that this name leads to as an output from now on, if it is a regular file:
+    /// something else writes to it.
     pub fn keep(&mut self, name: &str) -> Result<(), OutOfMemory> {
         if let Ok(metadata) = fs::metadata(self.runtime, name) {
             if metadata.is_file() {
@@ -69,13 +71,13 @@ impl<'a, R: rt::Files<File = File>> SystemFiles<'a, R> {
         self.inputs.iter().any(|input| *input == identity)
     }
 
-    // Whether this file is an output already.
+    // Whether this file is already an output.
     fn is_output(&self, identity: Identity) -> bool {
         self.outputs.iter().any(|output| *output == identity)
     }
 
-    // Whether a flush of a regular file waits for the disk. The system may tell an error late where the file's device has no block
-    // device of its own.
+    // Whether a flush of a regular file waits for the disk. If the file's device has no block
+    // device of its own, the system may report an error late.
     fn syncs(&self, identity: Identity) -> bool {
         self.syncs_always || major_of(identity.device) == 0
     }
@@ -126,7 +128,8 @@ impl<'a, R: rt::Files<File = File>> Files for SystemFiles<'a, R> {
     }
 
     fn target(&mut self, name: &str) -> Result<SystemTarget, FileFault> {
-        // It is opened as it stands, and emptied only once it is known to be neither an input nor another output.
+        // The file is opened with its bytes, and emptied only once it is known to be neither an
+        // input nor another output.
         let mut options = OpenOptions::new();
         let opened = options.write(true).create(true).open(self.runtime, name);
         let Ok(file) = opened else {
@@ -142,7 +145,8 @@ impl<'a, R: rt::Files<File = File>> Files for SystemFiles<'a, R> {
         let is_regular = metadata.is_file();
         if is_regular {
             self.outputs.push(identity).map_err(OutOfMemory::from)?;
-            // An empty file is left as it is: where one has been cut, ext4 begins to write it to the disk as soon as it is closed.
+            // An empty file isn't truncated: ext4 would begin to write it to the disk as soon as it
+            // is closed.
             if metadata.len() > 0 && file.set_len(0).is_err() {
                 return Err(FileFault::Refused);
             }
@@ -165,14 +169,15 @@ impl<'a, R: rt::Files<File = File>> Files for SystemFiles<'a, R> {
     }
 }
 
-/// A file of the system that is written. It tells no bytes.
+/// The outlet that a file of the system is written to. Its bytes are not known to the proof.
 ///
 /// It is written without a buffer, so write large pieces.
 ///
-/// A flush waits until the bytes of a regular file are where they are to stay, and fails where the system says only then that some
-/// were lost. It does so where the file's device has no block device of its own (its major number is 0), as on a network's file
-/// system, in memory, and on a file system over others; and on every device after [`sync_always`](Files::sync_always). Elsewhere a
-/// write that succeeds has its place on the disk, and a flush does nothing.
+/// A flush of a regular file waits until its bytes are on stable storage, and fails if the system
+/// reports only then that some were lost. It waits if the file's device has no block device of its
+/// own (its major number is 0), as on network file systems, in memory and on file systems over
+/// others, and on every device after [`sync_always`](Files::sync_always). Elsewhere a write that
+/// succeeds has its place on the disk, and a flush does nothing.
 #[derive(Drop)]
 pub struct SystemTarget {
     file: File,
@@ -184,7 +189,7 @@ pub struct SystemTarget {
 impl SystemTarget {
     ghost use Rattle.std.specs.Prelude.{◌≡◌, ◌<◌, ◌+◌};
 
-    // One failure more.
+    // Counts one more failure.
     fn fail(&mut self) -> OutletFailed
         requires { self.old.failed_calls < u64.MAX }
         ensures { self.new.failed_calls ≡ self.old.failed_calls + 1 }
