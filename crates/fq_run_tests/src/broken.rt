@@ -1,4 +1,4 @@
-//! Runs on a forward text that breaks off.
+//! Runs on a forward text that is cut off.
 
 ghost use Rattle.std.specs.Prelude.{◌<◌};
 
@@ -14,8 +14,8 @@ use std::sync::Wait;
 use std::test::Fail;
 use std::thread::Threads;
 
-// How many pairs a forward text of so many bytes gives, and how a run on it ends. Each record has 18 bytes, of which the last, a
-// line end, may be missing at the end of the text.
+// How many pairs a forward text of this length gives, and how a run on it ends. Each record has 18
+// bytes; the last of them, a line end, may be missing at the end of the text.
 fn pairs_and_outcome(bytes: usize) -> (usize, Outcome)
     requires { bytes < 127 }
 {

@@ -1,3 +1,5 @@
+//! What the tests of runs share.
+
 ghost use Rattle.std.specs.Prelude.{◌≡◌, ◌<◌, true, [], IfOk};
 ghost use Rattle.fq_serial.specs.Devices.{outlet_states, AreHealthy};
 
@@ -27,15 +29,15 @@ pub struct Given<'a> {
     pub block_pairs: u64,
     pub chunk: u64,
     pub max_reads: u64,
-    /// The most bytes that a feed gives, or an outlet takes, in a call.
+    /// The largest number of bytes that a feed gives, or an outlet takes, in a call.
     pub cut: usize,
-    /// The read of the forward feed that fails, or 0.
+    /// The number of the read call on the forward feed that fails, or 0.
     pub fails_at_read: u64,
-    /// An outlet, and the write of it that fails.
+    /// An outlet, and the number of the write call to it that fails.
     pub fails_at_write: Option<(Out, u64)>,
     /// An outlet whose flush fails.
     pub fails_at_flush: Option<Out>,
-    /// Whether there is a log.
+    /// Whether a log is written.
     pub logs: bool,
 }
 
@@ -51,7 +53,7 @@ pub struct Wanted<'a> {
     pub outcome: Outcome,
 }
 
-/// Two texts and steps, with the settings that most tests have, and devices that do not fail.
+/// Two texts and steps, with the settings of most tests, and devices that do not fail.
 pub fn with_defaults<'a>(forward: &'a [u8], reverse: &'a [u8], steps: &'a [&'a str]) -> Given<'a> {
     Given {
         forward,
@@ -70,7 +72,7 @@ pub fn with_defaults<'a>(forward: &'a [u8], reverse: &'a [u8], steps: &'a [&'a s
     }
 }
 
-/// Counts, in the order of a summary.
+/// Counts, in the order of the summary.
 pub fn counts(pairs: u64, both: u64, forward_only: u64, reverse_only: u64, dropped: u64) -> Counts {
     Counts {
         pairs,
@@ -81,7 +83,7 @@ pub fn counts(pairs: u64, both: u64, forward_only: u64, reverse_only: u64, dropp
     }
 }
 
-/// Nothing written, with this outcome.
+/// Nothing is written, and the run has this outcome.
 pub fn nothing(outcome: Outcome) -> Wanted<'static> {
     Wanted {
         forward_paired: b"",
@@ -94,7 +96,7 @@ pub fn nothing(outcome: Outcome) -> Wanted<'static> {
     }
 }
 
-/// This written, with these counts and this outcome.
+/// These texts are written, and the run has these counts and this outcome.
 pub fn wanted_of(written: Written, counts: Counts, outcome: Outcome) -> Wanted<'static> {
     Wanted {
         forward_paired: written.forward_paired,
@@ -107,7 +109,8 @@ pub fn wanted_of(written: Written, counts: Counts, outcome: Outcome) -> Wanted<'
     }
 }
 
-/// A feed of these bytes, at most `cut` at a read, whose read of this number fails, if the number is not 0.
+/// A feed of these bytes, at most `cut` in a read call. The read call of number `fail_at` fails, or
+/// none if that is 0.
 pub fn feed(
     rt: &impl Abort,
     alloc: Global,
@@ -121,7 +124,7 @@ pub fn feed(
     Ok(ScriptFeed::new(alloc, bytes, cut, fail_at)?)
 }
 
-/// An outlet in memory, which cuts and fails as is given for this output.
+/// An outlet in memory, which cuts writes and fails as `given` says for this output.
 pub fn outlet(rt: &impl Abort, alloc: Global, given: &Given<'_>, out: Out) -> ScriptOutlet
     ensures { (result.bytes ≡ []) × (result.failures ≡ 0) }
 {
@@ -135,12 +138,12 @@ pub fn outlet(rt: &impl Abort, alloc: Global, given: &Given<'_>, out: Out) -> Sc
     ScriptOutlet::new(alloc, cut, fail_at, flush_fails)
 }
 
-/// The settings that are given, for so many workers and lanes of this depth.
+/// The given settings, with this number of workers and this depth of lanes.
 pub fn settings_of(given: &Given<'_>, workers: u64, depth: u64) -> Result<Settings, Fail> {
     settings_with(given, workers, depth, LONG)
 }
 
-/// The same, with a bound on how often a gate is asked.
+/// The given settings, also with a bound on how often a gate is asked.
 pub fn settings_with(
     given: &Given<'_>,
     workers: u64,
@@ -162,9 +165,10 @@ pub fn settings_with(
     Ok(settings?)
 }
 
-/// The outlets in memory, of the log where there is one.
+/// The outlets in memory, with one for the log if a log is written.
 pub fn outlets(rt: &impl Abort, alloc: Global, given: &Given<'_>) -> Outlets<ScriptOutlet>
-    ensures { AreHealthy (outlet_states (λ o. record { tells = true; taken = o.bytes; failures = o.failures }) result) }
+    ensures { AreHealthy (outlet_states
+        (λ o. record { tells = true; taken = o.bytes; failures = o.failures }) result) }
 {
     Outlets {
         forward_paired: outlet(rt, alloc, given, Out::ForwardPaired),
@@ -179,8 +183,8 @@ pub fn outlets(rt: &impl Abort, alloc: Global, given: &Given<'_>) -> Outlets<Scr
     }
 }
 
-/// What a run left. Functions hand it on in a `Box`: it has so many parts that each function that owns it on its stack has a long
-/// proof.
+/// What a run left. Functions hand it on in a `Box`: it has many parts, and a function that owns
+/// them on its stack has a long proof.
 #[derive(Drop)]
 pub struct Left {
     pub outcome: Outcome,
@@ -235,7 +239,7 @@ pub fn assert_reads(rt: &impl Abort, outlets: &Outlets<ScriptOutlet>, wanted: &W
     }
 }
 
-// The runs without their promise. A test has no use for it, and its proof is long where it is known.
+// The runs without their guarantees. Tests don't use these, and proofs get long if they are known.
 
 /// The run on one thread.
 pub fn serial<O: Outlet>(
@@ -252,7 +256,7 @@ pub fn serial<O: Outlet>(
     run_serial(alloc, settings, forward, reverse, outlets)
 }
 
-/// The run on several threads, behind a gate.
+/// The run on several threads, with a gate.
 pub fn threaded<
     R: Threads + Wait + Copy + Send + 'static,
     F: Feed + Drop + Send + 'static,
@@ -275,7 +279,7 @@ pub fn threaded<
     Ok(run_threads(alloc, rt, settings, gate, forward, reverse, outlets))
 }
 
-/// Runs with a log on so many workers' threads, behind a gate.
+/// Runs with a log on several threads, with a gate.
 pub fn run_behind<R: Abort + Threads + Wait + Copy + Send + 'static, H: Gate + 'static>(
     rt: &R,
     alloc: Global,
@@ -290,7 +294,7 @@ pub fn run_behind<R: Abort + Threads + Wait + Copy + Send + 'static, H: Gate + '
     left_of(alloc, ending, outlets)
 }
 
-/// Runs with a log on so many workers' threads, behind a gate, and compares what the run leaves.
+/// Runs with a log on several threads, with a gate, and compares what the run leaves.
 pub fn leaves_behind<R: Abort + Threads + Wait + Copy + Send + 'static, H: Gate + 'static>(
     rt: &R,
     alloc: Global,

@@ -1,4 +1,4 @@
-//! Runs over an interleaved text.
+//! Runs over an interleaved input.
 
 ghost use Rattle.std.specs.Prelude.{◌≡◌, true};
 ghost use Rattle.fq_serial.specs.Devices.{outlet_states, AreHealthy};
@@ -17,7 +17,7 @@ use std::sync::{Arc, Wait};
 use std::test::Fail;
 use std::thread::Threads;
 
-// The runs without their promise.
+// The runs without their guarantees.
 
 fn serial_interleaved(
     alloc: Global,
@@ -26,12 +26,13 @@ fn serial_interleaved(
     outlets: &mut Outlets<ScriptOutlet>,
 ) -> MixedEnding<ScriptFeed>
     requires text { text.failures ≡ 0 }
-    requires outlets { AreHealthy (outlet_states (λ o. record { tells = true; taken = o.bytes; failures = o.failures }) outlets.old) }
+    requires outlets { AreHealthy (outlet_states
+        (λ o. record { tells = true; taken = o.bytes; failures = o.failures }) outlets.old) }
 {
     run_serial_mixed(alloc, settings, text, outlets)
 }
 
-/// The run on several threads, behind an open gate.
+/// The run on several threads, with an open gate.
 fn threaded_interleaved<R: Threads + Wait + Copy + Send + 'static>(
     rt: &R,
     alloc: Global,
@@ -40,13 +41,14 @@ fn threaded_interleaved<R: Threads + Wait + Copy + Send + 'static>(
     outlets: &mut Outlets<ScriptOutlet>,
 ) -> Result<MixedEnding<ScriptFeed>, Fail>
     requires text { text.failures ≡ 0 }
-    requires outlets { AreHealthy (outlet_states (λ o. record { tells = true; taken = o.bytes; failures = o.failures }) outlets.old) }
+    requires outlets { AreHealthy (outlet_states
+        (λ o. record { tells = true; taken = o.bytes; failures = o.failures }) outlets.old) }
 {
     let gate = Arc::new(alloc, OpenGate)?;
     Ok(run_threads_mixed(alloc, rt, settings, gate, text, outlets))
 }
 
-/// What a run over an interleaved text left.
+/// What a run over an interleaved input left.
 fn left_of_interleaved(
     alloc: Global,
     ending: MixedEnding<ScriptFeed>,
@@ -62,7 +64,7 @@ fn left_of_interleaved(
     Ok(Box::new(alloc, left)?)
 }
 
-/// Runs with a log on one thread. The text is that of the forward side.
+/// Runs with a log on one thread. The input is `given.forward`.
 fn run_alone(
     rt: &impl Abort,
     alloc: Global,
@@ -75,7 +77,7 @@ fn run_alone(
     left_of_interleaved(alloc, ending, outlets)
 }
 
-/// The same on several threads.
+/// Runs with a log on several threads. The input is `given.forward`.
 fn run_threaded<R: Abort + Threads + Wait + Copy + Send + 'static>(
     rt: &R,
     alloc: Global,
@@ -99,7 +101,7 @@ fn leaves_alone(
     assert_left(rt, &left, wanted)
 }
 
-/// Runs with a log on so many workers' threads.
+/// Runs with a log on the threads of `workers` workers, and compares what the run leaves.
 fn leaves_threaded<R: Abort + Threads + Wait + Copy + Send + 'static>(
     rt: &R,
     alloc: Global,
@@ -112,7 +114,7 @@ fn leaves_threaded<R: Abort + Threads + Wait + Copy + Send + 'static>(
     assert_left(rt, &left, wanted)
 }
 
-/// Runs on one thread, and then on those of 1 to 5 workers, and compares what each run leaves.
+/// Runs on one thread, and then with 1 to 5 workers, and compares what each run leaves.
 fn leaves_interleaved<R: Abort + Threads + Wait + Copy + Send + 'static>(
     rt: &R,
     alloc: Global,
@@ -126,7 +128,7 @@ fn leaves_interleaved<R: Abort + Threads + Wait + Copy + Send + 'static>(
     Ok(())
 }
 
-/// What a run over the eleven records leaves where no device fails.
+/// What a run over the eleven records leaves if no device fails.
 fn five_of_eleven() -> Wanted<'static> {
     five_pairs(Outcome::Input(InputFault::MateMissing(Side::Reverse, 6)))
 }
@@ -144,7 +146,7 @@ fn run_interleaved<R: Abort + Threads + Wait + Copy + Send + 'static>(
     }
 }
 
-/// A run over an interleaved text, in small blocks, reads and writes: its outcome, and the front of the seven pairs that its outputs are.
+/// Runs over an interleaved input. Returns the outcome, and which of the seven pairs are written.
 fn front_interleaved<R: Abort + Threads + Wait + Copy + Send + 'static>(
     rt: &R,
     alloc: Global,
@@ -156,7 +158,7 @@ fn front_interleaved<R: Abort + Threads + Wait + Copy + Send + 'static>(
     Ok((left.outcome, front))
 }
 
-/// The eleven records, in small blocks, reads and writes.
+/// The eleven records, with small blocks, read calls and write calls.
 fn eleven_in_twos() -> Given<'static> {
     Given {
         block_pairs: BLOCK_PAIRS as u64,
@@ -165,7 +167,7 @@ fn eleven_in_twos() -> Given<'static> {
     }
 }
 
-// A run whose read of this number fails.
+// Checks a run whose read call of this number fails.
 fn assert_read_fails<R: Abort + Threads + Wait + Copy + Send + 'static>(
     rt: &R,
     alloc: Global,
@@ -193,7 +195,7 @@ fn assert_read_fails<R: Abort + Threads + Wait + Copy + Send + 'static>(
 #[test]
 fn each_read_of_one_text_fails_in_turn(rt: HostRuntime) -> Result<(), Fail> {
     for way in WAYS {
-        // 198 bytes by 40 reads, and one that finds the end.
+        // 40 read calls for 198 bytes, and one that finds the end.
         for number in 1..42u64 {
             assert_read_fails(&rt, rt.alloc(), way, number)?;
         }
@@ -213,7 +215,7 @@ fn failing_write(out: Out, number: u64) -> Given<'static> {
     }
 }
 
-// A run whose write of this number to an outlet fails.
+// Checks a run whose write call of this number to an outlet fails.
 fn assert_write_fails<R: Abort + Threads + Wait + Copy + Send + 'static>(
     rt: &R,
     alloc: Global,
@@ -229,7 +231,7 @@ fn assert_write_fails<R: Abort + Threads + Wait + Copy + Send + 'static>(
 
 #[test]
 fn each_write_of_one_text_fails_in_turn(rt: HostRuntime) -> Result<(), Fail> {
-    // The texts of three blocks go out by five bytes at a time.
+    // The texts of three blocks are written five bytes at a time.
     let rows = [
         (Out::ForwardPaired, 7 + 3 + 4),
         (Out::ForwardUnpaired, 4),

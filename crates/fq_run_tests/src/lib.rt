@@ -1,5 +1,6 @@
-//! Tests of `fq_run` by what it gives to everybody: what whole runs leave, on one thread and on several. They have a crate of their
-//! own, as Rust's `tests/` folders have, so that they are proved without proving `fq_run` once more.
+//! Tests of the public functions of `fq_run`: what runs leave, on one thread and on several. They
+//! are a crate of their own, like Rust's `tests/` folders, so that `fq_run` isn't proved again for
+//! them.
 #![tactic(auto)]
 
 #[cfg(test)]

@@ -14,7 +14,7 @@ pub fn seven_pairs() -> Wanted<'static> {
     wanted_of(SEVEN_WRITTEN, counts(7, 5, 2, 0, 0), Outcome::Finished)
 }
 
-/// What the first five of them leave.
+/// What the first five of the seven pairs leave.
 pub fn five_pairs(outcome: Outcome) -> Wanted<'static> {
     wanted_of(FIVE_WRITTEN, counts(5, 4, 1, 0, 0), outcome)
 }

@@ -1,14 +1,14 @@
-//! The worked texts, held against each other.
+//! The worked texts, compared with each other.
 
 use fq_samples::*;
 use fq_text::Encoding;
 use std::process::Abort;
 use std::test::Fail;
 
-// The bytes of each record.
+// The length of each record in bytes.
 const RECORD: usize = 18;
 
-// The records of two texts take turns in the third.
+// Checks that the third text has the records of the other two in turn.
 fn assert_interleaved(rt: &impl Abort, forward: &[u8], reverse: &[u8], both: &[u8]) {
     let records = forward.chunks(RECORD).zip(reverse.chunks(RECORD));
     for (pair, (first, second)) in both.chunks(2 * RECORD).zip(records) {
@@ -84,7 +84,7 @@ fn a_read_of_parts(rt: HostRuntime) {
     assert!(rt;
         read.is_some_and(|r| r.encoding() == Encoding::Solexa && r.seq() == b"AC".as_slice())
     );
-    // A sequence may be empty, but has no byte more than its quality.
+    // A sequence may be empty, but must not be longer than its quality.
     assert!(rt; lawful_read(Encoding::Sanger, b"r", b"", b"").is_some());
     assert!(rt; lawful_read(Encoding::Sanger, b"r", b"AC", b"I").is_none());
 }

@@ -1,4 +1,4 @@
-//! Threads that have to see each other.
+//! Threads that must see each other.
 
 ghost use Rattle.std.specs.Prelude.{◌≡◌, ◌<◌, ◌+◌, ◌^◌, false, [], IfOk};
 ghost use Rattle.fq_serial.specs.Devices.{outlet_states, AreHealthy};
@@ -18,13 +18,13 @@ use std::sync::Arc;
 use std::sync::atomic::{AtomicBool, Ordering};
 use std::test::Fail;
 
-// How often one looks for another that comes.
+// How often a thread looks for another one that comes.
 const LOOKS: u64 = 1_000_000_000;
 
-// How often for one that does not.
+// How often a thread looks for another one that does not come.
 const FEW_LOOKS: u64 = 1_000_000;
 
-/// Two that have to see each other.
+/// Two threads that must see each other.
 #[derive(Drop)]
 struct Meeting {
     first: AtomicBool,
@@ -41,7 +41,7 @@ impl Meeting {
         }
     }
 
-    // Shows one, and looks for the other.
+    // Shows that this thread is there, and looks for the other one.
     fn meet(&self, first: bool) -> bool {
         let (own, other) = if first {
             (&self.first, &self.second)
@@ -58,7 +58,7 @@ impl Meeting {
     }
 }
 
-/// A gate that lets blocks 0 and 1 pass once each is asked for while the other is.
+/// A gate that lets blocks 0 and 1 pass only if it is asked for both at the same time.
 #[derive(Drop)]
 struct BothAtOnce {
     meeting: Meeting,
@@ -112,7 +112,7 @@ fn one_worker_sees_no_other(rt: HostRuntime) -> Result<(), Fail> {
     )
 }
 
-/// A feed whose fifth read has to see a write.
+/// A feed whose fifth read call must see a write.
 #[derive(Drop)]
 struct SeeingFeed {
     feed: ScriptFeed,
@@ -121,7 +121,7 @@ struct SeeingFeed {
     failures: u64,
 }
 
-/// An outlet whose first write may have to see a read.
+/// An outlet whose first write call must see a read, if it has a meeting.
 #[derive(Drop)]
 struct SeeingOutlet {
     outlet: ScriptOutlet,
@@ -185,7 +185,7 @@ fn seeing_outlet(alloc: Global, meeting: Option<Arc<Meeting>>) -> SeeingOutlet
     }
 }
 
-// A feed and outlets of which the feed's fifth read has to see the first write of forward paired.
+// A feed and outlets: the fifth read call must see the first write to forward paired.
 fn seeing(
     rt: &impl Abort,
     alloc: Global,
@@ -193,7 +193,8 @@ fn seeing(
 ) -> Result<(SeeingFeed, Outlets<SeeingOutlet>), Fail>
     ensures feed { IfOk result (λ devices. devices.0.failures ≡ 0) }
     ensures outlets { IfOk result (λ devices. AreHealthy
-        (outlet_states (λ o. record { tells = false; taken = []; failures = o.failures }) devices.1)) }
+        (outlet_states
+        (λ o. record { tells = false; taken = []; failures = o.failures }) devices.1)) }
 {
     let meeting = Arc::new(alloc, Meeting::new(LOOKS))?;
     let forward = SeeingFeed {
@@ -212,7 +213,7 @@ fn seeing(
     Ok((forward, outlets))
 }
 
-// Compares what the outlets have.
+// Compares what the outlets took.
 fn assert_seen(
     rt: &impl Abort,
     outlets: &Outlets<SeeingOutlet>,

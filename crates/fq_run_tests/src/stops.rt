@@ -1,4 +1,4 @@
-//! What a run makes of its gate, of the depth of its lanes, and of outlets behind a stop.
+//! How a run uses its gate and the depth of its lanes, and what it does with outlets after a stop.
 
 ghost use Rattle.std.specs.Prelude.{◌≡◌, ◌+◌, ◌<◌, ◌^◌, None, false, true, []};
 ghost use Rattle.fq_serial.specs.Devices.{outlet_states, AreHealthy};
@@ -21,7 +21,7 @@ use std::sync::{Arc, Wait};
 use std::test::Fail;
 use std::thread::Threads;
 
-/// A gate that refuses so many times, and then lets each block pass.
+/// A gate that refuses `refusals` times, and then lets each block pass.
 #[derive(Drop)]
 struct LateGate {
     refusals: u64,
@@ -73,7 +73,7 @@ fn outlets_are_flushed_behind_a_stop(rt: HostRuntime) -> Result<(), Fail> {
     Ok(())
 }
 
-/// A feed that shows how often it was read.
+/// A feed that counts its read calls.
 #[derive(Drop)]
 struct CountedFeed {
     feed: ScriptFeed,
@@ -100,12 +100,12 @@ impl Feed for CountedFeed {
     }
 }
 
-// How often a gate looks for a read, and how often for one too many behind it.
+// How often a gate looks for a read call, and how often for one too many after it.
 const LOOKS: u64 = 1_000_000_000;
 
 const MORE_LOOKS: u64 = 30_000_000;
 
-/// A gate that lets the first block pass only where just so many reads are made while it is asked.
+/// A gate that lets the first block pass only if exactly `wanted` read calls are made meanwhile.
 #[derive(Drop)]
 struct JustSoManyReads {
     wanted: u64,
@@ -113,7 +113,7 @@ struct JustSoManyReads {
 }
 
 impl JustSoManyReads {
-    // Whether so many reads were made at one of so many looks.
+    // Looks up to `looks` times whether `reads` read calls were made.
     fn sees(&self, reads: u64, looks: u64) -> bool {
         for _ in 0..looks {
             if reads <= self.reads.load(Ordering::SeqCst) {
@@ -131,7 +131,7 @@ impl Gate for JustSoManyReads {
     }
 }
 
-// A run in which just so many reads are made while its first block waits.
+// A run in which exactly `wanted` read calls are made while its first block waits.
 fn leaves_behind_reads<R: Abort + Threads + Wait + Copy + Send + 'static>(
     rt: &R,
     alloc: Global,
@@ -170,7 +170,8 @@ fn counted_run<R: Abort + Threads + Wait + Copy + Send + 'static>(
     Ok(Box::new(alloc, ending)?)
 }
 
-// While the one worker has block 0, `depth` blocks lie in its lane, and one more is in the dealer's hand. A record is a read.
+// While the one worker has block 0, there are `depth` blocks in its lane, and the dealer has one
+// more. Each record takes one read call.
 #[test]
 fn just_as_much_is_read_ahead_as_the_lanes_hold(rt: HostRuntime) -> Result<(), Fail> {
     let given = Given {

@@ -1,4 +1,4 @@
-//! Runs in each of which another call of a device fails.
+//! Runs in which each call on a device fails in turn.
 
 ghost use Rattle.std.specs.Prelude.{◌≡◌, true};
 ghost use Rattle.fq_serial.specs.Devices.{outlet_states, AreHealthy};
@@ -18,16 +18,16 @@ use std::sync::Wait;
 use std::test::Fail;
 use std::thread::Threads;
 
-/// The pairs of a block.
+/// The number of pairs in a block.
 pub const BLOCK_PAIRS: usize = 2;
 
-/// The most bytes of a read or a write.
+/// The largest number of bytes of a read or write call.
 pub const CUT: usize = 5;
 
-/// The bytes of a record of the inputs.
+/// The length of a record of the inputs in bytes.
 pub const RECORD: usize = 18;
 
-/// On which threads a run goes.
+/// The threads that a run uses.
 #[derive(Clone, Copy, Debug)]
 pub enum Way {
     Serial,
@@ -36,7 +36,7 @@ pub enum Way {
 
 pub const WAYS: [Way; 2] = [Way::Serial, Way::TwoWorkers];
 
-/// The seven pairs, in small blocks, reads and writes.
+/// The seven pairs, with small blocks, read calls and write calls.
 pub fn seven_in_twos() -> Given<'static> {
     Given {
         block_pairs: BLOCK_PAIRS as u64,
@@ -45,7 +45,7 @@ pub fn seven_in_twos() -> Given<'static> {
     }
 }
 
-/// A run in which the read of this side and number fails, if one is given.
+/// Runs. The read call of this side and number fails, if one is given.
 pub fn run<R: Abort + Threads + Wait + Copy + Send + 'static>(
     rt: &R,
     alloc: Global,
@@ -61,7 +61,7 @@ pub fn run<R: Abort + Threads + Wait + Copy + Send + 'static>(
     run_failing(rt, alloc, given, way, fails_forward, fails_reverse)
 }
 
-/// A run in which the reads of these numbers fail, one of each side, or none where the number is 0.
+/// Runs. On each side the read call of the given number fails, or none if the number is 0.
 fn run_failing<R: Abort + Threads + Wait + Copy + Send + 'static>(
     rt: &R,
     alloc: Global,
@@ -77,7 +77,7 @@ fn run_failing<R: Abort + Threads + Wait + Copy + Send + 'static>(
     left_of(alloc, ending, outlets)
 }
 
-/// A run between these devices.
+/// Runs with these devices.
 fn run_between<R: Threads + Wait + Copy + Send + 'static>(
     rt: &R,
     alloc: Global,
@@ -89,7 +89,8 @@ fn run_between<R: Threads + Wait + Copy + Send + 'static>(
 ) -> Result<Ending<ScriptFeed, ScriptFeed>, Fail>
     requires forward { forward.failures ≡ 0 }
     requires reverse { reverse.failures ≡ 0 }
-    requires outlets { AreHealthy (outlet_states (λ o. record { tells = true; taken = o.bytes; failures = o.failures }) outlets.old) }
+    requires outlets { AreHealthy (outlet_states
+        (λ o. record { tells = true; taken = o.bytes; failures = o.failures }) outlets.old) }
 {
     let settings = settings_of(given, 2, 4)?;
     match way {
@@ -98,7 +99,7 @@ fn run_between<R: Threads + Wait + Copy + Send + 'static>(
     }
 }
 
-/// Whether a run met no failure. Then all has to be there.
+/// Whether a run met no failure. If so, checks that everything was written.
 fn met_none(rt: &impl Abort, left: &Left) -> Result<bool, Fail> {
     if left.outcome != Outcome::Finished {
         return Ok(false);
@@ -107,7 +108,7 @@ fn met_none(rt: &impl Abort, left: &Left) -> Result<bool, Fail> {
     Ok(true)
 }
 
-/// The first of the seven pairs that a run has written.
+/// Which of the seven pairs, from the first on, a run has written.
 pub fn front_of(outlets: &Outlets<ScriptOutlet>, counts: Counts) -> Result<Front, &'static str> {
     let log = outlets.log.as_ref().ok_or("there is no log")?;
     let outlets = [
@@ -120,7 +121,7 @@ pub fn front_of(outlets: &Outlets<ScriptOutlet>, counts: Counts) -> Result<Front
     front_in_order(outlets, counts, BLOCK_PAIRS)
 }
 
-/// The front that a run leaves whose failed call has this number and gives this outcome.
+/// Which pairs a run has written whose call of this number failed, and which has this outcome.
 pub fn front_behind(
     rt: &impl Abort,
     left: &Left,
@@ -131,7 +132,7 @@ pub fn front_behind(
     Ok(front_of(&left.outlets, left.counts)?)
 }
 
-// Whether a run met its read of this number, which fails.
+// Whether a run made its read call of this number, which fails.
 fn met_read(rt: &impl Abort, left: &Left, side: Side, number: u64) -> Result<bool, Fail> {
     if met_none(rt, left)? {
         return Ok(false);
@@ -163,7 +164,7 @@ enum Calls {
     Writes(Out),
 }
 
-// How many of these calls fail in turn before a run meets no failure.
+// Lets each of these calls fail in turn. Returns how many there are until a run meets no failure.
 fn calls_that_fail<R: Abort + Threads + Wait + Copy + Send + 'static>(
     rt: &R,
     alloc: Global,
@@ -186,7 +187,7 @@ fn calls_that_fail<R: Abort + Threads + Wait + Copy + Send + 'static>(
 fn each_read_fails_in_turn(rt: HostRuntime) -> Result<(), Fail> {
     for side in [Side::Forward, Side::Reverse] {
         for way in WAYS {
-            // 126 bytes by 26 reads, and one that finds the end.
+            // 26 read calls for 126 bytes, and one that finds the end.
             let reads = calls_that_fail(&rt, rt.alloc(), Calls::Reads(side), way)?;
             assert_eq!(rt; reads, 27);
         }
@@ -194,12 +195,12 @@ fn each_read_fails_in_turn(rt: HostRuntime) -> Result<(), Fail> {
     Ok(())
 }
 
-// The pair whose record the read of this number is needed for, or the one behind the last.
+// The pair whose record needs the read call of this number, or the number after the last pair.
 fn pair_of(read: u64) -> u64 {
     read.saturating_sub(1).saturating_mul(CUT as u64) / RECORD as u64 + 1
 }
 
-// The forward mate of a pair is read before its reverse mate.
+// Checks which failure is returned: the forward mate of a pair is read before its reverse mate.
 fn assert_first_is_answered<R: Abort + Threads + Wait + Copy + Send + 'static>(
     rt: &R,
     alloc: Global,
@@ -238,7 +239,7 @@ fn where_both_feeds_fail_the_one_that_is_read_first_is_answered(
     Ok(())
 }
 
-// Whether a run met its write of this number to an outlet, which fails.
+// Whether a run made its write call of this number to an outlet, which fails.
 fn met_write(rt: &impl Abort, left: &Left, out: Out, number: u64) -> Result<bool, Fail> {
     if met_none(rt, left)? {
         return Ok(false);
@@ -265,7 +266,8 @@ fn write_fails<R: Abort + Threads + Wait + Copy + Send + 'static>(
 
 #[test]
 fn each_write_fails_in_turn(rt: HostRuntime) -> Result<(), Fail> {
-    // The text of a block goes out by five bytes at a time: 32, 14, 18 and 18 bytes of forward paired, and so on.
+    // The text of a block is written five bytes at a time: forward paired has 32, 14, 18 and 18
+    // bytes, and so on.
     let rows = [
         (Out::ForwardPaired, 7 + 3 + 4 + 4),
         (Out::ForwardUnpaired, 4 + 3),
