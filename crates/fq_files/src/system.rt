@@ -55,7 +55,7 @@ impl<'a, R: rt::Files<File = File>> SystemFiles<'a, R> {
         }
     }
 
-    /// Refuses the file that this name leads to as an output from now on, if it is a regular file:
+    /// From now on refuses the file that this name leads to as an output, if it is a regular file:
     /// something else writes to it.
     pub fn keep(&mut self, name: &str) -> Result<(), OutOfMemory> {
         if let Ok(metadata) = fs::metadata(self.runtime, name) {

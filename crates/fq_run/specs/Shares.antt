@@ -27,7 +27,7 @@ every skip w [] = []
 every zero w (x ∷ xs) = x ∷ every (w - 1) w xs
 every (suc k) w (x ∷ xs) = every k w xs
 
--- the lists of the first n workers
+-- the first n of the w lists
 abbrev pub dealt_to : {T : Type 0} → ℕ → ℕ → List T → List (List T)
 dealt_to zero w xs = []
 dealt_to (suc n) w xs = dealt_to n w xs ++ every n w xs ∷ []

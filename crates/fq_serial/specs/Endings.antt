@@ -152,8 +152,8 @@ IsNext c run side =
     (length (records c.encoding (whole_part (gave_to run.forward run.forward_left))).reads)
     ≡ side
 
--- these are all pairs; or a feed was cut off, and they are at least as many as the complete lines
--- hold that came
+-- these are all pairs; or a feed was cut off, and they are at least as many as the pairs in the
+-- complete lines that the feeds gave
 abbrev pub IsAllThatCame : Choices → Run → List Mates → Type 0
 IsAllThatCame c run whole =
     (whole ≡ (all_pairs c run).mates)

@@ -22,7 +22,7 @@ rank (Endless side) = 7
 rank (Input fault) = 8
 rank Finished = 9
 
--- the outcome of a text that could not be read further
+-- the outcome that a fault in the text of a side leads to
 abbrev pub text_outcome : Side → TextFault → Outcome
 text_outcome side text.Read = Read side
 text_outcome side text.Endless = Endless side

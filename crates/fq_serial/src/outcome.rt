@@ -21,7 +21,7 @@ pub enum Outcome {
     Write(Out),
     /// A read call on the input of this side failed.
     Read(Side),
-    /// The input of this side didn't end within the read calls that are allowed.
+    /// The input of this side didn't end within the allowed number of read calls.
     Endless(Side),
     /// The inputs have a fault. The pairs before it are written.
     Input(InputFault),

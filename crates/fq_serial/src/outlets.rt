@@ -28,8 +28,8 @@ impl<O: Outlet> Outlets<O> {
     ghost use Rattle.fq_serial.specs.Sending.{Sends, Flushes};
     ghost use Rattle.fq_serial.specs.Writing.{FlushesAfter};
 
-    /// Sends each text to its outlet, in the order of [`Out`], and returns the first outlet that
-    /// fails.
+    /// Sends each text to its outlet, in the order of [`Out`], until one fails. The error is the
+    /// outlet that failed.
     ///
     /// The outlets before that one have then taken their texts, that one the beginning of its text,
     /// and those after it nothing. The log is written only if it has an outlet.
@@ -48,8 +48,8 @@ impl<O: Outlet> Outlets<O> {
         Ok(())
     }
 
-    /// Flushes each outlet once, in the order of [`Out`], up to the first that fails, and returns
-    /// it.
+    /// Flushes each outlet once, in the order of [`Out`], until one fails. The error is the outlet
+    /// that failed.
     pub(crate) fn flush(&mut self) -> Result<(), Out>
         requires { AreHealthy (outlet_states O.state self.old) }
         ensures { Flushes (outlet_states O.state self.old) (outlet_states O.state self.new) result }

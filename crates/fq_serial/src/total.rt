@@ -9,7 +9,7 @@ use std::alloc::Global;
 /// The counts and the tally of the pairs whose block was written completely.
 #[derive(Drop)]
 pub struct Total {
-    /// How many pairs there are, and how many of each kind.
+    /// The number of pairs, and of those in which both, one or none of the mates survived.
     pub counts: Counts,
     /// The tally. `None` if none is asked for.
     pub tally: Option<Tally>,

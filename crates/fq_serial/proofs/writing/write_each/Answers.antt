@@ -1,4 +1,4 @@
--- Each block is gathered and written, until a write fails or the reading stops.
+-- Each block is gathered and written, until a write fails or reading stops.
 use Rattle.std.proofs.Common.{arith}
 use Rattle.fq_serial.proofs.GatherLemmas.{gathers_as, gathered_asked, end_is, end_none}
 use Rattle.fq_serial.proofs.OutletLemmas.{still_healthy}
