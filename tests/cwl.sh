@@ -33,8 +33,8 @@ run() {
   if [ "$2" -eq 0 ] && [ "$got" -ne 0 ] || [ "$2" -ne 0 ] && [ "$got" -eq 0 ]; then fail "$1: status $got, not $2: $(tail -n 5 "$1.err")"; fi
 }
 
-draw a 1
-draw b 2
+draw_lane a 1 200
+draw_lane b 2 200
 gzip -k a_1.fq a_2.fq b_1.fq b_2.fq
 head -c 1500 b_2.fq.gz > half_2.fq.gz
 cat a_1.fq b_1.fq > 1.fq
