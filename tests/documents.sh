@@ -7,8 +7,8 @@
 #   in docs/PROVED.md is in the code.
 # - Each file, and each heading, that a document links to exists.
 # - Every line of a document, outside tables and code, is at most 100 columns wide (DOCUMENTS_WIDTH
-#   sets another width, 0 none), and no sentence there has more than 40 words. Lines of code that
-#   are wider are counted, and fail nothing.
+#   sets another width, 0 none), and so are comments, clauses and definitions in crates/. No sentence
+#   of a document has more than 40 words.
 set -uo pipefail
 . "$(dirname "$0")/common.bash"
 width=${DOCUMENTS_WIDTH:-100}
@@ -225,13 +225,17 @@ measure_width() {
   fi
 }
 
-# Counts of wider lines of code, which fail nothing: comments, clauses, and lines of definitions.
-count_wide_code() {
-  local over=".{$((width + 1))}" comments clauses definitions
-  comments=$(find crates -path '*/out' -prune -o -name '*.rt' -exec cat {} + | LC_ALL=C.UTF-8 grep -E "^$over" | grep -cE '^ *//')
-  clauses=$(find crates -path '*/out' -prune -o -name '*.rt' -exec cat {} + | LC_ALL=C.UTF-8 grep -E "^$over" | grep -cE '^ *(requires|ensures) ')
-  definitions=$(find crates -path '*/out' -prune -o -path '*/specs/*.antt' -exec cat {} + | LC_ALL=C.UTF-8 grep -cE "^$over")
-  echo "documents: over $width columns in the crates: $comments lines of comments, $clauses of clauses, $definitions of definitions"
+# Lines of code and comments over that width. Imports, texts in quotes, names of lemmas in attributes
+# and the terms of proofs may be wider.
+measure_code() {
+  LC_ALL=C.UTF-8 find crates -path '*/out' -prune -o '(' -name '*.rt' -o -name '*.antt' ')' \
+    -exec grep -nE "^.{$((width + 1))}" {} + |
+    grep -E '^[^:]*(\.rt|/specs/[^:]*):|^[^:]*:[0-9]+: *--' |
+    grep -vE '^[^:]*:[0-9]+: *((pub )?(ghost )?use |#\[tactic)|^[^"]*"' | cut -c 1-100 > "$work/wide_code"
+  if [ -s "$work/wide_code" ]; then
+    head -n 20 "$work/wide_code"
+    fail "$(wc -l < "$work/wide_code") lines of code or comments are over $width columns"
+  fi
 }
 
 # Sentences of more than 40 words, by the line on which they begin. A sentence ends at . ? or !
@@ -265,7 +269,7 @@ call_library
 follow_links
 if [ "$width" -gt 0 ]; then
   measure_width
-  count_wide_code
+  measure_code
 fi
 measure_sentences
 finish 'as the program says'
