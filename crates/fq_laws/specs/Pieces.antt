@@ -5,7 +5,7 @@ use Rattle.std.specs.List.{All}
 use Rattle.fq_text.specs.declared.encoding.Encoding.{Encoding}
 use Rattle.fq_text.specs.declared.encoding.Encoding.TheVariants.{Sanger}
 use Rattle.fq_text.specs.Lines.{without_cr}
-use Rattle.fq_text.specs.Grammar.{Read, begins_with}
+use Rattle.fq_text.specs.Grammar.{Read, at_sign, plus_sign, begins_with}
 use Rattle.fq_text.specs.Written.{as_written, written_quality, line}
 use Rattle.fq_trim.specs.declared.step.Step.{Step}
 use Rattle.fq_trim.specs.Keeping.{recodes}
@@ -40,8 +40,8 @@ quality_out steps encoding qual = written_quality (then_some (recodes steps) enc
 -- A plain read: its title doesn't end in CR, and the first base that is left is neither @ nor +.
 pub record IsPlain (steps : List Step) (read : Read) : Type 0 where
   pub title : without_cr read.title ≡ read.title
-  pub no_title : begins_with 64 (left_of steps read).seq ≡ false
-  pub no_plus : begins_with 43 (left_of steps read).seq ≡ false
+  pub no_title : begins_with at_sign (left_of steps read).seq ≡ false
+  pub no_plus : begins_with plus_sign (left_of steps read).seq ≡ false
 
 -- a letter, in either case
 abbrev pub is_letter : ℕ → Bool

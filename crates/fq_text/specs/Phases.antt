@@ -12,7 +12,7 @@ use Rattle.fq_text.specs.declared.parse.Place.{Place}
 use Rattle.fq_text.specs.declared.parse.Place.TheVariants.{Unwrapped, Joined}
 use Rattle.fq_text.specs.Lines.{lines, is_whole}
 use Rattle.fq_text.specs.Reading.{Lined, rest_of, Reads, Closed, NoLf}
-use Rattle.fq_text.specs.Grammar.{Read, Front, End, Faulty, Found, before_plus, from_plus, quality_lines, behind_quality, sequence_faults, quality_faults, unless_faulty, from_plus_line, completed, front, begins_with, limit}
+use Rattle.fq_text.specs.Grammar.{Read, Front, End, Faulty, Found, before_plus, from_plus, quality_lines, behind_quality, sequence_faults, quality_faults, unless_faulty, from_plus_line, completed, front, plus_sign, begins_with, limit}
 use Rattle.fq_text.specs.Unwrapped.{unwrapped, lines_len}
 
 -- after the title and these bases have been read
@@ -101,7 +101,7 @@ FindsPlus state old new before after done =
     Goes state old new (in_sequence before.encoding before.title [])
     (at_plus before.encoding before.title after.seq new.line)
     × (after ≡ record before { seq = after.seq }) × (length after.seq ≤ limit)
-    × (begins_with 43 new.line ≡ true) × (length new.line ≤ limit)
+    × (begins_with plus_sign new.line ≡ true) × (length new.line ≤ limit)
 
 -- the record has been found
 abbrev pub FindsRecord : {F : Type 0} → (F → FeedState) → Lined F → Lined F → Read → Read → Unit {0}

@@ -2,7 +2,7 @@
 use Rattle.std.specs.Prelude.{◌≡◌, ℕ, ◌+◌, ◌-◌, ◌*◌, ◌<◌, ◌≤◌, ◌⊎◌, Bool, true, false, Result, Option, Some, None, List, [], ◌∷◌, ◌++◌, length, IsTrue, slice_index}
 use Rattle.std.specs.declared.result.Result.TheVariants as res
 use Rattle.fq_text.specs.Devices.{FeedState}
-use Rattle.fq_text.specs.Lines.{lines, is_whole}
+use Rattle.fq_text.specs.Lines.{line_feed, lines, is_whole}
 use Rattle.fq_text.specs.Grammar.{limit}
 use Rattle.fq_text.specs.declared.fault.Fault.TheVariants as fault
 use Rattle.fq_text.specs.declared.fault.ReadError.{ReadError}
@@ -30,12 +30,12 @@ rest_of state r = r.in_hand ++ (state r.feed).to_come
 
 -- no LF is at an index below n
 abbrev pub NoLf : List ℕ → ℕ → Type 0
-NoLf xs n = (k : ℕ) → k < n → slice_index xs k ≡ 10 → ⊥
+NoLf xs n = (k : ℕ) → k < n → slice_index xs k ≡ line_feed → ⊥
 
 -- the index of the first LF, if there is one
 abbrev pub IsLineEnd : List ℕ → Option ℕ → Type 0
 IsLineEnd xs None = NoLf xs (length xs)
-IsLineEnd xs (Some n) = (n < length xs) × (slice_index xs n ≡ 10) × NoLf xs n
+IsLineEnd xs (Some n) = (n < length xs) × (slice_index xs n ≡ line_feed) × NoLf xs n
 
 -- the most bytes that can still become lines
 abbrev pub fuel_of : {F : Type 0} → Lined F → ℕ
