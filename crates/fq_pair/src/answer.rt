@@ -1,6 +1,7 @@
 //! Keeps what a source of pairs returned.
 
 ghost use Rattle.std.specs.Prelude.{◌≡◌, ◌+◌, ◌≤◌, ◌^◌, true, false, Some, None, Ok, Err, IfOk, IfErr, IfSome};
+ghost use Rattle.fq_text.specs.Reading.{text_limit};
 
 use crate::fault::InputFault;
 use crate::pair::Pair;
@@ -11,7 +12,7 @@ pub(crate) fn keep(
     given: &mut u64,
     last: &mut Option<Result<(), InputFault>>,
 ) -> Result<Option<Pair>, InputFault>
-    requires { IfOk answer (λ o. IfSome o (λ pair. given.old + 1 ≤ 2 ^ 60)) }
+    requires { IfOk answer (λ o. IfSome o (λ pair. given.old + 1 ≤ text_limit)) }
     ensures same { result ≡ answer }
     ensures pair { IfOk answer
         (λ o. IfSome o (λ pair. (given.new ≡ given.old + 1) × (last.new ≡ last.old))) }
@@ -33,7 +34,7 @@ pub(crate) fn keep_more(
     given: &mut u64,
     last: &mut Option<Result<(), InputFault>>,
 ) -> Result<bool, InputFault>
-    requires { answer ≡ Ok true → given.old + 1 ≤ 2 ^ 60 }
+    requires { answer ≡ Ok true → given.old + 1 ≤ text_limit }
     ensures same { result ≡ answer }
     ensures pair { answer ≡ Ok true → (given.new ≡ given.old + 1) × (last.new ≡ last.old) }
     ensures end { answer ≡ Ok false → (given.new ≡ given.old) × (last.new ≡ Some (Ok tt)) }

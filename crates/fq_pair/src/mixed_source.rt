@@ -2,6 +2,7 @@
 
 ghost use Rattle.std.specs.Prelude.{◌≡◌, ◌↔◌, ℕ, ◌+◌, ◌*◌, ◌≤◌, ◌^◌, true, false, Some, None, Ok, IfOk, IfErr, IfSome, IsSome, IsTrue, MatchOption, is_some};
 ghost use Rattle.std.specs.Option.{IsSomeAnd};
+ghost use Rattle.fq_text.specs.Reading.{text_limit};
 ghost use Rattle.fq_text.specs.Sources.{KeepsCount};
 ghost use Rattle.fq_pair.specs.PairSources.{IsBounded, pair_of, HasNames};
 ghost use Rattle.fq_pair.specs.MixedSources.{asked, stopped, GivesPair, EndsPairs, StopsPairs, failed_in, IsReady};
@@ -37,6 +38,7 @@ pub struct MixedSource<F: Feed> {
 
 impl<F: Feed> Model for MixedSource<F> {
     ghost use Rattle.std.specs.Prelude.{◌≡◌, ◌*◌, ◌≤◌, ◌^◌, Some, None, is_some};
+    ghost use Rattle.fq_text.specs.Reading.{text_limit};
     ghost use Rattle.fq_pair.specs.PairSources.{IsBounded, pair_of, HasNames};
     ghost use Rattle.fq_pair.specs.MixedSources.{MixedSourced, IsReady};
 
@@ -52,7 +54,7 @@ impl<F: Feed> Model for MixedSource<F> {
 
     ghost invariant = { λ s. IsBounded s.source
         × (2 * s.given ≤ s.source.given)
-        × (s.given ≤ 2 ^ 60)
+        × (s.given ≤ text_limit)
         × (s.last ≡ None → IsReady s.source s.given)
         × HasNames s.names (pair_of (is_some s.names) (Some s.forward) s.source.current) };
 }
@@ -209,7 +211,7 @@ fn read_mates<F: Feed>(
 ) -> Result<Option<Pair>, InputFault>
     requires ready { IsReady source.old given }
     requires bound { IsBounded source.old }
-    requires fits { given ≤ 2 ^ 60 }
+    requires fits { given ≤ text_limit }
     ensures found { IfOk result (λ o. IfSome o
         (GivesPair F.state (asked source.old forward.old check_names given (is_some names.old))
         (asked source.new forward.new check_names (given + 1) false))) }
@@ -226,7 +228,7 @@ fn read_mates<F: Feed>(
     ensures bounded { IsBounded source.new }
     ensures pairs_bound { 2 * given ≤ source.new.given }
     ensures few { IfOk result
-        (λ o. IfSome o (λ pair. (given + 1 ≤ 2 ^ 60) × (2 * (given + 1) ≤ source.new.given))) }
+        (λ o. IfSome o (λ pair. (given + 1 ≤ text_limit) × (2 * (given + 1) ≤ source.new.given))) }
 {
     *names = None;
     let number = given + 1;
@@ -255,7 +257,7 @@ fn advance_mates<F: Feed>(
 ) -> Result<bool, InputFault>
     requires ready { IsReady source.old given }
     requires bound { IsBounded source.old }
-    requires fits { given ≤ 2 ^ 60 }
+    requires fits { given ≤ text_limit }
     ensures found { result ≡ Ok true →
         IsSomeAnd (pair_of true (Some forward.new) source.new.current)
         (GivesPair F.state (asked source.old forward.old check_names given (is_some names.old))
@@ -274,7 +276,7 @@ fn advance_mates<F: Feed>(
     ensures count { KeepsCount F.state source.old source.new }
     ensures bounded { IsBounded source.new }
     ensures pairs_bound { 2 * given ≤ source.new.given }
-    ensures few { result ≡ Ok true → (given + 1 ≤ 2 ^ 60) × (2 * (given + 1) ≤ source.new.given) }
+    ensures few { result ≡ Ok true → (given + 1 ≤ text_limit) × (2 * (given + 1) ≤ source.new.given) }
 {
     *names = None;
     match source.next_into(forward) {

@@ -2,6 +2,7 @@
 
 ghost use Rattle.std.specs.Prelude.{◌≡◌, ◌↔◌, ℕ, suc, ◌+◌, ◌*◌, ◌≤◌, ◌^◌, true, false, Some, None, Ok, IfOk, IfErr, IfSome, IsSome, IsTrue, MatchOption, is_some};
 ghost use Rattle.std.specs.Option.{IsSomeAnd};
+ghost use Rattle.fq_text.specs.Reading.{text_limit};
 ghost use Rattle.fq_text.specs.Sources.{KeepsCount};
 ghost use Rattle.fq_pair.specs.PairSources.{pair_of, asked, stopped, GivesPair, EndsPairs, StopsPairs, failed_on, IsBounded, IsReady, HasNames};
 ghost use Rattle.fq_pair.specs.declared.side.Side.TheVariants.{Forward, Reverse};
@@ -34,6 +35,7 @@ pub struct PairSource<F: Feed, G: Feed> {
 
 impl<F: Feed, G: Feed> Model for PairSource<F, G> {
     ghost use Rattle.std.specs.Prelude.{◌≡◌, ◌≤◌, ◌^◌, None, is_some};
+    ghost use Rattle.fq_text.specs.Reading.{text_limit};
     ghost use Rattle.fq_pair.specs.PairSources.{PairSourced, pair_of, IsBounded, IsReady, HasNames};
 
     ghost Value = { PairSourced F G };
@@ -52,7 +54,7 @@ impl<F: Feed, G: Feed> Model for PairSource<F, G> {
         × IsBounded s.reverse
         × (s.given ≤ s.forward.given)
         × (s.given ≤ s.reverse.given)
-        × (s.given ≤ 2 ^ 60)
+        × (s.given ≤ text_limit)
         × (s.last ≡ None → IsReady s.forward s.reverse s.given)
         × HasNames s.names (pair_of (is_some s.names) s.forward.current s.reverse.current) };
 }
@@ -234,7 +236,7 @@ fn read_mates<F: Feed, G: Feed>(
     requires ready { IsReady forward.old reverse.old given }
     requires forward_bound { IsBounded forward.old }
     requires reverse_bound { IsBounded reverse.old }
-    requires fits { given ≤ 2 ^ 60 }
+    requires fits { given ≤ text_limit }
     ensures found { IfOk result (λ o. IfSome o
         (GivesPair F.state G.state
         (asked forward.old reverse.old check_names given (is_some names.old))
@@ -257,7 +259,7 @@ fn read_mates<F: Feed, G: Feed>(
     ensures forward_bounded { IsBounded forward.new }
     ensures reverse_bounded { IsBounded reverse.new }
     ensures pairs_bound { (given ≤ forward.new.given) × (given ≤ reverse.new.given) }
-    ensures few { IfOk result (λ o. IfSome o (λ pair. given + 1 ≤ 2 ^ 60)) }
+    ensures few { IfOk result (λ o. IfSome o (λ pair. given + 1 ≤ text_limit)) }
 {
     *names = None;
     let number = given + 1;
@@ -288,7 +290,7 @@ fn advance_mates<F: Feed, G: Feed>(
     requires ready { IsReady forward.old reverse.old given }
     requires forward_bound { IsBounded forward.old }
     requires reverse_bound { IsBounded reverse.old }
-    requires fits { given ≤ 2 ^ 60 }
+    requires fits { given ≤ text_limit }
     ensures found { result ≡ Ok true →
         IsSomeAnd (pair_of true forward.new.current reverse.new.current)
         (GivesPair F.state G.state
@@ -314,7 +316,7 @@ fn advance_mates<F: Feed, G: Feed>(
     ensures forward_bounded { IsBounded forward.new }
     ensures reverse_bounded { IsBounded reverse.new }
     ensures pairs_bound { (given ≤ forward.new.given) × (given ≤ reverse.new.given) }
-    ensures few { result ≡ Ok true → given + 1 ≤ 2 ^ 60 }
+    ensures few { result ≡ Ok true → given + 1 ≤ text_limit }
 {
     *names = None;
     match forward.advance() {

@@ -1,6 +1,6 @@
 -- A run on several threads: what is ready before its threads start, how it is concluded, and what
 -- it guarantees.
-use Rattle.std.specs.Prelude.{◌≡◌, ◌≤◌, ◌<◌, ℕ, IsTrue, ◌↔◌, List, [], length, vec_len, vec_capacity}
+use Rattle.std.specs.Prelude.{◌≡◌, ◌≢◌, ◌≤◌, ◌<◌, ℕ, IsTrue, ◌↔◌, List, [], length, vec_len, vec_capacity}
 use Rattle.std.specs.Prelude.{Option, Some, None, IfSome, IsSome, Result, IsOkAnd}
 use Rattle.std.specs.List.{AllZip}
 use Rattle.std.specs.Option.{option_map}
@@ -117,4 +117,4 @@ pub record IsThreaded (c : Choices) (run : Run) (unended : Option NotEnded) : Ty
   pub together : (run.forward_left ≡ None) ↔ (run.reverse_left ≡ None)
   pub untouched : run.outcome ≡ outcome.Spawn → IsUntouched run
   pub whole : IsTrue (ends_whole run.outcome) → AreTold run → IsTrimmed c run
-  pub every : (run.outcome ≡ outcome.Lane → ⊥) → EveryEnding c run
+  pub every : run.outcome ≢ outcome.Lane → EveryEnding c run

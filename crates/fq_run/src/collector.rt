@@ -1,6 +1,6 @@
 //! The part of a threaded run that writes.
 
-ghost use Rattle.std.specs.Prelude.{◌≡◌, ◌+◌, ◌<◌, [], None, Bool, IsTrue, is_some, min, if◌then◌else◌, vec_len};
+ghost use Rattle.std.specs.Prelude.{◌≡◌, ◌≢◌, ◌+◌, ◌<◌, [], None, Bool, IsTrue, is_some, min, if◌then◌else◌, vec_len};
 ghost use Rattle.fq_run.specs.collector.Collecting.{Collects, TookAll, before_stop, failed_in};
 ghost use Rattle.fq_run.specs.Shares.{gather};
 ghost use Rattle.fq_serial.specs.Totals.{no_total};
@@ -64,7 +64,7 @@ pub(crate) fn collect<R: Wait, O: Outlet>(
     ensures collects { Collects (is_some total.tally) (vec_len replies)
         (outlet_states O.state outlets.old) (outlet_states O.state outlets.new) result }
     ensures names { names_of result.replies.items ≡ names_of replies.items }
-    ensures over { (result.phase ≡ Phase.Writing → ⊥) × AllClosed result.replies.items }
+    ensures over { (result.phase ≢ Phase.Writing) × AllClosed result.replies.items }
     // If no write failed, the outlets have the texts of the replies, gathered in turn, before the
     // first stop.
     ensures written { failed_in result.phase ≡ None
@@ -110,7 +110,7 @@ impl Collector {
         ensures collects { Collects (is_some self.old.total.tally) (vec_len self.old.replies)
             (outlet_states O.state outlets.old) (outlet_states O.state outlets.new) self.new }
         ensures names { names_of self.new.replies.items ≡ names_of self.old.replies.items }
-        ensures over { self.new.phase ≡ Phase.Writing → ⊥ }
+        ensures over { self.new.phase ≢ Phase.Writing }
         ensures hears { HearsAll self.old → HearsAll self.new }
     {
         for _ in rt.forever() {
@@ -160,7 +160,7 @@ impl Collector {
     // It never waits for one lane alone: the worker of that lane may need a block that the dealer
     // can't send while the lane of another worker is full.
     fn drain<R: Wait>(&mut self, rt: &R)
-        requires over { self.old.phase ≡ Phase.Writing → ⊥ }
+        requires over { self.old.phase ≢ Phase.Writing }
         ensures drains { Drains self.old self.new }
         ensures closed { AllClosed self.new.replies.items }
     {
@@ -182,7 +182,7 @@ impl Collector {
 
     // Takes from each lane once. Returns false if nothing had come.
     fn drain_round(&mut self) -> bool
-        requires over { self.old.phase ≡ Phase.Writing → ⊥ }
+        requires over { self.old.phase ≢ Phase.Writing }
         ensures drains { Drains self.old self.new }
     {
         let mut found = false;
@@ -196,7 +196,7 @@ impl Collector {
 
     // Takes from one lane. Returns false if nothing had come.
     fn drain_lane(&mut self, at: usize) -> bool
-        requires over { self.old.phase ≡ Phase.Writing → ⊥ }
+        requires over { self.old.phase ≢ Phase.Writing }
         requires within { at < vec_len self.old.replies }
         ensures drains { Drains self.old self.new }
     {

@@ -1,6 +1,6 @@
 //! The thread of a run that reads.
 
-ghost use Rattle.std.specs.Prelude.{◌≡◌, ◌≤◌, ◌<◌, true, None, [], length, vec_len, vec_capacity};
+ghost use Rattle.std.specs.Prelude.{◌≡◌, ◌≢◌, ◌≤◌, ◌<◌, true, None, [], length, vec_len, vec_capacity};
 ghost use Rattle.std.specs.List.{AllZip};
 ghost use Rattle.fq_run.specs.dealer.DealingOut.{MayDeal, DealsOut};
 ghost use Rattle.fq_run.specs.dealer.Dealt.{CanDeal, HasDealt, Closed};
@@ -87,7 +87,7 @@ fn deal_from<R: Wait, S: PairReader>(
         (vec_len to.old) (vec_len blocks_back.old) to.old.items }
     ensures name { start.new.name ≡ start.old.name }
     ensures closed { start.new.marked ≡ true }
-    ensures started { 0 < length start.new.items → result ≡ None → ⊥ }
+    ensures started { 0 < length start.new.items → result ≢ None }
     ensures idle { start.new.items ≡ []
         → (result ≡ None) × (source.new ≡ source.old) × (to.new ≡ to.old) }
     ensures deals { DealsOut settings.now (S.state source.old)

@@ -1,6 +1,6 @@
 //! A run on several threads, over one interleaved input.
 
-ghost use Rattle.std.specs.Prelude.{◌≡◌, None, IsTrue, IsSome};
+ghost use Rattle.std.specs.Prelude.{◌≡◌, ◌≢◌, None, IsTrue, IsSome};
 ghost use Rattle.std.specs.Option.{option_map};
 ghost use Rattle.fq_serial.specs.Devices.{outlet_states, AreHealthy};
 ghost use Rattle.fq_serial.specs.Endings.{interleaved_run_of, AreTold, ends_whole, IsTrimmed, IsUntouched, EveryEnding};
@@ -51,7 +51,7 @@ pub fn run_threads_mixed<
         IsTrue (ends_whole run.outcome) → AreTold run → IsTrimmed settings.now run }
     // Unless a lane couldn't be confirmed, the outlets have the texts of the first pairs, and
     // besides at most a part of the block in which a write failed.
-    ensures every { (result.outcome ≡ Outcome.Lane → ⊥) → EveryEnding settings.now
+    ensures every { result.outcome ≢ Outcome.Lane → EveryEnding settings.now
         (interleaved_run_of F.state (outlet_states O.state) feed outlets.old outlets.new result) }
 {
     begin(alloc, rt, settings, &gate, feed, outlets)

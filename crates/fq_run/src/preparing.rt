@@ -1,6 +1,7 @@
 //! Allocates what a threaded run needs before its threads start.
 
 ghost use Rattle.std.specs.Prelude.{◌≡◌, ◌≤◌, ◌*◌, ◌^◌, IfOk, IfErr};
+ghost use Rattle.fq_text.specs.Reading.{text_limit};
 ghost use Rattle.fq_pair.specs.Forms.{TwoTexts, InterleavedText};
 ghost use Rattle.fq_run.specs.Threads.{IsReady};
 ghost use Rattle.fq_pair.specs.Walks.{source_state, interleaved_state};
@@ -30,7 +31,7 @@ pub(crate) fn prepare<F: Feed, G: Feed>(
     ensures source { IfOk result (λ made. source_state F.state G.state made.0.source
         ≡ fresh_source TwoTexts settings.now (F.state forward) (G.state reverse)) }
     ensures few { IfOk result (λ made.
-        made.0.source.forward.max_reads * made.0.source.forward.chunk ≤ 2 ^ 60) }
+        made.0.source.forward.max_reads * made.0.source.forward.chunk ≤ text_limit) }
     ensures err { IfErr result (λ feeds. (feeds.0 ≡ forward) × (feeds.1 ≡ reverse)) }
 {
     let Ok(lanes) = Lanes::new(alloc, settings) else {
@@ -55,7 +56,7 @@ pub(crate) fn prepare_interleaved<F: Feed>(
     ensures source { IfOk result (λ made. interleaved_state F.state made.0.source
         ≡ fresh_source InterleavedText settings.now (F.state feed) (F.state feed)) }
     ensures few { IfOk result (λ made.
-        made.0.source.source.max_reads * made.0.source.source.chunk ≤ 2 ^ 60) }
+        made.0.source.source.max_reads * made.0.source.source.chunk ≤ text_limit) }
     ensures err { IfErr result (λ back. back ≡ feed) }
 {
     let Ok(lanes) = Lanes::new(alloc, settings) else {

@@ -1,6 +1,7 @@
 //! Starts the threads of a run over any source of pairs, and waits for them.
 
 ghost use Rattle.std.specs.Prelude.{◌≡◌, ◌≤◌, ◌^◌, true, IfOk, vec_len};
+ghost use Rattle.fq_text.specs.Reading.{text_limit};
 ghost use Rattle.fq_run.specs.Confirming.{CanConfirm};
 ghost use Rattle.fq_serial.specs.Totals.{no_total};
 ghost use Rattle.fq_serial.specs.Devices.{outlet_states, AreHealthy};
@@ -44,7 +45,7 @@ pub(crate) fn start<
     requires ready { IsReady settings.now.workers dealer ready }
     requires total { ready.total ≡ no_total settings.now.tallied }
     requires fresh { IsFresh settings.now (S.state dealer.source) }
-    requires few { (S.state dealer.source).most_bytes ≤ 2 ^ 60 }
+    requires few { (S.state dealer.source).most_bytes ≤ text_limit }
     requires outlets { AreHealthy (outlet_states O.state outlets.old) }
     ensures { IsThreaded settings.now (run_from S.state (S.state dealer.source)
         (outlet_states O.state outlets.old) (outlet_states O.state outlets.new) result)

@@ -1,5 +1,5 @@
 -- How the blocks of a run are read and written.
-use Rattle.std.specs.Prelude.{◌≡◌, ◌⊎◌, Bool, true, false, ◌||◌, Option, Some, None, List, [], ◌++◌}
+use Rattle.std.specs.Prelude.{◌≡◌, ◌≢◌, ◌⊎◌, Bool, true, false, ◌||◌, Option, Some, None, List, [], ◌++◌}
 use Rattle.fq_pair.specs.declared.out.Out.{Out}
 use Rattle.fq_pair.specs.declared.fault.InputFault.{InputFault}
 use Rattle.fq_pair.specs.Mates.{Mates}
@@ -55,7 +55,7 @@ pub record Passes (c : Choices) (old new : SourceState) (before after : OutletSt
       (failed_outlet fate)
   pub failed : broken ≡ failed_outlet fate
   pub cut_short : IsCutShort c.block_pairs c.steps fate
-  pub over : why ≡ None → broken ≡ None → ⊥
+  pub over : why ≡ None → broken ≢ None
   pub unflushed : is_flush fate ≡ false
   pub missed_none : halt ≡ no_halt → broken ≡ None → missed ≡ []
 

@@ -1,6 +1,7 @@
 //! Opens the sources of the pairs of a run.
 
 ghost use Rattle.std.specs.Prelude.{◌≡◌, ◌≤◌, ◌*◌, ◌^◌, [], false, None, IfOk, IfErr};
+ghost use Rattle.fq_text.specs.Reading.{text_limit};
 ghost use Rattle.fq_pair.specs.Forms.{TwoTexts, InterleavedText};
 ghost use Rattle.fq_pair.specs.Walks.{source_state, interleaved_state};
 ghost use Rattle.fq_serial.specs.PairsRead.{fresh_source};
@@ -25,7 +26,7 @@ fn source_of<F: Feed>(alloc: Global, settings: &Settings, feed: F) -> Result<Sou
       last = None;
       current = None;
     }) }
-    ensures few { IfOk result (λ source. source.max_reads * source.chunk ≤ 2 ^ 60) }
+    ensures few { IfOk result (λ source. source.max_reads * source.chunk ≤ text_limit) }
     ensures err { IfErr result (λ back. back ≡ feed) }
 {
     let encoding = settings.encoding();
@@ -45,7 +46,7 @@ pub fn open<F: Feed, G: Feed>(
     requires reverse { (G.state reverse).failures ≡ 0 }
     ensures ok { IfOk result (λ source. source_state F.state G.state source
         ≡ fresh_source TwoTexts settings.now (F.state forward) (G.state reverse)) }
-    ensures few { IfOk result (λ source. source.forward.max_reads * source.forward.chunk ≤ 2 ^ 60) }
+    ensures few { IfOk result (λ source. source.forward.max_reads * source.forward.chunk ≤ text_limit) }
     ensures err { IfErr result (λ feeds. (feeds.0 ≡ forward) × (feeds.1 ≡ reverse)) }
 {
     let forward = match source_of(alloc, settings, forward) {
@@ -67,7 +68,7 @@ pub fn open_interleaved<F: Feed>(
     requires { (F.state feed).failures ≡ 0 }
     ensures ok { IfOk result (λ source. interleaved_state F.state source
         ≡ fresh_source InterleavedText settings.now (F.state feed) (F.state feed)) }
-    ensures few { IfOk result (λ source. source.source.max_reads * source.source.chunk ≤ 2 ^ 60) }
+    ensures few { IfOk result (λ source. source.source.max_reads * source.source.chunk ≤ text_limit) }
     ensures err { IfErr result (λ back. back ≡ feed) }
 {
     match source_of(alloc, settings, feed) {

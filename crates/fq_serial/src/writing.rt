@@ -1,6 +1,7 @@
 //! Reads and writes the blocks of a run on one thread.
 
 ghost use Rattle.std.specs.Prelude.{◌≡◌, ◌≤◌, ◌^◌, false, Some, None, is_some, OnOk, OnErr};
+ghost use Rattle.fq_text.specs.Reading.{text_limit};
 ghost use Rattle.fq_pair.specs.Walks.{GoesOn};
 ghost use Rattle.fq_serial.specs.Devices.{outlet_states, AreHealthy};
 ghost use Rattle.fq_serial.specs.Gathering.{Gathers};
@@ -30,7 +31,7 @@ pub(crate) fn write_blocks<S: PairReader, O: Outlet>(
 ) -> Written
     requires goes { GoesOn (S.state source.old) }
     requires fresh { (S.state source.old).forward.given ≡ 0 }
-    requires few { (S.state source.old).most_bytes ≤ 2 ^ 60 }
+    requires few { (S.state source.old).most_bytes ≤ text_limit }
     requires outlets { AreHealthy (outlet_states O.state outlets.old) }
     ensures { Passes settings.now (S.state source.old)
         (S.state source.new)
@@ -52,7 +53,7 @@ fn write_counted<S: PairReader, O: Outlet>(
 )
     requires goes { GoesOn (S.state source.old) }
     requires fresh { (S.state source.old).forward.given ≡ 0 }
-    requires few { (S.state source.old).most_bytes ≤ 2 ^ 60 }
+    requires few { (S.state source.old).most_bytes ≤ text_limit }
     requires outlets { AreHealthy (outlet_states O.state outlets.old) }
     requires nothing { written.old
         ≡ record { total = no_total false; why = Some ReadingEnd.Memory; failed = None } }
@@ -76,7 +77,7 @@ fn write_with<S: PairReader, O: Outlet>(
 )
     requires goes { GoesOn (S.state source.old) }
     requires fresh { (S.state source.old).forward.given ≡ 0 }
-    requires few { (S.state source.old).most_bytes ≤ 2 ^ 60 }
+    requires few { (S.state source.old).most_bytes ≤ text_limit }
     requires outlets { AreHealthy (outlet_states O.state outlets.old) }
     requires nothing { written.old
         ≡ record { total = no_total false; why = Some ReadingEnd.Memory; failed = None } }
@@ -115,7 +116,7 @@ fn write_each<S: PairReader, O: Outlet>(
 ) -> (Option<ReadingEnd>, Option<Out>)
     requires goes { GoesOn (S.state source.old) }
     requires fresh { (S.state source.old).forward.given ≡ 0 }
-    requires few { (S.state source.old).most_bytes ≤ 2 ^ 60 }
+    requires few { (S.state source.old).most_bytes ≤ text_limit }
     requires outlets { AreHealthy (outlet_states O.state outlets.old) }
     requires none { total.old ≡ no_total settings.now.tallied }
     requires asked { is_some done.old.tally ≡ settings.now.tallied }

@@ -1,6 +1,6 @@
 -- What a list of lines begins with after some of them have been read, and what each step of the
 -- reader does.
-use Rattle.std.specs.Prelude.{◌≡◌, ℕ, ◌-◌, ◌<◌, ◌≤◌, Bool, true, false, IsTrue, Option, Some, None, List, [], ◌∷◌, ◌++◌, length, drop}
+use Rattle.std.specs.Prelude.{◌≡◌, ◌≢◌, ℕ, ◌-◌, ◌<◌, ◌≤◌, Bool, true, false, IsTrue, Option, Some, None, List, [], ◌∷◌, ◌++◌, length, drop}
 use Rattle.std.specs.List.{concat}
 use Rattle.std.specs.Option.{option_map}
 use Rattle.fq_text.specs.Devices.{FeedState}
@@ -72,7 +72,7 @@ pub record Waits {F : Type 0} (state : F → FeedState) (old new : Lined F)
   pub whole : is_whole used ≡ true
   pub going : new.ended ≡ false
   pub no_line : NoLf new.in_hand (length new.in_hand)
-  pub answer : (read : Read) (ls : List (List ℕ)) → S (lines used) ≡ Found read ls → ⊥
+  pub answer : (read : Read) (ls : List (List ℕ)) → S (lines used) ≢ Found read ls
 
 -- it is not known what comes next
 pub record Fails {F : Type 0} (state : F → FeedState) (old new : Lined F) : Type 0 where

@@ -1,5 +1,5 @@
 -- A reader of lines, and what its calls do.
-use Rattle.std.specs.Prelude.{◌≡◌, ℕ, ◌+◌, ◌-◌, ◌*◌, ◌<◌, ◌≤◌, ◌⊎◌, Bool, true, false, Result, Option, Some, None, List, [], ◌∷◌, ◌++◌, length, IsTrue, slice_index}
+use Rattle.std.specs.Prelude.{◌≡◌, ◌≢◌, ℕ, ◌+◌, ◌-◌, ◌*◌, ◌^◌, ◌<◌, ◌≤◌, ◌⊎◌, Bool, true, false, Result, Option, Some, None, List, [], ◌∷◌, ◌++◌, length, IsTrue, slice_index}
 use Rattle.std.specs.declared.result.Result.TheVariants as res
 use Rattle.fq_text.specs.Devices.{FeedState}
 use Rattle.fq_text.specs.Lines.{line_feed, lines, is_whole}
@@ -7,6 +7,10 @@ use Rattle.fq_text.specs.Grammar.{limit}
 use Rattle.fq_text.specs.declared.fault.Fault.TheVariants as fault
 use Rattle.fq_text.specs.declared.fault.ReadError.{ReadError}
 use Rattle.fq_text.specs.declared.fault.ReadError.TheVariants as error
+
+-- the most bytes that a feed gives: 2^40 read calls of 2^20 bytes each
+abbrev pub text_limit : ℕ
+text_limit = 2 ^ 60
 
 -- the line that was taken last, and the bytes after it that are in hand: read and not used yet
 pub record Buffered : Type 0 where
@@ -30,7 +34,7 @@ rest_of state r = r.in_hand ++ (state r.feed).to_come
 
 -- no LF is at an index below n
 abbrev pub NoLf : List ℕ → ℕ → Type 0
-NoLf xs n = (k : ℕ) → k < n → slice_index xs k ≡ line_feed → ⊥
+NoLf xs n = (k : ℕ) → k < n → slice_index xs k ≢ line_feed
 
 -- the index of the first LF, if there is one
 abbrev pub IsLineEnd : List ℕ → Option ℕ → Type 0

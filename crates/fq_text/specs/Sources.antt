@@ -1,5 +1,5 @@
 -- A source of records, and what its calls return.
-use Rattle.std.specs.Prelude.{◌≡◌, ℕ, ◌+◌, ◌-◌, ◌<◌, ◌≤◌, ◌⊎◌, Bool, true, false, IsTrue, Option, Some, None, Result, List, [], ◌++◌, length, take}
+use Rattle.std.specs.Prelude.{◌≡◌, ◌≢◌, ℕ, ◌+◌, ◌-◌, ◌<◌, ◌≤◌, ◌⊎◌, Bool, true, false, IsTrue, Option, Some, None, Result, List, [], ◌++◌, length, take}
 use Rattle.std.specs.declared.result.Result.TheVariants as res
 use Rattle.fq_text.specs.Devices.{FeedState}
 use Rattle.fq_text.specs.declared.encoding.Encoding.{Encoding}
@@ -112,7 +112,7 @@ pub record EndsText {F : Type 0} (state : F → FeedState) (old new : Sourced F)
 -- no complete record was read
 abbrev pub LacksRecord : {F : Type 0} → (F → FeedState) → Sourced F → Sourced F → Type 0
 LacksRecord state old new = IsTrue (state old.feed).tells → (read : Read) (ls : List (List ℕ)) →
-    front old.encoding (lines (whole_part (held state old new))) ≡ Found read ls → ⊥
+    front old.encoding (lines (whole_part (held state old new))) ≢ Found read ls
 
 abbrev pub FaultIs : Front → ℕ → TextFault → Type 0
 FaultIs front k (text.NoTitle n) = (front ≡ Faulty fault.NoTitle) × (n ≡ k)

@@ -71,6 +71,7 @@ impl<F: Feed> Model for Source<F> {
 }
 
 impl<F: Feed> Source<F> {
+    ghost use Rattle.fq_text.specs.Reading.{text_limit};
     ghost use Rattle.fq_text.specs.Grammar.{IsLawful};
     ghost use Rattle.fq_text.specs.declared.fault.TextFault.TheVariants.{OutOfMemory};
     ghost use Rattle.fq_text.specs.Sources.{Sourced, answer_of, more_of, KeepsCount, GivesRecord, EndsText, StopsText, failed_in};
@@ -172,7 +173,7 @@ impl<F: Feed> Source<F> {
         ensures count { KeepsCount F.state self.old self.new }
         ensures bound { self.new.given ≤ self.new.taken }
         ensures limit { self.new.taken ≤ self.new.max_reads * self.new.chunk }
-        ensures fits { self.new.taken ≤ 2 ^ 60 }
+        ensures fits { self.new.taken ≤ text_limit }
     {
         match self.last {
             Some(Ok(())) => Ok(false),
@@ -213,7 +214,7 @@ impl<F: Feed> Source<F> {
         ensures count { KeepsCount F.state self.old self.new }
         ensures bound { self.new.given ≤ self.new.taken }
         ensures limit { self.new.taken ≤ self.new.max_reads * self.new.chunk }
-        ensures fits { self.new.taken ≤ 2 ^ 60 }
+        ensures fits { self.new.taken ≤ text_limit }
     {
         let mut copy = self.empty_record();
         match self.next_into(&mut copy) {
@@ -248,7 +249,7 @@ impl<F: Feed> Source<F> {
         ensures count { KeepsCount F.state self.old self.new }
         ensures bound { self.new.given ≤ self.new.taken }
         ensures limit { self.new.taken ≤ self.new.max_reads * self.new.chunk }
-        ensures fits { self.new.taken ≤ 2 ^ 60 }
+        ensures fits { self.new.taken ≤ text_limit }
     {
         match self.advance() {
             Ok(true) => self.copied_into(copy),
@@ -294,7 +295,7 @@ impl<F: Feed> Source<F> {
         ensures count { KeepsCount F.state self.old self.new }
         ensures bound { self.new.given ≤ self.new.taken }
         ensures limit { self.new.taken ≤ self.new.max_reads * self.new.chunk }
-        ensures fits { self.new.taken ≤ 2 ^ 60 }
+        ensures fits { self.new.taken ≤ text_limit }
     {
         // No record is in hand while the next is read, which is guessed to have as many bases.
         let guess = match self.place.take() {

@@ -1,6 +1,7 @@
 -- The blocks of all pairs, dealt out to the lanes of the workers.
 use Rattle.std.specs.Prelude.{◌≡◌, ℕ, suc, ◌+◌, ◌<◌, ◌≤◌, ◌^◌, Option, Some}
 use Rattle.std.specs.Prelude.{List, [], ◌∷◌, map, length, slice_index_or, slice_set}
+use Rattle.fq_text.specs.Reading.{text_limit}
 use Rattle.fq_text.specs.declared.encoding.Encoding.{Encoding}
 use Rattle.fq_lane.specs.History.{History, with_item}
 use Rattle.fq_block.specs.Blocks.{Numbered}
@@ -34,7 +35,7 @@ pub record MayDeal (c : Choices) (s : SourceState) (w ways : ℕ)
   pub goes : GoesOn s
   pub fresh : s.forward.given ≡ 0
   pub encoding : s.encoding ≡ c.encoding
-  pub few : s.most_bytes ≤ 2 ^ 60
+  pub few : s.most_bytes ≤ text_limit
 
 -- pairs were read from a source until reading stopped, and their blocks were dealt out to lanes,
 -- which are still open; if memory was refused, the source gave one more pair, which is lost
@@ -44,7 +45,7 @@ pub record DealsOut (c : Choices) (old new : SourceState) (to sent : List (Histo
   pub blocks : List Numbered
   pub reads : Reads old new mates why
   pub lost : why ≡ Some reading.Memory → new.given ≡ old.given + length mates + 1
-  pub few : length mates ≤ 2 ^ 60
+  pub few : length mates ≤ text_limit
   pub cut : AreBlocks c mates blocks
   pub dealt : IsDealt (length to) blocks sent
   pub names : names_of sent ≡ names_of to

@@ -1,6 +1,6 @@
 -- What a dealer needs, and what it does: it reads pairs, deals out their blocks, and closes its
 -- lanes.
-use Rattle.std.specs.Prelude.{◌≡◌, ◌≤◌, ◌<◌, true, Option, None, Result, IfOk, List, [], length, vec_len, vec_capacity}
+use Rattle.std.specs.Prelude.{◌≡◌, ◌≢◌, ◌≤◌, ◌<◌, true, Option, None, Result, IfOk, List, [], length, vec_len, vec_capacity}
 use Rattle.std.specs.List.{AllZip}
 use Rattle.fq_lane.specs.History.{History, with_mark}
 use Rattle.fq_lane.specs.declared.tx.NotEnded.{NotEnded}
@@ -34,6 +34,6 @@ pub record HasDealt (c : Choices) (old new : SourceState)
     (closings : List (Result (History Numbered) NotEnded)) (why : Option ReadingEnd) : Type 0 where
   pub name : start_left.name ≡ start.name
   pub closed : start_left.marked ≡ true
-  pub started : 0 < length start_left.items → why ≡ None → ⊥
+  pub started : 0 < length start_left.items → why ≢ None
   pub deals : Deals c old new to closings why
   pub idle : start_left.items ≡ [] → (why ≡ None) × (new ≡ old) × (deals.sent ≡ to)
