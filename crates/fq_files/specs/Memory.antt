@@ -11,3 +11,7 @@ bytes_in files name = option_map (λ bytes. bytes.items) (get_by_text files.held
 -- a failure counts for every name
 abbrev pub failed_in : MemoryFiles → List ℕ → Bool
 failed_in files name = files.has_failed
+
+-- and so does a target that was not flushed
+abbrev pub unflushed_in : MemoryFiles → List ℕ → Bool
+unflushed_in files name = files.has_unflushed

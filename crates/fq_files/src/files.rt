@@ -35,9 +35,10 @@ impl From<OutOfMemory> for FileFault {
 /// ([`SystemFiles`](crate::SystemFiles)). The contracts speak of bytes, and of names that are held,
 /// only if the bytes are known. No call changes another name's bytes, or removes a name.
 ///
-/// The contracts also say which names may be refused as outputs, and for which names a device has
-/// failed. A device is a feed or an outlet; its failures are known once it is handed back, by
-/// [`source_done`](Files::source_done) or [`done`](Files::done).
+/// The contracts also say which names may be refused as outputs, for which names a device has
+/// failed, and for which a target was not flushed. A device is a feed or an outlet; its failures
+/// are known once it is handed back, by [`source_done`](Files::source_done) or
+/// [`done`](Files::done).
 pub trait Files {
     /// The feed that a file is read from.
     type In: Feed + Send + Drop + 'static;
@@ -59,6 +60,10 @@ pub trait Files {
     /// failure nothing counts.
     ghost has_failed: { Self → List ℕ → Bool };
 
+    /// Whether a target of this name was handed back that was not flushed after its last write. It
+    /// may count for other names too; without such a target nothing counts.
+    ghost is_unflushed: { Self → List ℕ → Bool };
+
     /// Opens a feed of the file's bytes, which has not failed. No file changes. If the bytes are
     /// known to the proof, only a name that is not held is refused.
     fn source(&mut self, name: &str) -> Result<Self::In, FileFault>
@@ -73,7 +78,8 @@ pub trait Files {
             → IsUnchanged (bytes_of self.old) (bytes_of self.new) }
         ensures told { tells_bytes self.new ≡ tells_bytes self.old }
         ensures refusing { refuses self.new ≡ refuses self.old }
-        ensures failed { has_failed self.new ≡ has_failed self.old };
+        ensures failed { has_failed self.new ≡ has_failed self.old }
+        ensures flushed { is_unflushed self.new ≡ is_unflushed self.old };
 
     /// Hands a feed back: if it failed, a device of this name has failed. No file changes. The name
     /// must be held, as it is once [`source`](Files::source) has returned `Ok` for it.
@@ -87,7 +93,8 @@ pub trait Files {
         ensures sound { (Self.In.state feed).failures ≡ 0
             → has_failed self.new ≡ has_failed self.old }
         ensures still { (other : List ℕ) → IsTrue (has_failed self.old other)
-            → IsTrue (has_failed self.new other) };
+            → IsTrue (has_failed self.new other) }
+        ensures flushed { is_unflushed self.new ≡ is_unflushed self.old };
 
     /// Whether this name leads to a file that was opened as an input, even under another name (such
     /// as a link). Nothing changes.
@@ -113,6 +120,7 @@ pub trait Files {
         ensures told { tells_bytes self.new ≡ tells_bytes self.old }
         ensures refusing { refuses self.new ≡ refuses self.old }
         ensures failed { has_failed self.new ≡ has_failed self.old }
+        ensures flushed { is_unflushed self.new ≡ is_unflushed self.old }
     {}
 
     /// Opens an outlet to the file, which is created, or emptied if it exists. The outlet has taken
@@ -136,7 +144,8 @@ pub trait Files {
         ensures told { tells_bytes self.new ≡ tells_bytes self.old }
         ensures rightly { result ≡ Err FileFault.Refused → IsTrue (refuses self.old name.now) }
         ensures refusing { refuses self.new ≡ refuses self.old }
-        ensures failed { has_failed self.new ≡ has_failed self.old };
+        ensures failed { has_failed self.new ≡ has_failed self.old }
+        ensures flushed { is_unflushed self.new ≡ is_unflushed self.old };
 
     /// Hands an outlet back: the file holds what the outlet has taken, and if the outlet failed, a
     /// device of this name has failed. The name must be held, as it is once
@@ -156,5 +165,11 @@ pub trait Files {
         ensures sound { (Self.Target.state target).failures ≡ 0
             → has_failed self.new ≡ has_failed self.old }
         ensures still { (other : List ℕ) → IsTrue (has_failed self.old other)
-            → IsTrue (has_failed self.new other) };
+            → IsTrue (has_failed self.new other) }
+        ensures unflushed { (Self.Target.state target).is_flushed ≡ false
+            → IsTrue (is_unflushed self.new name.now) }
+        ensures flushed { IsTrue (Self.Target.state target).is_flushed
+            → is_unflushed self.new ≡ is_unflushed self.old }
+        ensures never { (other : List ℕ) → IsTrue (is_unflushed self.old other)
+            → IsTrue (is_unflushed self.new other) };
 }

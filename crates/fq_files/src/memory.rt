@@ -14,6 +14,8 @@ pub struct MemoryFiles {
     held: BTreeMap<String, Vec<u8>>,
     // Whether a device that was handed back has failed.
     has_failed: bool,
+    // Whether a target was handed back that was not flushed.
+    has_unflushed: bool,
     alloc: Global,
 }
 
@@ -21,16 +23,18 @@ impl MemoryFiles {
     ghost use Rattle.std.specs.Prelude.{◌≡◌, ℕ, false, Some, None, List, OnOk, OnErr};
     ghost use Rattle.std.specs.Option.{option_map};
     ghost use Rattle.fq_files.specs.Holding.{KeepsOthers, KeepsNames, IsUnchanged};
-    ghost use Rattle.fq_files.specs.Memory.{bytes_in, failed_in};
+    ghost use Rattle.fq_files.specs.Memory.{bytes_in, failed_in, unflushed_in};
 
     /// Files that hold no name.
     pub fn new(alloc: Global) -> MemoryFiles
         ensures nothing { (name : List ℕ) → bytes_in result name ≡ None }
         ensures sound { (name : List ℕ) → failed_in result name ≡ false }
+        ensures flushed { (name : List ℕ) → unflushed_in result name ≡ false }
     {
         MemoryFiles {
             held: BTreeMap::new(alloc),
             has_failed: false,
+            has_unflushed: false,
             alloc,
         }
     }
@@ -42,6 +46,7 @@ impl MemoryFiles {
         ensures others { KeepsOthers (bytes_in self.old) (bytes_in self.new) name.now }
         ensures err { OnErr result (IsUnchanged (bytes_in self.old) (bytes_in self.new)) }
         ensures failed { failed_in self.new ≡ failed_in self.old }
+        ensures flushed { unflushed_in self.new ≡ unflushed_in self.old }
     {
         let key = String::from_str(self.alloc, name)?;
         let bytes = Vec::from_slice(self.alloc, bytes)?;
@@ -63,7 +68,7 @@ impl MemoryFiles {
 impl Files for MemoryFiles {
     ghost use Rattle.std.specs.Prelude.{◌≡◌, true, false, Some, None, Err, IfOk};
     ghost use Rattle.fq_files.specs.Holding.{IsUnchanged};
-    ghost use Rattle.fq_files.specs.Memory.{bytes_in, failed_in};
+    ghost use Rattle.fq_files.specs.Memory.{bytes_in, failed_in, unflushed_in};
 
     type In = ScriptFeed;
 
@@ -77,6 +82,8 @@ impl Files for MemoryFiles {
 
     ghost has_failed = { failed_in };
 
+    ghost is_unflushed = { unflushed_in };
+
     fn source(&mut self, name: &str) -> Result<ScriptFeed, FileFault>
         // A feed of the name's bytes. No read call is cut short or fails.
         ensures given { IfOk result (λ feed. bytes_in self.old name.now ≡ Some feed.bytes) }
@@ -87,6 +94,7 @@ impl Files for MemoryFiles {
         ensures refused { result ≡ Err FileFault.Refused → bytes_in self.old name.now ≡ None }
         ensures unchanged { IsUnchanged (bytes_in self.old) (bytes_in self.new) }
         ensures failed { failed_in self.new ≡ failed_in self.old }
+        ensures flushed { unflushed_in self.new ≡ unflushed_in self.old }
     {
         match self.held.get(name) {
             Some(bytes) => Ok(ScriptFeed::new(self.alloc, bytes, usize::MAX, 0)?),
@@ -109,6 +117,9 @@ impl Files for MemoryFiles {
         if target.failures > 0 {
             self.has_failed = true;
         }
+        if !target.is_flushed {
+            self.has_unflushed = true;
+        }
         if let Some(bytes) = self.held.get_mut(name) {
             *bytes = target.into_bytes();
         }
@@ -120,6 +131,8 @@ impl Files for MemoryFiles {
 pub struct MemoryTarget {
     bytes: Vec<u8>,
     failures: u64,
+    // Whether the last of the writes and flushes was a flush.
+    is_flushed: bool,
 }
 
 impl MemoryTarget {
@@ -132,21 +145,31 @@ impl MemoryTarget {
         MemoryTarget {
             bytes: Vec::new(alloc),
             failures: 0,
+            is_flushed: false,
         }
     }
 
     fn into_bytes(self) -> Vec<u8>
         ensures { result ≡ self.bytes }
     {
-        let MemoryTarget { bytes, failures: _ } = self;
+        let MemoryTarget {
+            bytes,
+            failures: _,
+            is_flushed: _,
+        } = self;
         bytes
     }
 }
 
 impl Outlet for MemoryTarget {
-    ghost use Rattle.std.specs.Prelude.{◌≡◌, ◌+◌, ◌<◌, ◌++◌, true, length, take, vec_capacity, IsOk, IfOk, OnErr, is_ok, if◌then◌else◌};
+    ghost use Rattle.std.specs.Prelude.{◌≡◌, ◌+◌, ◌<◌, ◌++◌, true, false, length, take, vec_capacity, IsOk, IfOk, OnErr, is_ok, if◌then◌else◌};
 
-    ghost state = { λ t. record { tells = true; taken = t.bytes.items; failures = t.failures } };
+    ghost state = { λ t. record {
+      tells = true;
+      taken = t.bytes.items;
+      failures = t.failures;
+      is_flushed = t.is_flushed;
+    } };
 
     fn write(&mut self, bytes: &[u8]) -> Result<usize, OutletFailed>
         requires { self.old.failures < u64.MAX }
@@ -162,7 +185,9 @@ impl Outlet for MemoryTarget {
             ≡ self.old.bytes.items ++ take n bytes.now) }
         ensures err { OnErr result (self.new.bytes.items ≡ self.old.bytes.items) }
         ensures failures { self.new.failures ≡ self.old.failures + (if is_ok result then 0 else 1) }
+        ensures unflushed { self.new.is_flushed ≡ false }
     {
+        self.is_flushed = false;
         match self.bytes.extend_from_slice(bytes) {
             Ok(()) => Ok(bytes.len()),
             Err(_) => {
@@ -177,8 +202,9 @@ impl Outlet for MemoryTarget {
 
         // There is nothing to wait for.
         ensures ok { IsOk result }
-        ensures kept { self.new ≡ self.old }
+        ensures kept { self.new ≡ record self.old { is_flushed = true } }
     {
+        self.is_flushed = true;
         Ok(())
     }
 

@@ -29,8 +29,8 @@ impl Identity {
 ///
 /// A file that was opened as an input is refused as an output, under any name, and is left
 /// unchanged. A regular file that is already an input is refused as another input, and one that is
-/// already an output is refused as another output. Every name may be refused, and a failure counts
-/// for every name.
+/// already an output is refused as another output. Every name may be refused. A failure counts for
+/// every name, and so does a target that was not flushed.
 #[derive(Drop)]
 pub struct SystemFiles<'a, R: rt::Files<File = File>> {
     runtime: &'a R,
@@ -41,6 +41,8 @@ pub struct SystemFiles<'a, R: rt::Files<File = File>> {
     syncs_always: bool,
     // Whether a device that was handed back has failed.
     has_failed: bool,
+    // Whether a target was handed back that was not flushed.
+    has_unflushed: bool,
 }
 
 impl<'a, R: rt::Files<File = File>> SystemFiles<'a, R> {
@@ -52,6 +54,7 @@ impl<'a, R: rt::Files<File = File>> SystemFiles<'a, R> {
             outputs: Vec::new(alloc),
             syncs_always: false,
             has_failed: false,
+            has_unflushed: false,
         }
     }
 
@@ -97,6 +100,8 @@ impl<'a, R: rt::Files<File = File>> Files for SystemFiles<'a, R> {
     ghost refuses = { λ _ _. true };
 
     ghost has_failed = { λ files _. files.has_failed };
+
+    ghost is_unflushed = { λ files _. files.has_unflushed };
 
     fn source(&mut self, name: &str) -> Result<FromRead<File>, FileFault> {
         let Ok(file) = File::open(self.runtime, name) else {
@@ -155,6 +160,7 @@ impl<'a, R: rt::Files<File = File>> Files for SystemFiles<'a, R> {
             file,
             syncs: is_regular && self.syncs(identity),
             failed_calls: 0,
+            is_flushed: false,
         })
     }
 
@@ -165,6 +171,9 @@ impl<'a, R: rt::Files<File = File>> Files for SystemFiles<'a, R> {
     fn done(&mut self, _name: &str, target: SystemTarget) {
         if target.failed_calls > 0 {
             self.has_failed = true;
+        }
+        if !target.is_flushed {
+            self.has_unflushed = true;
         }
     }
 }
@@ -184,6 +193,8 @@ pub struct SystemTarget {
     // Whether a flush waits. Pipes and terminals have no disk to wait for.
     syncs: bool,
     failed_calls: u64,
+    // Whether the last of the writes and flushes was a flush that succeeded.
+    is_flushed: bool,
 }
 
 impl SystemTarget {
@@ -192,7 +203,8 @@ impl SystemTarget {
     // Counts one more failure.
     fn fail(&mut self) -> OutletFailed
         requires { self.old.failed_calls < u64.MAX }
-        ensures { self.new.failed_calls ≡ self.old.failed_calls + 1 }
+        ensures count { self.new.failed_calls ≡ self.old.failed_calls + 1 }
+        ensures kept { self.new.is_flushed ≡ self.old.is_flushed }
     {
         self.failed_calls += 1;
         OutletFailed
@@ -202,9 +214,15 @@ impl SystemTarget {
 impl Outlet for SystemTarget {
     ghost use Rattle.std.specs.Prelude.{false, []};
 
-    ghost state = { λ t. record { tells = false; taken = []; failures = t.failed_calls } };
+    ghost state = { λ t. record {
+      tells = false;
+      taken = [];
+      failures = t.failed_calls;
+      is_flushed = t.is_flushed;
+    } };
 
     fn write(&mut self, bytes: &[u8]) -> Result<usize, OutletFailed> {
+        self.is_flushed = false;
         match self.file.write(bytes) {
             Ok(0) if !bytes.is_empty() => Err(self.fail()),
             Ok(n) => Ok(n),
@@ -213,9 +231,11 @@ impl Outlet for SystemTarget {
     }
 
     fn flush(&mut self) -> Result<(), OutletFailed> {
+        self.is_flushed = false;
         if self.syncs && self.file.sync_data().is_err() {
             return Err(self.fail());
         }
+        self.is_flushed = true;
         Ok(())
     }
 

@@ -21,7 +21,7 @@ use Rattle.fq_run.specs.Choices.{Choices}
 use Rattle.fq_run.specs.Outcome.{Outcome}
 use Rattle.fq_run.specs.Outcome.TheVariants.{Spawn, Lane, Gate, Memory, Write, Read, Endless, Input, Finished}
 use Rattle.fq_run.specs.Outcomes.{rank, text_outcome, end_of}
-use Rattle.fq_run.specs.Devices.{OutletStates, OutletsTook, Took, TookText, AreHealthy, outlet_at, place, failures_at, gave}
+use Rattle.fq_run.specs.Devices.{OutletStates, OutletsTook, Took, TookText, AreHealthy, AreFlushed, outlet_at, place, failures_at, gave}
 use Rattle.fq_run.specs.Endings.{Run, EveryEnding, IsTrimmed, AreTold, all_pairs, ends_whole, trimmed_outcome, feed_of, feed_left, gave_to, failures_in}
 use Rattle.fq_run.specs.Fates.{failed_outlet, part_begun}
 use Rattle.fq_pair.specs.Outputs.{texts_of, text_of}
@@ -119,6 +119,13 @@ pub outlets_sound : (c : Choices) (run : Run) → EveryEnding c run → IsTrue (
 outlets_sound c run every whole healthy =
     sound_behind run.outlets run.outlets_left (λ out. text_of out (texts_of c.steps every.whole) ++ part_begun c.steps every.fate out) (failed_outlet every.fate)
     (none_failed c run every whole) every.took healthy
+
+not_spawn : (o : Outcome) → IsTrue (ends_whole o) → o ≢ Spawn
+not_spawn o whole spawned = let P : Outcome → Type 0 = λ x. IsTrue (ends_whole x) in absurd (cc (subst P spawned whole))
+
+-- and each was flushed
+pub outlets_flushed : (c : Choices) (run : Run) → EveryEnding c run → IsTrue (ends_whole run.outcome) → AreFlushed run.outlets_left
+outlets_flushed c run every whole = every.flushed (none_failed c run every whole) (not_spawn run.outcome whole)
 
 zero_if : (n : ℕ) → (0 < n → ⊥) → n ≡ 0
 zero_if zero none = refl

@@ -41,6 +41,7 @@ pub(crate) fn inputs<T: Files>(
     ensures told { T.tells_bytes files.new ≡ T.tells_bytes files.old }
     ensures refusing { T.refuses files.new ≡ T.refuses files.old }
     ensures failed { T.has_failed files.new ≡ T.has_failed files.old }
+    ensures flushed { T.is_unflushed files.new ≡ T.is_unflushed files.old }
     ensures inputs { IfErr result (λ why. IsTrue (T.tells_bytes files.old)
         → TellsInputs (asking_of request.now).inputs why (T.bytes_of files.old)) }
     ensures early { IfErr result (λ why. IsTrue (is_early why)) }
@@ -71,6 +72,7 @@ fn input<T: Files>(request: &Request<'_>, files: &mut T, side: Side) -> Result<T
     ensures told { T.tells_bytes files.new ≡ T.tells_bytes files.old }
     ensures refusing { T.refuses files.new ≡ T.refuses files.old }
     ensures failed { T.has_failed files.new ≡ T.has_failed files.old }
+    ensures flushed { T.is_unflushed files.new ≡ T.is_unflushed files.old }
     ensures missing { IfErr result (λ why. (why ≡ Refusal.Memory) ⊎ ((why ≡ Refusal.Source side) × (IsTrue (T.tells_bytes files.old)
         → T.bytes_of files.old (input_name (asking_of request.now).inputs side) ≡ None))) }
     ensures early { IfErr result (λ why. IsTrue (is_early why)) }
@@ -96,6 +98,7 @@ pub(crate) fn inputs_done<T: Files>(
         → IsUnchanged (T.bytes_of files.old) (T.bytes_of files.new) }
     ensures told { T.tells_bytes files.new ≡ T.tells_bytes files.old }
     ensures counted { AreFeedsCounted (asking_of request.now).inputs (left_of T.In.state feeds) (T.has_failed files.old) (T.has_failed files.new) }
+    ensures flushed { T.is_unflushed files.new ≡ T.is_unflushed files.old }
 {
     match feeds {
         Feeds::Apart { forward, reverse } => {
@@ -114,6 +117,7 @@ fn input_done<T: Files>(request: &Request<'_>, files: &mut T, side: Side, feed: 
         → IsUnchanged (T.bytes_of files.old) (T.bytes_of files.new) }
     ensures told { T.tells_bytes files.new ≡ T.tells_bytes files.old }
     ensures counted { IsFeedCounted (input_name (asking_of request.now).inputs side) (option_map T.In.state feed) (T.has_failed files.old) (T.has_failed files.new) }
+    ensures flushed { T.is_unflushed files.new ≡ T.is_unflushed files.old }
 {
     if let Some(feed) = feed {
         files.source_done(request.input_name(side), feed);

@@ -2,7 +2,7 @@
 
 ghost use Rattle.std.specs.Prelude.{◌≡◌, ◌≢◌, ◌⊎◌, [], suc, IsTrue, IsSome, IfOk, IfErr, OnOk, is_some};
 ghost use Rattle.fq_files.specs.Holding.{Holding, KeepsNames};
-ghost use Rattle.fq_run.specs.Devices.{OutletStates, outlet_at, outlet_states, place, AreHealthy};
+ghost use Rattle.fq_run.specs.Devices.{OutletStates, outlet_at, outlet_states, place, AreHealthy, AreFlushed};
 ghost use Rattle.fq_words.specs.Requests.{asking_of, output_name};
 ghost use Rattle.fq_job.specs.declared.refusal.Refusal.{Refusal as Refused};
 ghost use Rattle.fq_job.specs.Refusals.{status_of};
@@ -40,6 +40,7 @@ pub(crate) fn outputs<T: Files>(
         IsRefusable (asking_of request.now) (T.refuses files.old) why) }
     ensures refusing { T.refuses files.new ≡ T.refuses files.old }
     ensures failed { T.has_failed files.new ≡ T.has_failed files.old }
+    ensures flushed { T.is_unflushed files.new ≡ T.is_unflushed files.old }
     ensures opened { IfErr result (λ why. IsTrue (is_late why)) }
     ensures late { IfErr result (λ why. status_of why ≢ 2) }
 {
@@ -85,6 +86,7 @@ fn output<T: Files>(request: &Request<'_>, files: &mut T, out: Out) -> Result<T:
         IsRefusable (asking_of request.now) (T.refuses files.old) why) }
     ensures refusing { T.refuses files.new ≡ T.refuses files.old }
     ensures failed { T.has_failed files.new ≡ T.has_failed files.old }
+    ensures flushed { T.is_unflushed files.new ≡ T.is_unflushed files.old }
 {
     match files.target(request.output_name(out)) {
         Ok(target) => Ok(target),
@@ -103,6 +105,7 @@ pub(crate) fn store<T: Files>(request: &Request<'_>, files: &mut T, outlets: Out
         → KeepsNames (T.bytes_of files.old) (T.bytes_of files.new) }
     ensures told { T.tells_bytes files.new ≡ T.tells_bytes files.old }
     ensures counted { AreCounted (asking_of request.now) (outlet_states T.Target.state outlets) 5 (T.has_failed files.old) (T.has_failed files.new) }
+    ensures flushed { AreFlushed (outlet_states T.Target.state outlets) → T.is_unflushed files.new ≡ T.is_unflushed files.old }
 {
     let Outlets {
         forward_paired,
@@ -140,6 +143,7 @@ fn store_one<T: Files>(request: &Request<'_>, files: &mut T, out: Out, outlet: T
         → outlet_at out states ≡ Some (T.Target.state outlet)
         → AreCounted (asking_of request.now) states (place out) start (T.has_failed files.old)
         → AreCounted (asking_of request.now) states (suc (place out)) start (T.has_failed files.new) }
+    ensures flushed { IsTrue (T.Target.state outlet).is_flushed → T.is_unflushed files.new ≡ T.is_unflushed files.old }
 {
     files.done(request.output_name(out), outlet);
 }

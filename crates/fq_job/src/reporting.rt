@@ -67,6 +67,7 @@ pub(crate) fn report_target<T: Files>(
         IsRefusable (asking_of request.now) (T.refuses files.old) why) }
     ensures refusing { T.refuses files.new ≡ T.refuses files.old }
     ensures failed { T.has_failed files.new ≡ T.has_failed files.old }
+    ensures flushed { T.is_unflushed files.new ≡ T.is_unflushed files.old }
 {
     let Some(name) = request.report else {
         return Ok(None);
@@ -109,6 +110,9 @@ pub(crate) fn store_report<T: Files>(
         → ReportFailed (asking_of request.now) (T.has_failed files.new) }
     ensures sound { result ≢ Reported.Failed → T.has_failed files.new ≡ T.has_failed files.old }
     ensures still { KeepsFailed (T.has_failed files.old) (T.has_failed files.new) }
+    // Where the run ended whole, a report that is written is flushed.
+    ensures flushed { (outcome_status account.now.outcome ≡ 0) ⊎ (outcome_status account.now.outcome ≡ 3)
+        → (result ≡ Reported.NotDue) ⊎ (result ≡ Reported.Written) → T.is_unflushed files.new ≡ T.is_unflushed files.old }
 {
     match (request.report, target) {
         (Some(name), Some(mut target)) => {
@@ -138,6 +142,7 @@ fn write_report<O: Outlet>(
         encoding account.now (O.state target.old).taken (O.state target.new).taken }
     ensures sound { result ≢ Reported.Failed → (O.state target.new).failures ≡ 0 }
     ensures failed { result ≡ Reported.Failed → (O.state target.new).failures ≢ 0 }
+    ensures flushed { result ≡ Reported.Written → IsTrue (O.state target.new).is_flushed }
     ensures told { (O.state target.new).tells ≡ (O.state target.old).tells }
 {
     let status = status_of(&account.outcome);
@@ -168,6 +173,7 @@ fn put_text<O: Outlet>(target: &mut O, text: &[u8]) -> bool
         × ((O.state target.new).taken ≡ (O.state target.old).taken ++ take count text.now) }
     ensures sent { result ≡ true → (O.state target.new).failures ≡ 0 }
     ensures failed { result ≡ false → (O.state target.new).failures ≢ 0 }
+    ensures flushed { result ≡ true → IsTrue (O.state target.new).is_flushed }
     ensures told { (O.state target.new).tells ≡ (O.state target.old).tells }
 {
     match send(target, text) {

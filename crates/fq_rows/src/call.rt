@@ -69,6 +69,8 @@ impl Files for TroubledFiles<'_> {
 
     ghost has_failed = { λ _ _. true };
 
+    ghost is_unflushed = { λ _ _. true };
+
     fn source(&mut self, name: &str) -> std::result::Result<ScriptFeed, FileFault> {
         let call = self.failing_call(name)?;
         match self.held.get(name) {

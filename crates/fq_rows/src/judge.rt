@@ -116,12 +116,15 @@ struct FlushedOutlet {
     outlet: ScriptOutlet,
     flushes: u64,
     failures: u64,
+    // Whether the last of the writes and flushes was a flush.
+    is_flushed: bool,
 }
 
 impl Outlet for FlushedOutlet {
-    ghost state = { λ o. record { tells = false; taken = []; failures = o.failures } };
+    ghost state = { λ o. record { tells = false; taken = []; failures = o.failures; is_flushed = o.is_flushed } };
 
     fn write(&mut self, bytes: &[u8]) -> std::result::Result<usize, OutletFailed> {
+        self.is_flushed = false;
         if self.outlet.failures() == 0 {
             if let Ok(n) = self.outlet.write(bytes) {
                 return Ok(n);
@@ -133,6 +136,7 @@ impl Outlet for FlushedOutlet {
 
     fn flush(&mut self) -> std::result::Result<(), OutletFailed> {
         self.flushes = self.flushes.saturating_add(1);
+        self.is_flushed = true;
         Ok(())
     }
 
@@ -148,11 +152,12 @@ fn outlet(alloc: Global) -> FlushedOutlet
         outlet: ScriptOutlet::new(alloc, CUT, 0, false),
         flushes: 0,
         failures: 0,
+        is_flushed: false,
     }
 }
 
 fn new_outlets(alloc: Global) -> Outlets<FlushedOutlet>
-    ensures { AreHealthy (outlet_states (λ o. record { tells = false; taken = []; failures = o.failures }) result) }
+    ensures { AreHealthy (outlet_states (λ o. record { tells = false; taken = []; failures = o.failures; is_flushed = o.is_flushed }) result) }
 {
     Outlets {
         forward_paired: outlet(alloc),
@@ -167,7 +172,7 @@ fn new_outlets(alloc: Global) -> Outlets<FlushedOutlet>
 // stack has a long proof. `None` if memory is refused.
 fn outlets(alloc: Global) -> Option<Box<Outlets<FlushedOutlet>>>
     ensures { IfSome result (λ outlets. AreHealthy
-        (outlet_states (λ o. record { tells = false; taken = []; failures = o.failures }) outlets.value)) }
+        (outlet_states (λ o. record { tells = false; taken = []; failures = o.failures; is_flushed = o.is_flushed }) outlets.value)) }
 {
     Box::new(alloc, new_outlets(alloc)).ok()
 }
@@ -251,7 +256,7 @@ fn end_interleaved<R: Threads + Wait + Copy + Send + 'static>(
     outlets: &mut Outlets<FlushedOutlet>,
 ) -> Ended
     requires text { text.failures ≡ 0 }
-    requires outlets { AreHealthy (outlet_states (λ o. record { tells = false; taken = []; failures = o.failures }) outlets.old) }
+    requires outlets { AreHealthy (outlet_states (λ o. record { tells = false; taken = []; failures = o.failures; is_flushed = o.is_flushed }) outlets.old) }
 {
     let mut ending = if way.threads {
         run_threads_mixed(alloc, rt, settings, gate, text, outlets)
@@ -274,7 +279,7 @@ fn end_mates<R: Threads + Wait + Copy + Send + 'static>(
 ) -> Ended
     requires forward { forward.failures ≡ 0 }
     requires reverse { reverse.failures ≡ 0 }
-    requires outlets { AreHealthy (outlet_states (λ o. record { tells = false; taken = []; failures = o.failures }) outlets.old) }
+    requires outlets { AreHealthy (outlet_states (λ o. record { tells = false; taken = []; failures = o.failures; is_flushed = o.is_flushed }) outlets.old) }
 {
     let mut ending = if way.threads {
         run_threads(alloc, rt, settings, gate, forward, reverse, outlets)
@@ -292,7 +297,7 @@ fn end<R: Threads + Wait + Copy + Send + 'static>(
     settings: &Settings,
     outlets: &mut Outlets<FlushedOutlet>,
 ) -> Option<Ended>
-    requires { AreHealthy (outlet_states (λ o. record { tells = false; taken = []; failures = o.failures }) outlets.old) }
+    requires { AreHealthy (outlet_states (λ o. record { tells = false; taken = []; failures = o.failures; is_flushed = o.is_flushed }) outlets.old) }
 {
     let gate = Arc::new(alloc, OpenGate).ok()?;
     if way.interleaved {
@@ -320,7 +325,7 @@ fn run<R: Threads + Wait + Copy + Send + 'static>(
     way: Way,
     outlets: &mut Outlets<FlushedOutlet>,
 ) -> Result<Option<Left>>
-    requires { AreHealthy (outlet_states (λ o. record { tells = false; taken = []; failures = o.failures }) outlets.old) }
+    requires { AreHealthy (outlet_states (λ o. record { tells = false; taken = []; failures = o.failures; is_flushed = o.is_flushed }) outlets.old) }
 {
     let settings = settings()?;
     match end(alloc, rt, way, &settings, outlets) {

@@ -96,6 +96,7 @@ module _ (c : Choices) (run : Run) (e : run.outcome ≡ outcome.Spawn) (none : r
     counts = none;
     tally = inl (empty ∙ ap (λ (t : Total). t.tally) (no_total_is c.tallied c.steps));
     took = unwritten;
+    flushed = λ none started. absurd (started e);
     cut_short = tt;
     first = λ told. ((all_pairs c run).mates, refl);
     forward = back_as_it_was run.forward run.forward_left same.forward;

@@ -26,8 +26,9 @@ fn serial_interleaved(
     outlets: &mut Outlets<ScriptOutlet>,
 ) -> MixedEnding<ScriptFeed>
     requires text { text.failures ≡ 0 }
-    requires outlets { AreHealthy (outlet_states
-        (λ o. record { tells = true; taken = o.bytes; failures = o.failures }) outlets.old) }
+    requires outlets { AreHealthy (outlet_states (λ o.
+        record { tells = true; taken = o.bytes; failures = o.failures; is_flushed = o.is_flushed })
+        outlets.old) }
 {
     run_serial_mixed(alloc, settings, text, outlets)
 }
@@ -41,8 +42,9 @@ fn threaded_interleaved<R: Threads + Wait + Copy + Send + 'static>(
     outlets: &mut Outlets<ScriptOutlet>,
 ) -> Result<MixedEnding<ScriptFeed>, Fail>
     requires text { text.failures ≡ 0 }
-    requires outlets { AreHealthy (outlet_states
-        (λ o. record { tells = true; taken = o.bytes; failures = o.failures }) outlets.old) }
+    requires outlets { AreHealthy (outlet_states (λ o.
+        record { tells = true; taken = o.bytes; failures = o.failures; is_flushed = o.is_flushed })
+        outlets.old) }
 {
     let gate = Arc::new(alloc, OpenGate)?;
     Ok(run_threads_mixed(alloc, rt, settings, gate, text, outlets))

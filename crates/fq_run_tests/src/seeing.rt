@@ -127,6 +127,8 @@ struct SeeingOutlet {
     outlet: ScriptOutlet,
     meeting: Option<Arc<Meeting>>,
     failures: u64,
+    // Whether the last of the writes and flushes was a flush.
+    is_flushed: bool,
 }
 
 impl Feed for SeeingFeed {
@@ -150,9 +152,15 @@ impl Feed for SeeingFeed {
 }
 
 impl Outlet for SeeingOutlet {
-    ghost state = { λ o. record { tells = false; taken = []; failures = o.failures } };
+    ghost state = { λ o. record {
+      tells = false;
+      taken = [];
+      failures = o.failures;
+      is_flushed = o.is_flushed;
+    } };
 
     fn write(&mut self, bytes: &[u8]) -> Result<usize, OutletFailed> {
+        self.is_flushed = false;
         let seen = match self.meeting.take() {
             Some(meeting) => meeting.meet(false),
             None => true,
@@ -167,6 +175,7 @@ impl Outlet for SeeingOutlet {
     }
 
     fn flush(&mut self) -> Result<(), OutletFailed> {
+        self.is_flushed = true;
         Ok(())
     }
 
@@ -182,6 +191,7 @@ fn seeing_outlet(alloc: Global, meeting: Option<Arc<Meeting>>) -> SeeingOutlet
         outlet: ScriptOutlet::new(alloc, 1000, 0, false),
         meeting,
         failures: 0,
+        is_flushed: false,
     }
 }
 
@@ -193,8 +203,9 @@ fn seeing(
 ) -> Result<(SeeingFeed, Outlets<SeeingOutlet>), Fail>
     ensures feed { IfOk result (λ devices. devices.0.failures ≡ 0) }
     ensures outlets { IfOk result (λ devices. AreHealthy
-        (outlet_states
-        (λ o. record { tells = false; taken = []; failures = o.failures }) devices.1)) }
+        (outlet_states (λ o.
+        record { tells = false; taken = []; failures = o.failures; is_flushed = o.is_flushed })
+        devices.1)) }
 {
     let meeting = Arc::new(alloc, Meeting::new(LOOKS))?;
     let forward = SeeingFeed {

@@ -89,8 +89,9 @@ fn run_between<R: Threads + Wait + Copy + Send + 'static>(
 ) -> Result<Ending<ScriptFeed, ScriptFeed>, Fail>
     requires forward { forward.failures ≡ 0 }
     requires reverse { reverse.failures ≡ 0 }
-    requires outlets { AreHealthy (outlet_states
-        (λ o. record { tells = true; taken = o.bytes; failures = o.failures }) outlets.old) }
+    requires outlets { AreHealthy (outlet_states (λ o.
+        record { tells = true; taken = o.bytes; failures = o.failures; is_flushed = o.is_flushed })
+        outlets.old) }
 {
     let settings = settings_of(given, 2, 4)?;
     match way {

@@ -25,7 +25,7 @@ use Rattle.fq_serial.specs.declared.reading_end.ReadingEnd.{ReadingEnd}
 use Rattle.fq_serial.specs.declared.reading_end.ReadingEnd.TheVariants as reading
 use Rattle.fq_serial.specs.Choices.{Choices}
 use Rattle.fq_text.specs.Devices.{FeedState}
-use Rattle.fq_serial.specs.Devices.{gave, OutletStates, OutletsTook}
+use Rattle.fq_serial.specs.Devices.{gave, OutletStates, AreFlushed, OutletsTook}
 use Rattle.fq_serial.specs.Fates.{Fate, Unbroken, FlushFailed, WriteFailed, failed_outlet, block_begun, part_begun, IsCutShort}
 use Rattle.fq_pair.specs.Walks.{SourceState, fed}
 use Rattle.fq_serial.specs.PairsRead.{Reads, fresh_side, fresh_source, feed_in}
@@ -44,6 +44,7 @@ pub record Closes (c : Choices) (old new : SourceState) (before after : OutletSt
   pub reads : Reads old new ((whole ++ block_begun fate) ++ missed) why
   pub took : OutletsTook before after (λ out. text_of out (texts_of c.steps whole) ++ part_begun c.steps fate out) (failed_outlet fate)
   pub failed : broken ≡ failed_outlet fate
+  pub flushed : broken ≡ None → AreFlushed after
   pub cut_short : IsCutShort c.block_pairs c.steps fate
   pub over : why ≡ None → broken ≡ None → ⊥
   pub stopped : is_flush fate ≡ true → why ≡ None → ⊥
@@ -52,7 +53,7 @@ pub record Closes (c : Choices) (old new : SourceState) (before after : OutletSt
 module _ (c : Choices) (old new : SourceState) (before mid after : OutletStates) (counted : Total) (halt : Halt) (why : Option ReadingEnd) where
   -- if no write failed
   flushed : (whole missed : List Mates) → IsCounted c whole halt why counted → Reads old new ((whole ++ []) ++ missed) why → OutletsTook before mid (λ out. text_of out (texts_of c.steps whole) ++ []) None →
-      (why ≡ None → ⊥) → (halt ≡ no_halt → missed ≡ []) → (failed : Option Out) → OutletsTook mid after (λ out. []) failed → Closes c old new before after counted halt why failed
+      (why ≡ None → ⊥) → (halt ≡ no_halt → missed ≡ []) → (failed : Option Out) → FlushesAfter None mid after failed → Closes c old new before after counted halt why failed
   flushed whole missed counts reads took over none None p = record {
     whole = whole;
     fate = Unbroken;
@@ -60,8 +61,9 @@ module _ (c : Choices) (old new : SourceState) (before mid after : OutletStates)
     counts = counts;
     reads = reads;
     took = all_took_same before after (λ out. (text_of out (texts_of c.steps whole) ++ []) ++ []) _ None (λ out. append-nil (text_of out (texts_of c.steps whole) ++ []))
-        (all_took_then before mid after (λ out. text_of out (texts_of c.steps whole) ++ []) (λ out. []) None took p);
+        (all_took_then before mid after (λ out. text_of out (texts_of c.steps whole) ++ []) (λ out. []) None took p.0);
     failed = refl;
+    flushed = p.1;
     cut_short = tt;
     over = λ going sound. over going;
     stopped = λ flush. absurd cc;
@@ -74,8 +76,9 @@ module _ (c : Choices) (old new : SourceState) (before mid after : OutletStates)
     counts = counts;
     reads = reads;
     took = all_took_same before after (λ out. (text_of out (texts_of c.steps whole) ++ []) ++ []) _ (Some out) (λ out. append-nil (text_of out (texts_of c.steps whole) ++ []))
-        (all_took_then before mid after (λ out. text_of out (texts_of c.steps whole) ++ []) (λ out. []) (Some out) took p);
+        (all_took_then before mid after (λ out. text_of out (texts_of c.steps whole) ++ []) (λ out. []) (Some out) took p.0);
     failed = refl;
+    flushed = p.1;
     cut_short = tt;
     over = λ going sound. over going;
     stopped = λ flush. over;
@@ -102,6 +105,7 @@ module _ (c : Choices) (old new : SourceState) (before mid after : OutletStates)
         reads = reads;
         took = subst T (sym q.1) took;
         failed = q.0;
+        flushed = λ none. absurd (let e = sym q.0 ∙ none in cc);
         cut_short = short;
         over = λ going sound. absurd (let e = sym q.0 ∙ sound in cc);
         stopped = λ flush. absurd cc;
@@ -232,6 +236,7 @@ module _ (form : Form) (c : Choices) (f r : FeedState) (new : SourceState) (befo
     counts = p.counts.counts;
     tally = ⊎_elim inl (λ none. inr (none.0, at_refusal halt why failed o none.1 none.2 v)) p.counts.tally;
     took = p.took;
+    flushed = λ none started. p.flushed (p.failed ∙ none);
     cut_short = p.cut_short;
     first = λ told. first_of (p.whole ++ block_begun p.fate) p.missed _ (reads_first form c f r new all_read why p.reads told.forward told.reverse);
     forward = let d = reads_forward form c f r new all_read why p.reads in (failed_by form Forward why, failed_once form Forward why, fed_back c f new.forward _ d);
@@ -249,6 +254,7 @@ module _ (form : Form) (c : Choices) (f r : FeedState) (new : SourceState) (befo
       record {
         took = all_took_same before after (λ out. text_of out (texts_of c.steps p.whole) ++ []) _ None
             (λ out. append-nil (text_of out (texts_of c.steps p.whole)) ∙ ap (λ ms. text_of out (texts_of c.steps ms)) same) (subst P sound_is p.took);
+        flushed = p.flushed none;
         counts = p.counts.counts ∙ ap (counts_of c.steps) same;
         tally = ⊎_elim (λ tally. tally ∙ ap (tally_if c.tallied c.steps) same) (λ lost. absurd (enough lost.2)) p.counts.tally;
         outcome = is ∙ ap trimmed_outcome (sym (ap (λ (q : Pairs). q.fault) all));

@@ -46,6 +46,14 @@ pub record AreHealthy (o : OutletStates) : Type 0 where
   pub reverse_unpaired : o.reverse_unpaired.failures ≡ 0
   pub log : IfSome o.log (λ log. log.failures ≡ 0)
 
+-- the last call on each outlet was a flush that succeeded
+pub record AreFlushed (o : OutletStates) : Type 0 where
+  pub forward_paired : IsTrue o.forward_paired.is_flushed
+  pub forward_unpaired : IsTrue o.forward_unpaired.is_flushed
+  pub reverse_paired : IsTrue o.reverse_paired.is_flushed
+  pub reverse_unpaired : IsTrue o.reverse_unpaired.is_flushed
+  pub log : IfSome o.log (λ log. IsTrue log.is_flushed)
+
 -- the state of one of the outlets; only the log may be left out
 abbrev pub outlet_at : Out → OutletStates → Option OutletState
 outlet_at ForwardPaired o = Some o.forward_paired

@@ -23,7 +23,7 @@ use Rattle.fq_serial.specs.declared.outlets.Outlets.{Outlets}
 use Rattle.fq_serial.specs.Choices.{Choices}
 use Rattle.fq_serial.specs.Outcomes.{rank}
 use Rattle.fq_text.specs.Devices.{FeedState}
-use Rattle.fq_serial.specs.Devices.{gave, Fed, OutletStates, OutletsTook}
+use Rattle.fq_serial.specs.Devices.{gave, Fed, OutletStates, AreFlushed, OutletsTook}
 use Rattle.fq_serial.specs.Fates.{Fate, FlushFailed, failed_outlet, block_begun, part_begun, IsCutShort}
 
 -- A run: the form of its input, its feeds and outlets before and after it, its outcome, its counts
@@ -88,10 +88,12 @@ abbrev pub trimmed_outcome : Option InputFault → Outcome
 trimmed_outcome None = outcome.Finished
 trimmed_outcome (Some fault) = outcome.Input fault
 
--- all pairs before the end of the input, or before its fault, were trimmed in order
+-- all pairs before the end of the input, or before its fault, were trimmed in order, and then each
+-- outlet was flushed
 pub record IsTrimmed (c : Choices) (run : Run) : Type 0 where
   pub took : OutletsTook run.outlets run.outlets_left
       (λ out. text_of out (texts_of c.steps (all_pairs c run).mates)) None
+  pub flushed : AreFlushed run.outlets_left
   pub counts : run.counts ≡ counts_of c.steps (all_pairs c run).mates
   pub tally : run.tally ≡ tally_if c.tallied c.steps (all_pairs c run).mates
   pub outcome : run.outcome ≡ trimmed_outcome (all_pairs c run).fault
@@ -195,7 +197,8 @@ pub record IsJustified (c : Choices) (run : Run) (whole : List Mates) (fate : Fa
 -- written completely; they come first among all pairs, and the counts and the tally are theirs.
 -- Each outlet has taken their texts. If a write failed in a block, the outlets before the failed
 -- one have also taken their texts of that block, the failed one the beginning of its text, and
--- those after it nothing. At most one outlet fails, and it fails once.
+-- those after it nothing. At most one outlet fails, and it fails once. If none failed and all
+-- threads were started, each outlet was flushed after its last write.
 pub record EveryEnding (c : Choices) (run : Run) : Type 0 where
   pub whole : List Mates
   pub fate : Fate
@@ -204,6 +207,8 @@ pub record EveryEnding (c : Choices) (run : Run) : Type 0 where
   pub took : OutletsTook run.outlets run.outlets_left
       (λ out. text_of out (texts_of c.steps whole) ++ part_begun c.steps fate out)
       (failed_outlet fate)
+  pub flushed : failed_outlet fate ≡ None → (run.outcome ≡ outcome.Spawn → ⊥) →
+      AreFlushed run.outlets_left
   pub cut_short : IsCutShort c.block_pairs c.steps fate
   pub first : AreTold run → AreFirst (whole ++ block_begun fate) (all_pairs c run).mates
   pub forward : IsHandedBack run.forward run.forward_left

@@ -14,7 +14,7 @@ use Rattle.fq_serial.specs.declared.reading_end.ReadingEnd.{ReadingEnd}
 use Rattle.fq_serial.specs.declared.reading_end.ReadingEnd.TheVariants as reading
 use Rattle.fq_serial.specs.Choices.{Choices}
 use Rattle.fq_text.specs.Devices.{FeedState}
-use Rattle.fq_serial.specs.Devices.{OutletStates, OutletsTook}
+use Rattle.fq_serial.specs.Devices.{OutletStates, AreFlushed, OutletsTook}
 use Rattle.fq_serial.specs.Fates.{Fate, FlushFailed, failed_outlet, block_begun, part_begun, IsCutShort}
 use Rattle.fq_pair.specs.Forms.{Form}
 use Rattle.fq_pair.specs.Walks.{SourceState}
@@ -67,10 +67,12 @@ pub record Runs (form : Form) (c : Choices) (f r f' r' : FeedState) (before afte
   pub forward : f' ≡ feed_in new.forward
   pub reverse : r' ≡ feed_in new.reverse
 
--- if no write had failed, each outlet was flushed, up to the first whose flush failed
+-- if no write had failed, each outlet was flushed, up to the first whose flush failed, and all of
+-- them if none failed
 abbrev pub FlushesAfter : Option Out → OutletStates → OutletStates → Option Out → Type 0
 FlushesAfter (Some failed) before after result = (result ≡ Some failed) × (after ≡ before)
-FlushesAfter None before after result = OutletsTook before after (λ out. []) result
+FlushesAfter None before after result =
+    OutletsTook before after (λ out. []) result × (result ≡ None → AreFlushed after)
 
 -- what an outcome is made of: how the workers, the reading and the writing ended
 abbrev pub wants_memory : Option ReadingEnd → Bool

@@ -9,11 +9,13 @@ pub record FeedState : Type 0 where
   pub to_come : List ℕ
   pub failures : ℕ
 
--- an outlet: whether it tells its bytes, those taken, oldest first, and how many writes and flushes have failed
+-- an outlet: whether it tells its bytes, those taken, oldest first, how many writes and flushes have failed, and whether
+-- the last of its writes and flushes was a flush that succeeded
 pub record OutletState : Type 0 where
   pub tells : Bool
   pub taken : List ℕ
   pub failures : ℕ
+  pub is_flushed : Bool
 
 -- a feed in memory: the bytes still to come, the most that a read call moves, the number of read
 -- calls up to and including the one that fails (0: none does), and the failures so far
@@ -24,7 +26,7 @@ pub record Coming : Type 0 where
   pub failures : ℕ
 
 -- the bytes that an outlet has taken, how many it has memory for, the most that a write takes, the number of writes up to
--- and with the one that fails (0: none does), whether flushes fail, and its failures so far
+-- and with the one that fails (0: none does), whether flushes fail, its failures so far, and whether it is flushed
 pub record Taken : Type 0 where
   pub bytes : List ℕ
   pub room : ℕ
@@ -32,8 +34,15 @@ pub record Taken : Type 0 where
   pub fails_in : ℕ
   pub flush_fails : Bool
   pub failures : ℕ
+  pub is_flushed : Bool
 
--- a reader or a writer of the standard library as a device, and its failures so far
+-- a reader of the standard library as a feed, and its failures so far
 pub record Adapted (T : Type 0) : Type 0 where
   pub inner : T
   pub failures : ℕ
+
+-- a writer of the standard library as an outlet, its failures so far, and whether it is flushed
+pub record AdaptedWriter (T : Type 0) : Type 0 where
+  pub inner : T
+  pub failures : ℕ
+  pub is_flushed : Bool

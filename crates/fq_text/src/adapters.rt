@@ -86,24 +86,29 @@ impl<R: Read> Feed for FromRead<R> {
 pub struct FromWrite<W: Write> {
     writer: W,
     failed_calls: u64,
+    // Whether the last of the writes and flushes was a flush that succeeded.
+    is_flushed: bool,
 }
 
 impl<W: Write> Model for FromWrite<W> {
-    ghost use Rattle.fq_text.specs.Devices.{Adapted};
+    ghost use Rattle.fq_text.specs.Devices.{AdaptedWriter};
 
-    ghost Value = { Adapted W };
+    ghost Value = { AdaptedWriter W };
 
-    ghost view = { λ d. record { inner = d.writer; failures = d.failed_calls } };
+    ghost view = { λ d. record { inner = d.writer; failures = d.failed_calls; is_flushed = d.is_flushed } };
 }
 
 impl<W: Write> FromWrite<W> {
+    ghost use Rattle.std.specs.Prelude.{false};
+
     /// The outlet of a writer, with no failures so far.
     pub fn new(writer: W) -> FromWrite<W>
-        ensures { result ≡ record { inner = writer; failures = 0 } }
+        ensures { result ≡ record { inner = writer; failures = 0; is_flushed = false } }
     {
         FromWrite {
             writer,
             failed_calls: 0,
+            is_flushed: false,
         }
     }
 
@@ -114,6 +119,7 @@ impl<W: Write> FromWrite<W> {
         let FromWrite {
             writer,
             failed_calls: _,
+            is_flushed: _,
         } = self;
         writer
     }
@@ -131,16 +137,18 @@ impl<W: Write> FromWrite<W> {
 impl<W: Write> Outlet for FromWrite<W> {
     ghost use Rattle.std.specs.Prelude.{false, []};
 
-    ghost state = { λ d. record { tells = false; taken = []; failures = d.failures } };
+    ghost state = { λ d. record { tells = false; taken = []; failures = d.failures; is_flushed = d.is_flushed } };
 
     fn write(&mut self, bytes: &[u8]) -> Result<usize, OutletFailed>
         requires { self.old.failures < u64.MAX }
         ensures within { IfOk result (λ n. n ≤ length bytes.now) }
         ensures some { IfOk result (λ n. 0 < length bytes.now → 0 < n) }
         ensures failures { self.new.failures ≡ self.old.failures + (if is_ok result then 0 else 1) }
+        ensures unflushed { self.new.is_flushed ≡ false }
         // Where the writer's own bytes are known, they grow as a write makes them.
         ensures writer { WriteAppends (W.contents self.old.inner) (W.contents self.new.inner) result bytes.now }
     {
+        self.is_flushed = false;
         match self.writer.write(bytes) {
             Ok(0) if !bytes.is_empty() => Err(self.fail()),
             Ok(n) => Ok(n),
@@ -151,11 +159,16 @@ impl<W: Write> Outlet for FromWrite<W> {
     fn flush(&mut self) -> Result<(), OutletFailed>
         requires { self.old.failures < u64.MAX }
         ensures failures { self.new.failures ≡ self.old.failures + (if is_ok result then 0 else 1) }
+        ensures flushed { self.new.is_flushed ≡ is_ok result }
         // Where the writer's own bytes are known, they stay.
         ensures writer { Keeps (W.contents self.old.inner) (W.contents self.new.inner) }
     {
+        self.is_flushed = false;
         match self.writer.flush() {
-            Ok(()) => Ok(()),
+            Ok(()) => {
+                self.is_flushed = true;
+                Ok(())
+            }
             Err(_) => Err(self.fail()),
         }
     }

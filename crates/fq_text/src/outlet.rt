@@ -1,6 +1,6 @@
 //! Where texts go: a device that takes bytes, and the sending of a whole text to it.
 
-ghost use Rattle.std.specs.Prelude.{◌≡◌, ◌≢◌, ◌+◌, ◌-◌, ◌<◌, ◌≤◌, min, true, [], ◌++◌, length, take, drop, IsTrue, IsErr, IfOk, IfErr, OnOk, OnErr, is_ok, is_err, if◌then◌else◌};
+ghost use Rattle.std.specs.Prelude.{◌≡◌, ◌≢◌, ◌+◌, ◌-◌, ◌<◌, ◌≤◌, min, true, [], ◌++◌, length, take, drop, false, IsTrue, IsErr, IfOk, IfErr, OnOk, OnErr, is_ok, is_err, if◌then◌else◌};
 ghost use Rattle.fq_text.specs.Devices.{OutletState};
 
 use std::alloc::Global;
@@ -19,8 +19,8 @@ pub struct OutletFailed;
 /// changes. Promises about bytes hold for outlets whose bytes are known. Promises about counts hold
 /// for all outlets.
 pub trait Outlet {
-    /// What contracts see of the outlet: whether it tells its bytes, those taken so far, and how many writes and flushes have
-    /// failed.
+    /// What contracts see of the outlet: whether it tells its bytes, those taken so far, how many writes and flushes have
+    /// failed, and whether the last of them was a flush that succeeded.
     ghost state: { Self → OutletState };
 
     /// Takes the first n of these bytes, after those taken before, and returns n: 1 or more, unless
@@ -34,14 +34,16 @@ pub trait Outlet {
         ensures moved { IfOk result (λ n. IsTrue (state self.old).tells → (state self.new).taken ≡ (state self.old).taken ++ take n bytes.now) }
         ensures err { OnErr result (IsTrue (state self.old).tells → (state self.new).taken ≡ (state self.old).taken) }
         ensures failures { (state self.new).failures ≡ (state self.old).failures + (if is_ok result then 0 else 1) }
-        ensures told { (state self.new).tells ≡ (state self.old).tells };
+        ensures told { (state self.new).tells ≡ (state self.old).tells }
+        ensures unflushed { (state self.new).is_flushed ≡ false };
 
     /// Passes on what was taken, as to a disk. It takes nothing. A failure is counted.
     fn flush(&mut self) -> Result<(), OutletFailed>
         requires { (state self.old).failures < u64.MAX }
         ensures kept { IsTrue (state self.old).tells → (state self.new).taken ≡ (state self.old).taken }
         ensures failures { (state self.new).failures ≡ (state self.old).failures + (if is_ok result then 0 else 1) }
-        ensures told { (state self.new).tells ≡ (state self.old).tells };
+        ensures told { (state self.new).tells ≡ (state self.old).tells }
+        ensures flushed { (state self.new).is_flushed ≡ is_ok result };
 
     /// How many writes and flushes have failed so far.
     fn failures(&self) -> u64
@@ -60,6 +62,8 @@ pub struct ScriptOutlet {
     fails_in: u64,
     flush_fails: bool,
     failures: u64,
+    // Whether the last of the writes and flushes was a flush that succeeded.
+    is_flushed: bool,
 }
 
 impl Model for ScriptOutlet {
@@ -75,6 +79,7 @@ impl Model for ScriptOutlet {
       fails_in = o.fails_in;
       flush_fails = o.flush_fails;
       failures = o.failures;
+      is_flushed = o.is_flushed;
     } };
 
     ghost invariant = { λ o. 0 < o.cut };
@@ -87,7 +92,7 @@ impl ScriptOutlet {
     /// flush fails if `flush_fails` is true.
     pub fn new(alloc: Global, cut: usize, fail_at: u64, flush_fails: bool) -> ScriptOutlet
         requires { 0 < cut }
-        ensures { result ≡ record { bytes = []; room = 0; cut = cut; fails_in = fail_at; flush_fails = flush_fails; failures = 0 } }
+        ensures { result ≡ record { bytes = []; room = 0; cut = cut; fails_in = fail_at; flush_fails = flush_fails; failures = 0; is_flushed = false } }
     {
         ScriptOutlet {
             bytes: Vec::new(alloc),
@@ -95,6 +100,7 @@ impl ScriptOutlet {
             fails_in: fail_at,
             flush_fails,
             failures: 0,
+            is_flushed: false,
         }
     }
 
@@ -116,7 +122,7 @@ impl ScriptOutlet {
 }
 
 impl Outlet for ScriptOutlet {
-    ghost state = { λ o. record { tells = true; taken = o.bytes; failures = o.failures } };
+    ghost state = { λ o. record { tells = true; taken = o.bytes; failures = o.failures; is_flushed = o.is_flushed } };
 
     fn write(&mut self, bytes: &[u8]) -> Result<usize, OutletFailed>
         requires { self.old.failures < u64.MAX }
@@ -134,7 +140,9 @@ impl Outlet for ScriptOutlet {
         ensures moved { IfOk result (λ n. self.new.bytes ≡ self.old.bytes ++ take n bytes.now) }
         ensures err { OnErr result (self.new.bytes ≡ self.old.bytes) }
         ensures failures { self.new.failures ≡ self.old.failures + (if is_ok result then 0 else 1) }
+        ensures unflushed { self.new.is_flushed ≡ false }
     {
+        self.is_flushed = false;
         if self.fails_in == 1 {
             self.fails_in = 0;
             return Err(self.fail());
@@ -150,11 +158,13 @@ impl Outlet for ScriptOutlet {
     fn flush(&mut self) -> Result<(), OutletFailed>
         requires { self.old.failures < u64.MAX }
 
-        // It fails exactly where the script says so, and changes nothing but the count of failures.
+        // It fails exactly where the script says so, and changes nothing but the count of failures and whether it is flushed.
         ensures fails { is_err result ≡ self.old.flush_fails }
-        ensures kept { self.new ≡ record self.old { failures = self.new.failures } }
+        ensures kept { self.new ≡ record self.old { failures = self.new.failures; is_flushed = self.new.is_flushed } }
         ensures failures { self.new.failures ≡ self.old.failures + (if is_ok result then 0 else 1) }
+        ensures flushed { self.new.is_flushed ≡ is_ok result }
     {
+        self.is_flushed = !self.flush_fails;
         if self.flush_fails {
             Err(self.fail())
         } else {

@@ -57,6 +57,11 @@ pub returns-in-Ok-clause-sound : goal.returns-in-Ok-clause-sound
 returns-in-Ok-clause-sound g c = λ ends. c.in-Ok.ensures.completed.sound
     (ends_so c.in-Ok.completed.account.outcome c.tell.result (c.tell.ensures.whole ends) ends) (not_failed c.in-Ok.completed.reported (c.tell.ensures.reported ends))
 
+pub returns-in-Ok-clause-flushed : goal.returns-in-Ok-clause-flushed
+returns-in-Ok-clause-flushed g c = λ ends.
+    let is : (outcome_status c.in-Ok.completed.account.outcome ≡ 0) ⊎ (outcome_status c.in-Ok.completed.account.outcome ≡ 3) = subst (λ n. (n ≡ 0) ⊎ (n ≡ 3)) (sym (c.tell.ensures.whole ends)) ends in
+    c.in-Ok.ensures.completed.flushed is (c.tell.ensures.reported ends)
+
 pub returns-in-Ok-clause-wrong : goal.returns-in-Ok-clause-wrong
 returns-in-Ok-clause-wrong g c = λ wrong.
     let why = some_in (wrong_with (asking_of c.args.request.now)) wrong in
@@ -73,6 +78,9 @@ returns-in-Err-clause-device g c = λ four. inl (refused_device (asking_of c.arg
 
 pub returns-in-Err-clause-sound : goal.returns-in-Err-clause-sound
 returns-in-Err-clause-sound g c = λ ends. c.in-Err.ensures.unfailed
+
+pub returns-in-Err-clause-flushed : goal.returns-in-Err-clause-flushed
+returns-in-Err-clause-flushed g c = λ ends. c.in-Err.ensures.flushed
 
 pub returns-in-Err-clause-wrong : goal.returns-in-Err-clause-wrong
 returns-in-Err-clause-wrong g c = λ wrong.

@@ -6,7 +6,8 @@ use Rattle.fq_words.specs.Requests.{asking_of}
 use Rattle.fq_job.specs.Trimming.{HasDistinctFiles, opened_of, left_of, run_in}
 use Rattle.fq_job.proofs.MakingLemmas.{along}
 use Rattle.fq_job.proofs.StoreLemmas.{all_hold}
-use Rattle.fq_job.proofs.FailureLemmas.{as_it_is, fails_as_told, feed_sound, not_lane, outlets_sound}
+use Rattle.fq_job.proofs.EndingLemmas.{ends_so}
+use Rattle.fq_job.proofs.FailureLemmas.{as_it_is, fails_as_told, feed_sound, not_lane, outlets_flushed, outlets_sound}
 use Rattle.fq_job.proofs.OpeningLemmas.{taken_unmap, tells_unmap}
 use Rattle.fq_job.proofs.CompletingLemmas.{IsHeld, first_pairs, report_of_run, sides_in, trims_files}
 use Rattle.fq_job.proofs.trimming.complete.Goals as goal
@@ -69,5 +70,9 @@ returns g c = record {
             let every = c.run-account.ensures.every (not_lane account.outcome whole) in
             reported.sound written ∙ (stored.counted.sound (outlets_sound choices run every whole opened.ready.healthy)
             ∙ done.counted.sound (feed_sound choices run every whole Forward) (feed_sound choices run every whole Reverse));
+        flushed = λ ends written.
+            let whole = ends_so account.outcome _ refl ends in
+            let every = c.run-account.ensures.every (not_lane account.outcome whole) in
+            reported.flushed ends written ∙ (stored.flushed (outlets_flushed choices run every whole) ∙ done.flushed);
       };
 }
