@@ -63,13 +63,17 @@ pub fn program<'a, R: Threads + Wait + Copy + Send + 'static, T: Files, O: Outle
     ensures wrong { (a : Asking) → AskedFor (map (λ word. word.now) words.entry.now) (Some a)
         → IsSome (wrong_with a) → files.new ≡ files.old }
 
-    // At status 4 the line names what was refused or has failed, and that was or has. At 0 and 3 no device of the files has failed,
-    // and each output, the log and the report were flushed after their last write.
-    ensures device { (a : Asking) → AskedFor (map (λ word. word.now) words.entry.now) (Some a) → result ≡ 4
-        → NamesDevice a (T.tells_bytes files.old) (T.bytes_of files.old) (T.refuses files.old) (T.has_failed files.new)
+    // At status 4 the line names a file or device that was indeed refused or has failed. At 0 and 3
+    // no device of the files has failed, and each output, the log and the report were flushed after
+    // their last write.
+    ensures device { (a : Asking) → AskedFor (map (λ word. word.now) words.entry.now) (Some a)
+        → result ≡ 4
+        → NamesDevice a (T.tells_bytes files.old)
+        (T.bytes_of files.old) (T.refuses files.old) (T.has_failed files.new)
         (device_of O.state out.old out.new) (device_of E.state err.old err.new) }
     ensures sound { (result ≡ 0) ⊎ (result ≡ 3) → T.has_failed files.new ≡ T.has_failed files.old }
-    ensures flushed { (result ≡ 0) ⊎ (result ≡ 3) → T.is_unflushed files.new ≡ T.is_unflushed files.old }
+    ensures flushed { (result ≡ 0) ⊎ (result ≡ 3)
+        → T.is_unflushed files.new ≡ T.is_unflushed files.old }
 
     // Only the files of the outputs and of the report change.
     ensures rest { (a : Asking) → AskedFor (map (λ word. word.now) words.entry.now) (Some a)
@@ -133,7 +137,8 @@ fn trim_pairs<R: Threads + Wait + Copy + Send + 'static, T: Files, O: Outlet, E:
         (T.has_failed files.new) (device_of O.state out.old out.new)
         (device_of E.state err.old err.new) }
     ensures sound { (result ≡ 0) ⊎ (result ≡ 3) → T.has_failed files.new ≡ T.has_failed files.old }
-    ensures flushed { (result ≡ 0) ⊎ (result ≡ 3) → T.is_unflushed files.new ≡ T.is_unflushed files.old }
+    ensures flushed { (result ≡ 0) ⊎ (result ≡ 3)
+        → T.is_unflushed files.new ≡ T.is_unflushed files.old }
     ensures wrong { IsSome (wrong_with (asking_of request.now)) → files.new ≡ files.old }
     ensures rest { IsTrue (T.tells_bytes files.old)
         → KeepsUnnamed (asking_of request.now) (T.bytes_of files.old) (T.bytes_of files.new) }

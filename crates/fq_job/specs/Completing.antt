@@ -65,12 +65,17 @@ HasFailed a tells old failed _ = Unit {0}
 abbrev pub ReportFailed : Asking → Failed → Type 0
 ReportFailed a failed = (name : List ℕ) × (a.report ≡ Some name) × IsTrue (failed name)
 
--- A run was made: its files before and after it, the names of which a device had failed and has failed, those of which an outlet was not
--- flushed before and after it, its outcome, its counts and what became of its report.
-pub record IsCompleted (a : Asking) (tells : Bool) (old new : Holding) (failed_old failed_new unflushed_old unflushed_new : Failed) (outcome : Outcome) (counts : Counts) (reported : Reported) : Type 0 where
-  -- Where it ended whole all pairs were trimmed.
-  pub trims : IsTrue tells → HasDistinctFiles a → IsTrue (ends_whole outcome) → TrimsFiles a old new outcome counts
-  -- At every ending but that of an unconfirmed lane the files of the outputs hold the texts of the first pairs.
+-- A run was made. Given are the files before and after it, the names whose devices had failed
+-- before it and after it, the names with an outlet that was not flushed before it and after it, its
+-- outcome, its counts and what became of its report.
+pub record IsCompleted (a : Asking) (tells : Bool)
+    (old new : Holding) (failed_old failed_new unflushed_old unflushed_new : Failed)
+    (outcome : Outcome) (counts : Counts) (reported : Reported) : Type 0 where
+  -- If it ended whole, all pairs were trimmed.
+  pub trims : IsTrue tells → HasDistinctFiles a →
+      IsTrue (ends_whole outcome) → TrimsFiles a old new outcome counts
+  -- At every ending except an unconfirmed lane, the files of the outputs hold the texts of the
+  -- first pairs.
   pub ended : IsTrue tells → HasDistinctFiles a → outcome ≢ Lane → HoldFirstPairs a old new outcome
   pub rest : IsTrue tells → KeepsUnnamed a old new
   -- If the run ended whole, the report covers the pairs of the inputs; at other endings its file is
@@ -86,6 +91,7 @@ pub record IsCompleted (a : Asking) (tells : Bool) (old new : Holding) (failed_o
   pub as_it_is : IsTrue tells → settled outcome ≡ outcome
   pub report_failed : reported ≡ became.Failed → ReportFailed a failed_new
   pub sound : IsTrue (ends_whole outcome) → reported ≢ became.Failed → failed_new ≡ failed_old
-  -- Where it ended whole, each output was flushed, and the report where it was written.
-  pub flushed : (outcome_status outcome ≡ 0) ⊎ (outcome_status outcome ≡ 3) → (reported ≡ became.NotDue) ⊎ (reported ≡ became.Written) →
+  -- If it ended whole, each output was flushed, and so was the report if it was written.
+  pub flushed : (outcome_status outcome ≡ 0) ⊎ (outcome_status outcome ≡ 3) →
+      (reported ≡ became.NotDue) ⊎ (reported ≡ became.Written) →
       unflushed_new ≡ unflushed_old

@@ -73,7 +73,8 @@ fn input<T: Files>(request: &Request<'_>, files: &mut T, side: Side) -> Result<T
     ensures refusing { T.refuses files.new ≡ T.refuses files.old }
     ensures failed { T.has_failed files.new ≡ T.has_failed files.old }
     ensures flushed { T.is_unflushed files.new ≡ T.is_unflushed files.old }
-    ensures missing { IfErr result (λ why. (why ≡ Refusal.Memory) ⊎ ((why ≡ Refusal.Source side) × (IsTrue (T.tells_bytes files.old)
+    ensures missing { IfErr result (λ why. (why ≡ Refusal.Memory)
+        ⊎ ((why ≡ Refusal.Source side) × (IsTrue (T.tells_bytes files.old)
         → T.bytes_of files.old (input_name (asking_of request.now).inputs side) ≡ None))) }
     ensures early { IfErr result (λ why. IsTrue (is_early why)) }
     ensures late { IfErr result (λ why. status_of why ≢ 2) }
@@ -97,7 +98,8 @@ pub(crate) fn inputs_done<T: Files>(
     ensures unchanged { IsTrue (T.tells_bytes files.old)
         → IsUnchanged (T.bytes_of files.old) (T.bytes_of files.new) }
     ensures told { T.tells_bytes files.new ≡ T.tells_bytes files.old }
-    ensures counted { AreFeedsCounted (asking_of request.now).inputs (left_of T.In.state feeds) (T.has_failed files.old) (T.has_failed files.new) }
+    ensures counted { AreFeedsCounted (asking_of request.now).inputs
+        (left_of T.In.state feeds) (T.has_failed files.old) (T.has_failed files.new) }
     ensures flushed { T.is_unflushed files.new ≡ T.is_unflushed files.old }
 {
     match feeds {
@@ -116,7 +118,8 @@ fn input_done<T: Files>(request: &Request<'_>, files: &mut T, side: Side, feed: 
     ensures unchanged { IsTrue (T.tells_bytes files.old)
         → IsUnchanged (T.bytes_of files.old) (T.bytes_of files.new) }
     ensures told { T.tells_bytes files.new ≡ T.tells_bytes files.old }
-    ensures counted { IsFeedCounted (input_name (asking_of request.now).inputs side) (option_map T.In.state feed) (T.has_failed files.old) (T.has_failed files.new) }
+    ensures counted { IsFeedCounted (input_name (asking_of request.now).inputs side)
+        (option_map T.In.state feed) (T.has_failed files.old) (T.has_failed files.new) }
     ensures flushed { T.is_unflushed files.new ≡ T.is_unflushed files.old }
 {
     if let Some(feed) = feed {

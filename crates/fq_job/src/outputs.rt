@@ -104,8 +104,10 @@ pub(crate) fn store<T: Files>(request: &Request<'_>, files: &mut T, outlets: Out
     ensures names { IsTrue (T.tells_bytes files.old)
         → KeepsNames (T.bytes_of files.old) (T.bytes_of files.new) }
     ensures told { T.tells_bytes files.new ≡ T.tells_bytes files.old }
-    ensures counted { AreCounted (asking_of request.now) (outlet_states T.Target.state outlets) 5 (T.has_failed files.old) (T.has_failed files.new) }
-    ensures flushed { AreFlushed (outlet_states T.Target.state outlets) → T.is_unflushed files.new ≡ T.is_unflushed files.old }
+    ensures counted { AreCounted (asking_of request.now)
+        (outlet_states T.Target.state outlets) 5 (T.has_failed files.old) (T.has_failed files.new) }
+    ensures flushed { AreFlushed (outlet_states T.Target.state outlets)
+        → T.is_unflushed files.new ≡ T.is_unflushed files.old }
 {
     let Outlets {
         forward_paired,
@@ -142,8 +144,10 @@ fn store_one<T: Files>(request: &Request<'_>, files: &mut T, out: Out, outlet: T
     ensures counted { (start : Failed) (states : OutletStates)
         → outlet_at out states ≡ Some (T.Target.state outlet)
         → AreCounted (asking_of request.now) states (place out) start (T.has_failed files.old)
-        → AreCounted (asking_of request.now) states (suc (place out)) start (T.has_failed files.new) }
-    ensures flushed { IsTrue (T.Target.state outlet).is_flushed → T.is_unflushed files.new ≡ T.is_unflushed files.old }
+        → AreCounted (asking_of request.now)
+        states (suc (place out)) start (T.has_failed files.new) }
+    ensures flushed { IsTrue (T.Target.state outlet).is_flushed
+        → T.is_unflushed files.new ≡ T.is_unflushed files.old }
 {
     files.done(request.output_name(out), outlet);
 }

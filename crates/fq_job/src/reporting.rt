@@ -110,9 +110,11 @@ pub(crate) fn store_report<T: Files>(
         → ReportFailed (asking_of request.now) (T.has_failed files.new) }
     ensures sound { result ≢ Reported.Failed → T.has_failed files.new ≡ T.has_failed files.old }
     ensures still { KeepsFailed (T.has_failed files.old) (T.has_failed files.new) }
-    // Where the run ended whole, a report that is written is flushed.
-    ensures flushed { (outcome_status account.now.outcome ≡ 0) ⊎ (outcome_status account.now.outcome ≡ 3)
-        → (result ≡ Reported.NotDue) ⊎ (result ≡ Reported.Written) → T.is_unflushed files.new ≡ T.is_unflushed files.old }
+    // If the run ended whole, a report that is written is flushed.
+    ensures flushed { (outcome_status account.now.outcome ≡ 0)
+        ⊎ (outcome_status account.now.outcome ≡ 3)
+        → (result ≡ Reported.NotDue) ⊎ (result ≡ Reported.Written)
+        → T.is_unflushed files.new ≡ T.is_unflushed files.old }
 {
     match (request.report, target) {
         (Some(name), Some(mut target)) => {

@@ -50,10 +50,13 @@ pub fn trim_files<R: Threads + Wait + Copy + Send + 'static, T: Files>(
     request: &Request<'_>,
     files: &mut T,
 ) -> Result<Completed, Refusal>
-    ensures completed { IfOk result (λ completed. IsCompleted (asking_of request.now) (T.tells_bytes files.old) (T.bytes_of files.old) (T.bytes_of files.new)
-        (T.has_failed files.old) (T.has_failed files.new) (T.is_unflushed files.old) (T.is_unflushed files.new)
+    ensures completed { IfOk result (λ completed. IsCompleted (asking_of request.now)
+        (T.tells_bytes files.old) (T.bytes_of files.old) (T.bytes_of files.new)
+        (T.has_failed files.old) (T.has_failed files.new)
+        (T.is_unflushed files.old) (T.is_unflushed files.new)
         completed.account.outcome completed.account.counts completed.reported) }
-    ensures refused { IfErr result (λ why. IsRefused (asking_of request.now) why (T.tells_bytes files.old) (T.refuses files.old)
+    ensures refused { IfErr result (λ why.
+        IsRefused (asking_of request.now) why (T.tells_bytes files.old) (T.refuses files.old)
         (T.bytes_of files.old) (T.bytes_of files.new)) }
     ensures unfailed { OnErr result (T.has_failed files.new ≡ T.has_failed files.old) }
     ensures flushed { OnErr result (T.is_unflushed files.new ≡ T.is_unflushed files.old) }
@@ -141,7 +144,8 @@ fn complete<R: Threads + Wait + Copy + Send + 'static, T: Files>(
         (outlet_states T.Target.state devices.outlets) (option_map T.Target.state devices.report)
         → settings_of (asking_of request.now) ≡ Ok settings.now
         → IsCompleted (asking_of request.now) (T.tells_bytes files.old) start (T.bytes_of files.new)
-        (T.has_failed files.old) (T.has_failed files.new) (T.is_unflushed files.old) (T.is_unflushed files.new)
+        (T.has_failed files.old) (T.has_failed files.new)
+        (T.is_unflushed files.old) (T.is_unflushed files.new)
         result.account.outcome result.account.counts result.reported }
 {
     let Devices {

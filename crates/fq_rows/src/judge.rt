@@ -121,7 +121,8 @@ struct FlushedOutlet {
 }
 
 impl Outlet for FlushedOutlet {
-    ghost state = { λ o. record { tells = false; taken = []; failures = o.failures; is_flushed = o.is_flushed } };
+    ghost state = { λ o.
+        record { tells = false; taken = []; failures = o.failures; is_flushed = o.is_flushed } };
 
     fn write(&mut self, bytes: &[u8]) -> std::result::Result<usize, OutletFailed> {
         self.is_flushed = false;
@@ -157,7 +158,9 @@ fn outlet(alloc: Global) -> FlushedOutlet
 }
 
 fn new_outlets(alloc: Global) -> Outlets<FlushedOutlet>
-    ensures { AreHealthy (outlet_states (λ o. record { tells = false; taken = []; failures = o.failures; is_flushed = o.is_flushed }) result) }
+    ensures { AreHealthy (outlet_states (λ o.
+        record { tells = false; taken = []; failures = o.failures; is_flushed = o.is_flushed })
+        result) }
 {
     Outlets {
         forward_paired: outlet(alloc),
@@ -172,7 +175,9 @@ fn new_outlets(alloc: Global) -> Outlets<FlushedOutlet>
 // stack has a long proof. `None` if memory is refused.
 fn outlets(alloc: Global) -> Option<Box<Outlets<FlushedOutlet>>>
     ensures { IfSome result (λ outlets. AreHealthy
-        (outlet_states (λ o. record { tells = false; taken = []; failures = o.failures; is_flushed = o.is_flushed }) outlets.value)) }
+        (outlet_states (λ o.
+        record { tells = false; taken = []; failures = o.failures; is_flushed = o.is_flushed })
+        outlets.value)) }
 {
     Box::new(alloc, new_outlets(alloc)).ok()
 }
@@ -256,7 +261,9 @@ fn end_interleaved<R: Threads + Wait + Copy + Send + 'static>(
     outlets: &mut Outlets<FlushedOutlet>,
 ) -> Ended
     requires text { text.failures ≡ 0 }
-    requires outlets { AreHealthy (outlet_states (λ o. record { tells = false; taken = []; failures = o.failures; is_flushed = o.is_flushed }) outlets.old) }
+    requires outlets { AreHealthy (outlet_states (λ o.
+        record { tells = false; taken = []; failures = o.failures; is_flushed = o.is_flushed })
+        outlets.old) }
 {
     let mut ending = if way.threads {
         run_threads_mixed(alloc, rt, settings, gate, text, outlets)
@@ -279,7 +286,9 @@ fn end_mates<R: Threads + Wait + Copy + Send + 'static>(
 ) -> Ended
     requires forward { forward.failures ≡ 0 }
     requires reverse { reverse.failures ≡ 0 }
-    requires outlets { AreHealthy (outlet_states (λ o. record { tells = false; taken = []; failures = o.failures; is_flushed = o.is_flushed }) outlets.old) }
+    requires outlets { AreHealthy (outlet_states (λ o.
+        record { tells = false; taken = []; failures = o.failures; is_flushed = o.is_flushed })
+        outlets.old) }
 {
     let mut ending = if way.threads {
         run_threads(alloc, rt, settings, gate, forward, reverse, outlets)
@@ -297,7 +306,9 @@ fn end<R: Threads + Wait + Copy + Send + 'static>(
     settings: &Settings,
     outlets: &mut Outlets<FlushedOutlet>,
 ) -> Option<Ended>
-    requires { AreHealthy (outlet_states (λ o. record { tells = false; taken = []; failures = o.failures; is_flushed = o.is_flushed }) outlets.old) }
+    requires { AreHealthy (outlet_states (λ o.
+        record { tells = false; taken = []; failures = o.failures; is_flushed = o.is_flushed })
+        outlets.old) }
 {
     let gate = Arc::new(alloc, OpenGate).ok()?;
     if way.interleaved {
@@ -325,7 +336,9 @@ fn run<R: Threads + Wait + Copy + Send + 'static>(
     way: Way,
     outlets: &mut Outlets<FlushedOutlet>,
 ) -> Result<Option<Left>>
-    requires { AreHealthy (outlet_states (λ o. record { tells = false; taken = []; failures = o.failures; is_flushed = o.is_flushed }) outlets.old) }
+    requires { AreHealthy (outlet_states (λ o.
+        record { tells = false; taken = []; failures = o.failures; is_flushed = o.is_flushed })
+        outlets.old) }
 {
     let settings = settings()?;
     match end(alloc, rt, way, &settings, outlets) {

@@ -46,7 +46,8 @@ pub fn open<F: Feed, G: Feed>(
     requires reverse { (G.state reverse).failures ≡ 0 }
     ensures ok { IfOk result (λ source. source_state F.state G.state source
         ≡ fresh_source TwoTexts settings.now (F.state forward) (G.state reverse)) }
-    ensures few { IfOk result (λ source. source.forward.max_reads * source.forward.chunk ≤ text_limit) }
+    ensures few { IfOk result (λ source.
+        source.forward.max_reads * source.forward.chunk ≤ text_limit) }
     ensures err { IfErr result (λ feeds. (feeds.0 ≡ forward) × (feeds.1 ≡ reverse)) }
 {
     let forward = match source_of(alloc, settings, forward) {
@@ -68,7 +69,8 @@ pub fn open_interleaved<F: Feed>(
     requires { (F.state feed).failures ≡ 0 }
     ensures ok { IfOk result (λ source. interleaved_state F.state source
         ≡ fresh_source InterleavedText settings.now (F.state feed) (F.state feed)) }
-    ensures few { IfOk result (λ source. source.source.max_reads * source.source.chunk ≤ text_limit) }
+    ensures few { IfOk result (λ source.
+        source.source.max_reads * source.source.chunk ≤ text_limit) }
     ensures err { IfErr result (λ back. back ≡ feed) }
 {
     match source_of(alloc, settings, feed) {

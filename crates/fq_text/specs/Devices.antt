@@ -9,8 +9,8 @@ pub record FeedState : Type 0 where
   pub to_come : List ℕ
   pub failures : ℕ
 
--- an outlet: whether it tells its bytes, those taken, oldest first, how many writes and flushes have failed, and whether
--- the last of its writes and flushes was a flush that succeeded
+-- an outlet: whether its bytes are known to the proof, those taken, oldest first, how many writes
+-- and flushes have failed, and whether the last of them was a flush that succeeded
 pub record OutletState : Type 0 where
   pub tells : Bool
   pub taken : List ℕ
@@ -25,8 +25,9 @@ pub record Coming : Type 0 where
   pub fails_in : ℕ
   pub failures : ℕ
 
--- the bytes that an outlet has taken, how many it has memory for, the most that a write takes, the number of writes up to
--- and with the one that fails (0: none does), whether flushes fail, its failures so far, and whether it is flushed
+-- an outlet in memory: the bytes taken, how many it has memory for, the most that a write takes,
+-- the number of writes up to and including the one that fails (0: none does), whether flushes fail,
+-- the failures so far, and whether it is flushed
 pub record Taken : Type 0 where
   pub bytes : List ℕ
   pub room : ℕ

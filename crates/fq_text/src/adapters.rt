@@ -61,7 +61,8 @@ impl<R: Read> Feed for FromRead<R> {
         ensures within { IfOk result (λ n. n ≤ length buf.old) }
         ensures failures { self.new.failures ≡ self.old.failures + (if is_ok result then 0 else 1) }
         // If the bytes of the reader are known, they move as a read call moves them.
-        ensures reader { ReadConsumes (R.remaining self.old.inner) (R.remaining self.new.inner) result buf.new }
+        ensures reader { ReadConsumes (R.remaining self.old.inner)
+            (R.remaining self.new.inner) result buf.new }
     {
         match self.reader.read(buf) {
             Ok(n) => Ok(n),
@@ -95,7 +96,8 @@ impl<W: Write> Model for FromWrite<W> {
 
     ghost Value = { AdaptedWriter W };
 
-    ghost view = { λ d. record { inner = d.writer; failures = d.failed_calls; is_flushed = d.is_flushed } };
+    ghost view = { λ d.
+        record { inner = d.writer; failures = d.failed_calls; is_flushed = d.is_flushed } };
 }
 
 impl<W: Write> FromWrite<W> {
@@ -137,7 +139,8 @@ impl<W: Write> FromWrite<W> {
 impl<W: Write> Outlet for FromWrite<W> {
     ghost use Rattle.std.specs.Prelude.{false, []};
 
-    ghost state = { λ d. record { tells = false; taken = []; failures = d.failures; is_flushed = d.is_flushed } };
+    ghost state = { λ d.
+        record { tells = false; taken = []; failures = d.failures; is_flushed = d.is_flushed } };
 
     fn write(&mut self, bytes: &[u8]) -> Result<usize, OutletFailed>
         requires { self.old.failures < u64.MAX }
@@ -145,8 +148,9 @@ impl<W: Write> Outlet for FromWrite<W> {
         ensures some { IfOk result (λ n. 0 < length bytes.now → 0 < n) }
         ensures failures { self.new.failures ≡ self.old.failures + (if is_ok result then 0 else 1) }
         ensures unflushed { self.new.is_flushed ≡ false }
-        // Where the writer's own bytes are known, they grow as a write makes them.
-        ensures writer { WriteAppends (W.contents self.old.inner) (W.contents self.new.inner) result bytes.now }
+        // If the bytes of the writer are known, they grow as a write makes them grow.
+        ensures writer { WriteAppends (W.contents self.old.inner)
+            (W.contents self.new.inner) result bytes.now }
     {
         self.is_flushed = false;
         match self.writer.write(bytes) {
@@ -160,7 +164,7 @@ impl<W: Write> Outlet for FromWrite<W> {
         requires { self.old.failures < u64.MAX }
         ensures failures { self.new.failures ≡ self.old.failures + (if is_ok result then 0 else 1) }
         ensures flushed { self.new.is_flushed ≡ is_ok result }
-        // Where the writer's own bytes are known, they stay.
+        // If the bytes of the writer are known, they stay.
         ensures writer { Keeps (W.contents self.old.inner) (W.contents self.new.inner) }
     {
         self.is_flushed = false;

@@ -19,8 +19,9 @@ pub struct OutletFailed;
 /// changes. Promises about bytes hold for outlets whose bytes are known. Promises about counts hold
 /// for all outlets.
 pub trait Outlet {
-    /// What contracts see of the outlet: whether it tells its bytes, those taken so far, how many writes and flushes have
-    /// failed, and whether the last of them was a flush that succeeded.
+    /// What contracts see of the outlet: whether its bytes are known to the proof, those taken so
+    /// far, how many writes and flushes have failed, and whether the last of them was a flush that
+    /// succeeded.
     ghost state: { Self → OutletState };
 
     /// Takes the first n of these bytes, after those taken before, and returns n: 1 or more, unless
@@ -31,17 +32,22 @@ pub trait Outlet {
         requires { (state self.old).failures < u64.MAX }
         ensures within { IfOk result (λ n. n ≤ length bytes.now) }
         ensures some { IfOk result (λ n. 0 < length bytes.now → 0 < n) }
-        ensures moved { IfOk result (λ n. IsTrue (state self.old).tells → (state self.new).taken ≡ (state self.old).taken ++ take n bytes.now) }
-        ensures err { OnErr result (IsTrue (state self.old).tells → (state self.new).taken ≡ (state self.old).taken) }
-        ensures failures { (state self.new).failures ≡ (state self.old).failures + (if is_ok result then 0 else 1) }
+        ensures moved { IfOk result (λ n. IsTrue (state self.old).tells
+            → (state self.new).taken ≡ (state self.old).taken ++ take n bytes.now) }
+        ensures err { OnErr result (IsTrue (state self.old).tells
+            → (state self.new).taken ≡ (state self.old).taken) }
+        ensures failures { (state self.new).failures
+            ≡ (state self.old).failures + (if is_ok result then 0 else 1) }
         ensures told { (state self.new).tells ≡ (state self.old).tells }
         ensures unflushed { (state self.new).is_flushed ≡ false };
 
     /// Passes on what was taken, as to a disk. It takes nothing. A failure is counted.
     fn flush(&mut self) -> Result<(), OutletFailed>
         requires { (state self.old).failures < u64.MAX }
-        ensures kept { IsTrue (state self.old).tells → (state self.new).taken ≡ (state self.old).taken }
-        ensures failures { (state self.new).failures ≡ (state self.old).failures + (if is_ok result then 0 else 1) }
+        ensures kept { IsTrue (state self.old).tells
+            → (state self.new).taken ≡ (state self.old).taken }
+        ensures failures { (state self.new).failures
+            ≡ (state self.old).failures + (if is_ok result then 0 else 1) }
         ensures told { (state self.new).tells ≡ (state self.old).tells }
         ensures flushed { (state self.new).is_flushed ≡ is_ok result };
 
@@ -92,7 +98,15 @@ impl ScriptOutlet {
     /// flush fails if `flush_fails` is true.
     pub fn new(alloc: Global, cut: usize, fail_at: u64, flush_fails: bool) -> ScriptOutlet
         requires { 0 < cut }
-        ensures { result ≡ record { bytes = []; room = 0; cut = cut; fails_in = fail_at; flush_fails = flush_fails; failures = 0; is_flushed = false } }
+        ensures { result ≡ record {
+          bytes = [];
+          room = 0;
+          cut = cut;
+          fails_in = fail_at;
+          flush_fails = flush_fails;
+          failures = 0;
+          is_flushed = false;
+        } }
     {
         ScriptOutlet {
             bytes: Vec::new(alloc),
@@ -122,7 +136,12 @@ impl ScriptOutlet {
 }
 
 impl Outlet for ScriptOutlet {
-    ghost state = { λ o. record { tells = true; taken = o.bytes; failures = o.failures; is_flushed = o.is_flushed } };
+    ghost state = { λ o. record {
+      tells = true;
+      taken = o.bytes;
+      failures = o.failures;
+      is_flushed = o.is_flushed;
+    } };
 
     fn write(&mut self, bytes: &[u8]) -> Result<usize, OutletFailed>
         requires { self.old.failures < u64.MAX }
@@ -130,9 +149,11 @@ impl Outlet for ScriptOutlet {
         // The chosen write fails, and any other only if more memory is needed. Otherwise a write
         // takes all the bytes, but no more than `cut`.
         ensures fails { self.old.fails_in ≡ 1 → IsErr result }
-        ensures full { OnErr result (self.old.fails_in ≢ 1 → self.old.room < length self.old.bytes + min (length bytes.now) self.old.cut) }
+        ensures full { OnErr result (self.old.fails_in ≢ 1
+            → self.old.room < length self.old.bytes + min (length bytes.now) self.old.cut) }
         ensures count { IfOk result (λ n. n ≡ min (length bytes.now) self.old.cut) }
-        ensures script { (self.new.cut ≡ self.old.cut) × (self.new.fails_in ≡ self.old.fails_in - 1) × (self.new.flush_fails ≡ self.old.flush_fails) }
+        ensures script { (self.new.cut ≡ self.old.cut) × (self.new.fails_in ≡ self.old.fails_in - 1)
+            × (self.new.flush_fails ≡ self.old.flush_fails) }
         ensures room { self.old.room ≤ self.new.room }
 
         // What each outlet does.
@@ -158,9 +179,11 @@ impl Outlet for ScriptOutlet {
     fn flush(&mut self) -> Result<(), OutletFailed>
         requires { self.old.failures < u64.MAX }
 
-        // It fails exactly where the script says so, and changes nothing but the count of failures and whether it is flushed.
+        // It fails exactly if `flush_fails` is true, and changes nothing but the count of failures
+        // and whether the outlet is flushed.
         ensures fails { is_err result ≡ self.old.flush_fails }
-        ensures kept { self.new ≡ record self.old { failures = self.new.failures; is_flushed = self.new.is_flushed } }
+        ensures kept { self.new
+            ≡ record self.old { failures = self.new.failures; is_flushed = self.new.is_flushed } }
         ensures failures { self.new.failures ≡ self.old.failures + (if is_ok result then 0 else 1) }
         ensures flushed { self.new.is_flushed ≡ is_ok result }
     {
@@ -192,11 +215,13 @@ pub struct Sent {
 /// once in this call.
 pub fn send<O: Outlet>(outlet: &mut O, bytes: &[u8]) -> Result<(), Sent>
     requires { (O.state outlet.old).failures < u64.MAX }
-    ensures ok { OnOk result (IsTrue (O.state outlet.old).tells → (O.state outlet.new).taken ≡ (O.state outlet.old).taken ++ bytes.now) }
+    ensures ok { OnOk result (IsTrue (O.state outlet.old).tells
+        → (O.state outlet.new).taken ≡ (O.state outlet.old).taken ++ bytes.now) }
     ensures short { IfErr result (λ sent. sent.count < length bytes.now) }
     ensures err { IfErr result (λ sent. IsTrue (O.state outlet.old).tells
         → (O.state outlet.new).taken ≡ (O.state outlet.old).taken ++ take sent.count bytes.now) }
-    ensures failures { (O.state outlet.new).failures ≡ (O.state outlet.old).failures + (if is_ok result then 0 else 1) }
+    ensures failures { (O.state outlet.new).failures
+        ≡ (O.state outlet.old).failures + (if is_ok result then 0 else 1) }
     ensures told { (O.state outlet.new).tells ≡ (O.state outlet.old).tells }
     ensures empty { bytes.now ≡ [] → outlet.new ≡ outlet.old }
 {
