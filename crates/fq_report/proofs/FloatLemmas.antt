@@ -9,7 +9,7 @@ use Rattle.serde_json.specs.View.{items_of}
 use Rattle.serde_json.specs.Written.{has_float, items_have_float}
 use Rattle.fq_report.specs.Values.{count, list, optional_text}
 use Rattle.fq_report.specs.Facts.{InputNames, TwoFiles, InterleavedFile, Facts}
-use Rattle.fq_report.specs.Reports.{inputs_value, outputs_value, pairs_value, length_value, lengths_from, reads_value, removed_value, side_value, sides_value, done_value, step_value, steps_from, report_value}
+use Rattle.fq_report.specs.Reports.{inputs_value, outputs_value, pairs_value, length_value, rows_from, reads_value, removed_value, side_value, sides_value, done_value, step_value, steps_from, report_value}
 
 text_no_float : (text : Option (List ℕ)) → has_float (optional_text text) ≡ false
 text_no_float (Some text) = refl
@@ -40,18 +40,18 @@ row_no_float : (none : Bool) (row : Data) (rows : List Data) → has_float row �
 row_no_float true row rows first rest = rest
 row_no_float false row rows first rest = rw first rest
 
-lengths_no_float : (length : ℕ) (rows : List ℕ) → items_have_float (items_of (lengths_from length rows)) ≡ false
-lengths_no_float length [] = refl
-lengths_no_float length (reads ∷ rows) =
-    row_no_float (reads == 0) (list (count length ∷ count reads ∷ [])) (lengths_from (suc length) rows) refl (lengths_no_float (suc length) rows)
+rows_no_float : (number : ℕ) (rows : List ℕ) → items_have_float (items_of (rows_from number rows)) ≡ false
+rows_no_float number [] = refl
+rows_no_float number (reads ∷ rows) =
+    row_no_float (reads == 0) (list (count number ∷ count reads ∷ [])) (rows_from (suc number) rows) refl (rows_no_float (suc number) rows)
 
 reads_no_float : (t : ReadsTally) → has_float (reads_value t) ≡ false
 unfolding reads_value
-reads_no_float t = rw (lengths_no_float 0 t.lengths, length_no_float t.reads t.longest, length_no_float t.reads t.shortest) refl
+reads_no_float t = rw (rows_no_float 0 t.gc_percents, rows_no_float 0 t.lengths, rows_no_float 0 t.mean_scores, length_no_float t.reads t.longest, length_no_float t.reads t.shortest) refl
 
 side_no_float : (t : SideTally) → has_float (side_value t) ≡ false
 unfolding side_value removed_value
-side_no_float t = rw (reads_no_float t.before, reads_no_float t.paired, reads_no_float t.unpaired) refl
+side_no_float t = rw (reads_no_float t.before, reads_no_float t.paired, rows_no_float 0 t.removed_behind, rows_no_float 0 t.removed_front, reads_no_float t.unpaired) refl
 
 sides_no_float : (t : Tally) → has_float (sides_value t) ≡ false
 unfolding sides_value

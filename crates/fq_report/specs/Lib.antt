@@ -1,3 +1,4 @@
 pub mod Values
 pub mod Facts
 pub mod Reports
+pub mod Parts

@@ -1,5 +1,7 @@
--- The report of a run as JSON: one definition for each object, with its fields in the order of their names.
-use Rattle.std.specs.Prelude.{ℕ, suc, ◌==◌, Option, Some, None, List, [], ◌∷◌, codes, get_or, if◌then◌else◌}
+-- The report of a run as JSON: one definition for each object, with its fields in the order of
+-- their names.
+use Rattle.std.specs.Prelude.{ℕ, suc, ◌==◌, Option, Some, None, if◌then◌else◌}
+use Rattle.std.specs.Prelude.{List, [], ◌∷◌, codes, get_or}
 use Rattle.fq_text.specs.declared.encoding.Encoding.{Encoding}
 use Rattle.fq_text.specs.declared.encoding.Encoding.TheVariants.{Sanger, Illumina13, Solexa}
 use Rattle.fq_text.specs.Written.{line}
@@ -57,23 +59,26 @@ pairs_value c = fields (
 
 -- Of reads.
 
--- the length of one of so many reads, and null where there is none
+-- the length of the shortest or the longest of these reads, null if there is no read
 abbrev pub length_value : ℕ → ℕ → Data
 length_value reads bases = if reads == 0 then null else count bases
 
--- each length that reads have with their number, in rising order; the first row is that of this length
-abbrev pub lengths_from : ℕ → List ℕ → List Data
-lengths_from length [] = []
-lengths_from length (reads ∷ rows) =
-    if reads == 0 then lengths_from (suc length) rows
-    else list (count length ∷ count reads ∷ []) ∷ lengths_from (suc length) rows
+-- each number that reads have with the number of these reads, in rising order; the first row is
+-- that of this number
+abbrev pub rows_from : ℕ → List ℕ → List Data
+rows_from number [] = []
+rows_from number (reads ∷ rows) =
+    if reads == 0 then rows_from (suc number) rows
+    else list (count number ∷ count reads ∷ []) ∷ rows_from (suc number) rows
 
 unfoldable pub reads_value : ReadsTally → Data
 reads_value t = fields (
     (codes "bases", count t.bases.bases)
     ∷ (codes "gc_bases", count t.bases.gc)
-    ∷ (codes "lengths", list (lengths_from 0 t.lengths))
+    ∷ (codes "gc_percents", list (rows_from 0 t.gc_percents))
+    ∷ (codes "lengths", list (rows_from 0 t.lengths))
     ∷ (codes "longest", length_value t.reads t.longest)
+    ∷ (codes "mean_scores", list (rows_from 0 t.mean_scores))
     ∷ (codes "n_bases", count t.bases.n)
     ∷ (codes "q20_bases", count t.bases.at_least_20)
     ∷ (codes "q30_bases", count t.bases.at_least_30)
@@ -91,6 +96,8 @@ side_value t = fields (
     (codes "before", reads_value t.before)
     ∷ (codes "paired", reads_value t.paired)
     ∷ (codes "removed_bases", removed_value t)
+    ∷ (codes "removed_behind", list (rows_from 0 t.removed_behind))
+    ∷ (codes "removed_front", list (rows_from 0 t.removed_front))
     ∷ (codes "unpaired", reads_value t.unpaired) ∷ [])
 
 -- Of steps.
@@ -131,6 +138,7 @@ report_value f = fields (
     ∷ (codes "pairs", pairs_value f.counts)
     ∷ (codes "program", string f.program)
     ∷ (codes "reads", sides_value f.tally)
+    ∷ (codes "schema", count 2)
     ∷ (codes "steps", list (steps_from 0 f.steps f.tally))
     ∷ (codes "version", string f.version) ∷ [])
 

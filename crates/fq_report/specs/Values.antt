@@ -1,6 +1,7 @@
 -- Values of JSON, in the words of a report.
 use Rattle.std.specs.Prelude.{ℕ, Option, Some, None, List, [], ◌∷◌}
-use Rattle.serde_json.specs.Data.{Data, null, number, unsigned, string, array, object, Members, no_members, member}
+use Rattle.serde_json.specs.Data.{Data, null, number, unsigned, string, array, object}
+use Rattle.serde_json.specs.Data.{Members, no_members, member}
 use Rattle.serde_json.specs.View.{items_of}
 
 abbrev pub count : ℕ → Data

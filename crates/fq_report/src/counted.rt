@@ -1,9 +1,11 @@
-//! What was counted, as values of JSON.
+//! Counts as values of JSON.
 
 ghost use Rattle.std.specs.Prelude.{◌≡◌, IfOk, map, get_or};
 ghost use Rattle.serde_json.specs.View.{view};
 ghost use Rattle.fq_report.specs.Values.{list};
-ghost use Rattle.fq_report.specs.Reports.{pairs_value, length_value, lengths_from, reads_value, removed_value, side_value, sides_value, done_value, step_value, steps_from};
+ghost use Rattle.fq_report.specs.Reports.{pairs_value, length_value, rows_from, reads_value};
+ghost use Rattle.fq_report.specs.Reports.{removed_value, side_value, sides_value};
+ghost use Rattle.fq_report.specs.Reports.{done_value, step_value, steps_from};
 
 use fq_pair::Counts;
 use fq_tally::{ReadsTally, Rows, SideTally, StepsTally, Tally};
@@ -46,6 +48,8 @@ fn side_value(alloc: Global, side: &SideTally) -> Result<Value, OutOfMemory>
         "paired": reads_value(alloc, &side.paired)?,
         "unpaired": reads_value(alloc, &side.unpaired)?,
         "removed_bases": removed_value(alloc, side)?,
+        "removed_front": rows_value(alloc, &side.removed_front)?,
+        "removed_behind": rows_value(alloc, &side.removed_behind)?,
     })
 }
 
@@ -57,7 +61,7 @@ fn removed_value(alloc: Global, side: &SideTally) -> Result<Value, OutOfMemory>
     json!(in alloc; {"front": side.front, "behind": side.behind})
 }
 
-// Reads, their bases and their lengths.
+// Counts of reads and of their bases, and histograms of the reads.
 #[tactic(auto, unfolding(crate::specs::Reports::reads_value))]
 fn reads_value(alloc: Global, tally: &ReadsTally) -> Result<Value, OutOfMemory>
     ensures { IfOk result (λ v. view v ≡ reads_value tally.now) }
@@ -73,11 +77,13 @@ fn reads_value(alloc: Global, tally: &ReadsTally) -> Result<Value, OutOfMemory>
         "n_bases": bases.n,
         "shortest": length_value(tally.reads, tally.shortest),
         "longest": length_value(tally.reads, tally.longest),
-        "lengths": lengths_value(alloc, &tally.lengths)?,
+        "lengths": rows_value(alloc, &tally.lengths)?,
+        "mean_scores": rows_value(alloc, &tally.mean_scores)?,
+        "gc_percents": rows_value(alloc, &tally.gc_percents)?,
     })
 }
 
-// The length of one of so many reads.
+// The length of the shortest or the longest of these reads, null if there is no read.
 fn length_value(reads: u64, bases: u64) -> Value
     ensures { view result ≡ length_value reads bases }
 {
@@ -88,18 +94,18 @@ fn length_value(reads: u64, bases: u64) -> Value
     }
 }
 
-// How many reads have each length.
-fn lengths_value(alloc: Global, rows: &Rows) -> Result<Value, OutOfMemory>
-    ensures { IfOk result (λ v. view v ≡ list (lengths_from 0 rows.now)) }
+// Each number that reads have, with the number of these reads.
+fn rows_value(alloc: Global, rows: &Rows) -> Result<Value, OutOfMemory>
+    ensures { IfOk result (λ v. view v ≡ list (rows_from 0 rows.now)) }
 {
-    let mut lengths = Vec::new(alloc);
-    for (length, reads) in rows.as_slice().iter().enumerate() {
+    let mut values = Vec::new(alloc);
+    for (number, reads) in rows.as_slice().iter().enumerate() {
         if *reads > 0 {
-            let row = json!(in alloc; [length, *reads])?;
-            lengths.push(row)?;
+            let row = json!(in alloc; [number, *reads])?;
+            values.push(row)?;
         }
     }
-    Ok(Value::Array(lengths))
+    Ok(Value::Array(values))
 }
 
 // What each step did.
@@ -108,7 +114,8 @@ pub(crate) fn steps_value(
     words: &[&str],
     tally: &Tally,
 ) -> Result<Value, OutOfMemory>
-    ensures { IfOk result (λ v. view v ≡ list (steps_from 0 (map (λ word. word.now) words.now) tally.now)) }
+    ensures { IfOk result (λ v. view v
+        ≡ list (steps_from 0 (map (λ word. word.now) words.now) tally.now)) }
 {
     let mut steps = Vec::new(alloc);
     for (number, word) in words.iter().enumerate() {
@@ -130,7 +137,7 @@ fn step_value(alloc: Global, number: usize, word: &str, tally: &Tally) -> Result
     })
 }
 
-// What it did to the reads of a side.
+// What the step of a number did to the reads of a side.
 #[tactic(auto, unfolding(crate::specs::Reports::done_value))]
 fn done_value(alloc: Global, number: usize, steps: &StepsTally) -> Result<Value, OutOfMemory>
     ensures { IfOk result (λ v. view v ≡ done_value number steps.now) }
@@ -141,7 +148,7 @@ fn done_value(alloc: Global, number: usize, steps: &StepsTally) -> Result<Value,
     })
 }
 
-// How many reads a row has: none where there is no such row.
+// How many reads a row has: none if there is no such row.
 fn reads_in(rows: &Rows, row: usize) -> u64
     ensures { result ≡ get_or rows.now row 0 }
 {

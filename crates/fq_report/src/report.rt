@@ -5,7 +5,9 @@ ghost use Rattle.std.specs.String.{string_bytes};
 ghost use Rattle.serde_json.specs.View.{view};
 ghost use Rattle.fq_report.specs.Values.{optional_text};
 ghost use Rattle.fq_report.specs.Facts.{names_of, facts_of};
-ghost use Rattle.fq_report.specs.Reports.{command_of, encoding_name, outcome_of, inputs_value, outputs_value, report_value, text_of};
+ghost use Rattle.fq_report.specs.Reports.{command_of, encoding_name, outcome_of};
+ghost use Rattle.fq_report.specs.Reports.{inputs_value, outputs_value, report_value, text_of};
+ghost use Rattle.fq_report.specs.Parts.{ArePartsOf};
 
 use crate::counted::{pairs_value, sides_value, steps_value};
 use fq_pair::Counts;
@@ -14,30 +16,30 @@ use fq_text::{Encoding, OutOfMemory};
 use serde_json::{Value, json};
 use std::alloc::Global;
 
-/// Where the pairs came from, by the names of files.
+/// The names of the inputs.
 #[derive(Clone, Copy)]
 pub enum Inputs<'a> {
     /// Forward and reverse reads, each in a file.
     Apart { forward: &'a str, reverse: &'a str },
-    /// One interleaved file: a forward read, then its reverse mate, and so on.
+    /// One interleaved file: each forward read is followed by its reverse mate.
     Interleaved(&'a str),
 }
 
-/// What a report tells of a run that came to the end of its inputs, or to a fault of theirs.
+/// The facts of a run that reached the end of its inputs, or a fault of its inputs.
 #[derive(Clone, Copy)]
 pub struct Report<'a> {
     /// The name of the program.
     pub program: &'a str,
     /// Its version.
     pub version: &'a str,
-    /// Where the pairs came from.
+    /// The names of the inputs.
     pub inputs: Inputs<'a>,
     /// The names of the four outputs.
     pub forward_paired: &'a str,
     pub forward_unpaired: &'a str,
     pub reverse_paired: &'a str,
     pub reverse_unpaired: &'a str,
-    /// The name of the log, if one was wanted.
+    /// The name of the trim log, if one was asked for.
     pub log: Option<&'a str>,
     /// The encoding of the inputs.
     pub encoding: Encoding,
@@ -45,15 +47,16 @@ pub struct Report<'a> {
     pub check_names: bool,
     /// The words of the steps.
     pub steps: &'a [&'a str],
-    /// What was told of a fault of the inputs, without its line end. Nothing where all pairs were trimmed.
+    /// The line that standard error got for a fault of the inputs, without its line end. `None` if
+    /// all pairs were trimmed.
     pub fault: Option<&'a str>,
     /// What became of the pairs.
     pub counts: Counts,
-    /// What was counted of their reads: step n of `steps` is list n of the steps there.
+    /// The counts of their reads. Step n there is step n of `steps`.
     pub tally: &'a Tally,
 }
 
-/// The text of a report: one line of JSON, with its line feed. Memory may be refused for it.
+/// The text of a report: one line of JSON, with its line feed. Memory may be refused.
 pub fn report_text(alloc: Global, report: &Report<'_>) -> Result<String, OutOfMemory>
     ensures { IfOk result (λ text. string_bytes text ≡ text_of (facts_of report.now)) }
 {
@@ -63,28 +66,61 @@ pub fn report_text(alloc: Global, report: &Report<'_>) -> Result<String, OutOfMe
     Ok(text)
 }
 
+// The values of a report that are built from others.
+#[derive(Drop)]
+struct Parts {
+    inputs: Value,
+    outputs: Value,
+    fault: Value,
+    pairs: Value,
+    reads: Value,
+    steps: Value,
+}
+
+// Builds the parts of a report.
+fn parts_of(alloc: Global, report: &Report<'_>) -> Result<Parts, OutOfMemory>
+    ensures { IfOk result (λ parts. ArePartsOf (facts_of report.now) parts) }
+{
+    let inputs = inputs_value(alloc, report.inputs)?;
+    let outputs = outputs_value(alloc, report)?;
+    let fault = optional_text(alloc, report.fault)?;
+    let pairs = pairs_value(alloc, &report.counts)?;
+    let reads = sides_value(alloc, report.tally)?;
+    let steps = steps_value(alloc, report.steps, report.tally)?;
+    Ok(Parts {
+        inputs,
+        outputs,
+        fault,
+        pairs,
+        reads,
+        steps,
+    })
+}
+
 // The whole report.
 #[tactic(auto, unfolding(crate::specs::Reports::report_value))]
 fn report_value(alloc: Global, report: &Report<'_>) -> Result<Value, OutOfMemory>
     ensures { IfOk result (λ v. view v ≡ report_value (facts_of report.now)) }
 {
+    let parts = parts_of(alloc, report)?;
     json!(in alloc; {
+        "schema": 2u64,
         "program": report.program,
         "version": report.version,
         "command": command_of(report.inputs),
-        "inputs": inputs_value(alloc, report.inputs)?,
-        "outputs": outputs_value(alloc, report)?,
+        "inputs": parts.inputs,
+        "outputs": parts.outputs,
         "encoding": encoding_name(report.encoding),
         "name_check": report.check_names,
         "outcome": outcome_of(report.fault),
-        "fault": optional_text(alloc, report.fault)?,
-        "pairs": pairs_value(alloc, &report.counts)?,
-        "reads": sides_value(alloc, report.tally)?,
-        "steps": steps_value(alloc, report.steps, report.tally)?,
+        "fault": parts.fault,
+        "pairs": parts.pairs,
+        "reads": parts.reads,
+        "steps": parts.steps,
     })
 }
 
-// The command that takes such inputs.
+// The command that takes these inputs.
 fn command_of(inputs: Inputs<'_>) -> &'static str
     ensures { result.now ≡ command_of (names_of inputs.entry) }
 {
@@ -144,7 +180,8 @@ fn outputs_value(alloc: Global, report: &Report<'_>) -> Result<Value, OutOfMemor
 
 // A text, if there is one.
 fn optional_text(alloc: Global, text: Option<&str>) -> Result<Value, OutOfMemory>
-    ensures { IfOk result (λ v. view v ≡ optional_text (option_map (λ bytes. bytes.now) text.entry)) }
+    ensures { IfOk result (λ v. view v
+        ≡ optional_text (option_map (λ bytes. bytes.now) text.entry)) }
 {
     match text {
         Some(text) => Value::try_from_str(alloc, text),

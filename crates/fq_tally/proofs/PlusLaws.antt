@@ -1,5 +1,5 @@
 -- Pairs that are tallied apart and added up give the tally of all.
-use Rattle.std.proofs.Common.{◌≡◌, ℕ, zero, suc, ◌-◌, ◌≤◌, Bool, true, false, not, ◌&&◌, cond, List, [], ◌∷◌, ◌++◌, length, min, max, fold, refl, ap, sym, ◌∙◌, arith}
+use Rattle.std.proofs.Common.{◌≡◌, ℕ, zero, suc, ◌≤◌, Bool, true, false, not, ◌&&◌, nat_lt, cond, List, [], ◌∷◌, ◌++◌, length, min, max, fold, refl, ap, sym, ◌∙◌, arith}
 use Rattle.std.proofs.lemmas.List.Sums.{fold-append}
 use Rattle.fq_text.specs.Grammar.{Read}
 use Rattle.fq_trim.specs.declared.step.Step.{Step}
@@ -9,9 +9,9 @@ use Rattle.fq_tally.specs.declared.bases.BaseTally.{BaseTally}
 use Rattle.fq_tally.specs.declared.reads.ReadsTally.{ReadsTally}
 use Rattle.fq_tally.specs.declared.side.SideTally.{SideTally}
 use Rattle.fq_tally.specs.declared.tally.Tally.{Tally}
-use Rattle.fq_tally.specs.Rows.{with_one, row_of, counted, counted_all, rows_plus}
+use Rattle.fq_tally.specs.Rows.{with_one, row_of, counted, counted_if, counted_all, rows_plus}
 use Rattle.fq_tally.specs.Courses.{Part, whole, Course, course, survives}
-use Rattle.fq_tally.specs.Tallies.{no_bases, bases_plus, bases_of, no_reads, with_part, reads_plus, no_side, with_read, side_plus, no_tally, with_pair, tally_of, plus}
+use Rattle.fq_tally.specs.Tallies.{no_bases, bases_plus, bases_of, mean_score, gc_percent, no_reads, with_part, reads_plus, no_side, behind_of, with_read, side_plus, no_tally, with_pair, tally_of, plus}
 use Rattle.fq_tally.proofs.RowLemmas.{plus_none}
 
 -- a count that a u64 can hold
@@ -40,6 +40,10 @@ one_small zero (x ∷ xs) small = (capped_small x 1, small.1)
 one_small (suc row) [] small = (omega arith, one_small row [] tt)
 one_small (suc row) (x ∷ xs) small = (small.0, one_small row xs small.1)
 
+if_small : (b : Bool) (n : ℕ) (xs : List ℕ) → SmallRows xs → SmallRows (counted_if b n xs)
+if_small true n xs small = one_small (row_of n) xs small
+if_small false n xs small = small
+
 all_small : (ns xs : List ℕ) → SmallRows xs → SmallRows (counted_all ns xs)
 all_small [] xs small = small
 all_small (n ∷ ns) xs small = all_small ns (counted n xs) (one_small (row_of n) xs small)
@@ -54,6 +58,10 @@ rows_one (suc row) (x ∷ xs) [] small =
     let none = plus_none xs in cc
 rows_one zero (x ∷ xs) (y ∷ ys) small = ap (λ n. n ∷ rows_plus xs ys) (capped_assoc x y 1)
 rows_one (suc row) (x ∷ xs) (y ∷ ys) small = ap (λ ns. capped_sum x y ∷ ns) (rows_one row xs ys small.1)
+
+rows_if : (b : Bool) (n : ℕ) (xs ys : List ℕ) → SmallRows xs → counted_if b n (rows_plus xs ys) ≡ rows_plus xs (counted_if b n ys)
+rows_if true n xs ys small = rows_one (row_of n) xs ys small
+rows_if false n xs ys small = refl
 
 rows_all : (ns xs ys : List ℕ) → SmallRows xs → counted_all ns (rows_plus xs ys) ≡ rows_plus xs (counted_all ns ys)
 rows_all [] xs ys small = refl
@@ -108,6 +116,8 @@ record SmallReads (t : ReadsTally) : Type 0 where
   bases : SmallBases t.bases
   shortest : Small t.shortest
   lengths : SmallRows t.lengths
+  mean_scores : SmallRows t.mean_scores
+  gc_percents : SmallRows t.gc_percents
 
 part_small : (p : Part) (t : ReadsTally) → SmallReads t → SmallReads (with_part p t)
 part_small p t small = let short = small.shortest in record {
@@ -115,11 +125,13 @@ part_small p t small = let short = small.shortest in record {
   bases = bases_small t.bases (bases_of p);
   shortest = omega arith;
   lengths = one_small _ t.lengths small.lengths;
+  mean_scores = if_small (nat_lt 0 (length p.seq)) (mean_score (bases_of p)) t.mean_scores small.mean_scores;
+  gc_percents = if_small (nat_lt 0 (length p.seq)) (gc_percent (bases_of p)) t.gc_percents small.gc_percents;
 }
 
 none_small : SmallReads no_reads
 unfolding SmallRows
-none_small = record { reads = omega arith; bases = record { bases = omega arith; at_least_20 = omega arith; at_least_30 = omega arith; score_sum = omega arith; gc = omega arith; n = omega arith }; shortest = omega arith; lengths = tt }
+none_small = record { reads = omega arith; bases = record { bases = omega arith; at_least_20 = omega arith; at_least_30 = omega arith; score_sum = omega arith; gc = omega arith; n = omega arith }; shortest = omega arith; lengths = tt; mean_scores = tt; gc_percents = tt }
 
 min_assoc : (a b c : ℕ) → min (min a b) c ≡ min a (min b c)
 min_assoc a b c = omega arith
@@ -139,10 +151,12 @@ reads_part p a b small =
     let s = bases_assoc a.bases b.bases (bases_of p) in
     let t = min_assoc a.shortest b.shortest (length p.seq) in
     let u = max_assoc a.longest b.longest (length p.seq) in
-    let v = rows_one (row_of (length p.seq)) a.lengths b.lengths small.lengths in cc
+    let v = rows_one (row_of (length p.seq)) a.lengths b.lengths small.lengths in
+    let w = rows_if (nat_lt 0 (length p.seq)) (mean_score (bases_of p)) a.mean_scores b.mean_scores small.mean_scores in
+    let x = rows_if (nat_lt 0 (length p.seq)) (gc_percent (bases_of p)) a.gc_percents b.gc_percents small.gc_percents in cc
 
 abbrev reads_parts : ReadsTally → ReadsTally
-reads_parts t = record { reads = t.reads; bases = t.bases; shortest = t.shortest; longest = t.longest; lengths = t.lengths }
+reads_parts t = record { reads = t.reads; bases = t.bases; shortest = t.shortest; longest = t.longest; lengths = t.lengths; mean_scores = t.mean_scores; gc_percents = t.gc_percents }
 
 reads_none : (t : ReadsTally) → SmallReads t → reads_plus t no_reads ≡ t
 reads_none t small =
@@ -151,6 +165,8 @@ reads_none t small =
     let u = min_none t.shortest small.shortest in
     let v = max_none t.longest in
     let w = plus_none t.lengths in
+    let x = plus_none t.mean_scores in
+    let y = plus_none t.gc_percents in
     let same : reads_plus t no_reads ≡ reads_parts t = cc in same
 
 -- Sides.
@@ -161,6 +177,8 @@ record SmallSide (t : SideTally) : Type 0 where
   unpaired : SmallReads t.unpaired
   front : Small t.front
   behind : Small t.behind
+  removed_front : SmallRows t.removed_front
+  removed_behind : SmallRows t.removed_behind
   shortened : SmallRows t.steps.shortened
   dropped : SmallRows t.steps.dropped
 
@@ -182,7 +200,7 @@ sum_if false n s t = refl
 
 no_side_small : SmallSide no_side
 unfolding SmallRows
-no_side_small = record { before = none_small; paired = none_small; unpaired = none_small; front = omega arith; behind = omega arith; shortened = tt; dropped = tt }
+no_side_small = record { before = none_small; paired = none_small; unpaired = none_small; front = omega arith; behind = omega arith; removed_front = tt; removed_behind = tt; shortened = tt; dropped = tt }
 
 read_small : (read : Read) (c : Course) (mate : Bool) (t : SideTally) → SmallSide t → SmallSide (with_read read c mate t)
 read_small read c mate t small = record {
@@ -191,6 +209,8 @@ read_small read c mate t small = record {
   unpaired = part_if_small _ c.left t.unpaired small.unpaired;
   front = sum_if_small _ c.front t.front small.front;
   behind = sum_if_small _ _ t.behind small.behind;
+  removed_front = if_small (survives c.left) c.front t.removed_front small.removed_front;
+  removed_behind = if_small (survives c.left) (behind_of read c.left c.front) t.removed_behind small.removed_behind;
   shortened = all_small c.shortened t.steps.shortened small.shortened;
   dropped = all_small c.dropped t.steps.dropped small.dropped;
 }
@@ -201,7 +221,9 @@ side_read read c mate s t small =
     let paired = part_if (survives c.left && mate) c.left s.paired t.paired small.paired in
     let unpaired = part_if (survives c.left && not mate) c.left s.unpaired t.unpaired small.unpaired in
     let front = sum_if (survives c.left) c.front s.front t.front in
-    let behind = sum_if (survives c.left) (length read.seq - c.front - length c.left.seq) s.behind t.behind in
+    let behind = sum_if (survives c.left) (behind_of read c.left c.front) s.behind t.behind in
+    let removed_front = rows_if (survives c.left) c.front s.removed_front t.removed_front small.removed_front in
+    let removed_behind = rows_if (survives c.left) (behind_of read c.left c.front) s.removed_behind t.removed_behind small.removed_behind in
     let shortened = rows_all c.shortened s.steps.shortened t.steps.shortened small.shortened in
     let dropped = rows_all c.dropped s.steps.dropped t.steps.dropped small.dropped in cc
 
@@ -212,6 +234,8 @@ side_parts t = record {
   unpaired = t.unpaired;
   front = t.front;
   behind = t.behind;
+  removed_front = t.removed_front;
+  removed_behind = t.removed_behind;
   steps = record { shortened = t.steps.shortened; dropped = t.steps.dropped };
 }
 
@@ -222,6 +246,8 @@ side_none t small =
     let unpaired = reads_none t.unpaired small.unpaired in
     let front = capped_none t.front small.front in
     let behind = capped_none t.behind small.behind in
+    let removed_front = plus_none t.removed_front in
+    let removed_behind = plus_none t.removed_behind in
     let shortened = plus_none t.steps.shortened in
     let dropped = plus_none t.steps.dropped in
     let same : side_plus t no_side ≡ side_parts t = cc in same

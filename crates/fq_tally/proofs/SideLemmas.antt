@@ -12,7 +12,9 @@ use Rattle.fq_trim.proofs.PlaceLemmas.{length-places, length-scores, scores_at, 
 use Rattle.fq_pair.specs.Outputs.{places_of}
 use Rattle.fq_pair.specs.Summaries.{capped_sum}
 use Rattle.fq_pair.proofs.AddLemmas.{kept_survives}
+use Rattle.fq_tally.specs.declared.bases.BaseTally.{BaseTally}
 use Rattle.fq_tally.specs.declared.side.SideTally.{SideTally}
+use Rattle.fq_tally.specs.Rows.{counted, counted_if}
 use Rattle.fq_tally.specs.Courses.{Part, part_at, whole, survives}
 use Rattle.fq_tally.specs.Tallies.{is_gc, is_n, bases_of, bases_plus, with_part, with_left}
 use Rattle.fq_tally.proofs.CourseLemmas.{part, cut}
@@ -80,6 +82,14 @@ module _ (e : Encoding) (seq qual : List ℕ) (a b : ℕ) (order : a ≤ b) (wit
       let n = letters is_n in
       cc
 
+-- the bases G or C of a read are among its bases, of which there are few
+pub few_bases : (p : Part) (b : BaseTally) → b ≡ bases_of p → length p.seq ≤ 1048576 → (b.bases ≤ 1048576) × (b.gc ≤ b.bases)
+few_bases p b is few =
+    let bases = ap (λ (t : BaseTally). t.bases) is in
+    let gc = ap (λ (t : BaseTally). t.gc) is in
+    let most = count_by-le-length is_gc p.seq in
+    (omega arith, omega arith)
+
 -- what is kept of a read, as the part between two places
 pub kept_part : (read : Read) (k : Kept) (e : Encoding) (seq qual : List ℕ) → e ≡ read.encoding → seq ≡ read.seq → qual ≡ read.qual → k.stop ≤ length read.seq → length read.qual ≡ length read.seq →
     cut k.start (k.stop - k.start) (part e seq qual) ≡ part_at (places_of (Some k)) (whole read)
@@ -103,6 +113,8 @@ pub survivor : (read : Read) (k : Kept) (mate : Bool) (t : SideTally) → with_l
   unpaired = cond (not mate) (with_part (part_at (places_of (Some k)) (whole read)) t.unpaired) t.unpaired;
   front = capped_sum t.front k.start;
   behind = capped_sum t.behind (length read.seq - k.stop);
+  removed_front = counted k.start t.removed_front;
+  removed_behind = counted (length read.seq - k.stop) t.removed_behind;
   steps = t.steps;
 }
 survivor read k mate t =
@@ -117,6 +129,8 @@ survivor read k mate t =
       unpaired = cond (b && not mate) (with_part left t.unpaired) t.unpaired;
       front = cond b (capped_sum t.front k.start) t.front;
       behind = cond b (capped_sum t.behind behind) t.behind;
+      removed_front = counted_if b k.start t.removed_front;
+      removed_behind = counted_if b behind t.removed_behind;
       steps = t.steps;
     } in
     ap (λ (b : Bool). made b (length read.seq - k.start - length left.seq)) is ∙ ap (made true) removed

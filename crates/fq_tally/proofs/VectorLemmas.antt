@@ -40,7 +40,8 @@ pub vector_summed : (v : List ℕ) → sum_l v ≡ sum v
 vector_summed [] = refl
 vector_summed (x ∷ xs) = ap (λ rest. x + rest) (vector_summed xs) ∙ sym (sum_by-cons (λ (y : ℕ). y) x xs)
 
--- What masks keep. Where zeros stand behind other bytes, a vector that begins among these has the last of them and the first zeros.
+-- What masks keep. If zeros follow other bytes, a vector that begins among these has the last of
+-- them and the first zeros.
 
 dropped : (a b m n k t : ℕ) → t ≡ k + m → drop k (replicate t a ++ replicate n b) ≡ replicate m a ++ replicate n b
 dropped a b m n zero t all = ap (λ i. replicate i a ++ replicate n b) (omega arith)

@@ -1,14 +1,15 @@
 -- Worked pairs, computed from the definitions alone.
-use Rattle.std.proofs.Common.{◌≡◌, ℕ, true, false, List, [], ◌∷◌, codes, refl}
+use Rattle.std.proofs.Common.{◌≡◌, ℕ, ◌*◌, true, false, List, [], ◌∷◌, codes, refl}
 use Rattle.fq_text.specs.declared.encoding.Encoding.TheVariants.{Sanger}
 use Rattle.fq_text.specs.Grammar.{Read}
 use Rattle.fq_trim.specs.declared.step.Step.{Step}
 use Rattle.fq_trim.specs.declared.step.Step.TheVariants.{Leading, Trailing, Crop, MinLen}
 use Rattle.fq_pair.specs.Mates.{Mates, mates_in}
+use Rattle.fq_tally.specs.declared.bases.BaseTally.{BaseTally}
 use Rattle.fq_tally.specs.declared.reads.ReadsTally.{ReadsTally}
-use Rattle.fq_tally.specs.Rows.{row_of, counted, rows_plus}
+use Rattle.fq_tally.specs.Rows.{with_one, row_of, counted, rows_plus}
 use Rattle.fq_tally.specs.Courses.{course, passage}
-use Rattle.fq_tally.specs.Tallies.{is_gc, is_n, no_reads, no_tally, bases_of, tally_of, plus}
+use Rattle.fq_tally.specs.Tallies.{is_gc, is_n, mean_score, gc_percent, no_reads, no_tally, bases_of, tally_of, plus}
 
 -- Rows.
 
@@ -44,6 +45,23 @@ lower_n = refl
 -- The scores 2, 20, 30, 29 and 40.
 some_bases : bases_of (record { encoding = Sanger; seq = codes "GcANn"; qual = codes "#5?>I" }) ≡ record { bases = 5; at_least_20 = 4; at_least_30 = 2; score_sum = 121; gc = 2; n = 2 }
 some_bases = refl
+
+abbrev scored : ℕ → ℕ → ℕ → BaseTally
+scored bases score_sum gc = record { bases = bases; at_least_20 = 0; at_least_30 = 0; score_sum = score_sum; gc = gc; n = 0 }
+
+-- 119 / 4 is 29.75
+mean_is_cut : mean_score (scored 4 119 0) ≡ 29
+mean_is_cut = refl
+
+-- 1 of 3 is 33.3 per cent, 2 of 3 are 66.7, 1 of 8 is 12.5
+a_third : gc_percent (scored 3 0 1) ≡ 33
+a_third = refl
+
+two_thirds : gc_percent (scored 3 0 2) ≡ 67
+two_thirds = refl
+
+half_a_per_cent : gc_percent (scored 8 0 1) ≡ 13
+half_a_per_cent = refl
 
 -- What steps do.
 
@@ -85,24 +103,42 @@ first = mates_in (read_of (codes "ACG") (codes "III")) (read_of (codes "T") (cod
 abbrev second : Mates
 second = mates_in (read_of (codes "GG") (codes "II")) (read_of [] [])
 
-abbrev before : ReadsTally
-before = record { reads = 2; bases = record { bases = 5; at_least_20 = 5; at_least_30 = 5; score_sum = 200; gc = 4; n = 0 }; shortest = 2; longest = 3; lengths = 0 ∷ 0 ∷ 1 ∷ 1 ∷ [] }
+abbrev reads_of : ℕ → BaseTally → ℕ → ℕ → List ℕ → List ℕ → List ℕ → ReadsTally
+reads_of reads bases shortest longest lengths mean_scores gc_percents = record {
+  reads = reads;
+  bases = bases;
+  shortest = shortest;
+  longest = longest;
+  lengths = lengths;
+  mean_scores = mean_scores;
+  gc_percents = gc_percents;
+}
+
+abbrev good : ℕ → ℕ → BaseTally
+good bases gc = record { bases = bases; at_least_20 = bases; at_least_30 = bases; score_sum = 40 * bases; gc = gc; n = 0 }
+
+abbrev score_20 : BaseTally
+score_20 = record { bases = 1; at_least_20 = 1; at_least_30 = 0; score_sum = 20; gc = 0; n = 0 }
 
 two_pairs : tally_of crop (first ∷ second ∷ []) ≡ record {
   forward = record {
-    before = before;
-    paired = record { reads = 1; bases = record { bases = 2; at_least_20 = 2; at_least_30 = 2; score_sum = 80; gc = 1; n = 0 }; shortest = 2; longest = 2; lengths = 0 ∷ 0 ∷ 1 ∷ [] };
-    unpaired = record { reads = 1; bases = record { bases = 2; at_least_20 = 2; at_least_30 = 2; score_sum = 80; gc = 2; n = 0 }; shortest = 2; longest = 2; lengths = 0 ∷ 0 ∷ 1 ∷ [] };
+    before = reads_of 2 (good 5 4) 2 3 (with_one 2 (with_one 3 [])) (with_one 40 (with_one 40 [])) (with_one 67 (with_one 100 []));
+    paired = reads_of 1 (good 2 1) 2 2 (with_one 2 []) (with_one 40 []) (with_one 50 []);
+    unpaired = reads_of 1 (good 2 2) 2 2 (with_one 2 []) (with_one 40 []) (with_one 100 []);
     front = 0;
     behind = 1;
+    removed_front = 2 ∷ [];
+    removed_behind = 1 ∷ 1 ∷ [];
     steps = record { shortened = 1 ∷ []; dropped = [] };
   };
   reverse = record {
-    before = record { reads = 2; bases = record { bases = 1; at_least_20 = 1; at_least_30 = 0; score_sum = 20; gc = 0; n = 0 }; shortest = 0; longest = 1; lengths = 1 ∷ 1 ∷ [] };
-    paired = record { reads = 1; bases = record { bases = 1; at_least_20 = 1; at_least_30 = 0; score_sum = 20; gc = 0; n = 0 }; shortest = 1; longest = 1; lengths = 0 ∷ 1 ∷ [] };
+    before = reads_of 2 score_20 0 1 (1 ∷ 1 ∷ []) (with_one 20 []) (1 ∷ []);
+    paired = reads_of 1 score_20 1 1 (0 ∷ 1 ∷ []) (with_one 20 []) (1 ∷ []);
     unpaired = no_reads;
     front = 0;
     behind = 0;
+    removed_front = 1 ∷ [];
+    removed_behind = 1 ∷ [];
     steps = record { shortened = []; dropped = 1 ∷ [] };
   };
 }

@@ -1,5 +1,6 @@
--- What becomes of a read when lists of steps are taken in turn, each on what the one before left.
-use Rattle.std.specs.Prelude.{ℕ, suc, ◌+◌, Bool, not, nat_lt, Option, Some, None, List, [], ◌∷◌, length, if◌then◌else◌}
+-- What becomes of a read if lists of steps are taken in turn, each on what the list before left.
+use Rattle.std.specs.Prelude.{ℕ, suc, ◌+◌, Bool, not, nat_lt, Option, Some, None, if◌then◌else◌}
+use Rattle.std.specs.Prelude.{List, [], ◌∷◌, length}
 use Rattle.fq_text.specs.declared.encoding.Encoding.{Encoding}
 use Rattle.fq_text.specs.Grammar.{Read}
 use Rattle.fq_trim.specs.declared.step.Step.{Step}
@@ -18,24 +19,35 @@ whole read = record { encoding = read.encoding; seq = read.seq; qual = read.qual
 
 -- the bases at these places
 abbrev pub part_at : List ℕ → Part → Part
-part_at at part = record { encoding = part.encoding; seq = bytes_at at part.seq; qual = bytes_at at part.qual }
+part_at at part = record {
+  encoding = part.encoding;
+  seq = bytes_at at part.seq;
+  qual = bytes_at at part.qual;
+}
 
--- what became of a read: what is left of it, how many bases were removed in front of that, the numbers of the lists of steps that
--- shortened it, and the number of the one that dropped it
+-- what became of a read: what is left of it, how many bases were removed before that, the numbers
+-- of the lists of steps that shortened it, and the number of the list that dropped it
 pub record Course : Type 0 where
   pub left : Part
   pub front : ℕ
   pub shortened : List ℕ
   pub dropped : List ℕ
 
--- list n keeps these places of a part, and what is left of it takes this course. It drops a part of which it keeps none, and shortens
--- one of which it keeps some but not all.
+-- list n keeps these places of a part, and what is left of it takes this course. The list drops a
+-- part of which it keeps no place, and shortens one of which it keeps some places but not all.
 abbrev pub after : ℕ → List ℕ → Part → Course → Course
-after n [] part course = record { left = part_at [] part; front = 0; shortened = []; dropped = n ∷ [] }
+after n [] part course = record {
+  left = part_at [] part;
+  front = 0;
+  shortened = [];
+  dropped = n ∷ [];
+}
 after n (start ∷ others) part course = record {
   left = course.left;
   front = start + course.front;
-  shortened = if nat_lt (length (start ∷ others)) (length part.qual) then n ∷ course.shortened else course.shortened;
+  shortened =
+      if nat_lt (length (start ∷ others)) (length part.qual) then n ∷ course.shortened
+      else course.shortened;
   dropped = course.dropped;
 }
 
@@ -59,8 +71,8 @@ course lists read = course_of 0 lists (whole read)
 abbrev pub survives : Part → Bool
 survives left = not (is_empty left.seq)
 
--- what steps do to a read: the places of it that they keep, how many bases they remove in front of these, the numbers of the steps that
--- shortened it, and the number of the one that dropped it
+-- what steps do to a read: the places of it that they keep, how many bases they remove before
+-- these, the numbers of the steps that shortened it, and the number of the step that dropped it
 pub record Passage : Type 0 where
   pub kept : List ℕ
   pub front : ℕ
@@ -76,7 +88,7 @@ passage steps read = record {
   dropped = (course (alone steps) read).dropped;
 }
 
--- a number, where there is one
+-- a number, if there is one
 abbrev pub numbers_of : Option ℕ → List ℕ
 numbers_of None = []
 numbers_of (Some n) = n ∷ []

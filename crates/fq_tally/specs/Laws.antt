@@ -6,7 +6,7 @@ use Rattle.fq_pair.specs.Outputs as outputs
 use Rattle.fq_pair.specs.Outputs.{kept_places}
 use Rattle.fq_tally.specs.Courses.{alone, part_at, whole, course, survives}
 
--- lists of steps, one behind the other
+-- lists of steps, one after the other
 abbrev pub one_list : List (List Step) → List Step
 one_list [] = []
 one_list (steps ∷ others) = steps ++ one_list others
@@ -20,7 +20,7 @@ abbrev pub LeavesTheSame : Type 0
 LeavesTheSame = (lists : List (List Step)) (read : Read) → length read.qual ≡ length read.seq →
     (course lists read).left ≡ part_at (kept_places (one_list lists) read) (whole read)
 
--- and a read survives them in turn where it survives them as one list
+-- and a read survives them in turn if and only if it survives them as one list
 abbrev pub SurvivesTheSame : Type 0
 SurvivesTheSame = (lists : List (List Step)) (read : Read) → length read.qual ≡ length read.seq →
     survives (course lists read).left ≡ outputs.survives (one_list lists) read

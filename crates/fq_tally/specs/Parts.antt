@@ -1,5 +1,6 @@
 -- Parts of a read, from one place up to another.
-use Rattle.std.specs.Prelude.{◌≡◌, ◌≤◌, ℕ, true, ◌+◌, ◌-◌, List, length, take, drop, sum, count_by, nat_le}
+use Rattle.std.specs.Prelude.{◌≡◌, ◌≤◌, ℕ, true, ◌+◌, ◌-◌, nat_le}
+use Rattle.std.specs.Prelude.{List, length, take, drop, sum, count_by}
 use Rattle.std.specs.List.{list_all}
 use Rattle.fq_text.specs.declared.encoding.Encoding.{Encoding}
 use Rattle.fq_text.specs.Scores.{is_scored}
@@ -9,7 +10,11 @@ use Rattle.fq_tally.specs.Tallies.{is_gc, is_n}
 
 -- the bases from one place up to another, with their quality bytes
 abbrev pub part_between : Encoding → List ℕ → List ℕ → ℕ → ℕ → Part
-part_between e seq qual from to = record { encoding = e; seq = take (to - from) (drop from seq); qual = take (to - from) (drop from qual) }
+part_between e seq qual from to = record {
+  encoding = e;
+  seq = take (to - from) (drop from seq);
+  qual = take (to - from) (drop from qual);
+}
 
 -- There is such a part of these bases, each of which has a quality byte with a score.
 pub record HasPart (e : Encoding) (seq qual : List ℕ) (from to : ℕ) : Type 0 where
@@ -19,7 +24,8 @@ pub record HasPart (e : Encoding) (seq qual : List ℕ) (from to : ℕ) : Type 0
   pub order : from ≤ to
   pub within : to ≤ length seq
 
--- What is counted of bases and of their quality bytes: of these how many are at least `lower`, how many at least `upper`, and their sum.
+-- What is counted of bases and of their quality bytes: of these how many are at least `lower`, how
+-- many are at least `upper`, and their sum.
 pub record IsCount (lower upper : ℕ) (seq qual : List ℕ) (c : Counted) : Type 0 where
   pub gc : c.gc ≡ count_by is_gc seq
   pub n : c.n ≡ count_by is_n seq
@@ -27,7 +33,8 @@ pub record IsCount (lower upper : ℕ) (seq qual : List ℕ) (c : Counted) : Typ
   pub high : c.at_least_high ≡ count_by (nat_le upper) qual
   pub sum : c.sum ≡ sum qual
 
--- The same of more bases is added. The sum grows by no more than 65,535: the bytes are those of a vector.
+-- The counts of more bases are added. The sum grows by no more than 65,535, since the bytes are
+-- those of a vector.
 pub record CountsOn (lower upper : ℕ) (seq qual : List ℕ) (old new : Counted) : Type 0 where
   pub gc : new.gc ≡ old.gc + count_by is_gc seq
   pub n : new.n ≡ old.n + count_by is_n seq

@@ -1,5 +1,5 @@
--- How many reads have each number: row n has how many have n.
-use Rattle.std.specs.Prelude.{ℕ, zero, suc, ◌≤◌, List, [], ◌∷◌, length, min}
+-- How many reads have each number, a histogram: row n counts the reads that have n.
+use Rattle.std.specs.Prelude.{ℕ, zero, suc, ◌≤◌, Bool, List, [], ◌∷◌, length, min, if◌then◌else◌}
 use Rattle.fq_pair.specs.Summaries.{capped_sum}
 
 -- one more in a row
@@ -16,6 +16,10 @@ row_of number = min number 10001
 -- one more of a number
 abbrev pub counted : ℕ → List ℕ → List ℕ
 counted number rows = with_one (row_of number) rows
+
+-- one more of a number, if this holds
+abbrev pub counted_if : Bool → ℕ → List ℕ → List ℕ
+counted_if holds number rows = if holds then counted number rows else rows
 
 -- one more of each of these numbers
 abbrev pub counted_all : List ℕ → List ℕ → List ℕ

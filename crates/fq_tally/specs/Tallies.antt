@@ -1,5 +1,8 @@
--- What is counted of pairs and of what steps leave of them. A sum that is larger than the largest u64 is kept at that.
-use Rattle.std.specs.Prelude.{ℕ, ◌-◌, Bool, not, ◌||◌, ◌&&◌, ◌==◌, nat_le, List, [], length, sum, count_by, fold, min, max, if◌then◌else◌}
+-- What is counted of pairs and of what steps leave of them. A sum that would be larger than the
+-- largest u64 is kept at that.
+use Rattle.std.specs.Prelude.{ℕ, ◌+◌, ◌-◌, ◌*◌, ◌/◌, min, max, nat_le, nat_lt}
+use Rattle.std.specs.Prelude.{Bool, not, ◌||◌, ◌&&◌, ◌==◌, if◌then◌else◌}
+use Rattle.std.specs.Prelude.{List, [], length, sum, count_by, fold}
 use Rattle.fq_text.specs.Grammar.{Read}
 use Rattle.fq_trim.specs.declared.step.Step.{Step}
 use Rattle.fq_trim.specs.Keeping.{scores}
@@ -10,7 +13,7 @@ use Rattle.fq_tally.specs.declared.reads.ReadsTally.{ReadsTally}
 use Rattle.fq_tally.specs.declared.steps.StepsTally.{StepsTally}
 use Rattle.fq_tally.specs.declared.side.SideTally.{SideTally}
 use Rattle.fq_tally.specs.declared.tally.Tally.{Tally}
-use Rattle.fq_tally.specs.Rows.{counted, counted_all, rows_plus}
+use Rattle.fq_tally.specs.Rows.{counted, counted_if, counted_all, rows_plus}
 use Rattle.fq_tally.specs.Courses.{Part, whole, Course, course, survives}
 
 -- Of bases.
@@ -48,27 +51,40 @@ bases_plus a b = record {
 
 -- Of reads.
 
+-- the whole part of the mean score of a read
+abbrev pub mean_score : BaseTally → ℕ
+mean_score read = read.score_sum / read.bases
+
+-- the per cent of the bases of a read that are G or C, to the nearest whole number, halves up
+abbrev pub gc_percent : BaseTally → ℕ
+gc_percent read = (200 * read.gc + read.bases) / (2 * read.bases)
+
 abbrev pub no_reads : ReadsTally
-no_reads = record { reads = 0; bases = no_bases; shortest = 18446744073709551615; longest = 0; lengths = [] }
-
-abbrev pub with_part : Part → ReadsTally → ReadsTally
-with_part part t = record {
-  reads = capped_sum t.reads 1;
-  bases = bases_plus t.bases (bases_of part);
-  shortest = min t.shortest (length part.seq);
-  longest = max t.longest (length part.seq);
-  lengths = counted (length part.seq) t.lengths;
+no_reads = record {
+  reads = 0;
+  bases = no_bases;
+  shortest = 18446744073709551615;
+  longest = 0;
+  lengths = [];
+  mean_scores = [];
+  gc_percents = [];
 }
 
--- a read whose bases are counted
+-- One more read, of which this was counted. A read without bases has no mean score and no per cent.
 abbrev pub with_bases : BaseTally → ReadsTally → ReadsTally
-with_bases bases t = record {
+with_bases read t = record {
   reads = capped_sum t.reads 1;
-  bases = bases_plus t.bases bases;
-  shortest = min t.shortest bases.bases;
-  longest = max t.longest bases.bases;
-  lengths = counted bases.bases t.lengths;
+  bases = bases_plus t.bases read;
+  shortest = min t.shortest read.bases;
+  longest = max t.longest read.bases;
+  lengths = counted read.bases t.lengths;
+  mean_scores = counted_if (nat_lt 0 read.bases) (mean_score read) t.mean_scores;
+  gc_percents = counted_if (nat_lt 0 read.bases) (gc_percent read) t.gc_percents;
 }
+
+-- one more read, which has these bases
+abbrev pub with_part : Part → ReadsTally → ReadsTally
+with_part part t = with_bases (bases_of part) t
 
 abbrev pub reads_plus : ReadsTally → ReadsTally → ReadsTally
 reads_plus a b = record {
@@ -77,6 +93,8 @@ reads_plus a b = record {
   shortest = min a.shortest b.shortest;
   longest = max a.longest b.longest;
   lengths = rows_plus a.lengths b.lengths;
+  mean_scores = rows_plus a.mean_scores b.mean_scores;
+  gc_percents = rows_plus a.gc_percents b.gc_percents;
 }
 
 -- Of steps: how many reads each list of steps shortened, and how many it dropped.
@@ -99,17 +117,32 @@ steps_plus a b = record {
 -- Of a side.
 
 abbrev pub no_side : SideTally
-no_side = record { before = no_reads; paired = no_reads; unpaired = no_reads; front = 0; behind = 0; steps = no_steps }
+no_side = record {
+  before = no_reads;
+  paired = no_reads;
+  unpaired = no_reads;
+  front = 0;
+  behind = 0;
+  removed_front = [];
+  removed_behind = [];
+  steps = no_steps;
+}
 
--- A read, what is left of it, how many bases were removed in front of that, and whether its mate survives. Bases that are removed in
--- front and behind are those of the reads that survive.
+-- how many bases of a read were removed after what is left of it, if so many were removed before
+abbrev pub behind_of : Read → Part → ℕ → ℕ
+behind_of read left front = length read.seq - front - length left.seq
+
+-- One more read, what is left of it, how many bases were removed before that, and whether its mate
+-- survives. Removed bases are counted of the reads that survive.
 abbrev pub with_left : Read → Part → ℕ → Bool → SideTally → SideTally
 with_left read left front mate t = record {
   before = with_part (whole read) t.before;
   paired = if survives left && mate then with_part left t.paired else t.paired;
   unpaired = if survives left && not mate then with_part left t.unpaired else t.unpaired;
   front = if survives left then capped_sum t.front front else t.front;
-  behind = if survives left then capped_sum t.behind (length read.seq - front - length left.seq) else t.behind;
+  behind = if survives left then capped_sum t.behind (behind_of read left front) else t.behind;
+  removed_front = counted_if (survives left) front t.removed_front;
+  removed_behind = counted_if (survives left) (behind_of read left front) t.removed_behind;
   steps = t.steps;
 }
 
@@ -121,6 +154,8 @@ with_steps course t = record {
   unpaired = t.unpaired;
   front = t.front;
   behind = t.behind;
+  removed_front = t.removed_front;
+  removed_behind = t.removed_behind;
   steps = with_course course t.steps;
 }
 
@@ -135,6 +170,8 @@ side_plus a b = record {
   unpaired = reads_plus a.unpaired b.unpaired;
   front = capped_sum a.front b.front;
   behind = capped_sum a.behind b.behind;
+  removed_front = rows_plus a.removed_front b.removed_front;
+  removed_behind = rows_plus a.removed_behind b.removed_behind;
   steps = steps_plus a.steps b.steps;
 }
 
@@ -145,12 +182,17 @@ no_tally = record { forward = no_side; reverse = no_side }
 
 abbrev pub with_pair : List (List Step) → Tally → Mates → Tally
 with_pair lists t m = record {
-  forward = with_read m.forward (course lists m.forward) (survives (course lists m.reverse).left) t.forward;
-  reverse = with_read m.reverse (course lists m.reverse) (survives (course lists m.forward).left) t.reverse;
+  forward = with_read m.forward (course lists m.forward)
+      (survives (course lists m.reverse).left) t.forward;
+  reverse = with_read m.reverse (course lists m.reverse)
+      (survives (course lists m.forward).left) t.reverse;
 }
 
 abbrev pub tally_of : List (List Step) → List Mates → Tally
 tally_of lists pairs = fold (with_pair lists) no_tally pairs
 
 abbrev pub plus : Tally → Tally → Tally
-plus a b = record { forward = side_plus a.forward b.forward; reverse = side_plus a.reverse b.reverse }
+plus a b = record {
+  forward = side_plus a.forward b.forward;
+  reverse = side_plus a.reverse b.reverse;
+}

@@ -1,6 +1,6 @@
 //! Counts of bases and of their scores.
 
-ghost use Rattle.std.specs.Prelude.{◌≡◌, ◌≤◌, ℕ, true, ◌+◌, ◌-◌, length, take, drop, sum, count_by, nat_le};
+ghost use Rattle.std.specs.Prelude.{◌≡◌, ◌≤◌, ℕ, true, ◌+◌, ◌-◌, length, take, drop, sum, nat_le};
 ghost use Rattle.std.specs.List.{list_all};
 ghost use Rattle.fq_text.specs.Scores.{is_scored, value_of};
 ghost use Rattle.fq_text.specs.declared.encoding.Encoding.TheVariants.{Solexa};
@@ -11,26 +11,27 @@ use crate::vectors::{WIDTH, at_least, gc_in, n_in, sum_of, vector_of};
 use fq_text::Encoding;
 use std::simd::prelude::*;
 
-/// Counts of bases and of their scores. A sum that is larger than `u64::MAX` is kept at that.
+/// Counts of bases and of their scores. A sum that would be larger than `u64::MAX` is kept at that.
 #[derive(Clone, Copy, Debug, PartialEq, Eq)]
 pub struct BaseTally {
     /// All bases.
     pub bases: u64,
-    /// Those with a Phred score of at least 20.
+    /// Bases with a Phred score of at least 20.
     pub at_least_20: u64,
-    /// Those with a Phred score of at least 30.
+    /// Bases with a Phred score of at least 30.
     pub at_least_30: u64,
-    /// The sum of their Phred scores.
+    /// The sum of the Phred scores of all bases.
     pub score_sum: u64,
-    /// Those that are G or C, in either case.
+    /// Bases G or C, in either case.
     pub gc: u64,
-    /// Those that are N, in either case.
+    /// Bases N, in either case.
     pub n: u64,
 }
 
 impl BaseTally {
     ghost use Rattle.fq_tally.specs.Parts.{HasPart, part_between};
     ghost use Rattle.fq_tally.specs.Tallies.{no_bases, bases_of, bases_plus};
+    ghost use Rattle.fq_tally.specs.Tallies.{mean_score, gc_percent};
 
     // No bases.
     pub(crate) fn zero() -> BaseTally
@@ -47,7 +48,7 @@ impl BaseTally {
     }
 
     // The counts of the bases from `from` up to `to`, and of their quality bytes.
-    // Without this hint the counts would be copied on the way.
+    // Inlined, since the counts would be copied otherwise.
     #[inline(always)]
     pub(crate) fn of(
         encoding: Encoding,
@@ -73,7 +74,7 @@ impl BaseTally {
         }
     }
 
-    // The same, for bases that few reads have: so its code stands once.
+    // Does what `of` does, for bases that few reads have. Its code is there once.
     #[inline(never)]
     pub(crate) fn of_rare(
         encoding: Encoding,
@@ -88,7 +89,7 @@ impl BaseTally {
         BaseTally::of(encoding, seq, qual, from, to)
     }
 
-    // These counts and those of more bases.
+    // Adds the counts of the bases from `from` up to `to`.
     #[inline(always)]
     pub(crate) fn with(
         self,
@@ -99,7 +100,8 @@ impl BaseTally {
         to: usize,
     ) -> BaseTally
         requires { HasPart encoding seq.now qual.now from to }
-        ensures { result ≡ bases_plus self (bases_of (part_between encoding seq.now qual.now from to)) }
+        ensures { result
+            ≡ bases_plus self (bases_of (part_between encoding seq.now qual.now from to)) }
     {
         if from == to {
             return self;
@@ -107,7 +109,7 @@ impl BaseTally {
         self.plus(BaseTally::of(encoding, seq, qual, from, to))
     }
 
-    // The counts of both together.
+    // Adds the counts of other bases.
     pub(crate) fn plus(self, other: BaseTally) -> BaseTally
         ensures { result ≡ bases_plus self other }
     {
@@ -119,6 +121,26 @@ impl BaseTally {
             gc: self.gc.saturating_add(other.gc),
             n: self.n.saturating_add(other.n),
         }
+    }
+
+    // The whole part of the mean Phred score of the bases of a read.
+    #[inline(always)]
+    pub(crate) fn mean_score(self) -> usize
+        requires { 1 ≤ self.bases }
+        ensures { result ≡ mean_score self }
+    {
+        (self.score_sum / self.bases) as usize
+    }
+
+    // The per cent of the bases of a read that are G or C, to the nearest whole number, halves up.
+    #[inline(always)]
+    pub(crate) fn gc_percent(self) -> usize
+        requires some { 1 ≤ self.bases }
+        requires few { self.bases ≤ 1048576 }
+        requires among { self.gc ≤ self.bases }
+        ensures { result ≡ gc_percent self }
+    {
+        ((200 * self.gc + self.bases) / (2 * self.bases)) as usize
     }
 }
 
@@ -133,7 +155,7 @@ struct Counted {
 }
 
 impl Counted {
-    // These counts and those of one vector more.
+    // Adds the counts of one more vector.
     #[inline(always)]
     fn with(self, bases: u8x32, bytes: u8x32, low: u8, high: u8) -> Counted
         requires gc { self.gc ≤ 1048576 }
@@ -153,7 +175,8 @@ impl Counted {
     }
 }
 
-// Counts bases from `from` up to `to`, how many of their quality bytes are at least so large as each of two, and the sum of these.
+// Counts the bases from `from` up to `to`: G or C, N, and of their quality bytes the sum and those
+// that are at least `low` and at least `high`.
 #[inline(always)]
 fn count_of(seq: &[u8], qual: &[u8], from: usize, to: usize, low: u8, high: u8) -> Counted
     requires few { length qual.now ≤ 1048576 }
@@ -162,7 +185,8 @@ fn count_of(seq: &[u8], qual: &[u8], from: usize, to: usize, low: u8, high: u8) 
     requires within { to ≤ length seq.now }
     requires low { 1 ≤ low }
     requires high { 1 ≤ high }
-    ensures { IsCount low high (take (to - from) (drop from seq.now)) (take (to - from) (drop from qual.now)) result }
+    ensures { IsCount low high
+        (take (to - from) (drop from seq.now)) (take (to - from) (drop from qual.now)) result }
 {
     let mut counted = Counted {
         gc: 0,
@@ -187,7 +211,7 @@ fn count_of(seq: &[u8], qual: &[u8], from: usize, to: usize, low: u8, high: u8) 
     counted
 }
 
-// The sum of the scores, by that of their bytes where a score is a distance between bytes.
+// The sum of the scores. If a score is a difference of bytes, it comes from the sum of the bytes.
 fn score_sum(encoding: Encoding, qual: &[u8], bytes: u64) -> u64
     requires few { length qual.now ≤ 1048576 }
     requires scored { list_all (is_scored encoding) qual.now ≡ true }
@@ -202,7 +226,7 @@ fn score_sum(encoding: Encoding, qual: &[u8], bytes: u64) -> u64
     }
 }
 
-// The least byte with a score, where bytes with larger scores are larger.
+// The least byte with a score of at least `score`. Larger bytes have no smaller scores.
 fn byte_of(encoding: Encoding, score: u8) -> u8
     requires low { 11 ≤ score }
     requires high { score ≤ 62 }
@@ -215,7 +239,7 @@ fn byte_of(encoding: Encoding, score: u8) -> u8
     }
 }
 
-// The sum of the Phred scores of Solexa's bytes, one by one.
+// The sum of the Phred scores of Solexa's quality bytes, each converted by itself.
 fn solexa_sum(qual: &[u8]) -> u64
     requires few { length qual.now ≤ 1048576 }
     requires scored { list_all (is_scored Solexa) qual.now ≡ true }

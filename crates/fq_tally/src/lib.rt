@@ -1,10 +1,12 @@
-//! Counts of the reads of a run, before and after trimming, for a report: bases, scores, lengths, and which step took what.
+//! Counts of the reads of a run, before and after trimming, for a report: bases, scores, lengths,
+//! and what each step did.
 //!
-//! A [`Tally`] takes pairs by [`add`](Tally::add), one after the other, and other tallies by [`add_all`](Tally::add_all). Pairs
-//! that are tallied apart and added up give the tally of all.
+//! A [`Tally`] takes pairs one after the other by [`add`](Tally::add), and other tallies by
+//! [`add_all`](Tally::add_all). Pairs that are tallied apart and added up give the tally of all.
 //!
-//! The steps of a list are taken in turn, and what each does is counted by its place in the list. [`Trimmed`] tells what they do to a
-//! read, before anything is counted: so a pair that is written too is trimmed once.
+//! The steps of a list are taken in turn, and what each does is counted by its place in the list.
+//! [`Trimmed`] holds what the steps do to a read before anything is counted, so a pair that is also
+//! written is trimmed once.
 #![tactic(auto)]
 
 mod bases;

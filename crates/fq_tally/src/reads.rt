@@ -1,25 +1,32 @@
 //! Counts of reads.
 
-ghost use Rattle.std.specs.Prelude.{◌≡◌, IfOk};
+ghost use Rattle.std.specs.Prelude.{◌≡◌, ◌≤◌, IfOk};
 
 use crate::bases::BaseTally;
 use crate::rows::Rows;
 use fq_text::OutOfMemory;
 use std::alloc::Global;
 
-/// Counts of reads, of their bases and of their lengths. A sum that is larger than `u64::MAX` is kept at that.
+/// Counts of reads and of their bases, and histograms of the reads by length, mean score and GC.
+/// A sum that would be larger than `u64::MAX` is kept at that.
 #[derive(Drop)]
 pub struct ReadsTally {
     /// All reads.
     pub reads: u64,
     /// Their bases.
     pub bases: BaseTally,
-    /// The bases of the shortest read, and `u64::MAX` where there is none.
+    /// The bases of the shortest read, `u64::MAX` if there is no read.
     pub shortest: u64,
-    /// The bases of the longest read, and 0 where there is none.
+    /// The bases of the longest read, 0 if there is no read.
     pub longest: u64,
     /// The reads by their number of bases.
     pub lengths: Rows,
+    /// The reads by the whole part of their mean Phred score. Reads without bases are left out,
+    /// as FastQC does.
+    pub mean_scores: Rows,
+    /// The reads by the per cent of their bases that are G or C, to the nearest whole number,
+    /// halves up. N is among the bases. Reads without bases are left out.
+    pub gc_percents: Rows,
 }
 
 impl ReadsTally {
@@ -30,20 +37,26 @@ impl ReadsTally {
         ensures { IfOk result (λ t. t ≡ no_reads) }
     {
         let lengths = Rows::new(alloc)?;
+        let mean_scores = Rows::new(alloc)?;
+        let gc_percents = Rows::new(alloc)?;
         Ok(ReadsTally {
             reads: 0,
             bases: BaseTally::zero(),
             shortest: u64::MAX,
             longest: 0,
             lengths,
+            mean_scores,
+            gc_percents,
         })
     }
 
-    // One read more, whose bases are counted, as many as this.
-    // Without this hint the counts would be copied on the way.
+    // Counts one more read, of which these bases were counted, `length` of them.
+    // Inlined, since the counts would be copied otherwise.
     #[inline(always)]
     pub(crate) fn add(&mut self, bases: BaseTally, length: usize)
-        requires { length ≡ bases.bases }
+        requires length { length ≡ bases.bases }
+        requires few { bases.bases ≤ 1048576 }
+        requires among { bases.gc ≤ bases.bases }
         ensures { self.new ≡ with_bases bases self.old }
     {
         self.reads = self.reads.saturating_add(1);
@@ -51,9 +64,13 @@ impl ReadsTally {
         self.shortest = self.shortest.min(bases.bases);
         self.longest = self.longest.max(bases.bases);
         self.lengths.count(length);
+        if length > 0 {
+            self.mean_scores.count(bases.mean_score());
+            self.gc_percents.count(bases.gc_percent());
+        }
     }
 
-    // The counts of both together.
+    // Adds the counts of other reads.
     pub(crate) fn add_all(&mut self, other: &ReadsTally)
         ensures { self.new ≡ reads_plus self.old other.now }
     {
@@ -62,6 +79,8 @@ impl ReadsTally {
         self.shortest = self.shortest.min(other.shortest);
         self.longest = self.longest.max(other.longest);
         self.lengths.add_all(&other.lengths);
+        self.mean_scores.add_all(&other.mean_scores);
+        self.gc_percents.add_all(&other.gc_percents);
     }
 
     // Sets all counts to those of no reads.
@@ -73,5 +92,7 @@ impl ReadsTally {
         self.shortest = u64::MAX;
         self.longest = 0;
         self.lengths.clear();
+        self.mean_scores.clear();
+        self.gc_percents.clear();
     }
 }

@@ -1,19 +1,20 @@
-//! How many reads have each number.
+//! How many reads have each number: a histogram.
 
 use fq_text::OutOfMemory;
 use std::alloc::Global;
 use std::marker::Model;
 
-/// The last row: all numbers above 10,000 are counted there.
+/// The last row: it counts all numbers above 10,000.
 pub const LAST_ROW: usize = 10_001;
 
 // How many rows there can be.
 const ROWS: usize = LAST_ROW + 1;
 
-/// How many reads have each number, as a length: row n has how many have n, up to [`LAST_ROW`]. There are as many rows as the
-/// largest number needs, and none where nothing was counted.
+/// A histogram of reads: how many reads have each number, such as a length. Row n counts the reads
+/// with the number n, up to [`LAST_ROW`]. There are as many rows as the largest number needs, and
+/// none if nothing was counted. A count that would be larger than `u64::MAX` is kept at that.
 ///
-/// Memory for all rows is taken when they are made, so counting takes none.
+/// Memory for all rows is taken by `new`, so counting takes none.
 #[derive(Drop)]
 pub struct Rows {
     counts: Vec<u64>,
@@ -35,7 +36,7 @@ impl Rows {
     ghost use Rattle.std.specs.Prelude.{◌≡◌, [], IfOk};
     ghost use Rattle.fq_tally.specs.Rows.{counted, rows_plus};
 
-    /// No rows.
+    // No rows.
     pub(crate) fn new(alloc: Global) -> Result<Rows, OutOfMemory>
         ensures { IfOk result (λ rows. rows ≡ []) }
     {
@@ -43,14 +44,14 @@ impl Rows {
         Ok(Rows { counts })
     }
 
-    /// The rows in their order.
+    /// The rows, from that of the number 0 on.
     pub fn as_slice(&self) -> &[u64]
         ensures { result.now ≡ self.now }
     {
         &self.counts
     }
 
-    /// One more read of a number.
+    // Counts one more read with a number.
     pub(crate) fn count(&mut self, number: usize)
         ensures { self.new ≡ counted number self.old }
     {
@@ -61,7 +62,7 @@ impl Rows {
         self.counts[row] = self.counts[row].saturating_add(1);
     }
 
-    /// The counts of both together.
+    // Adds the counts of other reads.
     pub(crate) fn add_all(&mut self, other: &Rows)
         ensures { self.new ≡ rows_plus self.old other.now }
     {
@@ -76,7 +77,7 @@ impl Rows {
             .unwrap();
     }
 
-    /// Takes all rows away. They keep their memory.
+    // Removes all rows and keeps their memory.
     pub(crate) fn clear(&mut self)
         ensures { self.new ≡ [] }
     {

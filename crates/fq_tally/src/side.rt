@@ -8,6 +8,7 @@ ghost use Rattle.fq_tally.specs.Tallies.{bases_of};
 
 use crate::bases::BaseTally;
 use crate::reads::ReadsTally;
+use crate::rows::Rows;
 use crate::steps::StepsTally;
 use crate::trimmed::Trimmed;
 use fq_text::{OutOfMemory, ReadView};
@@ -23,10 +24,14 @@ pub struct SideTally {
     pub paired: ReadsTally,
     /// What is left of the reads that survive alone.
     pub unpaired: ReadsTally,
-    /// The bases removed in front of what is left of the reads that survive.
+    /// The bases removed before the first kept base of each read that survives.
     pub front: u64,
-    /// The bases removed behind it.
+    /// The bases removed after the last kept base of each read that survives.
     pub behind: u64,
+    /// The reads that survive by their number of bases removed before the first kept base.
+    pub removed_front: Rows,
+    /// The reads that survive by their number of bases removed after the last kept base.
+    pub removed_behind: Rows,
     /// What each step did.
     pub steps: StepsTally,
 }
@@ -41,6 +46,8 @@ impl SideTally {
         let before = ReadsTally::new(alloc)?;
         let paired = ReadsTally::new(alloc)?;
         let unpaired = ReadsTally::new(alloc)?;
+        let removed_front = Rows::new(alloc)?;
+        let removed_behind = Rows::new(alloc)?;
         let steps = StepsTally::new(alloc)?;
         Ok(SideTally {
             before,
@@ -48,14 +55,17 @@ impl SideTally {
             unpaired,
             front: 0,
             behind: 0,
+            removed_front,
+            removed_behind,
             steps,
         })
     }
 
-    // One read more, what steps do to it, and whether its mate survives.
+    // Counts one more read and what the steps do to it. `mate`: its mate survives.
     pub(crate) fn add(&mut self, read: &ReadView<'_>, steps: &Steps, trimmed: &Trimmed, mate: bool)
         requires { trimmed.now ≡ passage steps.now read.now }
-        ensures added { self.new ≡ with_read read.now (course (alone steps.now) read.now) mate self.old }
+        ensures added { self.new
+            ≡ with_read read.now (course (alone steps.now) read.now) mate self.old }
         ensures lawful { IsLawful read.now }
     {
         let _ = read.title();
@@ -66,7 +76,7 @@ impl SideTally {
         }
     }
 
-    // One read more of which no base is kept.
+    // Counts one more read, of which no base is kept.
     fn add_dropped(&mut self, read: &ReadView<'_>)
         ensures { self.new ≡ with_left read.now (part_at [] (whole read.now)) 0 false self.old }
     {
@@ -76,11 +86,13 @@ impl SideTally {
         self.before.add(bases, len);
     }
 
-    // One read more of which bases are kept, and whether its mate survives.
+    // Counts one more read, of which bases are kept. `mate`: its mate survives.
     fn add_survivor(&mut self, read: &ReadView<'_>, kept: Kept, mate: bool)
         requires { kept.stop ≤ length read.now.seq }
-        ensures { self.new ≡ with_left read.now (part_at (places_of (Some kept)) (whole read.now)) kept.start mate self.old }
+        ensures { self.new ≡ with_left read.now
+            (part_at (places_of (Some kept)) (whole read.now)) kept.start mate self.old }
     {
+        let _ = read.title();
         let seq = read.seq();
         let len = kept.stop - kept.start;
         let left = kept_bases(read, kept);
@@ -94,9 +106,11 @@ impl SideTally {
         let behind = seq.len() - kept.stop;
         self.front = self.front.saturating_add(kept.start as u64);
         self.behind = self.behind.saturating_add(behind as u64);
+        self.removed_front.count(kept.start);
+        self.removed_behind.count(behind);
     }
 
-    // The counts of both together.
+    // Adds the counts of other reads.
     pub(crate) fn add_all(&mut self, other: &SideTally)
         ensures { self.new ≡ side_plus self.old other.now }
     {
@@ -105,6 +119,8 @@ impl SideTally {
         self.unpaired.add_all(&other.unpaired);
         self.front = self.front.saturating_add(other.front);
         self.behind = self.behind.saturating_add(other.behind);
+        self.removed_front.add_all(&other.removed_front);
+        self.removed_behind.add_all(&other.removed_behind);
         self.steps.add_all(&other.steps);
     }
 
@@ -117,11 +133,13 @@ impl SideTally {
         self.unpaired.clear();
         self.front = 0;
         self.behind = 0;
+        self.removed_front.clear();
+        self.removed_behind.clear();
         self.steps.clear();
     }
 }
 
-// The quality bytes of a read, as many as its bases: so the compiler looks at one length for both.
+// The quality bytes of a read, cut to the number of its bases: the compiler then checks one length.
 #[inline(always)]
 fn qual_of<'a>(read: &'a ReadView<'_>) -> &'a [u8]
     ensures { result.now ≡ read.now.qual }
@@ -146,7 +164,7 @@ fn kept_bases(read: &ReadView<'_>, kept: Kept) -> BaseTally
     )
 }
 
-// The counts of all bases of a read, by those of the kept ones: so each base is counted once.
+// The counts of all bases of a read, from those of its kept bases: each base is counted once.
 #[inline(always)]
 fn whole_bases(read: &ReadView<'_>, kept: Kept, left: BaseTally) -> BaseTally
     requires within { kept.stop ≤ length read.now.seq }

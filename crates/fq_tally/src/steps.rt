@@ -1,4 +1,4 @@
-//! What steps did to reads.
+//! Counts of what the steps did to reads.
 
 ghost use Rattle.std.specs.Prelude.{◌≡◌, IfOk};
 ghost use Rattle.fq_tally.specs.Rows.{counted_all};
@@ -8,13 +8,13 @@ use crate::trimmed::Trimmed;
 use fq_text::OutOfMemory;
 use std::alloc::Global;
 
-/// What steps did to reads, by the number of the step, counted from 0.
+/// What the steps did to reads, by the number of the step, counted from 0.
 #[derive(Drop)]
 pub struct StepsTally {
-    /// The reads that a step shortened: some of the bases that it was given stayed, and not all.
+    /// The reads that a step shortened: it kept some of the bases that it was given, and not all.
     pub shortened: Rows,
-    /// The reads that a step dropped: none of the bases that it was given stayed. Each dropped read counts once. One that had no
-    /// bases counts at the first step.
+    /// The reads that a step dropped: it kept none of the bases that it was given. Each dropped
+    /// read counts once. A read without bases counts at the first step.
     pub dropped: Rows,
 }
 
@@ -30,7 +30,7 @@ impl StepsTally {
         Ok(StepsTally { shortened, dropped })
     }
 
-    // What steps did to one read more.
+    // Counts what the steps did to one more read.
     pub(crate) fn add(&mut self, trimmed: &Trimmed)
         ensures { self.new ≡ record {
           shortened = counted_all trimmed.now.shortened self.old.shortened;
@@ -45,7 +45,7 @@ impl StepsTally {
         }
     }
 
-    // The counts of both together.
+    // Adds the counts of other reads.
     pub(crate) fn add_all(&mut self, other: &StepsTally)
         ensures { self.new ≡ steps_plus self.old other.now }
     {

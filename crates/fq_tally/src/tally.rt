@@ -11,7 +11,7 @@ use fq_text::OutOfMemory;
 use fq_trim::Steps;
 use std::alloc::Global;
 
-/// Counts of pairs, before and after trimming, side by side.
+/// Counts of the reads of pairs, before and after trimming, for each side.
 #[derive(Drop)]
 pub struct Tally {
     /// The forward reads.
@@ -24,7 +24,7 @@ impl Tally {
     ghost use Rattle.fq_tally.specs.Courses.{alone, passage};
     ghost use Rattle.fq_tally.specs.Tallies.{no_tally, with_pair, tally_of, plus};
 
-    /// The counts of no pairs. Memory for all counts is taken here, and may be refused.
+    /// The counts of no pairs. Takes the memory for all counts, which may be refused.
     pub fn new(alloc: Global) -> Result<Tally, OutOfMemory>
         ensures { IfOk result (λ t. t ≡ no_tally) }
     {
@@ -33,16 +33,19 @@ impl Tally {
         Ok(Tally { forward, reverse })
     }
 
-    /// Counts one pair, before and after these steps are taken in turn, each on what the one before left. It takes no memory.
+    /// Counts one pair before and after trimming. The steps are taken in turn, each on what the
+    /// step before left. It takes no memory.
     pub fn add(&mut self, pair: PairView<'_>, steps: &Steps)
-        ensures { self.new ≡ with_pair (alone steps.now) self.old (mates_in pair.entry.forward pair.entry.reverse) }
+        ensures { self.new ≡ with_pair (alone steps.now) self.old
+            (mates_in pair.entry.forward pair.entry.reverse) }
     {
         let forward = Trimmed::new(&pair.forward, steps);
         let reverse = Trimmed::new(&pair.reverse, steps);
         self.add_trimmed(pair, steps, &forward, &reverse);
     }
 
-    /// Counts the same, where it is known already what the steps do to each mate. It takes no memory.
+    /// Counts one pair as [`add`](Tally::add) does, given what the steps do to each mate. It takes
+    /// no memory.
     pub fn add_trimmed(
         &mut self,
         pair: PairView<'_>,
@@ -52,7 +55,8 @@ impl Tally {
     )
         requires forward { forward.now ≡ passage steps.now pair.forward }
         requires reverse { reverse.now ≡ passage steps.now pair.reverse }
-        ensures { self.new ≡ with_pair (alone steps.now) self.old (mates_in pair.entry.forward pair.entry.reverse) }
+        ensures { self.new ≡ with_pair (alone steps.now) self.old
+            (mates_in pair.entry.forward pair.entry.reverse) }
     {
         let has_reverse = reverse.survives();
         let has_forward = forward.survives();
@@ -60,7 +64,8 @@ impl Tally {
         self.reverse.add(&pair.reverse, steps, reverse, has_forward);
     }
 
-    /// The counts of both together. So pairs may be counted apart, in any cut, and added up in their order.
+    /// Adds the counts of other pairs. So a list of pairs can be cut at any place, and the counts
+    /// of its parts added up in their order.
     pub fn add_all(&mut self, other: &Tally)
         ensures sum { self.new ≡ plus self.old other.now }
         ensures cut { (lists : List (List Step)) (front behind : List Mates)
@@ -71,7 +76,7 @@ impl Tally {
         self.reverse.add_all(&other.reverse);
     }
 
-    /// Sets all counts to those of no pairs. They keep their memory.
+    /// Sets all counts to those of no pairs, and keeps their memory.
     pub fn clear(&mut self)
         ensures { self.new ≡ no_tally }
     {

@@ -1,4 +1,4 @@
-//! What steps do to a read.
+//! What the steps do to a read.
 
 ghost use Rattle.std.specs.Prelude.{◌≡◌};
 
@@ -6,19 +6,18 @@ use fq_text::ReadView;
 use fq_trim::{Kept, Steps};
 use std::marker::Model;
 
-// How many steps a list has at most.
+// The most steps that a list can have.
 const MOST: usize = 64;
 
-/// What steps do to a read: which bases they keep of it, which of them shortened it, and which dropped it.
+/// What the steps do to a read: which bases they keep, which steps shorten it, and which drops it.
 ///
-/// Nothing is written or counted to know it, so a pair that is to be written and counted is trimmed once. It is held in place, and
-/// takes no memory.
+/// A pair that is both written and counted is trimmed once, by this. It takes no memory of its own.
 #[derive(Drop)]
 pub struct Trimmed {
-    // The kept places, of which there are none where the read is dropped.
+    // The first kept place and the place after the last, equal if the read is dropped.
     start: usize,
     stop: usize,
-    // The numbers of the steps that shortened the read, so many of them.
+    // The numbers of the steps that shortened the read, `count` of them.
     shortened: [u8; MOST],
     count: usize,
     dropped: Option<usize>,
@@ -46,7 +45,7 @@ impl Trimmed {
     ghost use Rattle.fq_pair.specs.Outputs.{is_empty, places_of};
     ghost use Rattle.fq_tally.specs.Courses.{passage, numbers_of};
 
-    /// Takes the steps in turn, each on what the one before left.
+    /// Takes the steps in turn, each on what the step before left.
     pub fn new(read: &ReadView<'_>, steps: &Steps) -> Trimmed
         ensures { result ≡ passage steps.now read.now }
     {
@@ -87,7 +86,7 @@ impl Trimmed {
         }
     }
 
-    /// The bases that are kept, or `None` where the read is dropped.
+    /// The places of the kept bases, 0-based, or `None` if the read is dropped.
     pub fn kept(&self) -> Option<Kept>
         ensures kept { places_of result ≡ self.now.kept }
         ensures front { IfSome result (λ k. k.start ≡ self.now.front) }

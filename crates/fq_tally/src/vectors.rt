@@ -1,29 +1,31 @@
-//! Bytes that are counted side by side, in a vector (SIMD).
+//! Counts of bytes by vectors (SIMD).
 
-ghost use Rattle.std.specs.Prelude.{◌≡◌, ◌+◌, ◌-◌, ◌≤◌, ◌++◌, length, take, drop, replicate, count_by, nat_le, sum};
+ghost use Rattle.std.specs.Prelude.{◌≡◌, ◌+◌, ◌-◌, ◌≤◌, ◌++◌, length, take, drop, replicate};
+ghost use Rattle.std.specs.Prelude.{count_by, nat_le, sum};
 ghost use Rattle.fq_tally.specs.Vectors.{Holds};
 ghost use Rattle.fq_tally.specs.Tallies.{is_gc, is_n};
 
 use std::simd::prelude::*;
 
-// How many bytes a vector has.
+// The number of bytes in a vector.
 pub(crate) const WIDTH: usize = 32;
 
-// A vector of 255, in which each byte keeps all bits, and one of zeros. A vector that begins within the first keeps its first bytes.
+// 32 bytes 255, which keep all bits, and 32 zeros. A vector of this that begins in the first half
+// is a mask of the first bytes.
 const KEEPS_FIRST: [u8; 2 * WIDTH] = [
     255, 255, 255, 255, 255, 255, 255, 255, 255, 255, 255, 255, 255, 255, 255, 255, 255, 255, 255,
     255, 255, 255, 255, 255, 255, 255, 255, 255, 255, 255, 255, 255, 0, 0, 0, 0, 0, 0, 0, 0, 0, 0,
     0, 0, 0, 0, 0, 0, 0, 0, 0, 0, 0, 0, 0, 0, 0, 0, 0, 0, 0, 0, 0, 0,
 ];
 
-// The same, the other way round: it keeps the last bytes.
+// 32 zeros and 32 bytes 255: masks of the last bytes.
 const KEEPS_LAST: [u8; 2 * WIDTH] = [
     0, 0, 0, 0, 0, 0, 0, 0, 0, 0, 0, 0, 0, 0, 0, 0, 0, 0, 0, 0, 0, 0, 0, 0, 0, 0, 0, 0, 0, 0, 0, 0,
     255, 255, 255, 255, 255, 255, 255, 255, 255, 255, 255, 255, 255, 255, 255, 255, 255, 255, 255,
     255, 255, 255, 255, 255, 255, 255, 255, 255, 255, 255, 255, 255,
 ];
 
-// The bytes from `at` up to `stop`, and zeros in the place of others.
+// The bytes from `at` up to `stop`, with zeros in the place of other bytes.
 #[inline(always)]
 pub(crate) fn vector_of(bytes: &[u8], at: usize, stop: usize) -> u8x32
     requires order { at ≤ stop }
@@ -42,7 +44,7 @@ pub(crate) fn vector_of(bytes: &[u8], at: usize, stop: usize) -> u8x32
     }
 }
 
-// The first bytes, so many of them.
+// The first `count` bytes.
 #[inline(always)]
 fn first_of(bytes: &[u8], count: usize) -> u8x32
     requires few { count ≤ 32 }
@@ -52,7 +54,7 @@ fn first_of(bytes: &[u8], count: usize) -> u8x32
     u8x32::from_slice(bytes) & keeps_first(count)
 }
 
-// The last of 32 bytes, so many of them.
+// The last `count` of 32 bytes.
 #[inline(always)]
 fn last_of(bytes: &[u8], count: usize) -> u8x32
     requires few { count ≤ 32 }
@@ -62,7 +64,7 @@ fn last_of(bytes: &[u8], count: usize) -> u8x32
     u8x32::from_slice(bytes) & keeps_last(count)
 }
 
-// A vector that keeps the first bytes of another.
+// A mask of the first `count` bytes.
 #[inline(always)]
 fn keeps_first(count: usize) -> u8x32
     requires { count ≤ 32 }
@@ -71,7 +73,7 @@ fn keeps_first(count: usize) -> u8x32
     u8x32::from_slice(&KEEPS_FIRST[WIDTH - count..])
 }
 
-// One that keeps the last.
+// A mask of the last `count` bytes.
 #[inline(always)]
 fn keeps_last(count: usize) -> u8x32
     requires { count ≤ 32 }
@@ -80,7 +82,7 @@ fn keeps_last(count: usize) -> u8x32
     u8x32::from_slice(&KEEPS_LAST[count..])
 }
 
-// Fewer bytes than fill a vector.
+// At most 32 bytes, from memory that may end after them.
 fn all_of(bytes: &[u8]) -> u8x32
     requires { length bytes.now ≤ 32 }
     ensures { Holds bytes.now result }
@@ -90,7 +92,7 @@ fn all_of(bytes: &[u8]) -> u8x32
     u8x32::from_array(filled)
 }
 
-// How many are G or C.
+// The number of bases G or C, in either case.
 #[inline(always)]
 pub(crate) fn gc_in(bases: u8x32) -> u32
     ensures { result ≡ count_by is_gc bases }
@@ -100,7 +102,7 @@ pub(crate) fn gc_in(bases: u8x32) -> u32
     (upper | lower).to_bitmask().count_ones()
 }
 
-// How many are N.
+// The number of bases N, in either case.
 #[inline(always)]
 pub(crate) fn n_in(bases: u8x32) -> u32
     ensures { result ≡ count_by is_n bases }
@@ -110,7 +112,7 @@ pub(crate) fn n_in(bases: u8x32) -> u32
         .count_ones()
 }
 
-// How many are at least so large.
+// The number of bytes that are at least `limit`.
 #[inline(always)]
 pub(crate) fn at_least(bytes: u8x32, limit: u8) -> u32
     ensures { result ≡ count_by (nat_le limit) bytes }
@@ -118,7 +120,7 @@ pub(crate) fn at_least(bytes: u8x32, limit: u8) -> u32
     bytes.simd_ge(u8x32::splat(limit)).to_bitmask().count_ones()
 }
 
-// Their sum.
+// The sum of the bytes.
 #[inline(always)]
 pub(crate) fn sum_of(bytes: u8x32) -> u16
     ensures { result ≡ sum bytes }

@@ -14,7 +14,16 @@ use Rattle.fq_tally.proofs.side.SideTally.add.Goals as goal
 
 -- a side whose steps are counted
 abbrev with_tally : SideTally → StepsTally → SideTally
-with_tally t steps = record { before = t.before; paired = t.paired; unpaired = t.unpaired; front = t.front; behind = t.behind; steps = steps }
+with_tally t steps = record {
+  before = t.before;
+  paired = t.paired;
+  unpaired = t.unpaired;
+  front = t.front;
+  behind = t.behind;
+  removed_front = t.removed_front;
+  removed_behind = t.removed_behind;
+  steps = steps;
+}
 
 -- what steps do to a read is counted as its course
 counted_course : (read : Read) (steps : List Step) (p : Passage) (old new : StepsTally) → p ≡ passage steps read →

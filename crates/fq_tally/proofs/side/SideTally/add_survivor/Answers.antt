@@ -1,24 +1,36 @@
-use Rattle.std.proofs.Common.{◌≡◌, ℕ, ◌+◌, ◌-◌, Bool, not, cond, Some, length, min, ap, sym, ◌∙◌, arith}
+use Rattle.std.proofs.Common.{◌≡◌, ◌≤◌, ℕ, ◌+◌, ◌-◌, Bool, not, cond, Some, List, length, min, ap, sym, ◌∙◌, arith}
+use Rattle.fq_text.specs.Grammar.{Read}
+use Rattle.fq_trim.specs.declared.trimming.Kept.{Kept}
 use Rattle.fq_pair.specs.Outputs.{places_of}
 use Rattle.fq_pair.specs.Summaries.{capped_sum}
 use Rattle.fq_tally.specs.declared.bases.BaseTally.{BaseTally}
 use Rattle.fq_tally.specs.declared.reads.ReadsTally.{ReadsTally}
 use Rattle.fq_tally.specs.declared.side.SideTally.{SideTally}
 use Rattle.fq_tally.specs.declared.steps.StepsTally.{StepsTally}
+use Rattle.fq_tally.specs.Rows.{counted}
 use Rattle.fq_tally.specs.Courses.{part_at, whole}
 use Rattle.fq_tally.specs.Tallies.{with_bases, with_part}
-use Rattle.fq_tally.proofs.SideLemmas.{kept_length, survivor}
+use Rattle.fq_tally.proofs.SideLemmas.{kept_length, survivor, few_bases}
 use Rattle.fq_tally.proofs.side.SideTally.add_survivor.Goals as goal
 use Rattle.fq_tally.proofs.side.SideTally.add_survivor.Goals.{then-mate, else-mate}
 
-abbrev made_of : ReadsTally → ReadsTally → ReadsTally → ℕ → ℕ → StepsTally → SideTally
-made_of before paired unpaired front behind steps = record { before = before; paired = paired; unpaired = unpaired; front = front; behind = behind; steps = steps }
+abbrev made_of : ReadsTally → ReadsTally → ReadsTally → ℕ → ℕ → List ℕ → List ℕ → StepsTally → SideTally
+made_of before paired unpaired front behind removed_front removed_behind steps = record {
+  before = before;
+  paired = paired;
+  unpaired = unpaired;
+  front = front;
+  behind = behind;
+  removed_front = removed_front;
+  removed_behind = removed_behind;
+  steps = steps;
+}
 
 -- sides of the same parts
-parts_are : {before before' paired paired' unpaired unpaired' : ReadsTally} {front front' behind behind' : ℕ} {steps steps' : StepsTally} →
-    before ≡ before' → paired ≡ paired' → unpaired ≡ unpaired' → front ≡ front' → behind ≡ behind' → steps ≡ steps' →
-    made_of before paired unpaired front behind steps ≡ made_of before' paired' unpaired' front' behind' steps'
-parts_are a b c d e f = cc
+parts_are : {before before' paired paired' unpaired unpaired' : ReadsTally} {front front' behind behind' : ℕ} {f f' b b' : List ℕ} {steps steps' : StepsTally} →
+    before ≡ before' → paired ≡ paired' → unpaired ≡ unpaired' → front ≡ front' → behind ≡ behind' → f ≡ f' → b ≡ b' → steps ≡ steps' →
+    made_of before paired unpaired front behind f b steps ≡ made_of before' paired' unpaired' front' behind' f' b' steps'
+parts_are a b c d e f g h = cc
 
 front_is : {now sum : ℕ} (old start : ℕ) → now ≡ old → sum ≡ min (now + start) 18446744073709551615 → sum ≡ capped_sum old start
 front_is old start is sum_is = omega arith
@@ -26,11 +38,41 @@ front_is old start is sum_is = omega arith
 behind_is : {now size sum : ℕ} (old stop length : ℕ) → now ≡ old → size ≡ length → sum ≡ min (now + (size - stop)) 18446744073709551615 → sum ≡ capped_sum old (length - stop)
 behind_is old stop length is size_is sum_is = omega arith
 
+-- a row counted in a histogram that is the old one
+row_is : {now new : List ℕ} {number : ℕ} (old : List ℕ) (counted_number : ℕ) → now ≡ old → number ≡ counted_number → new ≡ counted number now → new ≡ counted counted_number old
+row_is old counted_number is number_is new_is = cc
+
+-- what is left of a read has no more bases than the read
+left_fits : (read : Read) (k : Kept) → k.stop ≤ length read.seq → length read.seq ≤ 1048576 → length (part_at (places_of (Some k)) (whole read)).seq ≤ 1048576
+left_fits read k within few = let size = kept_length k (whole read) in omega arith
+
+pub add-requires-clause-few : goal.add-requires-clause-few
+add-requires-clause-few c = (few_bases (whole c.args.read.now) c.whole_bases-whole.result c.whole_bases-whole.ensures c.title.ensures.lawful.seq_fits).0
+
+pub add-requires-clause-among : goal.add-requires-clause-among
+add-requires-clause-among c = (few_bases (whole c.args.read.now) c.whole_bases-whole.result c.whole_bases-whole.ensures c.title.ensures.lawful.seq_fits).1
+
 pub add-requires-then-mate : goal.add-requires-then-mate
-add-requires-then-mate c = sym (ap (λ (b : BaseTally). b.bases) c.kept_bases-left.ensures ∙ kept_length c.args.kept (whole c.args.read.now))
+add-requires-then-mate c =
+    let part = part_at (places_of (Some c.args.kept)) (whole c.args.read.now) in
+    let left = c.kept_bases-left in
+    let few = few_bases part left.result left.ensures (left_fits c.args.read.now c.args.kept c.requires c.title.ensures.lawful.seq_fits) in
+    record {
+      length = sym (ap (λ (b : BaseTally). b.bases) left.ensures ∙ kept_length c.args.kept (whole c.args.read.now));
+      few = few.0;
+      among = few.1;
+    }
 
 pub add-requires-else-mate : goal.add-requires-else-mate
-add-requires-else-mate c = sym (ap (λ (b : BaseTally). b.bases) c.kept_bases-left.ensures ∙ kept_length c.args.kept (whole c.args.read.now))
+add-requires-else-mate c =
+    let part = part_at (places_of (Some c.args.kept)) (whole c.args.read.now) in
+    let left = c.kept_bases-left in
+    let few = few_bases part left.result left.ensures (left_fits c.args.read.now c.args.kept c.requires c.title.ensures.lawful.seq_fits) in
+    record {
+      length = sym (ap (λ (b : BaseTally). b.bases) left.ensures ∙ kept_length c.args.kept (whole c.args.read.now));
+      few = few.0;
+      among = few.1;
+    }
 
 pub returns : goal.returns
 returns c =
@@ -40,6 +82,7 @@ returns c =
     let left = part_at (places_of (Some k)) (whole read) in
     let before : c.add.new.self ≡ with_part (whole read) old.before = c.add.ensures ∙ ap (λ (b : BaseTally). with_bases b old.before) c.whole_bases-whole.ensures in
     let size = ap length c.seq-seq.ensures in
+    let rest : length c.seq-seq.result.now - k.stop ≡ length read.seq - k.stop = ap (λ (n : ℕ). n - k.stop) size in
     let sum = c.saturating_add-self.ensures in
     let sum_behind = c.saturating_add-self-2.ensures in
     let made : Bool → SideTally = λ mate. record {
@@ -48,6 +91,8 @@ returns c =
       unpaired = cond (not mate) (with_part left old.unpaired) old.unpaired;
       front = capped_sum old.front k.start;
       behind = capped_sum old.behind (length read.seq - k.stop);
+      removed_front = counted k.start old.removed_front;
+      removed_behind = counted (length read.seq - k.stop) old.removed_behind;
       steps = old.steps;
     } in
     elim c.if-mate.branch [
@@ -59,7 +104,9 @@ returns c =
           let f = ap (λ (t : SideTally). t.front) is in
           let g = ap (λ (t : SideTally). t.behind) is in
           let h = ap (λ (t : SideTally). t.steps) is in
-          parts_are a b d (front_is old.front k.start f sum) (behind_is old.behind k.stop (length read.seq) g size sum_behind) h
+          let i = c.count.ensures ∙ ap (λ (t : SideTally). counted k.start t.removed_front) is in
+          let j = c.count-2.ensures ∙ ap (λ (t : SideTally). counted (length c.seq-seq.result.now - k.stop) t.removed_behind) is ∙ ap (λ (n : ℕ). counted n old.removed_behind) rest in
+          parts_are a b d (front_is old.front k.start f sum) (behind_is old.behind k.stop (length read.seq) g size sum_behind) i j h
           ∙ sym (ap made w.if-mate.true) ∙ sym (survivor read k c.args.mate old)
       | else-mate w ↦
           let is = w.self-is in
@@ -69,6 +116,8 @@ returns c =
           let f = ap (λ (t : SideTally). t.front) is in
           let g = ap (λ (t : SideTally). t.behind) is in
           let h = ap (λ (t : SideTally). t.steps) is in
-          parts_are a b d (front_is old.front k.start f sum) (behind_is old.behind k.stop (length read.seq) g size sum_behind) h
+          let i = c.count.ensures ∙ ap (λ (t : SideTally). counted k.start t.removed_front) is in
+          let j = c.count-2.ensures ∙ ap (λ (t : SideTally). counted (length c.seq-seq.result.now - k.stop) t.removed_behind) is ∙ ap (λ (n : ℕ). counted n old.removed_behind) rest in
+          parts_are a b d (front_is old.front k.start f sum) (behind_is old.behind k.stop (length read.seq) g size sum_behind) i j h
           ∙ sym (ap made w.if-mate.false) ∙ sym (survivor read k c.args.mate old)
     ]
