@@ -1,36 +1,31 @@
 #!/usr/bin/env bash
 # What a report counts in files is what seqkit counts in them: reads, bases, bases G or C, bases N,
 # the shortest and the longest read, the reads of each length, and the percentages of bases with a
-# score of at least 20 and of at least 30. It checks inputs and outputs of runs on simulated files,
-# two or one interleaved.
+# score of at least 20 and of at least 30. It is also what this script counts, base by base: reads by
+# mean score and by percentage of G and C, and the sum of the scores. If FastQC is installed, the
+# reads by mean score are also FastQC's. The reads by bases removed at each end are those of the trim
+# log. It checks inputs and outputs of runs on simulated files in each encoding, two files or one
+# interleaved.
 #
-# With REPORT it checks only that report; the names of its files are relative to this directory:
+# With REPORT it checks only that report; the names of its files are relative to the directory in
+# which this is called:
 #   tests/report_counts.sh [REPORT]
 # FQ_PROG is the program, crates/fq_prog/out/fq_prog if not set. Status 77, and 'skipped', if a
 # package is missing.
 set -uo pipefail
-
-if [ "${1:-}" = --help ]; then
-  sed -n '2,/^set/s/^# \{0,1\}//p' "$0" | sed '$d'
-  exit 0
-fi
-for needed in seqkit:seqkit python3:python3; do
-  if ! command -v "${needed%%:*}" > /dev/null; then
-    echo "report_counts: skipped: needs ${needed#*:}"
-    exit 77
-  fi
-done
-
+start=$PWD
+. "$(dirname "$0")/common.bash"
+need seqkit python3
 work=$(mktemp -d) || exit 1
 trap 'rm -rf "$work"' EXIT
-failed=0
 
-# check REPORT: each count of reads in it is what seqkit counts
+# check REPORT [FASTQC]: each count of reads in the report is what others count
 check() {
-  python3 - "$1" "$work" << 'END'
-import collections, json, subprocess, sys
+  python3 - "$1" "$work" "${2:-}" << 'END'
+import collections, fractions, json, math, os, shutil, subprocess, sys
 
-path, work = sys.argv[1:]
+SIDES = ["forward", "reverse"]
+path, work, fastqc = sys.argv[1:]
 report = json.load(open(path, encoding="utf-8"))
 wrong = []
 
@@ -38,6 +33,60 @@ wrong = []
 def seqkit(*words):
     out = subprocess.run(["seqkit", "-t", "dna", "--quiet", *words], check=True, stdout=subprocess.PIPE, text=True).stdout
     return [line.split("\t") for line in out.splitlines()]
+
+
+# The Phred score of a byte by the conversion of Cock et al. (2010): of Solexa's scores, the nearest whole number.
+def phred(encoding, byte):
+    score = byte - (33 if encoding == "sanger" else 64)
+    return score if encoding != "solexa" else math.floor(10 * math.log10(10 ** (score / 10) + 1) + 0.5)
+
+
+# The bases and the scores of each read.
+def reads_of(encoding, name):
+    lines = open(name, "rb").read().split(b"\n")
+    for first in range(0, len(lines) - 3, 4):
+        yield lines[first + 1].decode().upper(), [phred(encoding, byte) for byte in lines[first + 3]]
+
+
+def rows(numbers):
+    return [list(row) for row in sorted(collections.Counter(numbers).items())]
+
+
+def by_base(where, told, name):
+    score_sum, means, percents = 0, [], []
+    for bases, scores in reads_of(report["encoding"], name):
+        score_sum += sum(scores)
+        if bases:
+            share = fractions.Fraction(100 * (bases.count("G") + bases.count("C")), len(bases))
+            means.append(math.floor(fractions.Fraction(sum(scores), len(scores))))
+            percents.append(math.floor(share + fractions.Fraction(1, 2)))
+    same(where, "score_sum", told["score_sum"], score_sum, "by base")
+    same(where, "mean_scores", told["mean_scores"], rows(means), "by base")
+    same(where, "gc_percents", told["gc_percents"], rows(percents), "by base")
+
+
+# The reads by mean score as FastQC counts them, of a file in which it finds the encoding of the run.
+def by_fastqc(where, told, name):
+    shutil.rmtree(f"{work}/fastqc", ignore_errors=True)
+    os.mkdir(f"{work}/fastqc")
+    shutil.copy(name, f"{work}/fastqc/drawn.fq")
+    words = ["fastqc", "--quiet", "--extract", "--nogroup", "-o", f"{work}/fastqc", f"{work}/fastqc/drawn.fq"]
+    subprocess.run(words, check=True, stdout=subprocess.DEVNULL, stderr=subprocess.DEVNULL)
+    data = open(f"{work}/fastqc/drawn_fastqc/fastqc_data.txt", encoding="utf-8").read()
+    part = data.split(">>Per sequence quality scores")[1].split(">>END_MODULE")[0].splitlines()[2:]
+    found = [[int(score), int(float(reads))] for score, reads in (line.split("\t") for line in part)]
+    same(where, "mean_scores", told["mean_scores"], [row for row in found if row[1]], "by FastQC")
+
+
+# The bases that each read of a side lost at its start and at its end, by the trim log.
+def by_log(side, told):
+    lines = open(report["outputs"]["trim_log"], "rb").read().splitlines()
+    lost = [[int(word) for word in line.split()[-4:]] for line in lines[SIDES.index(side)::2]]
+    lost = [(start, end) for length, start, _, end in lost if length]
+    for place, field in enumerate(("front", "behind")):
+        counted = rows(min(each[place], 10001) for each in lost)
+        same(side, f"removed_{field}", told[f"removed_{field}"], counted, "by the trim log")
+        same(side, f"removed_bases.{field}", told["removed_bases"][field], sum(each[place] for each in lost), "by the trim log")
 
 
 def same(where, what, told, counted, by="by seqkit"):
@@ -57,18 +106,22 @@ def side_of(name, side):
 
 
 def compare(where, told, name):
-    rows = [list(map(int, row[1:4])) for row in seqkit("fx2tab", "-n", "-i", "-l", "-C", "GC", "-C", "N", name)]
-    lengths = [row[0] for row in rows]
-    same(where, "reads", told["reads"], len(rows))
+    rows_of = [list(map(int, row[1:4])) for row in seqkit("fx2tab", "-n", "-i", "-l", "-C", "GC", "-C", "N", name)]
+    lengths = [row[0] for row in rows_of]
+    same(where, "reads", told["reads"], len(rows_of))
     same(where, "bases", told["bases"], sum(lengths))
-    same(where, "gc_bases", told["gc_bases"], sum(row[1] for row in rows))
-    same(where, "n_bases", told["n_bases"], sum(row[2] for row in rows))
+    same(where, "gc_bases", told["gc_bases"], sum(row[1] for row in rows_of))
+    same(where, "n_bases", told["n_bases"], sum(row[2] for row in rows_of))
     same(where, "shortest", told["shortest"], min(lengths, default=None))
     same(where, "longest", told["longest"], max(lengths, default=None))
-    by_length = collections.Counter(min(length, 10001) for length in lengths)
-    same(where, "lengths", told["lengths"], [list(row) for row in sorted(by_length.items())])
-    if not rows:
+    same(where, "lengths", told["lengths"], rows(min(length, 10001) for length in lengths))
+    by_base(where, told, name)
+    if fastqc and told["reads"]:
+        by_fastqc(where, told, name)
+    if not rows_of:
         same(where, "q20_bases and q30_bases", [told["q20_bases"], told["q30_bases"]], [0, 0])
+        return
+    if report["encoding"] != "sanger":
         return
     head, row = seqkit("stats", "-a", "-T", name)
     stats = dict(zip(head, row))
@@ -81,13 +134,15 @@ def compare(where, told, name):
             wrong.append(f"{where}: {field}: {told[field]} in the report, {stats[column]} per cent by seqkit")
 
 
-for side in ("forward", "reverse"):
+for side in SIDES:
     told = report["reads"][side]
     inputs = report["inputs"]
     source = inputs[side] if report["command"] == "PE" else side_of(inputs["interleaved"], side)
     compare(f"{side} before", told["before"], source)
     for kind in ("paired", "unpaired"):
         compare(f"{side} {kind}", told[kind], report["outputs"][f"{side}_{kind}"])
+    if report["outputs"]["trim_log"] is not None:
+        by_log(side, told)
 
 # How the numbers of a report relate to each other.
 pairs = report["pairs"]
@@ -97,6 +152,9 @@ for side, alone in (("forward", "forward_only_surviving"), ("reverse", "reverse_
     same(side, "reads before", told["before"]["reads"], pairs["input"], "by its pairs")
     same(side, "paired reads", told["paired"]["reads"], pairs["both_surviving"], "by its pairs")
     same(side, "unpaired reads", told["unpaired"]["reads"], pairs[alone], "by its pairs")
+    left = told["paired"]["reads"] + told["unpaired"]["reads"]
+    for field in ("removed_front", "removed_behind"):
+        same(side, f"reads of {field}", sum(row[1] for row in told[field]), left, "by its reads")
     same(side, "dropped reads", dropped, pairs["input"] - pairs["both_surviving"] - pairs[alone], "by its pairs")
 for line in wrong:
     print(f"report_counts: {path}: {line}")
@@ -105,32 +163,29 @@ END
 }
 
 if [ $# -gt 0 ]; then
+  cd "$start" || exit 1
   check "$1"
   exit
 fi
-
-cd "$(dirname "$0")/.." || exit 1
-program=${FQ_PROG:-$PWD/crates/fq_prog/out/fq_prog}
-if [ ! -x "$program" ]; then
-  make -s build || exit 1
-fi
-program=$(realpath "$program")
+find_program
 cd "$work" || exit 1
 
-# draw SEED PAIRS LONGEST: r1.fq, r2.fq and both.fq, with scores that fall towards the end
+# draw SEED PAIRS LONGEST [ENCODING]: r1.fq, r2.fq and both.fq, with scores that fall towards the end
 draw() {
   python3 - "$@" << 'END'
 import random, sys
 
-seed, pairs, longest = map(int, sys.argv[1:])
+seed, pairs, longest = map(int, sys.argv[1:4])
+first, least = {"sanger": (33, 0), "illumina13": (64, 0), "solexa": (64, -5)}["".join(sys.argv[4:]) or "sanger"]
 draw = random.Random(seed)
 
 
 def record(title):
     count = draw.randint(1, longest)
     bases = "".join(draw.choices("ACGTNacgtn", weights=[9, 9, 9, 9, 1, 3, 3, 3, 3, 1], k=count))
-    scores = [min(93, max(0, draw.randint(20, 42) - draw.randint(0, 1 + 30 * place // count))) for place in range(count)]
-    return f"@{title}\n{bases}\n+\n{''.join(chr(33 + score) for score in scores)}\n"
+    bottom = draw.choice((20, 20, 20, least))
+    scores = [max(least, draw.randint(bottom, 42) - draw.randint(0, 1 + 30 * place // count)) for place in range(count)]
+    return f"@{title}\n{bases}\n+\n{''.join(chr(first + score) for score in scores)}\n"
 
 
 with open("r1.fq", "w") as forward, open("r2.fq", "w") as reverse, open("both.fq", "w") as both:
@@ -142,33 +197,45 @@ with open("r1.fq", "w") as forward, open("r2.fq", "w") as reverse, open("both.fq
 END
 }
 
-# run COMMAND INPUT.. -- STEP..: a run with a report, then a check of the report
+# run [ENCODING] COMMAND INPUT.. -- STEP..: a run with a report, then a check of the report, by FastQC
+# too if $fastqc is not empty
+fastqc=
 run() {
-  local command=$1 inputs=()
+  local encoding=sanger command inputs=()
+  case $1 in sanger | illumina13 | solexa) encoding=$1 && shift ;; esac
+  command=$1
   shift
   while [ "$1" != -- ]; do
     inputs+=("$1")
     shift
   done
   shift
-  if ! "$program" "$command" --threads 2 --block 7 --report report.json "${inputs[@]}" fp.fq fu.fq rp.fq ru.fq "$@" > summary; then
-    echo "report_counts: $command $*: failed"
-    failed=1
+  if ! "$program" "$command" --encoding "$encoding" --threads 2 --block 7 --trimlog trim.log --report report.json "${inputs[@]}" fp.fq fu.fq rp.fq ru.fq "$@" > summary; then
+    fail "$command $*: failed"
     return
   fi
-  check report.json || failed=1
+  check report.json "$fastqc" || failed=1
 }
 
+if ! command -v fastqc > /dev/null; then echo 'report_counts: reads by mean score as FastQC counts them: skipped: needs fastqc'; fi
 for seed in 1 2 3; do
   draw "$seed" 60 200
+  if [ "$seed" -eq 1 ]; then fastqc=$(command -v fastqc); else fastqc=; fi
   run PE r1.fq r2.fq -- LEADING:15 TRAILING:15 SLIDINGWINDOW:4:20 MINLEN:20
   run PE r1.fq r2.fq -- AVGQUAL:25 HEADCROP:3 CROP:50
   run IL both.fq -- SLIDINGWINDOW:5:25 MINLEN:36
   run IL both.fq -- MINLEN:1000
 done
-# Reads on both sides of 10,000 bases.
-draw 4 20 20000
+fastqc=
+for encoding in illumina13 solexa; do
+  draw 6 60 200 "$encoding"
+  run "$encoding" PE r1.fq r2.fq -- LEADING:15 SLIDINGWINDOW:4:20 MINLEN:20
+done
+# Reads on both sides of 10,000 bases, and removed bases too.
+draw 4 20 30000
 run PE r1.fq r2.fq -- LEADING:20 MINLEN:10
+run PE r1.fq r2.fq -- HEADCROP:10000
+run PE r1.fq r2.fq -- CROP:9999
 draw 5 0 1
 run PE r1.fq r2.fq -- MINLEN:1
-exit "$failed"
+finish ok

@@ -33,8 +33,8 @@ pub(crate) fn sides_value(alloc: Global, tally: &Tally) -> Result<Value, OutOfMe
     ensures { IfOk result (λ v. view v ≡ sides_value tally.now) }
 {
     json!(in alloc; {
-        "forward": side_value(alloc, &tally.forward)?,
-        "reverse": side_value(alloc, &tally.reverse)?,
+        "forward": side_value(alloc, tally.forward.counts())?,
+        "reverse": side_value(alloc, tally.reverse.counts())?,
     })
 }
 
@@ -132,8 +132,8 @@ fn step_value(alloc: Global, number: usize, word: &str, tally: &Tally) -> Result
 {
     json!(in alloc; {
         "step": word,
-        "forward": done_value(alloc, number, &tally.forward.steps)?,
-        "reverse": done_value(alloc, number, &tally.reverse.steps)?,
+        "forward": done_value(alloc, number, &tally.forward.counts().steps)?,
+        "reverse": done_value(alloc, number, &tally.reverse.counts().steps)?,
     })
 }
 

@@ -10,6 +10,7 @@
 #![tactic(auto)]
 
 mod bases;
+mod held;
 pub mod laws;
 mod reads;
 mod rows;
@@ -20,6 +21,7 @@ mod trimmed;
 mod vectors;
 
 pub use bases::BaseTally;
+pub use held::Side;
 pub use reads::ReadsTally;
 pub use rows::{LAST_ROW, Rows};
 pub use side::SideTally;

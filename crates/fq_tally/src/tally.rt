@@ -4,7 +4,7 @@ ghost use Rattle.std.specs.Prelude.{◌≡◌, List, ◌++◌, IfOk};
 ghost use Rattle.fq_trim.specs.declared.step.Step.{Step};
 ghost use Rattle.fq_pair.specs.Mates.{Mates, mates_in};
 
-use crate::side::SideTally;
+use crate::held::Side;
 use crate::trimmed::Trimmed;
 use fq_pair::PairView;
 use fq_text::OutOfMemory;
@@ -15,9 +15,9 @@ use std::alloc::Global;
 #[derive(Drop)]
 pub struct Tally {
     /// The forward reads.
-    pub forward: SideTally,
+    pub forward: Side,
     /// The reverse reads.
-    pub reverse: SideTally,
+    pub reverse: Side,
 }
 
 impl Tally {
@@ -28,8 +28,8 @@ impl Tally {
     pub fn new(alloc: Global) -> Result<Tally, OutOfMemory>
         ensures { IfOk result (λ t. t ≡ no_tally) }
     {
-        let forward = SideTally::new(alloc)?;
-        let reverse = SideTally::new(alloc)?;
+        let forward = Side::new(alloc)?;
+        let reverse = Side::new(alloc)?;
         Ok(Tally { forward, reverse })
     }
 

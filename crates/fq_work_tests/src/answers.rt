@@ -206,8 +206,8 @@ fn assert_two_reverse(rt: &impl Abort, side: &SideTally) {
 }
 
 fn assert_two_tallied(rt: &impl Abort, tally: &Tally) {
-    assert_two_forward(rt, &tally.forward);
-    assert_two_reverse(rt, &tally.reverse);
+    assert_two_forward(rt, tally.forward.counts());
+    assert_two_reverse(rt, tally.reverse.counts());
 }
 
 fn assert_no_tally(

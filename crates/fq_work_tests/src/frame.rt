@@ -349,7 +349,7 @@ fn take_mark<T: Drop>(alloc: Global, lane: &mut Rx<T>) -> Result<(), Fail>
 // How many forward reads were tallied, if any tally was made.
 fn reads_tallied(done: &Done) -> Option<u64> {
     let tally = done.tally.as_ref()?;
-    Some(tally.forward.before.reads)
+    Some(tally.forward.counts().before.reads)
 }
 
 fn assert_done(rt: &impl Abort, reply: &Reply, number: u64, pair: &Sample, tallied: bool) {

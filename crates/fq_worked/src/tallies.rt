@@ -4,7 +4,8 @@
 //! Answers, for `forward` and `reverse`: `before`, `paired` and `unpaired`, each with nine numbers (reads, bases, those of a score of at
 //! least 20 and of 30, the sum of the scores, G or C, N, the shortest read and the longest); `removed`, the bases removed in front and
 //! behind; `shortened` and `dropped`, by each step; `lengths before`, `lengths paired` and `lengths unpaired`, how many reads have which
-//! length; of all reads before, `rows`, how many rows of lengths there are, `limits`, the shortest and the longest, and of those in pairs
+//! length; `means before` and so on, how many have which mean score; `percents before` and so on, how many have which per cent of G and C;
+//! `front` and `behind`, how many of those that survive lost so many bases there; of all reads before, `rows`, how many rows of lengths there are, `limits`, the shortest and the longest, and of those in pairs
 //! `scores`, the sum of the scores and how many are at least 20 and 30. `kept` is what the steps keep of each mate of the first pair: the first place and that behind the last.
 
 use crate::answers::Answers;
@@ -14,7 +15,7 @@ use crate::steps::steps_in;
 use anyhow::{Context, Result};
 use fq_pair::PairView;
 use fq_samples::lawful_read;
-use fq_tally::{ReadsTally, SideTally, Tally, Trimmed};
+use fq_tally::{ReadsTally, Rows, SideTally, Tally, Trimmed};
 use fq_text::{Encoding, ReadView};
 use fq_trim::Steps;
 use std::alloc::{AllocError, Global};
@@ -86,7 +87,18 @@ fn put_key(alloc: Global, answers: &mut Answers, side: &str, key: &str, text: &s
     Ok(())
 }
 
-// The nine numbers of some reads, and their lengths.
+// How many reads have which number.
+fn put_rows(alloc: Global, answers: &mut Answers, side: &str, key: &str, rows: &Rows) -> Result<()> {
+    let mut text = String::new(alloc);
+    for (number, count) in rows.as_slice().iter().enumerate() {
+        if *count > 0 {
+            write!(text, " {number}:{count}")?;
+        }
+    }
+    put_key(alloc, answers, side, key, text.trim_start())
+}
+
+// The nine numbers of some reads, and how many have which length, mean score and per cent.
 fn put_reads(
     alloc: Global,
     answers: &mut Answers,
@@ -108,14 +120,12 @@ fn put_reads(
         reads.longest
     )?;
     put_key(alloc, answers, side, key, &text)?;
-    let mut lengths = String::new(alloc);
-    for (length, count) in reads.lengths.as_slice().iter().enumerate() {
-        if *count > 0 {
-            write!(lengths, " {length}:{count}")?;
-        }
-    }
-    let key = format!(in alloc; "lengths {key}")?;
-    put_key(alloc, answers, side, &key, lengths.trim_start())
+    let lengths = format!(in alloc; "lengths {key}")?;
+    put_rows(alloc, answers, side, &lengths, &reads.lengths)?;
+    let means = format!(in alloc; "means {key}")?;
+    put_rows(alloc, answers, side, &means, &reads.mean_scores)?;
+    let percents = format!(in alloc; "percents {key}")?;
+    put_rows(alloc, answers, side, &percents, &reads.gc_percents)
 }
 
 fn put_side(alloc: Global, answers: &mut Answers, name: &str, side: &SideTally) -> Result<()> {
@@ -134,6 +144,8 @@ fn put_side(alloc: Global, answers: &mut Answers, name: &str, side: &SideTally) 
     put_key(alloc, answers, name, "scores", &scores)?;
     let removed = format!(in alloc; "{} {}", side.front, side.behind)?;
     put_key(alloc, answers, name, "removed", &removed)?;
+    put_rows(alloc, answers, name, "front", &side.removed_front)?;
+    put_rows(alloc, answers, name, "behind", &side.removed_behind)?;
     let shortened = format!(in alloc; "{:?}", side.steps.shortened.as_slice())?;
     put_key(alloc, answers, name, "shortened", &shortened)?;
     let dropped = format!(in alloc; "{:?}", side.steps.dropped.as_slice())?;
@@ -142,8 +154,8 @@ fn put_side(alloc: Global, answers: &mut Answers, name: &str, side: &SideTally) 
 
 /// Answers with what was counted.
 pub fn put_tally(alloc: Global, answers: &mut Answers, tally: &Tally) -> Result<()> {
-    put_side(alloc, answers, "forward", &tally.forward)?;
-    put_side(alloc, answers, "reverse", &tally.reverse)
+    put_side(alloc, answers, "forward", tally.forward.counts())?;
+    put_side(alloc, answers, "reverse", tally.reverse.counts())
 }
 
 fn put_kept(

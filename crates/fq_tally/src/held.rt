@@ -1,0 +1,71 @@
+//! Counts of the reads of one side, on the heap.
+
+ghost use Rattle.std.specs.Prelude.{◌≡◌, IfOk};
+ghost use Rattle.fq_text.specs.Grammar.{IsLawful};
+ghost use Rattle.fq_tally.specs.Courses.{alone, course, passage};
+
+use crate::side::SideTally;
+use crate::trimmed::Trimmed;
+use fq_text::{OutOfMemory, ReadView};
+use fq_trim::Steps;
+use std::alloc::Global;
+use std::marker::Model;
+
+/// Counts of the reads of one side, as [`counts`](Side::counts) lends them. They are on the heap,
+/// so that a tally has few parts when it is moved.
+#[derive(Drop)]
+pub struct Side {
+    inside: Box<SideTally>,
+}
+
+impl Model for Side {
+    ghost use Rattle.fq_tally.specs.declared.side.SideTally.{SideTally};
+
+    ghost Value = { SideTally };
+
+    ghost view = { λ s. s.inside.value };
+}
+
+impl Side {
+    ghost use Rattle.fq_tally.specs.Tallies.{no_side, with_read, side_plus};
+
+    // No reads.
+    pub(crate) fn new(alloc: Global) -> Result<Side, OutOfMemory>
+        ensures { IfOk result (λ t. t ≡ no_side) }
+    {
+        let counts = SideTally::new(alloc)?;
+        let inside = Box::new(alloc, counts)?;
+        Ok(Side { inside })
+    }
+
+    /// The counts.
+    pub fn counts(&self) -> &SideTally
+        ensures { result.now ≡ self.now }
+    {
+        &self.inside
+    }
+
+    // Counts one more read and what the steps do to it. `mate`: its mate survives.
+    pub(crate) fn add(&mut self, read: &ReadView<'_>, steps: &Steps, trimmed: &Trimmed, mate: bool)
+        requires { trimmed.now ≡ passage steps.now read.now }
+        ensures added { self.new
+            ≡ with_read read.now (course (alone steps.now) read.now) mate self.old }
+        ensures lawful { IsLawful read.now }
+    {
+        self.inside.add(read, steps, trimmed, mate);
+    }
+
+    // Adds the counts of other reads.
+    pub(crate) fn add_all(&mut self, other: &Side)
+        ensures { self.new ≡ side_plus self.old other.now }
+    {
+        self.inside.add_all(&other.inside);
+    }
+
+    // Sets all counts to those of no reads.
+    pub(crate) fn clear(&mut self)
+        ensures { self.new ≡ no_side }
+    {
+        self.inside.clear();
+    }
+}
