@@ -231,7 +231,7 @@ measure_code() {
   LC_ALL=C.UTF-8 find crates -path '*/out' -prune -o '(' -name '*.rt' -o -name '*.antt' ')' \
     -exec grep -nE "^.{$((width + 1))}" {} + |
     grep -E '^[^:]*(\.rt|/specs/[^:]*):|^[^:]*:[0-9]+: *--' |
-    grep -vE '^[^:]*:[0-9]+: *((pub )?(ghost )?use |#\[tactic)|^[^"]*"' | cut -c 1-100 > "$work/wide_code"
+    grep -vE '^[^:]*:[0-9]+: *((pub )?(ghost )?use |#\[tactic)|^[^"]*"|^crates/fq_words/src/help\.rt' | cut -c 1-100 > "$work/wide_code"
   if [ -s "$work/wide_code" ]; then
     head -n 20 "$work/wide_code"
     fail "$(wc -l < "$work/wide_code") lines of code or comments are over $width columns"

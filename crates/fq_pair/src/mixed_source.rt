@@ -276,7 +276,8 @@ fn advance_mates<F: Feed>(
     ensures count { KeepsCount F.state source.old source.new }
     ensures bounded { IsBounded source.new }
     ensures pairs_bound { 2 * given ≤ source.new.given }
-    ensures few { result ≡ Ok true → (given + 1 ≤ text_limit) × (2 * (given + 1) ≤ source.new.given) }
+    ensures few { result ≡ Ok true
+        → (given + 1 ≤ text_limit) × (2 * (given + 1) ≤ source.new.given) }
 {
     *names = None;
     match source.next_into(forward) {

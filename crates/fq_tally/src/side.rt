@@ -68,6 +68,7 @@ impl SideTally {
             ≡ with_read read.now (course (alone steps.now) read.now) mate self.old }
         ensures lawful { IsLawful read.now }
     {
+        // By this call the proof learns that the read is valid.
         let _ = read.title();
         self.steps.add(trimmed);
         match trimmed.kept() {
@@ -80,6 +81,7 @@ impl SideTally {
     fn add_dropped(&mut self, read: &ReadView<'_>)
         ensures { self.new ≡ with_left read.now (part_at [] (whole read.now)) 0 false self.old }
     {
+        // By this call the proof learns that the read is valid.
         let _ = read.title();
         let len = read.seq().len();
         let bases = BaseTally::of_rare(read.encoding(), read.seq(), read.qual(), 0, len);
@@ -92,6 +94,7 @@ impl SideTally {
         ensures { self.new ≡ with_left read.now
             (part_at (places_of (Some kept)) (whole read.now)) kept.start mate self.old }
     {
+        // By this call the proof learns that the read is valid.
         let _ = read.title();
         let seq = read.seq();
         let len = kept.stop - kept.start;
@@ -144,6 +147,7 @@ impl SideTally {
 fn qual_of<'a>(read: &'a ReadView<'_>) -> &'a [u8]
     ensures { result.now ≡ read.now.qual }
 {
+    // By this call the proof learns that the read is valid.
     let _ = read.title();
     &read.qual()[..read.seq().len()]
 }
@@ -154,6 +158,7 @@ fn kept_bases(read: &ReadView<'_>, kept: Kept) -> BaseTally
     requires { kept.stop ≤ length read.now.seq }
     ensures { result ≡ bases_of (part_at (places_of (Some kept)) (whole read.now)) }
 {
+    // By this call the proof learns that the read is valid.
     let _ = read.title();
     BaseTally::of(
         read.encoding(),
@@ -171,6 +176,7 @@ fn whole_bases(read: &ReadView<'_>, kept: Kept, left: BaseTally) -> BaseTally
     requires left { left ≡ bases_of (part_at (places_of (Some kept)) (whole read.now)) }
     ensures { result ≡ bases_of (whole read.now) }
 {
+    // By this call the proof learns that the read is valid.
     let _ = read.title();
     let encoding = read.encoding();
     let (seq, qual) = (read.seq(), qual_of(read));

@@ -49,6 +49,7 @@ impl Trimmed {
     pub fn new(read: &ReadView<'_>, steps: &Steps) -> Trimmed
         ensures { result ≡ passage steps.now read.now }
     {
+        // By this call the proof learns that the read is valid.
         let _ = read.title();
         let encoding = read.encoding();
         let qual = read.qual();

@@ -1,12 +1,19 @@
-//! `do: tally` counts pairs under `steps`, in `encoding`. Each is a line `pair: SEQUENCE|QUALITY|SEQUENCE|QUALITY`; those of lines
-//! `other pair:` are counted apart, and added then. Where `clear` is `yes` the tally is cleared at last.
+//! `do: tally` counts pairs under `steps`, in `encoding`. Each is a line
+//! `pair: SEQUENCE|QUALITY|SEQUENCE|QUALITY`; those of lines `other pair:` are counted apart and then
+//! added. If `clear` is `yes`, the tally is cleared at the end.
 //!
-//! Answers, for `forward` and `reverse`: `before`, `paired` and `unpaired`, each with nine numbers (reads, bases, those of a score of at
-//! least 20 and of 30, the sum of the scores, G or C, N, the shortest read and the longest); `removed`, the bases removed in front and
-//! behind; `shortened` and `dropped`, by each step; `lengths before`, `lengths paired` and `lengths unpaired`, how many reads have which
-//! length; `means before` and so on, how many have which mean score; `percents before` and so on, how many have which per cent of G and C;
-//! `front` and `behind`, how many of those that survive lost so many bases there; of all reads before, `rows`, how many rows of lengths there are, `limits`, the shortest and the longest, and of those in pairs
-//! `scores`, the sum of the scores and how many are at least 20 and 30. `kept` is what the steps keep of each mate of the first pair: the first place and that behind the last.
+//! Answers, for `forward` and `reverse`:
+//! - `before`, `paired` and `unpaired`, each with nine numbers: reads, bases, bases with a score of at
+//!   least 20 and of at least 30, the sum of the scores, G or C, N, the shortest and the longest read;
+//! - `removed`, the bases removed at the start and at the end; `shortened` and `dropped`, by each step;
+//! - `lengths before`, `lengths paired` and `lengths unpaired`, how many reads have which length;
+//!   `means before` and so on, how many have which mean score; `percents before` and so on, how many
+//!   have which percentage of G and C;
+//! - `front` and `behind`, how many of the reads that survive lost how many bases there;
+//! - of all reads before, `rows`, the number of rows of lengths, and `limits`, the shortest and the
+//!   longest; of those in pairs `scores`, the sum of the scores and how many are at least 20 and 30;
+//! - `kept`, what the steps keep of each mate of the first pair: the first place and the one after
+//!   the last.
 
 use crate::answers::Answers;
 use crate::encoding_in;
@@ -22,7 +29,8 @@ use std::alloc::{AllocError, Global};
 use std::fmt::Write;
 use std::str;
 
-// A tally is handed on in a `Box`: it has so many parts that each function that owns one on its stack has a long proof.
+// A tally is handed on in a `Box`: it has so many parts that the proof of a function which owns one on
+// its stack is long.
 fn no_pairs(alloc: Global) -> Result<Box<Tally>, AllocError> {
     Ok(Box::new(alloc, Tally::new(alloc)?)?)
 }
@@ -88,7 +96,13 @@ fn put_key(alloc: Global, answers: &mut Answers, side: &str, key: &str, text: &s
 }
 
 // How many reads have which number.
-fn put_rows(alloc: Global, answers: &mut Answers, side: &str, key: &str, rows: &Rows) -> Result<()> {
+fn put_rows(
+    alloc: Global,
+    answers: &mut Answers,
+    side: &str,
+    key: &str,
+    rows: &Rows,
+) -> Result<()> {
     let mut text = String::new(alloc);
     for (number, count) in rows.as_slice().iter().enumerate() {
         if *count > 0 {
