@@ -1,17 +1,20 @@
-//! `do: tally` counts pairs under `steps`, in `encoding`. Each is a line
-//! `pair: SEQUENCE|QUALITY|SEQUENCE|QUALITY`; those of lines `other pair:` are counted apart and then
+//! `do: tally` counts pairs under `steps`, in `encoding`. Each is a line `pair:
+//! SEQUENCE|QUALITY|SEQUENCE|QUALITY`; those of lines `other pair:` are counted apart and then
 //! added. If `clear` is `yes`, the tally is cleared at the end.
 //!
 //! Answers, for `forward` and `reverse`:
-//! - `before`, `paired` and `unpaired`, each with nine numbers: reads, bases, bases with a score of at
-//!   least 20 and of at least 30, the sum of the scores, G or C, N, the shortest and the longest read;
-//! - `removed`, the bases removed at the start and at the end; `shortened` and `dropped`, by each step;
+//! - `before`, `paired` and `unpaired`, each with nine numbers: reads, bases, bases with a score of
+//!   at least 20 and of at least 30, the sum of the scores, G or C, N, the shortest and the longest
+//!   read;
+//! - `removed`, the bases removed at the start and at the end; `shortened` and `dropped`, by each
+//!   step;
 //! - `lengths before`, `lengths paired` and `lengths unpaired`, how many reads have which length;
-//!   `means before` and so on, how many have which mean score; `percents before` and so on, how many
-//!   have which percentage of G and C;
+//!   `means before` and so on, how many have which mean score; `percents before` and so on, how
+//!   many have which percentage of G and C;
 //! - `front` and `behind`, how many of the reads that survive lost how many bases there;
 //! - of all reads before, `rows`, the number of rows of lengths, and `limits`, the shortest and the
-//!   longest; of those in pairs `scores`, the sum of the scores and how many are at least 20 and 30;
+//!   longest; of those in pairs `scores`, the sum of the scores and how many are at least 20 and
+//!   30;
 //! - `kept`, what the steps keep of each mate of the first pair: the first place and the one after
 //!   the last.
 
@@ -29,8 +32,8 @@ use std::alloc::{AllocError, Global};
 use std::fmt::Write;
 use std::str;
 
-// A tally is handed on in a `Box`: it has so many parts that the proof of a function which owns one on
-// its stack is long.
+// A tally is handed on in a `Box`: it has so many parts that the proof of a function which owns one
+// on its stack is long.
 fn no_pairs(alloc: Global) -> Result<Box<Tally>, AllocError> {
     Ok(Box::new(alloc, Tally::new(alloc)?)?)
 }
