@@ -170,6 +170,6 @@ pub trait Files {
             → IsTrue (is_unflushed self.new name.now) }
         ensures flushed { IsTrue (Self.Target.state target).is_flushed
             → is_unflushed self.new ≡ is_unflushed self.old }
-        ensures never { (other : List ℕ) → IsTrue (is_unflushed self.old other)
+        ensures stays { (other : List ℕ) → IsTrue (is_unflushed self.old other)
             → IsTrue (is_unflushed self.new other) };
 }
