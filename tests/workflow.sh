@@ -119,7 +119,7 @@ new_lab() {
   } > config/samples.tsv
   mv reads/s3_L001_R1.fq.gz "reads/it's s3.fq.gz"
   sed -i "s|reads/s3_L001_R1.fq.gz|reads/it's s3.fq.gz|" config/samples.tsv
-  sed -i "s|^program:.*|program: $program|; s/^line_graphs:.*/line_graphs: true/; s/^steps:.*/steps: ${steps[*]}/
+  sed -i "s|^program:.*|program: $program|; s/^trim_logs:.*/trim_logs: true/; s/^steps:.*/steps: ${steps[*]}/
     s/threads: .*/threads: 2/; s/memory_mb: .*/memory_mb: 200/; s/minutes: .*/minutes: 5/" config/config.yaml
 }
 
@@ -136,11 +136,11 @@ call() {
   fi
 }
 
-# ran TRIM GRAPHS: that many jobs of each rule were started
+# ran NUMBER: that many samples were trimmed
 ran() {
   local got
-  got="$(grep -c '^rule trim:' said) $(grep -c '^rule graphs:' said)"
-  [ "$got" = "$1 $2" ] || fail "jobs of trim and graphs: $got, not $1 $2"
+  got=$(grep -c '^rule trim:' said)
+  [ "$got" -eq "$1" ] || fail "$got samples were trimmed, not $1"
 }
 
 # same_as_direct SAMPLES..: all their files hold what direct calls made
@@ -200,28 +200,16 @@ removed_bases() {
   python3 "$tree/tests/workflow/page_tells.py" "$work/direct" results/report_data --removed "$@" || fail 'the line graphs of removed bases differ'
 }
 
-# no_logs: there is no trim log, and the page has no graph of one
-no_logs() {
-  if [ -e results/trim_logs ] || [ -e results/graphs ]; then fail 'there is a trim log or a graph of one'; fi
-  no_lines
-}
-
-# no_lines: the page has no graph of removed bases
-no_lines() {
-  ! grep -q 'Bases removed' results/report.html || fail 'the page has removed bases'
-  [ -z "$(find results/report_data -name '*_front_*' -o -name '*_behind_*')" ] || fail 'the data of the page have removed bases'
-}
-
 # made: all files that were made of samples, with their times
 made() {
-  find results/trimmed results/trim_logs results/summaries results/reports results/graphs -type f -printf '%p %T@\n' | sort
+  find results/trimmed results/trim_logs results/summaries results/reports -type f -printf '%p %T@\n' | sort
 }
 
 # a_whole_life PROFILE: a call with a damaged sample, a second one, and one after the repair
 a_whole_life() {
   row="$1: a damaged sample"
   call 1 --profile "profiles/$1"
-  ran 4 3
+  ran 4
   same_as_direct s1 s2 s3
   same_logs s1 s2 s3
   page_tells s1 s2 s3
@@ -233,12 +221,12 @@ a_whole_life() {
   made > before
   row="$1: a second call"
   call 1 --profile "profiles/$1"
-  ran 1 0
+  ran 1
   page_tells s1 s2 s3
   row="$1: behind a repair"
   cp reads/s4_L001_R2.fq.gz.whole reads/s4_L001_R2.fq.gz
   call 0 --profile "profiles/$1"
-  ran 1 1
+  ran 1
   same_as_direct s1 s2 s3 s4
   same_logs s1 s2 s3 s4
   page_tells s1 s2 s3 s4
@@ -269,24 +257,24 @@ same_after_cutadapt() {
 with_adapters() {
   cp reads/s4_L001_R2.fq.gz.whole reads/s4_L001_R2.fq.gz
   sed -i "s/^adapters:.*/adapters: $adapter/" config/config.yaml
-  call 0 --profile profiles/local --config line_graphs=False
-  ran 4 0
+  call 0 --profile profiles/local --config trim_logs=False
+  ran 4
   same_after_cutadapt s1
   same_after_cutadapt s2
   [ "$(sed 1d results/report_data/multiqc_cutadapt.txt | cut -f 1 | paste -sd' ')" = 's1 s2 s3 s4' ] || fail 'the page has no part of cutadapt for each sample'
   grep -qF "<samp>$adapter</samp>" results/report.html || fail 'the page does not name the adapters'
   printf '>one\n%s\n' $adapter > adapters.fa
   row='adapters in a file'
-  call 0 --profile profiles/local --config line_graphs=False adapters=adapters.fa
-  ran 4 0
+  call 0 --profile profiles/local --config trim_logs=False adapters=adapters.fa
+  ran 4
   same_after_cutadapt s1
   printf '>two\nGGGGGGGGGGGGGGG\n' >> adapters.fa
-  call 0 --profile profiles/local --config line_graphs=False adapters=adapters.fa
-  ran 4 0
+  call 0 --profile profiles/local --config trim_logs=False adapters=adapters.fa
+  ran 4
   row='adapters no more'
   sed -i 's/^adapters:.*/adapters: ""/' config/config.yaml
-  call 0 --profile profiles/local --config line_graphs=False
-  ran 4 0
+  call 0 --profile profiles/local --config trim_logs=False
+  ran 4
   same_as_direct s1 s2 s3 s4
   page_tells s1 s2 s3 s4
   no_cutadapt
@@ -334,14 +322,14 @@ bad_tables() {
   refused 'config/samples.tsv: no sample'
   row='settings with a wrong kind'
   table "s1\tL1\t$one\t$two\n"
-  sed -i 's/^line_graphs:.*/line_graphs: perhaps/' config/config.yaml
-  refused "settings: line_graphs: 'perhaps' is not of type 'boolean'"
+  sed -i 's/^trim_logs:.*/trim_logs: perhaps/' config/config.yaml
+  refused "settings: trim_logs: 'perhaps' is not of type 'boolean'"
 }
 
 # An option that the program doesn't know fails each sample, and is reported.
 bad_option() {
   row='an option that the program does not know'
-  call 1 --profile profiles/local --config line_graphs=False options=--frob
+  call 1 --profile profiles/local --config trim_logs=False options=--frob
   grep -q "^failed: s1: error: .*'--frob'" said || fail "it is not named, but: $(grep '^failed:' said)"
 }
 
@@ -503,22 +491,23 @@ new_lab local
 a_whole_life local
 row='nothing to do'
 call 0 --profile profiles/local
-ran 0 0
+ran 0
 grep -q 'Nothing to be done' said || fail 'something was done'
-row='fewer processors, and no line graphs'
-call 0 --profile profiles/local --cores 1 --config line_graphs=False
-ran 0 0
+row='fewer processors, and no trim logs'
+call 0 --profile profiles/local --cores 1 --config trim_logs=False
+ran 0
 page_tells s1 s2 s3 s4
-no_lines
+removed_bases s1 s2 s3 s4
 
 new_lab plain
-row='no line graphs from the start'
+row='no trim logs from the start'
 cp reads/s4_L001_R2.fq.gz.whole reads/s4_L001_R2.fq.gz
-call 0 --profile profiles/local --config line_graphs=False
-ran 4 0
+call 0 --profile profiles/local --config trim_logs=False
+ran 4
 same_as_direct s1 s2 s3 s4
 page_tells s1 s2 s3 s4
-no_logs
+removed_bases s1 s2 s3 s4
+[ ! -e results/trim_logs ] || fail 'there is a trim log'
 no_cutadapt
 
 new_lab adapters

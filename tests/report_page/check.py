@@ -247,6 +247,14 @@ def check_mqc(report, start):
             numbers = {number for part in reads for number, _ in part["mean_scores"]}
             wanted = {str(n): round(100 * reads_with(reads, "mean_scores", n) / whole, 4) for n in numbers}
             assert found == wanted, (side, when, found, wanted)
+    for end in ("front", "behind"):
+        with open(f"{start}_{end}_mqc.json", encoding="utf-8") as file:
+            drawn = json.load(file)["data"]
+        for side in SIDES:
+            rows = report["reads"][side][f"removed_{end}"]
+            whole = sum(reads for _, reads in rows)
+            found = {number: count for number, count in drawn[f"{start.split('/')[-1]} {side}"].items() if count}
+            assert found == {str(bases): round(100 * reads / whole, 4) for bases, reads in rows if bases}, (side, end)
 
 
 # Reports that are changed.

@@ -24,10 +24,8 @@ except ValueError as why:
 
 ADAPTERS = config["adapters"]
 TRIM_GZ = str(HERE.parent / "contrib" / "trim_gz")
-LOG_TO_MQC = str(HERE.parent / "contrib" / "log_to_mqc")
 REPORT_TO_HTML = str(HERE.parent / "contrib" / "report_to_html")
 RESULTS = config["results"]
-GRAPHS = ["front", "behind"]
 TRIMMED = f"{RESULTS}/trimmed/{{sample}}.{{read}}.{{kind}}.fastq.gz"
 SUMMARY = f"{RESULTS}/summaries/{{sample}}.summary"
 REPORT = f"{RESULTS}/reports/{{sample}}.json"
@@ -35,14 +33,12 @@ SAMPLE_PAGE = f"{RESULTS}/reports/{{sample}}.html"
 SETTINGS = f"{RESULTS}/summaries/{{sample}}.settings"
 CUTADAPT = f"{RESULTS}/cutadapt/{{sample}}"
 TRIM_LOG = f"{RESULTS}/trim_logs/{{sample}}.log.gz"
-GRAPH = f"{RESULTS}/graphs/{{sample}}_{{graph}}_mqc.json"
 
 
 wildcard_constraints:
     sample="[A-Za-z0-9][A-Za-z0-9_.-]*",
     read="r1|r2",
     kind="paired|unpaired",
-    graph="|".join(GRAPHS),
 
 
 def quoted(words):

@@ -5,8 +5,6 @@ import subprocess
 
 def make_page():
     command = [sys.executable, str(HERE / "scripts" / "page.py"), "--results", RESULTS, "--logs", "logs"]
-    if config["line_graphs"]:
-        command.append("--line-graphs")
     done = subprocess.run(command, input="".join(f"{sample}\n" for sample in SAMPLES), text=True)
     return done.returncode == 0
 

@@ -15,7 +15,7 @@ rule trim:
         report=REPORT,
         settings=SETTINGS,
         **({"cutadapt": CUTADAPT + ".json", "cutadapt_log": CUTADAPT + ".log"} if ADAPTERS else {}),
-        **({"trimlog": TRIM_LOG} if config["line_graphs"] else {}),
+        **({"trimlog": TRIM_LOG} if config["trim_logs"] else {}),
     log:
         "logs/trim/{sample}.log",
     # Only what changes the trimmed reads is a parameter: Snakemake trims again where one of these changes.
@@ -36,7 +36,7 @@ rule trim:
         if [ "${{#more[@]}}" -gt 0 ]; then
             more+=(--cutadapt-report {RESULTS:q}/cutadapt/{wildcards.sample}.json --cutadapt-log {RESULTS:q}/cutadapt/{wildcards.sample}.log)
         fi
-        if [ {config[line_graphs]} = True ]; then more+=(--trimlog {RESULTS:q}/trim_logs/{wildcards.sample}.log.gz); fi
+        if [ {config[trim_logs]} = True ]; then more+=(--trimlog {RESULTS:q}/trim_logs/{wildcards.sample}.log.gz); fi
         {TRIM_GZ:q} {params.inputs} \\
             --paired1 {output.paired1:q} --unpaired1 {output.unpaired1:q} \\
             --paired2 {output.paired2:q} --unpaired2 {output.unpaired2:q} \\

@@ -16,7 +16,6 @@ from pathlib import Path
 
 HERE = Path(__file__).resolve().parent
 REPORT_TO_MQC = HERE.parent.parent / "contrib" / "report_to_mqc"
-GRAPHS = ["front", "behind"]
 SECTION = """<!--
 id: 'tibzharuk_run'
 parent_id: 'tibzharuk'
@@ -66,16 +65,15 @@ def settings_of(results, samples):
     return groups
 
 
-def missing_samples(failed, not_begun, without_graphs):
+def missing_samples(failed, not_begun):
     """The samples that the page lacks, and why."""
     parts = []
     if failed:
         parts.append(f'<div class="alert alert-danger"><strong>Failed: {len(failed)}.</strong> No reads of these were kept:<ul>')
         parts += [f"<li><strong>{html.escape(name)}</strong>: <samp>{html.escape(why)}</samp></li>" for name, why in failed.items()]
         parts.append("</ul></div>")
-    for what, names in ("Not begun", not_begun), ("Missing in the graphs of removed bases", without_graphs):
-        if names:
-            parts.append(f'<div class="alert alert-warning"><strong>{what}:</strong> {html.escape(", ".join(names))}</div>')
+    if not_begun:
+        parts.append(f'<div class="alert alert-warning"><strong>Not begun:</strong> {html.escape(", ".join(not_begun))}</div>')
     return parts
 
 
@@ -152,25 +150,15 @@ def put_cutadapt(results, trimmed, folder):
             (folder / f"{sample}_cutadapt.txt").write_text(text, encoding="utf-8")
 
 
-def gather(results, trimmed, line_graphs, folder):
-    """Puts what MultiQC reads into a folder. Gives the samples whose graphs of removed bases are missing."""
+def gather(results, trimmed, folder):
+    """Puts what MultiQC reads into a folder."""
     reports = [str(results / "reports" / f"{sample}.json") for sample in trimmed]
     for first in range(0, len(reports), 500):
         call([str(REPORT_TO_MQC), "--out", str(folder), *reports[first : first + 500]])
     put_cutadapt(results, trimmed, folder)
-    without_graphs = []
-    for sample in trimmed if line_graphs else []:
-        files = [results / "graphs" / f"{sample}_{graph}_mqc.json" for graph in GRAPHS]
-        made = (results / "reports" / f"{sample}.json").stat().st_mtime
-        if all(name.is_file() and name.stat().st_mtime >= made for name in files):
-            for name in files:
-                shutil.copy(name, folder)
-        else:
-            without_graphs.append(sample)
-    return without_graphs
 
 
-def make_page(results, trimmed, failed, not_begun, line_graphs):
+def make_page(results, trimmed, failed, not_begun):
     """Makes the page in a folder of its own, and puts it into its place at the end."""
     samples = len(trimmed) + len(failed) + len(not_begun)
     parts = [SECTION, f"<p><strong>{len(trimmed)} of {samples} samples</strong> are on this page.</p>"]
@@ -178,8 +166,8 @@ def make_page(results, trimmed, failed, not_begun, line_graphs):
     with tempfile.TemporaryDirectory(prefix=".report.", dir=results) as room:
         read, written = Path(room) / "read", Path(room) / "written"
         read.mkdir()
-        without_graphs = gather(results, trimmed, line_graphs, read)
-        parts += missing_samples(failed, not_begun, without_graphs)
+        gather(results, trimmed, read)
+        parts += missing_samples(failed, not_begun)
         parts += sample_pages(results, trimmed) + how_trimmed(results, trimmed)
         (read / "run_mqc.html").write_text("\n".join(parts) + "\n", encoding="utf-8")
         config = str(HERE.parent / "multiqc.yaml")
@@ -196,7 +184,6 @@ def main():
     parser = argparse.ArgumentParser(description=__doc__, formatter_class=argparse.RawDescriptionHelpFormatter)
     parser.add_argument("--results", type=Path, required=True, help="the folder of the workflow's results")
     parser.add_argument("--logs", type=Path, required=True, help="the folder of the workflow's logs")
-    parser.add_argument("--line-graphs", action="store_true", help="draw the graphs of removed bases, from the trim logs")
     words = parser.parse_args()
     samples = sys.stdin.read().split("\n")[:-1]
     parts = ("summaries/{}.summary", "summaries/{}.settings", "reports/{}.json")
@@ -205,7 +192,7 @@ def main():
     failed = {name: why for name, why in reasons.items() if why is not None}
     not_begun = [name for name, why in reasons.items() if why is None]
     try:
-        make_page(words.results, trimmed, failed, not_begun, words.line_graphs)
+        make_page(words.results, trimmed, failed, not_begun)
     except (Refused, OSError) as why:
         print(f"page: {' '.join(str(why).split())}", file=sys.stderr)
         return 1
