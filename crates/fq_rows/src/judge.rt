@@ -158,9 +158,7 @@ fn outlet(alloc: Global) -> FlushedOutlet
 }
 
 fn new_outlets(alloc: Global) -> Outlets<FlushedOutlet>
-    ensures { AreHealthy (outlet_states (λ o.
-        record { tells = false; taken = []; failures = o.failures; is_flushed = o.is_flushed })
-        result) }
+    ensures { AreHealthy (outlet_states ⟦<FlushedOutlet as Outlet>⟧.state result) }
 {
     Outlets {
         forward_paired: outlet(alloc),
@@ -175,9 +173,7 @@ fn new_outlets(alloc: Global) -> Outlets<FlushedOutlet>
 // stack has a long proof. `None` if memory is refused.
 fn outlets(alloc: Global) -> Option<Box<Outlets<FlushedOutlet>>>
     ensures { IfSome result (λ outlets. AreHealthy
-        (outlet_states (λ o.
-        record { tells = false; taken = []; failures = o.failures; is_flushed = o.is_flushed })
-        outlets.value)) }
+        (outlet_states ⟦<FlushedOutlet as Outlet>⟧.state outlets.value)) }
 {
     Box::new(alloc, new_outlets(alloc)).ok()
 }
@@ -261,9 +257,7 @@ fn end_interleaved<R: Threads + Wait + Copy + Send + 'static>(
     outlets: &mut Outlets<FlushedOutlet>,
 ) -> Ended
     requires text { text.failures ≡ 0 }
-    requires outlets { AreHealthy (outlet_states (λ o.
-        record { tells = false; taken = []; failures = o.failures; is_flushed = o.is_flushed })
-        outlets.old) }
+    requires outlets { AreHealthy (outlet_states ⟦<FlushedOutlet as Outlet>⟧.state outlets.old) }
 {
     let mut ending = if way.threads {
         run_threads_mixed(alloc, rt, settings, gate, text, outlets)
@@ -286,9 +280,7 @@ fn end_mates<R: Threads + Wait + Copy + Send + 'static>(
 ) -> Ended
     requires forward { forward.failures ≡ 0 }
     requires reverse { reverse.failures ≡ 0 }
-    requires outlets { AreHealthy (outlet_states (λ o.
-        record { tells = false; taken = []; failures = o.failures; is_flushed = o.is_flushed })
-        outlets.old) }
+    requires outlets { AreHealthy (outlet_states ⟦<FlushedOutlet as Outlet>⟧.state outlets.old) }
 {
     let mut ending = if way.threads {
         run_threads(alloc, rt, settings, gate, forward, reverse, outlets)
@@ -306,9 +298,7 @@ fn end<R: Threads + Wait + Copy + Send + 'static>(
     settings: &Settings,
     outlets: &mut Outlets<FlushedOutlet>,
 ) -> Option<Ended>
-    requires { AreHealthy (outlet_states (λ o.
-        record { tells = false; taken = []; failures = o.failures; is_flushed = o.is_flushed })
-        outlets.old) }
+    requires { AreHealthy (outlet_states ⟦<FlushedOutlet as Outlet>⟧.state outlets.old) }
 {
     let gate = Arc::new(alloc, OpenGate).ok()?;
     if way.interleaved {
@@ -336,9 +326,7 @@ fn run<R: Threads + Wait + Copy + Send + 'static>(
     way: Way,
     outlets: &mut Outlets<FlushedOutlet>,
 ) -> Result<Option<Left>>
-    requires { AreHealthy (outlet_states (λ o.
-        record { tells = false; taken = []; failures = o.failures; is_flushed = o.is_flushed })
-        outlets.old) }
+    requires { AreHealthy (outlet_states ⟦<FlushedOutlet as Outlet>⟧.state outlets.old) }
 {
     let settings = settings()?;
     match end(alloc, rt, way, &settings, outlets) {

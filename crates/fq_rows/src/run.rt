@@ -20,7 +20,7 @@ use fq_run::{
     run_threads_mixed,
 };
 use fq_tally::Tally;
-use fq_text::{ScriptFeed, ScriptOutlet};
+use fq_text::{Outlet, ScriptFeed, ScriptOutlet};
 use fq_trim::Steps;
 use fq_work::OpenGate;
 use fq_worked::{Answers, Given, encoding_in, put_counts, put_tally, words_of};
@@ -94,9 +94,7 @@ fn outlet(alloc: Global, given: &Given<'_>, key: &str) -> Result<ScriptOutlet>
 
 fn outlets_of(alloc: Global, given: &Given<'_>) -> Result<Outlets<ScriptOutlet>>
     ensures { IfOk result (λ outlets. AreHealthy
-        (outlet_states (λ o.
-        record { tells = true; taken = o.bytes; failures = o.failures; is_flushed = o.is_flushed })
-        outlets)) }
+        (outlet_states ⟦<ScriptOutlet as Outlet>⟧.state outlets)) }
 {
     Ok(Outlets {
         forward_paired: outlet(alloc, given, "fp")?,
@@ -110,9 +108,7 @@ fn outlets_of(alloc: Global, given: &Given<'_>) -> Result<Outlets<ScriptOutlet>>
 // Makes the outlets, in a `Box` (see `Left`).
 fn boxed_outlets(alloc: Global, given: &Given<'_>) -> Result<Box<Outlets<ScriptOutlet>>>
     ensures { IfOk result (λ outlets. AreHealthy
-        (outlet_states (λ o.
-        record { tells = true; taken = o.bytes; failures = o.failures; is_flushed = o.is_flushed })
-        outlets.value)) }
+        (outlet_states ⟦<ScriptOutlet as Outlet>⟧.state outlets.value)) }
 {
     Ok(Box::new(alloc, outlets_of(alloc, given)?)?)
 }
@@ -149,9 +145,7 @@ fn run_apart<R: Threads + Wait + Copy + Send + 'static>(
 ) -> Result<Ending<ScriptFeed, ScriptFeed>>
     requires forward { forward.failures ≡ 0 }
     requires reverse { reverse.failures ≡ 0 }
-    requires outlets { AreHealthy (outlet_states (λ o.
-        record { tells = true; taken = o.bytes; failures = o.failures; is_flushed = o.is_flushed })
-        outlets.old) }
+    requires outlets { AreHealthy (outlet_states ⟦<ScriptOutlet as Outlet>⟧.state outlets.old) }
 {
     if threads {
         let gate = Arc::new(alloc, OpenGate)?;
@@ -169,9 +163,7 @@ fn run_mixed<R: Threads + Wait + Copy + Send + 'static>(
     outlets: &mut Outlets<ScriptOutlet>,
 ) -> Result<MixedEnding<ScriptFeed>>
     requires text { text.failures ≡ 0 }
-    requires outlets { AreHealthy (outlet_states (λ o.
-        record { tells = true; taken = o.bytes; failures = o.failures; is_flushed = o.is_flushed })
-        outlets.old) }
+    requires outlets { AreHealthy (outlet_states ⟦<ScriptOutlet as Outlet>⟧.state outlets.old) }
 {
     if threads {
         let gate = Arc::new(alloc, OpenGate)?;
@@ -187,9 +179,7 @@ fn run<R: Threads + Wait + Copy + Send + 'static>(
     given: &Given<'_>,
     outlets: &mut Outlets<ScriptOutlet>,
 ) -> Result<Box<Left>>
-    requires { AreHealthy (outlet_states (λ o.
-        record { tells = true; taken = o.bytes; failures = o.failures; is_flushed = o.is_flushed })
-        outlets.old) }
+    requires { AreHealthy (outlet_states ⟦<ScriptOutlet as Outlet>⟧.state outlets.old) }
 {
     let workers = given.number("workers", 0)?;
     let settings = settings_of(alloc, given, workers.max(1))?;

@@ -167,9 +167,7 @@ pub fn settings_with(
 
 /// The outlets in memory, with one for the log if a log is written.
 pub fn outlets(rt: &impl Abort, alloc: Global, given: &Given<'_>) -> Outlets<ScriptOutlet>
-    ensures { AreHealthy (outlet_states (λ o.
-        record { tells = true; taken = o.bytes; failures = o.failures; is_flushed = o.is_flushed })
-        result) }
+    ensures { AreHealthy (outlet_states ⟦<ScriptOutlet as Outlet>⟧.state result) }
 {
     Outlets {
         forward_paired: outlet(rt, alloc, given, Out::ForwardPaired),

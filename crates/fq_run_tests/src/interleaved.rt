@@ -9,7 +9,7 @@ use super::sweeps::{BLOCK_PAIRS, CUT, RECORD, WAYS, Way, front_of};
 use fq_pair::{InputFault, Out, Side};
 use fq_run::{MixedEnding, Outcome, Outlets, Settings, run_serial_mixed, run_threads_mixed};
 use fq_samples::{ELEVEN_INTERLEAVED, Front, SEVEN_STEPS};
-use fq_text::{ScriptFeed, ScriptOutlet};
+use fq_text::{Outlet, ScriptFeed, ScriptOutlet};
 use fq_work::OpenGate;
 use std::alloc::Global;
 use std::process::Abort;
@@ -26,9 +26,7 @@ fn serial_interleaved(
     outlets: &mut Outlets<ScriptOutlet>,
 ) -> MixedEnding<ScriptFeed>
     requires text { text.failures ≡ 0 }
-    requires outlets { AreHealthy (outlet_states (λ o.
-        record { tells = true; taken = o.bytes; failures = o.failures; is_flushed = o.is_flushed })
-        outlets.old) }
+    requires outlets { AreHealthy (outlet_states ⟦<ScriptOutlet as Outlet>⟧.state outlets.old) }
 {
     run_serial_mixed(alloc, settings, text, outlets)
 }
@@ -42,9 +40,7 @@ fn threaded_interleaved<R: Threads + Wait + Copy + Send + 'static>(
     outlets: &mut Outlets<ScriptOutlet>,
 ) -> Result<MixedEnding<ScriptFeed>, Fail>
     requires text { text.failures ≡ 0 }
-    requires outlets { AreHealthy (outlet_states (λ o.
-        record { tells = true; taken = o.bytes; failures = o.failures; is_flushed = o.is_flushed })
-        outlets.old) }
+    requires outlets { AreHealthy (outlet_states ⟦<ScriptOutlet as Outlet>⟧.state outlets.old) }
 {
     let gate = Arc::new(alloc, OpenGate)?;
     Ok(run_threads_mixed(alloc, rt, settings, gate, text, outlets))

@@ -203,9 +203,7 @@ fn seeing(
 ) -> Result<(SeeingFeed, Outlets<SeeingOutlet>), Fail>
     ensures feed { IfOk result (λ devices. devices.0.failures ≡ 0) }
     ensures outlets { IfOk result (λ devices. AreHealthy
-        (outlet_states (λ o.
-        record { tells = false; taken = []; failures = o.failures; is_flushed = o.is_flushed })
-        devices.1)) }
+        (outlet_states ⟦<SeeingOutlet as Outlet>⟧.state devices.1)) }
 {
     let meeting = Arc::new(alloc, Meeting::new(LOOKS))?;
     let forward = SeeingFeed {

@@ -10,7 +10,7 @@ use super::rows::seven_pairs;
 use fq_pair::{Counts, Out, Side};
 use fq_run::{Ending, Outcome, Outlets};
 use fq_samples::{Front, SEVEN_FORWARD, SEVEN_REVERSE, SEVEN_STEPS, front_in_order};
-use fq_text::{Feed, ScriptFeed, ScriptOutlet};
+use fq_text::{Feed, Outlet, ScriptFeed, ScriptOutlet};
 use fq_work::OpenGate;
 use std::alloc::Global;
 use std::process::Abort;
@@ -89,9 +89,7 @@ fn run_between<R: Threads + Wait + Copy + Send + 'static>(
 ) -> Result<Ending<ScriptFeed, ScriptFeed>, Fail>
     requires forward { forward.failures ≡ 0 }
     requires reverse { reverse.failures ≡ 0 }
-    requires outlets { AreHealthy (outlet_states (λ o.
-        record { tells = true; taken = o.bytes; failures = o.failures; is_flushed = o.is_flushed })
-        outlets.old) }
+    requires outlets { AreHealthy (outlet_states ⟦<ScriptOutlet as Outlet>⟧.state outlets.old) }
 {
     let settings = settings_of(given, 2, 4)?;
     match way {
