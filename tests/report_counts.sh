@@ -220,13 +220,13 @@ run() {
 if ! command -v fastqc > /dev/null; then echo 'report_counts: reads by mean score as FastQC counts them: skipped: needs fastqc'; fi
 for seed in 1 2 3; do
   draw "$seed" 60 200
-  if [ "$seed" -eq 1 ]; then fastqc=$(command -v fastqc); else fastqc=; fi
+  if [ "$seed" -eq 1 ]; then fastqc=$(command -v fastqc); fi
   run PE r1.fq r2.fq -- LEADING:15 TRAILING:15 SLIDINGWINDOW:4:20 MINLEN:20
+  fastqc=
   run PE r1.fq r2.fq -- AVGQUAL:25 HEADCROP:3 CROP:50
   run IL both.fq -- SLIDINGWINDOW:5:25 MINLEN:36
   run IL both.fq -- MINLEN:1000
 done
-fastqc=
 for encoding in illumina13 solexa; do
   draw 6 60 200 "$encoding"
   run "$encoding" PE r1.fq r2.fq -- LEADING:15 SLIDINGWINDOW:4:20 MINLEN:20

@@ -99,6 +99,18 @@ trim 0 high.json PE high1.fq high2.fq "${outputs[@]}" MINLEN:3
 trim 0 even.json PE even1.fq even2.fq "${outputs[@]}" MINLEN:3
 trim 3 fault.json PE r1.fq short.fq "${outputs[@]}" MINLEN:36
 for name in two one gone no_reads names high even fault; do drawn "$name"; done
+# A report of the form before, which lacks the reads by mean score, by G and C and by removed bases.
+python3 - << 'END'
+import json
+report = json.load(open("two.json", encoding="utf-8"))
+del report["schema"]
+for side in report["reads"].values():
+    del side["removed_front"], side["removed_behind"]
+    for part in ("before", "paired", "unpaired"):
+        del side[part]["mean_scores"], side[part]["gc_percents"]
+json.dump(report, open("older.json", "w", encoding="utf-8"))
+END
+drawn older
 
 row='the title of a page'
 "$script" --sample 'liver & 1' two.json | grep -qF '<h1>liver &amp; 1</h1>' || fail 'it is not the name that was given'
@@ -138,10 +150,11 @@ if [ -w /dev/full ]; then
 fi
 
 row='report_to_mqc'
-"$tree/contrib/report_to_mqc" --out page_parts plain.json long.json none.json small.json two.json || fail "status $?"
+"$tree/contrib/report_to_mqc" --out page_parts plain.json long.json none.json small.json two.json older.json || fail "status $?"
 check mqc plain.json page_parts/plain || fail 'mean scores by position, or reads by mean score, differ'
 check mqc none.json page_parts/none || fail 'a report without reads differs'
 [ -e page_parts/two_lengths_after_mqc.json ] || fail 'there is no graph of lengths'
-if [ -e page_parts/two_scores_before_mqc.json ] || [ -e page_parts/two_means_after_mqc.json ]; then fail 'it draws what a report lacks'; fi
+[ -e page_parts/two_means_after_mqc.json ] || fail 'there is no graph of mean scores'
+if [ -e page_parts/two_scores_before_mqc.json ] || [ -e page_parts/older_means_after_mqc.json ]; then fail 'it draws what a report lacks'; fi
 for file in "$PWD"/page_parts/long_scores_*; do [ "$(wc -c < "$file")" -lt 40000 ] || fail "$file is too large"; done
 finish ok

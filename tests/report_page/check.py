@@ -207,16 +207,23 @@ def check_page(report_path, page_path):
     assert "http" not in content and "<script" not in content
     check_numbers(page, report)
     reads = report["reads"]["forward"]["before"]
-    graphs = ("mean score by position", "reads by mean score", "removed")
-    there = {name: any(name in figure for figure in page.figures) for name in graphs}
-    assert set(there.values()) == {"positions" in reads and reads["reads"] > 0}, there
+    known = {
+        "mean score by position": "positions" in reads,
+        "reads by mean score": "mean_scores" in reads,
+        "removed": "removed_front" in report["reads"]["forward"],
+    }
+    for name in known:
+        assert any(name in figure for figure in page.figures) == (known[name] and reads["reads"] > 0), name
     for side in SIDES if reads["reads"] else ():
         check_lengths(page, report, side)
         if "positions" in reads:
             check_scores(page, report, side)
             check_letters(page, report, side)
+        if "mean_scores" in reads:
             check_histogram(page, report, side, "mean score", "mean score {}", "mean_scores")
+        if "gc_percents" in reads:
             check_histogram(page, report, side, "% G and C", "{} % G and C", "gc_percents")
+        if "removed_front" in report["reads"][side]:
             check_removed(page, report, side)
     high = any(report["reads"][side]["before"]["score_sum"] > 50 * report["reads"][side]["before"]["bases"] for side in SIDES)
     wanted = report["fault"] is not None or high
