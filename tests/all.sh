@@ -14,8 +14,8 @@ done
 cat << END
 make test does three things. Times are those of four processors; docs/GATE.md has more.
 1. It builds the program, which proves it: 30 minutes if nothing is built, else seconds.
-2. It runs the unit tests of every crate and the worked examples, unproved: 5 minutes.
-3. It runs ${#scripts[@]} scripts over the built program: 20 minutes. A script that lacks a package says 'skipped'.
+2. It runs the unit tests of every crate and the worked examples, unproved: 2 minutes.
+3. It runs ${#scripts[@]} scripts over the built program: 13 minutes. A script that lacks a package says 'skipped'.
 The proofs of the tests and the wrong bodies that the prover must refuse are the gate: make gate.
 END
 
