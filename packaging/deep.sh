@@ -7,7 +7,7 @@ if [ "${1-}" = --help ]; then
   echo "usage: packaging/deep.sh [CRATE..]
 Moves crates/CRATE/wrong-bodies/*.edit into crates/CRATE/must-fail/ of a copy of the crates, and runs 'rt ci CRATE..' there.
 Without CRATE it tries those of every crate. What 'rt ci' proved before, in any checkout on this machine, is not proved
-again, so after a gate this costs the edits alone: about 28 processor seconds each. Refused edits are kept one by one, so a
+again, so after a gate this costs the edits alone: about 24 processor seconds each. Refused edits are kept one by one, so a
 run that was cut off goes on where it ended. The last line is 'N wrong bodies refused, M not'."
   exit
 fi
