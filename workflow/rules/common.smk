@@ -12,6 +12,9 @@ from tables import Refused, check_adapters, check_settings, read_samples
 # `adapters:` with nothing after it, or no such line, is the same as "".
 config["adapters"] = config.get("adapters") or ""
 
+# Settings of 1.0.0 still work. `line_graphs: true` kept the trim logs. `graphs` was for jobs that are gone, and isn't looked at.
+config.setdefault("trim_logs", config.get("line_graphs", False))
+
 try:
     check_settings(config, HERE / "schemas" / "config.schema.yaml")
     SAMPLES = read_samples(config["samples"], HERE / "schemas" / "samples.schema.yaml")
