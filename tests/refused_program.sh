@@ -53,13 +53,13 @@ draw() {
   yes "$record" | head -n "$((50000 * $#))"
 }
 
-# grow_seldom WORDS..: this call, over 50,000 pairs, asks for memory fewer than 1,000 times.
+# grow_seldom WORDS..: this call, over 50,000 pairs, asks for memory fewer than 2,000 times.
 grow_seldom() {
   local status
-  timeout 60 env REFUSED_GROWTH=1000 LD_PRELOAD="$room/refuse.so" "$program" "$@" 9> refused > summary 2> err
+  timeout 60 env REFUSED_GROWTH=2000 LD_PRELOAD="$room/refuse.so" "$program" "$@" 9> refused > summary 2> err
   status=$?
   if [ "$status" -ne 0 ] || [ -s refused ] || ! grep -q 50000 summary; then
-    wrong 1000 "$1" "status $status, '$(cat err)', $(cat refused)"
+    wrong 2000 "$1" "status $status, '$(cat err)', $(cat refused)"
   fi
 }
 
@@ -82,5 +82,5 @@ grow_seldom PE --threads 1 --block 100 --depth 1 --trimlog log joined1 joined2 f
 grow_seldom PE --threads 1 --block 100 --depth 1 --report report plain1 plain2 fp fu rp ru "${steps[@]}"
 grow_seldom IL --threads 1 --block 100 --depth 1 --trimlog log interleaved fp fu rp ru "${steps[@]}"
 grow_seldom IL --threads 1 --block 100 --depth 1 --trimlog log interleaved_joined fp fu rp ru "${steps[@]}"
-echo "50,000 pairs: fewer than 1,000 growths"
+echo "50,000 pairs: fewer than 2,000 growths"
 finish ok

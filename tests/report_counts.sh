@@ -2,10 +2,11 @@
 # What a report counts in files is what seqkit counts in them: reads, bases, bases G or C, bases N,
 # the shortest and the longest read, the reads of each length, and the percentages of bases with a
 # score of at least 20 and of at least 30. It is also what this script counts, base by base: reads by
-# mean score and by percentage of G and C, and the sum of the scores. If FastQC is installed, the
-# reads by mean score are also FastQC's. The reads by bases removed at each end are those of the trim
-# log. It checks inputs and outputs of runs on simulated files in each encoding, two files or one
-# interleaved.
+# mean score and by percentage of G and C, the sum of the scores, and each list of bases by position.
+# If FastQC is installed, the reads by mean score and the mean score at each position are also
+# FastQC's. If fastp is installed, the mean score and the share of each letter at each position are
+# also fastp's. The reads by bases removed at each end are those of the trim log. It checks inputs and
+# outputs of runs on simulated files in each encoding, two files or one interleaved.
 #
 # With REPORT it checks only that report; the names of its files are relative to the directory in
 # which this is called:
@@ -19,13 +20,14 @@ need seqkit python3
 work=$(mktemp -d) || exit 1
 trap 'rm -rf "$work"' EXIT
 
-# check REPORT [FASTQC]: each count of reads in the report is what others count
+# check REPORT [FASTQC [FASTP]]: each count of reads in the report is what others count
 check() {
-  python3 - "$1" "$work" "${2:-}" << 'END'
+  python3 - "$1" "$work" "${2:-}" "${3:-}" << 'END'
 import collections, fractions, json, math, os, shutil, subprocess, sys
 
 SIDES = ["forward", "reverse"]
-path, work, fastqc = sys.argv[1:]
+LAST = 10_001
+path, work, fastqc, fastp = sys.argv[1:]
 report = json.load(open(path, encoding="utf-8"))
 wrong = []
 
@@ -48,14 +50,26 @@ def reads_of(encoding, name):
         yield lines[first + 1].decode().upper(), [phred(encoding, byte) for byte in lines[first + 3]]
 
 
+FIELDS = ["bases", "score_sum", "q30_bases", "a", "c", "g", "t", "n"]
+TOTALS = {"bases": "bases", "score_sum": "score_sum", "q30_bases": "q30_bases", "n": "n_bases"}
+
+
 def rows(numbers):
     return [list(row) for row in sorted(collections.Counter(numbers).items())]
 
 
 def by_base(where, told, name):
-    score_sum, means, percents = 0, [], []
+    score_sum, means, percents, longest = 0, [], [], 0
+    places = collections.defaultdict(collections.Counter)
     for bases, scores in reads_of(report["encoding"], name):
         score_sum += sum(scores)
+        longest = max(longest, len(bases))
+        for number, (letter, score) in enumerate(zip(bases, scores), 1):
+            number = min(number, LAST)
+            places["bases"][number] += 1
+            places["score_sum"][number] += score
+            places["q30_bases"][number] += score >= 30
+            places[letter.lower()][number] += 1
         if bases:
             share = fractions.Fraction(100 * (bases.count("G") + bases.count("C")), len(bases))
             means.append(math.floor(fractions.Fraction(sum(scores), len(scores))))
@@ -63,6 +77,12 @@ def by_base(where, told, name):
     same(where, "score_sum", told["score_sum"], score_sum, "by base")
     same(where, "mean_scores", told["mean_scores"], rows(means), "by base")
     same(where, "gc_percents", told["gc_percents"], rows(percents), "by base")
+    for field in FIELDS:
+        counted = [places[field][number] for number in range(1, min(longest, LAST) + 1)]
+        same(where, f"positions.{field}", told["positions"].get(field), counted, "by base")
+    for field, total in TOTALS.items():
+        same(where, total, told[total], sum(told["positions"][field]), f"by its positions ({field})")
+    same(where, "gc_bases", told["gc_bases"], sum(map(sum, map(told["positions"].get, "gc"))), "by its positions")
 
 
 # The reads by mean score as FastQC counts them, of a file in which it finds the encoding of the run.
@@ -76,6 +96,30 @@ def by_fastqc(where, told, name):
     part = data.split(">>Per sequence quality scores")[1].split(">>END_MODULE")[0].splitlines()[2:]
     found = [[int(score), int(float(reads))] for score, reads in (line.split("\t") for line in part)]
     same(where, "mean_scores", told["mean_scores"], [row for row in found if row[1]], "by FastQC")
+    part = data.split(">>Per base sequence quality")[1].split(">>END_MODULE")[0].splitlines()[2:]
+    found = [float(line.split("\t")[1]) for line in part]
+    near(where, "mean score by position", told, "score_sum", found, "by FastQC")
+
+
+# The mean score and the share of each letter at each position of the inputs as fastp counts them, with its filters off.
+def by_fastp(names):
+    words = ["fastp", "-i", names[0], "-I", names[1], "-A", "-Q", "-L", "-G", "-w", "1", "-j", f"{work}/fastp.json", "-h", f"{work}/fastp.html"]
+    subprocess.run(words, check=True, stdout=subprocess.DEVNULL, stderr=subprocess.DEVNULL)
+    counted = json.load(open(f"{work}/fastp.json", encoding="utf-8"))
+    for side, part in zip(SIDES, ("read1_before_filtering", "read2_before_filtering")):
+        told = report["reads"][side]["before"]
+        near(f"{side} before", "mean score by position", told, "score_sum", counted[part]["quality_curves"]["mean"], "by fastp")
+        for letter in "acgtn":
+            found = counted[part]["content_curves"][letter.upper()]
+            near(f"{side} before", f"share of {letter} by position", told, letter, found, "by fastp")
+
+
+# What a list of positions is for each base, up to rounding in others' text.
+def near(where, what, told, field, found, by):
+    places = told["positions"]
+    shares = [count / bases for count, bases in zip(places[field], places["bases"])]
+    if len(shares) != len(found) or any(abs(a - b) > 0.0001 for a, b in zip(shares, found)):
+        wrong.append(f"{where}: {what}: {shares} in the report, {found} {by}")
 
 
 # The bases that each read of a side lost at its start and at its end, by the trim log.
@@ -144,6 +188,9 @@ for side in SIDES:
     if report["outputs"]["trim_log"] is not None:
         by_log(side, told)
 
+if fastp:
+    by_fastp([report["inputs"][side] for side in SIDES])
+
 # How the numbers of a report relate to each other.
 pairs = report["pairs"]
 for side, alone in (("forward", "forward_only_surviving"), ("reverse", "reverse_only_surviving")):
@@ -170,18 +217,20 @@ fi
 find_program
 cd "$work" || exit 1
 
-# draw SEED PAIRS LONGEST [ENCODING]: r1.fq, r2.fq and both.fq, with scores that fall towards the end
+# draw SEED PAIRS LONGEST [ENCODING [FIRST]]: r1.fq, r2.fq and both.fq, with scores that fall towards
+# the end; the first forward read has FIRST bases
 draw() {
   python3 - "$@" << 'END'
 import random, sys
 
 seed, pairs, longest = map(int, sys.argv[1:4])
-first, least = {"sanger": (33, 0), "illumina13": (64, 0), "solexa": (64, -5)}["".join(sys.argv[4:]) or "sanger"]
+encoding, length = sys.argv[4:] + ["sanger", ""][len(sys.argv) - 4:]
+first, least = {"sanger": (33, 0), "illumina13": (64, 0), "solexa": (64, -5)}[encoding]
 draw = random.Random(seed)
 
 
 def record(title):
-    count = draw.randint(1, longest)
+    count = int(length) if length and title == "p0/1" else draw.randint(1, longest)
     bases = "".join(draw.choices("ACGTNacgtn", weights=[9, 9, 9, 9, 1, 3, 3, 3, 3, 1], k=count))
     bottom = draw.choice((20, 20, 20, least))
     scores = [max(least, draw.randint(bottom, 42) - draw.randint(0, 1 + 30 * place // count)) for place in range(count)]
@@ -198,8 +247,9 @@ END
 }
 
 # run [ENCODING] COMMAND INPUT.. -- STEP..: a run with a report, then a check of the report, by FastQC
-# too if $fastqc is not empty
+# and by fastp too if $fastqc and $fastp are not empty
 fastqc=
+fastp=
 run() {
   local encoding=sanger command inputs=()
   case $1 in sanger | illumina13 | solexa) encoding=$1 && shift ;; esac
@@ -214,15 +264,21 @@ run() {
     fail "$command $*: failed"
     return
   fi
-  check report.json "$fastqc" || failed=1
+  check report.json "$fastqc" "$fastp" || failed=1
 }
 
-if ! command -v fastqc > /dev/null; then echo 'report_counts: reads by mean score as FastQC counts them: skipped: needs fastqc'; fi
+for other in fastqc fastp; do
+  if ! command -v "$other" > /dev/null; then echo "report_counts: what $other counts of the same files: skipped: needs $other"; fi
+done
 for seed in 1 2 3; do
   draw "$seed" 60 200
-  if [ "$seed" -eq 1 ]; then fastqc=$(command -v fastqc); fi
+  if [ "$seed" -eq 1 ]; then
+    fastqc=$(command -v fastqc)
+    fastp=$(command -v fastp)
+  fi
   run PE r1.fq r2.fq -- LEADING:15 TRAILING:15 SLIDINGWINDOW:4:20 MINLEN:20
   fastqc=
+  fastp=
   run PE r1.fq r2.fq -- AVGQUAL:25 HEADCROP:3 CROP:50
   run IL both.fq -- SLIDINGWINDOW:5:25 MINLEN:36
   run IL both.fq -- MINLEN:1000
@@ -236,6 +292,11 @@ draw 4 20 30000
 run PE r1.fq r2.fq -- LEADING:20 MINLEN:10
 run PE r1.fq r2.fq -- HEADCROP:10000
 run PE r1.fq r2.fq -- CROP:9999
+# One read of 12,000 bases among short ones, in each encoding.
+for encoding in sanger illumina13 solexa; do
+  draw 7 30 150 "$encoding" 12000
+  run "$encoding" PE r1.fq r2.fq -- HEADCROP:5 MINLEN:20
+done
 draw 5 0 1
 run PE r1.fq r2.fq -- MINLEN:1
 finish ok

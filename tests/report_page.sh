@@ -1,8 +1,7 @@
 #!/usr/bin/env bash
 # Makes pages with contrib/report_to_html and reads them as HTML. Each is well formed, loads
 # nothing, runs nothing, and has the numbers of its report. The reports are those of the program,
-# and those of a slow count with every field that a page draws: with no read, with 150 bases and
-# with more than 10,000. No text of a report becomes markup. Faults, and scores that are too high,
+# and those of a slow count: with no read, with 150 bases and with more than 10,000. No text of a report becomes markup. Faults, and scores that are too high,
 # are at the top. A file that is not a report is refused in one line. contrib/report_to_mqc draws
 # mean scores by position and reads by mean score for the same reports.
 #
@@ -99,7 +98,8 @@ trim 0 high.json PE high1.fq high2.fq "${outputs[@]}" MINLEN:3
 trim 0 even.json PE even1.fq even2.fq "${outputs[@]}" MINLEN:3
 trim 3 fault.json PE r1.fq short.fq "${outputs[@]}" MINLEN:36
 for name in two one gone no_reads names high even fault; do drawn "$name"; done
-# A report of the form before, which lacks the reads by mean score, by G and C and by removed bases.
+# A report of the form before, which lacks the bases by position, and the reads by mean score, by G
+# and C and by removed bases.
 python3 - << 'END'
 import json
 report = json.load(open("two.json", encoding="utf-8"))
@@ -107,7 +107,7 @@ del report["schema"]
 for side in report["reads"].values():
     del side["removed_front"], side["removed_behind"]
     for part in ("before", "paired", "unpaired"):
-        del side[part]["mean_scores"], side[part]["gc_percents"]
+        del side[part]["positions"], side[part]["mean_scores"], side[part]["gc_percents"]
 json.dump(report, open("older.json", "w", encoding="utf-8"))
 END
 drawn older
@@ -151,10 +151,12 @@ fi
 
 row='report_to_mqc'
 "$tree/contrib/report_to_mqc" --out page_parts plain.json long.json none.json small.json two.json older.json || fail "status $?"
-check mqc plain.json page_parts/plain || fail 'mean scores by position, or reads by mean score, differ'
+for name in plain two; do
+  check mqc "$name.json" "page_parts/$name" || fail "$name: mean scores by position, or reads by mean score, differ"
+done
 check mqc none.json page_parts/none || fail 'a report without reads differs'
 [ -e page_parts/two_lengths_after_mqc.json ] || fail 'there is no graph of lengths'
 [ -e page_parts/two_means_after_mqc.json ] || fail 'there is no graph of mean scores'
-if [ -e page_parts/two_scores_before_mqc.json ] || [ -e page_parts/older_means_after_mqc.json ]; then fail 'it draws what a report lacks'; fi
+if [ -e page_parts/older_scores_before_mqc.json ] || [ -e page_parts/older_means_after_mqc.json ]; then fail 'it draws what a report lacks'; fi
 for file in "$PWD"/page_parts/long_scores_*; do [ "$(wc -c < "$file")" -lt 40000 ] || fail "$file is too large"; done
 finish ok

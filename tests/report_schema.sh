@@ -222,13 +222,23 @@ def places(value):
             yield from places(value[key])
 
 
+# A report whose lists of positions have two items at most.
+def cut(report):
+    one = copy.deepcopy(report)
+    for side in one["reads"].values():
+        for part in "before", "paired", "unpaired":
+            side[part]["positions"] = {name: items[:2] for name, items in side[part]["positions"].items()}
+    return one
+
+
 # The reports made from one report by a change at one place.
 def changed(report):
+    report = cut(report)
     for number in range(sum(1 for _ in places(report))):
         for change in (
             lambda holder, key: holder.pop(key) if isinstance(holder, dict) else None,
             lambda holder, key: holder.update(more=1) if isinstance(holder, dict) else None,
-            lambda holder, key: holder.insert(key, 1) if isinstance(holder, list) else None,
+            lambda holder, key: holder.insert(key, "1" if type(holder[key]) is int else 1) if isinstance(holder, list) else None,
             lambda holder, key: holder.__setitem__(key, str(holder[key])) if type(holder[key]) is int else None,
             lambda holder, key: holder.__setitem__(key, -1) if type(holder[key]) is int else None,
             lambda holder, key: holder.__setitem__(key, 0.5) if type(holder[key]) is int else None,

@@ -344,6 +344,7 @@ measure_gz() {
   count=${asked:-400000}
   enter "${place:-memory}"
   echo "From .gz to .gz: $count pairs, $kind; 4 threads; median of $rounds; $(print_machine)"
+  echo "trim_gz is run by $(python3 --version), $(type -P python3)"
   measure_gz_data 'Without adapters' ''
   measure_gz_data 'With adapters in a quarter of the pairs' adapters
   print_versions tabix isal trimmomatic fastp cutadapt bbmap adapterremoval

@@ -13,7 +13,7 @@ ghost use Rattle.fq_job.specs.declared.account.Account.{Account};
 ghost use Rattle.fq_command.specs.declared.unshown.Unshown.TheVariants.{Unrun};
 
 use crate::unshown::Unshown;
-use fq_job::Account;
+use fq_job::{Account, CALL_LIMIT};
 use fq_pair::{Counts, summary};
 use fq_run::{Ending, Outcome, Outlets, Settings, run_threads};
 use fq_text::{Encoding, Feed, OutOfMemory, Outlet, ScriptFeed, ScriptOutlet};
@@ -32,15 +32,23 @@ const CUT: usize = 1000;
 
 const CHUNK: u64 = 65_536;
 
-const MOST: u64 = 1 << 40;
-
 // The settings of the example.
 fn settings() -> Settings
     ensures { result ≡ example_choices }
 {
     match Steps::parse(&["LEADING:3"]) {
         Ok(steps) => {
-            match Settings::new(Encoding::Sanger, steps, true, 2, 1, 4, CHUNK, MOST, MOST) {
+            match Settings::new(
+                Encoding::Sanger,
+                steps,
+                true,
+                2,
+                1,
+                4,
+                CHUNK,
+                CALL_LIMIT,
+                CALL_LIMIT,
+            ) {
                 Ok(settings) => settings,
                 Err(_) => unreachable!(),
             }

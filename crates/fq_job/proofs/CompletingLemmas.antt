@@ -16,14 +16,15 @@ use Rattle.fq_run.specs.Fates.{failed_outlet, part_begun}
 use Rattle.fq_words.specs.Requests.{Asking}
 use Rattle.fq_job.specs.Judging.{settings_of}
 use Rattle.fq_job.specs.Faults.{outcome_status}
-use Rattle.fq_job.specs.Trimming.{Opened, HoldTaken, AreEmpty, TrimsPairs, TrimsFiles, pairs_of, run_in}
+use Rattle.fq_job.specs.Trimming.{Opened, AreEmpty, TrimsPairs, TrimsFiles, pairs_of, run_in}
 use Rattle.fq_job.specs.Opening.{AreOpened}
-use Rattle.fq_job.specs.Leaving.{TrimsFirst, HoldFirstPairs}
+use Rattle.fq_job.specs.Leaving.{HoldFirstPairs}
 use Rattle.fq_job.specs.Reporting.{TookReport, ReportHeld, report_of}
 use Rattle.fq_job.specs.declared.account.Account.{Account}
 use Rattle.fq_job.specs.declared.reporting.Reported.{Reported}
 use Rattle.fq_job.specs.declared.reporting.Reported.TheVariants as report
-use Rattle.fq_job.proofs.LeavingLemmas.{first_of}
+use Rattle.fq_job.proofs.LeavingLemmas.{TrimsFirst, first_of}
+use Rattle.fq_job.proofs.StoreLemmas.{HoldTaken}
 use Rattle.fq_job.proofs.TextLemmas.{texts_held}
 use Rattle.fq_job.proofs.EndingLemmas.{ends_so}
 use Rattle.fq_job.proofs.ReportingLemmas.{report_held, text_is}

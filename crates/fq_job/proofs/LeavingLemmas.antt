@@ -5,18 +5,34 @@ use Rattle.fq_files.specs.Holding.{Holding, IsUnchanged}
 use Rattle.fq_pair.specs.declared.counts.Counts.{Counts}
 use Rattle.fq_pair.specs.declared.fault.InputFault.{InputFault}
 use Rattle.fq_pair.specs.declared.out.Out.{Out}
+use Rattle.fq_pair.specs.Mates.{Mates}
+use Rattle.fq_pair.specs.Pairing.{Pairs}
 use Rattle.fq_pair.specs.Outputs.{texts_of, text_of}
 use Rattle.fq_run.specs.Choices.{Choices}
 use Rattle.fq_run.specs.Outcome.{Outcome}
 use Rattle.fq_run.specs.Outcome.TheVariants.{Spawn, Write}
-use Rattle.fq_run.specs.Endings.{Run, AreTold, EveryEnding, all_pairs, trimmed_outcome}
-use Rattle.fq_run.specs.Fates.{Unbroken}
+use Rattle.fq_run.specs.Devices.{OutletStates, OutletsTook}
+use Rattle.fq_run.specs.Endings.{Run, AreFirst, AreTold, EveryEnding, all_pairs, trimmed_outcome}
+use Rattle.fq_run.specs.Fates.{Fate, Unbroken, failed_outlet, block_begun, part_begun, IsCutShort}
 use Rattle.fq_job.specs.declared.refusal.Refusal.{Refusal}
 use Rattle.fq_job.specs.declared.refusal.Refusal.TheVariants as why
 use Rattle.fq_words.specs.Requests.{Asking, InputNames}
 use Rattle.fq_job.specs.Trimming.{TrimsFiles, pairs_of}
-use Rattle.fq_job.specs.Leaving.{AreUntrimmed, RefusalLeaves, ReportLeft, TellsInputs, is_early, is_late, TrimsFirst, HoldFirstPairs}
+use Rattle.fq_job.specs.Leaving.{AreUntrimmed, RefusalLeaves, ReportLeft, TellsInputs, is_early, is_late, IsTold, HoldFirstPairs}
 use Rattle.fq_job.proofs.MakingLemmas.{stops_untrimmed}
+
+-- The outlets took the texts of the first pairs, whose block was written whole. If a write failed
+-- in the block after them, the outlets before the failed one took their texts of that block, the
+-- failed one took a first part of its text, and those after it took nothing.
+pub record TrimsFirst (c : Choices) (all : Pairs)
+    (old new : OutletStates) (ended : Outcome) : Type 0 where
+  pub whole : List Mates
+  pub fate : Fate
+  pub took : OutletsTook old new (λ out. text_of out (texts_of c.steps whole)
+      ++ part_begun c.steps fate out) (failed_outlet fate)
+  pub cut_short : IsCutShort c.block_pairs c.steps fate
+  pub first : AreFirst (whole ++ block_begun fate) all.mates
+  pub told : IsTold whole fate ended
 
 -- what a run promises about its outlets, at every ending
 pub first_of : (c : Choices) (run : Run) → EveryEnding c run → AreTold run → TrimsFirst c (all_pairs c run) run.outlets run.outlets_left run.outcome

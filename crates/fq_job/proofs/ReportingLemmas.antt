@@ -10,7 +10,7 @@ use Rattle.fq_pair.specs.Outputs.{counts_of}
 use Rattle.fq_tally.specs.declared.tally.Tally.{Tally}
 use Rattle.fq_tally.specs.Courses.{alone}
 use Rattle.fq_tally.specs.Tallies.{tally_of}
-use Rattle.fq_work.specs.Replies.{tally_if}
+use Rattle.fq_tally.specs.Results.{tally_if}
 use Rattle.fq_run.specs.Choices.{Choices}
 use Rattle.fq_run.specs.Outcome.{Outcome}
 use Rattle.fq_run.specs.Outcome.TheVariants.{Spawn, Lane, Gate, Memory, Write, Read, Endless, Input, Finished}

@@ -6,9 +6,15 @@ use Rattle.fq_files.specs.Holding.{Holding, KeepsOthers}
 use Rattle.fq_text.specs.Devices.{OutletState}
 use Rattle.fq_run.specs.Devices.{OutletStates, outlet_at, place}
 use Rattle.fq_words.specs.Requests.{Asking, output_name}
-use Rattle.fq_job.specs.Trimming.{HasDistinctOutputs, HoldTaken}
+use Rattle.fq_job.specs.Trimming.{HasDistinctOutputs}
 use Rattle.fq_job.specs.Making.{HoldFirst, Stored}
 use Rattle.fq_job.proofs.RestLemmas.{rest_of, then_rest}
+
+-- the file of each output holds what its outlet has taken, if the outlet's bytes are known
+abbrev pub HoldTaken : Asking → OutletStates → Holding → Type 0
+HoldTaken a outlets files = (out : Out) (name : List ℕ) (outlet : OutletState) →
+    output_name a out ≡ Some name → outlet_at out outlets ≡ Some outlet →
+    IsTrue outlet.tells → files name ≡ Some outlet.taken
 
 -- the output at a place
 out_at : ℕ → Out

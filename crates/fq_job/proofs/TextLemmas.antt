@@ -6,7 +6,8 @@ use Rattle.fq_files.specs.Holding.{Holding}
 use Rattle.fq_text.specs.Devices.{OutletState}
 use Rattle.fq_run.specs.Devices.{OutletStates, TookText, Took, OutletsTook, failures_at}
 use Rattle.fq_words.specs.Requests.{Asking, output_name}
-use Rattle.fq_job.specs.Trimming.{HoldTaken, AreEmpty, IsEmptyOutlet}
+use Rattle.fq_job.specs.Trimming.{AreEmpty, IsEmptyOutlet}
+use Rattle.fq_job.proofs.StoreLemmas.{HoldTaken}
 
 -- an outlet that has taken this text and nothing else
 record HasText (outlet : OutletState) (text : List ℕ) : Type 0 where

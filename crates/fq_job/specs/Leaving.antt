@@ -4,12 +4,11 @@ use Rattle.fq_files.specs.Holding.{Holding, IsUnchanged}
 use Rattle.fq_pair.specs.declared.out.Out.{Out}
 use Rattle.fq_pair.specs.declared.side.Side.TheVariants as side
 use Rattle.fq_pair.specs.Mates.{Mates}
-use Rattle.fq_pair.specs.Pairing.{Pairs}
 use Rattle.fq_pair.specs.Outputs.{texts_of, text_of}
 use Rattle.fq_run.specs.Choices.{Choices}
 use Rattle.fq_run.specs.Outcome.{Outcome}
 use Rattle.fq_run.specs.Outcome.TheVariants as outcome
-use Rattle.fq_run.specs.Devices.{OutletStates, OutletsTook, place}
+use Rattle.fq_run.specs.Devices.{place}
 use Rattle.fq_run.specs.Endings.{AreFirst}
 use Rattle.fq_run.specs.Fates.{Fate, failed_outlet, block_begun, part_begun, IsCutShort}
 use Rattle.fq_run.specs.Outcomes.{rank}
@@ -27,19 +26,6 @@ pub record IsTold (whole : List Mates) (fate : Fate) (ended : Outcome) : Type 0 
   pub spawn : ended ≡ outcome.Spawn → whole ≡ []
   pub write : (out : Out) → ended ≡ outcome.Write out → failed_outlet fate ≡ Some out
   pub outlet_failed : (out : Out) → failed_outlet fate ≡ Some out → rank ended ≤ 5
-
--- The outlets took the texts of the first pairs, whose block was written whole. If a write failed
--- in the block after them, the outlets before the failed one took their texts of that block, the
--- failed one took a first part of its text, and those after it took nothing.
-pub record TrimsFirst (c : Choices) (all : Pairs)
-    (old new : OutletStates) (ended : Outcome) : Type 0 where
-  pub whole : List Mates
-  pub fate : Fate
-  pub took : OutletsTook old new (λ out. text_of out (texts_of c.steps whole)
-      ++ part_begun c.steps fate out) (failed_outlet fate)
-  pub cut_short : IsCutShort c.block_pairs c.steps fate
-  pub first : AreFirst (whole ++ block_begun fate) all.mates
-  pub told : IsTold whole fate ended
 
 -- Each file of the outputs holds a first part of the text that is defined for the bytes of the
 -- inputs and for the settings. All hold the same pairs, except in the block in which a write

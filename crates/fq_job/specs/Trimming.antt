@@ -44,12 +44,6 @@ KeepsUnnamed a old new = (name : List ℕ) → ((out : Out) → output_name a ou
 abbrev pub AreHeld : Asking → Holding → Type 0
 AreHeld a files = (out : Out) (name : List ℕ) → output_name a out ≡ Some name → IsSome (files name)
 
--- the file of each output holds what its outlet has taken, if the outlet's bytes are known
-abbrev pub HoldTaken : Asking → OutletStates → Holding → Type 0
-HoldTaken a outlets files = (out : Out) (name : List ℕ) (outlet : OutletState) →
-    output_name a out ≡ Some name → outlet_at out outlets ≡ Some outlet →
-    IsTrue outlet.tells → files name ≡ Some outlet.taken
-
 -- an outlet whose bytes are known to the proof, and that has taken none
 pub record IsEmptyOutlet (outlet : OutletState) : Type 0 where
   pub tells : IsTrue outlet.tells

@@ -9,8 +9,8 @@ use fq_run::Settings;
 use fq_trim::Steps;
 use fq_words::{Request, encoding_of, report_is_input, same_name};
 
-// Limit of the read calls of an input and of the turns at a gate: 2 to the power of 40.
-const MOST: u64 = 1 << 40;
+/// Limit of the read calls of an input and of the turns at a gate: 2 to the power of 40.
+pub const CALL_LIMIT: u64 = 1 << 40;
 
 /// Returns the settings of the run, or the first thing that is wrong with the request.
 pub(crate) fn judge(request: &Request<'_>) -> Result<Settings, Refusal>
@@ -48,8 +48,8 @@ fn settings_of(request: &Request<'_>) -> Result<Settings, Refusal>
         request.block,
         request.depth,
         request.chunk,
-        MOST,
-        MOST,
+        CALL_LIMIT,
+        CALL_LIMIT,
     ) {
         Ok(settings) => settings,
         Err(bad) => return Err(Refusal::Setting(bad)),

@@ -15,6 +15,7 @@ mod reporting;
 mod trimming;
 
 pub use account::Account;
+pub use judging::CALL_LIMIT;
 pub use outcome_line::{LANE_LINE, MEMORY_LINE, fault_line, status_of};
 pub use refusal::Refusal;
 pub use reporting::Reported;

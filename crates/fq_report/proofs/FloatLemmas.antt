@@ -1,6 +1,7 @@
 -- A report has no float, so its text is told by its value.
-use Rattle.std.proofs.Common.{◌≡◌, ℕ, suc, Bool, true, false, ◌==◌, if◌then◌else◌, Option, Some, None, List, [], ◌∷◌, refl}
+use Rattle.std.proofs.Common.{◌≡◌, ℕ, suc, Bool, true, false, ◌==◌, if◌then◌else◌, Option, Some, None, List, [], ◌∷◌, map, refl}
 use Rattle.fq_pair.specs.declared.counts.Counts.{Counts}
+use Rattle.fq_tally.specs.declared.columns.Columns.{Columns}
 use Rattle.fq_tally.specs.declared.reads.ReadsTally.{ReadsTally}
 use Rattle.fq_tally.specs.declared.side.SideTally.{SideTally}
 use Rattle.fq_tally.specs.declared.tally.Tally.{Tally}
@@ -9,7 +10,7 @@ use Rattle.serde_json.specs.View.{items_of}
 use Rattle.serde_json.specs.Written.{has_float, items_have_float}
 use Rattle.fq_report.specs.Values.{count, list, optional_text}
 use Rattle.fq_report.specs.Facts.{InputNames, TwoFiles, InterleavedFile, Facts}
-use Rattle.fq_report.specs.Reports.{inputs_value, outputs_value, pairs_value, length_value, rows_from, reads_value, removed_value, side_value, sides_value, done_value, step_value, steps_from, report_value}
+use Rattle.fq_report.specs.Reports.{inputs_value, outputs_value, pairs_value, length_value, rows_from, counts, positions_value, reads_value, removed_value, side_value, sides_value, done_value, step_value, steps_from, report_value}
 
 text_no_float : (text : Option (List ℕ)) → has_float (optional_text text) ≡ false
 text_no_float (Some text) = refl
@@ -45,13 +46,21 @@ rows_no_float number [] = refl
 rows_no_float number (reads ∷ rows) =
     row_no_float (reads == 0) (list (count number ∷ count reads ∷ [])) (rows_from (suc number) rows) refl (rows_no_float (suc number) rows)
 
-reads_no_float : (t : ReadsTally) → has_float (reads_value t) ≡ false
+numbers_no_float : (ns : List ℕ) → items_have_float (items_of (map count ns)) ≡ false
+numbers_no_float [] = refl
+numbers_no_float (n ∷ ns) = numbers_no_float ns
+
+positions_no_float : (columns : Columns) → has_float (positions_value columns) ≡ false
+unfolding positions_value
+positions_no_float columns = rw (numbers_no_float columns.a, numbers_no_float columns.bases, numbers_no_float columns.c, numbers_no_float columns.g, numbers_no_float columns.n, numbers_no_float columns.q30_bases, numbers_no_float columns.score_sum, numbers_no_float columns.t) refl
+
+reads_no_float : (t : ReadsTally) (columns : Columns) → has_float (reads_value t columns) ≡ false
 unfolding reads_value
-reads_no_float t = rw (rows_no_float 0 t.gc_percents, rows_no_float 0 t.lengths, rows_no_float 0 t.mean_scores, length_no_float t.reads t.longest, length_no_float t.reads t.shortest) refl
+reads_no_float t columns = rw (rows_no_float 0 t.gc_percents, rows_no_float 0 t.lengths, rows_no_float 0 t.mean_scores, length_no_float t.reads t.longest, length_no_float t.reads t.shortest, positions_no_float columns) refl
 
 side_no_float : (t : SideTally) → has_float (side_value t) ≡ false
 unfolding side_value removed_value
-side_no_float t = rw (reads_no_float t.before, reads_no_float t.paired, rows_no_float 0 t.removed_behind, rows_no_float 0 t.removed_front, reads_no_float t.unpaired) refl
+side_no_float t = rw (reads_no_float t.before t.positions.before, reads_no_float t.paired t.positions.paired, rows_no_float 0 t.removed_behind, rows_no_float 0 t.removed_front, reads_no_float t.unpaired t.positions.unpaired) refl
 
 sides_no_float : (t : Tally) → has_float (sides_value t) ≡ false
 unfolding sides_value

@@ -1,11 +1,12 @@
 -- The report of a run as JSON: one definition for each object, with its fields in the order of
 -- their names.
 use Rattle.std.specs.Prelude.{ℕ, suc, ◌==◌, Option, Some, None, if◌then◌else◌}
-use Rattle.std.specs.Prelude.{List, [], ◌∷◌, codes, get_or}
+use Rattle.std.specs.Prelude.{List, [], ◌∷◌, codes, get_or, map}
 use Rattle.fq_text.specs.declared.encoding.Encoding.{Encoding}
 use Rattle.fq_text.specs.declared.encoding.Encoding.TheVariants.{Sanger, Illumina13, Solexa}
 use Rattle.fq_text.specs.Written.{line}
 use Rattle.fq_pair.specs.declared.counts.Counts.{Counts}
+use Rattle.fq_tally.specs.declared.columns.Columns.{Columns}
 use Rattle.fq_tally.specs.declared.reads.ReadsTally.{ReadsTally}
 use Rattle.fq_tally.specs.declared.steps.StepsTally.{StepsTally}
 use Rattle.fq_tally.specs.declared.side.SideTally.{SideTally}
@@ -71,8 +72,24 @@ rows_from number (reads ∷ rows) =
     if reads == 0 then rows_from (suc number) rows
     else list (count number ∷ count reads ∷ []) ∷ rows_from (suc number) rows
 
-unfoldable pub reads_value : ReadsTally → Data
-reads_value t = fields (
+-- the number of each position, from the first on
+abbrev pub counts : List ℕ → Data
+counts numbers = list (map count numbers)
+
+unfoldable pub positions_value : Columns → Data
+positions_value columns = fields (
+    (codes "a", counts columns.a)
+    ∷ (codes "bases", counts columns.bases)
+    ∷ (codes "c", counts columns.c)
+    ∷ (codes "g", counts columns.g)
+    ∷ (codes "n", counts columns.n)
+    ∷ (codes "q30_bases", counts columns.q30_bases)
+    ∷ (codes "score_sum", counts columns.score_sum)
+    ∷ (codes "t", counts columns.t) ∷ [])
+
+-- reads, and their bases by position
+unfoldable pub reads_value : ReadsTally → Columns → Data
+reads_value t columns = fields (
     (codes "bases", count t.bases.bases)
     ∷ (codes "gc_bases", count t.bases.gc)
     ∷ (codes "gc_percents", list (rows_from 0 t.gc_percents))
@@ -80,6 +97,7 @@ reads_value t = fields (
     ∷ (codes "longest", length_value t.reads t.longest)
     ∷ (codes "mean_scores", list (rows_from 0 t.mean_scores))
     ∷ (codes "n_bases", count t.bases.n)
+    ∷ (codes "positions", positions_value columns)
     ∷ (codes "q20_bases", count t.bases.at_least_20)
     ∷ (codes "q30_bases", count t.bases.at_least_30)
     ∷ (codes "reads", count t.reads)
@@ -93,12 +111,12 @@ removed_value t = fields (
 
 unfoldable pub side_value : SideTally → Data
 side_value t = fields (
-    (codes "before", reads_value t.before)
-    ∷ (codes "paired", reads_value t.paired)
+    (codes "before", reads_value t.before t.positions.before)
+    ∷ (codes "paired", reads_value t.paired t.positions.paired)
     ∷ (codes "removed_bases", removed_value t)
     ∷ (codes "removed_behind", list (rows_from 0 t.removed_behind))
     ∷ (codes "removed_front", list (rows_from 0 t.removed_front))
-    ∷ (codes "unpaired", reads_value t.unpaired) ∷ [])
+    ∷ (codes "unpaired", reads_value t.unpaired t.positions.unpaired) ∷ [])
 
 -- Of steps.
 

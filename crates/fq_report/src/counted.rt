@@ -3,12 +3,14 @@
 ghost use Rattle.std.specs.Prelude.{◌≡◌, IfOk, map, get_or};
 ghost use Rattle.serde_json.specs.View.{view};
 ghost use Rattle.fq_report.specs.Values.{list};
-ghost use Rattle.fq_report.specs.Reports.{pairs_value, length_value, rows_from, reads_value};
+ghost use Rattle.fq_report.specs.Reports.{pairs_value, length_value, rows_from};
+ghost use Rattle.fq_report.specs.Reports.{counts, positions_value, reads_value};
 ghost use Rattle.fq_report.specs.Reports.{removed_value, side_value, sides_value};
 ghost use Rattle.fq_report.specs.Reports.{done_value, step_value, steps_from};
+ghost use Rattle.fq_report.specs.Parts.{AreReadsParts, AreSideParts};
 
 use fq_pair::Counts;
-use fq_tally::{ReadsTally, Rows, SideTally, StepsTally, Tally};
+use fq_tally::{Columns, ReadsTally, Rows, SideTally, StepsTally, Tally};
 use fq_text::OutOfMemory;
 use serde_json::{Value, json};
 use std::alloc::Global;
@@ -43,13 +45,45 @@ pub(crate) fn sides_value(alloc: Global, tally: &Tally) -> Result<Value, OutOfMe
 fn side_value(alloc: Global, side: &SideTally) -> Result<Value, OutOfMemory>
     ensures { IfOk result (λ v. view v ≡ side_value side.now) }
 {
+    let parts = side_parts(alloc, side)?;
     json!(in alloc; {
-        "before": reads_value(alloc, &side.before)?,
-        "paired": reads_value(alloc, &side.paired)?,
-        "unpaired": reads_value(alloc, &side.unpaired)?,
+        "before": parts.before,
+        "paired": parts.paired,
+        "unpaired": parts.unpaired,
         "removed_bases": removed_value(alloc, side)?,
         "removed_front": rows_value(alloc, &side.removed_front)?,
         "removed_behind": rows_value(alloc, &side.removed_behind)?,
+    })
+}
+
+// The reads of one side, before and after trimming.
+#[derive(Drop)]
+struct SideParts {
+    before: Value,
+    paired: Value,
+    unpaired: Value,
+}
+
+// Builds the reads of one side. The columns of each kind of reads are dropped before the next.
+fn side_parts(alloc: Global, side: &SideTally) -> Result<SideParts, OutOfMemory>
+    ensures { IfOk result (λ parts. AreSideParts side.now parts) }
+{
+    let before = {
+        let columns = side.positions.before(alloc)?;
+        reads_value(alloc, &side.before, &columns)?
+    };
+    let paired = {
+        let columns = side.positions.paired(alloc)?;
+        reads_value(alloc, &side.paired, &columns)?
+    };
+    let unpaired = {
+        let columns = side.positions.unpaired(alloc)?;
+        reads_value(alloc, &side.unpaired, &columns)?
+    };
+    Ok(SideParts {
+        before,
+        paired,
+        unpaired,
     })
 }
 
@@ -61,11 +95,12 @@ fn removed_value(alloc: Global, side: &SideTally) -> Result<Value, OutOfMemory>
     json!(in alloc; {"front": side.front, "behind": side.behind})
 }
 
-// Counts of reads and of their bases, and histograms of the reads.
+// Counts of reads and of their bases, histograms of the reads, and their bases by position.
 #[tactic(auto, unfolding(crate::specs::Reports::reads_value))]
-fn reads_value(alloc: Global, tally: &ReadsTally) -> Result<Value, OutOfMemory>
-    ensures { IfOk result (λ v. view v ≡ reads_value tally.now) }
+fn reads_value(alloc: Global, tally: &ReadsTally, columns: &Columns) -> Result<Value, OutOfMemory>
+    ensures { IfOk result (λ v. view v ≡ reads_value tally.now columns.now) }
 {
+    let parts = reads_parts(alloc, tally, columns)?;
     let bases = tally.bases;
     json!(in alloc; {
         "reads": tally.reads,
@@ -77,10 +112,68 @@ fn reads_value(alloc: Global, tally: &ReadsTally) -> Result<Value, OutOfMemory>
         "n_bases": bases.n,
         "shortest": length_value(tally.reads, tally.shortest),
         "longest": length_value(tally.reads, tally.longest),
-        "lengths": rows_value(alloc, &tally.lengths)?,
-        "mean_scores": rows_value(alloc, &tally.mean_scores)?,
-        "gc_percents": rows_value(alloc, &tally.gc_percents)?,
+        "lengths": parts.lengths,
+        "mean_scores": parts.mean_scores,
+        "gc_percents": parts.gc_percents,
+        "positions": parts.positions,
     })
+}
+
+// The lists of counts of reads.
+#[derive(Drop)]
+struct ReadsParts {
+    lengths: Value,
+    mean_scores: Value,
+    gc_percents: Value,
+    positions: Value,
+}
+
+// Builds the lists of counts of reads.
+fn reads_parts(
+    alloc: Global,
+    tally: &ReadsTally,
+    columns: &Columns,
+) -> Result<ReadsParts, OutOfMemory>
+    ensures { IfOk result (λ parts. AreReadsParts tally.now columns.now parts) }
+{
+    let lengths = rows_value(alloc, &tally.lengths)?;
+    let mean_scores = rows_value(alloc, &tally.mean_scores)?;
+    let gc_percents = rows_value(alloc, &tally.gc_percents)?;
+    let positions = positions_value(alloc, columns)?;
+    Ok(ReadsParts {
+        lengths,
+        mean_scores,
+        gc_percents,
+        positions,
+    })
+}
+
+// The bases of reads by their position.
+#[tactic(auto, unfolding(crate::specs::Reports::positions_value))]
+fn positions_value(alloc: Global, columns: &Columns) -> Result<Value, OutOfMemory>
+    ensures { IfOk result (λ v. view v ≡ positions_value columns.now) }
+{
+    json!(in alloc; {
+        "bases": counts_value(alloc, &columns.bases)?,
+        "score_sum": counts_value(alloc, &columns.score_sum)?,
+        "q30_bases": counts_value(alloc, &columns.q30_bases)?,
+        "a": counts_value(alloc, &columns.a)?,
+        "c": counts_value(alloc, &columns.c)?,
+        "g": counts_value(alloc, &columns.g)?,
+        "t": counts_value(alloc, &columns.t)?,
+        "n": counts_value(alloc, &columns.n)?,
+    })
+}
+
+// The numbers of rows.
+fn counts_value(alloc: Global, rows: &Rows) -> Result<Value, OutOfMemory>
+    ensures { IfOk result (λ v. view v ≡ counts rows.now) }
+{
+    let mut values = Vec::new(alloc);
+    for number in rows.as_slice() {
+        values.push(Value::from(*number))?;
+    }
+    Ok(Value::Array(values))
 }
 
 // The length of the shortest or the longest of these reads, null if there is no read.

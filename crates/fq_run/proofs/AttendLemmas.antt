@@ -15,7 +15,7 @@ use Rattle.fq_serial.specs.declared.outcome.Outcome.TheVariants as outcome
 use Rattle.fq_run.specs.declared.collector.phase.Phase.TheVariants.{Writing}
 use Rattle.fq_serial.specs.Choices.{Choices}
 use Rattle.fq_run.specs.collector.Collecting.{Collects, failed_in}
-use Rattle.fq_run.specs.Confirming.{Confirmed, Matched}
+use Rattle.fq_run.specs.Confirming.{Confirmed}
 use Rattle.fq_run.specs.dealer.Dealt.{HasDealt}
 use Rattle.fq_text.specs.Devices.{FeedState}
 use Rattle.fq_serial.specs.Devices.{OutletStates}
@@ -26,6 +26,7 @@ use Rattle.fq_run.specs.Threads.{IsFresh, Concludes, run_from, IsThreaded}
 use Rattle.fq_pair.specs.Walks.{SourceState}
 use Rattle.fq_serial.specs.PairsRead.{feed_in}
 use Rattle.fq_serial.specs.Writing.{Runs, FlushesAfter}
+use Rattle.fq_run.proofs.MatchLemmas.{Matched}
 use Rattle.fq_run.proofs.StartLemmas.{of_one}
 use Rattle.fq_serial.proofs.RunLemmas.{run_rank, run_every, run_whole}
 use Rattle.fq_run.proofs.ThreadLemmas.{runs_threaded}

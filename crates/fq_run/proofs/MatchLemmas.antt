@@ -1,5 +1,5 @@
 -- What was written in turn, from what confirmed lanes carried.
-use Rattle.std.proofs.Common.{◌≡◌, ℕ, zero, suc, ◌-◌, ◌<◌, ◌%◌, false, Option, Result, Ok, Err, List, [], ◌∷◌, ◌++◌, length, map, get_or, refl, sym, ap, ◌∙◌, subst, arith, append_assoc, Bool}
+use Rattle.std.proofs.Common.{◌≡◌, ℕ, zero, suc, ◌-◌, ◌<◌, ◌%◌, false, Option, Result, Ok, Err, IsOkAnd, List, [], ◌∷◌, ◌++◌, length, map, get_or, refl, sym, ap, ◌∙◌, subst, arith, append_assoc, Bool}
 use Rattle.std.specs.List.{AllZip}
 use Rattle.std.proofs.lemmas.List.{length-map}
 use Rattle.std.proofs.lemmas.Nat.{mod_below}
@@ -10,11 +10,10 @@ use Rattle.fq_lane.specs.History.{History}
 use Rattle.fq_lane.specs.declared.tx.NotEnded.{NotEnded}
 use Rattle.fq_block.specs.Blocks.{Numbered}
 use Rattle.fq_work.specs.Replies.{done_of, Answers}
-use Rattle.fq_work.specs.declared.done.Done.{Done}
+use Rattle.fq_tally.specs.declared.done.Done.{Done}
 use Rattle.fq_work.specs.declared.reply.Cause.{Cause}
 use Rattle.fq_work.specs.declared.reply.Reply.{Reply}
 use Rattle.fq_work.specs.declared.reply.Reply.TheVariants.{Done as done, Stop}
-use Rattle.fq_run.specs.Confirming.{Matched}
 use Rattle.fq_run.specs.Shares.{every}
 use Rattle.fq_run.specs.dealer.Dealt.{Closed}
 use Rattle.fq_run.specs.lanes.Items.{IsDealt, IsAtMark, IsBegun}
@@ -35,6 +34,12 @@ begun_before w xs ys ls b = record {
 }
 
 -- Replies and blocks.
+
+-- the replies that came are those to the blocks that were sent
+abbrev pub Matched :
+    Bool → List Step → Result (History Numbered) NotEnded → History Reply → Type 0
+Matched tallied steps closing replies = IsOkAnd closing (λ e.
+    (cause : Option Cause) × Answers tallied steps e.items replies.items cause)
 
 module _ (tallied : Bool) (steps : List Step) where
   -- the replies to the blocks

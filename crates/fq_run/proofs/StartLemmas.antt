@@ -30,7 +30,7 @@ use Rattle.fq_serial.proofs.PassLemmas.{runs_refused}
 use Rattle.fq_serial.proofs.RunLemmas.{run_every}
 use Rattle.fq_serial.specs.declared.reading_end.ReadingEnd.TheVariants as reading
 use Rattle.fq_serial.specs.Writing.{FlushesAfter, no_halt}
-use Rattle.fq_work.specs.Replies.{tally_if}
+use Rattle.fq_tally.specs.Results.{tally_if}
 use Rattle.fq_serial.specs.declared.total.Total.{Total}
 use Rattle.fq_serial.proofs.TotalLemmas.{no_total_is}
 use Rattle.fq_serial.specs.Totals.{no_total}

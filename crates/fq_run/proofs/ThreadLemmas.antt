@@ -11,7 +11,7 @@ use Rattle.fq_pair.specs.Mates.{Mates}
 use Rattle.fq_pair.specs.Outputs.{texts_of, text_of}
 use Rattle.fq_block.specs.Blocks.{Numbered}
 use Rattle.fq_work.specs.Replies.{done_of}
-use Rattle.fq_work.specs.declared.done.Done.{Done}
+use Rattle.fq_tally.specs.declared.done.Done.{Done}
 use Rattle.fq_work.specs.declared.reply.Cause.{Cause}
 use Rattle.fq_work.specs.declared.reply.Cause.TheVariants as cause
 use Rattle.fq_work.specs.declared.reply.Reply.TheVariants.{Done as done, Stop}
@@ -24,7 +24,6 @@ use Rattle.fq_run.specs.declared.collector.phase.Phase.TheVariants.{Writing, AtM
 use Rattle.fq_serial.specs.declared.reading_end.ReadingEnd.{ReadingEnd}
 use Rattle.fq_serial.specs.Choices.{Choices}
 use Rattle.fq_run.specs.collector.Collecting.{Collects, Writes, IsHeard, TookAll, written_text, counted_from, counted, failed_in}
-use Rattle.fq_run.specs.Confirming.{Matched}
 use Rattle.fq_run.specs.Shares.{AreEven, IsCut, join}
 use Rattle.fq_run.specs.dealer.Dealt.{Closed}
 use Rattle.fq_run.specs.dealer.DealingOut.{DealsOut}
@@ -36,7 +35,7 @@ use Rattle.fq_pair.specs.Forms.{Form}
 use Rattle.fq_pair.specs.Walks.{SourceState}
 use Rattle.fq_serial.specs.PairsRead.{Reads, fresh_source, feed_in}
 use Rattle.fq_serial.specs.Writing.{no_halt, Passes, Runs}
-use Rattle.fq_run.proofs.MatchLemmas.{answered, begun_before, begun_first, at_mark_all}
+use Rattle.fq_run.proofs.MatchLemmas.{Matched, answered, begun_before, begun_first, at_mark_all}
 use Rattle.fq_serial.proofs.OutletLemmas.{all_took_same}
 use Rattle.fq_serial.proofs.PassLemmas.{runs_passed}
 use Rattle.fq_serial.proofs.TextLemmas.{no_text, text_then, some_pair}

@@ -1,2 +1,3 @@
 -- Lemmas on the thread that reads.
+pub mod FillLemmas
 pub mod DealerLemmas

@@ -1,12 +1,9 @@
 -- After the joins: when lanes can be confirmed, and what is then known.
-use Rattle.std.specs.Prelude.{◌≡◌, Bool, true, Option, Result, IfOk, IsOkAnd, List}
-use Rattle.fq_trim.specs.declared.step.Step.{Step}
+use Rattle.std.specs.Prelude.{◌≡◌, true, Result, IfOk, IsOkAnd}
 use Rattle.fq_lane.specs.History.{History}
 use Rattle.fq_lane.specs.declared.tx.NotEnded.{NotEnded}
 use Rattle.fq_block.specs.Blocks.{Numbered}
-use Rattle.fq_work.specs.Replies.{Answers}
 use Rattle.fq_work.specs.declared.ends.Worked.{Worked}
-use Rattle.fq_work.specs.declared.reply.Cause.{Cause}
 use Rattle.fq_work.specs.declared.reply.Reply.{Reply}
 
 -- What one worker's two lanes have before they are confirmed: the end of the lane of blocks, what
@@ -23,9 +20,3 @@ pub record CanConfirm (closing : Result (History Numbered) NotEnded) (worked : W
 abbrev pub Confirmed : Result (History Numbered) NotEnded → Worked → History Reply → Type 0
 Confirmed closing worked replies =
     IsOkAnd closing (λ e. worked.rx ≡ e) × IsOkAnd worked.closing (λ e. replies ≡ e)
-
--- the replies that came are those to the blocks that were sent
-abbrev pub Matched :
-    Bool → List Step → Result (History Numbered) NotEnded → History Reply → Type 0
-Matched tallied steps closing replies = IsOkAnd closing (λ e.
-    (cause : Option Cause) × Answers tallied steps e.items replies.items cause)

@@ -9,6 +9,7 @@ ghost use Rattle.fq_run.specs.lanes.Items.{names_of, lists_of, AllClosed, IsDeal
 ghost use Rattle.fq_run.specs.collector.Stops.{HearsAll, Drains};
 
 pub(crate) mod phase;
+mod stops;
 
 use crate::lanes::places::{next_turn, take_at, take_wait_at};
 use fq_lane::{Rx, Taken, Tx};
@@ -20,6 +21,7 @@ use phase::Phase;
 use std::sync::Wait;
 use std::thread::Parker;
 use std::time::Duration;
+use stops::add_stop;
 
 // How long a collector sleeps after a round in which nothing came, in microseconds: at first, and
 // at most.
@@ -140,7 +142,7 @@ impl Collector {
         match take_wait_at(rt, &mut self.replies, self.turn) {
             None => self.phase = Phase::AtMark,
             Some(Reply::Stop(cause)) => {
-                self.halt = self.halt.with(cause);
+                self.halt = add_stop(self.halt, cause);
                 self.phase = Phase::Stopped;
             }
             Some(Reply::Done(done)) => {
@@ -202,7 +204,7 @@ impl Collector {
     {
         match take_at(&mut self.replies, at) {
             Taken::Item(Reply::Stop(cause)) => {
-                self.halt = self.halt.with(cause);
+                self.halt = add_stop(self.halt, cause);
                 true
             }
             Taken::Item(Reply::Done(_)) => true,

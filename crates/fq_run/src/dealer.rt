@@ -8,6 +8,7 @@ ghost use Rattle.fq_run.specs.dealer.Dealt.{CanDeal, HasDealt, Closed};
 mod blocks;
 pub(crate) mod dealing;
 pub(crate) mod dealt;
+mod filling;
 
 use blocks::deal_blocks;
 use dealt::Dealt;

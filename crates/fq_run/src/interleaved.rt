@@ -42,8 +42,9 @@ pub fn run_threads_mixed<
     ensures no_other { IsSome result.unended → result.outcome ≡ Outcome.Lane }
     ensures feed { result.feed ≡ None → result.outcome ≡ Outcome.Spawn }
     // If a thread was refused, the outlets are unchanged, and so is the feed if it is handed back.
-    ensures untouched { result.outcome ≡ Outcome.Spawn → IsUntouched
-        (interleaved_run_of F.state (outlet_states O.state) feed outlets.old outlets.new result) }
+    ensures untouched { let run = interleaved_run_of F.state (outlet_states O.state)
+        feed outlets.old outlets.new result in
+        run.outcome ≡ Outcome.Spawn → IsUntouched run }
     // At `Input` and `Finished` all pairs before the fault or the end of the input were trimmed, as
     // if one after the other.
     ensures whole { let run = interleaved_run_of F.state (outlet_states O.state)
@@ -51,8 +52,9 @@ pub fn run_threads_mixed<
         IsTrue (ends_whole run.outcome) → AreTold run → IsTrimmed settings.now run }
     // Unless a lane couldn't be confirmed, the outlets have the texts of the first pairs, and
     // besides at most a part of the block in which a write failed.
-    ensures every { result.outcome ≢ Outcome.Lane → EveryEnding settings.now
-        (interleaved_run_of F.state (outlet_states O.state) feed outlets.old outlets.new result) }
+    ensures every { let run = interleaved_run_of F.state (outlet_states O.state)
+        feed outlets.old outlets.new result in
+        run.outcome ≢ Outcome.Lane → EveryEnding settings.now run }
 {
     begin(alloc, rt, settings, &gate, feed, outlets)
 }

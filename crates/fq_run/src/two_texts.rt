@@ -70,9 +70,9 @@ pub fn run_threads<
     ensures reverse { result.reverse ≡ None → result.outcome ≡ Outcome.Spawn }
     ensures together { (result.forward ≡ None) ↔ (result.reverse ≡ None) }
     // If a thread was refused, the outlets and the feeds that are handed back are unchanged.
-    ensures untouched { result.outcome ≡ Outcome.Spawn → IsUntouched
-        (run_of F.state G.state (outlet_states O.state) forward reverse
-        outlets.old outlets.new result) }
+    ensures untouched { let run = run_of F.state G.state (outlet_states O.state)
+        forward reverse outlets.old outlets.new result in
+        run.outcome ≡ Outcome.Spawn → IsUntouched run }
     // At `Input` and `Finished` all pairs before the fault or the end of the input were trimmed, as
     // if one after the other.
     ensures whole { let run = run_of F.state G.state (outlet_states O.state)
@@ -80,9 +80,9 @@ pub fn run_threads<
         IsTrue (ends_whole run.outcome) → AreTold run → IsTrimmed settings.now run }
     // Unless a lane couldn't be confirmed, the outlets have the texts of the first pairs, and
     // besides at most a part of the block in which a write failed.
-    ensures every { result.outcome ≢ Outcome.Lane → EveryEnding settings.now
-        (run_of F.state G.state (outlet_states O.state) forward reverse
-        outlets.old outlets.new result) }
+    ensures every { let run = run_of F.state G.state (outlet_states O.state)
+        forward reverse outlets.old outlets.new result in
+        run.outcome ≢ Outcome.Lane → EveryEnding settings.now run }
 {
     begin(alloc, rt, settings, &gate, forward, reverse, outlets)
 }

@@ -4,7 +4,7 @@ use Rattle.std.proofs.lemmas.List.{append-nil}
 use Rattle.fq_pair.specs.declared.out.Out.{Out}
 use Rattle.fq_pair.specs.Mates.{Mates}
 use Rattle.fq_pair.specs.Outputs.{Outputs, texts_of, text_of}
-use Rattle.fq_work.specs.declared.done.Done.{Done}
+use Rattle.fq_tally.specs.declared.done.Done.{Done}
 use Rattle.fq_serial.specs.declared.total.Total.{Total}
 use Rattle.fq_serial.specs.Totals.{total_of, no_total, total_plus}
 use Rattle.fq_serial.specs.declared.reading_end.ReadingEnd.{ReadingEnd}

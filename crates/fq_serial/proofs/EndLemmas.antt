@@ -18,7 +18,7 @@ use Rattle.fq_pair.specs.PairSources.{is_cut, is_cut_short, if_cut}
 use Rattle.fq_pair.specs.Outputs.{texts_of, text_of, counts_of}
 use Rattle.fq_serial.specs.declared.outcome.Outcome.{Outcome}
 use Rattle.fq_serial.specs.declared.outcome.Outcome.TheVariants as outcome
-use Rattle.fq_work.specs.Replies.{tally_if}
+use Rattle.fq_tally.specs.Results.{tally_if}
 use Rattle.fq_serial.specs.declared.halt.Halt.{Halt}
 use Rattle.fq_serial.specs.declared.total.Total.{Total}
 use Rattle.fq_serial.specs.declared.reading_end.ReadingEnd.{ReadingEnd}
@@ -34,6 +34,11 @@ use Rattle.fq_serial.specs.Endings.{Run, AreTold, all_pairs, trimmed_outcome, Is
 use Rattle.fq_serial.proofs.OutletLemmas.{all_took_then, all_took_same}
 use Rattle.fq_serial.proofs.ReadingLemmas.{failed_by, gave_is, gave_length, fed_back, reads_first, reads_end, reads_fault, reads_forward, reads_reverse, reads_cut, reads_next}
 use Rattle.fq_serial.proofs.VerdictLemmas.{Kind, OfText, OfRead, OfEndless, OfMemory, kind, Verdict, IsRefused, WantsMemory, FailedAt, CannotRead, HasNoEnd, HasFault, IsOver, read_once, failed_once, not_spawn, at_write, at_read, at_endless, outlet_first, feed_first, lacks_memory, at_refusal}
+
+-- What is counted of pairs is counted of the same pairs, if it isn't lost. On plain variables: the
+-- parts of a tally are many, and would be compared one by one.
+counted_same : {A B Lost : Type 0} (f : A → B) (x : B) (ms ns : A) → ms ≡ ns → (Lost → ⊥) → (x ≡ f ms) ⊎ Lost → x ≡ f ns
+counted_same f x ms ns same never is = ⊎_elim (λ now. now ∙ ap f same) (λ lost. absurd (never lost)) is
 
 -- pairs were read and written, and the outlets flushed
 pub record Closes (c : Choices) (old new : SourceState) (before after : OutletStates) (counted : Total) (halt : Halt) (why : Option ReadingEnd) (broken : Option Out) : Type 0 where
@@ -256,7 +261,7 @@ module _ (form : Form) (c : Choices) (f r : FeedState) (new : SourceState) (befo
             (λ out. append-nil (text_of out (texts_of c.steps p.whole)) ∙ ap (λ ms. text_of out (texts_of c.steps ms)) same) (subst P sound_is p.took);
         flushed = p.flushed none;
         counts = p.counts.counts ∙ ap (counts_of c.steps) same;
-        tally = ⊎_elim (λ tally. tally ∙ ap (tally_if c.tallied c.steps) same) (λ lost. absurd (enough lost.2)) p.counts.tally;
+        tally = counted_same (tally_if c.tallied c.steps) counted.tally p.whole (all_pairs c run).mates same (λ lost. enough lost.2) p.counts.tally;
         outcome = is ∙ ap trimmed_outcome (sym (ap (λ (q : Pairs). q.fault) all));
       }
 

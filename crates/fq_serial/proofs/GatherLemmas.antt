@@ -9,9 +9,9 @@ use Rattle.fq_text.specs.Grammar.{Read}
 use Rattle.fq_pair.specs.Mates.{Mates, mates_in}
 use Rattle.fq_pair.specs.Outputs.{texts_of}
 use Rattle.fq_tally.specs.declared.tally.Tally.{Tally}
-use Rattle.fq_work.specs.declared.done.Done.{Done}
-use Rattle.fq_work.specs.Replies.{tally_if, made_of, with_mates}
-use Rattle.fq_work.proofs.WorkLemmas.{is_asked, made_more}
+use Rattle.fq_tally.specs.declared.done.Done.{Done}
+use Rattle.fq_tally.specs.Results.{tally_if, made_of, with_mates}
+use Rattle.fq_tally.proofs.ResultLemmas.{is_asked, made_more}
 use Rattle.fq_serial.specs.declared.reading_end.ReadingEnd.{ReadingEnd}
 use Rattle.fq_serial.specs.declared.reading_end.ReadingEnd.TheVariants as reading
 use Rattle.fq_pair.specs.Walks.{SourceState, Walks, MeetsEnd, MeetsFault, GoesOn}

@@ -3,7 +3,6 @@ pub mod WalkLemmas
 pub mod TextLemmas
 pub mod TotalLemmas
 pub mod GatherLemmas
-pub mod FillLemmas
 pub mod BlockLemmas
 pub mod PassLemmas
 pub mod FormLemmas

@@ -15,7 +15,7 @@ use Rattle.fq_pair.specs.Forms.{Form}
 use Rattle.fq_pair.specs.Walks.{SourceState}
 use Rattle.fq_serial.specs.PairsRead.{fresh_source, feed_in}
 use Rattle.fq_serial.specs.Totals.{no_total}
-use Rattle.fq_serial.specs.Writing.{no_halt, Passes, Runs}
+use Rattle.fq_serial.specs.Writing.{no_halt, nothing_written, Passes, Runs}
 use Rattle.fq_serial.proofs.OutletLemmas.{all_took_none, all_took_same}
 use Rattle.fq_serial.proofs.TextLemmas.{no_text}
 use Rattle.fq_serial.proofs.WalkLemmas.{walks_none}
@@ -43,16 +43,13 @@ pub runs_refused : (form : Form) (c : Choices) (f r f' r' : FeedState) (o : Outl
 runs_refused form c f r f' r' o counted same also none =
     record { new = fresh_source form c f r; passes = passes_refused c (fresh_source form c f r) o counted refl none; forward = same; reverse = also }
 
-abbrev pub written_nothing : Written
-written_nothing = record { total = no_total false; why = Some reading.Memory; failed = None }
-
-pub passes_unasked : (c : Choices) (old : SourceState) (o : OutletStates) (total : Total) (w : Written) → old.last ≡ None → w ≡ written_nothing → total ≡ w.total →
+pub passes_unasked : (c : Choices) (old : SourceState) (o : OutletStates) (total : Total) (w : Written) → old.last ≡ None → w ≡ nothing_written → total ≡ w.total →
     Passes c old old o o total no_halt w.why w.failed
 passes_unasked c old o total w goes is same =
     let P : Written → Type 0 = λ x. Passes c old old o o total no_halt x.why x.failed in
     subst P (sym is) (passes_refused c old o total goes (same ∙ ap (λ (x : Written). x.total) is))
 
-pub runs_nothing : (form : Form) (c : Choices) (f r f' r' : FeedState) (o : OutletStates) (w : Written) → w ≡ written_nothing → f' ≡ f → r' ≡ r →
+pub runs_nothing : (form : Form) (c : Choices) (f r f' r' : FeedState) (o : OutletStates) (w : Written) → w ≡ nothing_written → f' ≡ f → r' ≡ r →
     Runs form c f r f' r' o o w.total no_halt w.why w.failed
 runs_nothing form c f r f' r' o w is same also =
     let P : Written → Type 0 = λ x. Runs form c f r f' r' o o x.total no_halt x.why x.failed in

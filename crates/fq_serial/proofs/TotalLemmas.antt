@@ -7,8 +7,8 @@ use Rattle.fq_pair.specs.Outputs.{Outputs, texts_of, counts_of}
 use Rattle.fq_tally.specs.declared.tally.Tally.{Tally}
 use Rattle.fq_tally.specs.Courses.{alone}
 use Rattle.fq_tally.proofs.PlusLaws.{tally_of-append}
-use Rattle.fq_work.specs.declared.done.Done.{Done}
-use Rattle.fq_work.specs.Replies.{tally_if}
+use Rattle.fq_tally.specs.declared.done.Done.{Done}
+use Rattle.fq_tally.specs.Results.{tally_if}
 use Rattle.fq_serial.specs.declared.halt.Halt.{Halt}
 use Rattle.fq_serial.specs.declared.reading_end.ReadingEnd.{ReadingEnd}
 use Rattle.fq_serial.specs.declared.total.Total.{Total}

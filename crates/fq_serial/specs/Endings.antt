@@ -14,7 +14,7 @@ use Rattle.fq_pair.specs.Interleaved.{side_behind}
 use Rattle.fq_pair.specs.Forms.{Form, TwoTexts, InterleavedText, pairs_in}
 use Rattle.fq_pair.specs.Outputs.{texts_of, text_of, counts_of}
 use Rattle.fq_tally.specs.declared.tally.Tally.{Tally}
-use Rattle.fq_work.specs.Replies.{tally_if}
+use Rattle.fq_tally.specs.Results.{tally_if}
 use Rattle.fq_serial.specs.declared.outcome.Outcome.{Outcome}
 use Rattle.fq_serial.specs.declared.outcome.Outcome.TheVariants as outcome
 use Rattle.fq_serial.specs.declared.ending.Ending.{Ending}

@@ -4,8 +4,8 @@ use Rattle.fq_trim.specs.declared.step.Step.{Step}
 use Rattle.fq_pair.specs.Mates.{Mates}
 use Rattle.fq_pair.specs.Outputs.{texts_of}
 use Rattle.fq_pair.specs.Walks.{SourceState, GoesOn}
-use Rattle.fq_work.specs.declared.done.Done.{Done}
-use Rattle.fq_work.specs.Replies.{tally_if}
+use Rattle.fq_tally.specs.declared.done.Done.{Done}
+use Rattle.fq_tally.specs.Results.{tally_if}
 use Rattle.fq_serial.specs.PairsRead.{Reads}
 use Rattle.fq_serial.specs.declared.reading_end.ReadingEnd.{ReadingEnd}
 

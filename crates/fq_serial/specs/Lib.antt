@@ -6,7 +6,6 @@ pub mod Sending
 pub mod PairsRead
 pub mod Gathering
 pub mod Totals
-pub mod Filling
 pub mod Fates
 pub mod Writing
 pub mod Endings

@@ -6,8 +6,8 @@ use Rattle.fq_pair.specs.Outputs.{counts_of}
 use Rattle.fq_pair.specs.Summaries.{capped}
 use Rattle.fq_tally.specs.declared.tally.Tally.{Tally}
 use Rattle.fq_tally.specs.Tallies.{plus}
-use Rattle.fq_work.specs.declared.done.Done.{Done}
-use Rattle.fq_work.specs.Replies.{tally_if}
+use Rattle.fq_tally.specs.declared.done.Done.{Done}
+use Rattle.fq_tally.specs.Results.{tally_if}
 use Rattle.fq_serial.specs.declared.total.Total.{Total}
 
 -- the counts of pairs, and their tally if one is asked for

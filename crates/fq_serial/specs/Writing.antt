@@ -4,12 +4,11 @@ use Rattle.fq_pair.specs.declared.out.Out.{Out}
 use Rattle.fq_pair.specs.declared.fault.InputFault.{InputFault}
 use Rattle.fq_pair.specs.Mates.{Mates}
 use Rattle.fq_pair.specs.Outputs.{texts_of, text_of, counts_of}
-use Rattle.fq_work.specs.Replies.{tally_if}
-use Rattle.fq_work.specs.declared.reply.Cause.{Cause}
-use Rattle.fq_work.specs.declared.reply.Cause.TheVariants.{Gate, Memory}
+use Rattle.fq_tally.specs.Results.{tally_if}
 use Rattle.fq_serial.specs.declared.halt.Halt.{Halt}
 use Rattle.fq_serial.specs.declared.occurred.Occurred.{Occurred}
 use Rattle.fq_serial.specs.declared.total.Total.{Total}
+use Rattle.fq_serial.specs.declared.written.Written.{Written}
 use Rattle.fq_serial.specs.declared.reading_end.ReadingEnd.{ReadingEnd}
 use Rattle.fq_serial.specs.declared.reading_end.ReadingEnd.TheVariants as reading
 use Rattle.fq_serial.specs.Choices.{Choices}
@@ -19,6 +18,7 @@ use Rattle.fq_serial.specs.Fates.{Fate, FlushFailed, failed_outlet, block_begun,
 use Rattle.fq_pair.specs.Forms.{Form}
 use Rattle.fq_pair.specs.Walks.{SourceState}
 use Rattle.fq_serial.specs.PairsRead.{Reads, fresh_source, feed_in}
+use Rattle.fq_serial.specs.Totals.{no_total}
 
 -- an outlet failed at its flush
 abbrev pub is_flush : Fate → Bool
@@ -28,11 +28,6 @@ is_flush _ = false
 -- no worker stopped early
 abbrev pub no_halt : Halt
 no_halt = record { gate = false; memory = false }
-
--- one more worker stopped
-abbrev pub with_stop : Cause → Halt → Halt
-with_stop Gate halt = record { gate = true; memory = halt.memory }
-with_stop Memory halt = record { gate = halt.gate; memory = true }
 
 -- a total is that of these pairs; if memory was refused before the first pair, there is no tally
 pub record IsCounted (c : Choices) (whole : List Mates) (halt : Halt) (why : Option ReadingEnd)
@@ -58,6 +53,16 @@ pub record Passes (c : Choices) (old new : SourceState) (before after : OutletSt
   pub over : why ≡ None → broken ≢ None
   pub unflushed : is_flush fate ≡ false
   pub missed_none : halt ≡ no_halt → broken ≡ None → missed ≡ []
+
+-- what a run on one thread wrote if memory was refused before the first pair
+abbrev pub nothing_written : Written
+nothing_written = record { total = no_total false; why = Some reading.Memory; failed = None }
+
+-- `Passes` for a run on one thread, in which no worker can stop
+abbrev pub HasWritten :
+    Choices → SourceState → SourceState → OutletStates → OutletStates → Written → Type 0
+HasWritten c old new before after written =
+    Passes c old new before after written.total no_halt written.why written.failed
 
 -- `Passes` for a source that is made from these feeds
 pub record Runs (form : Form) (c : Choices) (f r f' r' : FeedState) (before after : OutletStates)

@@ -2,13 +2,13 @@
 
 ghost use Rattle.std.specs.Prelude.{◌≡◌, ◌≤◌, [], is_some};
 ghost use Rattle.fq_pair.specs.Walks.{GoesOn};
-ghost use Rattle.fq_work.specs.Replies.{made_of};
+ghost use Rattle.fq_tally.specs.Results.{made_of};
 ghost use Rattle.fq_serial.specs.Gathering.{Gathers};
 
 use crate::reading_end::ReadingEnd;
 use fq_pair::PairReader;
+use fq_tally::Done;
 use fq_trim::Steps;
-use fq_work::Done;
 
 /// Reads and trims the next pairs, up to `most`, and adds their texts to `done`, and to its tally
 /// if it has one.

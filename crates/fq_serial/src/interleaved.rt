@@ -41,8 +41,9 @@ pub fn run_serial_mixed<F: Feed, O: Outlet>(
         IsTrue (ends_whole run.outcome) → AreTold run → IsTrimmed settings.now run }
     // However it ended, the outlets have the texts of the first pairs, and besides at most a part
     // of the block in which a write failed.
-    ensures every { EveryEnding settings.now
-        (interleaved_run_of F.state (outlet_states O.state) feed outlets.old outlets.new result) }
+    ensures every { let run = interleaved_run_of F.state (outlet_states O.state)
+        feed outlets.old outlets.new result in
+        EveryEnding settings.now run }
 {
     let Pass {
         written,

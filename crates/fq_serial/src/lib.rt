@@ -12,7 +12,6 @@ mod writing;
 mod written;
 
 // Shared with runs on several threads.
-mod filling;
 mod halt;
 mod occurred;
 mod reading_end;

@@ -1,6 +1,5 @@
 //! Parts that runs on several threads are made of, too. They are for `fq_run`; to trim, call a run.
 
-pub use crate::filling::fill;
 pub use crate::halt::Halt;
 pub use crate::occurred::Occurred;
 pub use crate::opening::{open, open_interleaved};

@@ -1,9 +1,8 @@
 //! What a run counts.
 
 use fq_pair::Counts;
-use fq_tally::Tally;
+use fq_tally::{Done, Tally};
 use fq_text::OutOfMemory;
-use fq_work::Done;
 use std::alloc::Global;
 
 /// The counts and the tally of the pairs whose block was written completely.

@@ -55,8 +55,9 @@ pub fn run_serial<F: Feed, G: Feed, O: Outlet>(
         IsTrue (ends_whole run.outcome) → AreTold run → IsTrimmed settings.now run }
     // However it ended, the outlets have the texts of the first pairs, and besides at most a part
     // of the block in which a write failed.
-    ensures every { EveryEnding settings.now (run_of F.state G.state (outlet_states O.state)
-        forward reverse outlets.old outlets.new result) }
+    ensures every { let run = run_of F.state G.state (outlet_states O.state)
+        forward reverse outlets.old outlets.new result in
+        EveryEnding settings.now run }
 {
     let Pass {
         written,

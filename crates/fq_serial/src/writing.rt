@@ -1,13 +1,13 @@
 //! Reads and writes the blocks of a run on one thread.
 
-ghost use Rattle.std.specs.Prelude.{◌≡◌, ◌≤◌, ◌^◌, false, Some, None, is_some, OnOk, OnErr};
+ghost use Rattle.std.specs.Prelude.{◌≡◌, ◌≤◌, false, is_some, OnOk, OnErr};
 ghost use Rattle.fq_text.specs.Reading.{text_limit};
 ghost use Rattle.fq_pair.specs.Walks.{GoesOn};
 ghost use Rattle.fq_serial.specs.Devices.{outlet_states, AreHealthy};
 ghost use Rattle.fq_serial.specs.Gathering.{Gathers};
 ghost use Rattle.fq_serial.specs.Sending.{Sends};
 ghost use Rattle.fq_serial.specs.Totals.{no_total, total_plus};
-ghost use Rattle.fq_serial.specs.Writing.{Passes, no_halt};
+ghost use Rattle.fq_serial.specs.Writing.{Passes, HasWritten, nothing_written, no_halt};
 
 use crate::gathering::gather;
 use crate::outlets::Outlets;
@@ -16,9 +16,9 @@ use crate::settings::Settings;
 use crate::total::Total;
 use crate::written::Written;
 use fq_pair::{Out, PairReader};
+use fq_tally::Done;
 use fq_text::{OutOfMemory, Outlet};
 use fq_trim::Steps;
-use fq_work::Done;
 use std::alloc::Global;
 
 /// Reads and writes block by block, until reading stops or a write fails. If memory for a tally is
@@ -33,10 +33,8 @@ pub(crate) fn write_blocks<S: PairReader, O: Outlet>(
     requires fresh { (S.state source.old).forward.given ≡ 0 }
     requires few { (S.state source.old).most_bytes ≤ text_limit }
     requires outlets { AreHealthy (outlet_states O.state outlets.old) }
-    ensures { Passes settings.now (S.state source.old)
-        (S.state source.new)
-        (outlet_states O.state outlets.old) (outlet_states O.state outlets.new)
-        result.total no_halt result.why result.failed }
+    ensures { HasWritten settings.now (S.state source.old) (S.state source.new)
+        (outlet_states O.state outlets.old) (outlet_states O.state outlets.new) result }
 {
     let mut written = Written::nothing();
     write_counted(alloc, settings, source, outlets, &mut written);
@@ -55,12 +53,9 @@ fn write_counted<S: PairReader, O: Outlet>(
     requires fresh { (S.state source.old).forward.given ≡ 0 }
     requires few { (S.state source.old).most_bytes ≤ text_limit }
     requires outlets { AreHealthy (outlet_states O.state outlets.old) }
-    requires nothing { written.old
-        ≡ record { total = no_total false; why = Some ReadingEnd.Memory; failed = None } }
-    ensures { Passes settings.now (S.state source.old)
-        (S.state source.new)
-        (outlet_states O.state outlets.old) (outlet_states O.state outlets.new)
-        written.new.total no_halt written.new.why written.new.failed }
+    requires nothing { written.old ≡ nothing_written }
+    ensures { HasWritten settings.now (S.state source.old) (S.state source.new)
+        (outlet_states O.state outlets.old) (outlet_states O.state outlets.new) written.new }
 {
     let mut done = Done::new(alloc, 0);
     write_with(alloc, settings, source, outlets, written, &mut done);
@@ -79,12 +74,9 @@ fn write_with<S: PairReader, O: Outlet>(
     requires fresh { (S.state source.old).forward.given ≡ 0 }
     requires few { (S.state source.old).most_bytes ≤ text_limit }
     requires outlets { AreHealthy (outlet_states O.state outlets.old) }
-    requires nothing { written.old
-        ≡ record { total = no_total false; why = Some ReadingEnd.Memory; failed = None } }
-    ensures { Passes settings.now (S.state source.old)
-        (S.state source.new)
-        (outlet_states O.state outlets.old) (outlet_states O.state outlets.new)
-        written.new.total no_halt written.new.why written.new.failed }
+    requires nothing { written.old ≡ nothing_written }
+    ensures { HasWritten settings.now (S.state source.old) (S.state source.new)
+        (outlet_states O.state outlets.old) (outlet_states O.state outlets.new) written.new }
 {
     let Ok(()) = ask(alloc, settings.tallied(), &mut written.total, done) else {
         return;
@@ -120,8 +112,7 @@ fn write_each<S: PairReader, O: Outlet>(
     requires outlets { AreHealthy (outlet_states O.state outlets.old) }
     requires none { total.old ≡ no_total settings.now.tallied }
     requires asked { is_some done.old.tally ≡ settings.now.tallied }
-    ensures { Passes settings.now (S.state source.old)
-        (S.state source.new)
+    ensures { Passes settings.now (S.state source.old) (S.state source.new)
         (outlet_states O.state outlets.old) (outlet_states O.state outlets.new)
         total.new no_halt result.0 result.1 }
 {

@@ -23,13 +23,12 @@ pub(crate) struct Pass<T> {
 }
 
 impl Written {
-    ghost use Rattle.std.specs.Prelude.{◌≡◌, false, Some, None};
-    ghost use Rattle.fq_serial.specs.Totals.{no_total};
+    ghost use Rattle.std.specs.Prelude.{◌≡◌};
+    ghost use Rattle.fq_serial.specs.Writing.{nothing_written};
 
     /// Nothing was read or written: memory was refused before the first pair.
     pub(crate) fn nothing() -> Written
-        ensures { result
-            ≡ record { total = no_total false; why = Some ReadingEnd.Memory; failed = None } }
+        ensures { result ≡ nothing_written }
     {
         Written {
             total: Total::without_tally(),

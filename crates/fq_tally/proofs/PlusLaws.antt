@@ -13,6 +13,7 @@ use Rattle.fq_tally.specs.Rows.{with_one, row_of, counted, counted_if, counted_a
 use Rattle.fq_tally.specs.Courses.{Part, whole, Course, course, survives}
 use Rattle.fq_tally.specs.Tallies.{no_bases, bases_plus, bases_of, mean_score, gc_percent, no_reads, with_part, reads_plus, no_side, behind_of, with_read, side_plus, no_tally, with_pair, tally_of, plus}
 use Rattle.fq_tally.proofs.RowLemmas.{plus_none}
+use Rattle.fq_tally.proofs.SideColumnSums.{side_columns_none, side_columns_read}
 
 -- a count that a u64 can hold
 abbrev Small : ℕ → Type 0
@@ -224,6 +225,7 @@ side_read read c mate s t small =
     let behind = sum_if (survives c.left) (behind_of read c.left c.front) s.behind t.behind in
     let removed_front = rows_if (survives c.left) c.front s.removed_front t.removed_front small.removed_front in
     let removed_behind = rows_if (survives c.left) (behind_of read c.left c.front) s.removed_behind t.removed_behind small.removed_behind in
+    let positions = side_columns_read read c.left mate s.positions t.positions in
     let shortened = rows_all c.shortened s.steps.shortened t.steps.shortened small.shortened in
     let dropped = rows_all c.dropped s.steps.dropped t.steps.dropped small.dropped in cc
 
@@ -236,6 +238,7 @@ side_parts t = record {
   behind = t.behind;
   removed_front = t.removed_front;
   removed_behind = t.removed_behind;
+  positions = t.positions;
   steps = record { shortened = t.steps.shortened; dropped = t.steps.dropped };
 }
 
@@ -248,6 +251,7 @@ side_none t small =
     let behind = capped_none t.behind small.behind in
     let removed_front = plus_none t.removed_front in
     let removed_behind = plus_none t.removed_behind in
+    let positions = side_columns_none t.positions in
     let shortened = plus_none t.steps.shortened in
     let dropped = plus_none t.steps.dropped in
     let same : side_plus t no_side ≡ side_parts t = cc in same

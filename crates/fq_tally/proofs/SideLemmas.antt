@@ -13,10 +13,14 @@ use Rattle.fq_pair.specs.Outputs.{places_of}
 use Rattle.fq_pair.specs.Summaries.{capped_sum}
 use Rattle.fq_pair.proofs.AddLemmas.{kept_survives}
 use Rattle.fq_tally.specs.declared.bases.BaseTally.{BaseTally}
+use Rattle.fq_tally.specs.declared.reads.ReadsTally.{ReadsTally}
 use Rattle.fq_tally.specs.declared.side.SideTally.{SideTally}
+use Rattle.fq_tally.specs.declared.steps.StepsTally.{StepsTally}
 use Rattle.fq_tally.specs.Rows.{counted, counted_if}
 use Rattle.fq_tally.specs.Courses.{Part, part_at, whole, survives}
-use Rattle.fq_tally.specs.Tallies.{is_gc, is_n, bases_of, bases_plus, with_part, with_left}
+use Rattle.fq_tally.specs.Letters.{is_gc, is_n}
+use Rattle.fq_tally.specs.SideColumns.{SideColumns, with_columns}
+use Rattle.fq_tally.specs.Tallies.{bases_of, bases_plus, with_part, with_left}
 use Rattle.fq_tally.proofs.CourseLemmas.{part, cut}
 use Rattle.fq_tally.proofs.LeftLaws.{at, not_empty}
 
@@ -106,6 +110,9 @@ kept_part read k e seq qual e_is seq_is qual_is within same =
 pub kept_length : (k : Kept) (p : Part) → length (part_at (places_of (Some k)) p).seq ≡ k.stop - k.start
 kept_length k p = length-map (places k.start (k.stop - k.start)) (at p.seq) ∙ length-places k.start (k.stop - k.start)
 
+pub kept_is_left : (read : Read) (k : Kept) → survives (part_at (places_of (Some k)) (whole read)) ≡ true
+kept_is_left read k = ap not (not_empty (at read.seq) (places_of (Some k)) ∙ kept_survives (places_of (Some k)) (Some k) k refl refl)
+
 -- a read of which bases are kept
 pub survivor : (read : Read) (k : Kept) (mate : Bool) (t : SideTally) → with_left read (part_at (places_of (Some k)) (whole read)) k.start mate t ≡ record {
   before = with_part (whole read) t.before;
@@ -115,13 +122,14 @@ pub survivor : (read : Read) (k : Kept) (mate : Bool) (t : SideTally) → with_l
   behind = capped_sum t.behind (length read.seq - k.stop);
   removed_front = counted k.start t.removed_front;
   removed_behind = counted (length read.seq - k.stop) t.removed_behind;
+  positions = with_columns read (part_at (places_of (Some k)) (whole read)) mate t.positions;
   steps = t.steps;
 }
 survivor read k mate t =
     let left = part_at (places_of (Some k)) (whole read) in
     let order = k.some in
     let size = kept_length k (whole read) in
-    let is : survives left ≡ true = ap not (not_empty (at read.seq) (places_of (Some k)) ∙ kept_survives (places_of (Some k)) (Some k) k refl refl) in
+    let is = kept_is_left read k in
     let removed : length read.seq - k.start - length left.seq ≡ length read.seq - k.stop = omega arith in
     let made : Bool → ℕ → SideTally = λ b behind. record {
       before = with_part (whole read) t.before;
@@ -131,6 +139,26 @@ survivor read k mate t =
       behind = cond b (capped_sum t.behind behind) t.behind;
       removed_front = counted_if b k.start t.removed_front;
       removed_behind = counted_if b behind t.removed_behind;
+      positions = with_columns read left mate t.positions;
       steps = t.steps;
     } in
     ap (λ (b : Bool). made b (length read.seq - k.start - length left.seq)) is ∙ ap (made true) removed
+
+abbrev pub made_of : ReadsTally → ReadsTally → ReadsTally → ℕ → ℕ → List ℕ → List ℕ → SideColumns → StepsTally → SideTally
+made_of before paired unpaired front behind removed_front removed_behind positions steps = record {
+  before = before;
+  paired = paired;
+  unpaired = unpaired;
+  front = front;
+  behind = behind;
+  removed_front = removed_front;
+  removed_behind = removed_behind;
+  positions = positions;
+  steps = steps;
+}
+
+-- sides of the same parts
+pub parts_are : {before before' paired paired' unpaired unpaired' : ReadsTally} {front front' behind behind' : ℕ} {f f' b b' : List ℕ} {p p' : SideColumns} {steps steps' : StepsTally} →
+    before ≡ before' → paired ≡ paired' → unpaired ≡ unpaired' → front ≡ front' → behind ≡ behind' → f ≡ f' → b ≡ b' → p ≡ p' → steps ≡ steps' →
+    made_of before paired unpaired front behind f b p steps ≡ made_of before' paired' unpaired' front' behind' f' b' p' steps'
+parts_are a b c d e f g h i = cc

@@ -1,19 +1,22 @@
 -- Bytes that are counted in a vector.
-use Rattle.std.proofs.Common.{◌≡◌, ◌≤◌, ◌+◌, ◌-◌, ◌*◌, ◌%◌, ◌^◌, Fits, w8, ℕ, zero, suc, Bool, true, false, ◌||◌, cond, count_by, sum, List, [], ◌∷◌, ◌++◌, length, map, take, drop, replicate, refl, sym, ap, ap₂, ◌∙◌, arith}
+use Rattle.std.proofs.Common.{◌≡◌, ◌≤◌, ◌+◌, ◌-◌, ◌*◌, ◌%◌, ◌^◌, Fits, w8, ℕ, zero, suc, ◌<◌, Bool, true, false, not, ◌&&◌, ◌||◌, eqb, cond, count_by, sum, List, [], ◌∷◌, ◌++◌, length, get_or, map, take, drop, replicate, refl, sym, ap, ap₂, ◌∙◌, arith, ⊎_elim}
 use Rattle.std.specs.List.{sum_by}
 use Rattle.std.specs.Int.Bits.{and_zero_r}
 use Rattle.std.proofs.Math.Seq.{take-add}
-use Rattle.std.proofs.lemmas.List.{drop-drop}
+use Rattle.std.proofs.lemmas.List.{drop-drop, length-map}
+use Rattle.std.proofs.lemmas.Bool.{and_parts, cases_lt, false≢true}
 use Rattle.std.proofs.lemmas.List.Sums.{sum_by-cons, sum_by-append}
 use Rattle.std.proofs.lemmas.List.Folds.{sum_by-replicate}
 use Rattle.std.proofs.lemmas.Nat.{and_mask}
-use Rattle.std.proofs.lemmas.Simd.{ones-mask_l}
+use Rattle.std.proofs.lemmas.Simd.{ones-mask_l, zip2_splat, map-map}
 use native.Mathlib.Nat.{mod-eq_of_lt}
 use lib.Bits.{bit_and, bit_or}
 use lib.Count.{ones}
-use lib.Lanes.{zip2, mask_l, top, sum_l, Each1}
+use lib.Lanes.{zip2, sel_l, mask_l, top, sum_l, Each1}
 use Rattle.fq_text.proofs.VectorLemmas.{flag, mask_of}
 use Rattle.fq_tally.specs.Vectors.{Holds}
+use Rattle.fq_tally.specs.Columns.{one_if}
+use Rattle.fq_tally.specs.Counting.{AtMost}
 
 -- how many bytes pass, by the bits of their flags
 pub flags_counted : (p : ℕ → Bool) (v : List ℕ) {z : List ℕ} → length v ≤ 64 → z ≡ map (λ x. flag (p x)) v →
@@ -129,3 +132,89 @@ summed_on f nothing bytes vector from at stop n m begun order holds here so_far 
 pub counted_on : (p : ℕ → Bool) → p 0 ≡ false → (bytes vector : List ℕ) (from at stop n m : ℕ) → from ≤ at → at ≤ stop → Holds (take (stop - at) (drop at bytes)) vector →
     m ≡ count_by p vector → n ≡ count_by p (take (at - from) (drop from bytes)) → n + m ≡ count_by p (take (stop - from) (drop from bytes))
 counted_on p never = summed_on (λ x. cond (p x) 1 0) (ap (λ b. cond b 1 0) never)
+
+-- Letters in either case: those of upper case lack one bit.
+all_below : ℕ → (ℕ → Bool) → Bool
+all_below zero p = true
+all_below (suc n) p = p n && all_below n p
+
+below_at : (n : ℕ) (p : ℕ → Bool) (k : ℕ) → all_below n p ≡ true → k < n → p k ≡ true
+unfolding all_below
+below_at zero p k all lt = absurd (omega arith)
+below_at (suc n) p k all lt =
+    let parts = and_parts _ _ all in
+    ⊎_elim (λ less. below_at n p k parts.1 less) (λ from. let last : k ≡ n = omega arith in ap p last ∙ parts.0) (cases_lt k n)
+
+same_answer : Bool → Bool → Bool
+same_answer a b = cond a b (not b)
+
+same_from : (a b : Bool) → same_answer a b ≡ true → a ≡ b
+unfolding same_answer
+same_from true true is = refl
+same_from true false is = absurd (false≢true is)
+same_from false true is = absurd (false≢true is)
+same_from false false is = refl
+
+in_case : ℕ → ℕ → Bool
+in_case l x = same_answer (eqb (bit_or x 32) (97 + l)) (eqb x (65 + l) || eqb x (97 + l))
+
+cases_below : all_below 26 (λ l. all_below 256 (in_case l)) ≡ true
+unfolding all_below in_case same_answer
+cases_below = refl
+
+one_letter : (letter x : ℕ) → 97 ≤ letter → letter ≤ 122 → x < 256 → eqb (bit_or x 32) letter ≡ (eqb x (letter - 32) || eqb x letter)
+unfolding in_case
+one_letter letter x low high small =
+    let l : ℕ = letter - 97 in
+    let whole : 97 + l ≡ letter = omega arith in
+    let upper : 65 + l ≡ letter - 32 = omega arith in
+    let same = same_from _ _ (below_at 256 (in_case l) x (below_at 26 (λ k. all_below 256 (in_case k)) l cases_below (omega arith)) small) in
+    ap (λ n. eqb (bit_or x 32) n) (sym whole) ∙ same ∙ ap₂ (λ m n. eqb x m || eqb x n) upper whole
+
+each_letter : (letter : ℕ) (v : List ℕ) → 97 ≤ letter → letter ≤ 122 → Each1 (Fits w8) v →
+    map (λ x. flag (eqb (bit_or x 32) letter)) v ≡ map (λ x. flag (eqb x (letter - 32) || eqb x letter)) v
+each_letter letter [] low high fits = refl
+each_letter letter (x ∷ xs) low high fits =
+    let small : x < 256 = fits.0.fits in
+    ap₂ (λ b ys. flag b ∷ ys) (one_letter letter x low high small) (each_letter letter xs low high fits.1)
+
+pub either_case : (letter : ℕ) (v : List ℕ) → 97 ≤ letter → letter ≤ 122 → length v ≡ 32 → Each1 (Fits w8) v →
+    zip2 (λ a b. flag (eqb a b)) (zip2 bit_or v (replicate 32 32)) (replicate 32 letter) ≡ map (λ x. flag (eqb x (letter - 32) || eqb x letter)) v
+either_case letter v low high long fits =
+    let lower = zip2_splat bit_or v 32 32 long in
+    let size : length (map (λ x. bit_or x 32) v) ≡ 32 = length-map v (λ x. bit_or x 32) ∙ long in
+    ap (λ xs. zip2 (λ a b. flag (eqb a b)) xs (replicate 32 letter)) lower
+    ∙ zip2_splat (λ (a b : ℕ). flag (eqb a b)) (map (λ x. bit_or x 32) v) 32 letter size
+    ∙ map-map (λ y. flag (eqb y letter)) (λ x. bit_or x 32) v
+    ∙ each_letter letter v low high fits
+
+-- Ones for the bytes that pass.
+flag_top : (b : Bool) → top 7 (flag b) ≡ b
+flag_top true = refl
+flag_top false = refl
+
+ones_for : (p : ℕ → Bool) (v : List ℕ) (n : ℕ) → length v ≡ n → sel_l (map (top 7) (map (λ x. flag (p x)) v)) (replicate n 1) (replicate n 0) ≡ map (one_if p) v
+ones_for p [] n long = refl
+ones_for p (x ∷ xs) zero long = absurd (omega arith)
+ones_for p (x ∷ xs) (suc n) long = ap₂ (λ b ys. cond b 1 0 ∷ ys) (flag_top (p x)) (ones_for p xs n (omega arith))
+
+pub ones_chosen : (p : ℕ → Bool) (v : List ℕ) (n : ℕ) {z : List ℕ} → length v ≡ n → z ≡ map (λ x. flag (p x)) v → sel_l (map (top 7) z) (replicate n 1) (replicate n 0) ≡ map (one_if p) v
+ones_chosen p v n long is = ap (λ z. sel_l (map (top 7) z) (replicate n 1) (replicate n 0)) is ∙ ones_for p v n long
+
+one_small : (b : Bool) → cond b 1 0 ≤ 1
+one_small true = omega arith
+one_small false = omega arith
+
+ones_at_most : (p : ℕ → Bool) (v : List ℕ) → AtMost 1 (map (one_if p) v)
+ones_at_most p [] k = let least : 0 ≤ 1 = omega arith in least
+ones_at_most p (x ∷ xs) zero = one_small (p x)
+ones_at_most p (x ∷ xs) (suc k) = ones_at_most p xs k
+
+pub ones_are_few : (p : ℕ → Bool) (v ones : List ℕ) → ones ≡ map (one_if p) v → AtMost 1 ones
+ones_are_few p v ones is k = let small = ones_at_most p v k in let same = ap (λ xs. get_or xs k 0) is in omega arith
+
+-- The last bytes are kept, behind zeros.
+pub last_lanes : (v : List ℕ) (c k : ℕ) → Each1 (Fits w8) v → length v ≡ k + c → zip2 bit_and v (replicate k 0 ++ replicate c 255) ≡ replicate k 0 ++ drop k v
+last_lanes v c zero fits long = all_kept v c fits (omega arith)
+last_lanes [] c (suc k) fits long = absurd (omega arith)
+last_lanes (x ∷ xs) c (suc k) fits long = ap₂ (λ y ys. y ∷ ys) (and_zero_r x) (last_lanes xs c k fits.1 (omega arith))

@@ -9,7 +9,10 @@ use Rattle.fq_tally.specs.declared.bases.BaseTally.{BaseTally}
 use Rattle.fq_tally.specs.declared.reads.ReadsTally.{ReadsTally}
 use Rattle.fq_tally.specs.Rows.{with_one, row_of, counted, rows_plus}
 use Rattle.fq_tally.specs.Courses.{course, passage}
-use Rattle.fq_tally.specs.Tallies.{is_gc, is_n, mean_score, gc_percent, no_reads, no_tally, bases_of, tally_of, plus}
+use Rattle.fq_tally.specs.Letters.{is_gc, is_n}
+use Rattle.fq_tally.specs.declared.columns.Columns.{Columns}
+use Rattle.fq_tally.specs.Columns.{no_columns}
+use Rattle.fq_tally.specs.Tallies.{mean_score, gc_percent, no_reads, no_tally, bases_of, tally_of, plus}
 
 -- Rows.
 
@@ -120,6 +123,21 @@ good bases gc = record { bases = bases; at_least_20 = bases; at_least_30 = bases
 abbrev score_20 : BaseTally
 score_20 = record { bases = 1; at_least_20 = 1; at_least_30 = 0; score_sum = 20; gc = 0; n = 0 }
 
+abbrev columns_are : List ℕ → List ℕ → List ℕ → List ℕ → List ℕ → List ℕ → List ℕ → List ℕ → Columns
+columns_are bases score_sum q30_bases a c g t n = record {
+  bases = bases;
+  score_sum = score_sum;
+  q30_bases = q30_bases;
+  a = a;
+  c = c;
+  g = g;
+  t = t;
+  n = n;
+}
+
+abbrev one_t : Columns
+one_t = columns_are (1 ∷ []) (20 ∷ []) (0 ∷ []) (0 ∷ []) (0 ∷ []) (0 ∷ []) (1 ∷ []) (0 ∷ [])
+
 two_pairs : tally_of crop (first ∷ second ∷ []) ≡ record {
   forward = record {
     before = reads_of 2 (good 5 4) 2 3 (with_one 2 (with_one 3 [])) (with_one 40 (with_one 40 [])) (with_one 67 (with_one 100 []));
@@ -129,6 +147,11 @@ two_pairs : tally_of crop (first ∷ second ∷ []) ≡ record {
     behind = 1;
     removed_front = 2 ∷ [];
     removed_behind = 1 ∷ 1 ∷ [];
+    positions = record {
+      before = columns_are (2 ∷ 2 ∷ 1 ∷ []) (80 ∷ 80 ∷ 40 ∷ []) (2 ∷ 2 ∷ 1 ∷ []) (1 ∷ 0 ∷ 0 ∷ []) (0 ∷ 1 ∷ 0 ∷ []) (1 ∷ 1 ∷ 1 ∷ []) (0 ∷ 0 ∷ 0 ∷ []) (0 ∷ 0 ∷ 0 ∷ []);
+      paired = columns_are (1 ∷ 1 ∷ []) (40 ∷ 40 ∷ []) (1 ∷ 1 ∷ []) (1 ∷ 0 ∷ []) (0 ∷ 1 ∷ []) (0 ∷ 0 ∷ []) (0 ∷ 0 ∷ []) (0 ∷ 0 ∷ []);
+      unpaired = columns_are (1 ∷ 1 ∷ []) (40 ∷ 40 ∷ []) (1 ∷ 1 ∷ []) (0 ∷ 0 ∷ []) (0 ∷ 0 ∷ []) (1 ∷ 1 ∷ []) (0 ∷ 0 ∷ []) (0 ∷ 0 ∷ []);
+    };
     steps = record { shortened = 1 ∷ []; dropped = [] };
   };
   reverse = record {
@@ -139,6 +162,7 @@ two_pairs : tally_of crop (first ∷ second ∷ []) ≡ record {
     behind = 0;
     removed_front = 1 ∷ [];
     removed_behind = 1 ∷ [];
+    positions = record { before = one_t; paired = one_t; unpaired = no_columns };
     steps = record { shortened = []; dropped = 1 ∷ [] };
   };
 }

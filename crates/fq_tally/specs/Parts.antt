@@ -6,7 +6,7 @@ use Rattle.fq_text.specs.declared.encoding.Encoding.{Encoding}
 use Rattle.fq_text.specs.Scores.{is_scored}
 use Rattle.fq_tally.specs.declared.bases.Counted.{Counted}
 use Rattle.fq_tally.specs.Courses.{Part}
-use Rattle.fq_tally.specs.Tallies.{is_gc, is_n}
+use Rattle.fq_tally.specs.Letters.{is_gc, is_n}
 
 -- the bases from one place up to another, with their quality bytes
 abbrev pub part_between : Encoding → List ℕ → List ℕ → ℕ → ℕ → Part
@@ -23,6 +23,13 @@ pub record HasPart (e : Encoding) (seq qual : List ℕ) (from to : ℕ) : Type 0
   pub same : length qual ≡ length seq
   pub order : from ≤ to
   pub within : to ≤ length seq
+
+-- These are bases of a read, the first in this place of it, and each has a quality byte with a
+-- score.
+pub record AreBases (e : Encoding) (seq qual : List ℕ) (at : ℕ) : Type 0 where
+  pub few : at + length qual ≤ 1048576
+  pub scored : list_all (is_scored e) qual ≡ true
+  pub same : length qual ≡ length seq
 
 -- What is counted of bases and of their quality bytes: of these how many are at least `lower`, how
 -- many are at least `upper`, and their sum.

@@ -1,7 +1,7 @@
 -- What is counted of pairs and of what steps leave of them. A sum that would be larger than the
 -- largest u64 is kept at that.
 use Rattle.std.specs.Prelude.{ℕ, ◌+◌, ◌-◌, ◌*◌, ◌/◌, min, max, nat_le, nat_lt}
-use Rattle.std.specs.Prelude.{Bool, not, ◌||◌, ◌&&◌, ◌==◌, if◌then◌else◌}
+use Rattle.std.specs.Prelude.{Bool, not, ◌&&◌, if◌then◌else◌}
 use Rattle.std.specs.Prelude.{List, [], length, sum, count_by, fold}
 use Rattle.fq_text.specs.Grammar.{Read}
 use Rattle.fq_trim.specs.declared.step.Step.{Step}
@@ -15,16 +15,10 @@ use Rattle.fq_tally.specs.declared.side.SideTally.{SideTally}
 use Rattle.fq_tally.specs.declared.tally.Tally.{Tally}
 use Rattle.fq_tally.specs.Rows.{counted, counted_if, counted_all, rows_plus}
 use Rattle.fq_tally.specs.Courses.{Part, whole, Course, course, survives}
+use Rattle.fq_tally.specs.Letters.{is_gc, is_n}
+use Rattle.fq_tally.specs.SideColumns.{no_side_columns, with_columns, side_columns_plus}
 
 -- Of bases.
-
--- G or C, in either case
-abbrev pub is_gc : ℕ → Bool
-is_gc base = (base == 71 || base == 67) || (base == 103 || base == 99)
-
--- N, in either case
-abbrev pub is_n : ℕ → Bool
-is_n base = base == 78 || base == 110
 
 abbrev pub no_bases : BaseTally
 no_bases = record { bases = 0; at_least_20 = 0; at_least_30 = 0; score_sum = 0; gc = 0; n = 0 }
@@ -125,6 +119,7 @@ no_side = record {
   behind = 0;
   removed_front = [];
   removed_behind = [];
+  positions = no_side_columns;
   steps = no_steps;
 }
 
@@ -143,6 +138,7 @@ with_left read left front mate t = record {
   behind = if survives left then capped_sum t.behind (behind_of read left front) else t.behind;
   removed_front = counted_if (survives left) front t.removed_front;
   removed_behind = counted_if (survives left) (behind_of read left front) t.removed_behind;
+  positions = with_columns read left mate t.positions;
   steps = t.steps;
 }
 
@@ -156,6 +152,7 @@ with_steps course t = record {
   behind = t.behind;
   removed_front = t.removed_front;
   removed_behind = t.removed_behind;
+  positions = t.positions;
   steps = with_course course t.steps;
 }
 
@@ -172,6 +169,7 @@ side_plus a b = record {
   behind = capped_sum a.behind b.behind;
   removed_front = rows_plus a.removed_front b.removed_front;
   removed_behind = rows_plus a.removed_behind b.removed_behind;
+  positions = side_columns_plus a.positions b.positions;
   steps = steps_plus a.steps b.steps;
 }
 

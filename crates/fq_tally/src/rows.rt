@@ -1,5 +1,7 @@
 //! How many reads have each number: a histogram.
 
+ghost use Rattle.std.specs.Prelude.{◌≡◌, ◌≤◌, ℕ, length, get_or};
+
 use fq_text::OutOfMemory;
 use std::alloc::Global;
 use std::marker::Model;
@@ -33,7 +35,7 @@ impl Model for Rows {
 }
 
 impl Rows {
-    ghost use Rattle.std.specs.Prelude.{◌≡◌, [], IfOk};
+    ghost use Rattle.std.specs.Prelude.{◌≡◌, ◌≤◌, [], ◌∷◌, ◌++◌, replicate, IfOk};
     ghost use Rattle.fq_tally.specs.Rows.{counted, rows_plus};
 
     // No rows.
@@ -62,6 +64,25 @@ impl Rows {
         self.counts[row] = self.counts[row].saturating_add(1);
     }
 
+    // Makes so many rows, if there are fewer. New rows count 0.
+    pub(crate) fn grow(&mut self, rows: usize)
+        requires { rows ≤ 10002 }
+        ensures { self.new ≡ rows_plus self.old (replicate rows 0) }
+    {
+        if length_of(&self.counts) < rows {
+            self.counts.resize(rows, 0).unwrap();
+        }
+    }
+
+    // Adds to one row.
+    pub(crate) fn add_to(&mut self, row: usize, count: u64)
+        requires { row ≤ 10001 }
+        ensures { self.new ≡ rows_plus self.old (replicate row 0 ++ (count ∷ [])) }
+    {
+        self.grow(row + 1);
+        self.counts[row] = self.counts[row].saturating_add(count);
+    }
+
     // Adds the counts of other reads.
     pub(crate) fn add_all(&mut self, other: &Rows)
         ensures { self.new ≡ rows_plus self.old other.now }
@@ -83,4 +104,13 @@ impl Rows {
     {
         self.counts.clear();
     }
+}
+
+// The number of rows. None counts more than a `u64` can hold.
+#[inline(always)]
+fn length_of(counts: &[u64]) -> usize
+    ensures length { result ≡ length counts.now }
+    ensures counts { (k : ℕ) → get_or counts.now k 0 ≤ 18446744073709551615 }
+{
+    counts.len()
 }

@@ -9,6 +9,7 @@ ghost use Rattle.fq_tally.specs.Tallies.{bases_of};
 use crate::bases::BaseTally;
 use crate::reads::ReadsTally;
 use crate::rows::Rows;
+use crate::side_positions::SidePositions;
 use crate::steps::StepsTally;
 use crate::trimmed::Trimmed;
 use fq_text::{OutOfMemory, ReadView};
@@ -32,6 +33,8 @@ pub struct SideTally {
     pub removed_front: Rows,
     /// The reads that survive by their number of bases removed after the last kept base.
     pub removed_behind: Rows,
+    /// The bases by their position in the read, before and after trimming.
+    pub positions: SidePositions,
     /// What each step did.
     pub steps: StepsTally,
 }
@@ -48,6 +51,7 @@ impl SideTally {
         let unpaired = ReadsTally::new(alloc)?;
         let removed_front = Rows::new(alloc)?;
         let removed_behind = Rows::new(alloc)?;
+        let positions = SidePositions::new(alloc)?;
         let steps = StepsTally::new(alloc)?;
         Ok(SideTally {
             before,
@@ -57,6 +61,7 @@ impl SideTally {
             behind: 0,
             removed_front,
             removed_behind,
+            positions,
             steps,
         })
     }
@@ -86,6 +91,7 @@ impl SideTally {
         let len = read.seq().len();
         let bases = BaseTally::of_rare(read.encoding(), read.seq(), read.qual(), 0, len);
         self.before.add(bases, len);
+        self.positions.add_dropped(read);
     }
 
     // Counts one more read, of which bases are kept. `mate`: its mate survives.
@@ -111,6 +117,7 @@ impl SideTally {
         self.behind = self.behind.saturating_add(behind as u64);
         self.removed_front.count(kept.start);
         self.removed_behind.count(behind);
+        self.positions.add_survivor(read, kept, mate);
     }
 
     // Adds the counts of other reads.
@@ -124,6 +131,7 @@ impl SideTally {
         self.behind = self.behind.saturating_add(other.behind);
         self.removed_front.add_all(&other.removed_front);
         self.removed_behind.add_all(&other.removed_behind);
+        self.positions.add_all(&other.positions);
         self.steps.add_all(&other.steps);
     }
 
@@ -138,6 +146,7 @@ impl SideTally {
         self.behind = 0;
         self.removed_front.clear();
         self.removed_behind.clear();
+        self.positions.clear();
         self.steps.clear();
     }
 }

@@ -1,9 +1,11 @@
 //! Counts of bytes by vectors (SIMD).
 
 ghost use Rattle.std.specs.Prelude.{◌≡◌, ◌+◌, ◌-◌, ◌≤◌, ◌++◌, length, take, drop, replicate};
-ghost use Rattle.std.specs.Prelude.{count_by, nat_le, sum};
+ghost use Rattle.std.specs.Prelude.{count_by, map, nat_le, sum, ◌==◌, ◌||◌};
 ghost use Rattle.fq_tally.specs.Vectors.{Holds};
-ghost use Rattle.fq_tally.specs.Tallies.{is_gc, is_n};
+ghost use Rattle.fq_tally.specs.Letters.{is_gc, is_n};
+ghost use Rattle.fq_tally.specs.Columns.{one_if};
+ghost use Rattle.fq_tally.specs.Counting.{AtMost};
 
 use std::simd::prelude::*;
 
@@ -54,12 +56,13 @@ fn first_of(bytes: &[u8], count: usize) -> u8x32
     u8x32::from_slice(bytes) & keeps_first(count)
 }
 
-// The last `count` of 32 bytes.
+// The last `count` of 32 bytes, behind zeros.
 #[inline(always)]
-fn last_of(bytes: &[u8], count: usize) -> u8x32
+pub(crate) fn last_of(bytes: &[u8], count: usize) -> u8x32
     requires few { count ≤ 32 }
     requires all { length bytes.now ≡ 32 }
-    ensures { Holds (drop (32 - count) bytes.now) result }
+    ensures holds { Holds (drop (32 - count) bytes.now) result }
+    ensures lanes { result ≡ replicate (32 - count) 0 ++ drop (32 - count) bytes.now }
 {
     u8x32::from_slice(bytes) & keeps_last(count)
 }
@@ -82,10 +85,11 @@ fn keeps_last(count: usize) -> u8x32
     u8x32::from_slice(&KEEPS_LAST[count..])
 }
 
-// At most 32 bytes, from memory that may end after them.
-fn all_of(bytes: &[u8]) -> u8x32
+// At most 32 bytes, from memory that may end after them, and zeros behind them.
+pub(crate) fn all_of(bytes: &[u8]) -> u8x32
     requires { length bytes.now ≤ 32 }
-    ensures { Holds bytes.now result }
+    ensures holds { Holds bytes.now result }
+    ensures lanes { result ≡ bytes.now ++ replicate (32 - length bytes.now) 0 }
 {
     let mut filled = [0; WIDTH];
     filled[..bytes.len()].copy_from_slice(bytes);
@@ -126,4 +130,38 @@ pub(crate) fn sum_of(bytes: u8x32) -> u16
     ensures { result ≡ sum bytes }
 {
     bytes.cast::<u16>().strict_reduce_sum()
+}
+
+// 1 for each base that is this letter in either case, and 0 for the others. The letter is given in
+// lower case, which differs from upper case by one bit.
+#[inline(always)]
+pub(crate) fn ones_of(bases: u8x32, letter: u8) -> u8x32
+    requires from_a { 97 ≤ letter }
+    requires to_z { letter ≤ 122 }
+    ensures ones { AtMost 1 result }
+    ensures each { result ≡ map (one_if (λ base. base == letter - 32 || base == letter)) bases }
+{
+    let lower = bases | u8x32::splat(0x20);
+    lower
+        .simd_eq(u8x32::splat(letter))
+        .select(u8x32::splat(1), u8x32::splat(0))
+}
+
+// 1 for each byte that is at least `least`, and 0 for the others.
+#[inline(always)]
+pub(crate) fn ones_from(bytes: u8x32, least: u8) -> u8x32
+    ensures ones { AtMost 1 result }
+    ensures each { result ≡ map (one_if (nat_le least)) bytes }
+{
+    bytes
+        .simd_ge(u8x32::splat(least))
+        .select(u8x32::splat(1), u8x32::splat(0))
+}
+
+// The bytes less `offset`. A byte that is smaller becomes 0.
+#[inline(always)]
+pub(crate) fn less(bytes: u8x32, offset: u8) -> u8x32
+    ensures { result ≡ map (λ byte. byte - offset) bytes }
+{
+    bytes.saturating_sub(u8x32::splat(offset))
 }

@@ -1,9 +1,9 @@
 //! What a worker gets, and what it leaves.
 
-use crate::done::Done;
 use crate::reply::{Cause, Reply};
 use fq_block::Block;
 use fq_lane::{End, NotEnded, Rx, Tx};
+use fq_tally::Done;
 
 /// The worker's ends of its four lanes.
 ///

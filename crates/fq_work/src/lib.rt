@@ -8,15 +8,14 @@
 //! [`Reply::Stop`].
 #![tactic(auto)]
 
-mod done;
 mod ends;
 mod gate;
 mod reply;
 mod trimming;
 mod worker;
 
-pub use done::Done;
 pub use ends::{WorkEnds, Worked};
+pub use fq_tally::Done;
 pub use gate::{Gate, OpenGate};
 pub use reply::{Cause, Reply};
 pub use trimming::work_block;

@@ -1,6 +1,6 @@
 //! What a worker replies.
 
-use crate::done::Done;
+use fq_tally::Done;
 
 /// Why a worker stopped.
 #[derive(Clone, Copy, Debug, PartialEq, Eq)]

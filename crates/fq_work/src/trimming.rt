@@ -1,10 +1,11 @@
 //! The work on one block.
 
 ghost use Rattle.std.specs.Prelude.{◌≡◌, [], is_some, OnOk, OnErr};
-ghost use Rattle.fq_work.specs.Replies.{done_of, made_of};
+ghost use Rattle.fq_tally.specs.Results.{made_of};
+ghost use Rattle.fq_work.specs.Replies.{done_of};
 
-use crate::done::Done;
 use fq_block::Block;
+use fq_tally::Done;
 use fq_text::OutOfMemory;
 use fq_trim::Steps;
 

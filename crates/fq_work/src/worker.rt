@@ -5,13 +5,13 @@ ghost use Rattle.fq_lane.specs.History.{with_item};
 ghost use Rattle.fq_work.specs.Replies.{done_of, reply_to};
 ghost use Rattle.fq_work.specs.Work.{IsWork, HasAnswered, HasDrained};
 
-use crate::done::Done;
 use crate::ends::{WorkEnds, Worked};
 use crate::gate::Gate;
 use crate::reply::{Cause, Reply};
 use crate::trimming::work_block;
 use fq_block::Block;
 use fq_lane::{Rx, Taken, Tx};
+use fq_tally::Done;
 use fq_trim::Steps;
 use std::alloc::Global;
 use std::sync::{Arc, Wait};

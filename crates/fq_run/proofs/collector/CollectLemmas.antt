@@ -9,7 +9,7 @@ use Rattle.fq_pair.specs.declared.out.Out.{Out}
 use Rattle.fq_serial.specs.declared.total.Total.{Total}
 use Rattle.fq_serial.specs.Totals.{no_total, total_plus}
 use Rattle.fq_pair.specs.Outputs.{text_of}
-use Rattle.fq_work.specs.declared.done.Done.{Done}
+use Rattle.fq_tally.specs.declared.done.Done.{Done}
 use Rattle.fq_work.specs.declared.reply.Cause.{Cause}
 use Rattle.fq_work.specs.declared.reply.Cause.TheVariants as cause
 use Rattle.fq_work.specs.declared.reply.Reply.{Reply}
@@ -19,8 +19,7 @@ use Rattle.fq_serial.specs.Sending.{BreaksAt}
 use Rattle.fq_run.specs.Shares.{every, gather}
 use Rattle.fq_run.specs.lanes.Items.{lists_of, IsDealt, IsBegun, TakesAt}
 use Rattle.fq_run.specs.collector.Collecting.{written_text, counted_from, counted, before_stop, TookAll, IsHeard, HasStopped, HasBroken, Writes, failed_in, Collects}
-use Rattle.fq_run.specs.collector.Stops.{HearsAll, Drains}
-use Rattle.fq_serial.specs.Writing.{with_stop}
+use Rattle.fq_run.specs.collector.Stops.{with_stop, HearsAll, Drains}
 use Rattle.fq_run.specs.declared.collector.Collector.{Collector}
 use Rattle.fq_serial.specs.declared.halt.Halt.{Halt}
 use Rattle.fq_run.specs.declared.collector.phase.Phase.{Phase}

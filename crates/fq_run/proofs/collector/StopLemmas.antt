@@ -12,8 +12,7 @@ use Rattle.fq_work.specs.declared.reply.Cause.TheVariants.{Gate, Memory}
 use Rattle.fq_work.specs.declared.reply.Reply.{Reply}
 use Rattle.fq_work.specs.declared.reply.Reply.TheVariants.{Done as done, Stop}
 use Rattle.fq_run.specs.lanes.Items.{TakesAt, IsDealt}
-use Rattle.fq_run.specs.collector.Stops.{is_stop, has_come, stops_of}
-use Rattle.fq_serial.specs.Writing.{with_stop}
+use Rattle.fq_run.specs.collector.Stops.{with_stop, is_stop, has_come, stops_of}
 use Rattle.fq_serial.specs.declared.halt.Halt.{Halt}
 
 -- what a take adds to the stops

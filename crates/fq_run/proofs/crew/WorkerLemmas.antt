@@ -14,12 +14,13 @@ use Rattle.fq_work.specs.declared.reply.Cause.{Cause}
 use Rattle.fq_work.specs.declared.reply.Reply.{Reply}
 use Rattle.fq_run.specs.lanes.Laying.{fresh, Laid}
 use Rattle.fq_run.specs.crew.Workers.{Seated, Joined}
-use Rattle.fq_run.specs.Confirming.{CanConfirm, Confirmed, Matched}
+use Rattle.fq_run.specs.Confirming.{CanConfirm, Confirmed}
 use Rattle.fq_run.specs.dealer.Dealt.{Closed}
 use Rattle.fq_run.specs.Each.{Each3}
 use Rattle.fq_run.specs.lanes.Items.{names_of, IsDealt, AllClosed}
 use Rattle.fq_run.specs.declared.crew.job.Job.{Job}
 use Rattle.fq_run.proofs.EachLemmas.{weaker}
+use Rattle.fq_run.proofs.MatchLemmas.{Matched}
 
 -- New lanes.
 

@@ -11,7 +11,7 @@ use Rattle.fq_serial.specs.declared.reading_end.ReadingEnd.TheVariants as readin
 use Rattle.fq_serial.specs.Choices.{Choices}
 use Rattle.fq_run.specs.Shares.{join, AreEven}
 use Rattle.fq_run.specs.dealer.DealingOut.{AreNumbered, AreBlocks, DealsOut, SendsFilled}
-use Rattle.fq_serial.specs.Filling.{Fills}
+use Rattle.fq_run.specs.dealer.Filling.{Fills}
 use Rattle.fq_run.specs.lanes.Items.{names_of, IsDealt}
 use Rattle.fq_pair.specs.Walks.{SourceState, Walks, GoesOn}
 use Rattle.fq_serial.specs.PairsRead.{Reads}

@@ -12,6 +12,11 @@ use Rattle.fq_run.specs.lanes.Items.{names_of}
 use Rattle.fq_run.specs.declared.collector.Collector.{Collector}
 use Rattle.fq_serial.specs.declared.halt.Halt.{Halt}
 
+-- one more worker stopped
+abbrev pub with_stop : Cause → Halt → Halt
+with_stop Gate halt = record { gate = true; memory = halt.memory }
+with_stop Memory halt = record { gate = halt.gate; memory = true }
+
 -- a Stop for this cause
 abbrev pub is_stop : Cause → Reply → Bool
 is_stop Gate (Stop Gate) = true

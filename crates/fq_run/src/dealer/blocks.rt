@@ -4,12 +4,13 @@ ghost use Rattle.std.specs.Prelude.{◌≡◌, ◌<◌, Some, [], vec_len};
 ghost use Rattle.fq_run.specs.dealer.DealingOut.{MayDeal, DealsOut, SendsFilled};
 ghost use Rattle.fq_run.specs.lanes.Items.{names_of};
 
+use crate::dealer::filling::fill;
 use crate::lanes::places::{next_turn, put_at};
 use fq_block::Block;
 use fq_lane::{Rx, Taken, Tx};
 use fq_pair::PairReader;
 use fq_serial::Settings;
-use fq_serial::shared::{ReadingEnd, fill};
+use fq_serial::shared::ReadingEnd;
 use fq_text::Encoding;
 use std::alloc::Global;
 use std::sync::Wait;

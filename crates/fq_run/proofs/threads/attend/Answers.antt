@@ -1,7 +1,7 @@
 -- The threads are joined, and their lanes can be confirmed.
 use Rattle.std.proofs.Common.{Bool, is_some, Option, ◌≡◌, ◌∙◌, ◌<◌, [], ◌∷◌, length, vec_len, length-append, sym, ap, subst, arith}
 use Rattle.fq_pair.specs.declared.out.Out.{Out}
-use Rattle.fq_work.proofs.WorkLemmas.{is_asked}
+use Rattle.fq_tally.proofs.ResultLemmas.{is_asked}
 use Rattle.fq_serial.specs.declared.total.Total.{Total}
 use Rattle.fq_serial.specs.Totals.{no_total}
 use Rattle.fq_run.specs.collector.Collecting.{Collects}

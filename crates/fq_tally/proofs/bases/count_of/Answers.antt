@@ -2,7 +2,7 @@ use Rattle.std.proofs.Common.{◌≡◌, ◌≤◌, ◌+◌, ◌-◌, ℕ, false
 use Rattle.std.proofs.lemmas.Bool.{lt-leb}
 use Rattle.fq_tally.specs.declared.bases.Counted.{Counted}
 use Rattle.fq_tally.specs.Parts.{IsCount, CountsOn}
-use Rattle.fq_tally.specs.Tallies.{is_gc, is_n}
+use Rattle.fq_tally.specs.Letters.{is_gc, is_n}
 use Rattle.fq_tally.specs.Vectors.{Holds}
 use Rattle.fq_tally.proofs.VectorLemmas.{counted_on, summed_on}
 use Rattle.fq_tally.proofs.bases.count_of.Goals as goal

@@ -1,6 +1,6 @@
 use Rattle.std.proofs.Common.{arith, ℕ, eqb, ◌||◌}
 use Rattle.std.proofs.lemmas.Simd.{zip2_splat}
-use Rattle.fq_tally.specs.Tallies.{is_gc}
+use Rattle.fq_tally.specs.Letters.{is_gc}
 use Rattle.fq_text.proofs.VectorLemmas.{flag}
 use Rattle.fq_tally.proofs.VectorLemmas.{flags_counted, either}
 use Rattle.fq_tally.proofs.vectors.gc_in.Goals as goal

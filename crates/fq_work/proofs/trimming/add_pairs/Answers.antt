@@ -2,9 +2,9 @@ use Rattle.std.proofs.Common.{◌≡◌, ◌<◌, Option, IfSome, subst, [], ◌
 use Rattle.std.proofs.lemmas.List.{take_more, length-take}
 use Rattle.std.proofs.lemmas.Option.{get_or_from_slice_get}
 use Rattle.fq_pair.specs.Mates.{Mates, mates_in, name_lengths}
-use Rattle.fq_work.specs.declared.done.Done.{Done}
-use Rattle.fq_work.specs.Replies.{made_of, with_mates}
-use Rattle.fq_work.proofs.WorkLemmas.{made_more}
+use Rattle.fq_tally.specs.declared.done.Done.{Done}
+use Rattle.fq_tally.specs.Results.{made_of, with_mates}
+use Rattle.fq_tally.proofs.ResultLemmas.{made_more}
 use Rattle.fq_work.proofs.trimming.add_pairs.Goals as goal
 
 pub add-requires-clause-names : goal.add-requires-clause-names

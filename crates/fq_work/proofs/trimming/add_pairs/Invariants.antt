@@ -1,5 +1,5 @@
 use Rattle.std.proofs.Common.{◌≡◌, is_some, take}
-use Rattle.fq_work.specs.Replies.{made_of}
+use Rattle.fq_tally.specs.Results.{made_of}
 use Rattle.fq_work.proofs.trimming.add_pairs.Given as goal
 
 abbrev pub invariant-loop-i : goal.invariant-loop-i

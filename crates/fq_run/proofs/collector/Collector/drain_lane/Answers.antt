@@ -20,8 +20,8 @@ pub returns-in-Item-Stop : goal.returns-in-Item-Stop
 returns-in-Item-Stop c =
     let k = c.args.self.now in
     record {
-      drains = lets_go c.take_at.result _ k (record k { replies = c.take_at.new.replies; halt = c.with-self.result }) c.args.at (c.in-Item-Stop.is ∙ ap Item c.in-Item-Stop.field-0-is)
-          c.requires.over refl (omega (arith, k.replies.ok.0)) c.take_at.ensures.takes c.with-self.ensures refl refl refl;
+      drains = lets_go c.take_at.result _ k (record k { replies = c.take_at.new.replies; halt = c.add_stop-self.result }) c.args.at (c.in-Item-Stop.is ∙ ap Item c.in-Item-Stop.field-0-is)
+          c.requires.over refl (omega (arith, k.replies.ok.0)) c.take_at.ensures.takes c.add_stop-self.ensures refl refl refl;
     }
 
 pub returns-in-Item-Done : goal.returns-in-Item-Done

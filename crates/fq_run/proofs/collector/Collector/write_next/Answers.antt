@@ -59,10 +59,10 @@ pub returns-in-Some-Stop-clause-collects : goal.returns-in-Some-Stop-clause-coll
 returns-in-Some-Stop-clause-collects g c = λ tallied before h.
     (let k = c.args.self.now in
     let takes = takes_as _ _ _ _ k.turn (c.in-Some-Stop.is ∙ ap Some c.in-Some-Stop.field-0-is) c.take_wait_at.ensures.takes in
-    collects_stopped tallied _ before _ k (record k { replies = c.take_wait_at.new.replies; phase = Stopped; halt = c.with-self.result }) c.in-Some-Stop.cause
-    h c.requires.writing refl takes c.with-self.ensures refl refl refl)
+    collects_stopped tallied _ before _ k (record k { replies = c.take_wait_at.new.replies; phase = Stopped; halt = c.add_stop-self.result }) c.in-Some-Stop.cause
+    h c.requires.writing refl takes c.add_stop-self.ensures refl refl refl)
 
 pub returns-in-Some-Stop-clause-hears : goal.returns-in-Some-Stop-clause-hears
 returns-in-Some-Stop-clause-hears g c =
     let k = c.args.self.now in
-    hears_as _ _ k (record k { replies = c.take_wait_at.new.replies; halt = c.with-self.result }) (c.in-Some-Stop.is ∙ ap Some c.in-Some-Stop.field-0-is) (omega (arith, k.replies.ok.0)) c.take_wait_at.ensures.takes c.with-self.ensures
+    hears_as _ _ k (record k { replies = c.take_wait_at.new.replies; halt = c.add_stop-self.result }) (c.in-Some-Stop.is ∙ ap Some c.in-Some-Stop.field-0-is) (omega (arith, k.replies.ok.0)) c.take_wait_at.ensures.takes c.add_stop-self.ensures

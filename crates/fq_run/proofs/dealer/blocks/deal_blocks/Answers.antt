@@ -1,7 +1,7 @@
 -- Each block is filled and dealt out, until reading stops.
 use Rattle.std.proofs.Common.{◌≡◌, ◌%◌, suc, length, ap, ◌∙◌, arith}
 use Rattle.fq_block.specs.Blocks.{Numbered}
-use Rattle.fq_serial.proofs.FillLemmas.{fills_as}
+use Rattle.fq_run.proofs.dealer.FillLemmas.{fills_as}
 use Rattle.fq_run.proofs.dealer.DealerLemmas.{deals_none, deals_more, deals_last}
 use Rattle.fq_run.proofs.dealer.blocks.deal_blocks.Goals as goal
 

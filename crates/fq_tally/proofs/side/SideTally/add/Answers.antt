@@ -22,6 +22,7 @@ with_tally t steps = record {
   behind = t.behind;
   removed_front = t.removed_front;
   removed_behind = t.removed_behind;
+  positions = t.positions;
   steps = steps;
 }
 

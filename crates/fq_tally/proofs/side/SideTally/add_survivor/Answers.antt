@@ -6,31 +6,13 @@ use Rattle.fq_pair.specs.Summaries.{capped_sum}
 use Rattle.fq_tally.specs.declared.bases.BaseTally.{BaseTally}
 use Rattle.fq_tally.specs.declared.reads.ReadsTally.{ReadsTally}
 use Rattle.fq_tally.specs.declared.side.SideTally.{SideTally}
-use Rattle.fq_tally.specs.declared.steps.StepsTally.{StepsTally}
 use Rattle.fq_tally.specs.Rows.{counted}
 use Rattle.fq_tally.specs.Courses.{part_at, whole}
+use Rattle.fq_tally.specs.SideColumns.{with_columns}
 use Rattle.fq_tally.specs.Tallies.{with_bases, with_part}
-use Rattle.fq_tally.proofs.SideLemmas.{kept_length, survivor, few_bases}
+use Rattle.fq_tally.proofs.SideLemmas.{kept_length, parts_are, survivor, few_bases}
 use Rattle.fq_tally.proofs.side.SideTally.add_survivor.Goals as goal
 use Rattle.fq_tally.proofs.side.SideTally.add_survivor.Goals.{then-mate, else-mate}
-
-abbrev made_of : ReadsTally → ReadsTally → ReadsTally → ℕ → ℕ → List ℕ → List ℕ → StepsTally → SideTally
-made_of before paired unpaired front behind removed_front removed_behind steps = record {
-  before = before;
-  paired = paired;
-  unpaired = unpaired;
-  front = front;
-  behind = behind;
-  removed_front = removed_front;
-  removed_behind = removed_behind;
-  steps = steps;
-}
-
--- sides of the same parts
-parts_are : {before before' paired paired' unpaired unpaired' : ReadsTally} {front front' behind behind' : ℕ} {f f' b b' : List ℕ} {steps steps' : StepsTally} →
-    before ≡ before' → paired ≡ paired' → unpaired ≡ unpaired' → front ≡ front' → behind ≡ behind' → f ≡ f' → b ≡ b' → steps ≡ steps' →
-    made_of before paired unpaired front behind f b steps ≡ made_of before' paired' unpaired' front' behind' f' b' steps'
-parts_are a b c d e f g h = cc
 
 front_is : {now sum : ℕ} (old start : ℕ) → now ≡ old → sum ≡ min (now + start) 18446744073709551615 → sum ≡ capped_sum old start
 front_is old start is sum_is = omega arith
@@ -93,6 +75,7 @@ returns c =
       behind = capped_sum old.behind (length read.seq - k.stop);
       removed_front = counted k.start old.removed_front;
       removed_behind = counted (length read.seq - k.stop) old.removed_behind;
+      positions = with_columns read left c.args.mate old.positions;
       steps = old.steps;
     } in
     elim c.if-mate.branch [
@@ -106,7 +89,8 @@ returns c =
           let h = ap (λ (t : SideTally). t.steps) is in
           let i = c.count.ensures ∙ ap (λ (t : SideTally). counted k.start t.removed_front) is in
           let j = c.count-2.ensures ∙ ap (λ (t : SideTally). counted (length c.seq-seq.result.now - k.stop) t.removed_behind) is ∙ ap (λ (n : ℕ). counted n old.removed_behind) rest in
-          parts_are a b d (front_is old.front k.start f sum) (behind_is old.behind k.stop (length read.seq) g size sum_behind) i j h
+          let l = c.add_survivor.ensures ∙ ap (λ (t : SideTally). with_columns read left c.args.mate t.positions) is in
+          parts_are a b d (front_is old.front k.start f sum) (behind_is old.behind k.stop (length read.seq) g size sum_behind) i j l h
           ∙ sym (ap made w.if-mate.true) ∙ sym (survivor read k c.args.mate old)
       | else-mate w ↦
           let is = w.self-is in
@@ -118,6 +102,7 @@ returns c =
           let h = ap (λ (t : SideTally). t.steps) is in
           let i = c.count.ensures ∙ ap (λ (t : SideTally). counted k.start t.removed_front) is in
           let j = c.count-2.ensures ∙ ap (λ (t : SideTally). counted (length c.seq-seq.result.now - k.stop) t.removed_behind) is ∙ ap (λ (n : ℕ). counted n old.removed_behind) rest in
-          parts_are a b d (front_is old.front k.start f sum) (behind_is old.behind k.stop (length read.seq) g size sum_behind) i j h
+          let l = c.add_survivor.ensures ∙ ap (λ (t : SideTally). with_columns read left c.args.mate t.positions) is in
+          parts_are a b d (front_is old.front k.start f sum) (behind_is old.behind k.stop (length read.seq) g size sum_behind) i j l h
           ∙ sym (ap made w.if-mate.false) ∙ sym (survivor read k c.args.mate old)
     ]

@@ -1,9 +1,0 @@
--- After each round of the loop the block has one more pair.
-use Rattle.fq_serial.proofs.FillLemmas.{Filled}
-use Rattle.fq_serial.proofs.filling.fill.Given as goal
-
-abbrev pub invariant-loop : goal.invariant-loop
-invariant-loop g l =
-    let s = g.S.PairReader in
-    Filled (s.state l.fn.source) (s.state l.source)
-    l.fn.block l.block l.counter

@@ -1,0 +1,192 @@
+-- Bases that are counted by vectors, one after the other.
+use Rattle.std.proofs.Common.{◌≡◌, ℕ, zero, suc, ◌+◌, ◌-◌, ◌*◌, ◌<◌, ◌≤◌, Bool, true, false, ◌||◌, eqb, List, [], ◌∷◌, ◌++◌, length, map, take, drop, get_or, set, replicate, max, refl, ap, ap₂, sym, subst, ◌∙◌, arith, take-add}
+use Rattle.std.specs.List.{list_all}
+use Rattle.std.proofs.lemmas.List.{append-nil, append_assoc, take-append-drop, take_all, length-map, length-take-le, length-drop, drop-drop, drop_more, get_or_at, set_at, map_more}
+use Rattle.std.proofs.lemmas.List.Folds.{list_all-append}
+use Rattle.std.proofs.lemmas.Bool.{and_parts, and_from}
+use Rattle.std.proofs.lemmas.Simd.{length-chunk}
+use lib.Lanes.{chunk}
+use Rattle.fq_text.specs.declared.encoding.Encoding.{Encoding}
+use Rattle.fq_text.specs.Scores.{is_scored}
+use Rattle.fq_trim.proofs.PlaceLemmas.{all_taken, all_dropped}
+use Rattle.fq_tally.specs.declared.columns.Columns.{Columns}
+use Rattle.fq_tally.specs.Rows.{rows_plus}
+use Rattle.fq_tally.specs.Columns.{columns_from, columns_plus}
+use Rattle.fq_tally.specs.Counting.{IsFew, AreFew, is_lane, lanes_at, first_rows}
+use Rattle.fq_tally.proofs.ColumnLemmas.{Small, grown_within, columns_same, columns_assoc, columns_joined}
+use Rattle.fq_tally.proofs.FewLemmas.{lanes_are_columns, lanes_moved, lanes_behind, lanes_more, lanes_cut}
+
+-- Lanes that hold scored bytes, and zeros beside them.
+
+or_true : (a b : Bool) → b ≡ true → a || b ≡ true
+or_true true b is = refl
+or_true false b is = is
+
+pub scored_lanes : (e : Encoding) (q : List ℕ) → list_all (is_scored e) q ≡ true → list_all (is_lane e) q ≡ true
+scored_lanes e [] all = refl
+scored_lanes e (b ∷ bs) all =
+    let parts = and_parts (is_scored e b) (list_all (is_scored e) bs) all in
+    and_from _ _ (or_true (eqb b 0) (is_scored e b) parts.0) (scored_lanes e bs parts.1)
+
+pub lanes_in_front : (e : Encoding) (k : ℕ) (q : List ℕ) → list_all (is_scored e) q ≡ true → list_all (is_lane e) (replicate k 0 ++ q) ≡ true
+lanes_in_front e zero q all = scored_lanes e q all
+lanes_in_front e (suc k) q all = lanes_in_front e k q all
+
+no_lanes : (e : Encoding) (k : ℕ) → list_all (is_lane e) (replicate k 0) ≡ true
+no_lanes e zero = refl
+no_lanes e (suc k) = no_lanes e k
+
+pub lanes_then_none : (e : Encoding) (k : ℕ) (q : List ℕ) → list_all (is_scored e) q ≡ true → list_all (is_lane e) (q ++ replicate k 0) ≡ true
+lanes_then_none e k q all = list_all-append (is_lane e) q (replicate k 0) ∙ and_from _ _ (scored_lanes e q all) (no_lanes e k)
+
+-- Facts of a few reads that say less.
+row_weaker : (len len' most most' : ℕ) (xs : List ℕ) → IsFew len most xs → len ≤ len' → most ≤ most' → IsFew len' most' xs
+row_weaker len len' most most' xs few order bound = record {
+  size = few.size;
+  behind = λ k from. few.behind k (omega arith);
+  small = λ k. let one = few.small k in omega arith;
+}
+
+pub few_weaker : (x : Columns) (len len' reads reads' : ℕ) → AreFew len reads x → len ≤ len' → reads ≤ reads' → AreFew len' reads' x
+few_weaker x len len' reads reads' few order bound = record {
+  bases = row_weaker len len' reads reads' x.bases few.bases order bound;
+  score_sum = row_weaker len len' (93 * reads) (93 * reads') x.score_sum few.score_sum order (omega arith);
+  q30_bases = row_weaker len len' reads reads' x.q30_bases few.q30_bases order bound;
+  a = row_weaker len len' reads reads' x.a few.a order bound;
+  c = row_weaker len len' reads reads' x.c few.c order bound;
+  g = row_weaker len len' reads reads' x.g few.g order bound;
+  t = row_weaker len len' reads reads' x.t few.t order bound;
+  n = row_weaker len len' reads reads' x.n few.n order bound;
+}
+
+-- nothing is counted
+row_nothing : (len most at : ℕ) (xs : List ℕ) → IsFew len most xs → most ≤ 65535 → at ≤ 10032 → xs ≡ rows_plus xs (replicate at 0 ++ [])
+row_nothing len most at xs few bound within =
+    let size = few.size in
+    let small : Small xs = λ k. let one = few.small k in omega arith in
+    grown_within xs at small (omega arith) ∙ ap (rows_plus xs) (sym (append-nil (replicate at 0)))
+
+lanes_nothing : (x : Columns) (len reads at : ℕ) (e : Encoding) → AreFew len reads x → reads ≤ 254 → at ≤ 10032 → x ≡ columns_plus x (lanes_at at e [] [])
+lanes_nothing x len reads at e few bound within =
+    columns_same x (columns_plus x (lanes_at at e [] []))
+    (row_nothing len reads at x.bases few.bases (omega arith) within) (row_nothing len (93 * reads) at x.score_sum few.score_sum (omega arith) within)
+    (row_nothing len reads at x.q30_bases few.q30_bases (omega arith) within) (row_nothing len reads at x.a few.a (omega arith) within)
+    (row_nothing len reads at x.c few.c (omega arith) within) (row_nothing len reads at x.g few.g (omega arith) within)
+    (row_nothing len reads at x.t few.t (omega arith) within) (row_nothing len reads at x.n few.n (omega arith) within)
+
+pub nothing_counted : (x : Columns) (len reads at : ℕ) (e : Encoding) → AreFew len reads x → reads ≤ 254 → at ≤ 10000 → x ≡ columns_plus x (columns_from at e [] [])
+nothing_counted x len reads at e few bound within =
+    lanes_nothing x len reads at e few bound (omega arith) ∙ ap (columns_plus x) (lanes_are_columns at e [] [] refl refl (omega arith))
+
+-- What is counted of one read.
+module _ (start now : Columns) (at from : ℕ) (e : Encoding) (seq qual : List ℕ) (so_far : now ≡ columns_plus start (columns_from at e (take from seq) (take from qual)))
+    (same : length qual ≡ length seq) (near : at + length qual ≤ 10000) (scored : list_all (is_scored e) qual ≡ true) (within : from ≤ length seq) where
+  front_s : length (take from seq) ≡ from
+  front_s = length-take-le from seq within
+
+  front_q : length (take from qual) ≡ from
+  front_q = length-take-le from qual (omega arith)
+
+  front_scored : list_all (is_scored e) (take from qual) ≡ true
+  front_scored = all_taken (is_scored e) qual from scored
+
+  rest_scored : list_all (is_scored e) (drop from qual) ≡ true
+  rest_scored = all_dropped (is_scored e) qual from scored
+
+  pub vector_next : (new : Columns) → from + 32 ≤ length seq → new ≡ columns_plus now (lanes_at (at + from) e (chunk from 32 seq) (chunk from 32 qual)) →
+      new ≡ columns_plus start (columns_from at e (take (from + 32) seq) (take (from + 32) qual))
+  vector_next new room here =
+      let s = length-chunk from 32 seq room in
+      let q = length-chunk from 32 qual (omega arith) in
+      let fs = front_s in
+      let fq = front_q in
+      let all = all_taken (is_scored e) (drop from qual) 32 rest_scored in
+      here
+      ∙ ap₂ columns_plus so_far (lanes_are_columns (at + from) e (chunk from 32 seq) (chunk from 32 qual) all (omega arith) (omega arith))
+      ∙ columns_assoc start (columns_from at e (take from seq) (take from qual)) (columns_from (at + from) e (chunk from 32 seq) (chunk from 32 qual))
+      ∙ ap (columns_plus start) (columns_joined at (at + from) e (take from seq) (take from qual) (chunk from 32 seq) (chunk from 32 qual) (omega arith) (omega arith) (omega arith) (omega arith) (omega arith) front_scored all)
+      ∙ ap₂ (λ x y. columns_plus start (columns_from at e x y)) (sym (take-add from 32 seq)) (sym (take-add from 32 qual))
+
+  pub rest_next : (new : Columns) → new ≡ columns_plus now (columns_from (at + from) e (drop from seq) (drop from qual)) → new ≡ columns_plus start (columns_from at e seq qual)
+  rest_next new here =
+      let s = length-drop from seq in
+      let q = length-drop from qual in
+      let fs = front_s in
+      let fq = front_q in
+      here
+      ∙ ap (λ x. columns_plus x (columns_from (at + from) e (drop from seq) (drop from qual))) so_far
+      ∙ columns_assoc start (columns_from at e (take from seq) (take from qual)) (columns_from (at + from) e (drop from seq) (drop from qual))
+      ∙ ap (columns_plus start) (columns_joined at (at + from) e (take from seq) (take from qual) (drop from seq) (drop from qual) (omega arith) (omega arith) (omega arith) (omega arith) (omega arith) front_scored rest_scored)
+      ∙ ap₂ (λ x y. columns_plus start (columns_from at e x y)) (take-append-drop from seq) (take-append-drop from qual)
+
+  pub all_counted : length seq ≤ from → now ≡ columns_plus start (columns_from at e seq qual)
+  all_counted done = so_far ∙ ap₂ (λ x y. columns_plus start (columns_from at e x y)) (take_all from seq done) (take_all from qual (omega arith))
+
+  pub still_few : AreFew 10032 253 start → AreFew 10032 254 now
+  still_few few =
+      let fs = front_s in
+      let fq = front_q in
+      let more = lanes_more start 10032 10032 253 at e (take from seq) (take from qual) few front_scored (omega arith) (omega arith) (omega arith) (omega arith) in
+      subst (λ x. AreFew 10032 254 x) (ap (columns_plus start) (lanes_are_columns at e (take from seq) (take from qual) front_scored (omega arith) (omega arith)) ∙ sym so_far) more
+
+-- The last bases of a read, in the last lanes of a vector and in the first.
+pub rest_in_last : (old new : Columns) (at from start k : ℕ) (e : Encoding) (seq qual bases bytes : List ℕ) → start + k ≡ from →
+    bases ≡ replicate k 0 ++ drop k (drop start seq) → bytes ≡ replicate k 0 ++ drop k (drop start qual) →
+    length qual ≡ length seq → at + length qual ≤ 10000 → from ≤ length seq → list_all (is_scored e) qual ≡ true →
+    new ≡ columns_plus old (lanes_at (at + start) e bases bytes) → new ≡ columns_plus old (columns_from (at + from) e (drop from seq) (drop from qual))
+rest_in_last old new at from start k e seq qual bases bytes place s q same near within scored here =
+    let ls = length-drop from seq in
+    let lq = length-drop from qual in
+    here
+    ∙ ap₂ (λ x y. columns_plus old (lanes_at (at + start) e x y)) s q
+    ∙ ap (columns_plus old) (lanes_moved (at + start) k e (drop k (drop start seq)) (drop k (drop start qual)))
+    ∙ ap₂ (λ x y. columns_plus old (lanes_at (at + start + k) e x y)) (drop-drop k start seq ∙ ap (λ n. drop n seq) place) (drop-drop k start qual ∙ ap (λ n. drop n qual) place)
+    ∙ ap (λ n. columns_plus old (lanes_at n e (drop from seq) (drop from qual))) (omega arith)
+    ∙ ap (columns_plus old) (lanes_are_columns (at + from) e (drop from seq) (drop from qual) (all_dropped (is_scored e) qual from scored) (omega arith) (omega arith))
+
+pub rest_in_first : (old new : Columns) (at from k m : ℕ) (e : Encoding) (seq qual bases bytes : List ℕ) →
+    bases ≡ drop from seq ++ replicate k 0 → bytes ≡ drop from qual ++ replicate m 0 → k ≡ 32 - length (drop from seq) → m ≡ 32 - length (drop from qual) →
+    length qual ≡ length seq → at + length qual ≤ 10000 → from ≤ length seq → length seq ≤ from + 32 → list_all (is_scored e) qual ≡ true → AreFew 10032 254 old →
+    new ≡ columns_plus old (lanes_at (at + from) e bases bytes) → new ≡ columns_plus old (columns_from (at + from) e (drop from seq) (drop from qual))
+rest_in_first old new at from k m e seq qual bases bytes s q k_is m_is same near within less scored few here =
+    let ls = length-drop from seq in
+    let lq = length-drop from qual in
+    let equal : m ≡ k = omega arith in
+    here
+    ∙ ap₂ (λ x y. columns_plus old (lanes_at (at + from) e x y)) s (q ∙ ap (λ n. drop from qual ++ replicate n 0) equal)
+    ∙ lanes_behind old 10032 254 (at + from) k e (drop from seq) (drop from qual) few (omega arith) (omega arith) (omega arith)
+    ∙ ap (columns_plus old) (lanes_are_columns (at + from) e (drop from seq) (drop from qual) (all_dropped (is_scored e) qual from scored) (omega arith) (omega arith))
+
+-- One more read among a few.
+pub read_added : (totals x y : Columns) (reached reads at end : ℕ) (e : Encoding) (seq qual : List ℕ) → AreFew reached reads x → reached ≤ 10000 →
+    y ≡ columns_plus x (columns_from at e seq qual) → length qual ≡ length seq → end ≡ at + length seq → end ≤ 10000 → list_all (is_scored e) qual ≡ true →
+    columns_plus totals (first_rows (max reached end) y) ≡ columns_plus (columns_plus totals (first_rows reached x)) (columns_from at e seq qual)
+read_added totals x y reached reads at end e seq qual few near here same end_is within scored =
+    let as_lanes = lanes_are_columns at e seq qual scored same (omega arith) in
+    ap (λ z. columns_plus totals (first_rows (max reached end) z)) (here ∙ ap (columns_plus x) (sym as_lanes))
+    ∙ ap (columns_plus totals) (lanes_cut x reached (max reached end) reads at e seq qual few scored same (omega arith) (omega arith))
+    ∙ ap (λ z. columns_plus totals (columns_plus (first_rows reached x) z)) as_lanes
+    ∙ sym (columns_assoc totals (first_rows reached x) (columns_from at e seq qual))
+
+pub read_few : (x y : Columns) (reached reads at end : ℕ) (e : Encoding) (seq qual : List ℕ) → AreFew reached reads x → reached ≤ 10000 →
+    y ≡ columns_plus x (columns_from at e seq qual) → length qual ≡ length seq → end ≡ at + length seq → end ≤ 10000 → list_all (is_scored e) qual ≡ true →
+    AreFew (max reached end) (reads + 1) y
+read_few x y reached reads at end e seq qual few near here same end_is within scored =
+    let as_lanes = lanes_are_columns at e seq qual scored same (omega arith) in
+    subst (λ z. AreFew (max reached end) (reads + 1) z) (ap (columns_plus x) as_lanes ∙ sym here)
+    (lanes_more x reached (max reached end) reads at e seq qual few scored same (omega arith) (omega arith) (omega arith))
+
+-- One more byte is converted.
+pub converted_next : (f : ℕ → ℕ) (bytes scores : List ℕ) (i r : ℕ) → scores ≡ map f (take i bytes) ++ drop i bytes → i < length bytes → r ≡ f (get_or scores i 0) →
+    set scores i r ≡ map f (take (i + 1) bytes) ++ drop (i + 1) bytes
+converted_next f bytes scores i r so_far within here =
+    let front : List ℕ = map f (take i bytes) in
+    let rest : List ℕ = drop (i + 1) bytes in
+    let b = get_or bytes i 0 in
+    let size : length front ≡ i = length-map (take i bytes) f ∙ length-take-le i bytes (omega arith) in
+    let parts : scores ≡ front ++ (b ∷ rest) = so_far ∙ ap (λ xs. front ++ xs) (drop_more bytes i 0 within) in
+    let value : r ≡ f b = here ∙ ap (λ xs. f (get_or xs i 0)) parts ∙ ap f (get_or_at front b rest 0 i size) in
+    ap₂ (λ xs x. set xs i x) parts value
+    ∙ set_at front b rest (f b) i size
+    ∙ sym (append_assoc front (f b ∷ []) rest)
+    ∙ ap (λ xs. xs ++ rest) (sym (map_more f bytes i 0 within))

@@ -1,0 +1,9 @@
+use Rattle.std.proofs.Common.{◌≡◌, ◌≤◌, ◌<◌, ℕ, length, get_or}
+use Rattle.fq_tally.proofs.few_rows.ByteRows.clear.Given as goal
+
+abbrev pub invariant-loop-i : goal.invariant-loop-i
+invariant-loop-i l = record {
+  size : length l.self-inside.counts.items ≡ 10032;
+  front : (k : ℕ) → k < l.i → get_or l.self-inside.counts.items k 0 ≡ 0;
+  behind : (k : ℕ) → l.i ≤ k → get_or l.self-inside.counts.items k 0 ≡ get_or l.fn.self k 0;
+}

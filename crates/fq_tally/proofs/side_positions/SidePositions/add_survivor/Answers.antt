@@ -1,0 +1,107 @@
+use Rattle.std.proofs.Common.{◌≡◌, ℕ, ◌-◌, Some, length, take, drop, ap, sym, ◌∙◌, arith}
+use Rattle.fq_pair.specs.Outputs.{places_of}
+use Rattle.fq_tally.specs.declared.columns.Columns.{Columns}
+use Rattle.fq_tally.specs.Columns.{columns_from, columns_of}
+use Rattle.fq_tally.specs.Courses.{part_at, whole}
+use Rattle.fq_tally.specs.SideColumns.{SideColumns, with_before, with_after}
+use Rattle.fq_tally.proofs.CourseLemmas.{part}
+use Rattle.fq_tally.proofs.SideLemmas.{kept_part}
+use Rattle.fq_tally.proofs.SideColumnLemmas.{between_are_bases, in_place, survivor_columns, cut_columns, all_columns}
+use Rattle.fq_tally.proofs.side_positions.SidePositions.add_survivor.Goals as goal
+
+pub add_moved-requires : goal.add_moved-requires
+add_moved-requires c =
+    let k = c.args.kept in
+    let order = k.some in
+    let within = c.requires in
+    between_are_bases c.args.read.now c.encoding-encoding.result c.seq-seq.result.now c.qual-qual.result.now k.start (k.stop - k.start) 0 c.title.ensures.lawful c.encoding-encoding.ensures c.seq-seq.ensures c.qual-qual.ensures (omega arith) (omega arith)
+
+pub add_in_place-requires : goal.add_in_place-requires
+add_in_place-requires c =
+    let k = c.args.kept in
+    let order = k.some in
+    let within = c.requires in
+    between_are_bases c.args.read.now c.encoding-encoding.result c.seq-seq.result.now c.qual-qual.result.now k.start (k.stop - k.start) 0 c.title.ensures.lawful c.encoding-encoding.ensures c.seq-seq.ensures c.qual-qual.ensures (omega arith) (omega arith)
+
+pub add_in_place-requires-else-stop-seq : goal.add_in_place-requires-else-stop-seq
+add_in_place-requires-else-stop-seq c =
+    let k = c.args.kept in
+    let order = k.some in
+    let within = c.requires in
+    between_are_bases c.args.read.now c.encoding-encoding.result c.seq-seq.result.now c.qual-qual.result.now k.start (k.stop - k.start) 0 c.title.ensures.lawful c.encoding-encoding.ensures c.seq-seq.ensures c.qual-qual.ensures (omega arith) (omega arith)
+
+pub add_rest-requires-then-stop-seq : goal.add_rest-requires-then-stop-seq
+add_rest-requires-then-stop-seq c =
+    let k = c.args.kept in
+    let within = c.requires in
+    let seq_len = ap length c.seq-seq.ensures in
+    let qual_len = ap length c.qual-qual.ensures in
+    let same = c.title.ensures.lawful.same_len in
+    let as_long : length c.qual-qual.result.now - k.stop ≡ length c.seq-seq.result.now - k.stop = omega arith in
+    rw as_long (between_are_bases c.args.read.now c.encoding-encoding.result c.seq-seq.result.now c.qual-qual.result.now k.stop (length c.seq-seq.result.now - k.stop) k.stop c.title.ensures.lawful c.encoding-encoding.ensures c.seq-seq.ensures c.qual-qual.ensures (omega arith) (omega arith))
+
+pub returns-then-start-gt0 : goal.returns-then-start-gt0
+returns-then-start-gt0 c =
+    let read = c.args.read.now in
+    let k = c.args.kept in
+    let mate = c.args.mate in
+    let old = c.args.self.now in
+    let e = c.encoding-encoding.result in
+    let seq = c.seq-seq.result.now in
+    let qual = c.qual-qual.result.now in
+    let x = columns_from 0 e (take (k.stop - k.start) (drop k.start seq)) (take (k.stop - k.start) (drop k.start qual)) in
+    let left = columns_of (part_at (places_of (Some k)) (whole read)) in
+    let x_is : x ≡ left = ap columns_of (kept_part read k e seq qual c.encoding-encoding.ensures c.seq-seq.ensures c.qual-qual.ensures c.requires c.title.ensures.lawful.same_len) in
+    let read_is : part e seq qual ≡ whole read =
+    let e_is = c.encoding-encoding.ensures in
+    let seq_is = c.seq-seq.ensures in
+    let qual_is = c.qual-qual.ensures in cc in
+    c.add_moved.ensures
+    ∙ ap (with_after x mate) c.add_rest.ensures
+    ∙ ap (λ (y : Columns). with_before (columns_from 0 e seq qual) (with_after y mate old)) x_is
+    ∙ ap (λ (y : Columns). with_before y (with_after left mate old)) (ap columns_of read_is)
+    ∙ sym (survivor_columns read k mate old)
+
+pub returns-then-stop-seq : goal.returns-then-stop-seq
+returns-then-stop-seq c =
+    let read = c.args.read.now in
+    let k = c.args.kept in
+    let mate = c.args.mate in
+    let old = c.args.self.now in
+    let e = c.encoding-encoding.result in
+    let seq = c.seq-seq.result.now in
+    let qual = c.qual-qual.result.now in
+    let lawful = c.title.ensures.lawful in
+    let start : k.start ≡ 0 = let none = c.if-start-gt0.false in omega arith in
+    let x = columns_from 0 e (take (k.stop - k.start) (drop k.start seq)) (take (k.stop - k.start) (drop k.start qual)) in
+    let rest = columns_from k.stop e (take (length seq - k.stop) (drop k.stop seq)) (take (length qual - k.stop) (drop k.stop qual)) in
+    let left = columns_of (part_at (places_of (Some k)) (whole read)) in
+    let x_is : x ≡ left = ap columns_of (kept_part read k e seq qual c.encoding-encoding.ensures c.seq-seq.ensures c.qual-qual.ensures c.requires lawful.same_len) in
+    let both = cut_columns read k e seq qual c.encoding-encoding.ensures c.seq-seq.ensures c.qual-qual.ensures c.requires lawful.same_len lawful.seq_fits lawful.scores start in
+    c.add_in_place.ensures
+    ∙ ap (λ (t : SideColumns). with_before x (with_after x mate t)) c.add_rest-then-stop-seq.ensures
+    ∙ in_place x rest (columns_of (whole read)) mate old both
+    ∙ ap (λ (y : Columns). with_before (columns_of (whole read)) (with_after y mate old)) x_is
+    ∙ sym (survivor_columns read k mate old)
+
+pub returns-else-stop-seq : goal.returns-else-stop-seq
+returns-else-stop-seq c =
+    let read = c.args.read.now in
+    let k = c.args.kept in
+    let mate = c.args.mate in
+    let old = c.args.self.now in
+    let e = c.encoding-encoding.result in
+    let seq = c.seq-seq.result.now in
+    let qual = c.qual-qual.result.now in
+    let lawful = c.title.ensures.lawful in
+    let start : k.start ≡ 0 = let none = c.if-start-gt0.false in omega arith in
+    let seq_len = ap length c.seq-seq.ensures in
+    let end = c.if-stop-seq.false in
+    let x = columns_from 0 e (take (k.stop - k.start) (drop k.start seq)) (take (k.stop - k.start) (drop k.start qual)) in
+    let left = columns_of (part_at (places_of (Some k)) (whole read)) in
+    let x_is : x ≡ left = ap columns_of (kept_part read k e seq qual c.encoding-encoding.ensures c.seq-seq.ensures c.qual-qual.ensures c.requires lawful.same_len) in
+    let all : x ≡ columns_of (whole read) = all_columns read k e seq qual c.encoding-encoding.ensures c.seq-seq.ensures c.qual-qual.ensures (omega arith) lawful.same_len start in
+    c.add_in_place-else-stop-seq.ensures
+    ∙ ap (λ (y : Columns). with_before y (with_after x mate old)) all
+    ∙ ap (λ (y : Columns). with_before (columns_of (whole read)) (with_after y mate old)) x_is
+    ∙ sym (survivor_columns read k mate old)

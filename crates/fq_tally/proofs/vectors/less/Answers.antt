@@ -1,0 +1,5 @@
+use Rattle.fq_trim.proofs.WindowLemmas.{each_less}
+use Rattle.fq_tally.proofs.vectors.less.Goals as goal
+
+pub returns : goal.returns
+returns c = each_less c.args.bytes c.args.offset 32 c.fits-bytes.0 c.fits-bytes.1 c.ranges.offset

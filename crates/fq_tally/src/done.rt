@@ -1,0 +1,136 @@
+//! The result of the work on a block.
+
+ghost use Rattle.std.specs.Prelude.{◌≡◌, ◌<◌, ◌∷◌, [], OnOk, OnErr};
+ghost use Rattle.fq_pair.specs.Mates.{mates_in, name_lengths};
+ghost use Rattle.fq_pair.specs.Outputs.{joined, texts_of};
+ghost use Rattle.fq_tally.specs.Courses.{alone};
+ghost use Rattle.fq_tally.specs.Tallies.{with_pair};
+
+use crate::tally::Tally;
+use crate::trimmed::Trimmed;
+use fq_pair::{NameLengths, PairView, Texts};
+use fq_text::{OutOfMemory, ReadView};
+use fq_trim::Steps;
+use std::alloc::Global;
+
+/// What is written for the pairs of a block, and what is counted for a report. Its memory is reused
+/// for other blocks.
+#[derive(Drop)]
+pub struct Done {
+    /// The number of the block.
+    pub number: u64,
+    /// The texts, the trim log and the counts of the block's pairs.
+    pub texts: Texts,
+    /// The tally of the block's pairs, step by step. `None` if no tally is asked for.
+    pub tally: Option<Tally>,
+}
+
+impl Done {
+    ghost use Rattle.std.specs.Prelude.{◌≡◌, ◌<◌, None, is_some, OnOk, OnErr};
+    ghost use Rattle.fq_pair.specs.Outputs.{no_texts};
+    ghost use Rattle.fq_tally.specs.Results.{emptied, with_mates};
+
+    /// Makes a `Done` with this number, empty texts and no tally. It allocates nothing.
+    pub fn new(alloc: Global, number: u64) -> Done
+        ensures { result ≡ record { number = number; texts = no_texts; tally = None } }
+    {
+        Done {
+            number,
+            texts: Texts::new(alloc),
+            tally: None,
+        }
+    }
+
+    /// Turns the tally on or off. Turning it on allocates one if there was none; if memory is
+    /// refused, there is no tally. The number and the texts stay as they are.
+    pub fn ask(&mut self, alloc: Global, tallied: bool) -> Result<(), OutOfMemory>
+        ensures asked { OnOk result (is_some self.new.tally ≡ tallied) }
+        ensures refused { OnErr result (self.new.tally ≡ None) }
+        ensures number { self.new.number ≡ self.old.number }
+        ensures texts { self.new.texts ≡ self.old.texts }
+    {
+        if !tallied {
+            self.tally = None;
+            return Ok(());
+        }
+        if self.tally.is_none() {
+            self.tally = Some(Tally::new(alloc)?);
+        }
+        Ok(())
+    }
+
+    /// Removes what was made of the pairs. The number stays, and the texts and the tally keep their
+    /// memory.
+    pub fn clear(&mut self)
+        ensures { self.new ≡ emptied self.old }
+    {
+        self.texts.clear();
+        if let Some(tally) = &mut self.tally {
+            tally.clear();
+        }
+    }
+
+    /// Adds what is written for one pair, and counts the pair if there is a tally. If memory is
+    /// refused, nothing has changed. The count of pairs must be below `u64::MAX`, and `names` must
+    /// be the lengths of the names of the mates.
+    #[inline(always)]
+    pub fn add(
+        &mut self,
+        pair: PairView<'_>,
+        names: NameLengths,
+        steps: &Steps,
+    ) -> Result<(), OutOfMemory>
+        requires room { self.old.texts.counts.pairs < u64.MAX }
+        requires names { names ≡ name_lengths (mates_in pair.forward pair.reverse) }
+        ensures ok { OnOk result
+            (self.new ≡ with_mates steps.now self.old
+            (mates_in pair.entry.forward pair.entry.reverse)) }
+        ensures err { OnErr result (self.new ≡ self.old) }
+    {
+        match &mut self.tally {
+            None => self.texts.add_named(pair, names, steps),
+            Some(tally) => add_counted(&mut self.texts, tally, pair, names, steps),
+        }
+    }
+}
+
+// Adds what is written for one pair, and counts it. It is not inlined, so that a run without a
+// tally doesn't pay for what counting needs.
+#[inline(never)]
+fn add_counted(
+    texts: &mut Texts,
+    tally: &mut Tally,
+    pair: PairView<'_>,
+    names: NameLengths,
+    steps: &Steps,
+) -> Result<(), OutOfMemory>
+    requires room { texts.old.counts.pairs < u64.MAX }
+    requires names { names ≡ name_lengths (mates_in pair.forward pair.reverse) }
+    ensures texts { OnOk result
+        (texts.new ≡ joined texts.old
+        (texts_of steps.now (mates_in pair.entry.forward pair.entry.reverse ∷ []))) }
+    ensures tally { OnOk result
+        (tally.new ≡ with_pair (alone steps.now) tally.old
+        (mates_in pair.entry.forward pair.entry.reverse)) }
+    ensures kept_texts { OnErr result (texts.new ≡ texts.old) }
+    ensures kept_tally { OnErr result (tally.new ≡ tally.old) }
+{
+    let counted = PairView {
+        forward: again(&pair.forward),
+        reverse: again(&pair.reverse),
+    };
+    let forward = Trimmed::new(&counted.forward, steps);
+    let reverse = Trimmed::new(&counted.reverse, steps);
+    texts.add_kept(pair, names, steps, forward.kept(), reverse.kept())?;
+    tally.add_trimmed(counted, steps, &forward, &reverse);
+    Ok(())
+}
+
+// Lends the same read once more. Counting gets this view and never the first one, so if nothing is
+// counted, the compiler copies no view to memory.
+#[inline(always)]
+fn again<'a>(read: &ReadView<'a>) -> ReadView<'a>
+    ensures { result ≡ read.now }
+{
+    ReadView::new(read.encoding(), read.title(), read.seq(), read.qual())
+}

@@ -1,0 +1,158 @@
+//! Rows of counts of a few reads, in small numbers, by vectors (SIMD).
+
+ghost use Rattle.std.specs.Prelude.{◌≡◌, ◌+◌, ◌≤◌, ℕ, ◌++◌, length, replicate, take, get_or, IfOk};
+ghost use Rattle.fq_tally.specs.Rows.{rows_plus};
+ghost use Rattle.fq_tally.specs.Counting.{AtMost, IsFew};
+
+use crate::columns::LAST_POSITION;
+use crate::rows::Rows;
+use crate::vectors::WIDTH;
+use fq_text::OutOfMemory;
+use std::alloc::Global;
+use std::marker::Model;
+use std::simd::prelude::*;
+
+// One row for each position that has its own, and room for a vector behind them.
+const ROWS: usize = LAST_POSITION + WIDTH;
+
+// Rows of bytes, all of which are there.
+#[derive(Drop)]
+pub(crate) struct ByteRows {
+    counts: Vec<u8>,
+}
+
+impl Model for ByteRows {
+    ghost use Rattle.std.specs.Prelude.{List, ◌≡◌, ℕ, length};
+
+    ghost Value = { List ℕ };
+
+    ghost view = { λ r. r.counts.items };
+
+    ghost invariant = { λ r. length r.counts.items ≡ 10032 };
+}
+
+impl ByteRows {
+    // Rows that count 0.
+    pub(crate) fn new(alloc: Global) -> Result<ByteRows, OutOfMemory>
+        ensures { IfOk result (λ rows. IsFew 0 0 rows) }
+    {
+        let mut counts = Vec::with_capacity(alloc, ROWS)?;
+        counts.resize(ROWS, 0).unwrap();
+        Ok(ByteRows { counts })
+    }
+
+    // Adds a vector to the rows from `at` on.
+    #[inline(always)]
+    pub(crate) fn add(&mut self, at: usize, more: u8x32)
+        requires at { at ≤ 10000 }
+        requires few { AtMost 254 self.old }
+        requires ones { AtMost 1 more }
+        ensures { self.new ≡ rows_plus self.old (replicate at 0 ++ more) }
+    {
+        add_bytes(&mut self.counts, at, more);
+    }
+
+    // Adds the first rows to others.
+    pub(crate) fn add_to(&self, rows: &mut Rows, length: usize)
+        requires few { AtMost 65535 self.now }
+        requires within { length ≤ 10000 }
+        ensures { rows.new ≡ rows_plus rows.old (take length self.now) }
+    {
+        for i in 0..length {
+            rows.add_to(i, u64::from(self.counts[i]));
+        }
+    }
+
+    // Sets the first rows to 0. Those behind them count 0.
+    pub(crate) fn clear(&mut self, length: usize)
+        requires within { length ≤ 10000 }
+        requires behind { (k : ℕ) → length ≤ k → get_or self.old k 0 ≡ 0 }
+        ensures { IsFew 0 0 self.new }
+    {
+        for i in 0..length {
+            self.counts[i] = 0;
+        }
+    }
+}
+
+// Rows of numbers of 16 bits, all of which are there.
+#[derive(Drop)]
+pub(crate) struct WordRows {
+    counts: Vec<u16>,
+}
+
+impl Model for WordRows {
+    ghost use Rattle.std.specs.Prelude.{List, ◌≡◌, ℕ, length};
+
+    ghost Value = { List ℕ };
+
+    ghost view = { λ r. r.counts.items };
+
+    ghost invariant = { λ r. length r.counts.items ≡ 10032 };
+}
+
+impl WordRows {
+    // Rows that count 0.
+    pub(crate) fn new(alloc: Global) -> Result<WordRows, OutOfMemory>
+        ensures { IfOk result (λ rows. IsFew 0 0 rows) }
+    {
+        let mut counts = Vec::with_capacity(alloc, ROWS)?;
+        counts.resize(ROWS, 0).unwrap();
+        Ok(WordRows { counts })
+    }
+
+    // Adds a vector to the rows from `at` on.
+    #[inline(always)]
+    pub(crate) fn add(&mut self, at: usize, more: u8x32)
+        requires at { at ≤ 10000 }
+        requires few { AtMost 65280 self.old }
+        ensures { self.new ≡ rows_plus self.old (replicate at 0 ++ more) }
+    {
+        add_words(&mut self.counts, at, more);
+    }
+
+    // Adds the first rows to others.
+    pub(crate) fn add_to(&self, rows: &mut Rows, length: usize)
+        requires few { AtMost 65535 self.now }
+        requires within { length ≤ 10000 }
+        ensures { rows.new ≡ rows_plus rows.old (take length self.now) }
+    {
+        for i in 0..length {
+            rows.add_to(i, u64::from(self.counts[i]));
+        }
+    }
+
+    // Sets the first rows to 0. Those behind them count 0.
+    pub(crate) fn clear(&mut self, length: usize)
+        requires within { length ≤ 10000 }
+        requires behind { (k : ℕ) → length ≤ k → get_or self.old k 0 ≡ 0 }
+        ensures { IsFew 0 0 self.new }
+    {
+        for i in 0..length {
+            self.counts[i] = 0;
+        }
+    }
+}
+
+// Adds a vector to bytes from `at` on.
+#[inline(always)]
+fn add_bytes(counts: &mut [u8], at: usize, more: u8x32)
+    requires room { at + 32 ≤ length counts.old }
+    requires few { AtMost 254 counts.old }
+    requires ones { AtMost 1 more }
+    ensures { counts.new ≡ rows_plus counts.old (replicate at 0 ++ more) }
+{
+    let sums = u8x32::from_slice(&counts[at..]).strict_add(more);
+    sums.copy_to_slice(&mut counts[at..]);
+}
+
+// Adds a vector to numbers of 16 bits from `at` on.
+#[inline(always)]
+fn add_words(counts: &mut [u16], at: usize, more: u8x32)
+    requires room { at + 32 ≤ length counts.old }
+    requires few { AtMost 65280 counts.old }
+    ensures { counts.new ≡ rows_plus counts.old (replicate at 0 ++ more) }
+{
+    let sums = u16x32::from_slice(&counts[at..]).strict_add(more.cast::<u16>());
+    sums.copy_to_slice(&mut counts[at..]);
+}

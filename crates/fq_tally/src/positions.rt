@@ -1,0 +1,115 @@
+//! Counts of bases by their positions in reads, as they are counted.
+
+ghost use Rattle.std.specs.Prelude.{◌≡◌, ◌+◌, ◌≤◌, true, length, IfOk};
+ghost use Rattle.std.specs.List.{list_all};
+ghost use Rattle.fq_text.specs.Scores.{is_scored};
+ghost use Rattle.fq_tally.specs.Columns.{no_columns, columns_from, columns_plus};
+ghost use Rattle.fq_tally.specs.Counting.{first_rows, AreFew};
+
+use crate::columns::{Columns, LAST_POSITION};
+use crate::few::FewColumns;
+use fq_text::{Encoding, OutOfMemory};
+use std::alloc::Global;
+use std::marker::Model;
+
+// With this many reads, small numbers are added to the totals, so that none becomes too large.
+const MOST_READS: usize = 254;
+
+// A counter of bases by their positions. The reads that were counted last are in small numbers.
+#[derive(Drop)]
+pub(crate) struct Positions {
+    totals: Columns,
+    few: FewColumns,
+    // The rows of `few` that were reached.
+    reached: usize,
+    // The reads in `few`.
+    reads: usize,
+}
+
+impl Model for Positions {
+    ghost use Rattle.fq_tally.specs.declared.columns.Columns.{Columns};
+    ghost use Rattle.fq_tally.specs.Columns.{columns_plus};
+    ghost use Rattle.fq_tally.specs.Counting.{first_rows, HoldsFew};
+
+    ghost Value = { Columns };
+
+    ghost view = { λ p. columns_plus p.totals (first_rows p.reached p.few) };
+
+    ghost invariant = { λ p. HoldsFew p.reached p.reads p.few };
+}
+
+impl Positions {
+    // No bases. Takes the memory for all counts, which may be refused.
+    pub(crate) fn new(alloc: Global) -> Result<Positions, OutOfMemory>
+        ensures { IfOk result (λ p. p ≡ no_columns) }
+    {
+        let totals = Columns::new(alloc)?;
+        let few = FewColumns::new(alloc)?;
+        Ok(Positions {
+            totals,
+            few,
+            reached: 0,
+            reads: 0,
+        })
+    }
+
+    // Counts bases, of which the first has the place `at` in its read, counted from 0. It takes no
+    // memory.
+    pub(crate) fn add(&mut self, encoding: Encoding, seq: &[u8], qual: &[u8], at: usize)
+        requires few { at + length qual.now ≤ 1048576 }
+        requires scored { list_all (is_scored encoding) qual.now ≡ true }
+        requires same { length qual.now ≡ length seq.now }
+        ensures { self.new ≡ columns_plus self.old (columns_from at encoding seq.now qual.now) }
+    {
+        let end = at + seq.len();
+        if end > LAST_POSITION {
+            self.totals.count(encoding, seq, qual, at);
+            return;
+        }
+        self.few.count(encoding, seq, qual, at);
+        self.reached = self.reached.max(end);
+        self.reads += 1;
+        if self.reads == MOST_READS {
+            empty(&mut self.few, &mut self.totals, self.reached);
+            self.reached = 0;
+            self.reads = 0;
+        }
+    }
+
+    // Adds these counts to others.
+    pub(crate) fn add_to(&self, columns: &mut Columns)
+        ensures { columns.new ≡ columns_plus columns.old self.now }
+    {
+        columns.add_all(&self.totals);
+        self.few.add_to(columns, self.reached);
+    }
+
+    // Adds the counts of other bases.
+    pub(crate) fn add_all(&mut self, other: &Positions)
+        ensures { self.new ≡ columns_plus self.old other.now }
+    {
+        self.totals.add_all(&other.totals);
+        other.few.add_to(&mut self.totals, other.reached);
+    }
+
+    // Sets all counts to those of no bases, and keeps their memory.
+    pub(crate) fn clear(&mut self)
+        ensures { self.new ≡ no_columns }
+    {
+        self.totals.clear();
+        self.few.clear(self.reached);
+        self.reached = 0;
+        self.reads = 0;
+    }
+}
+
+// Moves counts of a few reads to the totals.
+fn empty(few: &mut FewColumns, totals: &mut Columns, reached: usize)
+    requires few { AreFew reached 254 few.old }
+    requires near { reached ≤ 10000 }
+    ensures moved { totals.new ≡ columns_plus totals.old (first_rows reached few.old) }
+    ensures none { AreFew 0 0 few.new }
+{
+    few.add_to(totals, reached);
+    few.clear(reached);
+}
