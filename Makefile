@@ -105,18 +105,18 @@ uninstall:
 clean:
 	rm -rf dist examples/out
 
-# Measures the program beside other trimmers. BENCH has arguments of the script, as BENCH='--pairs 50000'. No verdict.
+# Measures the program beside other trimmers. BENCH has arguments of the script, as BENCH='--pairs 50000'. Prints figures only.
 bench: build
 	@bash bench/trimming/run.sh $(BENCH)
 
-# Measures reading alone. No verdict.
+# Measures reading alone. Prints figures only.
 bench-reading:
 	@bash bench/reading/run.sh
 
-# Measures a lane between two threads. No verdict.
+# Measures a lane between two threads. Prints figures only.
 bench-lane:
 	@bash bench/lane/run.sh
 
-# Measures how much of the processor the program uses while it waits. No verdict.
+# Measures how much of the processor the program uses while it waits. Prints figures only.
 bench-waiting: build
 	@bash bench/waiting/run.sh

@@ -1,10 +1,10 @@
 #!/usr/bin/env python3
-"""Draws the reads of this directory: reads_1.fq and reads_2.fq, 1,000 pairs, and the same compressed.
+"""Simulates the reads of this directory: reads_1.fq and reads_2.fq, 1,000 pairs, and the same compressed.
 
 usage: draw.py DIRECTORY
 
-No sequencer made them. Bases are drawn evenly, with an N now and then. Scores fall towards a read's end, as those of
-Illumina reads do, and some reads are bad from a place on. The same seed draws the same reads with every Python from 3.6 on.
+No sequencer made them. All bases are equally likely, with an N now and then. Scores fall towards a read's end, as those of
+Illumina reads do, and some reads are bad from a place on. The same seed gives the same reads with every Python from 3.6 on.
 """
 import gzip
 import os

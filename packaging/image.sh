@@ -7,9 +7,9 @@ umask 022
 export LC_ALL=C TZ=UTC
 
 if [ $# -lt 2 ] || [ $# -gt 3 ]; then
-  echo "usage: packaging/image.sh VERSION FOLDER [BASE]
-Makes tibzharuk-VERSION-oci.tar in FOLDER, which has to hold tibzharuk_VERSION_amd64.deb already. BASE is a tar file of a Debian 12
-with apt; without it, it is made and left in FOLDER as debian-12.tar. Needs root, the network, and Debian's buildah and mmdebstrap."
+  echo "usage: packaging/image.sh VERSION DIRECTORY [BASE]
+Makes tibzharuk-VERSION-oci.tar in DIRECTORY, which must hold tibzharuk_VERSION_amd64.deb already. BASE is a tar file of a Debian 12
+with apt; without it, it is made and left in DIRECTORY as debian-12.tar. Needs root, the network, and Debian's buildah and mmdebstrap."
   [ "${1-}" = --help ]
   exit
 fi

@@ -1,15 +1,15 @@
 #!/usr/bin/env bash
-# Puts the program, the scripts that have a command, their manual pages and their completion below a folder such as /usr/local, or
-# takes them away from there. `make install`, the tarball and the Debian package have all of them by this list.
+# Puts the program, the scripts that have a command, their manual pages and their completion below a directory such as /usr/local,
+# or removes them. `make install`, the tarball and the Debian package have all of them by this list.
 set -euo pipefail
 umask 022
 export LC_ALL=C
 
 usage() {
-  echo "usage: packaging/install.sh PROGRAM FOLDER [SCRIPTS]
-       packaging/install.sh --remove FOLDER
-Installs PROGRAM as fq_prog and tibzharuk below FOLDER, with trim_gz (tibzharuk-gz) and report_to_html (tibzharuk-report). The
-scripts go to the folder SCRIPTS of FOLDER, which is share/tibzharuk/contrib unless another is given."
+  echo "usage: packaging/install.sh PROGRAM DIRECTORY [SCRIPTS]
+       packaging/install.sh --remove DIRECTORY
+Installs PROGRAM as fq_prog and tibzharuk below DIRECTORY, with trim_gz (tibzharuk-gz) and report_to_html (tibzharuk-report). The
+scripts go to the directory SCRIPTS of DIRECTORY, which is share/tibzharuk/contrib unless another is given."
 }
 
 case ${1-} in
@@ -28,7 +28,7 @@ folder=$(realpath -m -- "$2")
 scripts=${3:-share/tibzharuk/contrib}
 cd "$(dirname "$0")/.."
 
-# The files of the tree below these folders: those that git knows, or all if the tree is no clone.
+# The files of the tree below these directories: those that git knows, or all if the tree isn't a clone.
 files_of() {
   if git rev-parse --is-inside-work-tree > /dev/null 2>&1; then
     git ls-files -- "$@"
@@ -54,7 +54,7 @@ link $name.fish share/fish/vendor_completions.d/$second.fish"
   fi
 }
 
-# Each file or link with what it is made of, and its name below the folder.
+# Each file or link with what it is made of, and its name below the directory.
 entries() {
   local file script
   echo 'program - bin/fq_prog'
@@ -84,7 +84,7 @@ while read -r kind from name; do
   esac
 done < <(entries)
 
-# What Python keeps beside a script goes with it, and so do folders of the program's own that are empty then.
+# What Python keeps beside a script goes with it, and so do directories of the program's own that are empty then.
 if [ -z "$program" ] && [ -d "$folder/share/tibzharuk" ]; then
   find "$folder/share/tibzharuk" -name __pycache__ -prune -exec rm -rf {} +
   find "$folder/share/tibzharuk" -depth -type d -empty -delete

@@ -26,7 +26,7 @@ def plain(text):
 
 
 def term(text):
-    """What stands before an explanation: options are bold, and words in capitals are in italics."""
+    """What comes before an explanation: options are bold, and words in capitals are in italics."""
     def shown(word):
         if word.group()[0] == '-' or word.group()[0].isdigit():
             return '\\fB' + plain(word.group()) + '\\fR'
@@ -41,7 +41,7 @@ def sentences(lines):
 
 
 def listed(block):
-    """The terms of a list with their explanations, or nothing if the block is no list."""
+    """The terms of a list with their explanations, or nothing if the block isn't a list."""
     items = []
     for line in block:
         split = re.match(r'(\S.*?)(?:\s{2,}(\S.*))?$', line)

@@ -4,8 +4,8 @@ set -euo pipefail
 cd "$(dirname "$0")/.."
 
 if [ $# -ne 1 ] || [ "$1" = --help ]; then
-  echo "usage: packaging/objects.sh FOLDER
-Copies fq_prog.o, libos_c.a and liblibc_c.a to FOLDER. The program has to be built before: where it was linked and its
+  echo "usage: packaging/objects.sh DIRECTORY
+Copies fq_prog.o, libos_c.a and liblibc_c.a to DIRECTORY. The program must be built before: where it was linked and its
 object is gone, it is proved once more."
   [ "${1-}" = --help ]
   exit

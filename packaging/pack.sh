@@ -6,8 +6,8 @@ umask 022
 export LC_ALL=C TZ=UTC
 
 if [ $# -ne 2 ]; then
-  echo "usage: packaging/pack.sh VERSION FOLDER
-Makes tibzharuk-VERSION-linux-x86_64.tar.gz, tibzharuk_VERSION_amd64.deb and SHA256SUMS in FOLDER, which has to hold
+  echo "usage: packaging/pack.sh VERSION DIRECTORY
+Makes tibzharuk-VERSION-linux-x86_64.tar.gz, tibzharuk_VERSION_amd64.deb and SHA256SUMS in DIRECTORY, which must hold
 fq_prog and objects/ already."
   [ "${1-}" = --help ]
   exit
@@ -30,10 +30,10 @@ fi
 : "${SOURCE_DATE_EPOCH:=$(date -d "$day" +%s)}"
 export SOURCE_DATE_EPOCH
 
-# put MODE FROM TO: copies a file, and makes its folder
+# put MODE FROM TO: copies a file, and makes its directory
 put() { install -D -m "$1" "$2" "$3"; }
 
-# The files of the tree below these folders: those that git knows, or all where the tree is no clone.
+# The files of the tree below these directories: those that git knows, or all if the tree isn't a clone.
 files_of() {
   if git rev-parse --is-inside-work-tree > /dev/null 2>&1; then
     git ls-files -- "$@"
@@ -42,7 +42,7 @@ files_of() {
   fi | sort
 }
 
-# put_tree TO FOLDERS..: copies what is in these folders of the tree, where they are
+# put_tree TO DIRECTORIES..: copies what is in these directories of the tree, to the same places
 put_tree() {
   local to=$1 file mode
   shift
@@ -67,7 +67,7 @@ put_documents() {
   libraries > "$to/licences/versions"
 }
 
-# The workflow, which finds the scripts of contrib/ by where they are.
+# The workflow, which finds the scripts of contrib/ by their place.
 put_workflow() { put_tree "$1" workflow config profiles; }
 
 # The Debian packages whose files were linked into the program.
@@ -104,7 +104,7 @@ control() {
     -e "s/@USING@/${using%, }/" -e "s/@MAINTAINER@/${DEBFULLNAME:-Tibzharuk maintainers} <${DEBEMAIL:-root@localhost}>/" packaging/control.in
 }
 
-# compress_pages FOLDER: the manual pages there, and the links to them
+# compress_pages DIRECTORY: the manual pages there, and the links to them
 compress_pages() {
   local page to
   for page in "$1"/*.1; do

@@ -15,12 +15,12 @@ crate=         # the crate whose lines come
 proved=0       # its lines so far
 begun=$SECONDS # when the crate before was done
 
-# Overwrites one line where somebody looks on, and is silent in a log.
+# Overwrites one line on a terminal, and prints nothing into a log.
 tell() {
   if [ -t 1 ]; then printf '\r\033[K%s' "$1"; fi
 }
 
-# Ends the lines of a crate, of which this is to be said.
+# Ends the lines of a crate with this text.
 end_crate() {
   if [ -n "$crate" ]; then
     tell ''
@@ -29,7 +29,7 @@ end_crate() {
   crate=
 }
 
-# The same, with the time since the crate before was done.
+# Ends the lines of a crate with this text and the time since the crate before was done.
 end_timed() {
   end_crate "$1 ($((SECONDS - begun)) s)"
   begun=$SECONDS
@@ -63,8 +63,8 @@ take() {
   esac
 }
 
-# Takes all lines and keeps them in the log. What a crate needs of others tells nothing until it is proved whole, so a minute
-# without a line is told.
+# Takes all lines and keeps them in the log. A crate that is proved only because others need it prints nothing until it is
+# done, so each minute without a line is reported.
 show() {
   local line part='' status
   while true; do

@@ -55,7 +55,7 @@ installed_files() {
   done
 }
 
-# check_commands FOLDER: each command runs there under both names, and its manual page is found
+# check_commands DIRECTORY: each command runs there under both names, and its manual page is found
 # under both
 check_commands() {
   local command name
@@ -78,7 +78,7 @@ check_tarball() {
   (cd dist && sha256sum --quiet -c SHA256SUMS) || fail 'the sums of dist/ are not those of its files'
   mkdir "$work/empty"
   tar -C "$work/empty" -xzf "$tarball" || fail 'the tarball is not unpacked'
-  [ "$(ls "$work/empty")" = "${release##*/}" ] || fail "the tarball has another folder: $(ls "$work/empty")"
+  [ "$(ls "$work/empty")" = "${release##*/}" ] || fail "the tarball has another directory: $(ls "$work/empty")"
   for file in README.md CHANGELOG.md CONTRIBUTING.md SECURITY.md CITATION.cff NOTICES.md LICENSE-MIT LICENSE-APACHE contrib/trim_gz \
     workflow/Snakefile workflow/cwl/trim_gz.cwl config/config.yaml profiles/{local,slurm,slurm-v8}/config.yaml $(installed_files); do
     [ -s "$release/$file" ] || fail "the tarball lacks $file"

@@ -1,5 +1,5 @@
 #!/usr/bin/env bash
-# The reads in examples/ are those that examples/draw.py draws, and examples/trimmed/ is what the
+# The reads in examples/ are those that examples/draw.py makes, and examples/trimmed/ is what the
 # slow program tests/examples/trim.py makes of them. `make run` and contrib/trim_gz make the same.
 # Status 77, and 'skipped', if a package is missing.
 set -uo pipefail
@@ -18,7 +18,7 @@ same_files() {
 mkdir "$work/drawn" "$work/slow" "$work/gz"
 python3 examples/draw.py "$work/drawn" || fail 'draw.py fails'
 for side in 1 2; do
-  cmp "$work/drawn/reads_$side.fq" "examples/reads_$side.fq" || fail "reads_$side.fq is not what draw.py draws"
+  cmp "$work/drawn/reads_$side.fq" "examples/reads_$side.fq" || fail "reads_$side.fq is not what draw.py makes"
   gzip -dc "examples/reads_$side.fq.gz" | cmp - "examples/reads_$side.fq" || fail "reads_$side.fq.gz holds other reads"
 done
 

@@ -65,7 +65,7 @@ for name in ./f link hard; do
   same f '@p1/1\nACGT\n+\n#!II\n@p2/1\nGGCC\n+\nIIII\n'
 done
 
-row='an output that is an input under another name, behind others'
+row='an output that is an input under another name, after others'
 two_pairs
 ln -s r link
 printf 'old text' > fp
@@ -93,7 +93,7 @@ rm f
 run 4 'cannot read f\n' PE f r fp fu rp ru LEADING:3
 [ -e fp ] && fail "an output was made"
 
-row='a folder as an input'
+row='a directory as an input'
 two_pairs
 mkdir d
 run 4 'cannot read d\n' PE d r fp fu rp ru LEADING:3
@@ -101,7 +101,7 @@ run 4 'cannot read d\n' PE d r fp fu rp ru LEADING:3
 
 row='the summary into the file of the log'
 two_pairs
-# shellcheck disable=SC2094  # one file for both is what has to be refused
+# shellcheck disable=SC2094  # one file for both is what must be refused
 "$program" PE --trimlog log f r fp fu rp ru LEADING:3 > log 2> err
 [ $? -eq 4 ] || fail "the status is not 4"
 same err 'cannot write log\n'
@@ -118,7 +118,7 @@ done
 
 row='the summary into the file of the report'
 two_pairs
-# shellcheck disable=SC2094  # one file for both is what has to be refused
+# shellcheck disable=SC2094  # one file for both is what must be refused
 "$program" PE --report report f r fp fu rp ru LEADING:3 > report 2> err
 [ $? -eq 4 ] || fail "the status is not 4"
 same err 'cannot write report\n'
@@ -152,7 +152,7 @@ two_pairs
 run 0 '' --version
 same out 'fq_prog 1.1.0\n'
 
-row='a folder that is not there'
+row='a directory that is not there'
 two_pairs
 run 4 'cannot write no/fu\n' PE f r fp no/fu rp ru LEADING:3
 same fp ''

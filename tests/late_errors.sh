@@ -14,14 +14,14 @@ trap 'rm -rf "${rooms[@]}"' EXIT
 
 compile_library tests/late_errors/fail_sync.c "$room/fail_sync.so"
 
-# has_disk FOLDER: whether the directory is on a block device, by the major number of its device.
+# has_disk DIRECTORY: whether the directory is on a block device, by the major number of its device.
 has_disk() {
   local device
   device=$(stat -c %d -- "$1")
   [ $(((device >> 8 & 0xfff) | (device >> 32 & ~0xfff))) -ne 0 ]
 }
 
-# enter FOLDER: goes to a new directory there that has the inputs.
+# enter DIRECTORY: goes to a new directory there that has the inputs.
 enter() {
   local new
   new=$(mktemp -d "$1/late_errors.XXXXXX") || exit 2
@@ -77,7 +77,7 @@ if [ -n "$other" ]; then
   all_fail
   all_fail --sync
 else
-  echo "late_errors: skipped: no folder without a block device"
+  echo "late_errors: skipped: no directory without a block device"
 fi
 if [ -n "$disk" ]; then
   enter "$disk"
@@ -85,6 +85,6 @@ if [ -n "$disk" ]; then
   # Without --sync the call waits for nothing: its first wait would have failed.
   expect 1 0 '' PE --trimlog log --report report f r fp fu rp ru LEADING:3
 else
-  echo "late_errors: skipped: no folder on a disk"
+  echo "late_errors: skipped: no directory on a disk"
 fi
 finish ok

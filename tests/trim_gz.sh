@@ -46,7 +46,7 @@ earlier() {
 
 # no_rest: no temporary file, no hidden file and no process is left
 no_rest() {
-  [ -z "$(ls -A "$TMPDIR")" ] || fail "left in the temporary folder: $(ls -A "$TMPDIR")"
+  [ -z "$(ls -A "$TMPDIR")" ] || fail "left in the temporary directory: $(ls -A "$TMPDIR")"
   rm -rf "${TMPDIR:?}"/*
   [ -z "$(find "$work" -name '.*trim_gz*')" ] || fail 'a hidden file is left'
   [ -z "$(find /proc/[0-9]*/fd -lname "$work/out/*" 2> /dev/null)" ] || fail 'a process is left'
@@ -122,7 +122,7 @@ for name in a1 a2 b1 b2 f r i; do gzip -1 < "$name" > "$name.gz"; done
 "$program" PE --trimlog "$work/plain/log" --report "$work/plain/report" f r "$work/plain/p1.fq" "$work/plain/u1.fq" "$work/plain/p2.fq" "$work/plain/u2.fq" \
   "${steps[@]}" > "$work/plain/summary"
 for name in p1.fq u1.fq p2.fq u2.fq log report; do
-  row='the drawn pairs'
+  row='the simulated pairs'
   [ -s "$work/plain/$name" ] || fail "$name is empty"
 done
 
@@ -283,7 +283,7 @@ row='a missing file'
 refused 4 'trim_gz: cannot read data/none.gz' -1 data/f.gz -2 data/none.gz "${rest[@]}"
 refused 4 'trim_gz: cannot read data/none.gz' -1 data/none.gz -2 data/none.gz "${rest[@]}"
 
-row='a folder as an input'
+row='a directory as an input'
 refused 4 'trim_gz: cannot read data' -1 data -2 data/r.gz "${rest[@]}"
 
 row='compressed files without a byte'
@@ -319,7 +319,7 @@ for side in f r; do
 done
 damaged data/f.between.gz 'unexpected end of file' -1 data/f.between.gz -2 data/r.between.gz "${rest[@]}"
 
-row='the last bytes of both files are missing, behind all records'
+row='the last bytes of both files are missing, after all records'
 for side in f r; do head -c -4 "$side.gz" > "$side.trailer.gz"; done
 damaged data/f.trailer.gz 'unexpected end of file' -1 data/f.trailer.gz -2 data/r.trailer.gz "${rest[@]}"
 
@@ -351,12 +351,12 @@ for by in "${decompressors[@]}"; do
   done
 done
 
-row='a check sum that is wrong, behind all records'
+row='a check sum that is wrong, after all records'
 cp r.gz r.sum.gz
 printf 'sums' | dd of=r.sum.gz bs=1 seek=$(($(stat -c %s r.gz) - 8)) conv=notrunc 2> /dev/null
 damaged data/r.sum.gz 'invalid compressed data--crc error' -1 data/f.gz -2 data/r.sum.gz "${rest[@]}"
 
-row='members that are no gzip, on both sides alike'
+row='members that are not gzip, on both sides alike'
 for side in f r; do
   {
     head -n 4000 "$side" | gzip
@@ -398,10 +398,10 @@ row='mates that are missing'
 refused 3 'trim_gz: input: reverse record 1501: MateMissing (data/a2.gz)' -1 data/f.gz -2 data/a2.gz "${rest[@]}"
 refused 3 'trim_gz: input: reverse record 1501: MateMissing (data/a2.gz)' -1 data/f.gz -2 data/a2.gz --report out/report "${rest[@]}"
 
-row='files that are no mates'
+row='files that are not mates'
 refused 3 'trim_gz: input: record 1: NamesDiffer (data/f.gz, data/b2.gz)' -1 data/f.gz -2 data/b2.gz "${rest[@]}"
 
-row='the same, where a closed pipe is no signal'
+row='files that are not mates, if a closed pipe gives no signal'
 (
   trap '' PIPE
   refused 3 'trim_gz: input: record 1: NamesDiffer (data/f.gz, data/b2.gz)' -1 data/f.gz -2 data/b2.gz "${rest[@]}"
@@ -442,7 +442,7 @@ refused 1 'trim_gz: --report is given twice' "${both[@]}" "${outputs[@]}" --repo
 gzip -dc f.gz | cmp -s - f || fail 'an input was touched'
 gzip -dc r.gz | cmp -s - r || fail 'an input was touched'
 
-row='an output in a folder that is not there'
+row='an output in a directory that is not there'
 refused 4 'trim_gz: cannot write no/log' "${both[@]}" "${outputs[@]}" --trimlog no/log "${last[@]}"
 refused 4 'trim_gz: cannot write no/report' "${both[@]}" "${outputs[@]}" --report no/report "${last[@]}"
 
@@ -464,7 +464,7 @@ earlier
 [ "$(cat "$work/told")" = 'trim_gz: cannot write log: it is stdout too' ] || fail "it says $(cat "$work/told")"
 untouched
 
-row='a folder as an output'
+row='a directory as an output'
 refused 4 'trim_gz: cannot write data' "${both[@]}" "${outputs[@]}" --trimlog data "${last[@]}"
 
 row='a write-protected output'
@@ -477,13 +477,13 @@ else
 fi
 
 if [ -w /dev/full ]; then
-  row='a full device behind the program'
+  row='a full device after the program'
   refused 4 'trim_gz: write failed: forward paired (/dev/full)' "${both[@]}" --paired1 /dev/full "${outputs[@]:2}" "${last[@]}"
   row='a full device as the log'
   refused 4 'trim_gz: write failed: trim log (/dev/full)' "${both[@]}" "${outputs[@]}" --trimlog /dev/full "${last[@]}"
   row='a full device as the report'
   refused 4 'trim_gz: write failed: report (/dev/full)' "${both[@]}" "${outputs[@]}" --report /dev/full "${last[@]}"
-  row='a full device behind a compressor'
+  row='a full device after a compressor'
   ln -s /dev/full full.gz
   # full LINE WORDS..
   full() {
@@ -747,7 +747,7 @@ END
   row='adapters, and a damaged input'
   damaged data/f.cut.gz 'unexpected end of file' -1 data/f.cut.gz -2 data/r.gz --adapters "$adapters" "${rest[@]}"
   damaged data/i.between.gz 'unexpected end of file' -i data/i.between.gz --adapters "$adapters" "${rest[@]}"
-  row='adapters, and files that are no mates'
+  row='adapters, and files that are not mates'
   refused 3 "trim_gz: cutadapt: Error in sequence file at unknown line: Reads are improperly paired. Read name 'r1/1 lane' in file 1 does not match 'r1501/2 lane' in file 2." \
     -1 data/f.gz -2 data/b2.gz --adapters "$adapters" "${rest[@]}"
   row='a process of cutadapt that is killed'

@@ -116,7 +116,7 @@ def catches(pid, number):
 
 
 class Lab:
-    """The folder of all runs: drawn pairs, tools, and what the program makes of plain files."""
+    """The directory of all runs: simulated pairs, tools, and what the program makes of plain files."""
 
     def __init__(self, seed):
         self.chance = random.Random(seed)
@@ -309,7 +309,7 @@ class Case:
         number, victim = signal.SIGKILL, child.pid
         if self.kind == "signal":
             number = chance.choice([signal.SIGINT, signal.SIGTERM, signal.SIGHUP, signal.SIGQUIT])
-        # Python itself answers a Ctrl-C while it starts, with a traceback of its own library.
+        # A Ctrl-C while Python starts ends it with a traceback of its own library.
         while number == signal.SIGINT and child.poll() is None and not catches(child.pid, signal.SIGTERM) and time.monotonic() < until:
             time.sleep(0.002)
         time.sleep(delay)
@@ -347,7 +347,7 @@ class Case:
     # After the run.
 
     def there(self):
-        """All files in the folders of outputs."""
+        """All files in the directories of outputs."""
         folders = [self.lab.path("out")] + ([self.lab.path("small")] if self.kind == "full" else [])
         return {os.path.join(folder, name): read(os.path.join(folder, name)) for folder in folders for name in os.listdir(folder)}
 
@@ -369,7 +369,7 @@ class Case:
             self.lab.unmount()
 
     def wanted(self):
-        """The outputs that are right, by roles: of the drawn texts, and of the inputs as they are if they can be read."""
+        """The outputs that are right, by roles: of the simulated texts, and of the inputs as they are if they can be read."""
         yield self.lab.plain([b"".join(side) for side in self.texts], self.has_adapters)
         read_back = [[unpack(blob) for blob in side] for side in self.blobs]
         if all(text is not None for side in read_back for text in side):

@@ -223,7 +223,7 @@ a_whole_life() {
   call 1 --profile "profiles/$1"
   ran 1
   page_tells s1 s2 s3
-  row="$1: behind a repair"
+  row="$1: after a repair"
   cp reads/s4_L001_R2.fq.gz.whole reads/s4_L001_R2.fq.gz
   call 0 --profile "profiles/$1"
   ran 1
@@ -343,7 +343,7 @@ refuses() {
 
 bad_files() {
   local log=$work/direct/s2.log summary=$work/direct/s2.summary report=$work/direct/s2.json file
-  row='files that are no summary, log or report'
+  row='files that are not a summary, log or report'
   sed '$d' "$summary" > "$work/short"
   sed 's/^Dropped: /&1/' "$summary" > "$work/sum"
   { cat "$summary" && echo more; } > "$work/long"
@@ -380,7 +380,7 @@ for each in taken:
 print(*(each.getsockname()[1] for each in taken))'
 }
 
-# slurm_settings FOLDER HOST PORT PORT: settings of a cluster of one node, of this user, without
+# slurm_settings DIRECTORY HOST PORT PORT: settings of a cluster of one node, of this user, without
 # accounting
 slurm_settings() {
   cat << END

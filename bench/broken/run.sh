@@ -1,6 +1,6 @@
 #!/usr/bin/env bash
 # What trimmers make of broken inputs. For each trimmer that is installed and each input, prints the exit status, the pairs in the
-# first output, and a line that speaks of the fault, if there is one; then the statuses as a table. No verdict, half a minute.
+# first output, and a line about the fault, if there is one; then the statuses as a table. Prints figures only; takes 30 seconds.
 #
 #     bench/broken/run.sh [PROGRAM]        (crates/fq_prog/out/fq_prog)
 #

@@ -1,4 +1,4 @@
-// The same as the program of lane.rt.txt, over std's bounded channel.
+// The program of lane.rt.txt, but over std's bounded channel.
 //
 //     items COUNT DEPTH, turns COUNT, wait MILLISECONDS
 use std::env;
@@ -21,7 +21,7 @@ unsafe extern "C" {
 // The processor time of all threads, in microseconds (Linux's CLOCK_PROCESS_CPUTIME_ID).
 fn process_cpu_time() -> i64 {
     let mut time = MaybeUninit::<Timespec>::uninit();
-    // SAFETY: the call writes the whole of `time` where it answers 0.
+    // SAFETY: the call writes the whole of `time` if it returns 0.
     let time = unsafe {
         assert_eq!(clock_gettime(2, time.as_mut_ptr()), 0);
         time.assume_init()

@@ -1,7 +1,7 @@
 #!/usr/bin/env bash
-# Times a lane beside the bounded channel of Rust's std. Wants rt and rustc on the path.
+# Times a lane beside the bounded channel of Rust's std. Needs rt and rustc on the path.
 #
-#     bench/lane/run.sh [RUNS]      RUNS, 5 if not given: each figure is the median of so many runs, taken in turn
+#     bench/lane/run.sh [RUNS]      RUNS, 5 if not given: each figure is the median of this many runs, taken in turn
 set -euo pipefail
 
 here=$(cd "$(dirname "$0")" && pwd)

@@ -1,4 +1,4 @@
-/* Copies two files and finds each line end on the way: what every program that reads lines and writes them has to do at least.
+/* Copies two files and finds each line end on the way: what every program that reads lines and writes them must do at least.
  *
  *     copy THREADS FORWARD REVERSE FORWARD_COPY REVERSE_COPY
  *
@@ -72,7 +72,7 @@ static void write_all(struct copy *copy, size_t length) {
     }
 }
 
-/* Copies the next piece, and answers whether there was one. */
+/* Copies the next piece, and returns whether there was one. */
 static int copy_piece(struct copy *copy) {
     ssize_t length = read(copy->input, copy->piece, PIECE);
     if (length < 0) {

@@ -1,16 +1,16 @@
-/* Draws paired-end reads from a fixed seed, the same bytes on each machine, and writes them as two FASTQ files.
+/* Simulates paired-end reads from a fixed seed, the same bytes on each machine, and writes them as two FASTQ files.
  *
  *     pairs [--bases N | --bases LEAST-MOST] [--bins] [--titles] [--crlf] [--adapters] COUNT FORWARD REVERSE
  *
  *     --bases    the bases of each read (150), or the least and the most, between which each read has a length of its own
- *     --bins     scores 2, 12, 23 and 37 alone
- *     --titles   the title once more behind `+`
+ *     --bins     only the scores 2, 12, 23 and 37
+ *     --titles   the title once more after `+`
  *     --crlf     lines that end in CR LF
  *     --adapters in each fourth pair the mates read the same short insert, from both ends, and the adapters after it
  *
  * The scores of a read stay high up to some base and fall from there on, with noise; those of reverse reads fall sooner and
- * faster, and some reads are bad from the first base on. A base in about 500 is an N with score 2. Scores are drawn as for 150
- * bases: in a read of another length the same fall is drawn out or pressed together. */
+ * faster, and some reads are bad from the first base on. A base in about 500 is an N with score 2. Scores are simulated as for
+ * 150 bases: in a read of another length the same fall is stretched or compressed. */
 #include <stdint.h>
 #include <stdio.h>
 #include <stdlib.h>
@@ -51,12 +51,12 @@ static int draw_from(int least, int many) {
     return least + (int)(draw() % (uint64_t)many);
 }
 
-/* The score that stands for all scores of its bin. */
+/* The score that replaces all scores of its bin. */
 static int bin_of(int score) {
     return score < 3 ? 2 : score < 18 ? 12 : score < 30 ? 23 : 37;
 }
 
-/* Draws one read of mate 1 or 2. */
+/* Simulates one read of mate 1 or 2. */
 static void draw_read(struct read *read, const struct form *form, int mate) {
     read->length = form->least < form->most ? draw_from(form->least, form->most - form->least + 1) : form->least;
     int is_bad = draw_from(0, 100) < (mate == 1 ? 3 : 6);
@@ -85,7 +85,7 @@ static char complement_of(char base) {
     return base == 'A' ? 'T' : base == 'C' ? 'G' : base == 'G' ? 'C' : base == 'T' ? 'A' : base;
 }
 
-/* The adapter of a mate after that many bases, as far as the read goes. What was drawn stays behind it. */
+/* The adapter of a mate after that many bases, as far as the read goes. What was simulated remains after it. */
 static void put_adapter(struct read *read, int insert, const char *adapter) {
     for (int i = insert; i < read->length && adapter[i - insert] != '\0'; i++) {
         read->bases[i] = adapter[i - insert];
@@ -158,7 +158,7 @@ static void read_bases(struct form *form, const char *word) {
     form->most = (int)most;
 }
 
-/* Takes the options, and answers the place of the first word behind them. */
+/* Takes the options, and returns the place of the first argument after them. */
 static int read_options(struct form *form, int argc, char **argv) {
     int i = 1;
     for (; i < argc && argv[i][0] == '-'; i++) {

@@ -1,13 +1,13 @@
-/* Passes pairs on as the trimmer's threads do, and decides nothing: what any program has to do at least that hands blocks of pairs
- * from a thread that reads, through threads that trim, to one that writes.
+/* Passes pairs on as the trimmer's threads do, and decides nothing: what any program must do at least that passes blocks of
+ * pairs from a thread that reads, through threads that trim, to one that writes.
  *
  *     passing THREADS FORWARD REVERSE FORWARD_COPY REVERSE_COPY
  *
- * One thread reads both files by 64 KiB, finds each line end, and copies title, sequence and quality of 1,024 pairs one behind the
+ * One thread reads both files by 64 KiB, finds each line end, and copies title, sequence and quality of 1,024 pairs one after the
  * other into a block. Block n goes to thread n modulo THREADS, which copies each record into the text of its side. The calling
  * thread writes the texts, block for block. Four blocks and four texts wait for each thread, and used ones go back to be used again.
- * No byte is checked, no name compared, no score looked at, no line logged: a record of other than four lines isn't told apart. It
- * prints how many pairs there were. */
+ * No byte is checked, no name compared, no score read, no line logged, and every record is taken to have four lines. It prints how
+ * many pairs there were. */
 #define _POSIX_C_SOURCE 200809L
 #include <fcntl.h>
 #include <pthread.h>
@@ -118,7 +118,7 @@ static void *take_used(struct lane *lane, size_t size) {
     return item;
 }
 
-/* A thread that trims, with its four lanes. The return lanes have room for two more, so that nothing is let go. */
+/* A thread that trims, with its four lanes. The return lanes have room for two more, so that nothing is dropped. */
 struct worker {
     struct lane blocks;
     struct lane texts;
@@ -152,7 +152,7 @@ static void open_input(struct input *input, const char *name) {
     }
 }
 
-/* Reads a chunk more, and answers whether there was any. */
+/* Reads another chunk, and returns whether there was any. */
 static int read_more(struct input *input) {
     if (input->start > 0) {
         memmove(input->bytes, input->bytes + input->start, input->end - input->start);
@@ -239,7 +239,7 @@ static void *deal(void *none) {
     return none;
 }
 
-/* Writes the record at this place into a text, and answers where the next one begins. */
+/* Writes the record at this place into a text, and returns where the next one begins. */
 static const char *unpack(struct bytes *text, const char *at) {
     unsigned lengths[2];
     memcpy(lengths, at, sizeof lengths);

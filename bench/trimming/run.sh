@@ -1,5 +1,5 @@
 #!/usr/bin/env bash
-# Times the built program on drawn pairs, beside the trimmers that are installed: trim_gz over compressed files, and the program over
+# Times the built program on simulated pairs, beside the trimmers that are installed: trim_gz over compressed files, and the program over
 # plain ones, also beside a loop that only copies lines, threads that only pass pairs on, and cat.
 # bench/README.md says what is measured.
 #
@@ -17,16 +17,16 @@
 # Options:
 #     --pairs N        pairs of reads (1000000; with --gz 400000)
 #     --rounds N       runs of each row, taken in turn, of which the median is printed (3)
-#     --in PLACE       where inputs and outputs lie: disk (TMPDIR, or /tmp) or memory (/dev/shm). Without it: with --sets both, with --gz
+#     --in PLACE       where inputs and outputs are: disk (TMPDIR, or /tmp) or memory (/dev/shm). Without it: with --sets both, with --gz
 #                      memory, else the disk
 #     --program PATH   the program that is measured (crates/fq_prog/out/fq_prog)
 #     --serial PATH    the run on one thread, as bench/trimming/serial.sh builds it (no row without it)
 #     --ours           no other trimmer
 #     --bases N, --bases LEAST-MOST, --bins, --titles, --crlf
-#                      how the reads are drawn, as bench/trimming/pairs.c says (with --sets not looked at)
+#                      how the reads are simulated, as bench/trimming/pairs.c says (ignored with --sets)
 #     --help
 #
-# Wants cc, GNU time, taskset and findmnt; with --gz also gzip, bgzip and Python 3. Files lie in folders of their own in that place and below TMPDIR, which are removed.
+# Needs cc, GNU time, taskset and findmnt; with --gz also gzip, bgzip and Python 3. Files are in directories of their own in that place and below TMPDIR, which are removed.
 set -euo pipefail
 export LC_ALL=C
 
@@ -118,7 +118,7 @@ folder_of() {
   esac
 }
 
-# enter PLACE: takes a folder there for inputs and outputs.
+# enter PLACE: makes a directory there for inputs and outputs.
 enter() {
   local folder
   folder=$(folder_of "$1")
@@ -130,7 +130,7 @@ enter() {
   kind="$1, $(findmnt -no FSTYPE,SOURCE -T "$room" | awk '{ kind = $1 == $2 ? $1 : $1 " on " $2 } END { print kind }')"
 }
 
-# free_bytes FOLDER: what may still be written there.
+# free_bytes DIRECTORY: what may still be written there.
 free_bytes() {
   df -B1 --output=avail "$1" | tail -n 1
 }
@@ -197,7 +197,7 @@ list_rows() {
   peer AdapterRemoval 'AdapterRemoval' run_adapterremoval 1 4
 }
 
-# call_row NUMBER: one run. The row's last field is a function and its words behind the threads.
+# call_row NUMBER: one run. The row's last field is a function and its arguments after the threads.
 call_row() {
   local label threads words
   IFS='|' read -r label threads words <<< "${rows[$1]}"
@@ -222,7 +222,7 @@ run_row() {
   echo "$spent $(pairs_kept) $(cat "$out"/*.gz 2> /dev/null | wc -c)" >> "$room/row.$1"
 }
 
-# Runs all rows one after the other, and that so many times over.
+# Runs all rows one after the other, $rounds times over.
 run_rows() {
   local number round
   rm -f "$room"/row.*
@@ -251,7 +251,7 @@ print_machine() {
   echo "$(nproc) processors ($(sed -n 's/^model name[^:]*: //p' /proc/cpuinfo | head -n 1)), load $(cut -d ' ' -f 1 /proc/loadavg) before"
 }
 
-# print_row NUMBER: its medians, beside those of the loop (on one processor where the row is), of cat, and of ours at 4 threads.
+# print_row NUMBER: its medians, beside those of the loop (on one processor if the row is), of cat, and of ours at 4 threads.
 print_row() {
   local label threads function loop=$at_loop
   IFS='|' read -r label threads function <<< "${rows[$1]}"
@@ -323,7 +323,7 @@ print_gz_rows() {
   done
 }
 
-# measure_gz_data TITLE WORDS: both tables over reads that are drawn with these words: each tool's own level, and its fastest
+# measure_gz_data TITLE WORDS: both tables over reads that are simulated with these options: each tool's own level, and its fastest
 measure_gz_data() {
   local slow word=$2
   rows=()
@@ -385,7 +385,7 @@ measure_sets() {
   done
 }
 
-# Where only one of the places has room for the longest reads, the other is left out, and said to be.
+# If only one of the places has room for the longest reads, the other is left out, and the output says so.
 measure_all_sets() {
   local at
   list_own_rows

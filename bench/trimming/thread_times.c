@@ -3,8 +3,9 @@
  *     thread_times FILE COMMAND [WORD]..
  *
  * FILE has a line for each thread, in the order in which they were made, the first one first: its processor seconds, and how many
- * of them were the system's. The command is traced, but stops only where it makes a thread and where a thread ends, and there the
- * times of that thread are read. The system's share is told in ticks of the clock, mostly of 10 milliseconds. Linux alone. */
+ * of them were the system's. The command is traced, but stops only when it makes a thread and when a thread ends, and the
+ * times of that thread are read then. The system's share is counted in ticks of the clock, mostly of 10 milliseconds. Linux
+ * only. */
 #define _GNU_SOURCE
 #include <errno.h>
 #include <stdio.h>
@@ -31,7 +32,7 @@ static void stop(const char *what) {
     exit(1);
 }
 
-/* The thread of this number, which is added where it isn't there. */
+/* The thread of this number, which is added if it isn't there. */
 static struct thread *thread_of(pid_t id) {
     for (int i = 0; i < thread_count; i++) {
         if (threads[i].id == id) {
@@ -109,7 +110,7 @@ static pid_t start(char **words) {
     return child;
 }
 
-/* Sees to a thread that has stopped, and lets it go on. */
+/* Handles a thread that has stopped, and continues it. */
 static void go_on(pid_t id, int status) {
     struct thread *thread = thread_of(id);
     int event = status >> 16;
@@ -125,7 +126,7 @@ static void go_on(pid_t id, int status) {
     }
 }
 
-/* Waits until all threads have ended, and answers the status of the command. */
+/* Waits until all threads have ended, and returns the status of the command. */
 static int attend(pid_t child) {
     int ended = 1;
     int status = 0;

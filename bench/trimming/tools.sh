@@ -3,7 +3,7 @@
 #
 # `timed` and each run_* function leave the seconds, processor seconds and kilobytes of a run in `spent`. Each run_* function takes a
 # number of threads, leaves in `pairs_read` how many pairs the tool says that it read, and has the pairs of which both mates survive
-# written to fp and rp in the folder of outputs.
+# written to fp and rp in the directory of outputs.
 #
 # shellcheck disable=SC2154,SC2034
 
@@ -13,7 +13,7 @@ clock=$(type -P time) || stop "no GNU time (Debian package time)"
 steps=(LEADING:3 TRAILING:3 SLIDINGWINDOW:4:15 MINLEN:36)
 alone=(taskset -c 0)
 
-# timed COMMAND..: runs it in the folder of outputs. What runs before have written is on the disk first, and their outputs are gone.
+# timed COMMAND..: runs it in the directory of outputs. What runs before have written is on the disk first, and their outputs are gone.
 timed() {
   local TIMEFORMAT='%3R %3U %3S'
   rm -rf "$out" "$room/said" "$room/told"
@@ -26,14 +26,14 @@ timed() {
   spent=$(awk 'NR == FNR { kilobytes = $1; next } { print $1, $2 + $3, kilobytes }' "$room/clock" "$room/took")
 }
 
-# with_memory COMMAND..: a run during which the memory of all its processes is looked at; the most kilobytes come into the file `peak`
+# with_memory COMMAND..: a run during which the memory of all its processes is sampled; the most kilobytes go into the file `peak`
 with_memory() {
   under=(python3 "$here/tree_memory.py" "$room/peak")
   "$@"
   under=()
 }
 
-# number_in FILE TEXT: the number behind TEXT.
+# number_in FILE TEXT: the number after TEXT.
 number_in() {
   sed -n "s/.*$2[ \t:]*\([0-9][0-9,]*\).*/\1/p" "$1" | head -n 1 | tr -d ,
 }
@@ -136,7 +136,7 @@ run_adapterremoval() {
 # From .gz to .gz. Each gz_* function takes the threads and then words: `fast`, the fastest level of compression; `adapters`, which are given
 # to it and removed. All reads that are kept are written into files that end in .gz.
 
-# pack_inputs: the drawn files as gzip files of one member, and the adapters in a file
+# pack_inputs: the simulated files as gzip files of one member, and the adapters in a file
 pack_inputs() {
   gzip -n < "$forward" > "$forward.gz" &
   gzip -n < "$reverse" > "$reverse.gz"
@@ -178,7 +178,7 @@ gz_cutadapt() {
   pairs_read=$(number_in "$room/said" 'Total read pairs processed')
 }
 
-# gz_two_passes THREADS [fast] adapters: what a lab does that stores the reads in between, outside the folder of outputs
+# gz_two_passes THREADS [fast] adapters: what a lab does that stores the reads in between, outside the directory of outputs
 gz_two_passes() {
   local level=4
   ! given fast "$@" || level=1

@@ -1,6 +1,6 @@
 #!/usr/bin/env bash
-# Tells what the built program's threads use of the processor while it waits, and how often they wake: for its input, for the
-# reader of an output, and for the rest of an input behind a failed write. Each waits as long as asked for. No time is a verdict.
+# Prints what the built program's threads use of the processor while it waits, and how often they wake: for its input, for the
+# reader of an output, and for the rest of an input after a failed write. Each wait is as long as asked for. No time fails.
 #
 #     bench/waiting/run.sh [--seconds N] [--program PATH]
 #
@@ -8,7 +8,7 @@
 #     --program PATH   the program that is measured (crates/fq_prog/out/fq_prog)
 #     --help
 #
-# Wants /dev/full and the scheduler's statistics in /proc. Files lie in a folder of their own below TMPDIR, which is removed.
+# Needs /dev/full and the scheduler's statistics in /proc. Files are in a directory of their own below TMPDIR, which is removed.
 set -euo pipefail
 export LC_ALL=C
 
@@ -88,7 +88,7 @@ watch the_input "$process"
 exec 7>&- 8>&-
 wait "$process" || true
 
-# Nobody reads the paired forward output.
+# Nothing reads the paired forward output.
 cat reads.fq > forward &
 cat reads.fq > reverse &
 trim output &

@@ -24,7 +24,7 @@ def is_same(name, other):
 
 
 def readable(name):
-    """A name of a file as text. Bytes that are no text are shown as a mark."""
+    """A name of a file as text. Bytes that aren't text are shown as a mark."""
     return name.encode("utf-8", "surrogateescape").decode("utf-8", "replace")
 
 
@@ -118,7 +118,7 @@ class Output:
         return Fault(4, f"cannot write {self.name}" + (f": {why}" if why else ""))
 
     def check(self, inputs, others):
-        """It can be written, and is no other file of this call."""
+        """It can be written, and isn't another file of this call."""
         if self.is_device:
             return
         if os.path.isdir(self.name) or os.path.exists(self.name) and not os.access(self.name, os.W_OK):
@@ -144,7 +144,7 @@ class Output:
         self.written = self.hidden
 
     def why_refused(self):
-        """What the system answers to one more write of the hidden file, after a compressor failed."""
+        """The system's error for one more write of the hidden file, after a compressor failed."""
         try:
             for _ in range(16 if self.fd is not None else 0):
                 os.write(self.fd, bytes(65536))

@@ -126,7 +126,7 @@ class Run:
     # The end of each child.
 
     def follow(self):
-        """Until the program has ended. After a compressor failed there is no use in going on."""
+        """Until the program has ended. After a compressor has failed, going on is useless."""
         while "program" not in self.ends:
             child = self.family.next_end()
             side = self.side_of(child)

@@ -1,4 +1,4 @@
-"""A slow count of a simulated run: pairs are drawn, trimmed and counted without the program.
+"""A slow count of a simulated run: pairs are simulated, trimmed and counted without the program.
 
     count.py KIND FILE
 

@@ -81,6 +81,6 @@ outputs:
   report: {type: File, outputBinding: {glob: $(inputs.sample).json}}
   summary: stdout
 
-# What a second try can't mend: arguments, settings, and the inputs themselves. A full disk or a want of memory may pass.
+# What a second try can't mend: arguments, settings, and the inputs themselves. A full disk or a lack of memory may pass.
 permanentFailCodes: [1, 2, 3]
 temporaryFailCodes: [4, 5, 6]

@@ -12,7 +12,7 @@ from tables import Refused, check_adapters, check_settings, read_samples
 # `adapters:` with nothing after it, or no such line, is the same as "".
 config["adapters"] = config.get("adapters") or ""
 
-# Settings of 1.0.0 still work. `line_graphs: true` kept the trim logs. `graphs` was for jobs that are gone, and isn't looked at.
+# Settings of 1.0.0 still work. `line_graphs: true` kept the trim logs. `graphs` was for jobs that no longer exist, and is ignored.
 config.setdefault("trim_logs", config.get("line_graphs", False))
 
 try:
@@ -50,7 +50,7 @@ def quoted(words):
 
 
 def lanes(column):
-    """A function that gives the files of one side of a sample, lane by lane."""
+    """A function that returns the files of one side of a sample, lane by lane."""
     return lambda wildcards: [lane[column] for lane in SAMPLES[wildcards.sample]]
 
 

@@ -1,5 +1,5 @@
-# The page of all samples. It is no rule: a rule that wants every sample isn't run where one sample fails. So each call
-# ends with it, whether all went well or not, and it tells of the samples that are there and of those that aren't.
+# The page of all samples. No rule makes it: a rule that needs every sample isn't run if one sample fails. So each run ends
+# by making it, whether all went well or not, and the page names the samples that are there and those that aren't.
 import subprocess
 
 

@@ -1,4 +1,4 @@
-# Makes the page of one sample from its report. This takes less than a second, so it runs where Snakemake is called.
+# Makes the page of one sample from its report. This takes less than a second, so it runs on the host that runs Snakemake.
 
 
 localrules:

@@ -18,7 +18,7 @@ rule trim:
         **({"trimlog": TRIM_LOG} if config["trim_logs"] else {}),
     log:
         "logs/trim/{sample}.log",
-    # Only what changes the trimmed reads is a parameter: Snakemake trims again where one of these changes.
+    # Only what changes the trimmed reads is a parameter: Snakemake trims again if one of these changes.
     params:
         inputs=inputs_as_options,
         adapters=quoted(["--adapters", ADAPTERS]) if ADAPTERS else "",

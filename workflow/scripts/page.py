@@ -1,8 +1,8 @@
 #!/usr/bin/env python3
 """Makes the page of all samples with MultiQC, of those that are trimmed, and names the others.
 
-The names of all samples come on standard input, one a line. RESULTS/report.html and the folder RESULTS/report_data
-are written anew; while that is done the old ones stay.
+The names of all samples come on standard input, one a line. RESULTS/report.html and the directory RESULTS/report_data
+are written again; until that is done the old ones stay.
 """
 
 import argparse
@@ -33,9 +33,9 @@ class Refused(Exception):
 
 
 def telling_line(path):
-    """The last line of a log that says something, or an empty one; None where there is no log.
+    """The last line of a log that isn't empty, or an empty one; None if there is no log.
 
-    Of words that the program doesn't know it says more than one line, of which the first, `error: ..`, tells which.
+    If the program doesn't know an argument, it prints several lines. The first, `error: ..`, says which.
     """
     telling = ""
     try:
@@ -50,7 +50,7 @@ def telling_line(path):
 
 
 def why_failed(logs, sample):
-    """Why a sample failed, as far as its log tells; nothing where it has no log, so was not begun."""
+    """Why a sample failed, as far as its log says; None if it has no log, so was not started."""
     said = telling_line(logs / "trim" / f"{sample}.log")
     return "stopped without a word; see the messages of the cluster" if said == "" else said
 
@@ -112,7 +112,7 @@ def sample_pages(results, trimmed):
 
 
 def how_trimmed(results, trimmed):
-    """Version, steps, options and adapters; each sample is named where they are not the same for all."""
+    """Version, steps, options and adapters; each sample is named if they are not the same for all."""
     parts = []
     groups = settings_of(results, trimmed)
     for (version, steps, options, adapters), samples in groups.items():
@@ -129,7 +129,7 @@ def how_trimmed(results, trimmed):
 
 
 def call(command):
-    """Runs a command, and refuses with what it said where it fails."""
+    """Runs a command. If it fails, prints what it said and refuses."""
     try:
         done = subprocess.run(command, stdout=subprocess.PIPE, stderr=subprocess.STDOUT, text=True, errors="replace")
     except OSError as error:
@@ -151,7 +151,7 @@ def put_cutadapt(results, trimmed, folder):
 
 
 def gather(results, trimmed, folder):
-    """Puts what MultiQC reads into a folder."""
+    """Puts what MultiQC reads into a directory."""
     reports = [str(results / "reports" / f"{sample}.json") for sample in trimmed]
     for first in range(0, len(reports), 500):
         call([str(REPORT_TO_MQC), "--out", str(folder), *reports[first : first + 500]])
@@ -159,7 +159,7 @@ def gather(results, trimmed, folder):
 
 
 def make_page(results, trimmed, failed, not_begun):
-    """Makes the page in a folder of its own, and puts it into its place at the end."""
+    """Makes the page in a directory of its own, and puts it into its place at the end."""
     samples = len(trimmed) + len(failed) + len(not_begun)
     parts = [SECTION, f"<p><strong>{len(trimmed)} of {samples} samples</strong> are on this page.</p>"]
     results.mkdir(parents=True, exist_ok=True)
@@ -182,8 +182,8 @@ def make_page(results, trimmed, failed, not_begun):
 
 def main():
     parser = argparse.ArgumentParser(description=__doc__, formatter_class=argparse.RawDescriptionHelpFormatter)
-    parser.add_argument("--results", type=Path, required=True, help="the folder of the workflow's results")
-    parser.add_argument("--logs", type=Path, required=True, help="the folder of the workflow's logs")
+    parser.add_argument("--results", type=Path, required=True, help="the directory of the workflow's results")
+    parser.add_argument("--logs", type=Path, required=True, help="the directory of the workflow's logs")
     words = parser.parse_args()
     samples = sys.stdin.read().split("\n")[:-1]
     parts = ("summaries/{}.summary", "summaries/{}.settings", "reports/{}.json")

@@ -36,7 +36,7 @@ def check_settings(settings, schema_path):
 
 
 def check_adapters(adapters):
-    """Refuses adapters that are no file and no sequence. Returns the file, or None."""
+    """Refuses adapters that are neither a file nor a sequence. Returns the file, or None."""
     if os.path.isfile(adapters):
         return adapters
     if adapters and not re.fullmatch("[ACGTUNRYSWKMBDHVI]+(,[ACGTUNRYSWKMBDHVI]+)?", adapters, re.IGNORECASE):
@@ -59,7 +59,7 @@ def rows_of(path):
 
 
 def check_row(where, row, lanes, files, schema_path):
-    """Refuses a row that breaks the schema, or has what an earlier row has, or names no file."""
+    """Refuses a row that breaks the schema, repeats an earlier row, or names a file that isn't there."""
     found = fault(row, schema_path)
     if found:
         place, message = found
