@@ -1,4 +1,4 @@
-"""The parts of trim_gz, which is beside this folder.
+"""The parts of trim_gz, which is beside this directory.
 
     arguments   what the caller asks for
     tools       compressors and decompressors: which are safe, their arguments and messages
