@@ -205,6 +205,11 @@ made() {
   find results/trimmed results/trim_logs results/summaries results/reports -type f -printf '%p %T@\n' | sort
 }
 
+# shown_failure: the line that workflow/README.md shows of a truncated input, with the names of s4
+shown_failure() {
+  sed -n 's/^ *\(failed: \)blood1\(: .*\)blood1_L001_R2\.fastq\.gz/\1s4\2s4_L001_R2.fq.gz/p' "$tree/workflow/README.md"
+}
+
 # a_whole_life PROFILE: a call with a damaged sample, a second one, and one after the repair
 a_whole_life() {
   row="$1: a damaged sample"
@@ -215,7 +220,7 @@ a_whole_life() {
   page_tells s1 s2 s3
   sample_pages s1 s2 s3
   removed_bases s1 s2 s3
-  grep -q '^failed: s4: .*reads/s4_L001_R2.fq.gz' said || fail 's4 and its file are not named at the end'
+  [ "$(grep '^failed:' said)" = "$(shown_failure)" ] || fail "workflow/README.md shows '$(shown_failure)', but '$(grep '^failed:' said)' was said"
   grep -q '<strong>s4</strong>: <samp>[^<]*reads/s4_L001_R2.fq.gz' results/report.html || fail 'the page does not name s4 and its file'
   [ -z "$(find results -name 's4*')" ] || fail "of s4 there is $(find results -name 's4*' | paste -sd' ')"
   made > before
