@@ -22,7 +22,7 @@ IsOf encoding m = (m.forward.encoding ≡ encoding) × (m.reverse.encoding ≡ e
 abbrev pub pairs_at : Encoding → List ℕ → List ℕ → List Mates
 pairs_at encoding bytes starts = map (λ start. pair_in encoding (drop start bytes)) starts
 
--- where pairs begin if the first begins at n
+-- the places at which pairs begin if the first begins at n
 abbrev pub starts_from : ℕ → List Mates → List ℕ
 starts_from n [] = []
 starts_from n (m ∷ ms) = n ∷ starts_from (n + length (packed_pair m)) ms

@@ -79,10 +79,9 @@ fn input<T: Files>(request: &Request<'_>, files: &mut T, side: Side) -> Result<T
     ensures early { IfErr result (λ why. IsTrue (is_early why)) }
     ensures late { IfErr result (λ why. status_of why ≢ 2) }
 {
-    match files.source(request.input_name(side)) {
-        Ok(feed) => Ok(feed),
-        Err(fault) => Err(file_refused(fault, Refusal::Source(side))),
-    }
+    files
+        .source(request.input_name(side))
+        .map_err(|fault| file_refused(fault, Refusal::Source(side)))
 }
 
 /// Hands the feeds back to their files, which count the failed ones. A feed that was lost with its

@@ -32,15 +32,9 @@ pub(crate) fn judge(request: &Request<'_>) -> Result<Settings, Refusal>
 fn settings_of(request: &Request<'_>) -> Result<Settings, Refusal>
     ensures { result ≡ settings_of (asking_of request.now) }
 {
-    let encoding = match encoding_of(request.encoding) {
-        Some(encoding) => encoding,
-        None => return Err(Refusal::Encoding),
-    };
-    let steps = match Steps::parse(&request.steps) {
-        Ok(steps) => steps,
-        Err(fault) => return Err(Refusal::Step(fault)),
-    };
-    let settings = match Settings::new(
+    let encoding = encoding_of(request.encoding).ok_or(Refusal::Encoding)?;
+    let steps = Steps::parse(&request.steps).map_err(|fault| Refusal::Step(fault))?;
+    let settings = Settings::new(
         encoding,
         steps,
         request.check_names,
@@ -50,10 +44,8 @@ fn settings_of(request: &Request<'_>) -> Result<Settings, Refusal>
         request.chunk,
         CALL_LIMIT,
         CALL_LIMIT,
-    ) {
-        Ok(settings) => settings,
-        Err(bad) => return Err(Refusal::Setting(bad)),
-    };
+    )
+    .map_err(|bad| Refusal::Setting(bad))?;
     match request.report {
         Some(_) => Ok(settings.with_tally()),
         None => Ok(settings),

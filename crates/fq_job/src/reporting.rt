@@ -72,10 +72,10 @@ pub(crate) fn report_target<T: Files>(
     let Some(name) = request.report else {
         return Ok(None);
     };
-    match files.target(name) {
-        Ok(target) => Ok(Some(target)),
-        Err(fault) => Err(file_refused(fault, Refusal::Report)),
-    }
+    let target = files
+        .target(name)
+        .map_err(|fault| file_refused(fault, Refusal::Report))?;
+    Ok(Some(target))
 }
 
 /// Writes the report if one was asked for and the run ended whole, and hands its outlet back.

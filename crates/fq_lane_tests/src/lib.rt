@@ -1,6 +1,6 @@
 //! Tests of the public calls of `fq_lane`: lanes on one thread and between two, and ends that
-//! sleep. They are a crate of their own, like the `tests/` folder of a Rust crate, so that they are
-//! proved without proving `fq_lane` again.
+//! sleep. They are a crate of their own, like the `tests/` directory of a Rust crate, so that they
+//! are proved without proving `fq_lane` again.
 #![tactic(auto)]
 
 #[cfg(test)]

@@ -12,10 +12,10 @@ use Rattle.fq_text.specs.Sources.{rest_in}
 use Rattle.fq_pair.specs.declared.fault.InputFault.{InputFault}
 use Rattle.fq_pair.specs.declared.fault.InputFault.TheVariants.{NamesDiffer}
 use Rattle.fq_pair.specs.Mates.{Mates, mates_in}
-use Rattle.fq_pair.specs.Pairing.{Pairs, belong, behind, PairFront, Ended, Stopped, Met, met, records_of, with_pair, from_pair_front}
+use Rattle.fq_pair.specs.Pairing.{Pairs, belong, behind, PairFront, Ended, Stopped, Met, met, with_pair}
 use Rattle.fq_pair.specs.Interleaved.{interleaved_mates, interleaved_fault_at, interleaved_pairs_of, meeting_behind, interleaved_meeting, interleaved_front}
 use Rattle.fq_pair.specs.MixedSources.{MixedSourced, front_of, pairs_left}
-use Rattle.fq_pair.proofs.PairLaws.{records_of-front}
+use Rattle.fq_pair.proofs.PairLaws.{records_of, from_pair_front, records_of-front}
 
 -- the pairs of a text, if these mates belong together
 abbrev up_to : List Mates → ℕ → Records → Pairs

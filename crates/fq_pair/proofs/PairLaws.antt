@@ -9,7 +9,17 @@ use Rattle.fq_text.proofs.RecordsLemmas.{fewer_lines, room_enough}
 use Rattle.fq_pair.specs.declared.fault.InputFault.{InputFault}
 use Rattle.fq_pair.specs.declared.fault.InputFault.TheVariants.{NamesDiffer}
 use Rattle.fq_pair.specs.Mates.{Mates, mates_in}
-use Rattle.fq_pair.specs.Pairing.{Pairs, mates_of, belong, fault_at, behind, pairs_of, PairFront, Ended, Stopped, Met, met, meeting, pair_front, records_of, with_pair, from_pair_front}
+use Rattle.fq_pair.specs.Pairing.{Pairs, mates_of, belong, fault_at, behind, pairs_of, PairFront, Ended, Stopped, Met, met, meeting, pair_front, with_pair}
+
+-- the records of a list of lines
+abbrev pub records_of : Encoding → List (List ℕ) → Records
+records_of encoding ls = records_within (suc (length ls)) encoding ls
+
+-- the pairs if this comes first, and others after it
+abbrev pub from_pair_front : (List (List ℕ) → List (List ℕ) → Pairs) → PairFront → Pairs
+from_pair_front others Ended = record { mates = []; fault = None }
+from_pair_front others (Stopped fault) = record { mates = []; fault = Some fault }
+from_pair_front others (Met m forward reverse) = with_pair m (others forward reverse)
 
 module _ (e : Encoding) (ls : List (List ℕ)) where
   room_behind : (f : Front) → front e ls ≡ f → from_front (records_within (length ls) e) f ≡ from_front (records_of e) f

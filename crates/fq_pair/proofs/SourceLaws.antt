@@ -9,9 +9,9 @@ use Rattle.fq_text.specs.Grammar.{Read, Front, Found, front}
 use Rattle.fq_text.specs.Sources.{Sourced, rest_in, GivesRecord}
 use Rattle.fq_pair.specs.declared.fault.InputFault.TheVariants.{NamesDiffer}
 use Rattle.fq_pair.specs.Mates.{Mates, mates_in, names_match}
-use Rattle.fq_pair.specs.Pairing.{Pairs, Stopped, Met, belong, meeting, pairs_of, records_of, with_pair}
+use Rattle.fq_pair.specs.Pairing.{Pairs, Stopped, Met, belong, meeting, pairs_of, with_pair}
 use Rattle.fq_pair.specs.PairSources.{PairSourced, front_of, pairs_left, GivesPair, pair_of, asked}
-use Rattle.fq_pair.proofs.PairLaws.{pairs_of-met}
+use Rattle.fq_pair.proofs.PairLaws.{records_of, pairs_of-met}
 
 module _ {F G : Type 0} (state : F → FeedState) (state' : G → FeedState) (old : PairSourced F G) where
   abbrev forward : List (List ℕ)

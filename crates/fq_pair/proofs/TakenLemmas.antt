@@ -7,9 +7,8 @@ use Rattle.fq_text.specs.declared.encoding.Encoding.{Encoding}
 use Rattle.fq_text.specs.Grammar.{Read, Front, End, Faulty, Found, front, begins_with, before_plus, from_plus, quality_lines, behind_quality, title_fault, plus_fault, quality_faults, sequence_faults, unless_faulty, completed, from_quality_lines, from_plus_line}
 use Rattle.fq_text.specs.Records.{Records, from_front}
 use Rattle.fq_text.proofs.LawfulLemmas.{passed, complete}
-use Rattle.fq_pair.specs.Pairing.{records_of}
 use Rattle.fq_pair.proofs.FrontLemmas.{no_quality}
-use Rattle.fq_pair.proofs.PairLaws.{records_of-front}
+use Rattle.fq_pair.proofs.PairLaws.{records_of, records_of-front}
 
 quality_taken : (n : ℕ) (ls rest : List (List ℕ)) → behind_quality n ls ≡ Some rest →
     (ls ≡ quality_lines n ls ++ rest)

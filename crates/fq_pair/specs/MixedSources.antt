@@ -88,7 +88,7 @@ abbrev pub IsNext : {F : Type 0} → (F → FeedState) → Sourced F → Sourced
 IsNext state old new side = IsTrue (state old.feed).tells →
     side_behind (length (records old.encoding (whole_part (held state old new))).reads) ≡ side
 
--- A fault of the text, of whatever kind, is the last answer of its source, and its side is that of
+-- A fault of the text, of whatever kind, is the last result of its source, and its side is that of
 -- the record that was being read: if it is reverse, the forward record had been given.
 abbrev pub WasReading : {F : Type 0} → Sourced F → Sourced F → InputFault → Type 0
 WasReading old new (Text Forward fault) =
@@ -120,7 +120,7 @@ pub record StopsPairs {F : Type 0} (state : F → FeedState) (old new : MixedSou
 abbrev pub failed_in : {T : Type 0} → Result T InputFault → ℕ
 failed_in r = failed_on Forward r + failed_on Reverse r
 
--- a source that has given the records of this many pairs and has no last answer
+-- a source that has given the records of this many pairs and has no last result
 pub record IsReady {F : Type 0} (source : Sourced F) (given : ℕ) : Type 0 where
   pub last : source.last ≡ None
   pub records : source.given ≡ 2 * given

@@ -160,10 +160,6 @@ text_of ReversePaired texts = texts.reverse_paired
 text_of ReverseUnpaired texts = texts.reverse_unpaired
 text_of Log texts = texts.log
 
--- the new text is the old one, or begins with it
-abbrev pub Begins : List ℕ → List ℕ → Type 0
-Begins new old = take (length old) new ≡ old
-
 -- What is left of a read.
 
 -- the places of a read that are kept

@@ -32,7 +32,7 @@ pub record IsUnasked {F : Type 0} (s : Sourced F) : Type 0 where
   pub given : s.given ≡ 0
   pub last : s.last ≡ None
 
--- what a source returns after its last answer
+-- what a source returns after its last result
 abbrev pub answer_of : Result (Unit {0}) InputFault → Result (Option Mates) InputFault
 answer_of (res.Ok x) = res.Ok None
 answer_of (res.Err fault) = res.Err fault
@@ -132,7 +132,7 @@ if_endless P Q (Text Forward text.Endless) = P
 if_endless P Q (Text Reverse text.Endless) = Q
 if_endless P Q _ = Unit {0}
 
--- A fault of a side's text, of whatever kind, is the last answer of the source that was being read.
+-- A fault of a side's text, of whatever kind, is the last result of the source that was being read.
 -- The forward record is read first: if the fault is in its text, the reverse source is unchanged,
 -- and if it is in the reverse text, the forward source has given a record or has ended.
 abbrev pub WasReading : {F G : Type 0} → PairSourced F G → PairSourced F G → InputFault → Type 0
@@ -165,7 +165,7 @@ failed_on Forward (res.Err (Text Forward text.Read)) = 1
 failed_on Reverse (res.Err (Text Reverse text.Read)) = 1
 failed_on _ _ = 0
 
--- two sources that have given this many records each and have no last answer
+-- two sources that have given this many records each and have no last result
 pub record IsReady {F G : Type 0} (forward : Sourced F) (reverse : Sourced G)
     (given : ℕ) : Type 0 where
   pub forward_last : forward.last ≡ None

@@ -104,16 +104,6 @@ abbrev pub pair_front : Bool → Encoding → ℕ → List (List ℕ) → List (
 pair_front check encoding given forward reverse =
     meeting check (suc given) (front encoding forward) (front encoding reverse)
 
--- the records of a list of lines
-abbrev pub records_of : Encoding → List (List ℕ) → Records
-records_of encoding ls = records_within (suc (length ls)) encoding ls
-
 -- one more pair at the front
 abbrev pub with_pair : Mates → Pairs → Pairs
 with_pair m others = record { mates = m ∷ others.mates; fault = others.fault }
-
--- the pairs if this comes first, and others after it
-abbrev pub from_pair_front : (List (List ℕ) → List (List ℕ) → Pairs) → PairFront → Pairs
-from_pair_front others Ended = record { mates = []; fault = None }
-from_pair_front others (Stopped fault) = record { mates = []; fault = Some fault }
-from_pair_front others (Met m forward reverse) = with_pair m (others forward reverse)

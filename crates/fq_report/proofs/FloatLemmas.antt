@@ -1,4 +1,4 @@
--- A report has no float, so its text is told by its value.
+-- A report has no float, so its value determines its text.
 use Rattle.std.proofs.Common.{◌≡◌, ℕ, suc, Bool, true, false, ◌==◌, if◌then◌else◌, Option, Some, None, List, [], ◌∷◌, map, refl}
 use Rattle.fq_pair.specs.declared.counts.Counts.{Counts}
 use Rattle.fq_tally.specs.declared.columns.Columns.{Columns}

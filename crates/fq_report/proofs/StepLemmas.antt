@@ -12,7 +12,7 @@ pub next_step : (steps : List Value) (step : Value) (number : ℕ) (words : List
     → map view (steps ++ step ∷ []) ++ steps_from (number + 1) (drop (number + 1) words) t ≡ map view steps ++ steps_from number (drop number words) t
 next_step steps step number words t within is = rw (add-one, drop-cons words number [], map-append view steps (step ∷ []), is, append_assoc) refl
 
--- behind the last
+-- after the last
 pub all_steps : (steps : List Value) (number : ℕ) (words : List (List ℕ)) (t : Tally)
     → length words ≤ number → map view steps ++ steps_from number (drop number words) t ≡ steps_from 0 words t → map view steps ≡ steps_from 0 words t
 all_steps steps number words t behind so_far = sym (append-nil (map view steps)) ∙ ap (λ (rest : List (List ℕ)). map view steps ++ steps_from number rest t) (sym (drop_all number words behind)) ∙ so_far

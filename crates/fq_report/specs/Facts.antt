@@ -1,4 +1,4 @@
--- What a report tells.
+-- The facts of a report.
 use Rattle.std.specs.Prelude.{ℕ, Bool, Option, List, map}
 use Rattle.std.specs.Option.{option_map}
 use Rattle.fq_text.specs.declared.encoding.Encoding.{Encoding}

@@ -7,7 +7,7 @@ use Rattle.serde_json.specs.View.{items_of}
 abbrev pub count : ℕ → Data
 count n = number (unsigned n)
 
--- a text, and null where there is none
+-- a text, or null if there is none
 abbrev pub optional_text : Option (List ℕ) → Data
 optional_text (Some text) = string text
 optional_text None = null

@@ -37,10 +37,8 @@ pub(crate) fn prepare<F: Feed, G: Feed>(
     let Ok(lanes) = Lanes::new(alloc, settings) else {
         return Err((forward, reverse));
     };
-    match open(alloc, settings, forward, reverse) {
-        Ok(source) => Ok(lanes.over(source)),
-        Err(feeds) => Err(feeds),
-    }
+    let source = open(alloc, settings, forward, reverse)?;
+    Ok(lanes.over(source))
 }
 
 /// Makes all lanes, and then the source of an interleaved input. Returns the feed if memory was
@@ -62,8 +60,6 @@ pub(crate) fn prepare_interleaved<F: Feed>(
     let Ok(lanes) = Lanes::new(alloc, settings) else {
         return Err(feed);
     };
-    match open_interleaved(alloc, settings, feed) {
-        Ok(source) => Ok(lanes.over(source)),
-        Err(feed) => Err(feed),
-    }
+    let source = open_interleaved(alloc, settings, feed)?;
+    Ok(lanes.over(source))
 }

@@ -1,7 +1,6 @@
 //! The expected outputs of a run.
 
-/// What has to be written of the pairs of a sample: the texts of the four outputs, and the trim
-/// log.
+/// What must be written of the pairs of a sample: the texts of the four outputs, and the trim log.
 #[derive(Clone, Copy, Debug, PartialEq, Eq)]
 pub struct Written {
     /// The forward reads whose mate also survives.

@@ -4,11 +4,11 @@ use Rattle.std.proofs.lemmas.List.{append_cancel_right}
 use Rattle.fq_text.specs.declared.encoding.Encoding.{Encoding}
 use Rattle.fq_text.specs.Grammar.{Front, End, Faulty, Found, front}
 use Rattle.fq_pair.specs.Mates.{Mates}
-use Rattle.fq_pair.specs.Pairing.{Pairs, PairFront, Ended, Stopped, Met, meeting, pair_front, records_of}
+use Rattle.fq_pair.specs.Pairing.{Pairs, PairFront, Ended, Stopped, Met, meeting, pair_front}
 use Rattle.fq_pair.specs.Interleaved.{side_behind, interleaved_front}
 use Rattle.fq_pair.specs.Forms.{TwoTexts, InterleavedText}
 use Rattle.fq_pair.specs.Walks.{Leads}
-use Rattle.fq_pair.proofs.PairLaws.{pairs_of-met, pairs_of-stopped, pairs_of-ended}
+use Rattle.fq_pair.proofs.PairLaws.{records_of, pairs_of-met, pairs_of-stopped, pairs_of-ended}
 use Rattle.fq_pair.proofs.InterleavedLaws.{interleaved_pairs_of-met, interleaved_pairs_of-stopped, interleaved_pairs_of-ended}
 use Rattle.fq_serial.proofs.FormLemmas.{pairs_at}
 use Rattle.fq_pair.proofs.TakenLemmas.{front_takes, front_fewer, one_record}

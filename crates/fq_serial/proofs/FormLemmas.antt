@@ -4,10 +4,10 @@ use Rattle.fq_text.specs.declared.encoding.Encoding.{Encoding}
 use Rattle.fq_text.specs.Lines.{lines}
 use Rattle.fq_pair.specs.declared.fault.InputFault.{InputFault}
 use Rattle.fq_pair.specs.Mates.{Mates}
-use Rattle.fq_pair.specs.Pairing.{Pairs, pairs_of, records_of, with_pair, Ended, Stopped, Met}
+use Rattle.fq_pair.specs.Pairing.{Pairs, pairs_of, with_pair, Ended, Stopped, Met}
 use Rattle.fq_pair.specs.Interleaved.{interleaved_pairs_of}
 use Rattle.fq_pair.specs.Forms.{Form, TwoTexts, InterleavedText, pairs_in, front_in}
-use Rattle.fq_pair.proofs.PairLaws.{pairs_of-met, pairs_of-stopped, pairs_of-ended}
+use Rattle.fq_pair.proofs.PairLaws.{records_of, pairs_of-met, pairs_of-stopped, pairs_of-ended}
 use Rattle.fq_pair.proofs.InterleavedLaws.{interleaved_pairs_of-met, interleaved_pairs_of-stopped, interleaved_pairs_of-ended}
 
 -- the pairs of the lines of the inputs

@@ -1,5 +1,5 @@
 -- What a run guarantees, however it ends.
-use Rattle.std.specs.Prelude.{◌≡◌, ℕ, ◌<◌, ◌≤◌, ◌⊎◌, Bool, true, false, IsTrue, Option, Some, None, IfSome, List, [], ◌++◌, length}
+use Rattle.std.specs.Prelude.{◌≡◌, ◌≢◌, ℕ, ◌<◌, ◌≤◌, ◌⊎◌, Bool, true, false, IsTrue, Option, Some, None, IfSome, List, [], ◌++◌, length}
 use Rattle.std.specs.Option.{option_map}
 use Rattle.fq_text.specs.Lines.{whole_part}
 use Rattle.fq_text.specs.Records.{records}
@@ -207,7 +207,7 @@ pub record EveryEnding (c : Choices) (run : Run) : Type 0 where
   pub took : OutletsTook run.outlets run.outlets_left
       (λ out. text_of out (texts_of c.steps whole) ++ part_begun c.steps fate out)
       (failed_outlet fate)
-  pub flushed : failed_outlet fate ≡ None → (run.outcome ≡ outcome.Spawn → ⊥) →
+  pub flushed : failed_outlet fate ≡ None → run.outcome ≢ outcome.Spawn →
       AreFlushed run.outlets_left
   pub cut_short : IsCutShort c.block_pairs c.steps fate
   pub first : AreTold run → AreFirst (whole ++ block_begun fate) (all_pairs c run).mates

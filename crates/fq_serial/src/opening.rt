@@ -73,8 +73,6 @@ pub fn open_interleaved<F: Feed>(
         source.source.max_reads * source.source.chunk ≤ text_limit) }
     ensures err { IfErr result (λ back. back ≡ feed) }
 {
-    match source_of(alloc, settings, feed) {
-        Ok(source) => Ok(MixedSource::new(source, settings.check_names())),
-        Err(feed) => Err(feed),
-    }
+    let source = source_of(alloc, settings, feed)?;
+    Ok(MixedSource::new(source, settings.check_names()))
 }

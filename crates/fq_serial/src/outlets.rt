@@ -83,10 +83,7 @@ fn send_to<O: Outlet>(outlet: &mut O, texts: &Texts, out: Out) -> Result<(), Out
     requires { (O.state outlet.old).failures ≡ 0 }
     ensures { SendsTo (O.state outlet.old) (O.state outlet.new) (text_of out texts.now) out result }
 {
-    match send(outlet, texts.text(out)) {
-        Ok(()) => Ok(()),
-        Err(_) => Err(out),
-    }
+    send(outlet, texts.text(out)).map_err(|_| out)
 }
 
 // Flushes one outlet.
@@ -94,8 +91,5 @@ fn flush_one<O: Outlet>(outlet: &mut O, out: Out) -> Result<(), Out>
     requires { (O.state outlet.old).failures ≡ 0 }
     ensures { FlushesOne (O.state outlet.old) (O.state outlet.new) out result }
 {
-    match outlet.flush() {
-        Ok(()) => Ok(()),
-        Err(_) => Err(out),
-    }
+    outlet.flush().map_err(|_| out)
 }

@@ -44,7 +44,7 @@ none_more x small = omega arith
 pub first_small : (x : ℕ) (xs : List ℕ) → Small (x ∷ xs) → x ≤ 18446744073709551615
 first_small x xs small = small 0
 
--- empty rows behind those that are there, and none
+-- empty rows after those that are there, and none
 pub grown_behind : (xs : List ℕ) (n m : ℕ) → Small xs → length xs + m ≡ n → xs ++ replicate m 0 ≡ rows_plus xs (replicate n 0)
 grown_behind [] n m small size = ap (λ k. replicate k 0) (omega arith)
 grown_behind (x ∷ xs) zero m small size = absurd (omega arith)
@@ -65,7 +65,7 @@ more_at [] (suc row) a small = ap (λ ns. 0 ∷ ns) (more_at [] row a small)
 more_at (x ∷ xs) zero a small = ap (λ n. n ∷ rows_plus xs []) (omega arith)
 more_at (x ∷ xs) (suc row) a small = ap (λ ns. capped_sum x 0 ∷ ns) (more_at xs row a small)
 
--- Numbers by their positions, of which all behind `most` are added up.
+-- Numbers by their positions. All after `most` are added up.
 
 cut_at : ℕ → List ℕ → List ℕ
 cut_at most [] = []
@@ -124,7 +124,7 @@ joined us vs small =
     ∙ cut_joined 10000 us vs (omega (arith, sum-append us vs))
     ∙ sym (cut_is 10000 (us ++ vs))
 
--- the same where the first number has a place
+-- the same if the first number has a place
 pub placed_joined : (at k : ℕ) (us vs : List ℕ) → k ≡ at + length us → sum us + sum vs ≤ 18446744073709551615 →
     rows_plus (placed at us) (placed k vs) ≡ placed at (us ++ vs)
 placed_joined at k us vs behind small =
@@ -147,7 +147,7 @@ cut_none (suc most) (suc at) =
     let f : suc (min at (suc most)) ≡ min (suc at) (suc (suc most)) = omega arith in
     ap (λ ns. 0 ∷ ns) (cut_none most at) ∙ ap (λ n. replicate n 0) f
 
--- no number, behind a place
+-- no number, after a place
 pub placed_none : (at rows : ℕ) → rows ≡ min at 10001 → replicate rows 0 ≡ placed at []
 placed_none at rows is = ap (λ n. replicate n 0) is ∙ sym (cut_none 10000 at) ∙ sym (cut_is 10000 (replicate at 0 ++ []))
 
@@ -252,7 +252,7 @@ columns_joined at k e seq qual others bytes behind same alike few less scored al
     (ones_joined (one_if (nat_le 30)) (one_if_small (nat_le 30)) at k (scores e qual) (scores e bytes) long some more ∙ ap (λ q. placed at (map (one_if (nat_le 30)) q)) whole)
     (letters is_a) (letters is_c) (letters is_g) (letters is_t) (letters is_n)
 
--- no bases, behind a place
+-- no bases, after a place
 pub columns_empty : (at rows : ℕ) (e : Encoding) → rows ≡ min at 10001 → empty_rows rows ≡ columns_from at e [] []
 columns_empty at rows e is =
     let none = placed_none at rows is in

@@ -48,7 +48,7 @@ pub course_dropped : (number : ℕ) (steps : List Step) (others : List (List Ste
     course_of number (steps ∷ others) p ≡ record { left = part p.encoding [] []; front = 0; shortened = []; dropped = number ∷ [] }
 course_dropped number steps others p is = ap (λ (at : List ℕ). after number at p (course_of (suc number) others (part_at at p))) is
 
--- the same in turn, where the list stands at its number
+-- the same in turn, if the list is at its number
 pub next_kept : (number : ℕ) (lists : List (List Step)) (encoding : Encoding) (seq qual : List ℕ) (k : Kept) → number < length lists →
     kept (get_or lists number []) (scores encoding qual) ≡ places k.start (k.stop - k.start) → k.stop ≤ length qual → length qual ≡ length seq →
     course_of number (drop number lists) (part encoding seq qual)
@@ -67,7 +67,7 @@ next_dropped number lists encoding seq qual lt is =
     ap (λ (ls : List (List Step)). course_of number ls (part encoding seq qual)) (drop_more lists number [] lt)
     ∙ course_dropped number (get_or lists number []) (drop (number + 1) lists) (part encoding seq qual) is
 
--- behind the last list
+-- after the last list
 pub none_next : (number : ℕ) (lists : List (List Step)) (p : Part) → length lists ≤ number → course_of number (drop number lists) p ≡ record { left = p; front = 0; shortened = []; dropped = [] }
 none_next number lists p all = ap (λ (ls : List (List Step)). course_of number ls p) (drop_all number lists all)
 
@@ -106,7 +106,7 @@ part_again xs s m a n le =
     ∙ take-take n (m - a) (drop a (drop s xs)) (omega arith)
     ∙ ap (take n) (drop-drop a s xs)
 
--- the steps to come, where the first of them is split off
+-- the steps to come, with the first of them split off
 steps_split : (number : ℕ) (steps : List Step) → drop number steps ≡ only number steps ++ drop (number + 1) steps
 steps_split number steps = sym (take-append-drop 1 (drop number steps)) ∙ ap (λ (ss : List Step). only number steps ++ ss) (drop-drop 1 number steps)
 

@@ -162,7 +162,7 @@ row_cut len len' most more at n xs ys few small long bound is room =
     let most_zs = shifted_at_most at more ys small in
     cut_plus xs zs len len' few.behind (λ k. let one = most_zs k in omega arith) (omega arith) (omega arith)
 
--- zeros behind a vector change nothing
+-- zeros after a vector change nothing
 plus_zeros_behind : (xs ys : List ℕ) (k : ℕ) → Small xs → length ys + k ≤ length xs → rows_plus xs (ys ++ replicate k 0) ≡ rows_plus xs ys
 plus_zeros_behind xs [] k small room = sym (grown_within xs k small (omega arith)) ∙ sym (plus_none xs)
 plus_zeros_behind [] (y ∷ ys) k small room = absurd (omega arith)

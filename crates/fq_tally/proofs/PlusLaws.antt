@@ -285,7 +285,7 @@ module _ (lists : List (List Step)) where
   plus_pairs s t [] small = refl
   plus_pairs s t (m ∷ ms) small = ap (λ (u : Tally). fold (with_pair lists) u ms) (plus_pair s t m small) ∙ plus_pairs s (with_pair lists t m) ms small
 
-  -- the tally of pairs, and of others behind them
+  -- the tally of pairs, and of others after them
   pub tally_of-append : (front behind : List Mates) → tally_of lists (front ++ behind) ≡ plus (tally_of lists front) (tally_of lists behind)
   tally_of-append front behind =
       let s = tally_of lists front in

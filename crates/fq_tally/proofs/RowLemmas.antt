@@ -14,7 +14,7 @@ one_first : (row : ℕ) → with_one row [] ≡ set (replicate (suc row) 0) row 
 one_first zero = refl
 one_first (suc row) = ap (λ ns. 0 ∷ ns) (one_first row)
 
--- One more in a row behind those that are there.
+-- One more in a row after those that are there.
 pub one_behind : (row : ℕ) (xs : List ℕ) (n : ℕ) → length xs ≤ row → length xs + n ≡ suc row →
     with_one row xs ≡ set (xs ++ replicate n 0) row (capped_sum (get_or (xs ++ replicate n 0) row 0) 1)
 one_behind row [] n le is =
@@ -29,7 +29,7 @@ length-with_one zero (x ∷ xs) = omega arith
 length-with_one (suc row) [] = let more = length-with_one row [] in omega arith
 length-with_one (suc row) (x ∷ xs) = let more = length-with_one row xs in omega arith
 
--- A number counted, in a row that is there and in one that was put behind.
+-- A number counted, in a row that is there and in one that was appended.
 pub counted_at : (xs : List ℕ) (number row x y : ℕ) → row ≡ min number 10001 → row < length xs → x ≡ get_or xs row x → y ≡ min (x + 1) 18446744073709551615 →
     set xs row y ≡ counted number xs
 counted_at xs number row x y row_is lt read sum =
@@ -83,7 +83,7 @@ plus_next xs ys zs i x y w lx ly so_far left right sum =
     ∙ ap (λ ns. set ns i (capped_sum (get_or ns i 0) (get_or ys i 0))) so_far
     ∙ sym (plus_more xs ys i lx ly) ∙ ap (λ n. rows_plus xs (take n ys)) (sym (add-one i))
 
--- what the shorter one lacks is put behind
+-- what the shorter one lacks is appended
 pub plus_joined : (xs ys : List ℕ) (n : ℕ) → n ≡ min (length xs) (length ys) → rows_plus xs (take n ys) ++ drop n ys ≡ rows_plus xs ys
 plus_joined xs ys zero is = joined xs ys is
 plus_joined [] ys (suc n) is = absurd (omega arith)

@@ -80,7 +80,7 @@ survivor_columns read k mate t =
     let left = part_at (places_of (Some k)) (whole read) in
     ap (λ (b : Bool). with_before (columns_of (whole read)) (cond b (with_after (columns_of left) mate t) t)) (kept_is_left read k)
 
--- a read that lost nothing in front, and is cut behind what is left
+-- a read that lost nothing at its start, and is cut after what is left
 pub cut_columns : (read : Read) (k : Kept) (e : Encoding) (seq qual : List ℕ) → e ≡ read.encoding → seq ≡ read.seq → qual ≡ read.qual →
     k.stop ≤ length read.seq → length read.qual ≡ length read.seq → length read.seq ≤ 1048576 → list_all (is_scored read.encoding) read.qual ≡ true → k.start ≡ 0 →
     columns_plus

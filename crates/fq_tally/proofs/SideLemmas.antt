@@ -71,7 +71,7 @@ module _ (e : Encoding) (seq qual : List ℕ) (a b : ℕ) (order : a ≤ b) (wit
       let parts = in_scores (λ (x : ℕ). cond (nat_le least x) 1 0) in
       exact (count_by (nat_le least) (scores e (part_before e seq qual a).qual)) (count_by (nat_le least) (scores e left_part.qual)) (count_by (nat_le least) (scores e (part_from e seq qual b).qual)) (count_by (nat_le least) (scores e qual)) parts (omega arith)
 
-  -- what is counted in front, of what is left, and behind it is what is counted of all
+  -- what is counted before what is left, of it, and after it is what is counted of all
   pub counted_in_parts : list_all (is_scored e) qual ≡ true → bases_plus (bases_plus (bases_of left_part) (bases_of (part_before e seq qual a))) (bases_of (part_from e seq qual b)) ≡ bases_of (part e seq qual)
   counted_in_parts scored =
       let small = sum_small e qual scored in

@@ -105,7 +105,7 @@ last_kept f nothing (x ∷ xs) c (suc k) fits long =
     let both = sum_by-cons f (bit_and x 0) (zip2 bit_and xs (replicate k 0 ++ replicate c 255)) in
     omega arith
 
--- fewer bytes, with zeros behind them
+-- fewer bytes, with zeros after them
 pub filled_up : (bytes filled : List ℕ) → filled ≡ bytes ++ replicate (32 - length bytes) 0 → Holds bytes filled
 filled_up bytes filled is f nothing =
     let filler : List ℕ = replicate (32 - length bytes) 0 in
@@ -213,7 +213,7 @@ ones_at_most p (x ∷ xs) (suc k) = ones_at_most p xs k
 pub ones_are_few : (p : ℕ → Bool) (v ones : List ℕ) → ones ≡ map (one_if p) v → AtMost 1 ones
 ones_are_few p v ones is k = let small = ones_at_most p v k in let same = ap (λ xs. get_or xs k 0) is in omega arith
 
--- The last bytes are kept, behind zeros.
+-- The last bytes are kept, after zeros.
 pub last_lanes : (v : List ℕ) (c k : ℕ) → Each1 (Fits w8) v → length v ≡ k + c → zip2 bit_and v (replicate k 0 ++ replicate c 255) ≡ replicate k 0 ++ drop k v
 last_lanes v c zero fits long = all_kept v c fits (omega arith)
 last_lanes [] c (suc k) fits long = absurd (omega arith)

@@ -14,7 +14,7 @@ abbrev pub by_position : List ℕ → List ℕ
 by_position ns =
     if nat_le (length ns) 10000 then ns else take 10000 ns ++ (sum (drop 10000 ns) ∷ [])
 
--- the same, where the first has this place in its read, counted from 0
+-- numbers in the order of their positions, if the first is at this index of its read
 abbrev pub placed : ℕ → List ℕ → List ℕ
 placed at ns = by_position (replicate at 0 ++ ns)
 
@@ -34,7 +34,7 @@ no_columns = record {
   n = [];
 }
 
--- the columns of bases, of which the first has this place in its read, counted from 0
+-- the columns of bases, if the first is at this index of its read
 abbrev pub columns_from : ℕ → Encoding → List ℕ → List ℕ → Columns
 columns_from at encoding seq qual = record {
   bases = placed at (map (λ _. 1) seq);

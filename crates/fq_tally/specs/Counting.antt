@@ -7,7 +7,7 @@ use Rattle.fq_tally.specs.declared.columns.Columns.{Columns}
 use Rattle.fq_tally.specs.Letters.{is_a, is_c, is_g, is_t, is_n}
 use Rattle.fq_tally.specs.Columns.{one_if}
 
--- so many rows in each column, all of which count 0
+-- this many rows in each column, all of which count 0
 abbrev pub empty_rows : ℕ → Columns
 empty_rows rows = record {
   bases = replicate rows 0;
@@ -46,7 +46,7 @@ first_rows rows x = record {
   n = take rows x.n;
 }
 
--- Vectors: a quality byte 0 stands for no base.
+-- Vectors: a quality byte 0 means that there is no base.
 
 -- the byte has a score, or there is none
 abbrev pub is_lane : Encoding → ℕ → Bool
@@ -79,7 +79,7 @@ pub record IsFew (len most : ℕ) (counts : List ℕ) : Type 0 where
   pub behind : (k : ℕ) → len ≤ k → get_or counts k 0 ≡ 0
   pub small : AtMost most counts
 
--- The same of all columns, of so many reads. The highest score is 93.
+-- All columns have the rows that this many reads can give. The highest score is 93.
 pub record AreFew (len reads : ℕ) (x : Columns) : Type 0 where
   pub bases : IsFew len reads x.bases
   pub score_sum : IsFew len (93 * reads) x.score_sum

@@ -1,4 +1,4 @@
--- What is made of pairs: their texts, their log, their counts and, if it is asked for, their tally.
+-- What becomes of pairs: their texts, their log, their counts and, if asked for, their tally.
 use Rattle.std.specs.Prelude.{ℕ, Bool, true, false, List, [], ◌∷◌, Option, Some, None}
 use Rattle.std.specs.Option.{option_map}
 use Rattle.fq_trim.specs.declared.step.Step.{Step}

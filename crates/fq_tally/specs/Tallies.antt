@@ -1,5 +1,4 @@
--- What is counted of pairs and of what steps leave of them. A sum that would be larger than the
--- largest u64 is kept at that.
+-- What is counted of pairs and of what steps leave of them. Sums saturate at the largest u64.
 use Rattle.std.specs.Prelude.{ℕ, ◌+◌, ◌-◌, ◌*◌, ◌/◌, min, max, nat_le, nat_lt}
 use Rattle.std.specs.Prelude.{Bool, not, ◌&&◌, if◌then◌else◌}
 use Rattle.std.specs.Prelude.{List, [], length, sum, count_by, fold}
@@ -64,7 +63,7 @@ no_reads = record {
   gc_percents = [];
 }
 
--- One more read, of which this was counted. A read without bases has no mean score and no per cent.
+-- One more read with these counts. A read without bases has no mean score and no percentage.
 abbrev pub with_bases : BaseTally → ReadsTally → ReadsTally
 with_bases read t = record {
   reads = capped_sum t.reads 1;
@@ -123,7 +122,7 @@ no_side = record {
   steps = no_steps;
 }
 
--- how many bases of a read were removed after what is left of it, if so many were removed before
+-- how many bases of a read were removed at its end, if this many were removed at its start
 abbrev pub behind_of : Read → Part → ℕ → ℕ
 behind_of read left front = length read.seq - front - length left.seq
 

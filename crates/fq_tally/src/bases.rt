@@ -11,7 +11,7 @@ use crate::vectors::{WIDTH, at_least, gc_in, n_in, sum_of, vector_of};
 use fq_text::Encoding;
 use std::simd::prelude::*;
 
-/// Counts of bases and of their scores. A sum that would be larger than `u64::MAX` is kept at that.
+/// Counts of bases and of their scores. Sums saturate at `u64::MAX`.
 #[derive(Clone, Copy, Debug, PartialEq, Eq)]
 pub struct BaseTally {
     /// All bases.

@@ -15,7 +15,7 @@ pub const LAST_POSITION: usize = 10_000;
 
 /// Counts of bases by their positions in reads, from position 1 on. There are as many rows as the
 /// longest read has bases. Row 10,001 counts all positions above [`LAST_POSITION`], so there are no
-/// more. A sum that would be larger than `u64::MAX` is kept at that.
+/// more. Sums saturate at `u64::MAX`.
 #[derive(Drop)]
 pub struct Columns {
     /// All bases: as many as there are reads that have the position.
@@ -61,7 +61,7 @@ impl Columns {
         })
     }
 
-    // Counts bases, of which the first has the place `at` in its read, counted from 0.
+    // Counts bases. The first is at index `at` of its read.
     pub(crate) fn count(&mut self, encoding: Encoding, seq: &[u8], qual: &[u8], at: usize)
         requires few { at + length qual.now ≤ 1048576 }
         requires scored { list_all (is_scored encoding) qual.now ≡ true }
@@ -77,7 +77,7 @@ impl Columns {
         }
     }
 
-    // Gives each column so many rows at least. Rows that were not there count 0.
+    // Gives each column at least this many rows. New rows count 0.
     fn grow(&mut self, rows: usize)
         requires { rows ≤ 10001 }
         ensures { self.new ≡ columns_plus self.old (empty_rows rows) }

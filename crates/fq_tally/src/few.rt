@@ -71,7 +71,7 @@ impl FewColumns {
         })
     }
 
-    // Counts bases, of which the first has the place `at` in its read, counted from 0.
+    // Counts bases. The first is at index `at` of its read.
     pub(crate) fn count(&mut self, encoding: Encoding, seq: &[u8], qual: &[u8], at: usize)
         requires near { at + length qual.now ≤ 10000 }
         requires scored { list_all (is_scored encoding) qual.now ≡ true }
@@ -115,7 +115,7 @@ impl FewColumns {
         }
     }
 
-    // Counts the bases in a vector. A quality byte 0 stands for no base.
+    // Counts the bases in a vector. A quality byte 0 means that there is no base.
     #[inline(always)]
     fn add_vector(&mut self, encoding: Encoding, bases: u8x32, bytes: u8x32, at: usize)
         requires at { at ≤ 10000 }
@@ -150,7 +150,7 @@ impl FewColumns {
         self.n.add_to(&mut columns.n, length);
     }
 
-    // Sets all rows to 0, of which those from `length` on are.
+    // Sets all rows to 0. Those from `length` on are 0 already.
     pub(crate) fn clear(&mut self, length: usize)
         requires few { AreFew length 254 self.old }
         requires within { length ≤ 10000 }
@@ -167,7 +167,7 @@ impl FewColumns {
     }
 }
 
-// The scores of quality bytes. A byte 0 stands for no base, and its score is 0.
+// The scores of quality bytes. A byte 0 means that there is no base; its score is 0.
 #[inline(always)]
 fn scores_in(encoding: Encoding, bytes: u8x32) -> u8x32
     requires { list_all (is_lane encoding) bytes ≡ true }
@@ -180,7 +180,7 @@ fn scores_in(encoding: Encoding, bytes: u8x32) -> u8x32
     }
 }
 
-// The same in Solexa's encoding, byte by byte.
+// The scores of quality bytes in Solexa's encoding, byte by byte.
 #[inline(never)]
 fn solexa_scores(bytes: u8x32) -> u8x32
     requires { list_all (is_lane Solexa) bytes ≡ true }

@@ -12,7 +12,7 @@ use std::alloc::Global;
 use std::marker::Model;
 use std::simd::prelude::*;
 
-// One row for each position that has its own, and room for a vector behind them.
+// One row for each position that has its own, and room for a vector after them.
 const ROWS: usize = LAST_POSITION + WIDTH;
 
 // Rows of bytes, all of which are there.
@@ -63,10 +63,10 @@ impl ByteRows {
         }
     }
 
-    // Sets the first rows to 0. Those behind them count 0.
+    // Sets the first rows to 0. The rows after them count 0.
     pub(crate) fn clear(&mut self, length: usize)
         requires within { length ≤ 10000 }
-        requires behind { (k : ℕ) → length ≤ k → get_or self.old k 0 ≡ 0 }
+        requires after { (k : ℕ) → length ≤ k → get_or self.old k 0 ≡ 0 }
         ensures { IsFew 0 0 self.new }
     {
         for i in 0..length {
@@ -122,10 +122,10 @@ impl WordRows {
         }
     }
 
-    // Sets the first rows to 0. Those behind them count 0.
+    // Sets the first rows to 0. The rows after them count 0.
     pub(crate) fn clear(&mut self, length: usize)
         requires within { length ≤ 10000 }
-        requires behind { (k : ℕ) → length ≤ k → get_or self.old k 0 ≡ 0 }
+        requires after { (k : ℕ) → length ≤ k → get_or self.old k 0 ≡ 0 }
         ensures { IsFew 0 0 self.new }
     {
         for i in 0..length {

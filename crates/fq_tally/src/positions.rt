@@ -53,8 +53,7 @@ impl Positions {
         })
     }
 
-    // Counts bases, of which the first has the place `at` in its read, counted from 0. It takes no
-    // memory.
+    // Counts bases. The first is at index `at` of its read. Takes no memory.
     pub(crate) fn add(&mut self, encoding: Encoding, seq: &[u8], qual: &[u8], at: usize)
         requires few { at + length qual.now ≤ 1048576 }
         requires scored { list_all (is_scored encoding) qual.now ≡ true }

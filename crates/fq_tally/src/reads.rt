@@ -8,7 +8,7 @@ use fq_text::OutOfMemory;
 use std::alloc::Global;
 
 /// Counts of reads and of their bases, and histograms of the reads by length, mean score and GC.
-/// A sum that would be larger than `u64::MAX` is kept at that.
+/// Sums saturate at `u64::MAX`.
 #[derive(Drop)]
 pub struct ReadsTally {
     /// All reads.
@@ -24,7 +24,7 @@ pub struct ReadsTally {
     /// The reads by the whole part of their mean Phred score. Reads without bases are left out,
     /// as FastQC does.
     pub mean_scores: Rows,
-    /// The reads by the per cent of their bases that are G or C, to the nearest whole number,
+    /// The reads by the percentage of their bases that are G or C, to the nearest whole number,
     /// halves up. N is among the bases. Reads without bases are left out.
     pub gc_percents: Rows,
 }
@@ -50,7 +50,7 @@ impl ReadsTally {
         })
     }
 
-    // Counts one more read, of which these bases were counted, `length` of them.
+    // Counts one more read. `bases` has the counts of its `length` bases.
     // Inlined, since the counts would be copied otherwise.
     #[inline(always)]
     pub(crate) fn add(&mut self, bases: BaseTally, length: usize)

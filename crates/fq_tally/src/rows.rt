@@ -14,7 +14,7 @@ const ROWS: usize = LAST_ROW + 1;
 
 /// A histogram of reads: how many reads have each number, such as a length. Row n counts the reads
 /// with the number n, up to [`LAST_ROW`]. There are as many rows as the largest number needs, and
-/// none if nothing was counted. A count that would be larger than `u64::MAX` is kept at that.
+/// none if nothing was counted. Counts saturate at `u64::MAX`.
 ///
 /// Memory for all rows is taken by `new`, so counting takes none.
 #[derive(Drop)]
@@ -64,7 +64,7 @@ impl Rows {
         self.counts[row] = self.counts[row].saturating_add(1);
     }
 
-    // Makes so many rows, if there are fewer. New rows count 0.
+    // Grows to at least this many rows. New rows count 0.
     pub(crate) fn grow(&mut self, rows: usize)
         requires { rows ≤ 10002 }
         ensures { self.new ≡ rows_plus self.old (replicate rows 0) }

@@ -82,7 +82,7 @@ impl SideTally {
         }
     }
 
-    // Counts one more read, of which no base is kept.
+    // Counts one more read that keeps no base.
     fn add_dropped(&mut self, read: &ReadView<'_>)
         ensures { self.new ≡ with_left read.now (part_at [] (whole read.now)) 0 false self.old }
     {
@@ -94,7 +94,7 @@ impl SideTally {
         self.positions.add_dropped(read);
     }
 
-    // Counts one more read, of which bases are kept. `mate`: its mate survives.
+    // Counts one more read that keeps bases. `mate`: its mate survives.
     fn add_survivor(&mut self, read: &ReadView<'_>, kept: Kept, mate: bool)
         requires { kept.stop ≤ length read.now.seq }
         ensures { self.new ≡ with_left read.now

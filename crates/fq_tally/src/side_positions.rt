@@ -14,7 +14,7 @@ use std::marker::Model;
 
 /// Counts of the bases of one side by their position in the read, before and after trimming.
 ///
-/// A base of a read that lost nothing in front has the same position before and after, and is
+/// A base of a read that lost nothing at its start has the same position before and after, and is
 /// counted once. The counters are on the heap, so that a value has few parts when it is moved.
 #[derive(Drop)]
 pub struct SidePositions {
@@ -96,7 +96,7 @@ impl SidePositions {
         Ok(columns)
     }
 
-    // Counts the bases of one more read, of which no base is kept.
+    // Counts the bases of one more read that keeps no base.
     pub(crate) fn add_dropped(&mut self, read: &ReadView<'_>)
         ensures { self.new ≡ with_columns read.now (part_at [] (whole read.now)) false self.old }
     {
@@ -105,7 +105,7 @@ impl SidePositions {
         self.add_rest(read.encoding(), read.seq(), read.qual(), 0);
     }
 
-    // Counts the bases of one more read, of which bases are kept. `mate`: its mate survives.
+    // Counts the bases of one more read that keeps bases. `mate`: its mate survives.
     pub(crate) fn add_survivor(&mut self, read: &ReadView<'_>, kept: Kept, mate: bool)
         requires { kept.stop ≤ length read.now.seq }
         ensures { self.new ≡ with_columns read.now
@@ -128,7 +128,7 @@ impl SidePositions {
         }
     }
 
-    // Counts bases as they were read, of which the first has the place `at` in its read.
+    // Counts bases as they were read. The first is at index `at` of its read.
     fn add_rest(&mut self, encoding: Encoding, seq: &[u8], qual: &[u8], at: usize)
         requires { AreBases encoding seq.now qual.now at }
         ensures { self.new ≡ with_before (columns_from at encoding seq.now qual.now) self.old }
@@ -136,7 +136,7 @@ impl SidePositions {
         self.rest.add(encoding, seq, qual, at);
     }
 
-    // Counts what is left of a read that lost bases in front.
+    // Counts what is left of a read that lost bases at its start.
     fn add_moved(&mut self, encoding: Encoding, seq: &[u8], qual: &[u8], mate: bool)
         requires { AreBases encoding seq.now qual.now 0 }
         ensures { self.new ≡ with_after (columns_from 0 encoding seq.now qual.now) mate self.old }

@@ -3,11 +3,8 @@
 ghost use Rattle.std.specs.Prelude.{◌≡◌};
 
 use fq_text::ReadView;
-use fq_trim::{Kept, Steps};
+use fq_trim::{Kept, MAX_STEPS, Steps};
 use std::marker::Model;
-
-// The most steps that a list can have.
-const MOST: usize = 64;
 
 /// What the steps do to a read: which bases they keep, which steps shorten it, and which drops it.
 ///
@@ -18,7 +15,7 @@ pub struct Trimmed {
     start: usize,
     stop: usize,
     // The numbers of the steps that shortened the read, `count` of them.
-    shortened: [u8; MOST],
+    shortened: [u8; MAX_STEPS],
     count: usize,
     dropped: Option<usize>,
 }
@@ -53,7 +50,7 @@ impl Trimmed {
         let _ = read.title();
         let encoding = read.encoding();
         let qual = read.qual();
-        let mut shortened = [0; MOST];
+        let mut shortened = [0; MAX_STEPS];
         let mut count = 0;
         let mut start = 0;
         let mut stop = qual.len();

@@ -56,7 +56,7 @@ fn first_of(bytes: &[u8], count: usize) -> u8x32
     u8x32::from_slice(bytes) & keeps_first(count)
 }
 
-// The last `count` of 32 bytes, behind zeros.
+// The last `count` of 32 bytes, after zeros.
 #[inline(always)]
 pub(crate) fn last_of(bytes: &[u8], count: usize) -> u8x32
     requires few { count ≤ 32 }
@@ -85,7 +85,7 @@ fn keeps_last(count: usize) -> u8x32
     u8x32::from_slice(&KEEPS_LAST[count..])
 }
 
-// At most 32 bytes, from memory that may end after them, and zeros behind them.
+// At most 32 bytes, from memory that may end after them, and then zeros.
 pub(crate) fn all_of(bytes: &[u8]) -> u8x32
     requires { length bytes.now ≤ 32 }
     ensures holds { Holds bytes.now result }

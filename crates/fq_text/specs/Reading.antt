@@ -1,5 +1,5 @@
 -- A reader of lines, and what its calls do.
-use Rattle.std.specs.Prelude.{◌≡◌, ◌≢◌, ℕ, ◌+◌, ◌-◌, ◌*◌, ◌^◌, ◌<◌, ◌≤◌, ◌⊎◌, Bool, true, false, Result, Option, Some, None, List, [], ◌∷◌, ◌++◌, length, IsTrue, slice_index}
+use Rattle.std.specs.Prelude.{◌≡◌, ◌≢◌, ℕ, ◌+◌, ◌*◌, ◌^◌, ◌<◌, ◌≤◌, ◌⊎◌, Bool, true, false, Result, Option, Some, None, List, [], ◌∷◌, ◌++◌, length, IsTrue, slice_index}
 use Rattle.std.specs.declared.result.Result.TheVariants as res
 use Rattle.fq_text.specs.Devices.{FeedState}
 use Rattle.fq_text.specs.Lines.{line_feed, lines, is_whole}
@@ -40,10 +40,6 @@ NoLf xs n = (k : ℕ) → k < n → slice_index xs k ≢ line_feed
 abbrev pub IsLineEnd : List ℕ → Option ℕ → Type 0
 IsLineEnd xs None = NoLf xs (length xs)
 IsLineEnd xs (Some n) = (n < length xs) × (slice_index xs n ≡ line_feed) × NoLf xs n
-
--- the most bytes that can still become lines
-abbrev pub fuel_of : {F : Type 0} → Lined F → ℕ
-fuel_of r = (r.max_reads * r.chunk - r.taken) + length r.in_hand
 
 -- What every reader of lines keeps.
 pub record IsSound {F : Type 0} (state : F → FeedState) (r : Lined F) : Type 0 where

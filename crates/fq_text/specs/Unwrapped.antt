@@ -34,14 +34,14 @@ pub record IsFirstLine (text : List ℕ) (len end : ℕ) : Type 0 where
   pub ends : EndsAt text len end
   pub plain : end ≡ 1 → without_cr (take len text) ≡ take len text
 
--- each of the four line ends of this shape is where it has to be
+-- each of the four line ends of this shape is at its place
 pub record DoLinesEnd (hand : List ℕ) (s : Shape) : Type 0 where
   pub title : EndsAt hand (s.title + 1) s.end
   pub seq : EndsAt hand (s.title + s.bases + s.end + 1) s.end
   pub plus : EndsAt hand (s.title + s.bases + s.again + 2 * s.end + 2) s.end
   pub qual : EndsAt hand (s.title + s.bases + s.bases + s.again + 3 * s.end + 2) s.end
 
--- `@`, `+`, the line ends and the text after the `+` are where this shape has them
+-- `@`, `+`, the line ends and the text after the `+` are at the places of this shape
 pub record IsFourLines (hand : List ℕ) (s : Shape) : Type 0 where
   pub fits : s.title + s.bases + s.bases + s.again + 4 * s.end + 2 ≤ length hand
   pub mark : slice_index hand 0 ≡ 64

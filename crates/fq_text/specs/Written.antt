@@ -4,18 +4,19 @@ use Rattle.std.specs.Prelude.{◌≡◌, ℕ, ◌+◌, IsTrue, Option, Some, Non
 use Rattle.std.specs.List.{list_all}
 use Rattle.fq_text.specs.declared.encoding.Encoding.{Encoding}
 use Rattle.fq_text.specs.declared.encoding.Encoding.TheVariants.{Sanger}
-use Rattle.fq_text.specs.Lines.{without_cr}
+use Rattle.fq_text.specs.Lines.{line_feed, without_cr}
 use Rattle.fq_text.specs.Scores.{is_scored, recoded}
-use Rattle.fq_text.specs.Grammar.{Read, IsLawful}
+use Rattle.fq_text.specs.Grammar.{at_sign, plus_sign, Read, IsLawful}
 use Rattle.fq_text.specs.Records.{with_first, records}
 
 -- a line with its line end
 abbrev pub line : List ℕ → List ℕ
-line bytes = bytes ++ 10 ∷ []
+line bytes = bytes ++ line_feed ∷ []
 
 -- the four lines of a record
 abbrev pub written : List ℕ → List ℕ → List ℕ → List ℕ
-written title seq qual = line (64 ∷ title) ++ line seq ++ line (43 ∷ []) ++ line qual
+written title seq qual =
+    line (at_sign ∷ title) ++ line seq ++ line (plus_sign ∷ []) ++ line qual
 
 -- the length of these lines: the parts, two marks and four line ends
 abbrev pub written_len : List ℕ → List ℕ → List ℕ → ℕ

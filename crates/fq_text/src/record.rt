@@ -125,7 +125,7 @@ impl Parts {
         &self.bytes[self.title_len + self.seq_len..]
     }
 
-    /// Borrows the parts as a read. They have to make a valid record.
+    /// Borrows the parts as a read. They must make a valid record.
     pub(crate) fn view(&self) -> ReadView<'_>
         requires { IsLawful self.now }
         ensures { result ≡ self.now }

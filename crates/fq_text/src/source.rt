@@ -217,11 +217,8 @@ impl<F: Feed> Source<F> {
         ensures fits { self.new.taken ≤ text_limit }
     {
         let mut copy = self.empty_record();
-        match self.next_into(&mut copy) {
-            Ok(true) => Ok(Some(copy)),
-            Ok(false) => Ok(None),
-            Err(fault) => Err(fault),
-        }
+        let found = self.next_into(&mut copy)?;
+        Ok(if found { Some(copy) } else { None })
     }
 
     /// Reads the next record and copies it into `copy`, whose memory is reused. The record is also
@@ -251,10 +248,10 @@ impl<F: Feed> Source<F> {
         ensures limit { self.new.taken ≤ self.new.max_reads * self.new.chunk }
         ensures fits { self.new.taken ≤ text_limit }
     {
-        match self.advance() {
-            Ok(true) => self.copied_into(copy),
-            Ok(false) => Ok(false),
-            Err(fault) => Err(fault),
+        if self.advance()? {
+            self.copied_into(copy)
+        } else {
+            Ok(false)
         }
     }
 

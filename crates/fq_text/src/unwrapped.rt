@@ -48,7 +48,7 @@ fn repeats(hand: &[u8], place: usize, len: usize) -> bool
     len == 0 || hand[place..place + len] == hand[1..1 + len]
 }
 
-// Whether each of the four line ends of this shape is where it has to be.
+// Whether each of the four line ends of this shape is at its place.
 fn do_lines_end(hand: &[u8], shape: Shape) -> bool
     requires some { 1 ≤ shape.end }
     requires fits { shape.title + shape.bases + shape.bases + shape.again + 4 * shape.end + 2
@@ -67,7 +67,7 @@ fn do_lines_end(hand: &[u8], shape: Shape) -> bool
         && ends_at(hand, title + bases + bases + again + 3 * end + 2, end)
 }
 
-// Whether `@`, `+`, the line ends and the text after the `+` are where this shape has them.
+// Whether `@`, `+`, the line ends and the text after the `+` are at the places of this shape.
 fn are_four_lines(hand: &[u8], shape: Shape) -> bool
     requires some { 1 ≤ shape.end }
     requires end { shape.end ≤ 2 }

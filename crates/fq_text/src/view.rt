@@ -78,7 +78,7 @@ impl<'a> Model for ReadView<'a> {
 impl<'a> ReadView<'a> {
     ghost use Rattle.fq_text.specs.Grammar.{Read, IsLawful};
 
-    /// A read of these parts. They have to be valid, which [`is_lawful`] tests.
+    /// A read of these parts. They must be valid, which [`is_lawful`] tests.
     pub fn new(encoding: Encoding, title: &'a [u8], seq: &'a [u8], qual: &'a [u8]) -> ReadView<'a>
         requires { IsLawful
             (record { encoding = encoding; title = title.now; seq = seq.now; qual = qual.now }) }

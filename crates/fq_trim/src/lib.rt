@@ -19,5 +19,5 @@ mod words;
 
 pub use fault::{StepFault, StepFaultKind};
 pub use step::Step;
-pub use steps::Steps;
+pub use steps::{MAX_STEPS, Steps};
 pub use trimming::Kept;

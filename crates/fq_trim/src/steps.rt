@@ -13,7 +13,7 @@ use fq_text::Encoding;
 use std::marker::Model;
 
 /// The most steps that a list can have.
-const MOST: usize = 64;
+pub const MAX_STEPS: usize = 64;
 
 /// A list of 1 to 64 trimming steps. Each is applied to the bases that the step before it kept.
 ///
@@ -21,7 +21,7 @@ const MOST: usize = 64;
 /// stored inline, and copied without taking memory.
 #[derive(Clone, Copy, Debug, PartialEq, Eq)]
 pub struct Steps {
-    held: [Step; MOST],
+    held: [Step; MAX_STEPS],
     count: usize,
 }
 
@@ -79,13 +79,13 @@ impl Steps {
                 kind: StepFaultKind::NoSteps,
             });
         }
-        if words.len() > MOST {
+        if words.len() > MAX_STEPS {
             return Err(StepFault {
-                place: MOST + 1,
+                place: MAX_STEPS + 1,
                 kind: StepFaultKind::TooMany,
             });
         }
-        let mut held = [Step::ToPhred33; MOST];
+        let mut held = [Step::ToPhred33; MAX_STEPS];
         for (i, word) in words.iter().enumerate() {
             match parse_word(word) {
                 Ok(step) => held[i] = step,
@@ -138,7 +138,7 @@ impl Steps {
         kept_between(left.start, left.stop)
     }
 
-    /// Whether TOPHRED33 is in the list, so that the quality has to be written as score + 33.
+    /// Whether TOPHRED33 is in the list, so that the quality must be written as score + 33.
     pub fn reencodes(&self) -> bool
         ensures { result ≡ recodes self.now }
     {

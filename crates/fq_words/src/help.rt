@@ -28,7 +28,7 @@ macro_rules! trimming_help {
 numbers of bases, from 0 to 999999999, w from 1:
   LEADING:t          removes bases from the front, up to the first with a score of t or more
   TRAILING:t         removes bases from the end, back to the last with a score of t or more
-  SLIDINGWINDOW:w:t  cuts where the average score of w bases in a row falls below t, behind the last base before with t or more
+  SLIDINGWINDOW:w:t  cuts where the average score of w bases in a row falls below t, after the last base before it with t or more
   CROP:m             keeps the first m bases
   HEADCROP:m         removes the first m bases
   AVGQUAL:t          drops a read whose average score is below t
@@ -41,8 +41,8 @@ Example:
             $example,
             "
 
-Exit status: 0 done; 1 wrong words; 2 a bad encoding, step, setting or name; 3 a fault in the input (the pairs before it are written);
-4 a file that could not be read, made or written; 5 out of memory; 6 threads that failed."
+Exit status: 0 success; 1 invalid command line; 2 invalid encoding, step, setting or file name; 3 a fault in the input (the pairs
+before it are written); 4 a file could not be read, created or written; 5 out of memory; 6 a thread failed."
         )
     };
 }

@@ -183,7 +183,7 @@ fn log<'a>(alloc: Global) -> Arg<'a>
         .long("trimlog")
         .value_name("FILE")
         .help(
-            "Writes a line for each read: its name, the bases kept, removed in front, up to the last kept, and removed behind [default: no log]",
+            "Writes a line for each read: its name, the bases kept, removed at the start, up to the last kept, and removed at the end [default: no log]",
         )
 }
 
@@ -194,7 +194,7 @@ fn unchecked_names<'a>(alloc: Global) -> Arg<'a>
     Arg::new(alloc, "no-name-check")
         .long("no-name-check")
         .action(ArgAction::SetTrue)
-        .help("Takes mates with different names as pairs [default: names have to match]")
+        .help("Takes mates with different names as pairs [default: names must match]")
 }
 
 // The flag `--sync`.
@@ -205,7 +205,7 @@ fn sync<'a>(alloc: Global) -> Arg<'a>
         .long("sync")
         .action(ArgAction::SetTrue)
         .help(
-            "Waits at the end until the outputs are on their disk [default: only where an error may come late, as over a network]",
+            "Waits at the end until the outputs are on their disk [default: only if an error may come late, as over a network]",
         )
 }
 
@@ -237,10 +237,10 @@ fn number<'a>(alloc: Global, id: &'a str, default: &'a str, help: &'a str) -> Ar
 fn outputs<'a>(alloc: Global) -> Result<Vec<Arg<'a>>, AllocError>
     ensures { IfOk result (λ outputs. AreArgs output_rules outputs.items) }
 {
-    let forward_paired = file(alloc, "FP", "Made: forward reads whose mate survives too");
-    let forward_unpaired = file(alloc, "FU", "Made: forward reads whose mate is dropped");
-    let reverse_paired = file(alloc, "RP", "Made: reverse reads whose mate survives too");
-    let reverse_unpaired = file(alloc, "RU", "Made: reverse reads whose mate is dropped");
+    let forward_paired = file(alloc, "FP", "Output: forward reads whose mate survives");
+    let forward_unpaired = file(alloc, "FU", "Output: forward reads whose mate is dropped");
+    let reverse_paired = file(alloc, "RP", "Output: reverse reads whose mate survives");
+    let reverse_unpaired = file(alloc, "RU", "Output: reverse reads whose mate is dropped");
     let steps = steps(alloc);
     Ok(vec![in alloc;
         forward_paired,

@@ -167,10 +167,8 @@ fn work_on<G: Gate>(
     if done.ask(alloc, making.tallied).is_err() {
         return Err(Cause::Memory);
     }
-    match work_block(block, &making.steps, &mut done) {
-        Ok(()) => Ok(done),
-        Err(_) => Err(Cause::Memory),
-    }
+    work_block(block, &making.steps, &mut done).map_err(|_| Cause::Memory)?;
+    Ok(done)
 }
 
 // Asks the gate until it lets the block pass, at most `gate_turns` times.

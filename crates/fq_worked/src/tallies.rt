@@ -169,7 +169,7 @@ fn put_side(alloc: Global, answers: &mut Answers, name: &str, side: &SideTally) 
     put_key(alloc, answers, name, "dropped", &dropped)
 }
 
-/// Answers with what was counted.
+/// Puts what was counted as answers.
 pub fn put_tally(alloc: Global, answers: &mut Answers, tally: &Tally) -> Result<()> {
     put_side(alloc, answers, "forward", tally.forward.counts())?;
     put_side(alloc, answers, "reverse", tally.reverse.counts())
@@ -191,7 +191,7 @@ fn put_kept(
     }
 }
 
-/// Answers a row of pairs that are counted.
+/// Puts the answers to a row of pairs that are counted.
 pub fn answer(alloc: Global, given: &Given<'_>, answers: &mut Answers) -> Result<()> {
     given.allow(&["steps", "encoding", "pair", "other pair", "clear"])?;
     let steps = steps_in(alloc, given)?;

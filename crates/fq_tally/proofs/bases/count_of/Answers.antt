@@ -10,7 +10,7 @@ use Rattle.fq_tally.proofs.bases.count_of.Goals as goal
 not_zero : (limit : ℕ) → 1 ≤ limit → nat_le limit 0 ≡ false
 not_zero limit positive = lt-leb limit 0 positive
 
--- the bases from one place to another, and behind them those that a vector holds
+-- the bases from one place to another, and after them those that a vector holds
 goes_on : (low high from at stop : ℕ) (seq qual bases bytes : List ℕ) (old new : Counted) → 1 ≤ low → 1 ≤ high → from ≤ at → at ≤ stop →
     Holds (take (stop - at) (drop at seq)) bases → Holds (take (stop - at) (drop at qual)) bytes →
     IsCount low high (take (at - from) (drop from seq)) (take (at - from) (drop from qual)) old → CountsOn low high bases bytes old new →

@@ -8,7 +8,7 @@ use Rattle.fq_text.specs.Scores.{lowest, is_scored, value_of}
 use Rattle.fq_trim.specs.Keeping.{scores}
 use Rattle.fq_tally.proofs.bases.score_sum.Goals as goal
 
--- where each score is its byte less the same number
+-- if each score is its byte less the same number
 distances : (e : Encoding) (off : ℕ) → ((b : ℕ) → is_scored e b ≡ true → value_of e b + off ≡ b) → (qual : List ℕ) →
     list_all (is_scored e) qual ≡ true → sum (scores e qual) + off * length qual ≡ sum qual
 distances e off each [] all = omega arith

@@ -110,7 +110,7 @@ returns-in-None c =
     let dropped_is : number ∷ [] ≡ (course (alone steps) read).dropped = ap (λ (x : Course). x.dropped) (sym next) ∙ old.dropped in
     cc
 
--- behind the last step nothing is done any more
+-- after the last step nothing more is done
 pub returns : goal.returns
 returns c =
     let read = c.args.read.now in
