@@ -30,6 +30,8 @@ bash packaging/try.sh | tee "$log"
 read -r passed failed < <(sed -nE '$s/^([0-9]+) passed, ([0-9]+) failed$/\1 \2/p' "$log")
 : "${passed:=0}" "${failed:=1}" # no such line: the unit tests did not run
 skipped=0
+wrong=()
+[ "$failed" -eq 0 ] || wrong+=('unit tests')
 for script in "${scripts[@]}"; do
   echo "== $script"
   begun=$SECONDS
@@ -39,10 +41,12 @@ for script in "${scripts[@]}"; do
     77) skipped=$((skipped + 1)) ;;
     *)
       failed=$((failed + 1))
+      wrong+=("$script")
       echo "$script: FAILED"
       ;;
   esac
   echo "($((SECONDS - begun)) s)"
 done
+[ "${#wrong[@]}" -eq 0 ] || printf 'FAILED: %s\n' "${wrong[@]}"
 echo "$passed passed, $failed failed, $skipped skipped"
 [ "$failed" -eq 0 ]
