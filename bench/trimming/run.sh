@@ -330,6 +330,7 @@ measure_gz_data() {
   draw "${form[@]}" ${word:+"--$word"}
   pack_inputs
   list_gz_rows ${word:+"$word"}
+  row "trim_gz --level 5${word:+, $word}" 4 "gz_ours level5 $word"
   slow=${#rows[@]}
   list_gz_rows fast ${word:+"$word"}
   row "trim_gz --level 2${word:+, $word}" 4 "gz_ours level2 $word"
@@ -338,6 +339,23 @@ measure_gz_data() {
   run_rows
   print_gz_rows "$1, each at its own level of compression:" 0 $((slow - 1))
   print_gz_rows "$1, each at its fastest level:" "$slow" $((${#rows[@]} - 1))
+  print_same_reads ${word:+"$word"}
+}
+
+# print_same_reads [adapters]: what the reads that fastp keeps take if they are compressed as trim_gz does it. The tools don't keep the
+# same reads, so this alone compares how well they compress.
+print_same_reads() {
+  local file bytes=0
+  if [ "$peers" = no ] || ! type -P fastp bgzip > "$built/found"; then
+    return 0
+  fi
+  gz_fastp 4 "$@"
+  for file in "$out"/*.gz; do
+    bytes=$((bytes + $(gzip -dc "$file" | bgzip -c -l 4 | wc -c)))
+  done
+  echo
+  awk -v bytes="$bytes" -v theirs="$(cat "$out"/*.gz | wc -c)" \
+    'BEGIN { printf "The reads that fastp keeps: %.1f MB as it compresses them, %.1f MB as trim_gz does (%.3f)\n", theirs / 1e6, bytes / 1e6, bytes / theirs }'
 }
 
 measure_gz() {

@@ -147,11 +147,12 @@ pack_inputs() {
 # given WORD WORDS..: whether it is among them
 given() { [[ " ${*:2} " == *" $1 "* ]]; }
 
-# gz_ours THREADS [fast | level2 | igzip] [adapters]
+# gz_ours THREADS [fast | level2 | level5 | igzip] [adapters]
 gz_ours() {
   local more=(--threads "$1")
   ! given fast "$@" || more+=(--level 1)
   ! given level2 "$@" || more+=(--level 2)
+  ! given level5 "$@" || more+=(--level 5)
   ! given igzip "$@" || more+=(--compressor igzip)
   ! given adapters "$@" || more+=(--adapters "${adapters[0]},${adapters[1]}")
   timed "$here/../../contrib/trim_gz" --program "$program" "${more[@]}" -1 "$forward.gz" -2 "$reverse.gz" \

@@ -36,25 +36,23 @@ const CHUNK: u64 = 65_536;
 fn settings() -> Settings
     ensures { result ≡ example_choices }
 {
-    match Steps::parse(&["LEADING:3"]) {
-        Ok(steps) => {
-            match Settings::new(
-                Encoding::Sanger,
-                steps,
-                true,
-                2,
-                1,
-                4,
-                CHUNK,
-                CALL_LIMIT,
-                CALL_LIMIT,
-            ) {
-                Ok(settings) => settings,
-                Err(_) => unreachable!(),
-            }
-        }
-        Err(_) => unreachable!(),
-    }
+    let Ok(steps) = Steps::parse(&["LEADING:3"]) else {
+        unreachable!()
+    };
+    let Ok(settings) = Settings::new(
+        Encoding::Sanger,
+        steps,
+        true,
+        2,
+        1,
+        4,
+        CHUNK,
+        CALL_LIMIT,
+        CALL_LIMIT,
+    ) else {
+        unreachable!()
+    };
+    settings
 }
 
 // An outlet in memory that has taken nothing.

@@ -58,13 +58,11 @@ pub(crate) fn tell_account<O: Outlet, E: Outlet>(
     }
     let status = status_of(&account.outcome);
     if status == 0 || status == 3 {
-        match print_summary(alloc, &account.counts, out) {
-            Ok(printed) => {
-                if !printed && status == 0 {
-                    return cannot_print(err);
-                }
-            }
-            Err(_) => return out_of_memory(err),
+        let Ok(printed) = print_summary(alloc, &account.counts, out) else {
+            return out_of_memory(err);
+        };
+        if !printed && status == 0 {
+            return cannot_print(err);
         }
     }
     // A failed write to `err` has nowhere to be reported.
@@ -86,10 +84,7 @@ fn print_summary<O: Outlet>(
     ensures memory { OnErr result (out.new ≡ out.old) }
 {
     let text = summary(alloc, counts)?;
-    match send(out, text.as_bytes()) {
-        Ok(()) => Ok(true),
-        Err(_) => Ok(false),
-    }
+    Ok(send(out, text.as_bytes()).is_ok())
 }
 
 /// Reports on `err`, by the line `out of memory`, that memory was refused. Returns the exit status,

@@ -58,10 +58,7 @@ impl MemoryFiles {
     pub fn get(&self, name: &str) -> Option<&[u8]>
         ensures { option_map (λ bytes. bytes.now) result ≡ bytes_in self.now name.now }
     {
-        match self.held.get(name) {
-            Some(bytes) => Some(bytes.as_slice()),
-            None => None,
-        }
+        self.held.get(name).map(|bytes| bytes.as_slice())
     }
 }
 
@@ -96,10 +93,8 @@ impl Files for MemoryFiles {
         ensures failed { failed_in self.new ≡ failed_in self.old }
         ensures flushed { unflushed_in self.new ≡ unflushed_in self.old }
     {
-        match self.held.get(name) {
-            Some(bytes) => Ok(ScriptFeed::new(self.alloc, bytes, usize::MAX, 0)?),
-            None => Err(FileFault::Refused),
-        }
+        let bytes = self.held.get(name).ok_or(FileFault::Refused)?;
+        Ok(ScriptFeed::new(self.alloc, bytes, usize::MAX, 0)?)
     }
 
     fn source_done(&mut self, _name: &str, feed: ScriptFeed) {

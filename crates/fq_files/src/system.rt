@@ -126,10 +126,8 @@ impl<'a, R: rt::Files<File = File>> Files for SystemFiles<'a, R> {
     }
 
     fn leads_to_input(&self, name: &str) -> bool {
-        match fs::metadata(self.runtime, name) {
-            Ok(metadata) => self.is_input(Identity::of(&metadata)),
-            Err(_) => false,
-        }
+        let found = fs::metadata(self.runtime, name);
+        found.is_ok_and(|metadata| self.is_input(Identity::of(&metadata)))
     }
 
     fn target(&mut self, name: &str) -> Result<SystemTarget, FileFault> {

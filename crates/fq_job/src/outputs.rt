@@ -88,10 +88,9 @@ fn output<T: Files>(request: &Request<'_>, files: &mut T, out: Out) -> Result<T:
     ensures failed { T.has_failed files.new ≡ T.has_failed files.old }
     ensures flushed { T.is_unflushed files.new ≡ T.is_unflushed files.old }
 {
-    match files.target(request.output_name(out)) {
-        Ok(target) => Ok(target),
-        Err(fault) => Err(file_refused(fault, Refusal::Target(out))),
-    }
+    files
+        .target(request.output_name(out))
+        .map_err(|fault| file_refused(fault, Refusal::Target(out)))
 }
 
 /// Hands each outlet back: its file then holds what the outlet has taken.

@@ -178,10 +178,7 @@ fn put_text<O: Outlet>(target: &mut O, text: &[u8]) -> bool
     ensures flushed { result ≡ true → IsTrue (O.state target.new).is_flushed }
     ensures told { (O.state target.new).tells ≡ (O.state target.old).tells }
 {
-    match send(target, text) {
-        Ok(()) => target.flush().is_ok(),
-        Err(_) => false,
-    }
+    send(target, text).is_ok() && target.flush().is_ok()
 }
 
 // Returns the text of the report of a run that ended whole.

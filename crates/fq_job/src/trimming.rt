@@ -247,8 +247,7 @@ fn input_as_report<T: Files>(request: &Request<'_>, files: &T) -> bool
     ensures refused { IsTrue result
         → IsRefusable (asking_of request.now) (T.refuses files.now) Refusal.Report }
 {
-    match request.report {
-        Some(report) => files.leads_to_input(report),
-        None => false,
-    }
+    request
+        .report
+        .is_some_and(|report| files.leads_to_input(report))
 }

@@ -1,16 +1,18 @@
 -- The pairs that are left to a source of two texts, by what comes first in them.
-use Rattle.std.proofs.Common.{◌≡◌, ℕ, suc, ◌+◌, Bool, not, ◌||◌, true, IsTrue, Option, Some, None, MatchOption, List, refl, ap, sym, subst, ◌∙◌, add-one}
-use Rattle.std.specs.Option.{IsSome, IsSomeAnd}
+use Rattle.std.proofs.Common.{◌≡◌, ℕ, suc, ◌+◌, Bool, not, ◌||◌, true, IsTrue, Option, Some, None, MatchOption, Err, List, refl, ap, sym, subst, rules, ◌∙◌, add-one}
+use Rattle.std.specs.Option.{IfSome, IsSome, IsSomeAnd}
 use Rattle.std.proofs.lemmas.Bool.{cond-true}
 use Rattle.fq_text.specs.Devices.{FeedState}
+use Rattle.fq_text.specs.declared.fault.TextFault.{TextFault}
 use Rattle.fq_text.specs.declared.encoding.Encoding.{Encoding}
 use Rattle.fq_text.specs.Lines.{lines}
 use Rattle.fq_text.specs.Grammar.{Read, Front, Found, front}
-use Rattle.fq_text.specs.Sources.{Sourced, rest_in, GivesRecord}
-use Rattle.fq_pair.specs.declared.fault.InputFault.TheVariants.{NamesDiffer}
+use Rattle.fq_text.specs.Sources.{Sourced, rest_in, KeepsCount, GivesRecord, EndsText, StopsText}
+use Rattle.fq_pair.specs.declared.fault.InputFault.TheVariants.{Text, NamesDiffer}
+use Rattle.fq_pair.specs.declared.side.Side.TheVariants.{Reverse}
 use Rattle.fq_pair.specs.Mates.{Mates, mates_in, names_match}
 use Rattle.fq_pair.specs.Pairing.{Pairs, Stopped, Met, belong, meeting, pairs_of, with_pair}
-use Rattle.fq_pair.specs.PairSources.{PairSourced, front_of, pairs_left, GivesPair, pair_of, asked}
+use Rattle.fq_pair.specs.PairSources.{PairSourced, front_of, pairs_left, GivesPair, pair_of, asked, stopped, IsReady, StopsPairs}
 use Rattle.fq_pair.proofs.PairLaws.{records_of, pairs_of-met}
 
 module _ {F G : Type 0} (state : F → FeedState) (state' : G → FeedState) (old : PairSourced F G) where
@@ -77,3 +79,25 @@ pub of_titles : (check b : Bool) (f r : Read) (title title' : List ℕ) → titl
     belong check (mates_in f r) ≡ b
 of_titles check b f r title title' first second found =
     ap (λ t. not check || names_match t r.title) (sym first) ∙ ap (λ t. not check || names_match title t) (sym second) ∙ sym found
+
+-- the reverse text stopped by a fault after the forward text had given a record
+pub fault_after_record : {F G : Type 0} (state : F → FeedState) (state' : G → FeedState) (a b : Sourced F) (a' b' : Sourced G) (check : Bool) (given : ℕ) (before : Bool) (o : Option Read) (why : TextFault) →
+    IsReady a a' given → a.encoding ≡ a'.encoding → KeepsCount state a b → MatchOption o ⊥ (GivesRecord state a b) → StopsText state' a' b' why →
+    StopsPairs state state' (asked a a' check given before) (stopped b b' check given (Err (Text Reverse why))) (Text Reverse why)
+fault_after_record state state' a b a' b' check given before None why ready encoding kept first stops = absurd first
+fault_after_record state state' a b a' b' check given before (Some f) why ready encoding kept first stops = search rules
+
+-- the same after the forward text had ended
+pub fault_after_end : {F G : Type 0} (state : F → FeedState) (state' : G → FeedState) (a b : Sourced F) (a' b' : Sourced G) (check : Bool) (given : ℕ) (before : Bool) (why : TextFault) →
+    IsReady a a' given → a.encoding ≡ a'.encoding → KeepsCount state a b → EndsText state a b → StopsText state' a' b' why →
+    StopsPairs state state' (asked a a' check given before) (stopped b b' check given (Err (Text Reverse why))) (Text Reverse why)
+fault_after_end state state' a b a' b' check given before why ready encoding kept first stops = search rules
+
+-- the same after the first read of the forward text
+pub fault_after : {F G : Type 0} (state : F → FeedState) (state' : G → FeedState) (a b : Sourced F) (a' b' : Sourced G) (check : Bool) (given : ℕ) (before : Bool) (o : Option Read) (why : TextFault) →
+    IsReady a a' given → a.encoding ≡ a'.encoding → KeepsCount state a b → IfSome o (GivesRecord state a b) → (o ≡ None → EndsText state a b) → StopsText state' a' b' why →
+    StopsPairs state state' (asked a a' check given before) (stopped b b' check given (Err (Text Reverse why))) (Text Reverse why)
+fault_after state state' a b a' b' check given before None why ready encoding kept gives ends stops =
+    fault_after_end state state' a b a' b' check given before why ready encoding kept (ends refl) stops
+fault_after state state' a b a' b' check given before (Some f) why ready encoding kept gives ends stops =
+    fault_after_record state state' a b a' b' check given before (Some f) why ready encoding kept gives stops

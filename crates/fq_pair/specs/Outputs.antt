@@ -1,6 +1,6 @@
 -- What is written for a list of pairs: four texts of records, a log, and counts, as in the
 -- paired-end mode of the Trimmomatic manual.
-use Rattle.std.specs.Prelude.{◌≡◌, ℕ, ◌+◌, ◌-◌, ◌≤◌, Bool, true, false, not, ◌&&◌, Option, Some, None, List, [], ◌∷◌, ◌++◌, length, take, map, filter, flat_map, slice_index, decimal}
+use Rattle.std.specs.Prelude.{ℕ, ◌+◌, ◌-◌, ◌≤◌, Bool, true, false, not, ◌&&◌, Option, Some, None, List, [], ◌∷◌, ◌++◌, length, map, filter, flat_map, slice_index, decimal}
 use Rattle.std.specs.Bool.{then_some}
 use Rattle.fq_text.specs.Grammar.{Read}
 use Rattle.fq_text.specs.Written.{written, written_quality, line}

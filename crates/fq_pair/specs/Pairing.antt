@@ -4,7 +4,7 @@ use Rattle.std.specs.Option.{option_map}
 use Rattle.fq_text.specs.declared.encoding.Encoding.{Encoding}
 use Rattle.fq_text.specs.declared.fault.TextFault.{TextFault}
 use Rattle.fq_text.specs.Grammar.{Read, Front, End, Faulty, Found, front}
-use Rattle.fq_text.specs.Records.{Records, records, records_within}
+use Rattle.fq_text.specs.Records.{Records, records}
 use Rattle.fq_text.specs.Sources.{numbered}
 use Rattle.fq_pair.specs.declared.side.Side.{Side}
 use Rattle.fq_pair.specs.declared.side.Side.TheVariants.{Forward, Reverse}

@@ -1,5 +1,9 @@
 //! Why the inputs give no further pair.
 
+ghost use Rattle.std.specs.Prelude.{◌≡◌};
+ghost use Rattle.fq_pair.specs.declared.fault.InputFault.TheVariants.{Text};
+ghost use Rattle.fq_pair.specs.declared.side.Side.TheVariants.{Forward, Reverse};
+
 use crate::side::Side;
 use fq_text::TextFault;
 use thiserror::Error;
@@ -18,4 +22,20 @@ pub enum InputFault {
     /// The mates of the pair with this number have different names.
     #[error("record {0}: the names of the mates differ")]
     NamesDiffer(u64),
+}
+
+impl InputFault {
+    // A fault of the forward text.
+    pub(crate) fn forward(fault: TextFault) -> InputFault
+        ensures { result ≡ Text Forward fault }
+    {
+        InputFault::Text(Side::Forward, fault)
+    }
+
+    // A fault of the reverse text.
+    pub(crate) fn reverse(fault: TextFault) -> InputFault
+        ensures { result ≡ Text Reverse fault }
+    {
+        InputFault::Text(Side::Reverse, fault)
+    }
 }

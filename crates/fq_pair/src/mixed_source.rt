@@ -232,18 +232,14 @@ fn read_mates<F: Feed>(
 {
     *names = None;
     let number = given + 1;
-    match source.next_into(forward) {
-        Err(fault) => Err(InputFault::Text(Side::Forward, fault)),
-        Ok(false) => Ok(None),
-        Ok(true) => match source.next() {
-            Err(fault) => Err(InputFault::Text(Side::Reverse, fault)),
-            Ok(None) => Err(InputFault::MateMissing(Side::Reverse, number)),
-            Ok(Some(second)) => {
-                let first = mem::replace(forward, source.empty_record());
-                Ok(Some(Pair::matched(first, second, check_names, number)?))
-            }
-        },
+    if !source.next_into(forward).map_err(InputFault::forward)? {
+        return Ok(None);
     }
+    let Some(second) = source.next().map_err(InputFault::reverse)? else {
+        return Err(InputFault::MateMissing(Side::Reverse, number));
+    };
+    let first = mem::replace(forward, source.empty_record());
+    Ok(Some(Pair::matched(first, second, check_names, number)?))
 }
 
 // Moves to the next pair. The forward mate is copied before the reverse mate is read, which stays
@@ -280,18 +276,16 @@ fn advance_mates<F: Feed>(
         → (given + 1 ≤ text_limit) × (2 * (given + 1) ≤ source.new.given) }
 {
     *names = None;
-    match source.next_into(forward) {
-        Err(why) => Err(InputFault::Text(Side::Forward, why)),
-        Ok(false) => Ok(false),
-        Ok(true) => match source.advance() {
-            Err(why) => Err(InputFault::Text(Side::Reverse, why)),
-            Ok(false) => Err(InputFault::MateMissing(Side::Reverse, given + 1)),
-            Ok(true) => {
-                let second = source.record();
-                let lengths = check_mates(check_names, forward.title(), second.title(), given + 1)?;
-                *names = Some(lengths);
-                Ok(true)
-            }
-        },
+    let has_first = source.next_into(forward).map_err(InputFault::forward)?;
+    if !has_first {
+        return Ok(false);
     }
+    let has_second = source.advance().map_err(InputFault::reverse)?;
+    if !has_second {
+        return Err(InputFault::MateMissing(Side::Reverse, given + 1));
+    }
+    let second = source.record();
+    let lengths = check_mates(check_names, forward.title(), second.title(), given + 1)?;
+    *names = Some(lengths);
+    Ok(true)
 }

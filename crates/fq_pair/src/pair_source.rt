@@ -263,18 +263,13 @@ fn read_mates<F: Feed, G: Feed>(
 {
     *names = None;
     let number = given + 1;
-    match forward.next() {
-        Err(fault) => Err(InputFault::Text(Side::Forward, fault)),
-        Ok(Some(first)) => match reverse.next() {
-            Err(fault) => Err(InputFault::Text(Side::Reverse, fault)),
-            Ok(None) => Err(InputFault::MateMissing(Side::Reverse, number)),
-            Ok(Some(second)) => Ok(Some(Pair::matched(first, second, check_names, number)?)),
-        },
-        Ok(None) => match reverse.next() {
-            Err(fault) => Err(InputFault::Text(Side::Reverse, fault)),
-            Ok(None) => Ok(None),
-            Ok(Some(_)) => Err(InputFault::MateMissing(Side::Forward, number)),
-        },
+    let first = forward.next().map_err(InputFault::forward)?;
+    let second = reverse.next().map_err(InputFault::reverse)?;
+    match (first, second) {
+        (Some(first), Some(second)) => Ok(Some(Pair::matched(first, second, check_names, number)?)),
+        (Some(_), None) => Err(InputFault::MateMissing(Side::Reverse, number)),
+        (None, Some(_)) => Err(InputFault::MateMissing(Side::Forward, number)),
+        (None, None) => Ok(None),
     }
 }
 
@@ -319,23 +314,18 @@ fn advance_mates<F: Feed, G: Feed>(
     ensures few { result ≡ Ok true → given + 1 ≤ text_limit }
 {
     *names = None;
-    match forward.advance() {
-        Err(why) => Err(InputFault::Text(Side::Forward, why)),
-        Ok(true) => match reverse.advance() {
-            Err(why) => Err(InputFault::Text(Side::Reverse, why)),
-            Ok(false) => Err(InputFault::MateMissing(Side::Reverse, given + 1)),
-            Ok(true) => {
-                let first = forward.record();
-                let second = reverse.record();
-                let lengths = check_mates(check_names, first.title(), second.title(), given + 1)?;
-                *names = Some(lengths);
-                Ok(true)
-            }
-        },
-        Ok(false) => match reverse.advance() {
-            Err(why) => Err(InputFault::Text(Side::Reverse, why)),
-            Ok(false) => Ok(false),
-            Ok(true) => Err(InputFault::MateMissing(Side::Forward, given + 1)),
-        },
+    let has_first = forward.advance().map_err(InputFault::forward)?;
+    let has_second = reverse.advance().map_err(InputFault::reverse)?;
+    match (has_first, has_second) {
+        (true, true) => {
+            let first = forward.record();
+            let second = reverse.record();
+            let lengths = check_mates(check_names, first.title(), second.title(), given + 1)?;
+            *names = Some(lengths);
+            Ok(true)
+        }
+        (true, false) => Err(InputFault::MateMissing(Side::Reverse, given + 1)),
+        (false, true) => Err(InputFault::MateMissing(Side::Forward, given + 1)),
+        (false, false) => Ok(false),
     }
 }

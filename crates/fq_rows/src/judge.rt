@@ -329,10 +329,8 @@ fn run<R: Threads + Wait + Copy + Send + 'static>(
     requires { AreHealthy (outlet_states ⟦<FlushedOutlet as Outlet>⟧.state outlets.old) }
 {
     let settings = settings()?;
-    match end(alloc, rt, way, &settings, outlets) {
-        Some(ended) => Ok(Some(left_of(ended)?)),
-        None => Ok(None),
-    }
+    let ended = end(alloc, rt, way, &settings, outlets);
+    ended.map(left_of).transpose()
 }
 
 // How a run ends if no memory is refused, and how many pairs it has written then.

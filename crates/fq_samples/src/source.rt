@@ -24,8 +24,5 @@ pub fn source_of(
     ensures last { IfOk result (λ source. source.last ≡ None) }
 {
     let feed = ScriptFeed::new(alloc, text, CHUNK, 0)?;
-    match Source::new(alloc, feed, encoding, CHUNK, READS) {
-        Ok(source) => Ok(source),
-        Err(_) => Err(OutOfMemory),
-    }
+    Source::new(alloc, feed, encoding, CHUNK, READS).map_err(|_| OutOfMemory)
 }

@@ -1,4 +1,5 @@
 pub mod WorkedExamples
+pub mod ResultLemmas
 pub mod LineLemmas
 pub mod ReadLemmas
 pub mod AdvanceLemmas

@@ -57,10 +57,8 @@ fn read_more<F: Feed>(
     ensures told { (F.state feed.new).tells ≡ (F.state feed.old).tells }
 {
     grow(bytes, filled, chunk)?;
-    match feed.read(&mut bytes[filled..filled + chunk]) {
-        Ok(n) => Ok(n),
-        Err(_) => Err(ReadError::Read),
-    }
+    feed.read(&mut bytes[filled..filled + chunk])
+        .map_err(|_| ReadError::Read)
 }
 
 /// The line that was taken last, and the bytes after it that are in hand: read and not used yet.
@@ -178,12 +176,8 @@ impl Buffer {
         ensures told { (F.state feed.new).tells ≡ (F.state feed.old).tells }
     {
         self.make_room();
-        match read_more(feed, &mut self.bytes, self.filled, chunk) {
-            Ok(n) => {
-                self.filled += n;
-                Ok(n)
-            }
-            Err(error) => Err(error),
-        }
+        let n = read_more(feed, &mut self.bytes, self.filled, chunk)?;
+        self.filled += n;
+        Ok(n)
     }
 }

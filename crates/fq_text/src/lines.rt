@@ -185,10 +185,8 @@ impl<F: Feed> LineReader<F> {
         ensures place { IsLineEnd self.now.in_hand result }
         ensures fits { IfSome result (λ at. at < u64.MAX) }
     {
-        match memchr(b'\n', &self.hand()[scanned..]) {
-            Some(at) => Some(scanned + at),
-            None => None,
-        }
+        let at = memchr(b'\n', &self.hand()[scanned..])?;
+        Some(scanned + at)
     }
 
     // The result of reading the line that was just taken, which may be too long.

@@ -227,10 +227,10 @@ pub fn send<O: Outlet>(outlet: &mut O, bytes: &[u8]) -> Result<(), Sent>
 {
     let mut sent = 0;
     while sent < bytes.len() {
-        match outlet.write(&bytes[sent..]) {
-            Ok(n) => sent += n,
-            Err(_) => return Err(Sent { count: sent }),
-        }
+        let Ok(n) = outlet.write(&bytes[sent..]) else {
+            return Err(Sent { count: sent });
+        };
+        sent += n;
     }
     Ok(())
 }

@@ -126,10 +126,7 @@ fn take_in_hand<F: Feed>(
     ensures feed { lines.new.feed ≡ lines.old.feed }
 {
     let hand = lines.hand();
-    let shape = match first_record(encoding, hand, guess) {
-        Some(shape) => shape,
-        None => return None,
-    };
+    let shape = first_record(encoding, hand, guess)?;
     let len = shape.title + shape.bases + shape.bases + shape.again + 3 * shape.end + 2;
     lines.take_line(len, len + shape.end);
     Some(shape)

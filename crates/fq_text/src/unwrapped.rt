@@ -163,10 +163,7 @@ fn first_line(text: &[u8]) -> Option<FirstLine>
     ensures found { IfSome result (λ l. IsFirstLine text.now l.len l.end) }
     ensures none { result ≡ None → NoLf text.now (length text.now) }
 {
-    let place = match line_end(text) {
-        Some(place) => place,
-        None => return None,
-    };
+    let place = line_end(text)?;
     if 0 < place && text[place - 1] == b'\r' {
         Some(FirstLine {
             len: place - 1,
@@ -191,10 +188,7 @@ pub(crate) fn first_record(encoding: Encoding, hand: &[u8], guess: usize) -> Opt
     if !begins_with(hand, b'@') {
         return None;
     }
-    let title = match first_line(&hand[1..]) {
-        Some(title) => title,
-        None => return None,
-    };
+    let title = first_line(&hand[1..])?;
     if let Some(shape) = shape_of(encoding, hand, title, guess) {
         return Some(shape);
     }

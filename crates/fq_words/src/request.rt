@@ -87,10 +87,7 @@ pub fn same_name(request: &Request<'_>) -> Option<Out>
 pub fn report_is_input(request: &Request<'_>) -> bool
     ensures { result ≡ report_is_input (asking_of request.now) }
 {
-    match request.report {
-        Some(report) => is_input(request, report),
-        None => false,
-    }
+    matches!(request.report, Some(report) if is_input(request, report))
 }
 
 // Whether this is the name of an input.

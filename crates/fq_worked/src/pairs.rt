@@ -54,10 +54,10 @@ fn source_of(
         bail!("no such reads");
     }
     let feed = ScriptFeed::new(alloc, text, 1000, fail_at)?;
-    match Source::new(alloc, feed, encoding, chunk, max_reads) {
-        Ok(source) => Ok(source),
-        Err(_) => bail!("no memory for a source"),
-    }
+    let Ok(source) = Source::new(alloc, feed, encoding, chunk, max_reads) else {
+        bail!("no memory for a source");
+    };
+    Ok(source)
 }
 
 // Makes a source of the pairs of two texts.

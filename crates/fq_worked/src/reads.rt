@@ -57,10 +57,11 @@ fn source_of(alloc: Global, given: &Given<'_>) -> Result<Source<Counting>> {
         bail!("no such reads");
     }
     let encoding = encoding_in(given)?;
-    match Source::new(alloc, feed_of(alloc, given)?, encoding, chunk, max_reads) {
-        Ok(source) => Ok(source),
-        Err(_) => bail!("no memory for a source"),
-    }
+    let feed = feed_of(alloc, given)?;
+    let Ok(source) = Source::new(alloc, feed, encoding, chunk, max_reads) else {
+        bail!("no memory for a source");
+    };
+    Ok(source)
 }
 
 // Whether a record came, or the fault.

@@ -10,10 +10,10 @@ use Rattle.fq_text.proofs.parse.take_in_hand.Goals as goal
 pub returns-clause-found : goal.returns-clause-found
 returns-clause-found g c =
     let e = c.args.encoding in
-    let s = c.in-Some.shape in
+    let s = c.in_ok-shape.shape in
     let a = c.args.lines.now in
     let b = c.take_line.new.self in
-    let first = subst (λ (h : List ℕ). StandsFirst e h s) c.hand-hand.ensures c.in-Some.ensures.found in
+    let first = subst (λ (h : List ℕ). StandsFirst e h s) c.hand-hand.ensures c.in_ok-shape.ensures.found in
     let line = ap (λ (r : Lined g.row.F.Denot). r.line) c.take_line.ensures in
     let used : lines_len s + s.end ≡ four_len s = omega arith in
     subst (λ (r : Read). Goes g.F.Feed.state a b (front e) (Found r)) (sym (taken_same e a.in_hand s first b.line line))
@@ -22,6 +22,6 @@ returns-clause-found g c =
 pub returns-clause-whole : goal.returns-clause-whole
 returns-clause-whole g c =
     let e = c.args.encoding in
-    let s = c.in-Some.shape in
-    let first = subst (λ (h : List ℕ). StandsFirst e h s) c.hand-hand.ensures c.in-Some.ensures.found in
+    let s = c.in_ok-shape.shape in
+    let first = subst (λ (h : List ℕ). StandsFirst e h s) c.hand-hand.ensures c.in_ok-shape.ensures.found in
     taken_whole e c.args.lines.now.in_hand s first c.take_line.new.self.line (ap (λ (r : Lined g.row.F.Denot). r.line) c.take_line.ensures)

@@ -6,8 +6,8 @@ use Rattle.fq_text.proofs.unwrapped.first_line.Goals as goal
 pub returns-else-place-gt0-clause-found : goal.returns-else-place-gt0-clause-found
 returns-else-place-gt0-clause-found c =
     let text = c.args.text.now in
-    let place = c.in-Some.place in
-    let found = c.in-Some.ensures in
+    let place = c.in_ok-place.place in
+    let found = c.in_ok-place.ensures in
     let none : 1 ≤ place → get_or text (place - 1) 0 ≡ 13 → ⊥ =
     λ some is. elim c.else-place-gt0.branch [
       | else-place-gt0-via-then-place-gt0+else-text-place-eq13 w ↦ w.if-text-place-eq13.false is
