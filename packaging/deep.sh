@@ -6,21 +6,38 @@ cd "$(dirname "$0")/.."
 if [ "${1-}" = --help ]; then
   echo "usage: packaging/deep.sh [CRATE..]
 Moves crates/CRATE/wrong-bodies/*.edit into crates/CRATE/must-fail/ of a copy of the crates, and runs 'rt ci CRATE..' there.
-Without CRATE it tries those of every crate. What 'rt ci' proved before, in any checkout on this machine, is not proved
-again, so after a gate this costs the edits alone: about 24 processor seconds each. Refused edits are kept one by one, so a
-run that was cut off goes on where it ended. The last line is 'N wrong bodies refused, M not'."
+Without CRATE it tries those of every crate. The last line is 'N wrong bodies refused, M not'.
+From kit 13f on, what 'rt ci' proved before, in any checkout on this machine, is not proved again, so after a gate this costs
+the edits alone: about 24 processor seconds each. Refused edits are kept one by one, so a run that was cut off goes on where
+it ended. The 'rt ci' of an older kit takes no crates. There 'rt must-fail CRATE..' tries the edits, over a copy of what
+'make build' or 'make check' left of the crates below."
   exit
 fi
 
-if [ $# -eq 0 ]; then
+# Whether the kit's 'rt ci' takes the names of crates. If not, it prints its usage.
+ci_takes_crates() {
+  local said
+  mkdir "$room/empty"
+  said=$(cd "$room/empty" && rt ci fq_text 2>&1) || true
+  [[ $said != 'usage: rt '* ]]
+}
+
+room=$(mktemp -d)
+trap 'rm -rf "$room"' EXIT
+
+if [ $# -gt 0 ]; then
+  try=(rt must-fail "$@")
+else
+  try=(rt ci)
   for folder in crates/*/wrong-bodies; do
     folder=${folder%/wrong-bodies}
     set -- "$@" "${folder#crates/}"
   done
 fi
+if ci_takes_crates; then
+  try=(rt ci "$@")
+fi
 
-room=$(mktemp -d)
-trap 'rm -rf "$room"' EXIT
 find crates -name out -prune -o -type f -print0 | xargs -0 cp --parents -t "$room"
 cp crates.txt HANDLES "$room"
 
@@ -37,8 +54,11 @@ for crate; do
 done
 echo "deep: ${#wanted[@]} wrong bodies of $# crates, those of the gate among them"
 
+if [ "${try[1]}" = must-fail ]; then
+  find crates -mindepth 2 -maxdepth 2 -name out -exec cp -r --preserve=timestamps --parents -t "$room" {} +
+fi
 status=0
-(cd "$room" && rt ci "$@") | tee "$room/log" || status=$?
+(cd "$room" && "${try[@]}") | tee "$room/log" || status=$?
 
 refused=0
 for edit in "${wanted[@]}"; do
@@ -49,7 +69,7 @@ for edit in "${wanted[@]}"; do
   fi
 done
 if [ "$status" -ne 0 ]; then
-  echo "deep: 'rt ci $*' ended with status $status"
+  echo "deep: '${try[*]}' ended with status $status"
 fi
 echo "$refused wrong bodies refused, $((${#wanted[@]} - refused)) not"
 [ "$status" -eq 0 ] && [ "$refused" -eq "${#wanted[@]}" ]
