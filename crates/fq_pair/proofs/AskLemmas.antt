@@ -1,16 +1,15 @@
 -- What a call of a source of pairs returns, in terms of the source's state.
-use Rattle.std.proofs.Common.{◌≡◌, ◌+◌, ◌*◌, Bool, true, false, [], ◌∷◌, Option, Some, None, Result, Ok, Err, IfOk, IfErr, refl, ap, sym, subst, ◌∙◌}
+use Rattle.std.proofs.Common.{◌≡◌, ◌+◌, ◌*◌, Bool, true, false, [], ◌∷◌, Option, Some, None, Result, Ok, Err, IfErr, refl, ap, sym, subst, ◌∙◌}
 use Rattle.std.specs.Option.{IfSome, IsSomeAnd}
 use Rattle.fq_text.specs.Devices.{FeedState}
 use Rattle.fq_text.specs.Lines.{lines}
 use Rattle.fq_text.specs.Sources.{rest_in}
 use Rattle.fq_pair.specs.declared.side.Side.TheVariants.{Forward, Reverse}
 use Rattle.fq_pair.specs.declared.fault.InputFault.{InputFault}
-use Rattle.fq_pair.specs.Mates.{Mates}
 use Rattle.fq_pair.specs.PairSources.{PairSourced, KeepsCounts, GivesPair, EndsPairs, StopsPairs, failed_on}
 use Rattle.fq_pair.specs.MixedSources.{MixedSourced}
 use Rattle.fq_pair.specs.MixedSources as interleaved
-use Rattle.fq_pair.specs.Walks.{source_state, interleaved_state, KeepsSettings, side_state, Draws, Walks, Asks, Advances}
+use Rattle.fq_pair.specs.Walks.{source_state, interleaved_state, KeepsSettings, side_state, Draws, Walks, Advances}
 use Rattle.fq_pair.proofs.SideLemmas.{drawn, used}
 
 -- what holds of a value that is there
@@ -38,47 +37,6 @@ module _ {F G : Type 0} (state : F → FeedState) (state' : G → FeedState) whe
       }
 
   -- what a source that goes on returns
-  pub asks : (old new : PairSourced F G) (r : Result (Option Mates) InputFault) →
-      IfOk r (λ o. IfSome o (GivesPair state state' old new)) →
-      (r ≡ Ok None → EndsPairs state state' old new) →
-      IfErr r (StopsPairs state state' old new) →
-      (state new.forward.feed).failures ≡ (state old.forward.feed).failures + failed_on Forward r →
-      (state' new.reverse.feed).failures ≡ (state' old.reverse.feed).failures + failed_on Reverse r →
-      KeepsCounts state state' old new →
-      Asks (source_state state state' old) (source_state state state' new) r
-  asks old new (Ok (Some m)) found end fault ff fr k =
-      let f = found.forward in let r = found.reverse in
-      record {
-        same = same_settings old new k;
-        given = found.given;
-        forward_records = f.given;
-        reverse_records = r.given;
-        last = found.last;
-        forward = drawn state old.forward new.forward 0 k.forward ff;
-        reverse = drawn state' old.reverse new.reverse 0 k.reverse fr;
-        forward_used = λ told. used state old.forward new.forward (f.tail told);
-        reverse_used = λ told. used state' old.reverse new.reverse (r.tail told);
-        leads = λ tf tr. (lines (rest_in state new.forward), lines (rest_in state' new.reverse), found.pair_is tf tr, (refl, refl));
-      }
-  asks old new (Ok None) found end fault ff fr k =
-      let e = end refl in
-      record {
-        forward = drawn state old.forward new.forward 0 k.forward ff;
-        reverse = drawn state' old.reverse new.reverse 0 k.reverse fr;
-        end_is = e.end_is;
-      }
-  asks old new (Err why) found end fault ff fr k =
-      record {
-        forward = drawn state old.forward new.forward _ k.forward ff;
-        reverse = drawn state' old.reverse new.reverse _ k.reverse fr;
-        fault_is = fault.fault_is;
-        lacks = fault.lacks;
-        next = λ one. absurd cc;
-        going = λ one. absurd cc;
-        endless = fault.endless;
-      }
-
-  -- what it returns if it keeps the pair as the current one
   pub advances : (old new : PairSourced F G) (r : Result Bool InputFault) →
       (r ≡ Ok true → IsSomeAnd new.current (GivesPair state state' old new)) →
       (r ≡ Ok false → EndsPairs state state' old new) →
@@ -89,10 +47,39 @@ module _ {F G : Type 0} (state : F → FeedState) (state' : G → FeedState) whe
       Advances (source_state state state' old) (source_state state state' new) r
   advances old new (Ok true) found end fault ff fr k =
       some_and new.current (GivesPair state state' old new) (λ m. Walks (source_state state state' old) (source_state state state' new) (m ∷ []))
-      (λ m given. asks old new (Ok (Some m)) given (λ is. absurd cc) tt ff fr k) (found refl)
+      (λ m given. let f = given.forward in let r = given.reverse in record {
+        same = same_settings old new k;
+        given = given.given;
+        forward_records = f.given;
+        reverse_records = r.given;
+        last = given.last;
+        forward = drawn state old.forward new.forward 0 k.forward ff;
+        reverse = drawn state' old.reverse new.reverse 0 k.reverse fr;
+        forward_used = λ told. used state old.forward new.forward (f.tail told);
+        reverse_used = λ told. used state' old.reverse new.reverse (r.tail told);
+        leads = λ tf tr. (lines (rest_in state new.forward), lines (rest_in state' new.reverse), given.pair_is tf tr, (refl, refl));
+      }) (found refl)
   advances old new (Ok false) found end fault ff fr k =
-      let e = end refl in (asks old new (Ok None) tt (λ is. e) tt ff fr k, e.current)
-  advances old new (Err why) found end fault ff fr k = (asks old new (Err why) tt (λ is. absurd cc) fault ff fr k, fault.current)
+      let e = end refl in (
+        record {
+          forward = drawn state old.forward new.forward 0 k.forward ff;
+          reverse = drawn state' old.reverse new.reverse 0 k.reverse fr;
+          end_is = e.end_is;
+        },
+        e.current,
+      )
+  advances old new (Err why) found end fault ff fr k = (
+    record {
+      forward = drawn state old.forward new.forward _ k.forward ff;
+      reverse = drawn state' old.reverse new.reverse _ k.reverse fr;
+      fault_is = fault.fault_is;
+      lacks = fault.lacks;
+      next = λ one. absurd cc;
+      going = λ one. absurd cc;
+      endless = fault.endless;
+    },
+    fault.current,
+  )
 
   -- the current pair is in the encoding of the sources
   pub encoded : (old new : PairSourced F G) (r : Result Bool InputFault) → old.forward.encoding ≡ old.reverse.encoding →

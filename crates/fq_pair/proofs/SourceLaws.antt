@@ -87,13 +87,13 @@ pub fault_after_record : {F G : Type 0} (state : F → FeedState) (state' : G �
 fault_after_record state state' a b a' b' check given before None why ready encoding kept first stops = absurd first
 fault_after_record state state' a b a' b' check given before (Some f) why ready encoding kept first stops = search rules
 
--- the same after the forward text had ended
+-- the reverse text stopped by a fault after the forward text had ended
 pub fault_after_end : {F G : Type 0} (state : F → FeedState) (state' : G → FeedState) (a b : Sourced F) (a' b' : Sourced G) (check : Bool) (given : ℕ) (before : Bool) (why : TextFault) →
     IsReady a a' given → a.encoding ≡ a'.encoding → KeepsCount state a b → EndsText state a b → StopsText state' a' b' why →
     StopsPairs state state' (asked a a' check given before) (stopped b b' check given (Err (Text Reverse why))) (Text Reverse why)
 fault_after_end state state' a b a' b' check given before why ready encoding kept first stops = search rules
 
--- the same after the first read of the forward text
+-- the reverse text stopped by a fault after the forward text had given a record or had ended
 pub fault_after : {F G : Type 0} (state : F → FeedState) (state' : G → FeedState) (a b : Sourced F) (a' b' : Sourced G) (check : Bool) (given : ℕ) (before : Bool) (o : Option Read) (why : TextFault) →
     IsReady a a' given → a.encoding ≡ a'.encoding → KeepsCount state a b → IfSome o (GivesRecord state a b) → (o ≡ None → EndsText state a b) → StopsText state' a' b' why →
     StopsPairs state state' (asked a a' check given before) (stopped b b' check given (Err (Text Reverse why))) (Text Reverse why)

@@ -1,5 +1,5 @@
 -- Reading pairs, one after the other.
-use Rattle.std.specs.Prelude.{◌≡◌, ℕ, suc, ◌+◌, ◌-◌, ◌*◌, ◌≤◌, ◌⊎◌, Bool, true, false, IsTrue, Option, Some, None, Result, List, [], ◌∷◌, ◌++◌, length, take}
+use Rattle.std.specs.Prelude.{◌≡◌, ℕ, suc, ◌+◌, ◌-◌, ◌*◌, ◌≤◌, ◌⊎◌, Bool, true, false, IsTrue, Option, None, Result, List, [], ◌∷◌, ◌++◌, length, take}
 use Rattle.std.specs.Option.{IsSomeAnd}
 use Rattle.std.specs.declared.result.Result.TheVariants as res
 use Rattle.fq_text.specs.Devices.{FeedState}
@@ -181,14 +181,8 @@ pub record MeetsFault (old new : SourceState) (why : InputFault) : Type 0 where
   pub endless : if_endless (new.forward.max_reads ≤ new.forward.taken)
       (new.reverse.max_reads ≤ new.reverse.taken) why
 
--- what a call returns if the source goes on
-abbrev pub Asks : SourceState → SourceState → Result (Option Mates) InputFault → Type 0
-Asks old new (res.Ok (Some m)) = Walks old new (m ∷ [])
-Asks old new (res.Ok None) = MeetsEnd old new
-Asks old new (res.Err why) = MeetsFault old new why
-
--- What a call that keeps the pair as the current one returns if the source goes on: the current
--- pair is the one that was read. After the end or a fault there is none.
+-- What a call returns if the source goes on: the current pair is the one that was read. After the
+-- end or a fault there is none.
 abbrev pub Advances : SourceState → SourceState → Result Bool InputFault → Type 0
 Advances old new (res.Ok true) = IsSomeAnd new.current (λ m. Walks old new (m ∷ []))
 Advances old new (res.Ok false) = MeetsEnd old new × (new.current ≡ None)

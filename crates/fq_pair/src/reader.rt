@@ -1,14 +1,14 @@
 //! The trait of all sources of pairs.
 
-ghost use Rattle.std.specs.Prelude.{◌≡◌, ◌≤◌, true, Some, None, Ok, IfOk, IfSome, IsSome, MatchOption};
+ghost use Rattle.std.specs.Prelude.{◌≡◌, ◌≤◌, true, Some, None, Ok, IfSome, IsSome, MatchOption};
 ghost use Rattle.fq_pair.specs.Mates.{mates_in, name_lengths};
-ghost use Rattle.fq_pair.specs.PairSources.{answer_of, more_of};
-ghost use Rattle.fq_pair.specs.Walks.{SourceState, Asks, Advances};
+ghost use Rattle.fq_pair.specs.PairSources.{more_of};
+ghost use Rattle.fq_pair.specs.Walks.{SourceState, Advances};
 
 use crate::fault::InputFault;
 use crate::mixed_source::MixedSource;
 use crate::name::NameLengths;
-use crate::pair::{Pair, PairView};
+use crate::pair::PairView;
 use crate::pair_source::PairSource;
 use fq_text::Feed;
 
@@ -39,8 +39,7 @@ pub trait PairReader {
             × (m.reverse.encoding ≡ (state self.old).encoding)) };
 
     /// Lends the current pair. There must be one: the last
-    /// [`advance_pair`](PairReader::advance_pair) returned `true`, and no
-    /// [`next_pair`](PairReader::next_pair) was called after it.
+    /// [`advance_pair`](PairReader::advance_pair) returned `true`.
     fn pair_in_hand(&self) -> PairView<'_>
         requires { IsSome (state self.now).current }
         ensures { (state self.now).current ≡ Some (mates_in result.forward result.reverse) };
@@ -50,23 +49,6 @@ pub trait PairReader {
     fn names_in_hand(&self) -> NameLengths
         requires { IsSome (state self.now).current }
         ensures { IfSome (state self.now).current (λ m. result ≡ name_lengths m) };
-
-    /// Returns the next pair, or `None` at the end. After the end or a fault, every later call
-    /// returns the same. There is no current pair afterwards.
-    fn next_pair(&mut self) -> Result<Option<Pair>, InputFault>
-        // After the end or a fault, the same is returned again, and nothing more is read.
-        ensures again { MatchOption (state self.old).last (Unit {0})
-            (λ last. (result ≡ answer_of last) × (state self.new ≡ state self.old)) }
-
-        // Otherwise the result is what the sides begin with.
-        ensures asks { (state self.old).last ≡ None →
-            Asks (state self.old) (state self.new) result }
-        ensures in_hand { (state self.old).last ≡ None → (state self.new).current ≡ None }
-
-        // No more records are given than bytes can come, and mates are in the source's encoding.
-        ensures within { (state self.new).forward.given ≤ (state self.new).most_bytes }
-        ensures encoding { (state self.old).last ≡ None →
-            IfOk result (λ o. IfSome o (λ m. m.forward.encoding ≡ (state self.old).encoding)) };
 }
 
 impl<F: Feed, G: Feed> PairReader for PairSource<F, G> {
@@ -85,10 +67,6 @@ impl<F: Feed, G: Feed> PairReader for PairSource<F, G> {
     fn names_in_hand(&self) -> NameLengths {
         self.names()
     }
-
-    fn next_pair(&mut self) -> Result<Option<Pair>, InputFault> {
-        self.next()
-    }
 }
 
 impl<F: Feed> PairReader for MixedSource<F> {
@@ -106,9 +84,5 @@ impl<F: Feed> PairReader for MixedSource<F> {
 
     fn names_in_hand(&self) -> NameLengths {
         self.names()
-    }
-
-    fn next_pair(&mut self) -> Result<Option<Pair>, InputFault> {
-        self.next()
     }
 }

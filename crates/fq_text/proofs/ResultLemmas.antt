@@ -9,7 +9,7 @@ err_mapped (Ok x) after f Gave cases form d is = cc
 err_mapped (Err e) (Ok y) f Gave cases form d is = cc
 err_mapped (Err e) (Err v) f Gave cases form d is = (e, refl, let same : d ≡ v = cc in same ∙ form e v cases)
 
--- what holds after it follows from what holds of either way into it
+-- what holds of the mapped result, from what holds of the value and of the error that went in
 pub cases_mapped : {T E D : Type 0} (before : Result T E) (after : Result T D) (Gave : E → D → Type 0) (P : T → Type 0) (Q : D → Type 0) →
     MatchResult before (λ x. after ≡ Ok x) (λ e. IsErrAnd after (Gave e)) →
     ((x : T) → before ≡ Ok x → P x) → ((e : E) (d : D) → before ≡ Err e → Gave e d → Q d) → MatchResult after P Q

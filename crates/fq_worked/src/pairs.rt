@@ -27,6 +27,23 @@ use std::alloc::Global;
 
 const LONG: u64 = 1 << 40;
 
+// A source that can also give its pairs away.
+trait PairGiver {
+    fn give(&mut self) -> std::result::Result<Option<Pair>, InputFault>;
+}
+
+impl<F: Feed, G: Feed> PairGiver for PairSource<F, G> {
+    fn give(&mut self) -> std::result::Result<Option<Pair>, InputFault> {
+        self.next()
+    }
+}
+
+impl<F: Feed> PairGiver for MixedSource<F> {
+    fn give(&mut self) -> std::result::Result<Option<Pair>, InputFault> {
+        self.next()
+    }
+}
+
 // Whether a pair came, or the fault.
 type Came = std::result::Result<bool, InputFault>;
 
@@ -100,18 +117,14 @@ fn add(left: &mut Left, pair: PairView<'_>, steps: &Steps) -> Result<()> {
     Ok(())
 }
 
-fn next<S: PairReader>(pairs: &mut S) -> std::result::Result<Option<Pair>, InputFault> {
-    pairs.next_pair()
-}
-
 fn advance<S: PairReader>(pairs: &mut S) -> Came
     ensures { result ≡ Ok true → IsSome (S.state pairs.new).current }
 {
     pairs.advance_pair()
 }
 
-fn add_given<S: PairReader>(pairs: &mut S, left: &mut Left, steps: &Steps) -> Result<Came> {
-    match next(pairs) {
+fn add_given<S: PairGiver>(pairs: &mut S, left: &mut Left, steps: &Steps) -> Result<Came> {
+    match pairs.give() {
         Ok(Some(pair)) => {
             add(left, pair.view(), steps)?;
             Ok(Ok(true))
@@ -130,7 +143,7 @@ fn add_lent<S: PairReader>(pairs: &mut S, left: &mut Left, steps: &Steps) -> Res
 }
 
 // Adds the next pair, if there is one.
-fn add_next<S: PairReader>(
+fn add_next<S: PairReader + PairGiver>(
     pairs: &mut S,
     left: &mut Left,
     steps: &Steps,
@@ -145,7 +158,7 @@ fn add_next<S: PairReader>(
 
 // Adds the pairs. Returns what comes after them; it is an error if the source does not return that
 // each time.
-fn add_all<S: PairReader>(
+fn add_all<S: PairReader + PairGiver>(
     pairs: &mut S,
     left: &mut Left,
     steps: &Steps,
