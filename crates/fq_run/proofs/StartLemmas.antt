@@ -179,7 +179,6 @@ can_deal workers c s dealer ready r len is few =
       deals = record {
         some = omega arith;
         lanes = to_dealt (vec_len dealer.to) dealer.to.items _ _ len r.laid;
-        backs = r.blocks_back ∙ sym to;
         goes = subst GoesOn (sym is.fresh) (record { last = refl; within = omega arith });
         fresh = ap (λ (z : SourceState). z.forward.given) is.fresh;
         encoding = ap (λ (z : SourceState). z.encoding) is.fresh;

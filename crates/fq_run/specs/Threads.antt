@@ -46,10 +46,8 @@ pub record AreLaidOut (workers : ℕ) (lanes : Lanes) : Type 0 where
 pub record IsReady {S : Type 0} (workers : ℕ) (dealer : Dealer S) (ready : Ready) : Type 0 where
   pub some : 0 < workers
   pub to : vec_len dealer.to ≡ workers
-  pub blocks_back : vec_len dealer.blocks_back ≡ workers
   pub ends : vec_len ready.ends ≡ workers
   pub replies : vec_len ready.replies ≡ workers
-  pub texts_back : vec_len ready.texts_back ≡ workers
   pub laid : Each3 Laid dealer.to.items ready.ends.items ready.replies.items
   pub start : dealer.start ≡ fresh ready.starter.name
   pub starter : ready.starter ≡ fresh ready.starter.name

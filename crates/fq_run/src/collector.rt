@@ -8,15 +8,17 @@ ghost use Rattle.fq_serial.specs.Devices.{OutletStates, outlet_states, AreHealth
 ghost use Rattle.fq_run.specs.lanes.Items.{names_of, lists_of, AllClosed, IsDealt};
 ghost use Rattle.fq_run.specs.collector.Stops.{HearsAll, Drains};
 
+pub(crate) mod ends;
 pub(crate) mod phase;
 mod stops;
 
-use crate::lanes::places::{next_turn, take_at, take_wait_at};
-use fq_lane::{Rx, Taken, Tx};
+use crate::turns::next_turn;
+use ends::CollectorEnds;
+use fq_lane::Taken;
 use fq_serial::Outlets;
 use fq_serial::shared::{Halt, Total};
 use fq_text::Outlet;
-use fq_work::{Done, Reply};
+use fq_work::Reply;
 use phase::Phase;
 use std::sync::Wait;
 use std::thread::Parker;
@@ -32,10 +34,8 @@ const LONGEST_REST: u64 = 10_000;
 /// Takes replies in turn, writes their texts, and counts the blocks that were written completely.
 #[derive(Drop)]
 pub(crate) struct Collector {
-    /// The receivers of replies, one per worker.
-    pub(crate) replies: Vec<Rx<Reply>>,
-    /// The lanes that take written texts, with their tally, back to the workers for reuse.
-    pub(crate) texts_back: Vec<Tx<Done>>,
+    /// The ends of lanes from and to each worker.
+    pub(crate) replies: Vec<CollectorEnds>,
     /// The worker whose reply is next.
     pub(crate) turn: usize,
     /// The counts and the tally of the blocks that were written completely.
@@ -54,14 +54,12 @@ pub(crate) struct Collector {
 pub(crate) fn collect<R: Wait, O: Outlet>(
     rt: &R,
     total: Total,
-    replies: Vec<Rx<Reply>>,
-    texts_back: Vec<Tx<Done>>,
+    replies: Vec<CollectorEnds>,
     outlets: &mut Outlets<O>,
 ) -> Collector
     requires none { total ≡ no_total (is_some total.tally) }
     requires some { 0 < vec_len replies }
     requires fresh { IsDealt (vec_len replies) [] replies.items }
-    requires backs { vec_len texts_back ≡ vec_len replies }
     requires outlets { AreHealthy (outlet_states O.state outlets.old) }
     ensures collects { Collects (is_some total.tally) (vec_len replies)
         (outlet_states O.state outlets.old) (outlet_states O.state outlets.new) result }
@@ -75,7 +73,7 @@ pub(crate) fn collect<R: Wait, O: Outlet>(
     // Exactly the stops that were received are noted.
     ensures hears { HearsAll result }
 {
-    let mut collector = Collector::new(total, replies, texts_back);
+    let mut collector = Collector::new(total, replies);
     collector.write_all(rt, outlets);
     collector.drain(rt);
     collector
@@ -83,11 +81,10 @@ pub(crate) fn collect<R: Wait, O: Outlet>(
 
 impl Collector {
     // A collector that has taken nothing so far.
-    fn new(total: Total, replies: Vec<Rx<Reply>>, texts_back: Vec<Tx<Done>>) -> Collector
+    fn new(total: Total, replies: Vec<CollectorEnds>) -> Collector
         requires none { total ≡ no_total (is_some total.tally) }
         requires some { 0 < vec_len replies }
         requires fresh { IsDealt (vec_len replies) [] replies.items }
-        requires backs { vec_len texts_back ≡ vec_len replies }
         ensures collects { (outlets : OutletStates)
             → Collects (is_some total.tally) (vec_len replies) outlets outlets result }
         ensures hears { HearsAll result }
@@ -96,7 +93,6 @@ impl Collector {
     {
         Collector {
             replies,
-            texts_back,
             turn: 0,
             total,
             phase: Phase::Writing,
@@ -128,7 +124,6 @@ impl Collector {
     fn write_next<R: Wait, O: Outlet>(&mut self, rt: &R, outlets: &mut Outlets<O>)
         requires writing { self.old.phase ≡ Phase.Writing }
         requires turn { self.old.turn < vec_len self.old.replies }
-        requires backs { vec_len self.old.texts_back ≡ vec_len self.old.replies }
         requires outlets { AreHealthy (outlet_states O.state outlets.old) }
         ensures collects { (tallied : Bool) (before : OutletStates)
             → Collects tallied (vec_len self.old.replies) before
@@ -139,7 +134,8 @@ impl Collector {
         ensures hears { HearsAll self.old → HearsAll self.new }
     {
         let lanes = self.replies.len();
-        match take_wait_at(rt, &mut self.replies, self.turn) {
+        let ends = &mut self.replies[self.turn];
+        match ends.replies.take_wait(rt) {
             None => self.phase = Phase::AtMark,
             Some(Reply::Stop(cause)) => {
                 self.halt = add_stop(self.halt, cause);
@@ -151,7 +147,8 @@ impl Collector {
                     return;
                 }
                 self.total.add(&done);
-                give_back(&mut self.texts_back, self.turn, done);
+                // Without room in the lane the texts are dropped.
+                let _ = ends.back.offer(done);
                 self.turn = next_turn(self.turn, lanes);
             }
         }
@@ -202,7 +199,8 @@ impl Collector {
         requires within { at < vec_len self.old.replies }
         ensures drains { Drains self.old self.new }
     {
-        match take_at(&mut self.replies, at) {
+        let ends = &mut self.replies[at];
+        match ends.replies.take() {
             Taken::Item(Reply::Stop(cause)) => {
                 self.halt = add_stop(self.halt, cause);
                 true
@@ -211,15 +209,6 @@ impl Collector {
             Taken::Empty | Taken::Closed => false,
         }
     }
-}
-
-// Gives texts, with their tally, back to a worker for reuse if the lane has room; otherwise drops
-// them.
-fn give_back(texts_back: &mut Vec<Tx<Done>>, at: usize, done: Done)
-    requires { at < vec_len texts_back.old }
-    ensures { vec_len texts_back.new ≡ vec_len texts_back.old }
-{
-    let _ = texts_back[at].offer(done);
 }
 
 // How long a collector sleeps after the next round in which nothing comes: `FIRST_REST` if
@@ -235,11 +224,11 @@ fn next_rest(found: bool, rest: u64) -> u64
 }
 
 // Whether each lane was taken to its mark, the last thing that a lane carries.
-fn are_closed(replies: &Vec<Rx<Reply>>) -> bool
+fn are_closed(replies: &Vec<CollectorEnds>) -> bool
     ensures { IsTrue result → AllClosed replies.now.items }
 {
-    for lane in replies {
-        if !lane.is_closed() {
+    for ends in replies {
+        if !ends.replies.is_closed() {
             return false;
         }
     }

@@ -4,9 +4,10 @@ ghost use Rattle.std.specs.Prelude.{◌≡◌, true, IfOk, OnOk, IsOkAnd};
 ghost use Rattle.fq_run.specs.Each.{Each3};
 ghost use Rattle.fq_run.specs.Confirming.{CanConfirm, Confirmed};
 
+use crate::collector::ends::CollectorEnds;
 use fq_block::Block;
 use fq_lane::{End, NotEnded, Rx};
-use fq_work::{Reply, Worked};
+use fq_work::Worked;
 
 /// Confirms the start lane and the lanes of all workers, up to the first that cannot be confirmed.
 pub(crate) fn confirm(
@@ -14,7 +15,7 @@ pub(crate) fn confirm(
     start: Rx<()>,
     closings: Vec<Result<End<Block>, NotEnded>>,
     worked: Vec<Worked>,
-    replies: Vec<Rx<Reply>>,
+    replies: Vec<CollectorEnds>,
 ) -> Result<(), NotEnded>
     requires start { IfOk started (λ e. e.name ≡ start.name) × (start.marked ≡ true) }
     requires workers { Each3 CanConfirm closings.items worked.items replies.items }
@@ -40,16 +41,15 @@ fn confirm_start(started: Result<End<()>, NotEnded>, start: Rx<()>) -> Result<()
 fn confirm_workers(
     closings: Vec<Result<End<Block>, NotEnded>>,
     worked: Vec<Worked>,
-    replies: Vec<Rx<Reply>>,
+    replies: Vec<CollectorEnds>,
 ) -> Result<(), NotEnded>
     requires { Each3 CanConfirm closings.items worked.items replies.items }
     ensures { OnOk result (Each3 Confirmed closings.items worked.items replies.items) }
 {
     let mut closings = closings;
     let mut worked = worked;
-    let mut replies = replies;
-    while !replies.is_empty() {
-        confirm_worker(closings.remove(0), worked.remove(0), replies.remove(0))?;
+    for ends in replies {
+        confirm_worker(closings.remove(0), worked.remove(0), ends)?;
     }
     Ok(())
 }
@@ -58,17 +58,17 @@ fn confirm_workers(
 fn confirm_worker(
     closing: Result<End<Block>, NotEnded>,
     worked: Worked,
-    replies: Rx<Reply>,
+    ends: CollectorEnds,
 ) -> Result<(), NotEnded>
-    requires { CanConfirm closing worked replies }
-    ensures { OnOk result (Confirmed closing worked replies) }
+    requires { CanConfirm closing worked ends }
+    ensures { OnOk result (Confirmed closing worked ends) }
 {
     let Worked {
         mut rx,
         closing: replied,
         cause: _,
     } = worked;
-    let mut replies = replies;
+    let mut replies = ends.replies;
     let blocks = closing?;
     let replied = replied?;
     rx.confirm(blocks);

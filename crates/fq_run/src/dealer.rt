@@ -8,12 +8,14 @@ ghost use Rattle.fq_run.specs.dealer.Dealt.{CanDeal, HasDealt, Closed};
 mod blocks;
 pub(crate) mod dealing;
 pub(crate) mod dealt;
+pub(crate) mod ends;
 mod filling;
 
 use blocks::deal_blocks;
 use dealt::Dealt;
+use ends::DealerEnds;
 use fq_block::Block;
-use fq_lane::{End, NotEnded, Rx, Tx};
+use fq_lane::{End, NotEnded, Rx};
 use fq_pair::PairReader;
 use fq_serial::Settings;
 use fq_serial::shared::ReadingEnd;
@@ -27,10 +29,8 @@ pub(crate) struct Dealer<S> {
     pub(crate) start: Rx<()>,
     /// The pairs.
     pub(crate) source: S,
-    /// The senders of blocks, one per worker.
-    pub(crate) to: Vec<Tx<Block>>,
-    /// The lanes that bring trimmed blocks back for reuse, one per worker.
-    pub(crate) blocks_back: Vec<Rx<Block>>,
+    /// The ends of lanes to and from each worker.
+    pub(crate) to: Vec<DealerEnds>,
     /// Room for the ends of the lanes of blocks.
     pub(crate) closings: Vec<Result<End<Block>, NotEnded>>,
 }
@@ -52,18 +52,9 @@ pub(crate) fn deal<R: Wait, S: PairReader>(
         mut start,
         mut source,
         mut to,
-        mut blocks_back,
         closings,
     } = dealer;
-    let why = deal_from(
-        alloc,
-        rt,
-        settings,
-        &mut start,
-        &mut source,
-        &mut to,
-        &mut blocks_back,
-    );
+    let why = deal_from(alloc, rt, settings, &mut start, &mut source, &mut to);
     Dealt {
         start,
         closings: close_all(to, closings),
@@ -80,12 +71,10 @@ fn deal_from<R: Wait, S: PairReader>(
     settings: &Settings,
     start: &mut Rx<()>,
     source: &mut S,
-    to: &mut Vec<Tx<Block>>,
-    blocks_back: &mut Vec<Rx<Block>>,
+    to: &mut Vec<DealerEnds>,
 ) -> Option<ReadingEnd>
     requires start { start.old.items ≡ [] }
-    requires deals { MayDeal settings.now (S.state source.old)
-        (vec_len to.old) (vec_len blocks_back.old) to.old.items }
+    requires deals { MayDeal settings.now (S.state source.old) (vec_len to.old) to.old.items }
     ensures name { start.new.name ≡ start.old.name }
     ensures closed { start.new.marked ≡ true }
     ensures started { 0 < length start.new.items → result ≢ None }
@@ -95,7 +84,7 @@ fn deal_from<R: Wait, S: PairReader>(
         (S.state source.new) to.old.items to.new.items result }
 {
     start.take_wait(rt)?;
-    let why = deal_blocks(alloc, rt, settings, source, to, blocks_back);
+    let why = deal_blocks(alloc, rt, settings, source, to);
     pass_start(rt, start);
     Some(why)
 }
@@ -116,15 +105,15 @@ fn pass_start<R: Wait>(rt: &R, start: &mut Rx<()>)
 
 // Closes all lanes.
 fn close_all(
-    to: Vec<Tx<Block>>,
+    to: Vec<DealerEnds>,
     closings: Vec<Result<End<Block>, NotEnded>>,
 ) -> Vec<Result<End<Block>, NotEnded>>
     requires { (closings.items ≡ []) × (vec_len to ≤ vec_capacity closings) }
     ensures { AllZip Closed to.items result.items }
 {
     let mut closings = closings;
-    for tx in to {
-        closings.push_reserved(tx.close());
+    for ends in to {
+        closings.push_reserved(ends.to.close());
     }
     closings
 }

@@ -1,6 +1,5 @@
 //! The lanes of a run, before its threads start.
 
-pub(crate) mod places;
 pub(crate) mod seats;
 
 use crate::crew::job::Job;
@@ -56,7 +55,6 @@ impl Lanes {
         ensures source { result.0.source ≡ source }
         ensures start { result.0.start ≡ self.start }
         ensures to { result.0.to ≡ self.seats.to }
-        ensures blocks_back { result.0.blocks_back ≡ self.seats.blocks_back }
         ensures closings { result.0.closings ≡ self.closings }
         ensures ready { result.1 ≡ record {
           starter = self.starter;
@@ -65,7 +63,6 @@ impl Lanes {
           worked = self.worked;
           total = self.total;
           replies = self.seats.replies;
-          texts_back = self.seats.texts_back;
         } }
     {
         let seats = self.seats;
@@ -73,7 +70,6 @@ impl Lanes {
             start: self.start,
             source,
             to: seats.to,
-            blocks_back: seats.blocks_back,
             closings: self.closings,
         };
         let ready = Ready {
@@ -83,7 +79,6 @@ impl Lanes {
             worked: self.worked,
             total: self.total,
             replies: seats.replies,
-            texts_back: seats.texts_back,
         };
         (dealer, ready)
     }

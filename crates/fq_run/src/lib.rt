@@ -20,6 +20,7 @@ mod collector;
 mod crew;
 mod dealer;
 mod threads;
+mod turns;
 
 // What a run returns.
 mod conclusion;

@@ -1,9 +1,10 @@
 //! What the calling thread keeps until the threads start.
 
+use crate::collector::ends::CollectorEnds;
 use crate::crew::job::Job;
-use fq_lane::{Rx, Tx};
+use fq_lane::Tx;
 use fq_serial::shared::Total;
-use fq_work::{Done, Reply, WorkEnds, Worked};
+use fq_work::{WorkEnds, Worked};
 use std::thread::PromisedHandle;
 
 /// What the calling thread keeps once everything is allocated that a run needs before its threads
@@ -20,8 +21,6 @@ pub(crate) struct Ready {
     pub(crate) worked: Vec<Worked>,
     /// The total so far, which is that of no pairs.
     pub(crate) total: Total,
-    /// The receivers of replies, one per worker.
-    pub(crate) replies: Vec<Rx<Reply>>,
-    /// The lanes that take written texts back for reuse, one per worker.
-    pub(crate) texts_back: Vec<Tx<Done>>,
+    /// The ends of lanes from and to each worker.
+    pub(crate) replies: Vec<CollectorEnds>,
 }

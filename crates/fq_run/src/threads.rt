@@ -8,6 +8,7 @@ ghost use Rattle.fq_serial.specs.Devices.{outlet_states, AreHealthy};
 ghost use Rattle.fq_run.specs.Each.{Each3};
 ghost use Rattle.fq_run.specs.Threads.{IsReady, IsFresh, IsManned, run_from, IsThreaded, Concludes};
 
+use crate::collector::ends::CollectorEnds;
 use crate::collector::{Collector, collect};
 use crate::conclusion::Conclusion;
 use crate::confirming::confirm;
@@ -17,12 +18,12 @@ use crate::dealer::Dealer;
 use crate::dealer::dealing::start_dealer;
 use crate::dealer::dealt::Dealt;
 use crate::ready::Ready;
-use fq_lane::{End, NotEnded, Rx, Tx};
+use fq_lane::{End, NotEnded};
 use fq_pair::{Out, PairReader};
 use fq_serial::shared::{Occurred, Total};
 use fq_serial::{Outcome, Outlets, Settings};
 use fq_text::Outlet;
-use fq_work::{Done, Gate, Reply, Worked};
+use fq_work::{Gate, Worked};
 use std::alloc::Global;
 use std::sync::{Arc, Wait};
 use std::thread::Threads;
@@ -58,7 +59,6 @@ pub(crate) fn start<
         worked,
         total,
         replies,
-        texts_back,
     } = ready;
     let Some(dealer) = start_dealer(alloc, rt, settings, dealer) else {
         return Conclusion::unstarted(total, None);
@@ -77,7 +77,7 @@ pub(crate) fn start<
         hands,
         worked,
     };
-    attend(rt, crew, total, replies, texts_back, outlets)
+    attend(rt, crew, total, replies, outlets)
 }
 
 // Lets the dealer start, collects, and waits for all threads.
@@ -85,13 +85,11 @@ fn attend<R: Threads + Wait, S: PairReader, O: Outlet>(
     rt: &R,
     crew: Crew<S>,
     total: Total,
-    replies: Vec<Rx<Reply>>,
-    texts_back: Vec<Tx<Done>>,
+    replies: Vec<CollectorEnds>,
     outlets: &mut Outlets<O>,
 ) -> Conclusion<S>
     requires total { total ≡ no_total crew.dealer.promise.settings.tallied }
     requires manned { IsManned crew replies.items }
-    requires backs { vec_len texts_back ≡ vec_len replies }
     requires fresh { IsFresh crew.dealer.promise.settings
         (S.state crew.dealer.promise.source.value) }
     requires outlets { AreHealthy (outlet_states O.state outlets.old) }
@@ -108,7 +106,7 @@ fn attend<R: Threads + Wait, S: PairReader, O: Outlet>(
     } = crew;
     starter.put(rt, ());
     let started = starter.close();
-    let collector = collect(rt, total, replies, texts_back, outlets);
+    let collector = collect(rt, total, replies, outlets);
     let failed = outlets.flush_after(collector.phase.failed());
     let dealt = dealer.join(rt);
     let worked = join_workers(rt, hands, worked);

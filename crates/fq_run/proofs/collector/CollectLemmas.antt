@@ -17,15 +17,15 @@ use Rattle.fq_work.specs.declared.reply.Reply.TheVariants.{Done as done, Stop}
 use Rattle.fq_serial.specs.Devices.{OutletStates, AreHealthy, OutletsTook, part_at}
 use Rattle.fq_serial.specs.Sending.{BreaksAt}
 use Rattle.fq_run.specs.Shares.{every, gather}
-use Rattle.fq_run.specs.lanes.Items.{lists_of, IsDealt, IsBegun, TakesAt}
+use Rattle.fq_run.specs.lanes.Items.{lists_of, IsDealt, IsBegun}
 use Rattle.fq_run.specs.collector.Collecting.{written_text, counted_from, counted, before_stop, TookAll, IsHeard, HasStopped, HasBroken, Writes, failed_in, Collects}
-use Rattle.fq_run.specs.collector.Stops.{with_stop, HearsAll, Drains}
+use Rattle.fq_run.specs.collector.Stops.{with_stop, stops_of, Drains}
 use Rattle.fq_run.specs.declared.collector.Collector.{Collector}
 use Rattle.fq_serial.specs.declared.halt.Halt.{Halt}
 use Rattle.fq_run.specs.declared.collector.phase.Phase.{Phase}
 use Rattle.fq_run.specs.declared.collector.phase.Phase.TheVariants.{Writing, AtMark, Stopped, WriteFailed}
 use Rattle.fq_run.proofs.DealLemmas.{turn_more}
-use Rattle.fq_run.proofs.lanes.LaneLemmas.{dealt_item, at_mark_closed, at_mark_takes, begun_takes, takes_length, takes_names}
+use Rattle.fq_run.proofs.lanes.LaneLemmas.{TakesAt, dealt_item, at_mark_closed, at_mark_takes, begun_takes, takes_length, takes_names}
 use Rattle.fq_serial.proofs.OutletLemmas.{all_took_then, all_took_same, still_healthy}
 use Rattle.fq_run.proofs.collector.StopLemmas.{heard_at, stops_taken}
 use Rattle.fq_run.proofs.collector.TurnLemmas.{begun_gather, at_mark_gather}
@@ -80,8 +80,8 @@ still_heard cause.Memory (Item (Stop cause.Memory)) k l e h = ap (λ (h : Halt).
 still_heard cause.Gate _ k l e h = ap (λ (h : Halt). h.gate) e ∙ h
 still_heard cause.Memory _ k l e h = ap (λ (h : Halt). h.memory) e ∙ h
 
-pub hears_take : (r : Taken Reply) (k l : Collector) (j : ℕ) → j < length k.replies.items → TakesAt r k.replies.items l.replies.items j → l.halt ≡ heard_at r k.halt → HearsAll k → HearsAll l
-hears_take r k l j lt t e h = e ∙ ap (heard_at r) h ∙ sym (stops_taken r k.replies.items l.replies.items j lt t)
+pub hears_take : (r : Taken Reply) (old new : List (History Reply)) (before after : Halt) (j : ℕ) → j < length old → TakesAt r old new j → after ≡ heard_at r before → before ≡ stops_of old → after ≡ stops_of new
+hears_take r old new before after j lt t e h = e ∙ ap (heard_at r) h ∙ sym (stops_taken r old new j lt t)
 
 -- While the collector writes.
 
@@ -101,8 +101,8 @@ at_turn tallied w before now k h at_k =
 
 module _ (tallied : Bool) (w : ℕ) (before old now : OutletStates) (k l : Collector) where
   pub collects_written : (d : Done) → Collects tallied w before old k → k.phase ≡ Writing → l.phase ≡ Writing → TakesAt (Item (done d)) k.replies.items l.replies.items k.turn →
-      OutletsTook old now (λ out. text_of out d.texts) None → l.total ≡ total_plus k.total d → length l.texts_back.items ≡ length k.texts_back.items → l.turn ≡ suc k.turn % w → Collects tallied w before now l
-  collects_written d h at_k at_l t took total backs turn =
+      OutletsTook old now (λ out. text_of out d.texts) None → l.total ≡ total_plus k.total d → l.turn ≡ suc k.turn % w → Collects tallied w before now l
+  collects_written d h at_k at_l t took total turn =
       let ds = h.written in
       let k_writes = at_turn tallied w before old k h at_k in
       let pos : 0 < w = omega (arith, h.turn) in
@@ -110,7 +110,6 @@ module _ (tallied : Bool) (w : ℕ) (before old now : OutletStates) (k l : Colle
       let longer : length (map done ds ++ done d ∷ []) ≡ length (ds ++ d ∷ []) = ap length (sym more) ∙ length-map (ds ++ d ∷ []) done in
       record {
         lanes = takes_length (Item (done d)) _ _ _ t ∙ h.lanes;
-        backs = backs ∙ h.backs;
         turn = subst (λ n. n < w) (sym turn) (mod_below (suc k.turn) w pos);
         written = ds ++ d ∷ [];
         total = total ∙ ap (λ (t : Total). total_plus t d) h.total ∙ sym (counted_more tallied ds d);
@@ -123,8 +122,8 @@ module _ (tallied : Bool) (w : ℕ) (before old now : OutletStates) (k l : Colle
       }
 
   pub collects_broken : (d : Done) (failed : Out) → Collects tallied w before old k → k.phase ≡ Writing → l.phase ≡ WriteFailed failed → TakesAt (Item (done d)) k.replies.items l.replies.items k.turn →
-      BreaksAt old now d.texts failed → l.total ≡ k.total → l.texts_back ≡ k.texts_back → l.turn ≡ k.turn → Collects tallied w before now l
-  collects_broken d failed h at_k at_l t breaks total backs turn =
+      BreaksAt old now d.texts failed → l.total ≡ k.total → l.turn ≡ k.turn → Collects tallied w before now l
+  collects_broken d failed h at_k at_l t breaks total turn =
       let ds = h.written in
       let k_writes = at_turn tallied w before old k h at_k in
       let more : map done (ds ++ d ∷ []) ≡ map done ds ++ done d ∷ [] = map-append done ds (d ∷ []) in
@@ -138,7 +137,6 @@ module _ (tallied : Bool) (w : ℕ) (before old now : OutletStates) (k l : Colle
       } in
       record {
         lanes = takes_length (Item (done d)) _ _ _ t ∙ h.lanes;
-        backs = ap (λ b. length b.items) backs ∙ h.backs;
         turn = subst (λ n. n < w) (sym turn) h.turn;
         written = ds;
         total = total ∙ h.total;
@@ -148,13 +146,12 @@ module _ (tallied : Bool) (w : ℕ) (before old now : OutletStates) (k l : Colle
 module _ (tallied : Bool) (w : ℕ) (before now : OutletStates) (k l : Collector) where
   -- the lane whose turn it is has closed
   pub collects_at_mark : Collects tallied w before now k → k.phase ≡ Writing → l.phase ≡ AtMark → TakesAt Closed k.replies.items l.replies.items k.turn →
-      l.total ≡ k.total → l.texts_back ≡ k.texts_back → l.turn ≡ k.turn → Collects tallied w before now l
-  collects_at_mark h at_k at_l t total backs turn =
+      l.total ≡ k.total → l.turn ≡ k.turn → Collects tallied w before now l
+  collects_at_mark h at_k at_l t total turn =
       let ds = h.written in
       let k_writes = at_turn tallied w before now k h at_k in
       record {
         lanes = takes_length Closed _ _ _ t ∙ h.lanes;
-        backs = ap (λ b. length b.items) backs ∙ h.backs;
         turn = subst (λ n. n < w) (sym turn) h.turn;
         written = ds;
         total = total ∙ h.total;
@@ -164,8 +161,8 @@ module _ (tallied : Bool) (w : ℕ) (before now : OutletStates) (k l : Collector
 
   -- the reply in turn is a stop
   pub collects_stopped : (why : Cause) → Collects tallied w before now k → k.phase ≡ Writing → l.phase ≡ Stopped → TakesAt (Item (Stop why)) k.replies.items l.replies.items k.turn →
-      l.halt ≡ with_stop why k.halt → l.total ≡ k.total → l.texts_back ≡ k.texts_back → l.turn ≡ k.turn → Collects tallied w before now l
-  collects_stopped why h at_k at_l t halt total backs turn =
+      l.halt ≡ with_stop why k.halt → l.total ≡ k.total → l.turn ≡ k.turn → Collects tallied w before now l
+  collects_stopped why h at_k at_l t halt total turn =
       let ds = h.written in
       let k_writes = at_turn tallied w before now k h at_k in
       let stopped : HasStopped w before now ds l = record {
@@ -176,7 +173,6 @@ module _ (tallied : Bool) (w : ℕ) (before now : OutletStates) (k l : Collector
       } in
       record {
         lanes = takes_length (Item (Stop why)) _ _ _ t ∙ h.lanes;
-        backs = ap (λ b. length b.items) backs ∙ h.backs;
         turn = subst (λ n. n < w) (sym turn) h.turn;
         written = ds;
         total = total ∙ h.total;
@@ -208,10 +204,9 @@ passes w (WriteFailed failed) r before now ds k l j over lt h t halt = record {
 }
 
 collects_takes : (tallied : Bool) (w : ℕ) (r : Taken Reply) (before now : OutletStates) (k l : Collector) (j : ℕ) → Collects tallied w before now k → (k.phase ≡ Writing → ⊥) → l.phase ≡ k.phase → j < length k.replies.items →
-    TakesAt r k.replies.items l.replies.items j → l.halt ≡ heard_at r k.halt → l.total ≡ k.total → l.texts_back ≡ k.texts_back → l.turn ≡ k.turn → Collects tallied w before now l
-collects_takes tallied w r before now k l j h over at_l lt t halt total backs turn = record {
+    TakesAt r k.replies.items l.replies.items j → l.halt ≡ heard_at r k.halt → l.total ≡ k.total → l.turn ≡ k.turn → Collects tallied w before now l
+collects_takes tallied w r before now k l j h over at_l lt t halt total turn = record {
   lanes = takes_length r _ _ _ t ∙ h.lanes;
-  backs = ap (λ b. length b.items) backs ∙ h.backs;
   turn = subst (λ n. n < w) (sym turn) h.turn;
   written = h.written;
   total = total ∙ h.total;
@@ -219,10 +214,10 @@ collects_takes tallied w r before now k l j h over at_l lt t halt total backs tu
 }
 
 pub drains_take : (r : Taken Reply) (k l : Collector) (j : ℕ) → (k.phase ≡ Writing → ⊥) → l.phase ≡ k.phase → j < length k.replies.items → TakesAt r k.replies.items l.replies.items j →
-    l.halt ≡ heard_at r k.halt → l.total ≡ k.total → l.texts_back ≡ k.texts_back → l.turn ≡ k.turn → Drains k l
-drains_take r k l j over at_l lt t halt total backs turn = record {
+    l.halt ≡ heard_at r k.halt → l.total ≡ k.total → l.turn ≡ k.turn → Drains k l
+drains_take r k l j over at_l lt t halt total turn = record {
   phase = at_l;
   names = takes_names r _ _ _ t;
-  collects = λ tallied w before now h. collects_takes tallied w r before now k l j h over at_l lt t halt total backs turn;
-  hears = hears_take r k l j lt t halt;
+  collects = λ tallied w before now h. collects_takes tallied w r before now k l j h over at_l lt t halt total turn;
+  hears = hears_take r _ _ _ _ j lt t halt;
 }

@@ -11,9 +11,10 @@ use Rattle.fq_work.specs.declared.reply.Cause.{Cause}
 use Rattle.fq_work.specs.declared.reply.Cause.TheVariants.{Gate, Memory}
 use Rattle.fq_work.specs.declared.reply.Reply.{Reply}
 use Rattle.fq_work.specs.declared.reply.Reply.TheVariants.{Done as done, Stop}
-use Rattle.fq_run.specs.lanes.Items.{TakesAt, IsDealt}
+use Rattle.fq_run.specs.lanes.Items.{IsDealt}
 use Rattle.fq_run.specs.collector.Stops.{with_stop, is_stop, has_come, stops_of}
 use Rattle.fq_serial.specs.declared.halt.Halt.{Halt}
+use Rattle.fq_run.proofs.lanes.LaneLemmas.{TakesAt}
 
 -- what a take adds to the stops
 abbrev pub heard_at : Taken Reply → Halt → Halt

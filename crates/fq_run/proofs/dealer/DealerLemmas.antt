@@ -1,7 +1,8 @@
 -- Blocks that are filled and dealt out, one after another.
-use Rattle.std.proofs.Common.{◌≡◌, ℕ, suc, ◌+◌, ◌<◌, ◌≤◌, ◌^◌, ◌%◌, Option, Some, None, List, [], ◌∷◌, ◌++◌, length, map, refl, sym, ap, subst, ◌∙◌, arith, append_assoc, length-append}
+use Rattle.std.proofs.Common.{◌≡◌, ℕ, suc, ◌+◌, ◌<◌, ◌≤◌, ◌^◌, ◌%◌, Option, Some, None, List, [], ◌∷◌, ◌++◌, length, map, get_or, refl, sym, ap, subst, ◌∙◌, arith, append_assoc, length-append}
+use Rattle.std.proofs.Math.ListN.{set}
 use Rattle.std.proofs.Math.Nat.{zero-mod}
-use Rattle.std.proofs.lemmas.List.{append-nil, map-append}
+use Rattle.std.proofs.lemmas.List.{append-nil, map-append, set-get_or}
 use Rattle.fq_text.specs.declared.encoding.Encoding.{Encoding}
 use Rattle.fq_lane.specs.History.{History}
 use Rattle.fq_block.specs.Blocks.{Numbered}
@@ -16,7 +17,7 @@ use Rattle.fq_run.specs.lanes.Items.{names_of, IsDealt}
 use Rattle.fq_pair.specs.Walks.{SourceState, Walks, GoesOn}
 use Rattle.fq_serial.specs.PairsRead.{Reads}
 use Rattle.fq_run.proofs.DealLemmas.{turn_more}
-use Rattle.fq_run.proofs.lanes.LaneLemmas.{dealt_offer}
+use Rattle.fq_run.proofs.lanes.LaneLemmas.{dealt_offer, names_written}
 use Rattle.fq_serial.proofs.WalkLemmas.{walks_none, walks_then, reads_then}
 use Rattle.fq_pair.proofs.SideLemmas.{walked_records}
 
@@ -98,9 +99,8 @@ module _ (c : Choices) (old : SourceState) (to : List (History Numbered)) where
   }
 
   -- One more block.
-  module _ (now next : SourceState) (lanes after : List (History Numbered)) (turn number : ℕ) (empty block : Numbered) (why : Option ReadingEnd) (d : DealsFull now lanes turn number)
-      (f : Fills now next c.block_pairs empty block why) (numbered_as : empty.number ≡ number) (encoded_as : empty.encoding ≡ c.encoding)
-      (sends : SendsFilled block lanes after turn) (len : length after ≡ length lanes) (same_names : names_of after ≡ names_of lanes) where
+  module _ (now next : SourceState) (lanes : List (History Numbered)) (turn number : ℕ) (lane other after : History Numbered) (empty block : Numbered) (why : Option ReadingEnd) (d : DealsFull now lanes turn number)
+      (f : Fills now next c.block_pairs empty block why) (numbered_as : empty.number ≡ number) (encoded_as : empty.encoding ≡ c.encoding) (read : lane ≡ get_or lanes turn other) (sends : SendsFilled block lane after) where
     mates_few : old.forward.given ≡ 0 → old.most_bytes ≤ 2 ^ 60 → length (d.mates ++ block.pairs) ≤ 2 ^ 60
     mates_few fresh bound =
         let mates = d.mates in let w = d.walks in let s = w.same in let records = walked_records old now d.mates w in let bytes = s.most_bytes in let within = f.within in omega (arith, length-append mates block.pairs)
@@ -111,10 +111,13 @@ module _ (c : Choices) (old : SourceState) (to : List (History Numbered)) where
     numbered_more : AreNumbered c.encoding 0 (d.blocks ++ block ∷ [])
     numbered_more = let is = d.number_is in let number = f.number in numbered_then c.encoding 0 d.blocks block d.numbered (omega (arith, numbered_as)) (f.encoding ∙ encoded_as)
 
-    dealt_more : 0 < length block.pairs → IsDealt (length to) (d.blocks ++ block ∷ []) after
-    dealt_more some = dealt_offer (length to) d.blocks block lanes after turn d.dealt len (sends.some some) d.below d.turn_is
+    dealt_more : 0 < length block.pairs → IsDealt (length to) (d.blocks ++ block ∷ []) (set lanes turn after)
+    dealt_more some = dealt_offer (length to) d.blocks block lanes turn lane other after d.dealt read (sends.some some) d.below d.turn_is
 
-    pub deals_more : why ≡ None → 1 ≤ c.block_pairs → (turn' : ℕ) → turn' ≡ suc turn % length to → turn' < length to → DealsFull next after turn' (number + 1)
+    names_more : 0 < length block.pairs → names_of (set lanes turn after) ≡ names_of to
+    names_more some = let dealt = d.dealt in names_written lanes turn lane other after (omega (arith, dealt.lanes, d.below)) read (ap (λ l. l.name) (sends.some some)) ∙ d.names
+
+    pub deals_more : why ≡ None → 1 ≤ c.block_pairs → (turn' : ℕ) → turn' ≡ suc turn % length to → turn' < length to → DealsFull next (set lanes turn after) turn' (number + 1)
     deals_more going most turn' is below =
         let full = f.full going in
         let blocks = d.blocks in let mates = d.mates in let few = d.few in let number_is = d.number_is in
@@ -129,7 +132,7 @@ module _ (c : Choices) (old : SourceState) (to : List (History Numbered)) where
           numbered = numbered_more;
           few = omega (arith, length-append mates block.pairs, length-append blocks (block ∷ []));
           dealt = dealt_more (omega arith);
-          names = same_names ∙ d.names;
+          names = names_more (omega arith);
           turn_is = turn_more blocks block turn turn' (length to) d.turn_is is;
           below = below;
           number_is = omega (arith, length-append blocks (block ∷ []));
@@ -141,7 +144,7 @@ module _ (c : Choices) (old : SourceState) (to : List (History Numbered)) where
     cut_last : (blocks : List Numbered) (mates : List Mates) → join (pairs_of blocks) ≡ mates → AreEven c.block_pairs (pairs_of blocks) → AreNumbered c.encoding 0 blocks → AreBlocks c mates blocks
     cut_last blocks mates joined even numbered = record { cut = record { joined = joined; even = even }; numbered = numbered }
 
-    last_some : old.forward.given ≡ 0 → old.most_bytes ≤ 2 ^ 60 → 0 < length block.pairs → DealsOut c old next to after why
+    last_some : old.forward.given ≡ 0 → old.most_bytes ≤ 2 ^ 60 → 0 < length block.pairs → DealsOut c old next to (set lanes turn after) why
     last_some fresh bound some =
         let blocks = d.blocks in let mates = d.mates in
         let even = even_then c.block_pairs (pairs_of blocks) block.pairs d.full (omega arith) f.few in
@@ -153,14 +156,15 @@ module _ (c : Choices) (old : SourceState) (to : List (History Numbered)) where
           few = mates_few fresh bound;
           cut = cut_last (blocks ++ block ∷ []) (mates ++ block.pairs) joined_more (subst (AreEven c.block_pairs) (sym (pairs_then blocks block)) even) numbered_more;
           dealt = dealt_more some;
-          names = same_names ∙ d.names;
+          names = names_more some;
         }
 
-    last_none : old.forward.given ≡ 0 → old.most_bytes ≤ 2 ^ 60 → 1 ≤ c.block_pairs → block.pairs ≡ [] → DealsOut c old next to after why
+    last_none : old.forward.given ≡ 0 → old.most_bytes ≤ 2 ^ 60 → 1 ≤ c.block_pairs → block.pairs ≡ [] → DealsOut c old next to (set lanes turn after) why
     last_none fresh bound most none =
         let blocks = d.blocks in let mates = d.mates in
         let same : mates ++ block.pairs ≡ mates = ap (λ ms. mates ++ ms) none ∙ append-nil mates in
         let P : List Mates → Type 0 = λ ms. Reads old next ms why in
+        let unsent : set lanes turn after ≡ lanes = ap (set lanes turn) (sends.none none ∙ read) ∙ set-get_or lanes turn other in
         let Q : List Mates → Type 0 = λ ms. length ms ≤ 2 ^ 60 in
         let R : List Mates → Type 0 = λ ms. why ≡ Some reading.Memory → next.given ≡ old.given + length ms + 1 in
         record {
@@ -170,16 +174,16 @@ module _ (c : Choices) (old : SourceState) (to : List (History Numbered)) where
           lost = subst R same lost_last;
           few = subst Q same (mates_few fresh bound);
           cut = cut_last blocks mates d.joined (even_full c.block_pairs (pairs_of blocks) most d.full) d.numbered;
-          dealt = subst (IsDealt (length to) blocks) (sym (sends.none none)) d.dealt;
-          names = same_names ∙ d.names;
+          dealt = subst (IsDealt (length to) blocks) (sym unsent) d.dealt;
+          names = ap names_of unsent ∙ d.names;
         }
 
-    last_of : old.forward.given ≡ 0 → old.most_bytes ≤ 2 ^ 60 → 1 ≤ c.block_pairs → (ms : List Mates) → block.pairs ≡ ms → DealsOut c old next to after why
+    last_of : old.forward.given ≡ 0 → old.most_bytes ≤ 2 ^ 60 → 1 ≤ c.block_pairs → (ms : List Mates) → block.pairs ≡ ms → DealsOut c old next to (set lanes turn after) why
     last_of fresh bound most [] is = last_none fresh bound most is
     last_of fresh bound most (m ∷ ms) is = let len = ap length is in last_some fresh bound (omega arith)
 
     -- the last block has pairs or is empty
-    pub deals_last : old.forward.given ≡ 0 → old.most_bytes ≤ 2 ^ 60 → 1 ≤ c.block_pairs → DealsOut c old next to after why
+    pub deals_last : old.forward.given ≡ 0 → old.most_bytes ≤ 2 ^ 60 → 1 ≤ c.block_pairs → DealsOut c old next to (set lanes turn after) why
     deals_last fresh bound most = last_of fresh bound most block.pairs refl
 
   -- nothing was read

@@ -9,10 +9,16 @@ use Rattle.fq_lane.specs.Take.{Takes}
 use Rattle.fq_lane.specs.declared.taken.Taken.{Taken}
 use Rattle.fq_lane.specs.declared.taken.Taken.TheVariants.{Item, Empty, Closed}
 use Rattle.fq_run.specs.Shares.{every}
-use Rattle.fq_run.specs.lanes.Items.{names_of, IsDealt, IsAtMark, IsBegun, TakesAt}
+use Rattle.fq_run.specs.lanes.Items.{names_of, IsDealt, IsAtMark, IsBegun}
 use Rattle.fq_run.proofs.DealLemmas.{every_here, every_there}
 
 module _ {T : Type 0} where
+  -- what a take from one lane returns and changes
+  pub record TakesAt (r : Taken T) (old new : List (History T)) (j : ℕ) : Type 0 where
+    pub history : History T
+    pub takes : Takes r (get_or old j history) history
+    pub becomes : new ≡ set old j history
+
   -- a receiver that may have taken more
   record Follows (a b : History T) : Type 0 where
     pub name : b.name ≡ a.name
@@ -56,18 +62,6 @@ module _ {T : Type 0} where
       (λ e. subst (λ (k : History T). Follows k t.history) (get_or_default old j t.history d lt ∙ ap (λ k. get_or old k d) (sym e)) (follows_take r (get_or old j t.history) t.history t.takes))
       (λ n. follows_same _ _ refl))
 
-  pub dealt_item : (w : ℕ) (xs : List T) (x : T) (old new : List (History T)) (j : ℕ) → IsDealt w xs old → TakesAt (Item x) old new j → j < w → j ≡ length xs % w → IsDealt w (xs ++ x ∷ []) new
-  dealt_item w xs x old new j h t lt turn =
-      let within : j < length old = omega (arith, h.lanes) in
-      let here : t.history.items ≡ every j w (xs ++ x ∷ []) = ap (λ l. l.items) t.takes.1 ∙ ap (λ ys. ys ++ x ∷ []) (h.items j t.history lt) ∙ sym (every_here xs x j w lt (sym turn)) in
-      record {
-        lanes = takes_length (Item x) old new j t ∙ h.lanes;
-        items = λ i d below. (let P : List (History T) → Type 0 = λ ls. (get_or ls i d).items ≡ every i w (xs ++ x ∷ []) in
-            subst P (sym t.becomes) (set_at old j i t.history d (λ l. l.items ≡ every i w (xs ++ x ∷ [])) within
-            (λ e. subst (λ (k : ℕ). t.history.items ≡ every k w (xs ++ x ∷ [])) (sym e) here)
-            (λ n. h.items i d below ∙ sym (every_there xs x i w below (λ m. n (sym m ∙ sym turn))))));
-      }
-
   prefix_trans : (xs ys zs : List T) → IsPrefix xs ys → IsPrefix ys zs → IsPrefix xs zs
   prefix_trans xs ys zs p q = (p.0 ++ q.0, sym (append_assoc xs p.0 q.0) ∙ ap (λ us. us ++ q.0) p.1 ∙ q.1)
 
@@ -95,24 +89,28 @@ module _ {T : Type 0} where
       }
 
   -- the names after one lane changed
-  pub names_written : (ls : List (History T)) (j : ℕ) (k l : History T) → j < length ls → k ≡ get_or ls j k → l.name ≡ k.name → names_of (set ls j l) ≡ names_of ls
-  names_written ls j k l lt read same = names-set ls j l (same ∙ ap (λ (m : History T). m.name) (read ∙ get_or_default ls j k l lt))
+  pub names_written : (ls : List (History T)) (j : ℕ) (k d l : History T) → j < length ls → k ≡ get_or ls j d → l.name ≡ k.name → names_of (set ls j l) ≡ names_of ls
+  names_written ls j k d l lt read same = names-set ls j l (same ∙ ap (λ (m : History T). m.name) (read ∙ get_or_default ls j d l lt))
 
-  -- the names after something was taken from one lane
-  pub taken_names : (r : Taken T) (ls : List (History T)) (j : ℕ) (k l : History T) → j < length ls → k ≡ get_or ls j k → Takes r k l → names_of (set ls j l) ≡ names_of ls
-  taken_names r ls j k l lt read t = names_written ls j k l lt read (follows_take r k l t).name
+  -- something was taken from one lane
+  pub taken_at : (r s : Taken T) (old new : List (History T)) (j : ℕ) (k d l : History T) → r ≡ s → j < length old → k ≡ get_or old j d → Takes r k l → new ≡ set old j l → TakesAt s old new j
+  taken_at r s old new j k d l is lt read t becomes =
+      record { history = l; takes = subst (λ m. Takes s m l) (read ∙ get_or_default old j d l lt) (subst (λ q. Takes q k l) is t); becomes = becomes }
 
-  pub dealt_offer : (w : ℕ) (xs : List T) (x : T) (old new : List (History T)) (j : ℕ) → IsDealt w xs old → length new ≡ length old → ((d : History T) → new ≡ set old j (with_item (get_or old j d) x)) → j < w → j ≡ length xs % w → IsDealt w (xs ++ x ∷ []) new
-  dealt_offer w xs x old new j h len t lt turn =
+  pub dealt_offer : (w : ℕ) (xs : List T) (x : T) (old : List (History T)) (j : ℕ) (k d l : History T) → IsDealt w xs old → k ≡ get_or old j d → l ≡ with_item k x → j < w → j ≡ length xs % w → IsDealt w (xs ++ x ∷ []) (set old j l)
+  dealt_offer w xs x old j k d l h read sent lt turn =
       let within : j < length old = omega (arith, h.lanes) in
+      let here : l.items ≡ every j w (xs ++ x ∷ []) = ap (λ m. m.items) sent ∙ ap (λ m. m.items ++ x ∷ []) read ∙ ap (λ ys. ys ++ x ∷ []) (h.items j d lt) ∙ sym (every_here xs x j w lt (sym turn)) in
       record {
-        lanes = len ∙ h.lanes;
-        items = λ i d below. (let P : List (History T) → Type 0 = λ ls. (get_or ls i d).items ≡ every i w (xs ++ x ∷ []) in
-            let here : get_or old j d ≡ get_or old j d = refl in
-            subst P (sym (t d)) (set_at old j i (with_item (get_or old j d) x) d (λ l. l.items ≡ every i w (xs ++ x ∷ [])) within
-            (λ e. subst (λ (k : ℕ). (with_item (get_or old j d) x).items ≡ every k w (xs ++ x ∷ [])) (sym e) (ap (λ ys. ys ++ x ∷ []) (h.items j d lt) ∙ sym (every_here xs x j w lt (sym turn))))
-            (λ n. h.items i d below ∙ sym (every_there xs x i w below (λ m. n (sym m ∙ sym turn))))));
+        lanes = length-set old j l ∙ h.lanes;
+        items = λ i e below. set_at old j i l e (λ m. m.items ≡ every i w (xs ++ x ∷ [])) within
+            (λ q. subst (λ (n : ℕ). l.items ≡ every n w (xs ++ x ∷ [])) (sym q) here)
+            (λ n. h.items i e below ∙ sym (every_there xs x i w below (λ m. n (sym m ∙ sym turn))));
       }
+
+  pub dealt_item : (w : ℕ) (xs : List T) (x : T) (old new : List (History T)) (j : ℕ) → IsDealt w xs old → TakesAt (Item x) old new j → j < w → j ≡ length xs % w → IsDealt w (xs ++ x ∷ []) new
+  dealt_item w xs x old new j h t lt turn =
+      subst (IsDealt w (xs ++ x ∷ [])) (sym t.becomes) (dealt_offer w xs x old j (get_or old j t.history) t.history t.history h refl t.takes.1 lt turn)
 
   -- what came first has been written
   pub begun_takes : (w : ℕ) (r : Taken T) (xs : List T) (old new : List (History T)) (j : ℕ) → IsBegun w xs old → TakesAt r old new j → j < w → IsBegun w xs new

@@ -85,7 +85,6 @@ failed_in _ = None
 pub record Collects (tallied : Bool) (w : ℕ) (before now : OutletStates)
     (k : Collector) : Type 0 where
   pub lanes : length k.replies.items ≡ w
-  pub backs : length k.texts_back.items ≡ w
   pub turn : k.turn < w
   pub written : List Done
   pub total : k.total ≡ counted tallied written

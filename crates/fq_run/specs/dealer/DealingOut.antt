@@ -1,6 +1,6 @@
 -- The blocks of all pairs, dealt out to the lanes of the workers.
-use Rattle.std.specs.Prelude.{◌≡◌, ℕ, suc, ◌+◌, ◌<◌, ◌≤◌, ◌^◌, Option, Some}
-use Rattle.std.specs.Prelude.{List, [], ◌∷◌, map, length, slice_index_or, slice_set}
+use Rattle.std.specs.Prelude.{◌≡◌, ℕ, suc, ◌+◌, ◌<◌, ◌≤◌, Option, Some}
+use Rattle.std.specs.Prelude.{List, [], ◌∷◌, map, length}
 use Rattle.fq_text.specs.Reading.{text_limit}
 use Rattle.fq_text.specs.declared.encoding.Encoding.{Encoding}
 use Rattle.fq_lane.specs.History.{History, with_item}
@@ -26,12 +26,11 @@ pub record AreBlocks (c : Choices) (ms : List Mates) (blocks : List Numbered) : 
   pub numbered : AreNumbered c.encoding 0 blocks
 
 -- what may be dealt: the pairs of a source that nothing was read from, to lanes through which
--- nothing has gone, each with a lane back
-pub record MayDeal (c : Choices) (s : SourceState) (w ways : ℕ)
+-- nothing has gone
+pub record MayDeal (c : Choices) (s : SourceState) (w : ℕ)
     (to : List (History Numbered)) : Type 0 where
   pub some : 0 < w
   pub lanes : IsDealt w [] to
-  pub backs : ways ≡ w
   pub goes : GoesOn s
   pub fresh : s.forward.given ≡ 0
   pub encoding : s.encoding ≡ c.encoding
@@ -50,8 +49,7 @@ pub record DealsOut (c : Choices) (old new : SourceState) (to sent : List (Histo
   pub dealt : IsDealt (length to) blocks sent
   pub names : names_of sent ≡ names_of to
 
--- a block that has pairs was sent to one lane, and an empty block to none
-pub record SendsFilled (block : Numbered) (old new : List (History Numbered)) (j : ℕ) : Type 0 where
+-- a block that has pairs was sent, and an empty one was not
+pub record SendsFilled (block : Numbered) (old new : History Numbered) : Type 0 where
   pub none : block.pairs ≡ [] → new ≡ old
-  pub some : 0 < length block.pairs → (d : History Numbered) →
-      new ≡ slice_set old j (with_item (slice_index_or old j d) block)
+  pub some : 0 < length block.pairs → new ≡ with_item old block

@@ -18,7 +18,7 @@ Closed to closing = IfOk closing (λ e. e ≡ with_mark to)
 -- a dealer that may deal, and has room for the ends of its lanes
 pub record CanDeal {S : Type 0} (c : Choices) (s : SourceState) (dealer : Dealer S) : Type 0 where
   pub room : (dealer.closings.items ≡ []) × (vec_len dealer.to ≤ vec_capacity dealer.closings)
-  pub deals : MayDeal c s (vec_len dealer.to) (vec_len dealer.blocks_back) dealer.to.items
+  pub deals : MayDeal c s (vec_len dealer.to) dealer.to.items
 
 -- the blocks of the pairs that were read were dealt out to lanes, which are closed
 pub record Deals (c : Choices) (old new : SourceState) (to : List (History Numbered))

@@ -1,9 +1,7 @@
 -- The lanes of a crew, in order.
-use Rattle.std.specs.Prelude.{◌≡◌, ℕ, ◌<◌, ◌%◌, true, List, length, map, slice_index_or, slice_set}
+use Rattle.std.specs.Prelude.{◌≡◌, ℕ, ◌<◌, ◌%◌, true, List, length, map, slice_index_or}
 use mathlib.Core.List.{IsPrefix}
 use Rattle.fq_lane.specs.History.{History, Name}
-use Rattle.fq_lane.specs.Take.{Takes}
-use Rattle.fq_lane.specs.declared.taken.Taken.{Taken}
 use Rattle.fq_run.specs.Shares.{every}
 
 module _ {T : Type 0} where
@@ -34,12 +32,6 @@ module _ {T : Type 0} where
     pub lanes : length ls ≡ w
     pub begins : (j : ℕ) (d : History T) → j < w →
         IsPrefix (every j w xs) (slice_index_or ls j d).items
-
-  -- what a take from one lane returns and changes
-  pub record TakesAt (r : Taken T) (old new : List (History T)) (j : ℕ) : Type 0 where
-    pub history : History T
-    pub takes : Takes r (slice_index_or old j history) history
-    pub becomes : new ≡ slice_set old j history
 
   abbrev pub AllClosed : List (History T) → Type 0
   AllClosed ls = (j : ℕ) (d : History T) → j < length ls → (slice_index_or ls j d).marked ≡ true

@@ -24,22 +24,18 @@ IsLaid seats = Each3 Laid seats.to.items seats.ends.items seats.replies.items
 -- there is this number of each
 abbrev pub AreFor : ℕ → Seats → Type 0
 AreFor workers seats =
-    (vec_len seats.to ≡ workers) × (vec_len seats.blocks_back ≡ workers)
-    × (vec_len seats.ends ≡ workers)
-    × (vec_len seats.replies ≡ workers) × (vec_len seats.texts_back ≡ workers)
+    (vec_len seats.to ≡ workers) × (vec_len seats.ends ≡ workers)
+    × (vec_len seats.replies ≡ workers)
 
 -- there is room for this number of each
 abbrev pub HaveRoom : ℕ → Seats → Type 0
 HaveRoom workers seats =
-    (workers ≤ vec_capacity seats.to) × (workers ≤ vec_capacity seats.blocks_back)
-    × (workers ≤ vec_capacity seats.ends)
-    × (workers ≤ vec_capacity seats.replies) × (workers ≤ vec_capacity seats.texts_back)
+    (workers ≤ vec_capacity seats.to) × (workers ≤ vec_capacity seats.ends)
+    × (workers ≤ vec_capacity seats.replies)
 
 -- the room is unchanged
 abbrev pub KeepRoom : Seats → Seats → Type 0
 KeepRoom old new =
     (vec_capacity new.to ≡ vec_capacity old.to)
-    × (vec_capacity new.blocks_back ≡ vec_capacity old.blocks_back)
     × (vec_capacity new.ends ≡ vec_capacity old.ends)
     × (vec_capacity new.replies ≡ vec_capacity old.replies)
-    × (vec_capacity new.texts_back ≡ vec_capacity old.texts_back)

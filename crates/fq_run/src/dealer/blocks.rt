@@ -1,13 +1,13 @@
 //! Fills blocks, and deals them out in turn.
 
-ghost use Rattle.std.specs.Prelude.{◌≡◌, ◌<◌, Some, [], vec_len};
+ghost use Rattle.std.specs.Prelude.{◌≡◌, Some, [], vec_len};
 ghost use Rattle.fq_run.specs.dealer.DealingOut.{MayDeal, DealsOut, SendsFilled};
-ghost use Rattle.fq_run.specs.lanes.Items.{names_of};
 
+use crate::dealer::ends::DealerEnds;
 use crate::dealer::filling::fill;
-use crate::lanes::places::{next_turn, put_at};
+use crate::turns::next_turn;
 use fq_block::Block;
-use fq_lane::{Rx, Taken, Tx};
+use fq_lane::Taken;
 use fq_pair::PairReader;
 use fq_serial::Settings;
 use fq_serial::shared::ReadingEnd;
@@ -21,11 +21,9 @@ pub(crate) fn deal_blocks<R: Wait, S: PairReader>(
     rt: &R,
     settings: &Settings,
     source: &mut S,
-    to: &mut Vec<Tx<Block>>,
-    blocks_back: &mut Vec<Rx<Block>>,
+    to: &mut Vec<DealerEnds>,
 ) -> ReadingEnd
-    requires { MayDeal settings.now (S.state source.old)
-        (vec_len to.old) (vec_len blocks_back.old) to.old.items }
+    requires { MayDeal settings.now (S.state source.old) (vec_len to.old) to.old.items }
     ensures { DealsOut settings.now (S.state source.old)
         (S.state source.new) to.old.items to.new.items (Some result) }
 {
@@ -34,10 +32,10 @@ pub(crate) fn deal_blocks<R: Wait, S: PairReader>(
     let mut number = 0;
     // The label is the loop's name in its proof.
     'dealing: loop {
-        let back = &mut blocks_back[turn];
-        let mut block = ready_block(alloc, back, number, settings.encoding());
+        let ends = &mut to[turn];
+        let mut block = ready_block(alloc, ends, number, settings.encoding());
         let why = fill(source, settings.block_pairs(), &mut block);
-        put_filled(rt, to, turn, block);
+        put_filled(rt, ends, block);
         if let Some(why) = why {
             return why;
         }
@@ -48,10 +46,11 @@ pub(crate) fn deal_blocks<R: Wait, S: PairReader>(
 
 // An empty block with this number: one that came back, or a new one. A block in another encoding is
 // dropped.
-fn ready_block(alloc: Global, blocks_back: &mut Rx<Block>, number: u64, encoding: Encoding) -> Block
-    ensures { result ≡ record { number = number; encoding = encoding; pairs = [] } }
+fn ready_block(alloc: Global, ends: &mut DealerEnds, number: u64, encoding: Encoding) -> Block
+    ensures block { result ≡ record { number = number; encoding = encoding; pairs = [] } }
+    ensures unsent { ends.new ≡ ends.old }
 {
-    match blocks_back.take() {
+    match ends.back.take() {
         Taken::Item(mut block) if block.encoding() == encoding => {
             block.reset(number);
             block
@@ -60,14 +59,11 @@ fn ready_block(alloc: Global, blocks_back: &mut Rx<Block>, number: u64, encoding
     }
 }
 
-// Sends a block to one lane, and waits for room. An empty block is dropped.
-fn put_filled<R: Wait>(rt: &R, to: &mut Vec<Tx<Block>>, at: usize, block: Block)
-    requires { at < vec_len to.old }
-    ensures sends { SendsFilled block to.old.items to.new.items at }
-    ensures len { vec_len to.new ≡ vec_len to.old }
-    ensures names { names_of to.new.items ≡ names_of to.old.items }
+// Sends a block to a worker, and waits for room. An empty block is dropped.
+fn put_filled<R: Wait>(rt: &R, ends: &mut DealerEnds, block: Block)
+    ensures { SendsFilled block ends.old ends.new }
 {
     if !block.is_empty() {
-        put_at(rt, to, at, block);
+        ends.to.put(rt, block);
     }
 }

@@ -4,9 +4,9 @@ ghost use Rattle.std.specs.Prelude.{◌≡◌, [], IfSome};
 ghost use Rattle.fq_run.specs.dealer.Dealt.{CanDeal};
 
 use crate::dealer::dealt::Dealt;
+use crate::dealer::ends::DealerEnds;
 use crate::dealer::{Dealer, deal};
-use fq_block::Block;
-use fq_lane::{Rx, Tx};
+use fq_lane::Rx;
 use fq_pair::PairReader;
 use fq_serial::Settings;
 use std::alloc::Global;
@@ -21,7 +21,7 @@ use std::thread::{Promise, PromisedHandle, Threads};
 pub(crate) struct Dealing<S> {
     pub(crate) settings: Settings,
     pub(crate) start: Snapshot<Rx<()>>,
-    pub(crate) to: Snapshot<Vec<Tx<Block>>>,
+    pub(crate) to: Snapshot<Vec<DealerEnds>>,
     pub(crate) source: Snapshot<S>,
 }
 

@@ -3,26 +3,20 @@
 ghost use Rattle.std.specs.Prelude.{◌≡◌, ◌≤◌, IfOk};
 ghost use Rattle.fq_run.specs.lanes.Laying.{IsLaid, AreFor};
 
-use fq_block::Block;
-use fq_lane::{Rx, Tx, lane};
+use crate::collector::ends::CollectorEnds;
+use crate::dealer::ends::DealerEnds;
+use fq_lane::lane;
 use fq_text::OutOfMemory;
-use fq_work::{Done, Reply, WorkEnds};
+use fq_work::WorkEnds;
 use std::alloc::Global;
 
 /// The ends of the lanes of all workers, one per worker: for the dealer, the workers and the
 /// collector.
 #[derive(Drop)]
 pub(crate) struct Seats {
-    /// The senders of blocks, for the dealer.
-    pub(crate) to: Vec<Tx<Block>>,
-    /// The receivers of trimmed blocks, for the dealer to reuse.
-    pub(crate) blocks_back: Vec<Rx<Block>>,
-    /// The ends that each worker gets.
+    pub(crate) to: Vec<DealerEnds>,
     pub(crate) ends: Vec<WorkEnds>,
-    /// The receivers of replies, for the collector.
-    pub(crate) replies: Vec<Rx<Reply>>,
-    /// The senders of written texts, for the collector, so that workers reuse them.
-    pub(crate) texts_back: Vec<Tx<Done>>,
+    pub(crate) replies: Vec<CollectorEnds>,
 }
 
 // The largest room of a lane, in items.
@@ -64,10 +58,8 @@ impl Seats {
     {
         Ok(Seats {
             to: Vec::with_capacity(alloc, workers)?,
-            blocks_back: Vec::with_capacity(alloc, workers)?,
             ends: Vec::with_capacity(alloc, workers)?,
             replies: Vec::with_capacity(alloc, workers)?,
-            texts_back: Vec::with_capacity(alloc, workers)?,
         })
     }
 
@@ -84,17 +76,18 @@ impl Seats {
         let (to, rx) = lane(alloc, depth)?;
         let (tx, replies) = lane(alloc, depth)?;
         let (blocks_back, blocks) = lane(alloc, room_back(depth))?;
-        let (texts_back, texts) = lane(alloc, room_back(depth))?;
-        self.to.push_reserved(to);
-        self.blocks_back.push_reserved(blocks);
+        let (texts, texts_back) = lane(alloc, room_back(depth))?;
+        self.to.push_reserved(DealerEnds { to, back: blocks });
         self.ends.push_reserved(WorkEnds {
             rx,
             tx,
             blocks_back,
-            texts_back: texts,
+            texts_back,
         });
-        self.replies.push_reserved(replies);
-        self.texts_back.push_reserved(texts_back);
+        self.replies.push_reserved(CollectorEnds {
+            replies,
+            back: texts,
+        });
         Ok(())
     }
 }

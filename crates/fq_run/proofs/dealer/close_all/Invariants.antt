@@ -4,8 +4,8 @@ use Rattle.std.specs.List.{AllZip}
 use Rattle.fq_run.specs.dealer.Dealt.{Closed}
 use Rattle.fq_run.proofs.dealer.close_all.Given as goal
 
-abbrev pub invariant-loop-tx : goal.invariant-loop-tx
-invariant-loop-tx l = record {
+abbrev pub invariant-loop-ends : goal.invariant-loop-ends
+invariant-loop-ends l = record {
   room : vec_capacity l.closings ≡ vec_capacity l.fn.closings;
   count : vec_len l.closings ≡ length l.yielded;
   closed : AllZip Closed l.yielded l.closings.items;

@@ -8,7 +8,6 @@ use Rattle.fq_run.proofs.dealer.blocks.deal_blocks.Goals as goal
 pub dealing-init : goal.dealing-init
 dealing-init g c = record {
   lanes = c.len-lanes.ensures;
-  backs = c.requires.backs;
   deals = deals_none _ _ _ c.requires.goes _ c.requires.some c.requires.lanes;
 }
 
@@ -16,10 +15,9 @@ pub returns-in-Some : goal.returns-in-Some
 returns-in-Some g c =
     let filled = fills_as _ _ c.args.settings.now.block_pairs c.block_pairs.result _ _ _ c.block_pairs.ensures.pairs c.in-Some.ensures in
     let some = c.block_pairs.ensures.some in let same = c.block_pairs.ensures.pairs in
-    deals_last c.args.settings.now _ _ _ _ _ _ _ _ _ _ _ c.dealing.invariant.deals filled
-    (ap (λ (b : Numbered). b.number) c.ready_block-block.ensures) (ap (λ (b : Numbered). b.encoding) c.ready_block-block.ensures ∙ c.encoding.ensures)
-    c.put_filled.ensures.sends (omega (arith, c.put_filled.ensures.len, c.put_filled.new.to.ok.0, c.dealing.to.ok.0)) c.put_filled.ensures.names
-    c.requires.fresh c.requires.few (omega arith)
+    deals_last c.args.settings.now _ _ _ _ _ _ _ _ _ _ _ _ _ c.dealing.invariant.deals filled
+    (ap (λ (b : Numbered). b.number) c.ready_block-block.ensures.block) (ap (λ (b : Numbered). b.encoding) c.ready_block-block.ensures.block ∙ c.encoding.ensures)
+    (c.ready_block-block.ensures.unsent ∙ c.index_mut-ends.ensures.value) c.put_filled.ensures c.requires.fresh c.requires.few (omega arith)
 
 pub dealing-preserved : goal.dealing-preserved
 dealing-preserved g c =
@@ -28,9 +26,7 @@ dealing-preserved g c =
     let lanes : c.len-lanes.result ≡ length c.args.to.now.items = omega (arith, c.len-lanes.ensures, c.args.to.now.ok.0) in
     record {
       lanes = c.dealing.invariant.lanes;
-      backs = c.dealing.invariant.backs;
-      deals = deals_more c.args.settings.now _ _ _ _ _ _ _ _ _ _ _ c.dealing.invariant.deals filled
-          (ap (λ (b : Numbered). b.number) c.ready_block-block.ensures) (ap (λ (b : Numbered). b.encoding) c.ready_block-block.ensures ∙ c.encoding.ensures)
-          c.put_filled.ensures.sends (omega (arith, c.put_filled.ensures.len, c.put_filled.new.to.ok.0, c.dealing.to.ok.0)) c.put_filled.ensures.names
-          c.in_default.is (omega arith) c.next_turn-turn.result (c.next_turn-turn.ensures.value ∙ ap (λ n. suc c.dealing.turn % n) lanes) (omega (arith, c.next_turn-turn.ensures.below));
+      deals = deals_more c.args.settings.now _ _ _ _ _ _ _ _ _ _ _ _ _ c.dealing.invariant.deals filled
+          (ap (λ (b : Numbered). b.number) c.ready_block-block.ensures.block) (ap (λ (b : Numbered). b.encoding) c.ready_block-block.ensures.block ∙ c.encoding.ensures)
+          (c.ready_block-block.ensures.unsent ∙ c.index_mut-ends.ensures.value) c.put_filled.ensures c.in_default.is (omega arith) c.next_turn-turn.result (c.next_turn-turn.ensures.value ∙ ap (λ n. suc c.dealing.turn % n) lanes) (omega (arith, c.next_turn-turn.ensures.below));
     }

@@ -7,7 +7,6 @@ abbrev pub invariant-dealing : goal.invariant-dealing
 invariant-dealing g l =
     let s = g.S.PairReader in record {
       lanes : l.lanes ≡ vec_len l.fn.to;
-      backs : vec_len l.blocks_back ≡ vec_len l.fn.to;
       deals : DealsFull l.fn.settings (s.state l.fn.source) l.fn.to.items
           (s.state l.source) l.to.items l.turn l.number;
     }

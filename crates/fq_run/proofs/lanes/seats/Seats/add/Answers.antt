@@ -13,4 +13,4 @@ returns-clause-laid c =
       replies_are = fresh_is replies.replies replies.replies.name refl replies.ensures.receiver.0 replies.ensures.receiver.1;
       rx = fresh_is blocks.rx blocks.to.name blocks.ensures.one_lane blocks.ensures.receiver.0 blocks.ensures.receiver.1;
       tx = fresh_is replies.tx replies.replies.name (sym replies.ensures.one_lane) replies.ensures.sender.0 replies.ensures.sender.1;
-    }) c.push_reserved.ensures.items c.push_reserved-3.ensures.items c.push_reserved-4.ensures.items
+    }) c.push_reserved.ensures.items c.push_reserved-2.ensures.items c.push_reserved-3.ensures.items
