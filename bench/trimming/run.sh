@@ -101,6 +101,9 @@ done
 count=${asked:-1000000}
 [ -x "$program" ] || stop "no program $program (make build makes it)"
 program=$(realpath "$program")
+# trim_gz is run by the system's Python, as Debian's cutadapt is. A version manager's python3 may be a script that takes 0.1 s.
+python=$(type -P /usr/bin/python3 || type -P python3) || stop "no python3"
+export python
 built=$(mktemp -d)
 trap 'rm -rf "$built" ${room:+"$room"}' EXIT
 for tool in pairs copy passing thread_times; do
@@ -325,12 +328,14 @@ print_gz_rows() {
 
 # measure_gz_data TITLE WORDS: both tables over reads that are simulated with these options: each tool's own level, and its fastest
 measure_gz_data() {
-  local slow word=$2
+  # `next` is the level after trim_gz's own one.
+  local slow word=$2 next=5
+  [ -z "$word" ] || next=4 # its own level is 3 beside cutadapt, and 4 else
   rows=()
   draw "${form[@]}" ${word:+"--$word"}
   pack_inputs
   list_gz_rows ${word:+"$word"}
-  row "trim_gz --level 5${word:+, $word}" 4 "gz_ours level5 $word"
+  row "trim_gz --level $next${word:+, $word}" 4 "gz_ours level$next $word"
   slow=${#rows[@]}
   list_gz_rows fast ${word:+"$word"}
   row "trim_gz --level 2${word:+, $word}" 4 "gz_ours level2 $word"
@@ -345,13 +350,14 @@ measure_gz_data() {
 # print_same_reads [adapters]: what the reads that fastp keeps take if they are compressed as trim_gz does it. The tools don't keep the
 # same reads, so this alone compares how well they compress.
 print_same_reads() {
-  local file bytes=0
+  local file bytes=0 level=4
+  [ $# -eq 0 ] || level=3 # adapters: the level beside cutadapt
   if [ "$peers" = no ] || ! type -P fastp bgzip > "$built/found"; then
     return 0
   fi
   gz_fastp 4 "$@"
   for file in "$out"/*.gz; do
-    bytes=$((bytes + $(gzip -dc "$file" | bgzip -c -l 4 | wc -c)))
+    bytes=$((bytes + $(gzip -dc "$file" | bgzip -c -l "$level" | wc -c)))
   done
   echo
   awk -v bytes="$bytes" -v theirs="$(cat "$out"/*.gz | wc -c)" \
@@ -362,7 +368,7 @@ measure_gz() {
   count=${asked:-400000}
   enter "${place:-memory}"
   echo "From .gz to .gz: $count pairs, $kind; 4 threads; median of $rounds; $(print_machine)"
-  echo "trim_gz is run by $(python3 --version), $(type -P python3)"
+  echo "trim_gz is run by $("$python" --version), $python"
   measure_gz_data 'Without adapters' ''
   measure_gz_data 'With adapters in a quarter of the pairs' adapters
   print_versions tabix isal trimmomatic fastp cutadapt bbmap adapterremoval

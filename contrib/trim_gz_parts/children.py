@@ -56,10 +56,11 @@ def feed(fd, data):
 class Child:
     """A program that was started, in a process group of its own, and what it prints on standard error."""
 
-    def __init__(self, name, words, stdin, stdout, passed, said):
+    def __init__(self, name, words, stdin, stdout, passed, said, usual):
         self.name, self.status = name, None
-        environment = {key: value for key, value in os.environ.items() if key not in ("GZIP", "PIGZ")}
-        environment["LC_ALL"] = "C"
+        environment = {**usual, **os.environ, "LC_ALL": "C"}
+        for options in "GZIP", "PIGZ":
+            environment.pop(options, None)
         self.said, said_end = said
         for fd in passed:
             os.set_inheritable(fd, True)
@@ -179,9 +180,10 @@ class Family:
             os.close(fd)
         self.lent.clear()
 
-    def start(self, name, words, stdin=None, stdout=None, passed=()):
-        """Starts a child. Its standard error is gathered, and its standard output too if none is given."""
-        self.children.append(Child(name, words, stdin, stdout, passed, self.listen()))
+    def start(self, name, words, stdin=None, stdout=None, passed=(), usual=()):
+        """Starts a child. Its standard error is gathered, and its standard output too if none is given. The usual variables are in its
+        environment unless the caller has set them."""
+        self.children.append(Child(name, words, stdin, stdout, passed, self.listen(), dict(usual)))
 
     def attend(self):
         """Waits until something happens, or for a while."""

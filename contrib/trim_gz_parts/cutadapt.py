@@ -12,6 +12,8 @@ from .files import readable
 
 SEQUENCES = "[ACGTUNRYSWKMBDHVI]+(,[ACGTUNRYSWKMBDHVI]+)?$"
 SECONDS_TO_NOTICE = 3
+# The C library would return cutadapt's buffers of some MB to the system after each use, and take them again, cleared page by page.
+KEEPS_BUFFERS = {"MALLOC_MMAP_THRESHOLD_": "33554432", "MALLOC_TRIM_THRESHOLD_": "268435456"}
 
 
 def adapter_options(adapters):
@@ -66,7 +68,7 @@ class Cutadapt:
         self.names.update({f"/dev/fd/{fd}": "-" for fd in (counts, self.trimmed)})
         words = ["cutadapt"] + self.options + ["-j", str(self.threads), "--interleaved", "--json", f"/dev/fd/{counts}"]
         words += ["-o", f"/dev/fd/{self.trimmed}"] + pipes
-        family.start("cutadapt", words, None, printed, sources + [counts, self.trimmed])
+        family.start("cutadapt", words, None, printed, sources + [counts, self.trimmed], KEEPS_BUFFERS)
         return reading
 
     def end(self):

@@ -18,6 +18,8 @@ COMPRESSORS = {  # the level without --level, and the arguments
     "pigz": (6, lambda level, threads: ["pigz", "-n", f"-{level}", "-p", str(threads)]),
     "gzip": (6, lambda level, threads: ["gzip", "-n", f"-{level}"]),
 }
+# The level beside cutadapt, which needs the processors: this one takes 0.6 of the other's time, and its files are 0.8 % larger.
+BESIDE_CUTADAPT = {"bgzip": 3}
 # What bgzip prints for a damaged file, and gzip's words for it.
 GZIP_WORDS = (
     ("hread returned -1", "read error"),
@@ -39,7 +41,7 @@ class Tools:
     def __init__(self, arguments):
         self.compressor = self.choose_compressor(arguments.compressor)
         self.decompressor = self.choose_decompressor(arguments.decompressor)
-        self.level = arguments.level or COMPRESSORS[self.compressor][0]
+        self.level = arguments.level or self.usual_level(arguments.uses_cutadapt())
         self.threads = len(os.sched_getaffinity(0))
         if arguments.threads and re.match("[1-9][0-9]?$", arguments.threads):
             self.threads = int(arguments.threads)
@@ -61,6 +63,10 @@ class Tools:
         if not shutil.which(name):
             raise Fault(1, f"no program {name} (--decompressor)")
         return name
+
+    def usual_level(self, is_beside_cutadapt):
+        level = COMPRESSORS[self.compressor][0]
+        return BESIDE_CUTADAPT.get(self.compressor, level) if is_beside_cutadapt else level
 
     def compress(self, role):
         """The command that compresses the output of this role. Both paired outputs share all threads."""

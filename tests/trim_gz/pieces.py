@@ -98,6 +98,12 @@ class ToolsTest(Pieces):
             each.compressor, each.level, each.threads, each.compress_threads = "pigz", 6, int(threads or 4), None
             self.assertEqual([int(each.compress(role)[-1]) for role in ("paired2", "unpaired1")], [paired, unpaired])
 
+    def test_level_beside_cutadapt(self):
+        for compressor, alone, beside in (("bgzip", 4, 3), ("igzip", 2, 2), ("pigz", 6, 6), ("gzip", 6, 6)):
+            each = tools.Tools.__new__(tools.Tools)
+            each.compressor = compressor
+            self.assertEqual([each.usual_level(is_beside) for is_beside in (False, True)], [alone, beside])
+
 
 class CutadaptTest(Pieces):
     def test_adapters(self):
