@@ -1,6 +1,7 @@
-# Tibzharuk: build, run, test, prove, install and pack. `make` alone prints what there is. All but the help needs the Rattle kit,
-# whose command `rt` must be on the path.
-# `make static` and `make dist` also need a C compiler as linker and the C library's static form (Debian: gcc, libc6-dev).
+# Tibzharuk: build, run, test, prove, install and pack. `make` alone prints what there is. All but
+# the help needs the Rattle kit, whose command `rt` must be on the path.
+# `make static` and `make dist` also need a C compiler as linker and the C library's static form
+# (Debian: gcc, libc6-dev).
 PREFIX ?= /usr/local
 PROGRAM = crates/fq_prog/out/fq_prog
 ROWS = crates/fq_rows/out/fq_rows
@@ -18,17 +19,19 @@ NEEDS_KIT = @rt version > /dev/null 2>&1 || { echo "The Rattle kit is missing: i
 help:
 	@awk '/^# /{ said = said " " substr($$0, 3); next } /^[a-z-]+:/{ sub(":.*", ""); printf "make %-14s%s\n", $$0, said } { said = "" }' Makefile
 
-# Builds the program, trims the reads in examples/, prints the summary, and says where the trimmed reads are.
+# Builds the program, trims the reads in examples/, prints the summary, and says where the trimmed
+# reads are.
 run: build
 	@bash packaging/run_examples.sh
 
-# Builds the program and runs all tests but the proofs of tests: unit tests of every crate, unproved, and the scripts in tests/.
+# Builds the program and runs all tests except the proofs of tests: unit tests of every crate,
+# unproved, and the scripts in tests/.
 test:
 	$(NEEDS_KIT)
 	@bash tests/all.sh
 
-# Proves the program and all crates below it, prints a line for each crate, and leaves the program at crates/fq_prog/out/fq_prog.
-# Does nothing if that is newer than all sources.
+# Proves the program and all crates below it, prints a line for each crate, and leaves the program
+# at crates/fq_prog/out/fq_prog. Does nothing if that is newer than all sources.
 build: $(PROGRAM)
 
 $(PROGRAM): $(SOURCES)
@@ -58,7 +61,8 @@ try:
 	$(NEEDS_KIT)
 	@bash packaging/try.sh $(CRATE)
 
-# Proves what changed since the last check, and the crates above it. With CRATE=fq_trim: that crate, and those below it.
+# Proves what changed since the last check, and the crates above it. With CRATE=fq_trim: that crate,
+# and those below it.
 check:
 	$(NEEDS_KIT)
 ifdef CRATE
@@ -67,8 +71,8 @@ else
 	@$(SHOW) rt all check
 endif
 
-# What CI runs: every proof, the wrong bodies in must-fail/, the proved tests, and then `make test`. What passed on this machine
-# before, and did not change, is not proved again.
+# What CI runs: every proof, the wrong bodies in must-fail/, the proved tests, and then `make test`.
+# What passed on this machine before, and did not change, is not proved again.
 gate:
 	$(NEEDS_KIT)
 	@bash .ci/run
@@ -84,16 +88,18 @@ static: build
 	@bash packaging/link_static.sh dist/objects dist/fq_prog
 	@ls -l dist/fq_prog
 
-# Packs the static program with its documents in dist/: a tarball, a Debian package, and the sums of both.
+# Packs the static program with its documents in dist/: a tarball, a Debian package, and the sums of
+# both.
 dist: static
 	@bash packaging/pack.sh $(VERSION) dist
 
-# Makes a container image of the package: an OCI archive in dist/. Needs root, the network, and Debian's buildah and mmdebstrap.
+# Makes a container image of the package: an OCI archive in dist/. Needs root, the network, and
+# Debian's buildah and mmdebstrap.
 image: dist
 	@bash packaging/image.sh $(VERSION) dist
 
-# Installs the program as fq_prog and tibzharuk below PREFIX (default: /usr/local), with the scripts that have a command, their
-# manual pages, and their completion for bash, zsh and fish.
+# Installs the program as fq_prog and tibzharuk below PREFIX (default: /usr/local), with the scripts
+# that have a command, their manual pages, and their completion for bash, zsh and fish.
 install: build
 	@bash packaging/install.sh $(PROGRAM) $(DESTDIR)$(PREFIX)
 
@@ -101,11 +107,13 @@ install: build
 uninstall:
 	@bash packaging/install.sh --remove $(DESTDIR)$(PREFIX)
 
-# Removes what `make run`, `make static` and `make dist` made. What was proved stays, in the crates' out/.
+# Removes what `make run`, `make static` and `make dist` made. What was proved stays, in the crates'
+# out/.
 clean:
 	rm -rf dist examples/out
 
-# Measures the program beside other trimmers. BENCH has arguments of the script, as BENCH='--pairs 50000'. Prints figures only.
+# Measures the program beside other trimmers. BENCH has arguments of the script, such as
+# BENCH='--pairs 50000'. Prints figures only.
 bench: build
 	@bash bench/trimming/run.sh $(BENCH)
 

@@ -1,5 +1,6 @@
 #!/usr/bin/env bash
-# Tries the wrong bodies that aren't part of the gate, crates/NAME/wrong-bodies/*.edit: the prover must refuse each.
+# Tries the wrong bodies that aren't part of the gate, crates/NAME/wrong-bodies/*.edit: the prover
+# must refuse each.
 set -euo pipefail
 cd "$(dirname "$0")/.."
 

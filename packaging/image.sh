@@ -1,7 +1,8 @@
 #!/usr/bin/env bash
-# Makes a container image of the Debian package, as an archive of the Open Container Initiative: what packaging/Containerfile says,
-# on a Debian 12 that mmdebstrap puts together. Two calls on one package and one base make the same bytes: files are sorted, owned by
-# root and dated as the version is in CHANGELOG.md (or as SOURCE_DATE_EPOCH says).
+# Makes a container image of the Debian package, as an archive of the Open Container Initiative:
+# what packaging/Containerfile says, on a Debian 12 that mmdebstrap puts together. Two calls on one
+# package and one base make the same bytes: files are sorted, owned by root and dated as the version
+# is in CHANGELOG.md (or as SOURCE_DATE_EPOCH says).
 set -euo pipefail
 umask 022
 export LC_ALL=C TZ=UTC

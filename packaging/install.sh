@@ -1,6 +1,7 @@
 #!/usr/bin/env bash
-# Puts the program, the scripts that have a command, their manual pages and their completion below a directory such as /usr/local,
-# or removes them. `make install`, the tarball and the Debian package have all of them by this list.
+# Puts the program, the scripts that have a command, their manual pages and their completion below a
+# directory such as /usr/local, or removes them. `make install`, the tarball and the Debian package
+# have all of them by this list.
 set -euo pipefail
 umask 022
 export LC_ALL=C
@@ -28,7 +29,8 @@ folder=$(realpath -m -- "$2")
 scripts=${3:-share/tibzharuk/contrib}
 cd "$(dirname "$0")/.."
 
-# The files of the tree below these directories: those that git knows, or all if the tree isn't a clone.
+# The files of the tree below these directories: those that git knows, or all if the tree isn't a
+# clone.
 files_of() {
   if git rev-parse --is-inside-work-tree > /dev/null 2>&1; then
     git ls-files -- "$@"
@@ -37,7 +39,8 @@ files_of() {
   fi | sort
 }
 
-# command_files NAME SECOND: what a command has besides its program: the second name, its page and its completion
+# command_files NAME SECOND: what a command has besides its program: the second name, its page and
+# its completion
 command_files() {
   local name=$1 second=$2 completion=share/bash-completion/completions
   echo "link $name bin/$second"
@@ -84,7 +87,8 @@ while read -r kind from name; do
   esac
 done < <(entries)
 
-# What Python keeps beside a script goes with it, and so do directories of the program's own that are empty then.
+# What Python keeps beside a script goes with it, and so do directories of the program's own that
+# are empty then.
 if [ -z "$program" ] && [ -d "$folder/share/tibzharuk" ]; then
   find "$folder/share/tibzharuk" -name __pycache__ -prune -exec rm -rf {} +
   find "$folder/share/tibzharuk" -depth -type d -empty -delete

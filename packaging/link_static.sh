@@ -1,7 +1,8 @@
 #!/usr/bin/env bash
-# Links fq_prog into a file that needs no library: the program's proved object, the two archives of the Rattle kit that hold
-# its calls of the system, and the C library of the machine that links, as one file. The directory relink/ of a release has
-# this script and the three files, so anybody can link the program with another C library.
+# Links fq_prog into a file that needs no library: the program's proved object, the two archives of
+# the Rattle kit that hold its calls of the system, and the C library of the machine that links, as
+# one file. The directory relink/ of a release has this script and the three files, so anybody can
+# link the program with another C library.
 set -euo pipefail
 
 if [ $# -ne 2 ]; then

@@ -1,5 +1,6 @@
 #!/usr/bin/env bash
-# Collects what a static link takes: the proved object of the program, and the two archives of the Rattle kit.
+# Collects what a static link takes: the proved object of the program, and the two archives of the
+# Rattle kit.
 set -euo pipefail
 cd "$(dirname "$0")/.."
 

@@ -1,6 +1,7 @@
 #!/usr/bin/env bash
-# Packs dist/fq_prog (see `make static`) with its documents: a tarball and a Debian package. Two calls on one tree make the
-# same bytes: files are sorted, owned by root and dated as the version is in CHANGELOG.md (or as SOURCE_DATE_EPOCH says).
+# Packs dist/fq_prog (see `make static`) with its documents: a tarball and a Debian package. Two
+# calls on one tree make the same bytes: files are sorted, owned by root and dated as the version is
+# in CHANGELOG.md (or as SOURCE_DATE_EPOCH says).
 set -euo pipefail
 umask 022
 export LC_ALL=C TZ=UTC
@@ -33,7 +34,8 @@ export SOURCE_DATE_EPOCH
 # put MODE FROM TO: copies a file, and makes its directory
 put() { install -D -m "$1" "$2" "$3"; }
 
-# The files of the tree below these directories: those that git knows, or all if the tree isn't a clone.
+# The files of the tree below these directories: those that git knows, or all if the tree isn't a
+# clone.
 files_of() {
   if git rev-parse --is-inside-work-tree > /dev/null 2>&1; then
     git ls-files -- "$@"
@@ -94,8 +96,9 @@ pack_tarball() {
     -C "$work" -cf - "$release" | gzip -9n > "$folder/$release.tar.gz"
 }
 
-# Debian's control file. Built-Using names the sources of what was linked in. The maintainer's address is that of DEBFULLNAME and
-# DEBEMAIL, as for Debian's own tools, else that of the machine's administrator.
+# Debian's control file. Built-Using names the sources of what was linked in. The maintainer's
+# address is that of DEBFULLNAME and DEBEMAIL, as for Debian's own tools, else that of the machine's
+# administrator.
 control() {
   # shellcheck disable=SC2016  # the fields are dpkg-query's
   local using

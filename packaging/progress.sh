@@ -1,6 +1,7 @@
 #!/usr/bin/env bash
-# Runs a command of `rt`, and shows how far it is: a line for each crate when it is done, in place of a line for each
-# function. What was not proved is printed in full. The status is that of the command.
+# Runs a command of `rt`, and shows how far it is: a line for each crate when it is done, in place
+# of a line for each function. What was not proved is printed in full. The status is that of the
+# command.
 set -euo pipefail
 
 if [ $# -eq 0 ] || [ "$1" = --help ]; then
@@ -63,8 +64,8 @@ take() {
   esac
 }
 
-# Takes all lines and keeps them in the log. A crate that is proved only because others need it prints nothing until it is
-# done, so each minute without a line is reported.
+# Takes all lines and keeps them in the log. A crate that is proved only because others need it
+# prints nothing until it is done, so each minute without a line is reported.
 show() {
   local line part='' status
   while true; do

@@ -1,5 +1,6 @@
 #!/usr/bin/env bash
-# Trims the reads in examples/ with the built program, prints the command, its summary, and where the outputs are.
+# Trims the reads in examples/ with the built program, prints the command, its summary, and where
+# the outputs are.
 set -euo pipefail
 cd "$(dirname "$0")/.."
 program=crates/fq_prog/out/fq_prog

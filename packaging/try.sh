@@ -1,6 +1,6 @@
 #!/usr/bin/env bash
-# Runs the unit tests of one crate or of all without proofs, several crates side by side. Each crate has a line, what failed is
-# shown in full, and the last line is 'N passed, M failed'.
+# Runs the unit tests of one crate or of all without proofs, several crates side by side. Each crate
+# has a line, what failed is shown in full, and the last line is 'N passed, M failed'.
 set -uo pipefail
 cd "$(dirname "$0")/.." || exit 1
 
@@ -24,8 +24,8 @@ logs=$(mktemp -d)
 trap 'rm -rf "$logs"' EXIT
 export logs
 
-# Runs the tests of one crate, or the program that answers the rows in its data/, and leaves their numbers as 'PASSED FAILED' in a
-# file. On a busy machine a test may take long.
+# Runs the tests of one crate, or the program that answers the rows in its data/, and leaves their
+# numbers as 'PASSED FAILED' in a file. On a busy machine a test may take long.
 run_crate() {
   local crate=$1 begun=$SECONDS status=0 log=$logs/$1.log passed='' failed='' kind=tests
   if [ -e "crates/$crate/data" ]; then

@@ -1,6 +1,7 @@
 #!/usr/bin/env bash
-# All tests but the proofs: builds the program, runs the unit tests of every crate without proofs, and then each script of this directory
-# over the built program. A script counts as one test. One that ends with status 77 was skipped, and says what it lacks.
+# All tests but the proofs: builds the program, runs the unit tests of every crate without proofs,
+# and then each script of this directory over the built program. A script counts as one test. One
+# that ends with status 77 was skipped, and says what it lacks.
 # The last line is 'N passed, M failed, K skipped'.
 set -u
 cd "$(dirname "$0")/.." || exit 1

@@ -225,8 +225,8 @@ measure_width() {
   fi
 }
 
-# Lines of code and comments over that width. Imports, texts in quotes, names of lemmas in attributes
-# and the terms of proofs may be wider.
+# Lines of code and comments over that width. Imports, texts in quotes, names of lemmas in
+# attributes and the terms of proofs may be wider.
 measure_code() {
   LC_ALL=C.UTF-8 find crates -path '*/out' -prune -o '(' -name '*.rt' -o -name '*.antt' ')' \
     -exec grep -nE "^.{$((width + 1))}" {} + |

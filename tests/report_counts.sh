@@ -1,12 +1,12 @@
 #!/usr/bin/env bash
 # What a report counts in files is what seqkit counts in them: reads, bases, bases G or C, bases N,
 # the shortest and the longest read, the reads of each length, and the percentages of bases with a
-# score of at least 20 and of at least 30. It is also what this script counts, base by base: reads by
-# mean score and by percentage of G and C, the sum of the scores, and each list of bases by position.
-# If FastQC is installed, the reads by mean score and the mean score at each position are also
-# FastQC's. If fastp is installed, the mean score and the share of each letter at each position are
-# also fastp's. The reads by bases removed at each end are those of the trim log. It checks inputs and
-# outputs of runs on simulated files in each encoding, two files or one interleaved.
+# score of at least 20 and of at least 30. It is also what this script counts, base by base: reads
+# by mean score and by percentage of G and C, the sum of the scores, and each list of bases by
+# position. If FastQC is installed, the reads by mean score and the mean score at each position are
+# also FastQC's. If fastp is installed, the mean score and the share of each letter at each position
+# are also fastp's. The reads by bases removed at each end are those of the trim log. It checks
+# inputs and outputs of runs on simulated files in each encoding, two files or one interleaved.
 #
 # With REPORT it checks only that report; the names of its files are relative to the directory in
 # which this is called:
@@ -37,7 +37,8 @@ def seqkit(*words):
     return [line.split("\t") for line in out.splitlines()]
 
 
-# The Phred score of a byte by the conversion of Cock et al. (2010): of Solexa's scores, the nearest whole number.
+# The Phred score of a byte by the conversion of Cock et al. (2010): of Solexa's scores, the nearest
+# whole number.
 def phred(encoding, byte):
     score = byte - (33 if encoding == "sanger" else 64)
     return score if encoding != "solexa" else math.floor(10 * math.log10(10 ** (score / 10) + 1) + 0.5)
@@ -85,7 +86,8 @@ def by_base(where, told, name):
     same(where, "gc_bases", told["gc_bases"], sum(map(sum, map(told["positions"].get, "gc"))), "by its positions")
 
 
-# The reads by mean score as FastQC counts them, of a file in which it finds the encoding of the run.
+# The reads by mean score as FastQC counts them, of a file in which it finds the encoding of the
+# run.
 def by_fastqc(where, told, name):
     shutil.rmtree(f"{work}/fastqc", ignore_errors=True)
     os.mkdir(f"{work}/fastqc")
@@ -101,7 +103,8 @@ def by_fastqc(where, told, name):
     near(where, "mean score by position", told, "score_sum", found, "by FastQC")
 
 
-# The mean score and the share of each letter at each position of the inputs as fastp counts them, with its filters off.
+# The mean score and the share of each letter at each position of the inputs as fastp counts them,
+# with its filters off.
 def by_fastp(names):
     words = ["fastp", "-i", names[0], "-I", names[1], "-A", "-Q", "-L", "-G", "-w", "1", "-j", f"{work}/fastp.json", "-h", f"{work}/fastp.html"]
     subprocess.run(words, check=True, stdout=subprocess.DEVNULL, stderr=subprocess.DEVNULL)
@@ -217,8 +220,8 @@ fi
 find_program
 cd "$work" || exit 1
 
-# draw SEED PAIRS LONGEST [ENCODING [FIRST]]: r1.fq, r2.fq and both.fq, with scores that fall towards
-# the end; the first forward read has FIRST bases
+# draw SEED PAIRS LONGEST [ENCODING [FIRST]]: r1.fq, r2.fq and both.fq, with scores that fall
+# towards the end; the first forward read has FIRST bases
 draw() {
   python3 - "$@" << 'END'
 import random, sys
@@ -246,8 +249,8 @@ with open("r1.fq", "w") as forward, open("r2.fq", "w") as reverse, open("both.fq
 END
 }
 
-# run [ENCODING] COMMAND INPUT.. -- STEP..: a run with a report, then a check of the report, by FastQC
-# and by fastp too if $fastqc and $fastp are not empty
+# run [ENCODING] COMMAND INPUT.. -- STEP..: a run with a report, then a check of the report, by
+# FastQC and by fastp too if $fastqc and $fastp are not empty
 fastqc=
 fastp=
 run() {

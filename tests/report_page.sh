@@ -1,9 +1,10 @@
 #!/usr/bin/env bash
 # Makes pages with contrib/report_to_html and reads them as HTML. Each is well formed, loads
 # nothing, runs nothing, and has the numbers of its report. The reports are those of the program,
-# and those of a slow count: with no read, with 150 bases and with more than 10,000. No text of a report becomes markup. Faults, and scores that are too high,
-# are at the top. A file that is not a report is refused in one line. contrib/report_to_mqc draws
-# mean scores by position and reads by mean score for the same reports.
+# and those of a slow count: with no read, with 150 bases and with more than 10,000. No text of a
+# report becomes markup. Faults, and scores that are too high, are at the top. A file that is not a
+# report is refused in one line. contrib/report_to_mqc draws mean scores by position and reads by
+# mean score for the same reports.
 #
 # FQ_PROG is the program, crates/fq_prog/out/fq_prog if not set. If python3.6 is on the path, it
 # makes the pages too.

@@ -51,8 +51,8 @@ cp inputs/r2.fq "inputs/${strange[1]}"
 cp inputs/both.fq 'inputs/r"\u".fq'
 mkdir "inputs/${strange[6]%/*}"
 
-# call DIRECTORY WORDS..: the program in a directory of its own with the inputs; its output, its error
-# lines and its status are left in files
+# call DIRECTORY WORDS..: the program in a directory of its own with the inputs; its output, its
+# error lines and its status are left in files
 call() {
   local folder=$1
   shift

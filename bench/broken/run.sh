@@ -1,10 +1,12 @@
 #!/usr/bin/env bash
-# What trimmers make of broken inputs. For each trimmer that is installed and each input, prints the exit status, the pairs in the
-# first output, and a line about the fault, if there is one; then the statuses as a table. Prints figures only; takes 30 seconds.
+# What trimmers make of broken inputs. For each trimmer that is installed and each input, prints the
+# exit status, the pairs in the first output, and a line about the fault, if there is one; then the
+# statuses as a table. Prints figures only; takes 30 seconds.
 #
 #     bench/broken/run.sh [PROGRAM]        (crates/fq_prog/out/fq_prog)
 #
-# The reads are the 1,000 pairs of examples/. Debian's packages: fastp, cutadapt, trimmomatic, bbmap, adapterremoval.
+# The reads are the 1,000 pairs of examples/. Debian's packages: fastp, cutadapt, trimmomatic,
+# bbmap, adapterremoval.
 set -uo pipefail
 export LC_ALL=C
 tree=$(cd "$(dirname "$0")/../.." && pwd)
@@ -17,7 +19,8 @@ cd "$work" || exit 1
 tools=("$program:fq_prog" fastp:fastp cutadapt:Cutadapt TrimmomaticPE:Trimmomatic-1 TrimmomaticPE:Trimmomatic-4 bbduk.sh:BBDuk AdapterRemoval:AdapterRemoval)
 inputs=(whole mates-missing cut-in-a-record no-mates half-a-gz full-disk)
 
-# The reverse file: whole, without its last 100 records, cut within record 901, with its first record at the end, half of its .gz.
+# The reverse file: whole, without its last 100 records, cut within record 901, with its first
+# record at the end, half of its .gz.
 make_inputs() {
   cp "$tree/examples/reads_1.fq" 1.fq
   cp "$tree/examples/reads_2.fq" whole.fq

@@ -1,12 +1,13 @@
 #!/usr/bin/env bash
-# Times the built program on simulated pairs, beside the trimmers that are installed: trim_gz over compressed files, and the program over
-# plain ones, also beside a loop that only copies lines, threads that only pass pairs on, and cat.
-# bench/README.md says what is measured.
+# Times the built program on simulated pairs, beside the trimmers that are installed: trim_gz over
+# compressed files, and the program over plain ones, also beside a loop that only copies lines,
+# threads that only pass pairs on, and cat. bench/README.md says what is measured.
 #
 #     bench/trimming/run.sh [MODE] [OPTION]..
 #
 # Modes; without one it prints what --gz and --plain do:
-#     --gz             from .gz to .gz, with and without adapters, at each tool's own level of compression and at its fastest
+#     --gz             from .gz to .gz, with and without adapters, at each tool's own level of
+#                      compression and at its fastest
 #     --plain          plain files: a row for each tool
 #     --sets           the program and the loop over all data sets, in memory and on the disk: a row for each set
 #     --threads-time   the processor seconds of each of the program's threads
@@ -17,8 +18,8 @@
 # Options:
 #     --pairs N        pairs of reads (1000000; with --gz 400000)
 #     --rounds N       runs of each row, taken in turn, of which the median is printed (3)
-#     --in PLACE       where inputs and outputs are: disk (TMPDIR, or /tmp) or memory (/dev/shm). Without it: with --sets both, with --gz
-#                      memory, else the disk
+#     --in PLACE       where inputs and outputs are: disk (TMPDIR, or /tmp) or memory (/dev/shm).
+#                      Without it: with --sets both, with --gz memory, else the disk
 #     --program PATH   the program that is measured (crates/fq_prog/out/fq_prog)
 #     --serial PATH    the run on one thread, as bench/trimming/serial.sh builds it (no row without it)
 #     --ours           no other trimmer
@@ -26,7 +27,8 @@
 #                      how the reads are simulated, as bench/trimming/pairs.c says (ignored with --sets)
 #     --help
 #
-# Needs cc, GNU time, taskset and findmnt; with --gz also gzip, bgzip and Python 3. Files are in directories of their own in that place and below TMPDIR, which are removed.
+# Needs cc, GNU time, taskset and findmnt; with --gz also gzip, bgzip and Python 3. Files are in
+# directories of their own in that place and below TMPDIR, which are removed.
 set -euo pipefail
 export LC_ALL=C
 
@@ -94,14 +96,15 @@ while [ $# -gt 0 ]; do
       print_help
       exit
       ;;
-    *) stop "unknown word $1 (--help lists all)" ;;
+    *) stop "unknown argument $1 (--help lists all)" ;;
   esac
 done
 
 count=${asked:-1000000}
 [ -x "$program" ] || stop "no program $program (make build makes it)"
 program=$(realpath "$program")
-# trim_gz is run by the system's Python, as Debian's cutadapt is. A version manager's python3 may be a script that takes 0.1 s.
+# trim_gz is run by the system's Python, as Debian's cutadapt is. A version manager's python3 may be
+# a script that takes 0.1 s.
 python=$(type -P /usr/bin/python3 || type -P python3) || stop "no python3"
 export python
 built=$(mktemp -d)
@@ -218,8 +221,8 @@ pairs_kept() {
   fi
 }
 
-# run_row NUMBER: one run, whose line is added to the file of its row: seconds, processor seconds, kilobytes, pairs kept, bytes of compressed
-# reads.
+# run_row NUMBER: one run, whose line is added to the file of its row: seconds, processor seconds,
+# kilobytes, pairs kept, bytes of compressed reads.
 run_row() {
   call_row "$1"
   echo "$spent $(pairs_kept) $(cat "$out"/*.gz 2> /dev/null | wc -c)" >> "$room/row.$1"
@@ -254,7 +257,8 @@ print_machine() {
   echo "$(nproc) processors ($(sed -n 's/^model name[^:]*: //p' /proc/cpuinfo | head -n 1)), load $(cut -d ' ' -f 1 /proc/loadavg) before"
 }
 
-# print_row NUMBER: its medians, beside those of the loop (on one processor if the row is), of cat, and of ours at 4 threads.
+# print_row NUMBER: its medians, beside those of the loop (on one processor if the row is), of cat,
+# and of ours at 4 threads.
 print_row() {
   local label threads function loop=$at_loop
   IFS='|' read -r label threads function <<< "${rows[$1]}"
@@ -308,7 +312,8 @@ list_gz_rows() {
   peer AdapterRemoval "AdapterRemoval$label" "gz_adapterremoval $how" 4
 }
 
-# print_gz_rows TITLE FIRST LAST: a table of these rows. The second one, of fastp, is what the first one is compared with.
+# print_gz_rows TITLE FIRST LAST: a table of these rows. The second one, of fastp, is what the first
+# one is compared with.
 print_gz_rows() {
   local number label threads function second=$(($2 < $3 ? $2 + 1 : $2))
   echo
@@ -326,7 +331,8 @@ print_gz_rows() {
   done
 }
 
-# measure_gz_data TITLE WORDS: both tables over reads that are simulated with these options: each tool's own level, and its fastest
+# measure_gz_data TITLE WORDS: both tables over reads that are simulated with these options: each
+# tool's own level, and its fastest
 measure_gz_data() {
   # `next` is the level after trim_gz's own one.
   local slow word=$2 next=5
@@ -347,8 +353,9 @@ measure_gz_data() {
   print_same_reads ${word:+"$word"}
 }
 
-# print_same_reads [adapters]: what the reads that fastp keeps take if they are compressed as trim_gz does it. The tools don't keep the
-# same reads, so this alone compares how well they compress.
+# print_same_reads [adapters]: what the reads that fastp keeps take if they are compressed as
+# trim_gz does it. The tools don't keep the same reads, so this alone compares how well they
+# compress.
 print_same_reads() {
   local file bytes=0 level=4
   [ $# -eq 0 ] || level=3 # adapters: the level beside cutadapt
@@ -380,7 +387,7 @@ sets=(
   '300 bases|--bases 300'
   '35 to 150 bases|--bases 35-150'
   'scores in four bins|--bins'
-  'titles behind +|--titles'
+  'titles after +|--titles'
   'lines in CR LF|--crlf'
 )
 
@@ -409,7 +416,8 @@ measure_sets() {
   done
 }
 
-# If only one of the places has room for the longest reads, the other is left out, and the output says so.
+# If only one of the places has room for the longest reads, the other is left out, and the output
+# says so.
 measure_all_sets() {
   local at
   list_own_rows
@@ -422,8 +430,9 @@ measure_all_sets() {
   done
 }
 
-# The times of the threads of one run in one line: the writing thread's and the system's part of it, the reading thread's, the
-# trimming ones' together, the least and the most of them, and the sum. The program makes its reading thread first.
+# The times of the threads of one run in one line: the writing thread's and the system's part of it,
+# the reading thread's, the trimming ones' together, the least and the most of them, and the sum.
+# The program makes its reading thread first.
 times_of_threads() {
   awk -v threads="$1" '
         NR == 1 { writing = $1 " " $2 }
@@ -475,7 +484,7 @@ measure_beside() {
   enter "${place:-disk}"
   draw "${form[@]}"
   echo "$count pairs, $((size / 1000000)) MB, $kind; median of $rounds; $(print_machine)"
-  echo "| Threads | Seconds | with $* | by each other | Processor seconds | with $* | by each other |"
+  echo "| Threads | Seconds | with $* | ratio | Processor seconds | with $* | ratio |"
   echo '|---|---|---|---|---|---|---|'
   for threads in 1 2 4; do
     for ((round = 0; round < rounds; round++)); do

@@ -1,5 +1,6 @@
 #!/usr/bin/env bash
-# Builds the run on one thread as a program in a scratch repository over this tree's crates, proofs and all, and puts it at the path given.
+# Builds the run on one thread as a program in a scratch repository over this tree's crates, proofs
+# and all, and puts it at the path given.
 #
 #     bench/trimming/serial.sh PATH
 set -eu

@@ -1,9 +1,10 @@
 #!/usr/bin/env bash
 # How each tool is run and timed: functions for run.sh, which sets what they use.
 #
-# `timed` and each run_* function leave the seconds, processor seconds and kilobytes of a run in `spent`. Each run_* function takes a
-# number of threads, leaves in `pairs_read` how many pairs the tool says that it read, and has the pairs of which both mates survive
-# written to fp and rp in the directory of outputs.
+# `timed` and each run_* function leave the seconds, processor seconds and kilobytes of a run in
+# `spent`. Each run_* function takes a number of threads, leaves in `pairs_read` how many pairs the
+# tool says that it read, and has the pairs of which both mates survive written to fp and rp in the
+# directory of outputs.
 #
 # shellcheck disable=SC2154,SC2034
 
@@ -13,7 +14,8 @@ clock=$(type -P time) || stop "no GNU time (Debian package time)"
 steps=(LEADING:3 TRAILING:3 SLIDINGWINDOW:4:15 MINLEN:36)
 alone=(taskset -c 0)
 
-# timed COMMAND..: runs it in the directory of outputs. What runs before have written is on the disk first, and their outputs are gone.
+# timed COMMAND..: runs it in the directory of outputs. What runs before have written is on the disk
+# first, and their outputs are gone.
 timed() {
   local TIMEFORMAT='%3R %3U %3S'
   rm -rf "$out" "$room/said" "$room/told"
@@ -26,7 +28,8 @@ timed() {
   spent=$(awk 'NR == FNR { kilobytes = $1; next } { print $1, $2 + $3, kilobytes }' "$room/clock" "$room/took")
 }
 
-# with_memory COMMAND..: a run during which the memory of all its processes is sampled; the most kilobytes go into the file `peak`
+# with_memory COMMAND..: a run during which the memory of all its processes is sampled; the most
+# kilobytes go into the file `peak`
 with_memory() {
   under=(python3 "$here/tree_memory.py" "$room/peak")
   "$@"
@@ -38,7 +41,8 @@ number_in() {
   sed -n "s/.*$2[ \t:]*\([0-9][0-9,]*\).*/\1/p" "$1" | head -n 1 | tr -d ,
 }
 
-# The bytes of both inputs in one file, which is cut to those of the first one when the time is taken, to be counted as the others are.
+# The bytes of both inputs in one file, which is cut to those of the first one when the time is
+# taken, to be counted as the others are.
 run_cat() {
   timed sh -c 'exec cat "$@" >fp' cat "$forward" "$reverse"
   [ "$(stat -c %s "$out/fp")" = "$size" ] || stop "cat copied other bytes"
@@ -133,8 +137,9 @@ run_adapterremoval() {
   pairs_read=$(number_in "$out/settings" 'Total number of read pairs')
 }
 
-# From .gz to .gz. Each gz_* function takes the threads and then words: `fast`, the fastest level of compression; `adapters`, which are given
-# to it and removed. All reads that are kept are written into files that end in .gz.
+# From .gz to .gz. Each gz_* function takes the threads and then words: `fast`, the fastest level of
+# compression; `adapters`, which are given to it and removed. All reads that are kept are written
+# into files that end in .gz.
 
 # pack_inputs: the simulated files as gzip files of one member, and the adapters in a file
 pack_inputs() {
@@ -178,7 +183,8 @@ gz_cutadapt() {
   pairs_read=$(number_in "$room/said" 'Total read pairs processed')
 }
 
-# gz_two_passes THREADS [fast] adapters: what a lab does that stores the reads in between, outside the directory of outputs
+# gz_two_passes THREADS [fast] adapters: what a lab does that stores the reads in between, outside
+# the directory of outputs
 gz_two_passes() {
   local level=4
   ! given fast "$@" || level=1

@@ -1,6 +1,7 @@
 #!/usr/bin/env bash
-# Prints what the built program's threads use of the processor while it waits, and how often they wake: for its input, for the
-# reader of an output, and for the rest of an input after a failed write. Each wait is as long as asked for. No time fails.
+# Prints what the built program's threads use of the processor while it waits, and how often they
+# wake: for its input, for the reader of an output, and for the rest of an input after a failed
+# write. Each wait is as long as asked for. No time fails.
 #
 #     bench/waiting/run.sh [--seconds N] [--program PATH]
 #
@@ -8,7 +9,8 @@
 #     --program PATH   the program that is measured (crates/fq_prog/out/fq_prog)
 #     --help
 #
-# Needs /dev/full and the scheduler's statistics in /proc. Files are in a directory of their own below TMPDIR, which is removed.
+# Needs /dev/full and the scheduler's statistics in /proc. Files are in a directory of their own
+# below TMPDIR, which is removed.
 set -euo pipefail
 export LC_ALL=C
 
