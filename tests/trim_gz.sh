@@ -429,8 +429,8 @@ refused 1 'trim_gz: either -i, or -1 and -2' -i data/i.gz "${both[@]}" "${rest[@
 refused 1 'trim_gz: no --unpaired2 (trim_gz --help)' "${both[@]}" "${outputs[@]:0:6}" "${last[@]}"
 refused 1 'trim_gz: --unpaired2 has no value, as -- is an option; a file of that name is ./--' \
   "${both[@]}" "${outputs[@]:0:6}" --unpaired2 "${last[@]}"
-refused 1 'trim_gz: LEADING:3 is no option; steps stand behind -- (trim_gz --help)' "${both[@]}" "${outputs[@]}" LEADING:3
-refused 1 'trim_gz: no steps; they stand behind -- (trim_gz --help)' "${both[@]}" "${outputs[@]}"
+refused 1 'trim_gz: LEADING:3 is not an option; steps come after -- (trim_gz --help)' "${both[@]}" "${outputs[@]}" LEADING:3
+refused 1 'trim_gz: no steps; they come after -- (trim_gz --help)' "${both[@]}" "${outputs[@]}"
 refused 1 'trim_gz: no program nowhere/fq_prog (--program PATH)' --program nowhere/fq_prog "${both[@]}" "${rest[@]}"
 
 row='names that are given twice'
@@ -650,7 +650,7 @@ made "${both[@]}" "${rest[@]}"
 as_plain p1.fq u1.fq p2.fq u2.fq
 [ ! -e "$work/copy/trim_gz_parts/__pycache__" ] || fail 'it leaves files beside its parts'
 cp "$real" "$work/links/alone"
-[ "$("$work/links/alone" --help 2>&1)" = "trim_gz: there is no folder trim_gz_parts beside $work/links/alone (make a link to it, not a copy)" ] ||
+[ "$("$work/links/alone" --help 2>&1)" = "trim_gz: there is no directory trim_gz_parts beside $work/links/alone (make a link to it, not a copy)" ] ||
   fail 'a copy without its parts does not say so'
 
 row='a page of the report'
@@ -741,7 +741,7 @@ END
   plain=$work/plain
   row='adapters that are refused'
   refused 4 'trim_gz: cannot read data/none.fa' "${lanes[@]}" --adapters data/none.fa "${rest[@]}"
-  refused 1 'trim_gz: --cutadapt: --info-file=x is not for here' "${lanes[@]}" --cutadapt '-a A --info-file=x' "${rest[@]}"
+  refused 1 "trim_gz: --cutadapt: --info-file=x can't be given here" "${lanes[@]}" --cutadapt '-a A --info-file=x' "${rest[@]}"
   refused 2 'trim_gz: cutadapt: unrecognized arguments: --frob' "${lanes[@]}" --adapters A --cutadapt '--frob' "${rest[@]}"
   refused 2 'trim_gz: cutadapt: unrecognized arguments: data/xi.gz' -i data/xi.gz --adapters A --cutadapt "data/xf" "${rest[@]}"
   row='adapters, and a damaged input'

@@ -1,12 +1,12 @@
 """The parts of trim_gz, which is beside this directory.
 
-    arguments   what the caller asks for
+    arguments   the arguments of a run
     tools       compressors and decompressors: which are safe, their arguments and messages
     files       inputs and outputs, hidden names and final names
     children    programs that were started, and what they print
     progress    how much of the inputs was read
     cutadapt    adapters, removed in the same pass
-    report      the report, with the names of the caller's files, and its page
-    run         one call, from its start to its end
-    faults      how a call ends that can't go on
+    report      the report, with the names of the user's files, and its page
+    run         one run, from its start to its end
+    faults      how a run ends that can't go on
 """

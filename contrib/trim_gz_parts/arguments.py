@@ -1,4 +1,4 @@
-"""What the caller asks for."""
+"""The arguments of a run."""
 
 import re
 import shlex
@@ -16,7 +16,7 @@ SWITCHES = {
     "-V": ("asks_version", True),
 }
 PROGRAM_SWITCHES = ("--no-name-check", "--sync")
-# Options of cutadapt that trim_gz gives itself, or that write files past the hidden names.
+# Options of cutadapt that trim_gz sets itself, or that write files without a hidden name.
 REFUSED_LETTERS = ("-o", "-p", "-j", "-r", "-h")
 REFUSED_NAMES = (
     "--output", "--paired-output", "--interleaved", "--cores", "--json", "--report", "--quiet", "--debug", "--fasta", "--help", "--version",
@@ -26,7 +26,7 @@ REFUSED_NAMES = (
 
 
 class HelpAsked(Exception):
-    """The caller asks for the manual."""
+    """The user asks for the manual."""
 
 
 def as_text(_, text):
@@ -52,7 +52,7 @@ def one_of(names):
 
 
 def is_refused_by_us(word):
-    """Whether cutadapt may not get this option here, also if it is shortened."""
+    """Whether trim_gz refuses to pass on this option of cutadapt, even if it is shortened."""
     name = word.partition("=")[0]
     if word.startswith("--"):
         return len(name) > 2 and any(refused.startswith(name) for refused in REFUSED_NAMES)
@@ -67,7 +67,7 @@ def cutadapt_options(option, text):
         raise Fault(1, f"{option}: {str(error).lower()}")
     for word in words:
         if is_refused_by_us(word):
-            raise Fault(1, f"{option}: {word} is not for here")
+            raise Fault(1, f"{option}: {word} can't be given here")
     return words
 
 
@@ -88,7 +88,7 @@ def takes_value(option):
 
 
 def check_value(option, value):
-    """An option that takes a value has one. Only cutadapt's options may begin with a dash."""
+    """Refuses an option that lacks its value. Only the value of --cutadapt may begin with a dash."""
     if not value:
         raise Fault(1, f"{option} has no value (trim_gz --help)")
     is_own = value in SWITCHES or value == "--" or takes_value(value.partition("=")[0])
@@ -97,7 +97,7 @@ def check_value(option, value):
 
 
 class Arguments:
-    """The arguments of a call."""
+    """The arguments of a run, as they were read."""
 
     def __init__(self, words):
         self.forward, self.reverse, self.both = [], [], []
@@ -132,7 +132,7 @@ class Arguments:
                 if not is_joined and word not in PROGRAM_SWITCHES and words and not words[0].startswith("-"):
                     self.passed.append(words.pop(0))
             else:
-                raise Fault(1, f"{word} is no option; steps stand behind -- (trim_gz --help)")
+                raise Fault(1, f"{word} is not an option; steps come after -- (trim_gz --help)")
 
     def take(self, option, value):
         """One of trim_gz's own options."""
@@ -151,7 +151,7 @@ class Arguments:
             self.passed.append(f"--threads={value}")  # the program looks at the number
 
     def check(self):
-        """All that a run needs is there."""
+        """Refuses a run that lacks an input, an output or the steps."""
         if self.both and (self.forward or self.reverse):
             raise Fault(1, "either -i, or -1 and -2")
         if not self.both and not self.forward:
@@ -162,7 +162,7 @@ class Arguments:
             if role not in self.outputs:
                 raise Fault(1, f"no --{role} (trim_gz --help)")
         if self.steps is None:
-            raise Fault(1, "no steps; they stand behind -- (trim_gz --help)")
+            raise Fault(1, "no steps; they come after -- (trim_gz --help)")
         for role in ("cutadapt-report", "cutadapt-log"):
             if role in self.outputs and not self.uses_cutadapt():
                 raise Fault(1, f"--{role} without --adapters or --cutadapt")

@@ -25,14 +25,14 @@ def make_pipe():
 
 
 class Nowhere:
-    """Takes the place of a text that nobody needs."""
+    """A text that forgets what is added to it."""
 
     def __iadd__(self, _):
         return self
 
 
 def drain(fd, into):
-    """Takes what can be read now: all that a pipe holds. Returns whether more may come."""
+    """Reads all that a pipe holds now. Returns whether more may come."""
     for _ in range(64):
         try:
             part = os.read(fd, 65536)
@@ -45,7 +45,7 @@ def drain(fd, into):
 
 
 def feed(fd, data):
-    """Writes the data into a pipe, beside all else, and closes it."""
+    """Writes the data into a pipe, in a thread of its own, and closes the pipe."""
     def write():
         with contextlib.suppress(OSError):
             write_all(fd, data)
@@ -65,7 +65,7 @@ class Child:
         for fd in passed:
             os.set_inheritable(fd, True)
         try:
-            # Not close_fds: a name such as /dev/fd/63 leads to what the caller has opened. Our own files are closed by exec.
+            # Not close_fds: a name such as /dev/fd/63 leads to a file that the shell has opened. exec closes our own files.
             self.process = subprocess.Popen(
                 words, stdin=stdin, stdout=said_end if stdout is None else stdout, stderr=said_end,
                 close_fds=False, start_new_session=True, env=environment)
@@ -98,7 +98,7 @@ class Child:
         return self.said.decode("utf-8", "replace")
 
     def met_closed_pipe(self):
-        """Whether it ended since nobody reads what it writes."""
+        """Whether it ended because nobody reads what it writes."""
         return self.status == -signal.SIGPIPE or b"Broken pipe" in self.said
 
     def why(self, name=""):
@@ -135,7 +135,7 @@ class Family:
 
     @contextlib.contextmanager
     def heeding_signals(self):
-        """A call of the system that may wait for ever is interrupted by a signal."""
+        """A signal interrupts a system call that may wait forever."""
         self.is_waiting = True
         try:
             if self.first_signal:
@@ -145,7 +145,7 @@ class Family:
             self.is_waiting = False
 
     def listen(self):
-        """A place where what comes through a pipe is gathered, and that pipe's writing end."""
+        """A buffer for what comes through a new pipe, and the writing end of that pipe."""
         ours, theirs = os.pipe()
         os.set_blocking(ours, False)
         heard = bytearray()
@@ -159,7 +159,7 @@ class Family:
         return heard, theirs
 
     def discard(self, fd):
-        """What comes through this pipe is read from now on, and forgotten."""
+        """Reads what comes through this pipe from now on, and forgets it."""
         os.set_blocking(fd, False)
         self.selector.register(fd, selectors.EVENT_READ, Nowhere())
 
@@ -170,23 +170,23 @@ class Family:
         return ends
 
     def keep(self, fd):
-        """This end of a pipe stays open here, too."""
+        """Keeps this end of a pipe open in this process, too."""
         self.lent.remove(fd)
         return fd
 
     def let_go(self):
-        """All children have their ends of pipes."""
+        """Closes the ends of pipes that only children need, after all children have them."""
         for fd in self.lent:
             os.close(fd)
         self.lent.clear()
 
     def start(self, name, words, stdin=None, stdout=None, passed=(), usual=()):
-        """Starts a child. Its standard error is gathered, and its standard output too if none is given. The usual variables are in its
-        environment unless the caller has set them."""
+        """Starts a child. Its standard error is gathered, and its standard output too if none is given. The variables in `usual`
+        are in its environment, unless the user has set them."""
         self.children.append(Child(name, words, stdin, stdout, passed, self.listen(), dict(usual)))
 
     def attend(self):
-        """Waits until something happens, or for a while."""
+        """Waits until something happens, but at most for `pause` seconds."""
         for key, _ in self.selector.select(self.pause):
             if not drain(key.fd, key.data):
                 self.selector.unregister(key.fd)
@@ -194,8 +194,7 @@ class Family:
         self.tick()
 
     def next_end(self, until=float("inf")):
-        """The next child that has ended, or None if none did until that time. One whose output another one reads was started
-        before that one."""
+        """The next child that has ended, or None if none has ended by then. If several have, the one that was started first."""
         while time.monotonic() < until:
             child = next((child for child in self.children if child.look()), None)
             if self.first_signal:
@@ -213,8 +212,8 @@ class Family:
         return next((child for child in self.children if child.name == name), None)
 
     def end_all(self):
-        """Ends the children and all that they started, at last by force. A killed process that nobody reaps is waited for only
-        for a moment."""
+        """Ends the children and all that they started, by force if they don't end soon. Waits only for a moment for a killed
+        process that nobody reaps."""
         left = list(self.children)
         for child in left:
             child.signal(signal.SIGTERM)

@@ -12,7 +12,8 @@ from .files import readable
 
 SEQUENCES = "[ACGTUNRYSWKMBDHVI]+(,[ACGTUNRYSWKMBDHVI]+)?$"
 SECONDS_TO_NOTICE = 3
-# The C library would return cutadapt's buffers of some MB to the system after each use, and take them again, cleared page by page.
+# Otherwise the C library returns cutadapt's buffers of some MB to the system after each use, and gets new ones, which the system
+# clears page by page.
 KEEPS_BUFFERS = {"MALLOC_MMAP_THRESHOLD_": "33554432", "MALLOC_TRIM_THRESHOLD_": "268435456"}
 
 
@@ -31,7 +32,7 @@ def adapter_options(adapters):
 
 
 def killed_below(pid):
-    """The signal that ended a process which this one started and didn't wait for, or 0."""
+    """The signal that ended a child of process `pid` for which that process didn't wait, or 0."""
     try:
         with open(f"/proc/{pid}/task/{pid}/children") as children:
             for each in children.read().split():
@@ -52,13 +53,13 @@ class Cutadapt:
         self.threads = threads
         if not shutil.which("cutadapt"):
             raise Fault(1, "no program cutadapt (--adapters, --cutadapt)")
-        self.names = {}         # what the lab's files are called in place of the pipes
+        self.names = {}         # the user's files, by the names of their pipes
         self.counts = self.printed = None
         self.trimmed = None     # the writing end of the pipe to the program
         self.lost_since = None
 
     def start(self, family, sides, sources):
-        """It reads both sides' texts, and writes mates in turns into one pipe. Returns that pipe's reading end."""
+        """Starts it. It reads the texts of both sides and writes them interleaved into a pipe, whose reading end is returned."""
         self.counts, counts = family.gather()
         self.printed, printed = family.gather()
         reading, self.trimmed = make_pipe()
@@ -72,11 +73,11 @@ class Cutadapt:
         return reading
 
     def end(self):
-        """It has ended. The pipe to the program is closed only now, so the program's last read is judged too."""
+        """Closes the pipe to the program, only now: the status of cutadapt is known before the program sees the end."""
         os.close(self.trimmed)
 
     def watch(self, child):
-        """cutadapt 4.2 waits for ever for a process of its own that was killed. The call doesn't."""
+        """Ends the run if a process of cutadapt was killed. cutadapt 4.2 would wait for it forever."""
         number = killed_below(child.process.pid)
         now = time.monotonic()
         if not number:
@@ -87,11 +88,11 @@ class Cutadapt:
             raise Fault(4, f"cutadapt: one of its processes was ended by {signal_name(number)}")
 
     def refused_options(self, child):
-        """Whether it ended since it doesn't accept its options."""
+        """Whether it ended because it doesn't accept its options."""
         return child is not None and child.status == 2
 
     def look(self, child):
-        """Refuses the run if cutadapt failed, and not only since the program read no more."""
+        """Ends the run if cutadapt failed, unless it failed because the program stopped reading."""
         if child is None or child.status == 0 or child.met_closed_pipe() or b"Broken pipe" in self.printed:
             return
         if child.status < 0:
@@ -99,7 +100,7 @@ class Cutadapt:
         raise Fault(2 if child.status == 2 else 3, f"cutadapt: {self.complaint(child)}")
 
     def complaint(self, child):
-        """The last line that it printed, without what each of its complaints begins with."""
+        """The last line that it printed, without the usual beginning of its error messages."""
         lines = [line for line in (self.printed.decode("utf-8", "replace") + child.text()).splitlines() if line]
         line = lines[-1] if lines else f"status {child.status}"
         for start in ("cutadapt: error: ", "ERROR: "):
@@ -107,7 +108,7 @@ class Cutadapt:
         return self.with_names(line)
 
     def check_counts(self, child, taken):
-        """The pairs that it passed on are those that the program read."""
+        """Ends the run unless the program read as many pairs as cutadapt passed on."""
         if child is None or child.status != 0:
             raise Fault(4, "cutadapt was ended")
         try:
@@ -115,17 +116,17 @@ class Cutadapt:
         except (ValueError, KeyError):
             raise Fault(4, "cutadapt: no report")
         if passed != taken:
-            raise Fault(4, f"cutadapt passed on {passed} pairs, and other ones came in")
+            raise Fault(4, f"cutadapt passed on {passed} pairs, and fq_prog read another number")
 
     def report(self):
-        """What it counted, as JSON, with the names of the lab's files."""
+        """What it counted, as JSON, with the names of the user's files."""
         text = self.counts.decode()
         for pipe, name in self.names.items():
             text = text.replace(json.dumps(pipe), json.dumps(readable(name)))
         return text.encode()
 
     def log(self):
-        """What it printed, with the names of the lab's files."""
+        """What it printed, with the names of the user's files."""
         return self.with_names(self.printed.decode("utf-8", "replace")).encode()
 
     def with_names(self, text):

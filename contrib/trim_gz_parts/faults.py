@@ -1,4 +1,4 @@
-"""How a call ends that can't go on, and what it prints."""
+"""How a run ends that can't go on, and what it prints."""
 
 import contextlib
 import os
@@ -8,7 +8,7 @@ SIGNALS = (signal.SIGINT, signal.SIGTERM, signal.SIGHUP, signal.SIGQUIT)
 
 
 class Fault(Exception):
-    """Ends the call with a status and a line."""
+    """Ends the run with a status and a line."""
 
     def __init__(self, status, line):
         super().__init__(line)
@@ -16,7 +16,7 @@ class Fault(Exception):
 
 
 class Stopped(Exception):
-    """A signal asks for the end."""
+    """A signal ends the run."""
 
 
 def write_all(fd, data):
@@ -32,13 +32,13 @@ def say(text, start="trim_gz: "):
 
 
 def ignore_signals():
-    """From here on the end is not interrupted."""
+    """From here on no signal interrupts the end of the run."""
     for number in SIGNALS:
         signal.signal(number, signal.SIG_IGN)
 
 
 def keep_streams():
-    """Fills the places of closed standard streams, so that no file of the call gets their numbers."""
+    """Fills the places of closed standard streams, so that no file of the run gets their numbers."""
     for fd in range(3):
         try:
             os.fstat(fd)

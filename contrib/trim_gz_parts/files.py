@@ -24,12 +24,12 @@ def is_same(name, other):
 
 
 def readable(name):
-    """A name of a file as text. Bytes that aren't text are shown as a mark."""
+    """The name of a file as text. Bytes that aren't UTF-8 become a replacement character."""
     return name.encode("utf-8", "surrogateescape").decode("utf-8", "replace")
 
 
 def check_inputs(names):
-    """Each input can be read, and none is given twice."""
+    """Refuses an input that can't be read, or that is given twice."""
     for place, name in enumerate(names):
         if not os.access(name, os.R_OK) or os.path.isdir(name):
             raise Fault(4, f"cannot read {name}")
@@ -67,7 +67,7 @@ class Input:
         return ["gzip" if needs_gzip else decompressor, "-dc"]
 
     def bytes_read(self):
-        """How far it was read: the process that reads it shares our place in it."""
+        """How far it was read. The process that reads it shares the file's offset with this one."""
         if self.is_done or self.size is None:
             return self.size or 0
         return 0 if self.fd is None else os.lseek(self.fd, 0, os.SEEK_CUR)
@@ -118,7 +118,7 @@ class Output:
         return Fault(4, f"cannot write {self.name}" + (f": {why}" if why else ""))
 
     def check(self, inputs, others):
-        """It can be written, and isn't another file of this call."""
+        """Refuses it if it can't be written, or is another file of this run."""
         if self.is_device:
             return
         if os.path.isdir(self.name) or os.path.exists(self.name) and not os.access(self.name, os.W_OK):
@@ -158,7 +158,7 @@ class Output:
         write_all(fd, compressed(data, level) if self.is_compressed else data)
 
     def sync(self):
-        """Its bytes are on the disk after this."""
+        """Waits until its bytes are on the disk."""
         try:
             if self.fd is not None:
                 os.fsync(self.fd)
@@ -180,7 +180,7 @@ class Output:
         self.hidden, self.is_placed = None, True
 
     def take_back(self):
-        """The name is as it was before. An older file that can't have it back stays beside."""
+        """Makes the name what it was before. An older file that can't get its name back stays beside it."""
         old, self.old = self.old, None
         with contextlib.suppress(OSError):
             if old:

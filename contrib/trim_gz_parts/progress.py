@@ -10,14 +10,14 @@ WIPE = "\r\033[K"
 
 
 def clock(seconds):
-    """A time that is left, as 0:42 or 1:59 h."""
+    """The time left, as 0:42 or 1:59 h."""
     if seconds < 3600:
         return f"{seconds // 60}:{seconds % 60:02d}"
     return f"{seconds // 3600}:{seconds // 60 % 60:02d} h"
 
 
 def describe(done, size, seconds):
-    """A line of progress: per cent of the inputs' bytes, bytes a second, and the time that is left."""
+    """A line of progress: the % of the inputs' bytes, bytes a second, and the time left."""
     line = f"{done / max(seconds, 0.001) / 1e6:.0f} MB/s"
     if size:
         line = f"{100 * done / size:3.0f} %, {line}"
@@ -50,7 +50,7 @@ class Progress:
         self.is_shown = self.is_terminal
 
     def wipe(self):
-        """Removes the line from the terminal, before another one is printed. It isn't printed again."""
+        """Removes the line from the terminal, before another one is printed. From then on no progress is printed."""
         self.is_on = False
         if self.is_shown:
             self.is_shown = False

@@ -1,4 +1,4 @@
-"""The program's report, with the names of the caller's files, and the page of it."""
+"""The program's report, with the names of the user's files, and the page of it."""
 
 import json
 import os
@@ -19,7 +19,7 @@ def one_or_all(names):
 
 
 def with_real_names(data, arguments):
-    """The report names what the caller gave: the program has read and written pipes and hidden files."""
+    """The report with the names that the user gave: the program has read and written pipes and hidden files."""
     try:
         report = json.loads(data.decode())
     except ValueError:

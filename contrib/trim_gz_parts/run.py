@@ -1,4 +1,4 @@
-"""One call, from its start to its end."""
+"""One run, from its start to its end."""
 
 import os
 import re
@@ -35,7 +35,7 @@ class Run:
         if not arguments.both:
             self.sides.append(Side("reverse", arguments.reverse))
         self.outputs = {}       # by their roles
-        self.ends = {}          # children that have ended, by their names, but decompressors and compressors
+        self.ends = {}          # children that have ended, by their names, without decompressors and compressors
         self.printed = self.counted = None
         self.family = self.progress = None
 
@@ -61,7 +61,7 @@ class Run:
             self.clean()
 
     def tick(self):
-        """Each time that something happens, and at least each few seconds."""
+        """Called each time that something happens, and at least every few seconds."""
         self.progress.tick()
         child = self.family.find("cutadapt")
         if child:
@@ -70,7 +70,7 @@ class Run:
     # The start.
 
     def start_all(self):
-        """A child that reads is started before the one that writes to it. The sides come first, as they are looked at first."""
+        """Starts the compressors, a decompressor for each side, cutadapt and the program: `next_end` has this order."""
         mask = os.umask(0)
         os.umask(mask)
         for output in self.outputs.values():
@@ -100,13 +100,13 @@ class Run:
             self.start_writer(output, words, reading)
 
     def start_writer(self, output, words, source):
-        """A device is opened by what writes it, since that may have to wait."""
+        """Starts what writes an output. A device is opened by that child, since opening may have to wait."""
         if output.is_device:
             words = ["sh", "-c", 'exec "$@" > "$0"', output.target] + words
         self.family.start(output.role, words, source, output.fd)
 
     def start_lane(self, side):
-        """cutadapt takes no empty line between two lanes."""
+        """Starts the decompressor of the current lane. cutadapt takes no empty line between two lanes."""
         words = side.command(self.tools.decompressor, not self.cutadapt)
         self.family.start(side.name, words, side.current().fd, side.pipe)
 
@@ -126,7 +126,7 @@ class Run:
     # The end of each child.
 
     def follow(self):
-        """Until the program has ended. After a compressor has failed, going on is useless."""
+        """Follows the children until the program has ended. Ends the run at once if a compressor fails."""
         while "program" not in self.ends:
             child = self.family.next_end()
             side = self.side_of(child)
@@ -145,7 +145,8 @@ class Run:
         return next((side for side in self.sides if side.name == child.name), None)
 
     def end_side(self, side, child):
-        """The pipe is closed only now. So whatever was made of the end of this text, it is known whether that end was true."""
+        """Closes the pipe of a side, only now that its decompressor has ended. So it is known whether the text is complete before
+        another program can see its end."""
         last = side.current()
         last.close()
         os.close(side.pipe)
@@ -167,7 +168,7 @@ class Run:
     # The verdict.
 
     def judge(self):
-        """The program has ended: is all well so far? A damaged input comes before what the program made of it."""
+        """Ends the run if the program or an input failed. A damaged input comes before what the program made of it."""
         child, status = self.ends["program"], self.ends["program"].status
         if status == 1:
             self.progress.wipe()
@@ -185,7 +186,7 @@ class Run:
             self.cutadapt.check_counts(self.ends.get("cutadapt"), int(taken.group(1)) if taken else None)
 
     def look_at_inputs(self, is_text_bad):
-        """Refuses a damaged input, or what cutadapt refused."""
+        """Ends the run if an input is damaged, or if cutadapt failed."""
         child = self.ends.get("cutadapt")
         if self.cutadapt and self.cutadapt.refused_options(child):
             self.cutadapt.look(child)
@@ -198,7 +199,7 @@ class Run:
             self.cutadapt.look(child)
 
     def read_on(self):
-        """A text has a fault. A damaged file may be the cause, so the files are decompressed for some seconds more."""
+        """Decompresses the files for some seconds more after a fault in a text, since a damaged file may be the cause."""
         until = time.monotonic() + SECONDS_TO_READ_ON
         self.family.pause = 0.1
         left = [side for side in self.sides if side.current().is_packed and self.family.find(side.name)]
@@ -212,7 +213,7 @@ class Run:
                 self.end_side(self.side_of(child), child)
 
     def with_files(self, line):
-        """The program's line, and the files that it is about."""
+        """The program's line, with the files that it is about."""
         files = {side.name: side.files() for side in self.sides}
         for output in self.outputs.values():
             if line == f"cannot write {output.written}":
@@ -229,7 +230,7 @@ class Run:
     # The end, if all is well.
 
     def finish(self):
-        """When all bytes are on the disk, the files get their final names."""
+        """Waits until all bytes are on the disk, prints the summary, and gives the files their final names."""
         while any(self.family.find(role) for role in self.outputs):
             self.end_compressor(self.family.next_end())
         texts = self.own_texts()
@@ -274,7 +275,7 @@ class Run:
             raise Fault(4, f"write failed: report ({output.name})") if output.role == "report" else output.fault()
 
     def clean(self):
-        """Nothing is left: no child, no pipe, no hidden file."""
+        """Ends the children and removes the hidden files."""
         faults.ignore_signals()
         self.progress.wipe()
         self.family.end_all()
@@ -282,7 +283,7 @@ class Run:
             output.forget()
 
     def stop(self, number):
-        """Ends as a program does that this signal ended."""
+        """Ends this process by the same signal."""
         self.progress.wipe()
         say(f"stopped by {signal_name(number)}, no output was made")
         signal.signal(number, signal.SIG_DFL)

@@ -1,8 +1,8 @@
 """Compressors and decompressors: which are safe, their arguments and their messages.
 
-gzip and bgzip end with another status than 0 on each damaged file that was tried. pigz and igzip don't: if a later
+gzip and bgzip ended with a nonzero status on each damaged file that was tried. pigz and igzip didn't: if a later
 member of a file is cut or damaged in its first bytes, they leave out the rest and end with 0. So these two never
-decompress. igzip doesn't look at its last write either, so it compresses into a pipe, and cat writes the file.
+decompress. igzip doesn't check its last write either, so it compresses into a pipe, and cat writes the file.
 """
 
 import os
@@ -18,7 +18,7 @@ COMPRESSORS = {  # the level without --level, and the arguments
     "pigz": (6, lambda level, threads: ["pigz", "-n", f"-{level}", "-p", str(threads)]),
     "gzip": (6, lambda level, threads: ["gzip", "-n", f"-{level}"]),
 }
-# The level beside cutadapt, which needs the processors: this one takes 0.6 of the other's time, and its files are 0.8 % larger.
+# The level beside cutadapt, which needs the processors: level 3 takes 0.6 of level 4's time, and its files are 0.8 % larger.
 BESIDE_CUTADAPT = {"bgzip": 3}
 # What bgzip prints for a damaged file, and gzip's words for it.
 GZIP_WORDS = (
@@ -36,7 +36,7 @@ PREFIXES = ("gzip: ", "pigz: ", "igzip: ", "[bgzip] ", "abort: ", "cat: ", "repo
 
 
 class Tools:
-    """The compressor and the decompressor of a call, and their threads."""
+    """The compressor and the decompressor of a run, and their threads."""
 
     def __init__(self, arguments):
         self.compressor = self.choose_compressor(arguments.compressor)
@@ -74,7 +74,7 @@ class Tools:
         return COMPRESSORS[self.compressor][1](self.level, self.compress_threads or max(1, threads))
 
     def needs_cat(self, output):
-        """Whether cat writes the output. igzip doesn't look at its last write, and bgzip doesn't say why one failed."""
+        """Whether cat writes the output. igzip doesn't check its last write, and bgzip doesn't say why a write failed."""
         return self.compressor == "igzip" or self.compressor == "bgzip" and output.is_device
 
 

@@ -40,7 +40,7 @@ class ArgumentsTest(Pieces):
 
     def test_what_is_refused(self):
         is_option = " is an option; a file of that name is ./"
-        astray = " is no option; steps stand behind -- (trim_gz --help)"
+        astray = " is not an option; steps come after -- (trim_gz --help)"
         for words, line in (
             ("--level 0", "--level is a number from 1 to 9, not 0"),
             ("--level=10", "--level is a number from 1 to 9, not 10"),
@@ -67,7 +67,7 @@ class ArgumentsTest(Pieces):
             (four, "no input: -1 and -2, or -i (trim_gz --help)"),
             (["-1", "a"], "1 forward files (-1), but 0 reverse files (-2)"),
             (["-i", "a"] + four[2:], "no --paired1 (trim_gz --help)"),
-            (["-i", "a"] + four, "no steps; they stand behind -- (trim_gz --help)"),
+            (["-i", "a"] + four, "no steps; they come after -- (trim_gz --help)"),
             (["-i", "a", "--cutadapt-log", "x"] + four + ["--"], "--cutadapt-log without --adapters or --cutadapt"),
         ):
             self.assertEqual(self.refused(arguments.Arguments(words).check), (1, line))
