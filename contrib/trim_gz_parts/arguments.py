@@ -151,7 +151,7 @@ class Arguments:
             self.passed.append(f"--threads={value}")  # the program looks at the number
 
     def check(self):
-        """Refuses a run that lacks an input, an output or the steps."""
+        """Refuses arguments that lack an input, an output or the steps, or that don't fit together."""
         if self.both and (self.forward or self.reverse):
             raise Fault(1, "either -i, or -1 and -2")
         if not self.both and not self.forward:
