@@ -391,8 +391,8 @@ damaged data/magic.gz 'decompression OK, trailing garbage ignored' -1 data/magic
 damaged data/zeros.gz 'decompression OK, trailing garbage ignored' -1 data/zeros.gz -2 data/r.gz "${rest[@]}"
 damaged data/header.gz 'unexpected end of file' -1 data/header.gz -2 data/r.gz "${rest[@]}"
 damaged data/header.gz 'unexpected end of file' -1 data/header.gz -2 data/a2.gz "${rest[@]}"
-refused 1 'trim_gz: --decompressor is one of auto, bgzip, gzip, not pigz' --decompressor pigz "${both[@]}" "${rest[@]}"
-refused 1 'trim_gz: --decompressor is one of auto, bgzip, gzip, not igzip' --decompressor igzip "${both[@]}" "${rest[@]}"
+refused 1 'trim_gz: --decompressor must be one of auto, bgzip, gzip, not pigz' --decompressor pigz "${both[@]}" "${rest[@]}"
+refused 1 'trim_gz: --decompressor must be one of auto, bgzip, gzip, not igzip' --decompressor igzip "${both[@]}" "${rest[@]}"
 
 row='mates that are missing'
 refused 3 'trim_gz: input: reverse record 1501: MateMissing (data/a2.gz)' -1 data/f.gz -2 data/a2.gz "${rest[@]}"

@@ -191,7 +191,7 @@ sample_pages() {
     if [ $((2 * kept)) -lt "$pairs" ]; then few+="<li><strong><a href=\"reports/$sample.html\">$sample</a></strong>: $kept of $pairs pairs</li>"; fi
   done
   [ "$(grep -o '<li><strong><a href="reports/.*' results/report.html | tr -d '\n')" = "$few" ] || fail 'other samples are marked'
-  [ -n "$few" ] || fail 'no sample has to be marked'
+  [ -n "$few" ] || fail 'there is no sample to mark'
   [ "$(grep -o 'class="badge"' results/report.html | wc -l)" -eq "$(grep -o '</li>' <<< "$few" | wc -l)" ] || fail 'the table marks other samples'
 }
 
@@ -286,7 +286,7 @@ with_adapters() {
   row='adapters that are not there'
   rm -r results
   sed -i 's/^adapters:.*/adapters: none.fa/' config/config.yaml
-  refused "settings: adapters: 'none.fa' is no file and no sequence"
+  refused "settings: adapters: 'none.fa' is neither a file nor a sequence"
 }
 
 # refused LINE: the present settings or table are refused with that line, and nothing is made
@@ -309,10 +309,10 @@ bad_tables() {
   refused "config/samples.tsv, line 2: column sample: 'a b' isn't letters, digits"
   row='a table with a lane twice'
   table "s1\tL1\t$one\t$two\ns1\tL1\treads/s2_L001_R1.fq.gz\treads/s2_L001_R2.fq.gz\n"
-  refused 'config/samples.tsv, line 3: sample s1 has lane L1 already'
+  refused 'config/samples.tsv, line 3: sample s1 already has lane L1'
   row='a table with a file twice'
   table "s1\tL1\t$one\t$two\ns2\tL1\treads/s2_L001_R1.fq.gz\t$two\n"
-  refused "config/samples.tsv, line 3: column r2: $two stands in config/samples.tsv, line 2, column r2 already"
+  refused "config/samples.tsv, line 3: column r2: $two is already in config/samples.tsv, line 2, column r2"
   row='a table with a file that is not there'
   table "s1\tL1\t$one\treads/none.fq.gz\n"
   refused 'config/samples.tsv, line 2: column r2: there is no file reads/none.fq.gz'
@@ -324,7 +324,7 @@ bad_tables() {
   refused 'config/samples.tsv, line 2: 3 columns, not 4 with tabs between them'
   row='a table without rows'
   table ''
-  refused 'config/samples.tsv: no sample'
+  refused 'config/samples.tsv: there are no samples'
   row='settings with a wrong kind'
   table "s1\tL1\t$one\t$two\n"
   sed -i 's/^trim_logs:.*/trim_logs: perhaps/' config/config.yaml
@@ -460,8 +460,8 @@ status_of() {
   fail "job $1 is '$got', not $2"
 }
 
-# cluster_scripts: the profile's two scripts on jobs that end, fail, are cancelled, wait for ever,
-# and are not known
+# cluster_scripts: the profile's two scripts on jobs that end, fail, are cancelled, wait forever,
+# and are unknown
 cluster_scripts() {
   local ends fails stays waits
   row='the scripts of the profile'

@@ -37,7 +37,7 @@ def number_to(most):
     """A reader of numbers from 1 to `most`."""
     def read(option, text):
         if not re.match("[1-9][0-9]?$", text) or int(text) > most:
-            raise Fault(1, f"{option} is a number from 1 to {most}, not {text}")
+            raise Fault(1, f"{option} must be a number from 1 to {most}, not {text}")
         return int(text)
     return read
 
@@ -46,7 +46,7 @@ def one_of(names):
     """A reader of one of these names."""
     def read(option, text):
         if text not in names:
-            raise Fault(1, f"{option} is one of {', '.join(names)}, not {text}")
+            raise Fault(1, f"{option} must be one of {', '.join(names)}, not {text}")
         return text
     return read
 
@@ -148,7 +148,7 @@ class Arguments:
         else:
             self.outputs[role] = value
         if option == "--threads":
-            self.passed.append(f"--threads={value}")  # the program looks at the number
+            self.passed.append(f"--threads={value}")  # the program checks the number
 
     def check(self):
         """Refuses arguments that lack an input, an output or the steps, or that don't fit together."""

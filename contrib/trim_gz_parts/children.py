@@ -77,7 +77,7 @@ class Child:
             os.close(said_end)
 
     def look(self):
-        """Whether it has ended. All that it started ends with it, while its number is still its own."""
+        """Whether it has ended. All that it started ends with it, while its process number is still its own."""
         if self.status is not None:
             return True
         if os.waitid(os.P_PID, self.process.pid, os.WEXITED | os.WNOHANG | os.WNOWAIT) is None:

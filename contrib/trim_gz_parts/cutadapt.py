@@ -116,7 +116,7 @@ class Cutadapt:
         except (ValueError, KeyError):
             raise Fault(4, "cutadapt: no report")
         if passed != taken:
-            raise Fault(4, f"cutadapt passed on {passed} pairs, and fq_prog read another number")
+            raise Fault(4, f"cutadapt passed on {passed} pairs, but fq_prog read another number")
 
     def report(self):
         """What it counted, as JSON, with the names of the user's files."""

@@ -148,7 +148,7 @@ def check_letters(page, report, side):
 
 def check_lengths(page, report, side):
     before, left = [report["reads"][side]["before"]], after(report, side)
-    told = page.figures[f"{side}: % of reads by at least so many bases"]
+    told = page.figures[f"{side}: % of reads by this many bases or more"]
     assert told, side
     for line in told:
         number, old, new = re.fullmatch(r"at least ([0-9,]+) bases: before (.*), after (.*)", line).groups()
@@ -171,7 +171,7 @@ def check_histogram(page, report, side, across, name, field):
 
 
 def check_removed(page, report, side):
-    told = page.figures[f"{side}: % of reads that survive by at least so many bases removed"]
+    told = page.figures[f"{side}: % of reads that survive by this many bases removed or more"]
     reads = sum(part["reads"] for part in after(report, side))
     for line in told:
         words = r"at least ([0-9,]+) bases removed: at the start of the read (.*), at its end (.*)"

@@ -42,9 +42,9 @@ class ArgumentsTest(Pieces):
         is_option = " is an option; a file of that name is ./"
         astray = " is not an option; steps come after -- (trim_gz --help)"
         for words, line in (
-            ("--level 0", "--level is a number from 1 to 9, not 0"),
-            ("--level=10", "--level is a number from 1 to 9, not 10"),
-            ("--compress-threads 65", "--compress-threads is a number from 1 to 64, not 65"),
+            ("--level 0", "--level must be a number from 1 to 9, not 0"),
+            ("--level=10", "--level must be a number from 1 to 9, not 10"),
+            ("--compress-threads 65", "--compress-threads must be a number from 1 to 64, not 65"),
             ("-1", "-1 has no value (trim_gz --help)"),
             ("--report=", "--report has no value (trim_gz --help)"),
             ("-1 -2 x", f"-1 has no value, as -2{is_option}-2"),
@@ -55,8 +55,8 @@ class ArgumentsTest(Pieces):
             ("-1=x", f"-1=x{astray}"),
             ("--block 7 x", f"x{astray}"),
             ("--report a --report b", "--report is given twice"),
-            ("--compressor xz", "--compressor is one of auto, bgzip, igzip, pigz, gzip, not xz"),
-            ("--decompressor pigz", "--decompressor is one of auto, bgzip, gzip, not pigz"),
+            ("--compressor xz", "--compressor must be one of auto, bgzip, igzip, pigz, gzip, not xz"),
+            ("--decompressor pigz", "--decompressor must be one of auto, bgzip, gzip, not pigz"),
         ):
             self.assertEqual(self.refused(arguments.Arguments, words.split()), (1, line))
 

@@ -1,8 +1,8 @@
 #!/usr/bin/env python3
-"""Makes the page of all samples with MultiQC, of those that are trimmed, and names the others.
+"""Makes one page of the samples that are trimmed, with MultiQC, and names the others on it.
 
-The names of all samples come on standard input, one a line. RESULTS/report.html and the directory RESULTS/report_data
-are written again; until that is done the old ones stay.
+Reads the names of all samples from standard input, one a line. RESULTS/report.html and the
+directory RESULTS/report_data are replaced when the new ones are complete.
 """
 
 import argparse
@@ -33,7 +33,7 @@ class Refused(Exception):
 
 
 def telling_line(path):
-    """The last line of a log that isn't empty, or an empty one; None if there is no log.
+    """The last line of a log that isn't empty, or an empty text if all are; None if there is no log.
 
     If the program doesn't know an argument, it prints several lines. The first, `error: ..`, says which.
     """
@@ -50,9 +50,9 @@ def telling_line(path):
 
 
 def why_failed(logs, sample):
-    """Why a sample failed, as far as its log says; None if it has no log, so was not started."""
+    """Why a sample failed, as far as its log says; None if it has no log, because it was not started."""
     said = telling_line(logs / "trim" / f"{sample}.log")
-    return "stopped without a word; see the messages of the cluster" if said == "" else said
+    return "stopped without a message; on Slurm see logs/slurm/" if said == "" else said
 
 
 def settings_of(results, samples):
@@ -65,20 +65,20 @@ def settings_of(results, samples):
     return groups
 
 
-def missing_samples(failed, not_begun):
+def missing_samples(failed, not_started):
     """The samples that the page lacks, and why."""
     parts = []
     if failed:
         parts.append(f'<div class="alert alert-danger"><strong>Failed: {len(failed)}.</strong> No reads of these were kept:<ul>')
         parts += [f"<li><strong>{html.escape(name)}</strong>: <samp>{html.escape(why)}</samp></li>" for name, why in failed.items()]
         parts.append("</ul></div>")
-    if not_begun:
-        parts.append(f'<div class="alert alert-warning"><strong>Not begun:</strong> {html.escape(", ".join(not_begun))}</div>')
+    if not_started:
+        parts.append(f'<div class="alert alert-warning"><strong>Not started:</strong> {html.escape(", ".join(not_started))}</div>')
     return parts
 
 
 def few_kept(results, samples):
-    """The samples of which less than half of the pairs are kept, each with its pairs and the kept ones."""
+    """The samples that kept less than half of their pairs, each with the number of its pairs and of the kept ones."""
     found = {}
     for sample in samples:
         lines = (results / "summaries" / f"{sample}.summary").read_text(encoding="utf-8").split("\n")
@@ -89,7 +89,7 @@ def few_kept(results, samples):
 
 
 def link(results, sample):
-    """The name of a sample, as a link to its own page if that page is there and not older than the report."""
+    """The name of a sample, as a link to its own page if that page exists and isn't older than the report."""
     name = html.escape(sample)
     page, report = (results / "reports" / f"{sample}.{kind}" for kind in ("html", "json"))
     if page.is_file() and page.stat().st_mtime >= report.stat().st_mtime:
@@ -129,7 +129,7 @@ def how_trimmed(results, trimmed):
 
 
 def call(command):
-    """Runs a command. If it fails, prints what it said and refuses."""
+    """Returns what a command prints. If it fails, prints that and refuses."""
     try:
         done = subprocess.run(command, stdout=subprocess.PIPE, stderr=subprocess.STDOUT, text=True, errors="replace")
     except OSError as error:
@@ -141,7 +141,10 @@ def call(command):
 
 
 def put_cutadapt(results, trimmed, folder):
-    """Puts cutadapt's logs there, if there are any. MultiQC's module takes the last word of the command as the sample's name."""
+    """Copies cutadapt's logs into the directory, if there are any.
+
+    MultiQC takes the last word of cutadapt's command as the sample's name.
+    """
     for sample in trimmed:
         log = results / "cutadapt" / f"{sample}.log"
         if log.is_file() and log.stat().st_mtime >= (results / "summaries" / f"{sample}.settings").stat().st_mtime:
@@ -151,23 +154,23 @@ def put_cutadapt(results, trimmed, folder):
 
 
 def gather(results, trimmed, folder):
-    """Puts what MultiQC reads into a directory."""
+    """Writes what MultiQC reads into a directory."""
     reports = [str(results / "reports" / f"{sample}.json") for sample in trimmed]
     for first in range(0, len(reports), 500):
         call([str(REPORT_TO_MQC), "--out", str(folder), *reports[first : first + 500]])
     put_cutadapt(results, trimmed, folder)
 
 
-def make_page(results, trimmed, failed, not_begun):
-    """Makes the page in a directory of its own, and puts it into its place at the end."""
-    samples = len(trimmed) + len(failed) + len(not_begun)
+def make_page(results, trimmed, failed, not_started):
+    """Makes the page in a directory of its own, and moves it to its place at the end."""
+    samples = len(trimmed) + len(failed) + len(not_started)
     parts = [SECTION, f"<p><strong>{len(trimmed)} of {samples} samples</strong> are on this page.</p>"]
     results.mkdir(parents=True, exist_ok=True)
     with tempfile.TemporaryDirectory(prefix=".report.", dir=results) as room:
         read, written = Path(room) / "read", Path(room) / "written"
         read.mkdir()
         gather(results, trimmed, read)
-        parts += missing_samples(failed, not_begun)
+        parts += missing_samples(failed, not_started)
         parts += sample_pages(results, trimmed) + how_trimmed(results, trimmed)
         (read / "run_mqc.html").write_text("\n".join(parts) + "\n", encoding="utf-8")
         config = str(HERE.parent / "multiqc.yaml")
@@ -190,17 +193,17 @@ def main():
     trimmed = [name for name in samples if all((words.results / part.format(name)).is_file() for part in parts)]
     reasons = {name: why_failed(words.logs, name) for name in samples if name not in trimmed}
     failed = {name: why for name, why in reasons.items() if why is not None}
-    not_begun = [name for name, why in reasons.items() if why is None]
+    not_started = [name for name, why in reasons.items() if why is None]
     try:
-        make_page(words.results, trimmed, failed, not_begun)
+        make_page(words.results, trimmed, failed, not_started)
     except (Refused, OSError) as why:
         print(f"page: {' '.join(str(why).split())}", file=sys.stderr)
         return 1
     print(f"{words.results / 'report.html'}: {len(trimmed)} of {len(samples)} samples", file=sys.stderr)
     for name, why in failed.items():
         print(f"failed: {name}: {why}", file=sys.stderr)
-    for name in not_begun:
-        print(f"not begun: {name}", file=sys.stderr)
+    for name in not_started:
+        print(f"not started: {name}", file=sys.stderr)
     return 0
 
 

@@ -28,7 +28,7 @@ def fault(value, schema_path):
 
 
 def check_settings(settings, schema_path):
-    """Refuses settings that aren't those of the schema."""
+    """Refuses settings that don't match the schema."""
     found = fault(settings, schema_path)
     if found:
         place, message = found
@@ -40,7 +40,7 @@ def check_adapters(adapters):
     if os.path.isfile(adapters):
         return adapters
     if adapters and not re.fullmatch("[ACGTUNRYSWKMBDHVI]+(,[ACGTUNRYSWKMBDHVI]+)?", adapters, re.IGNORECASE):
-        raise Refused(f"settings: adapters: {adapters!r} is no file and no sequence")
+        raise Refused(f"settings: adapters: {adapters!r} is neither a file nor a sequence")
     return None
 
 
@@ -55,7 +55,7 @@ def rows_of(path):
     except OSError as error:
         raise Refused(f"{path}: {error.strerror}") from error
     except UnicodeDecodeError as error:
-        raise Refused(f"{path}: not a text in UTF-8") from error
+        raise Refused(f"{path}: not UTF-8 text") from error
 
 
 def check_row(where, row, lanes, files, schema_path):
@@ -65,14 +65,14 @@ def check_row(where, row, lanes, files, schema_path):
         place, message = found
         raise Refused(f"{where}: column {place}: {message}")
     if row["lane"] in lanes:
-        raise Refused(f"{where}: sample {row['sample']} has lane {row['lane']} already")
+        raise Refused(f"{where}: sample {row['sample']} already has lane {row['lane']}")
     for column in ("r1", "r2"):
         name = row[column]
         if not os.path.isfile(name):
             raise Refused(f"{where}: column {column}: there is no file {name}")
         same = files.setdefault(os.path.realpath(name), f"{where}, column {column}")
         if same != f"{where}, column {column}":
-            raise Refused(f"{where}: column {column}: {name} stands in {same} already")
+            raise Refused(f"{where}: column {column}: {name} is already in {same}")
 
 
 def read_samples(path, schema_path):
@@ -80,7 +80,7 @@ def read_samples(path, schema_path):
     rows = rows_of(path)
     header = next(rows, (1, []))[1]
     if header != COLUMNS:
-        raise Refused(f"{path}: the first line has to be '{' '.join(COLUMNS)}' with tabs, not '{' '.join(header)}'")
+        raise Refused(f"{path}: the first line must be '{' '.join(COLUMNS)}' with tabs between them, not '{' '.join(header)}'")
     samples, files = {}, {}
     for number, cells in rows:
         where = f"{path}, line {number}"
@@ -91,5 +91,5 @@ def read_samples(path, schema_path):
         check_row(where, row, [lane["lane"] for lane in lanes], files, schema_path)
         lanes.append(row)
     if not samples:
-        raise Refused(f"{path}: no sample")
+        raise Refused(f"{path}: there are no samples")
     return samples
