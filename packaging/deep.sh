@@ -6,11 +6,13 @@ cd "$(dirname "$0")/.."
 
 if [ "${1-}" = --help ]; then
   echo "usage: packaging/deep.sh [CRATE..]
-Moves crates/CRATE/wrong-bodies/*.edit into crates/CRATE/must-fail/ of a copy of the crates, and runs 'rt ci CRATE..' there.
-Without CRATE it tries those of every crate. The last line is 'N wrong bodies refused, M not'.
-From kit 13f on, what 'rt ci' proved before, in any checkout on this machine, is not proved again, so after a gate this costs
-the edits alone: about 24 processor seconds each. Refused edits are kept one by one, so a run that was cut off goes on where
-it ended. The 'rt ci' of an older kit takes no crates. There 'rt must-fail CRATE..' tries the edits, over a copy of what
+Copies the crates, moves crates/CRATE/wrong-bodies/*.edit into crates/CRATE/must-fail/ of the copy,
+and runs 'rt ci CRATE..' there. Without CRATE it tries the edits of every crate. The last line is
+'N wrong bodies refused, M not'.
+From kit 13f on, 'rt ci' doesn't prove again what it proved before in any checkout on this machine.
+So after a gate only the edits take time, about 24 processor seconds each. Each refused edit is kept
+at once, so after an interruption the next run tries only the others. The 'rt ci' of an older kit
+takes no crates. With such a kit 'rt must-fail CRATE..' tries the edits, over a copy of what
 'make build' or 'make check' left of the crates below."
   exit
 fi
@@ -42,10 +44,10 @@ fi
 find crates -name out -prune -o -type f -print0 | xargs -0 cp --parents -t "$room"
 cp crates.txt HANDLES "$room"
 
-wanted=() # each edit that this run has to see refused
+wanted=() # each edit that must be refused
 for crate; do
   if [ ! -d "$room/crates/$crate/wrong-bodies" ]; then
-    echo "deep: there is no folder crates/$crate/wrong-bodies" >&2
+    echo "deep: there is no directory crates/$crate/wrong-bodies" >&2
     exit 2
   fi
   mv -n "$room/crates/$crate"/wrong-bodies/*.edit "$room/crates/$crate/must-fail/"
@@ -53,7 +55,7 @@ for crate; do
     wanted+=("$crate/${edit##*/}")
   done
 done
-echo "deep: ${#wanted[@]} wrong bodies of $# crates, those of the gate among them"
+echo "deep: ${#wanted[@]} wrong bodies of $# crates, including those of the gate"
 
 if [ "${try[1]}" = must-fail ]; then
   find crates -mindepth 2 -maxdepth 2 -name out -exec cp -r --preserve=timestamps --parents -t "$room" {} +

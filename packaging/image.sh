@@ -9,8 +9,9 @@ export LC_ALL=C TZ=UTC
 
 if [ $# -lt 2 ] || [ $# -gt 3 ]; then
   echo "usage: packaging/image.sh VERSION DIRECTORY [BASE]
-Makes tibzharuk-VERSION-oci.tar in DIRECTORY, which must hold tibzharuk_VERSION_amd64.deb already. BASE is a tar file of a Debian 12
-with apt; without it, it is made and left in DIRECTORY as debian-12.tar. Needs root, the network, and Debian's buildah and mmdebstrap."
+Makes tibzharuk-VERSION-oci.tar in DIRECTORY, which must hold tibzharuk_VERSION_amd64.deb already.
+BASE is a tar file of a Debian 12 with apt. Without BASE one is made, and left in DIRECTORY as
+debian-12.tar. Needs root, the network, and Debian's buildah and mmdebstrap."
   [ "${1-}" = --help ]
   exit
 fi

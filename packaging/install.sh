@@ -9,8 +9,9 @@ export LC_ALL=C
 usage() {
   echo "usage: packaging/install.sh PROGRAM DIRECTORY [SCRIPTS]
        packaging/install.sh --remove DIRECTORY
-Installs PROGRAM as fq_prog and tibzharuk below DIRECTORY, with trim_gz (tibzharuk-gz) and report_to_html (tibzharuk-report). The
-scripts go to the directory SCRIPTS of DIRECTORY, which is share/tibzharuk/contrib unless another is given."
+Installs PROGRAM as fq_prog and tibzharuk below DIRECTORY, with trim_gz (tibzharuk-gz) and
+report_to_html (tibzharuk-report). The scripts go to DIRECTORY/SCRIPTS (default:
+share/tibzharuk/contrib). --remove removes all of these files."
 }
 
 case ${1-} in

@@ -8,7 +8,8 @@ set -euo pipefail
 if [ $# -ne 2 ]; then
   echo "usage: link_static.sh DIRECTORY FILE
 Links FILE from fq_prog.o, libos_c.a and liblibc_c.a of DIRECTORY, with the C library's static form.
-CC names the compiler that links (default: cc), LDFLAGS has more words for it, as -L/another/libc."
+CC names the compiler that links (default: cc). LDFLAGS has more arguments for it, such as
+-L/another/libc."
   [ "${1-}" = --help ]
   exit
 fi

@@ -8,8 +8,8 @@ export LC_ALL=C TZ=UTC
 
 if [ $# -ne 2 ]; then
   echo "usage: packaging/pack.sh VERSION DIRECTORY
-Makes tibzharuk-VERSION-linux-x86_64.tar.gz, tibzharuk_VERSION_amd64.deb and SHA256SUMS in DIRECTORY, which must hold
-fq_prog and objects/ already."
+Makes tibzharuk-VERSION-linux-x86_64.tar.gz, tibzharuk_VERSION_amd64.deb and SHA256SUMS in
+DIRECTORY, which must hold fq_prog and objects/ already."
   [ "${1-}" = --help ]
   exit
 fi

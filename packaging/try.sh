@@ -6,8 +6,8 @@ cd "$(dirname "$0")/.." || exit 1
 
 if [ "${1-}" = --help ]; then
   echo "usage: packaging/try.sh [CRATE..]
-Runs 'rt try --test' in each crate (without CRATE: in every crate that has tests), one a processor at a time.
-JOBS sets another number of crates at a time."
+Runs 'rt try --test' in each CRATE (without CRATE: in every crate that has tests), as many at a time
+as there are processors, or JOBS at a time if that variable is set."
   exit 0
 fi
 

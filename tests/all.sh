@@ -3,7 +3,7 @@
 # and then each script of this directory over the built program. A script counts as one test. One
 # that ends with status 77 was skipped, and says what it lacks.
 # The last line is 'N passed, M failed, K skipped'.
-set -u
+set -uo pipefail
 cd "$(dirname "$0")/.." || exit 1
 log=$(mktemp)
 trap 'rm -f "$log"' EXIT

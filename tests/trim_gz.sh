@@ -3,7 +3,7 @@
 # with those of the program on plain files.
 # FQ_PROG names another build of the program. A row whose tool isn't installed is reported as
 # skipped.
-set -u
+set -uo pipefail
 . "$(dirname "$0")/common.bash"
 find_program
 script=$tree/contrib/trim_gz
@@ -774,7 +774,7 @@ END
 fi
 
 row='help and version'
-"$script" --help | grep -q -- '--paired1 OUT' || fail 'the outputs are not explained'
+[[ $("$script" --help) == *'--paired1 OUT'* ]] || fail 'the outputs are not explained'
 [ "$("$script" --program "$program" --version)" = "$("$program" --version)" ] || fail 'another version than the program'
 
 finish ok

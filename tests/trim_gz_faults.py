@@ -3,10 +3,12 @@
 
     trim_gz_faults.py RUNS [--seed N] [--kind KIND] [--tell]
 
-Each run has drawn pairs in one to three lanes or interleaved, in several forms of gzip files, random compressors and options, and one
-fault: an input is cut or changed, one of its processes is killed at a random moment, a small file system fills up, trim_gz gets a signal,
-or a program is missing. After it, either the status is 0 and each output is that of the program over plain files, or the status is
-another one, a line says why, and each output is as it was before. No child and no hidden file is left then, except after SIGKILL.
+Each run has simulated pairs in one to three lanes or interleaved, in several forms of gzip files,
+random compressors and options, and one fault: an input is cut or changed, one of its processes is
+killed at a random moment, a small file system fills up, trim_gz gets a signal, or a program is
+missing. After the run, either the status is 0 and each output is that of the program over plain
+files, or the status is another one, a line says why, and each output is as it was before. No child
+process and no hidden file is left, except after SIGKILL.
 
 FQ_PROG names another build of the program. The status is 0 if nothing was wrong.
 """

@@ -1,7 +1,7 @@
 #!/usr/bin/env bash
-# 40 runs of contrib/trim_gz with random faults (tests/trim_gz_faults.py), other ones in each call.
+# 40 runs of contrib/trim_gz with random faults (tests/trim_gz_faults.py), different ones each time.
 # TRIM_GZ_RUNS sets another number, and TRIM_GZ_SEED repeats the runs of a seed that was printed.
-set -u
+set -uo pipefail
 . "$(dirname "$0")/common.bash"
 find_program
 missing=

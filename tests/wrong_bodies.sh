@@ -2,7 +2,7 @@
 # The wrong bodies still apply to the code, and each public operation has one that the gate tries.
 # Nothing is proved.
 # Status 77, and 'skipped', if a package is missing.
-set -u
+set -uo pipefail
 . "$(dirname "$0")/common.bash"
 need python3
 exec python3 tests/wrong_bodies/check.py

@@ -1,6 +1,6 @@
 #!/usr/bin/env bash
 # Builds the benchmark in a scratch repository over this tree's fq_text, and runs it.
-set -eu
+set -euo pipefail
 top=$(cd "$(dirname "$0")/../.." && pwd)
 scratch=$(mktemp -d)
 trap 'rm -rf "$scratch"' EXIT

@@ -3,7 +3,7 @@
 # and all, and puts it at the path given.
 #
 #     bench/trimming/serial.sh PATH
-set -eu
+set -euo pipefail
 path=$(realpath -m "${1:?a path for the program}")
 here=$(cd "$(dirname "$0")" && pwd)
 top=$here/../..

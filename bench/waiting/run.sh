@@ -42,7 +42,7 @@ while [ $# -gt 0 ]; do
 done
 program=$(realpath "$program")
 [ -x "$program" ] || stop "no program at $program (make build)"
-[ -r /proc/self/schedstat ] || stop "the system tells no scheduler's statistics"
+[ -r /proc/self/schedstat ] || stop "the system has no /proc/self/schedstat"
 
 folder=$(mktemp -d)
 trap 'rm -rf "$folder"' EXIT
@@ -107,6 +107,6 @@ process=$!
 exec 7> forward 8> reverse
 head -n 40000 reads.fq >&7 &
 head -n 40000 reads.fq >&8
-watch the_input_behind_a_failed_write "$process"
+watch the_input_after_a_failed_write "$process"
 exec 7>&- 8>&-
 wait "$process" || true
