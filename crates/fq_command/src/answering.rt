@@ -41,9 +41,9 @@ use std::thread::Threads;
 /// `EXAMPLE` prints what becomes of two built-in pairs under the step `LEADING:3`: the four
 /// outputs, the trim log and the summary, each below a label.
 ///
-/// The statuses are 0 for success and for help, 1 for an invalid command line, 2 for an invalid
-/// encoding, step, setting or file name, 3 for a fault in the input, 4 for a device, 5 if memory
-/// was refused, and 6 for threads.
+/// The statuses are 0 for success, help and the version, 1 for an invalid command line, and 2 for
+/// an invalid encoding, step, setting or file name. 3 is for a fault in the input, 4 for a refused
+/// file, a failed device or an endless input, 5 for refused memory, and 6 for failed threads.
 pub fn program<'a, R: Threads + Wait + Copy + Send + 'static, T: Files, O: Outlet, E: Outlet>(
     alloc: Global,
     rt: &R,

@@ -27,7 +27,7 @@ const FORWARD: &[u8] = b"@p1/1\nACGT\n+\n#!II\n@p2/1\nGGCC\n+\nIIII\n";
 
 const REVERSE: &[u8] = b"@p1/2\nTTTT\n+\nIIII\n@p2/2\nAAAA\n+\n!!!\"\n";
 
-// Bytes of each read or write call of the example's devices.
+// The most bytes that a read or write call of the example's devices moves.
 const CUT: usize = 1000;
 
 const CHUNK: u64 = 65_536;

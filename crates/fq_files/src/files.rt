@@ -9,7 +9,8 @@ use thiserror::Error;
 /// Why a file can't be read or written.
 #[derive(Clone, Copy, Debug, PartialEq, Eq, Error)]
 pub enum FileFault {
-    /// There is no such file, or it can't be opened or created.
+    /// There is no such file, it can't be opened or created, or it is already an input or an
+    /// output.
     #[error("the file was refused")]
     Refused,
     /// Memory was refused.

@@ -8,7 +8,8 @@ use std::collections::BTreeMap;
 /// Files in memory. Their bytes are known to the proof.
 ///
 /// A name that isn't held is refused as an input, and created as an output. No name is refused as
-/// an output unless memory is refused. No read call is cut short. A failure counts for every name.
+/// an output unless memory is refused. No read call is cut short. A failure counts for every name,
+/// and so does a target that was not flushed.
 #[derive(Drop)]
 pub struct MemoryFiles {
     held: BTreeMap<String, Vec<u8>>,

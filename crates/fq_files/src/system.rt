@@ -58,8 +58,8 @@ impl<'a, R: rt::Files<File = File>> SystemFiles<'a, R> {
         }
     }
 
-    /// From now on refuses the file that this name leads to as an output, if it is a regular file:
-    /// something else writes to it.
+    /// Keeps the regular file that this name leads to from becoming an output, since something else
+    /// writes to it. Does nothing if the name leads to no regular file.
     pub fn keep(&mut self, name: &str) -> Result<(), OutOfMemory> {
         if let Ok(metadata) = fs::metadata(self.runtime, name) {
             if metadata.is_file() {

@@ -24,8 +24,8 @@ pub(crate) enum Feeds<F> {
     Interleaved(F),
 }
 
-/// Opens the inputs in the order of the command line. With `--sync`, the files of the outputs will
-/// wait for their disk.
+/// Opens the inputs in the order of the command line. With `--sync`, each flush of an output will
+/// wait until its bytes are on stable storage.
 pub(crate) fn inputs<T: Files>(
     request: &Request<'_>,
     files: &mut T,

@@ -31,7 +31,7 @@ pub enum Reported {
     NotDue,
     /// The report was written.
     Written,
-    /// A write of the report failed.
+    /// A write of the report failed, or its flush.
     Failed,
     /// Memory for the report was refused.
     OutOfMemory,

@@ -41,9 +41,9 @@ pub struct Completed {
 /// Trims the pairs of the inputs into the outputs.
 ///
 /// The request is checked before a file is opened. The inputs are opened before an output is made,
-/// and an output that is an input under another name is refused before any output is made. Each
-/// outlet is handed back, however the run ended. The report is made after all outputs, and written
-/// after them.
+/// and an output or report that is an input under another name is refused before any output is
+/// made. Each outlet is handed back, however the run ended. The report is made after all outputs,
+/// and written after them.
 pub fn trim_files<R: Threads + Wait + Copy + Send + 'static, T: Files>(
     alloc: Global,
     rt: &R,

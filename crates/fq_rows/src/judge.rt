@@ -5,7 +5,8 @@
 //! argument `interleaved` it reads one interleaved text, which ends with a forward record whose
 //! mate is missing; otherwise it reads seven pairs from two texts. If what the run leaves is
 //! correct, the program prints `Whole`, or, if the run did not end whole, its outcome and what
-//! became of its feeds. Otherwise the exit status is 1.
+//! became of its feeds. If memory is refused before the run, it prints that. Otherwise the exit
+//! status is 1.
 //!
 //! `do: judge` does so by the words of `way`. Answer: `whole`, whether the run ended whole.
 

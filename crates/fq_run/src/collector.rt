@@ -212,7 +212,8 @@ impl Collector {
 }
 
 // How long a collector sleeps after the next round in which nothing comes: `FIRST_REST` if
-// something came in the last round, and otherwise twice as long as the last time.
+// something came in the last round, and otherwise twice as long as the last time, up to
+// `LONGEST_REST`.
 fn next_rest(found: bool, rest: u64) -> u64
     ensures { result ≡ (if found then FIRST_REST else min (rest + rest) LONGEST_REST) }
 {

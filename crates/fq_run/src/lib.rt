@@ -1,5 +1,5 @@
-//! Runs of the trimmer: from the texts of two mates to the texts of the trimmed pairs, their log
-//! and their counts.
+//! Runs of the trimmer: from two texts, or one interleaved text, to the texts of the trimmed pairs,
+//! their log and their counts.
 //!
 //! A run on several threads has a dealer (the thread that reads), workers (threads that trim) and a
 //! collector (the calling thread, which writes). They are connected by lanes, which are queues

@@ -120,7 +120,8 @@ pub fn front_of(outlets: &Outlets<ScriptOutlet>, counts: Counts) -> Result<Front
     front_in_order(outlets, counts, BLOCK_PAIRS)
 }
 
-/// Which pairs a run has written whose call of this number failed, and which has this outcome.
+/// Checks that a run whose call of this number failed has this outcome. Returns which pairs it has
+/// written.
 pub fn front_behind(
     rt: &impl Abort,
     left: &Left,

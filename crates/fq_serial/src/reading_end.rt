@@ -9,6 +9,6 @@ pub enum ReadingEnd {
     End,
     /// The inputs have a fault.
     Fault(InputFault),
-    /// Memory for a pair was refused. That pair and all later pairs are lost.
+    /// Memory was refused: for a pair, which is lost with all later ones, or before the first pair.
     Memory,
 }

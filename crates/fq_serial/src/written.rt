@@ -10,7 +10,7 @@ use fq_pair::Out;
 pub(crate) struct Written {
     /// The counts and the tally of the pairs whose block was written completely.
     pub(crate) total: Total,
-    /// Why reading stopped, if that ended the run.
+    /// Why reading stopped. `None` if a write failed before that.
     pub(crate) why: Option<ReadingEnd>,
     /// The outlet whose write failed.
     pub(crate) failed: Option<Out>,

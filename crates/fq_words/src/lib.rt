@@ -1,7 +1,8 @@
 //! The command line: the program's commands with their help, and what a call asks for.
 //!
-//! [`read_words`] parses the arguments with `clap` and gives a [`Request`]. The ranges of its
-//! numbers and the texts of its steps are not checked yet.
+//! [`read_words`] parses the arguments with `clap` and returns what they ask for, [`Asked`]. The
+//! ranges of the numbers of a [`Request`], and the texts of its encoding and steps, are not checked
+//! yet.
 #![tactic(auto)]
 
 mod help;

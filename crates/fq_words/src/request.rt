@@ -36,10 +36,13 @@ pub struct Request<'a> {
     pub sync: bool,
     /// The input files.
     pub inputs: Inputs<'a>,
-    /// The names of the four outputs.
+    /// The name of the output for forward reads whose mate also survives.
     pub forward_paired: &'a str,
+    /// The name of the output for forward reads whose mate is dropped.
     pub forward_unpaired: &'a str,
+    /// The name of the output for reverse reads whose mate also survives.
     pub reverse_paired: &'a str,
+    /// The name of the output for reverse reads whose mate is dropped.
     pub reverse_unpaired: &'a str,
     /// The name of the log, if there is to be one (`--trimlog`).
     pub log: Option<&'a str>,

@@ -8,8 +8,8 @@ use fq_tally::Done;
 /// The worker's ends of its four lanes.
 ///
 /// The two return lanes carry used blocks, and used texts with their tally, whose memory is reused.
-/// They are emptied before use. The return lanes take what they have room for, may be cut off at
-/// any time, and are never confirmed.
+/// Blocks and texts are emptied before they are used again. The return lanes take what they have
+/// room for, may be cut off at any time, and are never confirmed.
 #[derive(Drop)]
 pub struct WorkEnds {
     /// The blocks from the dealer.

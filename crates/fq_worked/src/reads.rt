@@ -3,8 +3,9 @@
 //! and owned otherwise.
 //!
 //! Answers: `records`, each as `(title|sequence|quality)`; `end`, what the source returns after the
-//! records, each time it is asked; `reads`, the number of read calls made after each of these;
-//! `failures`, how often the feed failed.
+//! records, each time it is asked; `reads`, the number of read calls so far, after each record and
+//! after the end. `failures` has how often the feed failed, asked in the source and after it is
+//! taken out of it.
 //!
 //! `do: copy` copies the first record of `text`, which is lent, and goes on to the second. Answers:
 //! `kept`, the copy into a record that exists already, and `copy`, the copy into a new one.

@@ -12,9 +12,9 @@
 //!   `means before` and so on, how many have which mean score; `percents before` and so on, how
 //!   many have which percentage of G and C;
 //! - `front` and `behind`, how many of the reads that survive lost how many bases there;
-//! - of all reads before, `rows`, the number of rows of lengths, and `limits`, the shortest and the
-//!   longest; of those in pairs `scores`, the sum of the scores and how many are at least 20 and
-//!   30;
+//! - `rows`, the number of rows of `lengths before`; `limits`, the shortest and the longest read
+//!   before trimming; `scores`, for the paired reads, the sum of the scores and how many are at
+//!   least 20 and 30;
 //! - `kept`, what the steps keep of each mate of the first pair: the first place and the one after
 //!   the last.
 
@@ -115,7 +115,7 @@ fn put_rows(
     put_key(alloc, answers, side, key, text.trim_start())
 }
 
-// The nine numbers of some reads, and how many have which length, mean score and per cent.
+// The nine numbers of some reads, and how many have which length, mean score and percentage.
 fn put_reads(
     alloc: Global,
     answers: &mut Answers,

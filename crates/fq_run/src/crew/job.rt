@@ -8,7 +8,7 @@ use std::snapshot::Snapshot;
 use std::thread::Promise;
 
 /// What a worker is started with: the steps, whether blocks are tallied, and its two lanes.
-/// `kept_by` states in these what its join returns.
+/// `kept_by` says, in terms of these, what joining the worker returns.
 #[derive(Drop)]
 pub(crate) struct Job {
     pub(crate) steps: Steps,

@@ -16,7 +16,7 @@ use std::thread;
 use std::thread::{Promise, PromisedHandle, Threads};
 
 /// What a dealer is started with: the settings, the start lane, the lanes of blocks and the pairs.
-/// `kept_by` states in these what its join returns.
+/// `kept_by` says, in terms of these, what joining the dealer returns.
 #[derive(Drop)]
 pub(crate) struct Dealing<S> {
     pub(crate) settings: Settings,
