@@ -18,7 +18,25 @@ pub(crate) struct Conclusion<S> {
 }
 
 impl<S> Conclusion<S> {
-    ghost use Rattle.std.specs.Prelude.{◌≡◌, None};
+    ghost use Rattle.std.specs.Prelude.{◌≡◌, false, Some, None};
+    ghost use Rattle.fq_serial.specs.Totals.{no_total};
+
+    /// The conclusion of a run to which memory was refused before its threads were started.
+    pub(crate) fn refused(source: S) -> Conclusion<S>
+        ensures { result ≡ record {
+          outcome = Outcome.Memory;
+          total = no_total false;
+          source = Some source;
+          unended = None;
+        } }
+    {
+        Conclusion {
+            outcome: Outcome::Memory,
+            total: Total::without_tally(),
+            source: Some(source),
+            unended: None,
+        }
+    }
 
     /// The conclusion of a run whose threads could not all be started.
     pub(crate) fn unstarted(total: Total, source: Option<S>) -> Conclusion<S>

@@ -7,9 +7,9 @@ ghost use Rattle.fq_serial.specs.Endings.{interleaved_run_of, AreTold, ends_whol
 ghost use Rattle.fq_run.specs.Threads.{IsThreaded};
 
 use crate::conclusion::Conclusion;
-use crate::preparing::prepare_interleaved;
-use crate::threads::start;
+use crate::threads::run;
 use fq_pair::{Counts, MixedSource};
+use fq_serial::shared::open_interleaved;
 use fq_serial::{MixedEnding, Outcome, Outlets, Settings};
 use fq_text::{Feed, Outlet};
 use fq_work::Gate;
@@ -59,7 +59,7 @@ pub fn run_threads_mixed<
     begin(alloc, rt, settings, &gate, feed, outlets)
 }
 
-// Prepares what a run needs before its threads start, and runs.
+// Opens the source of the input, and runs over its pairs.
 fn begin<
     R: Threads + Wait + Copy + Send + 'static,
     F: Feed + Drop + Send + 'static,
@@ -78,8 +78,8 @@ fn begin<
     ensures { IsThreaded settings.now (interleaved_run_of F.state (outlet_states O.state)
         feed outlets.old outlets.new result) result.unended }
 {
-    match prepare_interleaved(alloc, settings, feed) {
-        Ok((dealer, ready)) => ending_of(start(alloc, rt, settings, gate, dealer, ready, outlets)),
+    match open_interleaved(alloc, settings, feed) {
+        Ok(source) => ending_of(run(alloc, rt, settings, gate, source, outlets)),
         Err(feed) => {
             // Refused memory comes before a failed flush in the order of `Outcome`.
             let _ = outlets.flush_after(None);

@@ -1,4 +1,4 @@
-//! Starts the threads of a run over any source of pairs, and waits for them.
+//! A run on several threads, over any source of pairs.
 
 ghost use Rattle.std.specs.Prelude.{◌≡◌, ◌≤◌, ◌^◌, true, IfOk, vec_len};
 ghost use Rattle.fq_text.specs.Reading.{text_limit};
@@ -17,6 +17,7 @@ use crate::crew::workers::{join_workers, start_workers};
 use crate::dealer::Dealer;
 use crate::dealer::dealing::start_dealer;
 use crate::dealer::dealt::Dealt;
+use crate::lanes::Lanes;
 use crate::ready::Ready;
 use fq_lane::{End, NotEnded};
 use fq_pair::{Out, PairReader};
@@ -28,8 +29,39 @@ use std::alloc::Global;
 use std::sync::{Arc, Wait};
 use std::thread::Threads;
 
-/// Starts the threads, and writes on this thread, as the collector.
-pub(crate) fn start<
+/// Trims the pairs of a source on several threads. If memory is refused before the first thread
+/// starts, nothing is read or written.
+pub(crate) fn run<
+    R: Threads + Wait + Copy + Send + 'static,
+    S: PairReader + Drop + Send + 'static,
+    O: Outlet,
+    H: Gate + 'static,
+>(
+    alloc: Global,
+    rt: &R,
+    settings: &Settings,
+    gate: &Arc<H>,
+    source: S,
+    outlets: &mut Outlets<O>,
+) -> Conclusion<S>
+    requires fresh { IsFresh settings.now (S.state source) }
+    requires few { (S.state source).most_bytes ≤ text_limit }
+    requires outlets { AreHealthy (outlet_states O.state outlets.old) }
+    ensures { IsThreaded settings.now (run_from S.state (S.state source)
+        (outlet_states O.state outlets.old) (outlet_states O.state outlets.new) result)
+        result.unended }
+{
+    let Ok(lanes) = Lanes::new(alloc, settings) else {
+        // Refused memory comes before a failed flush in the order of `Outcome`.
+        let _ = outlets.flush_after(None);
+        return Conclusion::refused(source);
+    };
+    let (dealer, ready) = lanes.over(source);
+    start(alloc, rt, settings, gate, dealer, ready, outlets)
+}
+
+// Starts the threads, and writes on this thread, as the collector.
+fn start<
     R: Threads + Wait + Copy + Send + 'static,
     S: PairReader + Drop + Send + 'static,
     O: Outlet,

@@ -7,9 +7,9 @@ ghost use Rattle.fq_serial.specs.Endings.{run_of, AreTold, ends_whole, IsTrimmed
 ghost use Rattle.fq_run.specs.Threads.{IsThreaded};
 
 use crate::conclusion::Conclusion;
-use crate::preparing::prepare;
-use crate::threads::start;
+use crate::threads::run;
 use fq_pair::{Counts, PairSource};
+use fq_serial::shared::open;
 use fq_serial::{Ending, Outcome, Outlets, Settings};
 use fq_text::{Feed, Outlet};
 use fq_work::Gate;
@@ -87,7 +87,7 @@ pub fn run_threads<
     begin(alloc, rt, settings, &gate, forward, reverse, outlets)
 }
 
-// Prepares what a run needs before its threads start, and runs.
+// Opens the sources of both inputs, and runs over their pairs.
 fn begin<
     R: Threads + Wait + Copy + Send + 'static,
     F: Feed + Drop + Send + 'static,
@@ -109,8 +109,8 @@ fn begin<
     ensures { IsThreaded settings.now (run_of F.state G.state (outlet_states O.state)
         forward reverse outlets.old outlets.new result) result.unended }
 {
-    match prepare(alloc, settings, forward, reverse) {
-        Ok((dealer, ready)) => ending_of(start(alloc, rt, settings, gate, dealer, ready, outlets)),
+    match open(alloc, settings, forward, reverse) {
+        Ok(source) => ending_of(run(alloc, rt, settings, gate, source, outlets)),
         Err((forward, reverse)) => {
             // Refused memory comes before a failed flush in the order of `Outcome`.
             let _ = outlets.flush_after(None);

@@ -23,22 +23,22 @@ const MOST_TURNS: u64 = 1_099_511_627_776;
 #[derive(Clone, Copy, Debug, PartialEq, Eq, Error)]
 pub enum BadSetting {
     /// The number of workers isn't 1 to 64.
-    #[error("workers")]
+    #[error("the number of workers is not 1 to 64")]
     Workers,
     /// The number of pairs in a block isn't 1 to 65,536.
-    #[error("block")]
+    #[error("the number of pairs in a block is not 1 to 65536")]
     BlockPairs,
     /// The depth of the lanes isn't 1 to 64.
-    #[error("depth")]
+    #[error("the depth of the lanes is not 1 to 64")]
     Depth,
     /// The number of bytes per read call isn't 1 to 1,048,576.
-    #[error("chunk")]
+    #[error("the number of bytes per read call is not 1 to 1048576")]
     Chunk,
     /// The number of read calls per input isn't 1 to 2^40.
-    #[error("reads")]
+    #[error("the number of read calls per input is not 1 to 2^40")]
     MaxReads,
     /// The number of turns at a gate isn't 1 to 2^40.
-    #[error("gate")]
+    #[error("the number of turns at a gate is not 1 to 2^40")]
     GateTurns,
 }
 

@@ -35,7 +35,7 @@ fn room_back(depth: usize) -> usize
 
 /// Makes the lanes of all workers. Those of blocks and of replies have room for `depth` items.
 pub(crate) fn lay(alloc: Global, workers: usize, depth: usize) -> Result<Seats, OutOfMemory>
-    requires depth { (1 ≤ depth) × (depth ≤ 64) }
+    requires depth { (1 ≤ depth) × (depth ≤ MOST_ROOM) }
     ensures laid { IfOk result IsLaid }
     ensures all { IfOk result (AreFor workers) }
 {
@@ -65,7 +65,7 @@ impl Seats {
 
     // Adds the lanes of one more worker.
     fn add(&mut self, alloc: Global, depth: usize) -> Result<(), OutOfMemory>
-        requires depth { (1 ≤ depth) × (depth ≤ 64) }
+        requires depth { (1 ≤ depth) × (depth ≤ MOST_ROOM) }
         requires laid { IsLaid self.old }
         requires all { AreFor (vec_len self.old.to) self.old }
         requires room { HaveRoom (vec_len self.old.to + 1) self.old }

@@ -12,7 +12,7 @@ returns-in-Ok g c =
     let fs = f.state in
     let e = c.ending_of.ensures in
     closed (interleaved_state f.state) fs fs (λ s. s.source.feed) (λ s. s.source.feed) (λ s. refl) (λ s. refl)
-    InterleavedText c.args.settings.now _ c.args.feed c.args.feed c.in-Ok.ensures.source _ _ c.start.result _ _ _ _ _ e.outcome e.total e.unended e.feed e.feed c.start.ensures
+    InterleavedText c.args.settings.now _ c.args.feed c.args.feed c.in-Ok.ensures.ok _ _ c.run.result _ _ _ _ _ e.outcome e.total e.unended e.feed e.feed c.run.ensures
 
 pub returns-in-Err : goal.returns-in-Err
 returns-in-Err g c =

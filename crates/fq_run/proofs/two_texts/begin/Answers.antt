@@ -12,7 +12,7 @@ returns-in-Ok g c =
     let fs = f.state in let gs = r.state in
     let e = c.ending_of.ensures in
     closed (source_state f.state r.state) fs gs (λ s. s.forward.feed) (λ s. s.reverse.feed) (λ s. refl) (λ s. refl)
-    TwoTexts c.args.settings.now _ c.args.forward c.args.reverse c.in-Ok.ensures.source _ _ c.start.result _ _ _ _ _ e.outcome e.total e.unended e.forward e.reverse c.start.ensures
+    TwoTexts c.args.settings.now _ c.args.forward c.args.reverse c.in-Ok.ensures.ok _ _ c.run.result _ _ _ _ _ e.outcome e.total e.unended e.forward e.reverse c.run.ensures
 
 pub returns-in-Err : goal.returns-in-Err
 returns-in-Err g c =
