@@ -13,12 +13,14 @@ use std::alloc::Global;
 /// The largest position that has a row of its own.
 pub const LAST_POSITION: usize = 10_000;
 
-/// Counts of bases by their positions in reads, from position 1 on. There are as many rows as the
-/// longest read has bases. Row 10,001 counts all positions above [`LAST_POSITION`], so there are no
-/// more. Sums saturate at `u64::MAX`.
+/// Counts of bases by their positions in reads. A read's first base is at position 1.
+///
+/// In each column, row n (counted from 0) is that of position n + 1, and row 10,000 is that of all
+/// positions above [`LAST_POSITION`]. There are as many rows as the longest read has bases, but at
+/// most 10,001. Sums saturate at `u64::MAX`.
 #[derive(Drop)]
 pub struct Columns {
-    /// All bases: as many as there are reads that have the position.
+    /// All bases: up to position 10,000, as many as there are reads that have the position.
     pub bases: Rows,
     /// The sum of the Phred scores of the bases.
     pub score_sum: Rows,

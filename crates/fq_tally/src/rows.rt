@@ -1,4 +1,4 @@
-//! How many reads have each number: a histogram.
+//! Rows of counts, such as a histogram of reads.
 
 ghost use Rattle.std.specs.Prelude.{◌≡◌, ◌≤◌, ℕ, length, get_or};
 
@@ -6,15 +6,16 @@ use fq_text::OutOfMemory;
 use std::alloc::Global;
 use std::marker::Model;
 
-/// The last row: it counts all numbers above 10,000.
+/// The index of the last row of a histogram, which counts all numbers above 10,000.
 pub const LAST_ROW: usize = 10_001;
 
 // How many rows there can be.
 const ROWS: usize = LAST_ROW + 1;
 
-/// A histogram of reads: how many reads have each number, such as a length. Row n counts the reads
-/// with the number n, up to [`LAST_ROW`]. There are as many rows as the largest number needs, and
-/// none if nothing was counted. Counts saturate at `u64::MAX`.
+/// Rows of counts. In a histogram, row n (counted from 0) counts the reads with the number n, such
+/// as a length, up to [`LAST_ROW`]. In [`Columns`](crate::Columns) the rows are those of positions.
+/// There are as many rows as the largest number needs, and none if nothing was counted. Counts
+/// saturate at `u64::MAX`.
 ///
 /// Memory for all rows is taken by `new`, so counting takes none.
 #[derive(Drop)]
