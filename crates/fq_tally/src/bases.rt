@@ -74,7 +74,8 @@ impl BaseTally {
         }
     }
 
-    // Does what `of` does, for bases that few reads have. Its code is there once.
+    // Does what `of` does, for bases that few reads have. It is not inlined, so its code is in the
+    // program only once.
     #[inline(never)]
     pub(crate) fn of_rare(
         encoding: Encoding,
@@ -132,7 +133,7 @@ impl BaseTally {
         (self.score_sum / self.bases) as usize
     }
 
-    // The per cent of the bases of a read that are G or C, to the nearest whole number, halves up.
+    // The percentage of a read's bases that are G or C, to the nearest whole number, halves up.
     #[inline(always)]
     pub(crate) fn gc_percent(self) -> usize
         requires some { 1 ≤ self.bases }

@@ -1,4 +1,4 @@
-//! Rows of counts of a few reads, in small numbers, by vectors (SIMD).
+//! Rows of counts of a few reads, in 8 or 16 bits each, that are added by vectors (SIMD).
 
 ghost use Rattle.std.specs.Prelude.{◌≡◌, ◌+◌, ◌≤◌, ℕ, ◌++◌, length, replicate, take, get_or, IfOk};
 ghost use Rattle.fq_tally.specs.Rows.{rows_plus};
@@ -12,10 +12,10 @@ use std::alloc::Global;
 use std::marker::Model;
 use std::simd::prelude::*;
 
-// One row for each position that has its own, and room for a vector after them.
+// A row for each position up to `LAST_POSITION`, and room for a vector after them.
 const ROWS: usize = LAST_POSITION + WIDTH;
 
-// Rows of bytes, all of which are there.
+// `ROWS` counts of 8 bits. Unlike `Rows`, they never become more.
 #[derive(Drop)]
 pub(crate) struct ByteRows {
     counts: Vec<u8>,
@@ -75,7 +75,7 @@ impl ByteRows {
     }
 }
 
-// Rows of numbers of 16 bits, all of which are there.
+// `ROWS` counts of 16 bits. Unlike `Rows`, they never become more.
 #[derive(Drop)]
 pub(crate) struct WordRows {
     counts: Vec<u16>,

@@ -12,7 +12,7 @@ use std::alloc::Global;
 use std::marker::Model;
 
 /// Counts of the reads of one side, as [`counts`](Side::counts) lends them. They are on the heap,
-/// so that a tally has few parts when it is moved.
+/// so that a tally has few parts: the proof of a function that moves one goes through all of them.
 #[derive(Drop)]
 pub struct Side {
     inside: Box<SideTally>,

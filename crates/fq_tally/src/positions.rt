@@ -12,10 +12,12 @@ use fq_text::{Encoding, OutOfMemory};
 use std::alloc::Global;
 use std::marker::Model;
 
-// With this many reads, small numbers are added to the totals, so that none becomes too large.
+// After this many reads the counts in `few` are added to the totals, so that none of its 8-bit
+// counts overflows.
 const MOST_READS: usize = 254;
 
-// A counter of bases by their positions. The reads that were counted last are in small numbers.
+// A counter of bases by their positions. Reads that end at position 10,000 or before are counted
+// in `few`, which is added to `totals` from time to time. Longer reads go to `totals` at once.
 #[derive(Drop)]
 pub(crate) struct Positions {
     totals: Columns,

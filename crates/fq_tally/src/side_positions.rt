@@ -15,15 +15,16 @@ use std::marker::Model;
 /// Counts of the bases of one side by their position in the read, before and after trimming.
 ///
 /// A base of a read that lost nothing at its start has the same position before and after, and is
-/// counted once. The counters are on the heap, so that a value has few parts when it is moved.
+/// counted once. The counters are on the heap, so that a value has few parts: the proof of a
+/// function that moves one goes through all of them.
 #[derive(Drop)]
 pub struct SidePositions {
-    // What is left of the reads that lost nothing in front, and survive with their mate or alone.
+    // What is left of reads that lost nothing at their start, and survive with their mate or alone.
     paired: Box<Positions>,
     unpaired: Box<Positions>,
-    // All other bases, at their positions before.
+    // All other bases, at their positions before trimming.
     rest: Box<Positions>,
-    // What is left of the reads that lost bases in front, at its positions after.
+    // What is left of reads that lost bases at their start, at the positions after trimming.
     paired_moved: Box<Positions>,
     unpaired_moved: Box<Positions>,
 }
@@ -148,7 +149,7 @@ impl SidePositions {
         }
     }
 
-    // Counts what is left of a read that lost nothing in front, both before and after.
+    // Counts what is left of a read that lost nothing at its start, both before and after.
     fn add_in_place(&mut self, encoding: Encoding, seq: &[u8], qual: &[u8], mate: bool)
         requires { AreBases encoding seq.now qual.now 0 }
         ensures { self.new ≡ with_before (columns_from 0 encoding seq.now qual.now)
