@@ -34,10 +34,13 @@ pub struct Report<'a> {
     pub version: &'a str,
     /// The names of the inputs.
     pub inputs: Inputs<'a>,
-    /// The names of the four outputs.
+    /// The name of the output of forward reads whose mate also survives.
     pub forward_paired: &'a str,
+    /// The name of the output of forward reads whose mate is dropped.
     pub forward_unpaired: &'a str,
+    /// The name of the output of reverse reads whose mate also survives.
     pub reverse_paired: &'a str,
+    /// The name of the output of reverse reads whose mate is dropped.
     pub reverse_unpaired: &'a str,
     /// The name of the trim log, if one was asked for.
     pub log: Option<&'a str>,
@@ -45,7 +48,7 @@ pub struct Report<'a> {
     pub encoding: Encoding,
     /// Whether the names of mates had to match.
     pub check_names: bool,
-    /// The words of the steps.
+    /// The arguments that name the steps, such as `LEADING:3`, in their order.
     pub steps: &'a [&'a str],
     /// The line that standard error got for a fault of the inputs, without its line end. `None` if
     /// all pairs were trimmed.
