@@ -1,5 +1,5 @@
-//! The seven pairs: what each adds to the outputs, and a test that the outputs of a run are those
-//! of the first of the pairs.
+//! What each of the seven pairs adds to the outputs, and how many of these pairs, from the first
+//! on, a run has written.
 
 use fq_pair::{Counts, Out};
 use fq_text::{Outlet, ScriptOutlet};
