@@ -9,10 +9,15 @@ use Rattle.fq_tally.specs.Rows.{rows_plus}
 use Rattle.fq_tally.specs.Courses.{Part}
 use Rattle.fq_tally.specs.Letters.{is_a, is_c, is_g, is_t, is_n}
 
+-- the largest position that has a row of its own
+abbrev pub last_position : ℕ
+last_position = 10000
+
 -- numbers in the order of their positions, those of the positions above 10,000 added up
 abbrev pub by_position : List ℕ → List ℕ
 by_position ns =
-    if nat_le (length ns) 10000 then ns else take 10000 ns ++ (sum (drop 10000 ns) ∷ [])
+    if nat_le (length ns) last_position then ns
+    else take last_position ns ++ (sum (drop last_position ns) ∷ [])
 
 -- numbers in the order of their positions, if the first is at this index of its read
 abbrev pub placed : ℕ → List ℕ → List ℕ

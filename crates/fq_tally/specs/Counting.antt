@@ -1,11 +1,11 @@
 -- How bases are counted by their positions.
-use Rattle.std.specs.Prelude.{◌≡◌, ◌≤◌, ◌*◌, ℕ, Bool, nat_le, ◌==◌, ◌||◌, if◌then◌else◌}
+use Rattle.std.specs.Prelude.{◌≡◌, ◌≤◌, ◌<◌, ◌*◌, ℕ, Bool, nat_le, ◌==◌, ◌||◌, if◌then◌else◌}
 use Rattle.std.specs.Prelude.{List, [], ◌∷◌, ◌++◌, length, get_or, take, map, replicate}
 use Rattle.fq_text.specs.declared.encoding.Encoding.{Encoding}
 use Rattle.fq_text.specs.Scores.{is_scored, value_of}
 use Rattle.fq_tally.specs.declared.columns.Columns.{Columns}
 use Rattle.fq_tally.specs.Letters.{is_a, is_c, is_g, is_t, is_n}
-use Rattle.fq_tally.specs.Columns.{one_if}
+use Rattle.fq_tally.specs.Columns.{one_if, last_position}
 
 -- this many rows in each column, all of which count 0
 abbrev pub empty_rows : ℕ → Columns
@@ -69,13 +69,32 @@ lanes_at at encoding bases bytes = record {
   n = replicate at 0 ++ map (one_if is_n) bases;
 }
 
+-- Bounds of the counts of a few reads, which have 8 or 16 bits.
+
+-- how many reads are counted at most, so that each of them can add 1 to a count of 8 bits, and
+-- one vector more can, too
+abbrev pub most_reads : ℕ
+most_reads = 254
+
+-- the largest number of 16 bits
+abbrev pub largest_word : ℕ
+largest_word = 65535
+
+-- the largest number of 16 bits to which any byte can be added
+abbrev pub word_before_byte : ℕ
+word_before_byte = 65280
+
+-- how many rows there are: one for each position up to 10,000, and a vector's 32 after them
+abbrev pub few_rows : ℕ
+few_rows = 10032
+
 -- no number of a list is above this
 abbrev pub AtMost : ℕ → List ℕ → Type 0
 AtMost most xs = (k : ℕ) → get_or xs k 0 ≤ most
 
 -- All rows that a few reads can have: those from `len` on count 0, and none counts more than this.
 pub record IsFew (len most : ℕ) (counts : List ℕ) : Type 0 where
-  pub size : length counts ≡ 10032
+  pub size : length counts ≡ few_rows
   pub behind : (k : ℕ) → len ≤ k → get_or counts k 0 ≡ 0
   pub small : AtMost most counts
 
@@ -94,5 +113,5 @@ pub record AreFew (len reads : ℕ) (x : Columns) : Type 0 where
 -- still room.
 pub record HoldsFew (reached reads : ℕ) (x : Columns) : Type 0 where
   pub few : AreFew reached reads x
-  pub near : reached ≤ 10000
-  pub room : reads ≤ 253
+  pub near : reached ≤ last_position
+  pub room : reads < most_reads

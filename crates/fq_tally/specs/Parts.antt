@@ -3,9 +3,11 @@ use Rattle.std.specs.Prelude.{◌≡◌, ◌≤◌, ℕ, true, ◌+◌, ◌-◌,
 use Rattle.std.specs.Prelude.{List, length, take, drop, sum, count_by}
 use Rattle.std.specs.List.{list_all}
 use Rattle.fq_text.specs.declared.encoding.Encoding.{Encoding}
+use Rattle.fq_text.specs.Grammar.{limit}
 use Rattle.fq_text.specs.Scores.{is_scored}
 use Rattle.fq_tally.specs.declared.bases.Counted.{Counted}
 use Rattle.fq_tally.specs.Courses.{Part}
+use Rattle.fq_tally.specs.Counting.{largest_word}
 use Rattle.fq_tally.specs.Letters.{is_gc, is_n}
 
 -- the bases from one place up to another, with their quality bytes
@@ -18,7 +20,7 @@ part_between e seq qual from to = record {
 
 -- There is such a part of these bases, each of which has a quality byte with a score.
 pub record HasPart (e : Encoding) (seq qual : List ℕ) (from to : ℕ) : Type 0 where
-  pub few : length qual ≤ 1048576
+  pub few : length qual ≤ limit
   pub scored : list_all (is_scored e) qual ≡ true
   pub same : length qual ≡ length seq
   pub order : from ≤ to
@@ -27,7 +29,7 @@ pub record HasPart (e : Encoding) (seq qual : List ℕ) (from to : ℕ) : Type 0
 -- These are bases of a read, the first in this place of it, and each has a quality byte with a
 -- score.
 pub record AreBases (e : Encoding) (seq qual : List ℕ) (at : ℕ) : Type 0 where
-  pub few : at + length qual ≤ 1048576
+  pub few : at + length qual ≤ limit
   pub scored : list_all (is_scored e) qual ≡ true
   pub same : length qual ≡ length seq
 
@@ -48,4 +50,4 @@ pub record CountsOn (lower upper : ℕ) (seq qual : List ℕ) (old new : Counted
   pub low : new.at_least_low ≡ old.at_least_low + count_by (nat_le lower) qual
   pub high : new.at_least_high ≡ old.at_least_high + count_by (nat_le upper) qual
   pub sum : new.sum ≡ old.sum + sum qual
-  pub most : new.sum ≤ old.sum + 65535
+  pub most : new.sum ≤ old.sum + largest_word

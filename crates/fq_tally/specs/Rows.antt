@@ -2,6 +2,14 @@
 use Rattle.std.specs.Prelude.{ℕ, zero, suc, ◌≤◌, Bool, List, [], ◌∷◌, length, min, if◌then◌else◌}
 use Rattle.fq_pair.specs.Summaries.{capped_sum}
 
+-- the index of the last row of a histogram, which counts all numbers above 10,000
+abbrev pub last_row : ℕ
+last_row = 10001
+
+-- how many rows there can be
+abbrev pub most_rows : ℕ
+most_rows = 10002
+
 -- one more in a row
 abbrev pub with_one : ℕ → List ℕ → List ℕ
 with_one zero [] = 1 ∷ []
@@ -11,7 +19,7 @@ with_one (suc row) (n ∷ ns) = n ∷ with_one row ns
 
 -- the row of a number: those above 10,000 share one
 abbrev pub row_of : ℕ → ℕ
-row_of number = min number 10001
+row_of number = min number last_row
 
 -- one more of a number
 abbrev pub counted : ℕ → List ℕ → List ℕ
@@ -34,5 +42,5 @@ rows_plus (m ∷ ms) (n ∷ ns) = capped_sum m n ∷ rows_plus ms ns
 
 -- there is room for each row
 pub record HasRoom (rows : List ℕ) (most : ℕ) : Type 0 where
-  pub few : length rows ≤ 10002
-  pub room : 10002 ≤ most
+  pub few : length rows ≤ most_rows
+  pub room : most_rows ≤ most

@@ -48,7 +48,7 @@ bases_plus a b = record {
 abbrev pub mean_score : BaseTally → ℕ
 mean_score read = read.score_sum / read.bases
 
--- the per cent of the bases of a read that are G or C, to the nearest whole number, halves up
+-- the percentage of the bases of a read that are G or C, to the nearest whole number, halves up
 abbrev pub gc_percent : BaseTally → ℕ
 gc_percent read = (200 * read.gc + read.bases) / (2 * read.bases)
 

@@ -2,6 +2,7 @@
 
 ghost use Rattle.std.specs.Prelude.{◌≡◌, ◌≤◌, ℕ, true, ◌+◌, ◌-◌, length, take, drop, sum, nat_le};
 ghost use Rattle.std.specs.List.{list_all};
+ghost use Rattle.fq_text.specs.Grammar.{limit};
 ghost use Rattle.fq_text.specs.Scores.{is_scored, value_of};
 ghost use Rattle.fq_text.specs.declared.encoding.Encoding.TheVariants.{Solexa};
 ghost use Rattle.fq_trim.specs.Keeping.{scores};
@@ -137,7 +138,7 @@ impl BaseTally {
     #[inline(always)]
     pub(crate) fn gc_percent(self) -> usize
         requires some { 1 ≤ self.bases }
-        requires few { self.bases ≤ 1048576 }
+        requires few { self.bases ≤ limit }
         requires among { self.gc ≤ self.bases }
         ensures { result ≡ gc_percent self }
     {
@@ -159,10 +160,10 @@ impl Counted {
     // Adds the counts of one more vector.
     #[inline(always)]
     fn with(self, bases: u8x32, bytes: u8x32, low: u8, high: u8) -> Counted
-        requires gc { self.gc ≤ 1048576 }
-        requires n { self.n ≤ 1048576 }
-        requires low { self.at_least_low ≤ 1048576 }
-        requires high { self.at_least_high ≤ 1048576 }
+        requires gc { self.gc ≤ limit }
+        requires n { self.n ≤ limit }
+        requires low { self.at_least_low ≤ limit }
+        requires high { self.at_least_high ≤ limit }
         requires sum { self.sum ≤ 68719476736 }
         ensures { CountsOn low high bases bytes self result }
     {
@@ -180,7 +181,7 @@ impl Counted {
 // that are at least `low` and at least `high`.
 #[inline(always)]
 fn count_of(seq: &[u8], qual: &[u8], from: usize, to: usize, low: u8, high: u8) -> Counted
-    requires few { length qual.now ≤ 1048576 }
+    requires few { length qual.now ≤ limit }
     requires same { length qual.now ≡ length seq.now }
     requires order { from ≤ to }
     requires within { to ≤ length seq.now }
@@ -214,7 +215,7 @@ fn count_of(seq: &[u8], qual: &[u8], from: usize, to: usize, low: u8, high: u8) 
 
 // The sum of the scores. If a score is a difference of bytes, it comes from the sum of the bytes.
 fn score_sum(encoding: Encoding, qual: &[u8], bytes: u64) -> u64
-    requires few { length qual.now ≤ 1048576 }
+    requires few { length qual.now ≤ limit }
     requires scored { list_all (is_scored encoding) qual.now ≡ true }
     requires bytes { bytes ≡ sum qual.now }
     ensures { result ≡ sum (scores encoding qual.now) }
@@ -242,7 +243,7 @@ fn byte_of(encoding: Encoding, score: u8) -> u8
 
 // The sum of the Phred scores of Solexa's quality bytes, each converted by itself.
 fn solexa_sum(qual: &[u8]) -> u64
-    requires few { length qual.now ≤ 1048576 }
+    requires few { length qual.now ≤ limit }
     requires scored { list_all (is_scored Solexa) qual.now ≡ true }
     ensures { result ≡ sum (scores Solexa qual.now) }
 {

@@ -2,8 +2,9 @@
 
 ghost use Rattle.std.specs.Prelude.{◌≡◌, ◌+◌, ◌≤◌, true, length, IfOk};
 ghost use Rattle.std.specs.List.{list_all};
+ghost use Rattle.fq_text.specs.Grammar.{limit};
 ghost use Rattle.fq_text.specs.Scores.{is_scored};
-ghost use Rattle.fq_tally.specs.Columns.{no_columns, columns_from, columns_plus};
+ghost use Rattle.fq_tally.specs.Columns.{last_position, no_columns, columns_from, columns_plus};
 ghost use Rattle.fq_tally.specs.Counting.{empty_rows, one_in};
 
 use crate::rows::Rows;
@@ -65,7 +66,7 @@ impl Columns {
 
     // Counts bases. The first is at index `at` of its read.
     pub(crate) fn count(&mut self, encoding: Encoding, seq: &[u8], qual: &[u8], at: usize)
-        requires few { at + length qual.now ≤ 1048576 }
+        requires few { at + length qual.now ≤ limit }
         requires scored { list_all (is_scored encoding) qual.now ≡ true }
         requires same { length qual.now ≡ length seq.now }
         ensures { self.new ≡ columns_plus self.old (columns_from at encoding seq.now qual.now) }
@@ -81,7 +82,7 @@ impl Columns {
 
     // Gives each column at least this many rows. New rows count 0.
     fn grow(&mut self, rows: usize)
-        requires { rows ≤ 10001 }
+        requires { rows ≤ last_position + 1 }
         ensures { self.new ≡ columns_plus self.old (empty_rows rows) }
     {
         self.bases.grow(rows);
@@ -96,7 +97,7 @@ impl Columns {
 
     // Counts one base in a row.
     fn count_one(&mut self, row: usize, base: u8, score: u8)
-        requires { row ≤ 10000 }
+        requires { row ≤ last_position }
         ensures { self.new ≡ columns_plus self.old (one_in row base score) }
     {
         self.bases.add_to(row, 1);

@@ -4,9 +4,9 @@ ghost use Rattle.std.specs.Prelude.{◌≡◌, ◌+◌, ◌≤◌, ◌<◌, true
 ghost use Rattle.std.specs.List.{list_all};
 ghost use Rattle.fq_text.specs.Scores.{is_scored};
 ghost use Rattle.fq_text.specs.declared.encoding.Encoding.TheVariants.{Solexa};
-ghost use Rattle.fq_tally.specs.Columns.{columns_from, columns_plus};
+ghost use Rattle.fq_tally.specs.Columns.{last_position, columns_from, columns_plus};
 ghost use Rattle.fq_tally.specs.Counting.{first_rows, is_lane, lane_score, lanes_at};
-ghost use Rattle.fq_tally.specs.Counting.{AreFew};
+ghost use Rattle.fq_tally.specs.Counting.{most_reads, few_rows, AreFew};
 
 use crate::columns::Columns;
 use crate::few_rows::{ByteRows, WordRows};
@@ -73,10 +73,10 @@ impl FewColumns {
 
     // Counts bases. The first is at index `at` of its read.
     pub(crate) fn count(&mut self, encoding: Encoding, seq: &[u8], qual: &[u8], at: usize)
-        requires near { at + length qual.now ≤ 10000 }
+        requires near { at + length qual.now ≤ last_position }
         requires scored { list_all (is_scored encoding) qual.now ≡ true }
         requires same { length qual.now ≡ length seq.now }
-        requires few { AreFew 10032 253 self.old }
+        requires few { AreFew few_rows 253 self.old }
         ensures { self.new ≡ columns_plus self.old (columns_from at encoding seq.now qual.now) }
     {
         let mut from = 0;
@@ -93,12 +93,12 @@ impl FewColumns {
 
     // Counts the bases from `from` on, which are fewer than a vector has.
     fn count_rest(&mut self, encoding: Encoding, seq: &[u8], qual: &[u8], at: usize, from: usize)
-        requires near { at + length qual.now ≤ 10000 }
+        requires near { at + length qual.now ≤ last_position }
         requires scored { list_all (is_scored encoding) qual.now ≡ true }
         requires same { length qual.now ≡ length seq.now }
         requires some { from ≤ length seq.now }
         requires less { length seq.now < from + 32 }
-        requires few { AreFew 10032 254 self.old }
+        requires few { AreFew few_rows most_reads self.old }
         ensures { self.new ≡ columns_plus self.old
             (columns_from (at + from) encoding (drop from seq.now) (drop from qual.now)) }
     {
@@ -118,9 +118,9 @@ impl FewColumns {
     // Counts the bases in a vector. A quality byte 0 means that there is no base.
     #[inline(always)]
     fn add_vector(&mut self, encoding: Encoding, bases: u8x32, bytes: u8x32, at: usize)
-        requires at { at ≤ 10000 }
+        requires at { at ≤ last_position }
         requires lanes { list_all (is_lane encoding) bytes ≡ true }
-        requires few { AreFew 10032 254 self.old }
+        requires few { AreFew few_rows most_reads self.old }
         ensures { self.new ≡ columns_plus self.old (lanes_at at encoding bases bytes) }
     {
         let scores = scores_in(encoding, bytes);
@@ -136,8 +136,8 @@ impl FewColumns {
 
     // Adds the first rows to columns.
     pub(crate) fn add_to(&self, columns: &mut Columns, length: usize)
-        requires few { AreFew 10032 254 self.now }
-        requires within { length ≤ 10000 }
+        requires few { AreFew few_rows most_reads self.now }
+        requires within { length ≤ last_position }
         ensures { columns.new ≡ columns_plus columns.old (first_rows length self.now) }
     {
         self.bases.add_to(&mut columns.bases, length);
@@ -152,8 +152,8 @@ impl FewColumns {
 
     // Sets all rows to 0. Those from `length` on are 0 already.
     pub(crate) fn clear(&mut self, length: usize)
-        requires few { AreFew length 254 self.old }
-        requires within { length ≤ 10000 }
+        requires few { AreFew length most_reads self.old }
+        requires within { length ≤ last_position }
         ensures { AreFew 0 0 self.new }
     {
         self.bases.clear(length);

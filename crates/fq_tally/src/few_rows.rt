@@ -2,7 +2,8 @@
 
 ghost use Rattle.std.specs.Prelude.{◌≡◌, ◌+◌, ◌≤◌, ℕ, ◌++◌, length, replicate, take, get_or, IfOk};
 ghost use Rattle.fq_tally.specs.Rows.{rows_plus};
-ghost use Rattle.fq_tally.specs.Counting.{AtMost, IsFew};
+ghost use Rattle.fq_tally.specs.Columns.{last_position};
+ghost use Rattle.fq_tally.specs.Counting.{most_reads, largest_word, word_before_byte, AtMost, IsFew};
 
 use crate::columns::LAST_POSITION;
 use crate::rows::Rows;
@@ -23,12 +24,13 @@ pub(crate) struct ByteRows {
 
 impl Model for ByteRows {
     ghost use Rattle.std.specs.Prelude.{List, ◌≡◌, ℕ, length};
+    ghost use Rattle.fq_tally.specs.Counting.{few_rows};
 
     ghost Value = { List ℕ };
 
     ghost view = { λ r. r.counts.items };
 
-    ghost invariant = { λ r. length r.counts.items ≡ 10032 };
+    ghost invariant = { λ r. length r.counts.items ≡ few_rows };
 }
 
 impl ByteRows {
@@ -44,8 +46,8 @@ impl ByteRows {
     // Adds a vector to the rows from `at` on.
     #[inline(always)]
     pub(crate) fn add(&mut self, at: usize, more: u8x32)
-        requires at { at ≤ 10000 }
-        requires few { AtMost 254 self.old }
+        requires at { at ≤ last_position }
+        requires few { AtMost most_reads self.old }
         requires ones { AtMost 1 more }
         ensures { self.new ≡ rows_plus self.old (replicate at 0 ++ more) }
     {
@@ -54,8 +56,8 @@ impl ByteRows {
 
     // Adds the first rows to others.
     pub(crate) fn add_to(&self, rows: &mut Rows, length: usize)
-        requires few { AtMost 65535 self.now }
-        requires within { length ≤ 10000 }
+        requires few { AtMost largest_word self.now }
+        requires within { length ≤ last_position }
         ensures { rows.new ≡ rows_plus rows.old (take length self.now) }
     {
         for i in 0..length {
@@ -65,7 +67,7 @@ impl ByteRows {
 
     // Sets the first rows to 0. The rows after them count 0.
     pub(crate) fn clear(&mut self, length: usize)
-        requires within { length ≤ 10000 }
+        requires within { length ≤ last_position }
         requires after { (k : ℕ) → length ≤ k → get_or self.old k 0 ≡ 0 }
         ensures { IsFew 0 0 self.new }
     {
@@ -83,12 +85,13 @@ pub(crate) struct WordRows {
 
 impl Model for WordRows {
     ghost use Rattle.std.specs.Prelude.{List, ◌≡◌, ℕ, length};
+    ghost use Rattle.fq_tally.specs.Counting.{few_rows};
 
     ghost Value = { List ℕ };
 
     ghost view = { λ r. r.counts.items };
 
-    ghost invariant = { λ r. length r.counts.items ≡ 10032 };
+    ghost invariant = { λ r. length r.counts.items ≡ few_rows };
 }
 
 impl WordRows {
@@ -104,8 +107,8 @@ impl WordRows {
     // Adds a vector to the rows from `at` on.
     #[inline(always)]
     pub(crate) fn add(&mut self, at: usize, more: u8x32)
-        requires at { at ≤ 10000 }
-        requires few { AtMost 65280 self.old }
+        requires at { at ≤ last_position }
+        requires few { AtMost word_before_byte self.old }
         ensures { self.new ≡ rows_plus self.old (replicate at 0 ++ more) }
     {
         add_words(&mut self.counts, at, more);
@@ -113,8 +116,8 @@ impl WordRows {
 
     // Adds the first rows to others.
     pub(crate) fn add_to(&self, rows: &mut Rows, length: usize)
-        requires few { AtMost 65535 self.now }
-        requires within { length ≤ 10000 }
+        requires few { AtMost largest_word self.now }
+        requires within { length ≤ last_position }
         ensures { rows.new ≡ rows_plus rows.old (take length self.now) }
     {
         for i in 0..length {
@@ -124,7 +127,7 @@ impl WordRows {
 
     // Sets the first rows to 0. The rows after them count 0.
     pub(crate) fn clear(&mut self, length: usize)
-        requires within { length ≤ 10000 }
+        requires within { length ≤ last_position }
         requires after { (k : ℕ) → length ≤ k → get_or self.old k 0 ≡ 0 }
         ensures { IsFew 0 0 self.new }
     {
@@ -138,7 +141,7 @@ impl WordRows {
 #[inline(always)]
 fn add_bytes(counts: &mut [u8], at: usize, more: u8x32)
     requires room { at + 32 ≤ length counts.old }
-    requires few { AtMost 254 counts.old }
+    requires few { AtMost most_reads counts.old }
     requires ones { AtMost 1 more }
     ensures { counts.new ≡ rows_plus counts.old (replicate at 0 ++ more) }
 {
@@ -150,7 +153,7 @@ fn add_bytes(counts: &mut [u8], at: usize, more: u8x32)
 #[inline(always)]
 fn add_words(counts: &mut [u16], at: usize, more: u8x32)
     requires room { at + 32 ≤ length counts.old }
-    requires few { AtMost 65280 counts.old }
+    requires few { AtMost word_before_byte counts.old }
     ensures { counts.new ≡ rows_plus counts.old (replicate at 0 ++ more) }
 {
     let sums = u16x32::from_slice(&counts[at..]).strict_add(more.cast::<u16>());

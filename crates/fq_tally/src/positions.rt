@@ -2,9 +2,10 @@
 
 ghost use Rattle.std.specs.Prelude.{◌≡◌, ◌+◌, ◌≤◌, true, length, IfOk};
 ghost use Rattle.std.specs.List.{list_all};
+ghost use Rattle.fq_text.specs.Grammar.{limit};
 ghost use Rattle.fq_text.specs.Scores.{is_scored};
-ghost use Rattle.fq_tally.specs.Columns.{no_columns, columns_from, columns_plus};
-ghost use Rattle.fq_tally.specs.Counting.{first_rows, AreFew};
+ghost use Rattle.fq_tally.specs.Columns.{last_position, no_columns, columns_from, columns_plus};
+ghost use Rattle.fq_tally.specs.Counting.{first_rows, most_reads, AreFew};
 
 use crate::columns::{Columns, LAST_POSITION};
 use crate::few::FewColumns;
@@ -57,7 +58,7 @@ impl Positions {
 
     // Counts bases. The first is at index `at` of its read. Takes no memory.
     pub(crate) fn add(&mut self, encoding: Encoding, seq: &[u8], qual: &[u8], at: usize)
-        requires few { at + length qual.now ≤ 1048576 }
+        requires few { at + length qual.now ≤ limit }
         requires scored { list_all (is_scored encoding) qual.now ≡ true }
         requires same { length qual.now ≡ length seq.now }
         ensures { self.new ≡ columns_plus self.old (columns_from at encoding seq.now qual.now) }
@@ -106,8 +107,8 @@ impl Positions {
 
 // Moves counts of a few reads to the totals.
 fn empty(few: &mut FewColumns, totals: &mut Columns, reached: usize)
-    requires few { AreFew reached 254 few.old }
-    requires near { reached ≤ 10000 }
+    requires few { AreFew reached most_reads few.old }
+    requires near { reached ≤ last_position }
     ensures moved { totals.new ≡ columns_plus totals.old (first_rows reached few.old) }
     ensures none { AreFew 0 0 few.new }
 {

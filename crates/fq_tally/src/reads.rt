@@ -1,6 +1,7 @@
 //! Counts of reads.
 
 ghost use Rattle.std.specs.Prelude.{◌≡◌, ◌≤◌, IfOk};
+ghost use Rattle.fq_text.specs.Grammar.{limit};
 
 use crate::bases::BaseTally;
 use crate::rows::Rows;
@@ -55,7 +56,7 @@ impl ReadsTally {
     #[inline(always)]
     pub(crate) fn add(&mut self, bases: BaseTally, length: usize)
         requires length { length ≡ bases.bases }
-        requires few { bases.bases ≤ 1048576 }
+        requires few { bases.bases ≤ limit }
         requires among { bases.gc ≤ bases.bases }
         ensures { self.new ≡ with_bases bases self.old }
     {

@@ -37,7 +37,7 @@ impl Model for Rows {
 
 impl Rows {
     ghost use Rattle.std.specs.Prelude.{◌≡◌, ◌≤◌, [], ◌∷◌, ◌++◌, replicate, IfOk};
-    ghost use Rattle.fq_tally.specs.Rows.{counted, rows_plus};
+    ghost use Rattle.fq_tally.specs.Rows.{last_row, most_rows, counted, rows_plus};
 
     // No rows.
     pub(crate) fn new(alloc: Global) -> Result<Rows, OutOfMemory>
@@ -67,7 +67,7 @@ impl Rows {
 
     // Grows to at least this many rows. New rows count 0.
     pub(crate) fn grow(&mut self, rows: usize)
-        requires { rows ≤ 10002 }
+        requires { rows ≤ most_rows }
         ensures { self.new ≡ rows_plus self.old (replicate rows 0) }
     {
         if length_of(&self.counts) < rows {
@@ -77,7 +77,7 @@ impl Rows {
 
     // Adds to one row.
     pub(crate) fn add_to(&mut self, row: usize, count: u64)
-        requires { row ≤ 10001 }
+        requires { row ≤ last_row }
         ensures { self.new ≡ rows_plus self.old (replicate row 0 ++ (count ∷ [])) }
     {
         self.grow(row + 1);

@@ -54,6 +54,7 @@ impl Trimmed {
         let mut count = 0;
         let mut start = 0;
         let mut stop = qual.len();
+        // `trim_by` of `fq_trim` takes the same steps in the same way, and counts nothing.
         for number in 0..steps.as_slice().len() {
             match steps.trim_at(number, encoding, &qual[start..stop]) {
                 Some(kept) => {
