@@ -1,5 +1,5 @@
--- Mates, and the names by which they are matched: titles up to a blank, without the marks /1 and /2
--- of paired reads.
+-- Mates, and the names by which they are matched: titles up to the first blank or tab, without the
+-- marks /1 and /2 of paired reads.
 use Rattle.std.specs.Prelude.{ℕ, ◌-◌, Bool, ◌||◌, ◌==◌, nat_eq, List, ◌∷◌, [], length, take, if◌then◌else◌}
 use Rattle.std.specs.List.{before_first, ends_with}
 use Rattle.std.specs.Str.{bytes_eq}

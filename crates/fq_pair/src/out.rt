@@ -17,6 +17,17 @@ pub enum Out {
     Log,
 }
 
+impl Out {
+    /// All outputs, in the order of writing.
+    pub const ALL: [Out; 5] = [
+        Out::ForwardPaired,
+        Out::ForwardUnpaired,
+        Out::ReversePaired,
+        Out::ReverseUnpaired,
+        Out::Log,
+    ];
+}
+
 /// Prints `forward paired`, `forward unpaired`, `reverse paired`, `reverse unpaired` or `trim log`.
 impl fmt::Display for Out {
     ghost use Rattle.std.specs.Prelude.{Some};

@@ -5,15 +5,6 @@ use fq_pair::{Counts, Out};
 use fq_text::{Outlet, ScriptOutlet};
 use std::cmp::Ordering;
 
-/// The outputs, in the order in which they are written.
-pub const OUTS: [Out; 5] = [
-    Out::ForwardPaired,
-    Out::ForwardUnpaired,
-    Out::ReversePaired,
-    Out::ReverseUnpaired,
-    Out::Log,
-];
-
 /// What each pair adds to each output.
 const ADDED: [[&[u8]; 5]; 7] = [
     [
@@ -90,7 +81,7 @@ pub struct Front {
 }
 
 /// How many of the seven pairs, from the first on, a run has written to its outlets, which are in
-/// the order of [`OUTS`]. An error says what is wrong with its outputs or counts.
+/// the order of [`Out::ALL`]. An error says what is wrong with its outputs or counts.
 ///
 /// The outputs must be the texts of the first pairs, and the counts must be theirs. If a write
 /// failed, it must be the only one, and the run may have begun further pairs, at most those of one
@@ -119,7 +110,7 @@ pub fn front_in_order(
         None => Err("the texts are not those of the pairs that are counted"),
         Some(place) if break_off(texts, place, pairs, block_pairs) => Ok(Front {
             pairs,
-            failed: OUTS.get(place).copied(),
+            failed: Out::ALL.get(place).copied(),
         }),
         Some(_) => Err("the texts do not break off in the output of which a write failed"),
     }

@@ -9,7 +9,7 @@ mod source;
 mod two;
 mod written;
 
-pub use fronts::{Front, OUTS, front_in_order};
+pub use fronts::{Front, front_in_order};
 pub use read::lawful_read;
 pub use seven::{
     ELEVEN_INTERLEAVED, FIVE_REVERSE, FIVE_WRITTEN, SEVEN_FORWARD, SEVEN_REVERSE, SEVEN_STEPS,
