@@ -203,8 +203,8 @@ no_side_small : SmallSide no_side
 unfolding SmallRows
 no_side_small = record { before = none_small; paired = none_small; unpaired = none_small; front = omega arith; behind = omega arith; removed_front = tt; removed_behind = tt; shortened = tt; dropped = tt }
 
-read_small : (read : Read) (c : Course) (mate : Bool) (t : SideTally) → SmallSide t → SmallSide (with_read read c mate t)
-read_small read c mate t small = record {
+read_small : (read : Read) (c : Course) (mate_survives : Bool) (t : SideTally) → SmallSide t → SmallSide (with_read read c mate_survives t)
+read_small read c mate_survives t small = record {
   before = part_small (whole read) t.before small.before;
   paired = part_if_small _ c.left t.paired small.paired;
   unpaired = part_if_small _ c.left t.unpaired small.unpaired;
@@ -216,16 +216,16 @@ read_small read c mate t small = record {
   dropped = all_small c.dropped t.steps.dropped small.dropped;
 }
 
-side_read : (read : Read) (c : Course) (mate : Bool) (s t : SideTally) → SmallSide s → with_read read c mate (side_plus s t) ≡ side_plus s (with_read read c mate t)
-side_read read c mate s t small =
+side_read : (read : Read) (c : Course) (mate_survives : Bool) (s t : SideTally) → SmallSide s → with_read read c mate_survives (side_plus s t) ≡ side_plus s (with_read read c mate_survives t)
+side_read read c mate_survives s t small =
     let before = reads_part (whole read) s.before t.before small.before in
-    let paired = part_if (survives c.left && mate) c.left s.paired t.paired small.paired in
-    let unpaired = part_if (survives c.left && not mate) c.left s.unpaired t.unpaired small.unpaired in
+    let paired = part_if (survives c.left && mate_survives) c.left s.paired t.paired small.paired in
+    let unpaired = part_if (survives c.left && not mate_survives) c.left s.unpaired t.unpaired small.unpaired in
     let front = sum_if (survives c.left) c.front s.front t.front in
     let behind = sum_if (survives c.left) (behind_of read c.left c.front) s.behind t.behind in
     let removed_front = rows_if (survives c.left) c.front s.removed_front t.removed_front small.removed_front in
     let removed_behind = rows_if (survives c.left) (behind_of read c.left c.front) s.removed_behind t.removed_behind small.removed_behind in
-    let positions = side_columns_read read c.left mate s.positions t.positions in
+    let positions = side_columns_read read c.left mate_survives s.positions t.positions in
     let shortened = rows_all c.shortened s.steps.shortened t.steps.shortened small.shortened in
     let dropped = rows_all c.dropped s.steps.dropped t.steps.dropped small.dropped in cc
 

@@ -66,19 +66,19 @@ side_of_both p u r v w p' u' r' v' w' =
     (columns_four u u' w w')
 
 -- a base that is counted in place is one of those before
-pub in_place : (x rest all : Columns) (mate : Bool) (t : SideColumns) → columns_plus x rest ≡ all →
-    with_before x (with_after x mate (with_before rest t)) ≡ with_before all (with_after x mate t)
-in_place x rest all mate t is =
+pub in_place : (x rest all : Columns) (mate_survives : Bool) (t : SideColumns) → columns_plus x rest ≡ all →
+    with_before x (with_after x mate_survives (with_before rest t)) ≡ with_before all (with_after x mate_survives t)
+in_place x rest all mate_survives t is =
     let before : columns_plus (columns_plus t.before rest) x ≡ columns_plus t.before all =
     columns_swap t.before rest x ∙ columns_assoc t.before x rest ∙ ap (columns_plus t.before) is in
     three_are before refl refl
 
 -- a read of which bases are kept
-pub survivor_columns : (read : Read) (k : Kept) (mate : Bool) (t : SideColumns) →
-    with_columns read (part_at (places_of (Some k)) (whole read)) mate t ≡ with_before (columns_of (whole read)) (with_after (columns_of (part_at (places_of (Some k)) (whole read))) mate t)
-survivor_columns read k mate t =
+pub survivor_columns : (read : Read) (k : Kept) (mate_survives : Bool) (t : SideColumns) →
+    with_columns read (part_at (places_of (Some k)) (whole read)) mate_survives t ≡ with_before (columns_of (whole read)) (with_after (columns_of (part_at (places_of (Some k)) (whole read))) mate_survives t)
+survivor_columns read k mate_survives t =
     let left = part_at (places_of (Some k)) (whole read) in
-    ap (λ (b : Bool). with_before (columns_of (whole read)) (cond b (with_after (columns_of left) mate t) t)) (kept_is_left read k)
+    ap (λ (b : Bool). with_before (columns_of (whole read)) (cond b (with_after (columns_of left) mate_survives t) t)) (kept_is_left read k)
 
 -- a read that lost nothing at its start, and is cut after what is left
 pub cut_columns : (read : Read) (k : Kept) (e : Encoding) (seq qual : List ℕ) → e ≡ read.encoding → seq ≡ read.seq → qual ≡ read.qual →

@@ -33,17 +33,17 @@ side_columns_none t =
 before_read : (x : Columns) (s t : SideColumns) → with_before x (side_columns_plus s t) ≡ side_columns_plus s (with_before x t)
 before_read x s t = let before = columns_assoc s.before t.before x in cc
 
-after_read : (x : Columns) (mate : Bool) (s t : SideColumns) → with_after x mate (side_columns_plus s t) ≡ side_columns_plus s (with_after x mate t)
+after_read : (x : Columns) (mate_survives : Bool) (s t : SideColumns) → with_after x mate_survives (side_columns_plus s t) ≡ side_columns_plus s (with_after x mate_survives t)
 after_read x true s t = let paired = columns_assoc s.paired t.paired x in cc
 after_read x false s t = let unpaired = columns_assoc s.unpaired t.unpaired x in cc
 
-after_if : (b : Bool) (x : Columns) (mate : Bool) (s t : SideColumns) →
-    cond b (with_after x mate (side_columns_plus s t)) (side_columns_plus s t) ≡ side_columns_plus s (cond b (with_after x mate t) t)
-after_if true x mate s t = after_read x mate s t
-after_if false x mate s t = refl
+after_if : (b : Bool) (x : Columns) (mate_survives : Bool) (s t : SideColumns) →
+    cond b (with_after x mate_survives (side_columns_plus s t)) (side_columns_plus s t) ≡ side_columns_plus s (cond b (with_after x mate_survives t) t)
+after_if true x mate_survives s t = after_read x mate_survives s t
+after_if false x mate_survives s t = refl
 
-pub side_columns_read : (read : Read) (left : Part) (mate : Bool) (s t : SideColumns) →
-    with_columns read left mate (side_columns_plus s t) ≡ side_columns_plus s (with_columns read left mate t)
-side_columns_read read left mate s t =
-    ap (with_before (columns_of (whole read))) (after_if (survives left) (columns_of left) mate s t)
-    ∙ before_read (columns_of (whole read)) s (cond (survives left) (with_after (columns_of left) mate t) t)
+pub side_columns_read : (read : Read) (left : Part) (mate_survives : Bool) (s t : SideColumns) →
+    with_columns read left mate_survives (side_columns_plus s t) ≡ side_columns_plus s (with_columns read left mate_survives t)
+side_columns_read read left mate_survives s t =
+    ap (with_before (columns_of (whole read))) (after_if (survives left) (columns_of left) mate_survives s t)
+    ∙ before_read (columns_of (whole read)) s (cond (survives left) (with_after (columns_of left) mate_survives t) t)

@@ -114,18 +114,18 @@ pub kept_is_left : (read : Read) (k : Kept) → survives (part_at (places_of (So
 kept_is_left read k = ap not (not_empty (at read.seq) (places_of (Some k)) ∙ kept_survives (places_of (Some k)) (Some k) k refl refl)
 
 -- a read of which bases are kept
-pub survivor : (read : Read) (k : Kept) (mate : Bool) (t : SideTally) → with_left read (part_at (places_of (Some k)) (whole read)) k.start mate t ≡ record {
+pub survivor : (read : Read) (k : Kept) (mate_survives : Bool) (t : SideTally) → with_left read (part_at (places_of (Some k)) (whole read)) k.start mate_survives t ≡ record {
   before = with_part (whole read) t.before;
-  paired = cond mate (with_part (part_at (places_of (Some k)) (whole read)) t.paired) t.paired;
-  unpaired = cond (not mate) (with_part (part_at (places_of (Some k)) (whole read)) t.unpaired) t.unpaired;
+  paired = cond mate_survives (with_part (part_at (places_of (Some k)) (whole read)) t.paired) t.paired;
+  unpaired = cond (not mate_survives) (with_part (part_at (places_of (Some k)) (whole read)) t.unpaired) t.unpaired;
   front = capped_sum t.front k.start;
   behind = capped_sum t.behind (length read.seq - k.stop);
   removed_front = counted k.start t.removed_front;
   removed_behind = counted (length read.seq - k.stop) t.removed_behind;
-  positions = with_columns read (part_at (places_of (Some k)) (whole read)) mate t.positions;
+  positions = with_columns read (part_at (places_of (Some k)) (whole read)) mate_survives t.positions;
   steps = t.steps;
 }
-survivor read k mate t =
+survivor read k mate_survives t =
     let left = part_at (places_of (Some k)) (whole read) in
     let order = k.some in
     let size = kept_length k (whole read) in
@@ -133,13 +133,13 @@ survivor read k mate t =
     let removed : length read.seq - k.start - length left.seq ≡ length read.seq - k.stop = omega arith in
     let made : Bool → ℕ → SideTally = λ b behind. record {
       before = with_part (whole read) t.before;
-      paired = cond (b && mate) (with_part left t.paired) t.paired;
-      unpaired = cond (b && not mate) (with_part left t.unpaired) t.unpaired;
+      paired = cond (b && mate_survives) (with_part left t.paired) t.paired;
+      unpaired = cond (b && not mate_survives) (with_part left t.unpaired) t.unpaired;
       front = cond b (capped_sum t.front k.start) t.front;
       behind = cond b (capped_sum t.behind behind) t.behind;
       removed_front = counted_if b k.start t.removed_front;
       removed_behind = counted_if b behind t.removed_behind;
-      positions = with_columns read left mate t.positions;
+      positions = with_columns read left mate_survives t.positions;
       steps = t.steps;
     } in
     ap (λ (b : Bool). made b (length read.seq - k.start - length left.seq)) is ∙ ap (made true) removed

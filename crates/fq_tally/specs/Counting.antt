@@ -71,8 +71,8 @@ lanes_at at encoding bases bytes = record {
 
 -- Bounds of the counts of a few reads, which have 8 or 16 bits.
 
--- how many reads are counted at most, so that each of them can add 1 to a count of 8 bits, and
--- one vector more can, too
+-- how many reads are counted before their counts are added to the totals: each adds at most 1 to a
+-- count of 8 bits, and 1 more still fits
 abbrev pub most_reads : ℕ
 most_reads = 254
 

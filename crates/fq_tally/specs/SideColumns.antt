@@ -25,16 +25,16 @@ with_before columns t = record {
 
 -- what is left of one more read, if its mate survives and if not
 abbrev pub with_after : Columns → Bool → SideColumns → SideColumns
-with_after columns mate t = record {
+with_after columns mate_survives t = record {
   before = t.before;
-  paired = if mate then columns_plus t.paired columns else t.paired;
-  unpaired = if mate then t.unpaired else columns_plus t.unpaired columns;
+  paired = if mate_survives then columns_plus t.paired columns else t.paired;
+  unpaired = if mate_survives then t.unpaired else columns_plus t.unpaired columns;
 }
 
 -- one more read, what is left of it, and whether its mate survives
 abbrev pub with_columns : Read → Part → Bool → SideColumns → SideColumns
-with_columns read left mate t = with_before (columns_of (whole read))
-    (if survives left then with_after (columns_of left) mate t else t)
+with_columns read left mate_survives t = with_before (columns_of (whole read))
+    (if survives left then with_after (columns_of left) mate_survives t else t)
 
 abbrev pub side_columns_plus : SideColumns → SideColumns → SideColumns
 side_columns_plus a b = record {

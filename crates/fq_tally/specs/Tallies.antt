@@ -129,15 +129,15 @@ behind_of read left front = length read.seq - front - length left.seq
 -- One more read, what is left of it, how many bases were removed before that, and whether its mate
 -- survives. Removed bases are counted of the reads that survive.
 abbrev pub with_left : Read → Part → ℕ → Bool → SideTally → SideTally
-with_left read left front mate t = record {
+with_left read left front mate_survives t = record {
   before = with_part (whole read) t.before;
-  paired = if survives left && mate then with_part left t.paired else t.paired;
-  unpaired = if survives left && not mate then with_part left t.unpaired else t.unpaired;
+  paired = if survives left && mate_survives then with_part left t.paired else t.paired;
+  unpaired = if survives left && not mate_survives then with_part left t.unpaired else t.unpaired;
   front = if survives left then capped_sum t.front front else t.front;
   behind = if survives left then capped_sum t.behind (behind_of read left front) else t.behind;
   removed_front = counted_if (survives left) front t.removed_front;
   removed_behind = counted_if (survives left) (behind_of read left front) t.removed_behind;
-  positions = with_columns read left mate t.positions;
+  positions = with_columns read left mate_survives t.positions;
   steps = t.steps;
 }
 
@@ -157,7 +157,8 @@ with_steps course t = record {
 
 -- a read, its course, and whether its mate survives
 abbrev pub with_read : Read → Course → Bool → SideTally → SideTally
-with_read read course mate t = with_left read course.left course.front mate (with_steps course t)
+with_read read course mate_survives t =
+    with_left read course.left course.front mate_survives (with_steps course t)
 
 abbrev pub side_plus : SideTally → SideTally → SideTally
 side_plus a b = record {

@@ -1,6 +1,6 @@
 //! Counts of the bases of a few reads by their positions, by vectors (SIMD).
 
-ghost use Rattle.std.specs.Prelude.{◌≡◌, ◌+◌, ◌≤◌, ◌<◌, true, length, drop, map, IfOk};
+ghost use Rattle.std.specs.Prelude.{◌≡◌, ◌+◌, ◌-◌, ◌≤◌, ◌<◌, true, length, drop, map, IfOk};
 ghost use Rattle.std.specs.List.{list_all};
 ghost use Rattle.fq_text.specs.Scores.{is_scored};
 ghost use Rattle.fq_text.specs.declared.encoding.Encoding.TheVariants.{Solexa};
@@ -76,7 +76,7 @@ impl FewColumns {
         requires near { at + length qual.now ≤ last_position }
         requires scored { list_all (is_scored encoding) qual.now ≡ true }
         requires same { length qual.now ≡ length seq.now }
-        requires few { AreFew few_rows 253 self.old }
+        requires few { AreFew few_rows (most_reads - 1) self.old }
         ensures { self.new ≡ columns_plus self.old (columns_from at encoding seq.now qual.now) }
     {
         let mut from = 0;

@@ -3,7 +3,8 @@
 ghost use Rattle.std.specs.Prelude.{◌≡◌, ◌+◌, ◌≤◌, ℕ, ◌++◌, length, replicate, take, get_or, IfOk};
 ghost use Rattle.fq_tally.specs.Rows.{rows_plus};
 ghost use Rattle.fq_tally.specs.Columns.{last_position};
-ghost use Rattle.fq_tally.specs.Counting.{most_reads, largest_word, word_before_byte, AtMost, IsFew};
+ghost use Rattle.fq_tally.specs.Counting.{most_reads, largest_word, word_before_byte};
+ghost use Rattle.fq_tally.specs.Counting.{AtMost, IsFew};
 
 use crate::columns::LAST_POSITION;
 use crate::rows::Rows;

@@ -45,14 +45,20 @@ impl Side {
         &self.inside
     }
 
-    // Counts one more read and what the steps do to it. `mate`: its mate survives.
-    pub(crate) fn add(&mut self, read: &ReadView<'_>, steps: &Steps, trimmed: &Trimmed, mate: bool)
+    // Counts one more read and what the steps do to it.
+    pub(crate) fn add(
+        &mut self,
+        read: &ReadView<'_>,
+        steps: &Steps,
+        trimmed: &Trimmed,
+        mate_survives: bool,
+    )
         requires { trimmed.now ≡ passage steps.now read.now }
         ensures added { self.new
-            ≡ with_read read.now (course (alone steps.now) read.now) mate self.old }
+            ≡ with_read read.now (course (alone steps.now) read.now) mate_survives self.old }
         ensures lawful { IsLawful read.now }
     {
-        self.inside.add(read, steps, trimmed, mate);
+        self.inside.add(read, steps, trimmed, mate_survives);
     }
 
     // Adds the counts of other reads.

@@ -66,18 +66,24 @@ impl SideTally {
         })
     }
 
-    // Counts one more read and what the steps do to it. `mate`: its mate survives.
-    pub(crate) fn add(&mut self, read: &ReadView<'_>, steps: &Steps, trimmed: &Trimmed, mate: bool)
+    // Counts one more read and what the steps do to it.
+    pub(crate) fn add(
+        &mut self,
+        read: &ReadView<'_>,
+        steps: &Steps,
+        trimmed: &Trimmed,
+        mate_survives: bool,
+    )
         requires { trimmed.now ≡ passage steps.now read.now }
         ensures added { self.new
-            ≡ with_read read.now (course (alone steps.now) read.now) mate self.old }
+            ≡ with_read read.now (course (alone steps.now) read.now) mate_survives self.old }
         ensures lawful { IsLawful read.now }
     {
         // By this call the proof learns that the read is valid.
         let _ = read.title();
         self.steps.add(trimmed);
         match trimmed.kept() {
-            Some(kept) => self.add_survivor(read, kept, mate),
+            Some(kept) => self.add_survivor(read, kept, mate_survives),
             None => self.add_dropped(read),
         }
     }
@@ -94,11 +100,11 @@ impl SideTally {
         self.positions.add_dropped(read);
     }
 
-    // Counts one more read that keeps bases. `mate`: its mate survives.
-    fn add_survivor(&mut self, read: &ReadView<'_>, kept: Kept, mate: bool)
+    // Counts one more read that keeps bases.
+    fn add_survivor(&mut self, read: &ReadView<'_>, kept: Kept, mate_survives: bool)
         requires { kept.stop ≤ length read.now.seq }
         ensures { self.new ≡ with_left read.now
-            (part_at (places_of (Some kept)) (whole read.now)) kept.start mate self.old }
+            (part_at (places_of (Some kept)) (whole read.now)) kept.start mate_survives self.old }
     {
         // By this call the proof learns that the read is valid.
         let _ = read.title();
@@ -107,7 +113,7 @@ impl SideTally {
         let left = kept_bases(read, kept);
         let whole = whole_bases(read, kept, left);
         self.before.add(whole, seq.len());
-        if mate {
+        if mate_survives {
             self.paired.add(left, len);
         } else {
             self.unpaired.add(left, len);
@@ -117,7 +123,7 @@ impl SideTally {
         self.behind = self.behind.saturating_add(behind as u64);
         self.removed_front.count(kept.start);
         self.removed_behind.count(behind);
-        self.positions.add_survivor(read, kept, mate);
+        self.positions.add_survivor(read, kept, mate_survives);
     }
 
     // Adds the counts of other reads.

@@ -106,11 +106,11 @@ impl SidePositions {
         self.add_rest(read.encoding(), read.seq(), read.qual(), 0);
     }
 
-    // Counts the bases of one more read that keeps bases. `mate`: its mate survives.
-    pub(crate) fn add_survivor(&mut self, read: &ReadView<'_>, kept: Kept, mate: bool)
+    // Counts the bases of one more read that keeps bases.
+    pub(crate) fn add_survivor(&mut self, read: &ReadView<'_>, kept: Kept, mate_survives: bool)
         requires { kept.stop ≤ length read.now.seq }
         ensures { self.new ≡ with_columns read.now
-            (part_at (places_of (Some kept)) (whole read.now)) mate self.old }
+            (part_at (places_of (Some kept)) (whole read.now)) mate_survives self.old }
     {
         // By this call the proof learns that the read is valid.
         let _ = read.title();
@@ -120,12 +120,12 @@ impl SidePositions {
         let (left, left_qual) = (&seq[start..stop], &qual[start..stop]);
         if start > 0 {
             self.add_rest(encoding, seq, qual, 0);
-            self.add_moved(encoding, left, left_qual, mate);
+            self.add_moved(encoding, left, left_qual, mate_survives);
         } else if stop < seq.len() {
             self.add_rest(encoding, &seq[stop..], &qual[stop..], stop);
-            self.add_in_place(encoding, left, left_qual, mate);
+            self.add_in_place(encoding, left, left_qual, mate_survives);
         } else {
-            self.add_in_place(encoding, left, left_qual, mate);
+            self.add_in_place(encoding, left, left_qual, mate_survives);
         }
     }
 
@@ -138,11 +138,12 @@ impl SidePositions {
     }
 
     // Counts what is left of a read that lost bases at its start.
-    fn add_moved(&mut self, encoding: Encoding, seq: &[u8], qual: &[u8], mate: bool)
+    fn add_moved(&mut self, encoding: Encoding, seq: &[u8], qual: &[u8], mate_survives: bool)
         requires { AreBases encoding seq.now qual.now 0 }
-        ensures { self.new ≡ with_after (columns_from 0 encoding seq.now qual.now) mate self.old }
+        ensures { self.new
+            ≡ with_after (columns_from 0 encoding seq.now qual.now) mate_survives self.old }
     {
-        if mate {
+        if mate_survives {
             self.paired_moved.add(encoding, seq, qual, 0);
         } else {
             self.unpaired_moved.add(encoding, seq, qual, 0);
@@ -150,12 +151,12 @@ impl SidePositions {
     }
 
     // Counts what is left of a read that lost nothing at its start, both before and after.
-    fn add_in_place(&mut self, encoding: Encoding, seq: &[u8], qual: &[u8], mate: bool)
+    fn add_in_place(&mut self, encoding: Encoding, seq: &[u8], qual: &[u8], mate_survives: bool)
         requires { AreBases encoding seq.now qual.now 0 }
         ensures { self.new ≡ with_before (columns_from 0 encoding seq.now qual.now)
-            (with_after (columns_from 0 encoding seq.now qual.now) mate self.old) }
+            (with_after (columns_from 0 encoding seq.now qual.now) mate_survives self.old) }
     {
-        if mate {
+        if mate_survives {
             self.paired.add(encoding, seq, qual, 0);
         } else {
             self.unpaired.add(encoding, seq, qual, 0);

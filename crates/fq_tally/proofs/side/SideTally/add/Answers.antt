@@ -45,9 +45,9 @@ returns-in-Some-clause-added c =
     let went = course (alone steps) read in
     let kept_is : places k.start (k.stop - k.start) ≡ kept_places steps read = c.in-Some.ensures.kept ∙ ap (λ (p : Passage). p.kept) c.requires in
     c.add_survivor.ensures
-    ∙ ap (λ (p : Part). with_left read p k.start c.args.mate (with_tally old c.add.new.self)) (ap (λ (ps : List ℕ). part_at ps (whole read)) kept_is ∙ sym (left_as_kept steps read c.title.ensures.lawful.same_len))
-    ∙ ap (λ (n : ℕ). with_left read went.left n c.args.mate (with_tally old c.add.new.self)) (c.in-Some.ensures.front ∙ ap (λ (p : Passage). p.front) c.requires)
-    ∙ ap (λ (t : StepsTally). with_left read went.left went.front c.args.mate (with_tally old t)) (counted_course read steps c.args.trimmed.now old.steps c.add.new.self c.requires c.add.ensures)
+    ∙ ap (λ (p : Part). with_left read p k.start c.args.mate_survives (with_tally old c.add.new.self)) (ap (λ (ps : List ℕ). part_at ps (whole read)) kept_is ∙ sym (left_as_kept steps read c.title.ensures.lawful.same_len))
+    ∙ ap (λ (n : ℕ). with_left read went.left n c.args.mate_survives (with_tally old c.add.new.self)) (c.in-Some.ensures.front ∙ ap (λ (p : Passage). p.front) c.requires)
+    ∙ ap (λ (t : StepsTally). with_left read went.left went.front c.args.mate_survives (with_tally old t)) (counted_course read steps c.args.trimmed.now old.steps c.add.new.self c.requires c.add.ensures)
 
 pub returns-in-None-clause-added : goal.returns-in-None-clause-added
 returns-in-None-clause-added c =
@@ -56,7 +56,7 @@ returns-in-None-clause-added c =
     let old = c.args.self.now in
     let went = course (alone steps) read in
     let kept_is : [] ≡ kept_places steps read = c.in-None.ensures.kept ∙ ap (λ (p : Passage). p.kept) c.requires in
-    let gone : c.add_dropped.new.self ≡ with_left read (part_at [] (whole read)) went.front c.args.mate (with_tally old c.add.new.self) = c.add_dropped.ensures in
+    let gone : c.add_dropped.new.self ≡ with_left read (part_at [] (whole read)) went.front c.args.mate_survives (with_tally old c.add.new.self) = c.add_dropped.ensures in
     gone
-    ∙ ap (λ (p : Part). with_left read p went.front c.args.mate (with_tally old c.add.new.self)) (ap (λ (ps : List ℕ). part_at ps (whole read)) kept_is ∙ sym (left_as_kept steps read c.title.ensures.lawful.same_len))
-    ∙ ap (λ (t : StepsTally). with_left read went.left went.front c.args.mate (with_tally old t)) (counted_course read steps c.args.trimmed.now old.steps c.add.new.self c.requires c.add.ensures)
+    ∙ ap (λ (p : Part). with_left read p went.front c.args.mate_survives (with_tally old c.add.new.self)) (ap (λ (ps : List ℕ). part_at ps (whole read)) kept_is ∙ sym (left_as_kept steps read c.title.ensures.lawful.same_len))
+    ∙ ap (λ (t : StepsTally). with_left read went.left went.front c.args.mate_survives (with_tally old t)) (counted_course read steps c.args.trimmed.now old.steps c.add.new.self c.requires c.add.ensures)

@@ -12,7 +12,7 @@ use Rattle.fq_tally.specs.SideColumns.{with_columns}
 use Rattle.fq_tally.specs.Tallies.{with_bases, with_part}
 use Rattle.fq_tally.proofs.SideLemmas.{kept_length, parts_are, survivor, few_bases}
 use Rattle.fq_tally.proofs.side.SideTally.add_survivor.Goals as goal
-use Rattle.fq_tally.proofs.side.SideTally.add_survivor.Goals.{then-mate, else-mate}
+use Rattle.fq_tally.proofs.side.SideTally.add_survivor.Goals.{then-mate_survives, else-mate_survives}
 
 front_is : {now sum : ℕ} (old start : ℕ) → now ≡ old → sum ≡ min (now + start) 18446744073709551615 → sum ≡ capped_sum old start
 front_is old start is sum_is = omega arith
@@ -34,8 +34,8 @@ add-requires-clause-few c = (few_bases (whole c.args.read.now) c.whole_bases-who
 pub add-requires-clause-among : goal.add-requires-clause-among
 add-requires-clause-among c = (few_bases (whole c.args.read.now) c.whole_bases-whole.result c.whole_bases-whole.ensures c.title.ensures.lawful.seq_fits).1
 
-pub add-requires-then-mate : goal.add-requires-then-mate
-add-requires-then-mate c =
+pub add-requires-then-mate_survives : goal.add-requires-then-mate_survives
+add-requires-then-mate_survives c =
     let part = part_at (places_of (Some c.args.kept)) (whole c.args.read.now) in
     let left = c.kept_bases-left in
     let few = few_bases part left.result left.ensures (left_fits c.args.read.now c.args.kept c.requires c.title.ensures.lawful.seq_fits) in
@@ -45,8 +45,8 @@ add-requires-then-mate c =
       among = few.1;
     }
 
-pub add-requires-else-mate : goal.add-requires-else-mate
-add-requires-else-mate c =
+pub add-requires-else-mate_survives : goal.add-requires-else-mate_survives
+add-requires-else-mate_survives c =
     let part = part_at (places_of (Some c.args.kept)) (whole c.args.read.now) in
     let left = c.kept_bases-left in
     let few = few_bases part left.result left.ensures (left_fits c.args.read.now c.args.kept c.requires c.title.ensures.lawful.seq_fits) in
@@ -67,42 +67,42 @@ returns c =
     let rest : length c.seq-seq.result.now - k.stop ≡ length read.seq - k.stop = ap (λ (n : ℕ). n - k.stop) size in
     let sum = c.saturating_add-self.ensures in
     let sum_behind = c.saturating_add-self-2.ensures in
-    let made : Bool → SideTally = λ mate. record {
+    let made : Bool → SideTally = λ mate_survives. record {
       before = with_part (whole read) old.before;
-      paired = cond mate (with_part left old.paired) old.paired;
-      unpaired = cond (not mate) (with_part left old.unpaired) old.unpaired;
+      paired = cond mate_survives (with_part left old.paired) old.paired;
+      unpaired = cond (not mate_survives) (with_part left old.unpaired) old.unpaired;
       front = capped_sum old.front k.start;
       behind = capped_sum old.behind (length read.seq - k.stop);
       removed_front = counted k.start old.removed_front;
       removed_behind = counted (length read.seq - k.stop) old.removed_behind;
-      positions = with_columns read left c.args.mate old.positions;
+      positions = with_columns read left c.args.mate_survives old.positions;
       steps = old.steps;
     } in
-    elim c.if-mate.branch [
-      | then-mate w ↦
+    elim c.if-mate_survives.branch [
+      | then-mate_survives w ↦
           let is = w.self-is in
           let a = ap (λ (t : SideTally). t.before) is ∙ before in
-          let b = ap (λ (t : SideTally). t.paired) is ∙ w.add-then-mate.ensures ∙ ap (λ (x : BaseTally). with_bases x old.paired) c.kept_bases-left.ensures in
+          let b = ap (λ (t : SideTally). t.paired) is ∙ w.add-then-mate_survives.ensures ∙ ap (λ (x : BaseTally). with_bases x old.paired) c.kept_bases-left.ensures in
           let d = ap (λ (t : SideTally). t.unpaired) is in
           let f = ap (λ (t : SideTally). t.front) is in
           let g = ap (λ (t : SideTally). t.behind) is in
           let h = ap (λ (t : SideTally). t.steps) is in
           let i = c.count.ensures ∙ ap (λ (t : SideTally). counted k.start t.removed_front) is in
           let j = c.count-2.ensures ∙ ap (λ (t : SideTally). counted (length c.seq-seq.result.now - k.stop) t.removed_behind) is ∙ ap (λ (n : ℕ). counted n old.removed_behind) rest in
-          let l = c.add_survivor.ensures ∙ ap (λ (t : SideTally). with_columns read left c.args.mate t.positions) is in
+          let l = c.add_survivor.ensures ∙ ap (λ (t : SideTally). with_columns read left c.args.mate_survives t.positions) is in
           parts_are a b d (front_is old.front k.start f sum) (behind_is old.behind k.stop (length read.seq) g size sum_behind) i j l h
-          ∙ sym (ap made w.if-mate.true) ∙ sym (survivor read k c.args.mate old)
-      | else-mate w ↦
+          ∙ sym (ap made w.if-mate_survives.true) ∙ sym (survivor read k c.args.mate_survives old)
+      | else-mate_survives w ↦
           let is = w.self-is in
           let a = ap (λ (t : SideTally). t.before) is ∙ before in
           let b = ap (λ (t : SideTally). t.paired) is in
-          let d = ap (λ (t : SideTally). t.unpaired) is ∙ w.add-else-mate.ensures ∙ ap (λ (x : BaseTally). with_bases x old.unpaired) c.kept_bases-left.ensures in
+          let d = ap (λ (t : SideTally). t.unpaired) is ∙ w.add-else-mate_survives.ensures ∙ ap (λ (x : BaseTally). with_bases x old.unpaired) c.kept_bases-left.ensures in
           let f = ap (λ (t : SideTally). t.front) is in
           let g = ap (λ (t : SideTally). t.behind) is in
           let h = ap (λ (t : SideTally). t.steps) is in
           let i = c.count.ensures ∙ ap (λ (t : SideTally). counted k.start t.removed_front) is in
           let j = c.count-2.ensures ∙ ap (λ (t : SideTally). counted (length c.seq-seq.result.now - k.stop) t.removed_behind) is ∙ ap (λ (n : ℕ). counted n old.removed_behind) rest in
-          let l = c.add_survivor.ensures ∙ ap (λ (t : SideTally). with_columns read left c.args.mate t.positions) is in
+          let l = c.add_survivor.ensures ∙ ap (λ (t : SideTally). with_columns read left c.args.mate_survives t.positions) is in
           parts_are a b d (front_is old.front k.start f sum) (behind_is old.behind k.stop (length read.seq) g size sum_behind) i j l h
-          ∙ sym (ap made w.if-mate.false) ∙ sym (survivor read k c.args.mate old)
+          ∙ sym (ap made w.if-mate_survives.false) ∙ sym (survivor read k c.args.mate_survives old)
     ]

@@ -44,7 +44,7 @@ pub returns-then-start-gt0 : goal.returns-then-start-gt0
 returns-then-start-gt0 c =
     let read = c.args.read.now in
     let k = c.args.kept in
-    let mate = c.args.mate in
+    let mate_survives = c.args.mate_survives in
     let old = c.args.self.now in
     let e = c.encoding-encoding.result in
     let seq = c.seq-seq.result.now in
@@ -57,16 +57,16 @@ returns-then-start-gt0 c =
     let seq_is = c.seq-seq.ensures in
     let qual_is = c.qual-qual.ensures in cc in
     c.add_moved.ensures
-    ∙ ap (with_after x mate) c.add_rest.ensures
-    ∙ ap (λ (y : Columns). with_before (columns_from 0 e seq qual) (with_after y mate old)) x_is
-    ∙ ap (λ (y : Columns). with_before y (with_after left mate old)) (ap columns_of read_is)
-    ∙ sym (survivor_columns read k mate old)
+    ∙ ap (with_after x mate_survives) c.add_rest.ensures
+    ∙ ap (λ (y : Columns). with_before (columns_from 0 e seq qual) (with_after y mate_survives old)) x_is
+    ∙ ap (λ (y : Columns). with_before y (with_after left mate_survives old)) (ap columns_of read_is)
+    ∙ sym (survivor_columns read k mate_survives old)
 
 pub returns-then-stop-seq : goal.returns-then-stop-seq
 returns-then-stop-seq c =
     let read = c.args.read.now in
     let k = c.args.kept in
-    let mate = c.args.mate in
+    let mate_survives = c.args.mate_survives in
     let old = c.args.self.now in
     let e = c.encoding-encoding.result in
     let seq = c.seq-seq.result.now in
@@ -79,16 +79,16 @@ returns-then-stop-seq c =
     let x_is : x ≡ left = ap columns_of (kept_part read k e seq qual c.encoding-encoding.ensures c.seq-seq.ensures c.qual-qual.ensures c.requires lawful.same_len) in
     let both = cut_columns read k e seq qual c.encoding-encoding.ensures c.seq-seq.ensures c.qual-qual.ensures c.requires lawful.same_len lawful.seq_fits lawful.scores start in
     c.add_in_place.ensures
-    ∙ ap (λ (t : SideColumns). with_before x (with_after x mate t)) c.add_rest-then-stop-seq.ensures
-    ∙ in_place x rest (columns_of (whole read)) mate old both
-    ∙ ap (λ (y : Columns). with_before (columns_of (whole read)) (with_after y mate old)) x_is
-    ∙ sym (survivor_columns read k mate old)
+    ∙ ap (λ (t : SideColumns). with_before x (with_after x mate_survives t)) c.add_rest-then-stop-seq.ensures
+    ∙ in_place x rest (columns_of (whole read)) mate_survives old both
+    ∙ ap (λ (y : Columns). with_before (columns_of (whole read)) (with_after y mate_survives old)) x_is
+    ∙ sym (survivor_columns read k mate_survives old)
 
 pub returns-else-stop-seq : goal.returns-else-stop-seq
 returns-else-stop-seq c =
     let read = c.args.read.now in
     let k = c.args.kept in
-    let mate = c.args.mate in
+    let mate_survives = c.args.mate_survives in
     let old = c.args.self.now in
     let e = c.encoding-encoding.result in
     let seq = c.seq-seq.result.now in
@@ -102,6 +102,6 @@ returns-else-stop-seq c =
     let x_is : x ≡ left = ap columns_of (kept_part read k e seq qual c.encoding-encoding.ensures c.seq-seq.ensures c.qual-qual.ensures c.requires lawful.same_len) in
     let all : x ≡ columns_of (whole read) = all_columns read k e seq qual c.encoding-encoding.ensures c.seq-seq.ensures c.qual-qual.ensures (omega arith) lawful.same_len start in
     c.add_in_place-else-stop-seq.ensures
-    ∙ ap (λ (y : Columns). with_before y (with_after x mate old)) all
-    ∙ ap (λ (y : Columns). with_before (columns_of (whole read)) (with_after y mate old)) x_is
-    ∙ sym (survivor_columns read k mate old)
+    ∙ ap (λ (y : Columns). with_before y (with_after x mate_survives old)) all
+    ∙ ap (λ (y : Columns). with_before (columns_of (whole read)) (with_after y mate_survives old)) x_is
+    ∙ sym (survivor_columns read k mate_survives old)
