@@ -6,6 +6,10 @@ use Rattle.fq_pair.specs.declared.name.NameLengths.{NameLengths}
 use Rattle.fq_pair.specs.Mates.{Mates, name_lengths}
 use Rattle.fq_block.specs.Packing.{packed_pair, packed_pairs, pair_in}
 
+-- how many pairs a block has at most
+abbrev pub most_pairs : ℕ
+most_pairs = 65536
+
 -- a number, an encoding and a list of pairs
 pub record Numbered : Type 0 where
   pub number : ℕ
@@ -42,7 +46,7 @@ pub record IsPacked (encoding : Encoding) (bytes starts : List ℕ) : Type 0 whe
   pub packed : bytes ≡ packed_pairs (pairs_at encoding bytes starts)
   pub placed : starts ≡ starts_from 0 (pairs_at encoding bytes starts)
   pub fit : AllFit encoding (pairs_at encoding bytes starts)
-  pub few : length starts ≤ 65536
+  pub few : length starts ≤ most_pairs
 
 -- these are the lengths of the names of each pair
 abbrev pub AreNamed : List Mates → List NameLengths → Type 0

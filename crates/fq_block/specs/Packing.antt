@@ -1,9 +1,13 @@
 -- Pairs as bytes: each mate is two lengths and its three parts.
-use Rattle.std.specs.Prelude.{ℕ, ◌+◌, ◌*◌, ◌≤◌, List, ◌++◌, length, take, drop, flat_map}
+use Rattle.std.specs.Prelude.{ℕ, ◌+◌, ◌*◌, ◌^◌, ◌≤◌, List, ◌++◌, length, take, drop, flat_map}
 use Rattle.std.specs.Int.{w32, to_be_bytes, from_be_bytes}
 use Rattle.fq_text.specs.declared.encoding.Encoding.{Encoding}
 use Rattle.fq_text.specs.Grammar.{Read, IsLawful}
 use Rattle.fq_pair.specs.Mates.{Mates, mates_in}
+
+-- four bytes can hold the lengths below this
+abbrev pub length_limit : ℕ
+length_limit = 2 ^ 32
 
 -- a length in four bytes, most significant byte first
 unfoldable pub packed_length : ℕ → List ℕ

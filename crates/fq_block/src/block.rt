@@ -43,7 +43,7 @@ impl Model for Block {
 impl Block {
     ghost use Rattle.std.specs.Prelude.{◌==◌};
     ghost use Rattle.fq_block.specs.Packing.{packed_pairs};
-    ghost use Rattle.fq_block.specs.Blocks.{Numbered, IsOf};
+    ghost use Rattle.fq_block.specs.Blocks.{most_pairs, Numbered, IsOf};
 
     /// Makes a block with this number and no pairs. It allocates nothing until a pair is pushed.
     pub fn new(alloc: Global, number: u64, encoding: Encoding) -> Block
@@ -64,7 +64,7 @@ impl Block {
     /// The pair must be in the encoding of the block, which must have fewer than 65,536 pairs.
     pub fn push(&mut self, pair: &Pair) -> Result<(), OutOfMemory>
         requires encoding { IsOf self.old.encoding pair.now }
-        requires room { length self.old.pairs < 65536 }
+        requires room { length self.old.pairs < most_pairs }
         ensures ok { OnOk result
             (self.new ≡ record self.old { pairs = self.old.pairs ++ pair.now ∷ [] }) }
         ensures err { OnErr result (self.new ≡ self.old) }
@@ -76,7 +76,7 @@ impl Block {
     /// Appends a copy of a borrowed pair, as [`push`](Block::push) does and on the same conditions.
     pub fn push_view(&mut self, pair: &PairView<'_>) -> Result<(), OutOfMemory>
         requires encoding { IsOf self.old.encoding (mates_in pair.now.forward pair.now.reverse) }
-        requires room { length self.old.pairs < 65536 }
+        requires room { length self.old.pairs < most_pairs }
         ensures ok { OnOk result (self.new ≡ record self.old {
           pairs = self.old.pairs ++ mates_in pair.now.forward pair.now.reverse ∷ [];
         }) }
@@ -94,7 +94,7 @@ impl Block {
     #[inline(always)]
     pub fn push_named(&mut self, pair: &PairView<'_>, names: NameLengths) -> Result<(), OutOfMemory>
         requires encoding { IsOf self.old.encoding (mates_in pair.now.forward pair.now.reverse) }
-        requires room { length self.old.pairs < 65536 }
+        requires room { length self.old.pairs < most_pairs }
         requires names { names ≡ name_lengths (mates_in pair.now.forward pair.now.reverse) }
         ensures ok { OnOk result (self.new ≡ record self.old {
           pairs = self.old.pairs ++ mates_in pair.now.forward pair.now.reverse ∷ [];
@@ -114,7 +114,7 @@ impl Block {
     /// How many pairs the block has.
     pub fn len(&self) -> usize
         ensures len { result ≡ length self.now.pairs }
-        ensures limit { result ≤ 65536 }
+        ensures limit { result ≤ most_pairs }
     {
         self.starts.len()
     }

@@ -3,7 +3,7 @@
 ghost use Rattle.std.specs.Prelude.{◌≡◌, ◌+◌, ◌≤◌, ◌^◌, ◌<◌, ◌++◌, ◌∷◌, [], Some, length, drop, slice_get, OnOk, OnErr, vec_len, vec_capacity};
 ghost use Rattle.fq_text.specs.Grammar.{IsLawful};
 ghost use Rattle.fq_pair.specs.Mates.{mates_in};
-ghost use Rattle.fq_block.specs.Packing.{packed_length, packed_read, packed_pair, room_of, length_in, read_in, behind_read, pair_in, HoldsRead, HoldsPair};
+ghost use Rattle.fq_block.specs.Packing.{length_limit, packed_length, packed_read, packed_pair, room_of, length_in, read_in, behind_read, pair_in, HoldsRead, HoldsPair};
 ghost use Rattle.fq_block.specs.Blocks.{pairs_at, IsPacked};
 
 use fq_pair::{NameLengths, PairView};
@@ -82,8 +82,8 @@ fn append_read(out: &mut Vec<u8>, read: &ReadView<'_>)
 
 // Appends the parts of a read. `out` must have room.
 fn append_parts(out: &mut Vec<u8>, title: &[u8], seq: &[u8], qual: &[u8])
-    requires title { length title.now < 2 ^ 32 }
-    requires bases { length seq.now < 2 ^ 32 }
+    requires title { length title.now < length_limit }
+    requires bases { length seq.now < length_limit }
     requires room { vec_len out.old + (length title.now + length seq.now + length qual.now + 8)
         ≤ vec_capacity out.old }
     ensures items { out.new.items ≡ out.old.items
@@ -102,8 +102,8 @@ fn append_parts(out: &mut Vec<u8>, title: &[u8], seq: &[u8], qual: &[u8])
 // Appends two lengths, four bytes each. `out` must have room.
 #[tactic(auto, unfolding(crate::specs::Packing::packed_length))]
 fn append_lengths(out: &mut Vec<u8>, title_len: usize, bases: usize)
-    requires title { title_len < 2 ^ 32 }
-    requires bases { bases < 2 ^ 32 }
+    requires title { title_len < length_limit }
+    requires bases { bases < length_limit }
     requires room { vec_len out.old + 8 ≤ vec_capacity out.old }
     ensures items { out.new.items
         ≡ out.old.items ++ (packed_length title_len ++ packed_length bases) }
