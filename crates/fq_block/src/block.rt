@@ -107,8 +107,7 @@ impl Block {
             &mut self.names,
             pair,
             names,
-        )?;
-        Ok(())
+        )
     }
 
     /// How many pairs the block has.
