@@ -45,7 +45,8 @@ fn take_wait(rt: &impl Wait, rx: &mut Rx<u64>) -> Option<u64> {
     rx.take_wait(rt)
 }
 
-// In a new lane of one: by the calls that never wait, and by those that wait.
+// Each move wakes the other end in a new lane of one, by the calls that never wait and by those
+// that wait.
 fn assert_wakes<R: Abort + Wait>(rt: &R, tx: &mut Tx<u64>, rx: &mut Rx<u64>, parkers: &Parkers) {
     let spun = spun();
     assert!(rt; offers(tx, 1));
@@ -72,7 +73,7 @@ fn each_move_of_an_end_wakes_the_other(rt: HostRuntime) -> Result<(), Fail> {
     Ok(())
 }
 
-// In a new lane of two, which is filled and emptied.
+// Each move wakes the other end in a new lane of two, which is filled and emptied.
 fn assert_two_wake<R: Abort + Wait>(rt: &R, tx: &mut Tx<u64>, rx: &mut Rx<u64>, parkers: &Parkers) {
     let spun = spun();
     for n in 1..=2u64 {

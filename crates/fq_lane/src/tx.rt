@@ -144,9 +144,7 @@ impl<T: Drop> Tx<T> {
         let pushed = ring::push_mark(&mut producer);
         let finished = ring::finish(producer);
         pushed.wake_receiver(&parkers);
-        match finished {
-            Some(finished) => Ok(End { finished }),
-            None => Err(NotEnded { made_by_close: () }),
-        }
+        let finished = finished.ok_or(NotEnded { made_by_close: () })?;
+        Ok(End { finished })
     }
 }
