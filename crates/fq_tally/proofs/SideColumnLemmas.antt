@@ -9,7 +9,7 @@ use Rattle.fq_trim.specs.declared.trimming.Kept.{Kept}
 use Rattle.fq_trim.proofs.PlaceLemmas.{all_taken, all_dropped}
 use Rattle.fq_pair.specs.Outputs.{places_of}
 use Rattle.fq_tally.specs.declared.columns.Columns.{Columns}
-use Rattle.fq_tally.specs.Courses.{Part, part_at, whole}
+use Rattle.fq_tally.specs.Courses.{part_at, whole}
 use Rattle.fq_tally.specs.Columns.{columns_from, columns_of, columns_plus}
 use Rattle.fq_tally.specs.Parts.{AreBases}
 use Rattle.fq_tally.specs.SideColumns.{SideColumns, with_before, with_after, with_columns, side_columns_plus}

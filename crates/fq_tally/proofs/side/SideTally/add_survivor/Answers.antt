@@ -4,7 +4,6 @@ use Rattle.fq_trim.specs.declared.trimming.Kept.{Kept}
 use Rattle.fq_pair.specs.Outputs.{places_of}
 use Rattle.fq_pair.specs.Summaries.{capped_sum}
 use Rattle.fq_tally.specs.declared.bases.BaseTally.{BaseTally}
-use Rattle.fq_tally.specs.declared.reads.ReadsTally.{ReadsTally}
 use Rattle.fq_tally.specs.declared.side.SideTally.{SideTally}
 use Rattle.fq_tally.specs.Rows.{counted}
 use Rattle.fq_tally.specs.Courses.{part_at, whole}

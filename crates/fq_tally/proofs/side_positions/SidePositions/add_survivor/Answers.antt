@@ -1,4 +1,4 @@
-use Rattle.std.proofs.Common.{◌≡◌, ℕ, ◌-◌, Some, length, take, drop, ap, sym, ◌∙◌, arith}
+use Rattle.std.proofs.Common.{◌≡◌, ◌-◌, Some, length, take, drop, ap, sym, ◌∙◌, arith}
 use Rattle.fq_pair.specs.Outputs.{places_of}
 use Rattle.fq_tally.specs.declared.columns.Columns.{Columns}
 use Rattle.fq_tally.specs.Columns.{columns_from, columns_of}
