@@ -8,6 +8,10 @@ use Rattle.fq_text.specs.declared.fault.Fault.TheVariants as fault
 use Rattle.fq_text.specs.declared.fault.ReadError.{ReadError}
 use Rattle.fq_text.specs.declared.fault.ReadError.TheVariants as error
 
+-- the most bytes that a source asks for in one read call
+abbrev pub chunk_limit : ℕ
+chunk_limit = 1048576
+
 -- the most bytes that a feed gives: 2^40 read calls of 2^20 bytes each
 abbrev pub text_limit : ℕ
 text_limit = 2 ^ 60

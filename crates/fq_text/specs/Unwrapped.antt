@@ -3,9 +3,9 @@
 use Rattle.std.specs.Prelude.{◌≡◌, ℕ, ◌+◌, ◌-◌, ◌*◌, ◌<◌, ◌≤◌, ◌⊎◌, List, length, take, drop, slice_index}
 use Rattle.fq_text.specs.declared.encoding.Encoding.{Encoding}
 use Rattle.fq_text.specs.declared.unwrapped.Shape.{Shape}
-use Rattle.fq_text.specs.Lines.{without_cr}
+use Rattle.fq_text.specs.Lines.{line_feed, carriage_return, without_cr}
 use Rattle.fq_text.specs.Reading.{NoLf}
-use Rattle.fq_text.specs.Grammar.{Read, IsLawful}
+use Rattle.fq_text.specs.Grammar.{at_sign, plus_sign, Read, IsLawful}
 
 -- the record whose parts are in these bytes, which are the lines without the first `@`
 abbrev pub unwrapped : Encoding → Shape → List ℕ → Read
@@ -22,8 +22,8 @@ lines_len s = s.title + s.bases + s.bases + s.again + 3 * s.end + 2
 
 -- there is a line end of `end` bytes at this index
 pub record EndsAt (hand : List ℕ) (place end : ℕ) : Type 0 where
-  pub lf : slice_index hand (place + end - 1) ≡ 10
-  pub cr : (end ≡ 1) ⊎ (slice_index hand place ≡ 13)
+  pub lf : slice_index hand (place + end - 1) ≡ line_feed
+  pub cr : (end ≡ 1) ⊎ (slice_index hand place ≡ carriage_return)
 
 -- The first line of a text, and its end: LF, or CR and LF. If the end is LF alone, no CR is before
 -- it.
@@ -44,8 +44,8 @@ pub record DoLinesEnd (hand : List ℕ) (s : Shape) : Type 0 where
 -- `@`, `+`, the line ends and the text after the `+` are at the places of this shape
 pub record IsFourLines (hand : List ℕ) (s : Shape) : Type 0 where
   pub fits : s.title + s.bases + s.bases + s.again + 4 * s.end + 2 ≤ length hand
-  pub mark : slice_index hand 0 ≡ 64
-  pub plus : slice_index hand (s.title + s.bases + 2 * s.end + 1) ≡ 43
+  pub mark : slice_index hand 0 ≡ at_sign
+  pub plus : slice_index hand (s.title + s.bases + 2 * s.end + 1) ≡ plus_sign
   pub ends : DoLinesEnd hand s
   pub repeats : take s.again (drop (s.title + s.bases + 2 * s.end + 2) hand)
       ≡ take s.again (drop 1 hand)

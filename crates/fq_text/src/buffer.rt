@@ -2,7 +2,7 @@
 
 ghost use Rattle.std.specs.Prelude.{◌≡◌, ℕ, ◌+◌, ◌-◌, ◌<◌, ◌≤◌, [], length, take, drop, IfOk, OnOk, MatchResult};
 ghost use Rattle.fq_text.specs.Lines.{without_cr};
-ghost use Rattle.fq_text.specs.Reading.{Moved, MovesOr, fails};
+ghost use Rattle.fq_text.specs.Reading.{chunk_limit, Moved, MovesOr, fails};
 
 use crate::fault::ReadError;
 use crate::feed::Feed;
@@ -167,7 +167,7 @@ impl Buffer {
     ) -> Result<usize, ReadError>
         requires failures { (F.state feed.old).failures < u64.MAX }
         requires some { 0 < chunk }
-        requires small { chunk ≤ 1048576 }
+        requires small { chunk ≤ chunk_limit }
         ensures moved { MatchResult result
             (Moved F.state feed.old feed.new self.old.in_hand self.new.in_hand chunk)
             (MovesOr F.state feed.old feed.new self.old.in_hand self.new.in_hand) }

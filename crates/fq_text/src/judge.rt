@@ -2,7 +2,7 @@
 
 ghost use Rattle.std.specs.Prelude.{◌≡◌, ◌+◌, ◌<◌, ◌≤◌, ℕ, true, length};
 ghost use Rattle.std.specs.List.{list_all};
-ghost use Rattle.fq_text.specs.Grammar.{limit, is_base, begins_with as begins, title_fault as fault_of_title, sequence_fault as fault_of_sequence, plus_fault as fault_of_plus, quality_fault as fault_of_quality};
+ghost use Rattle.fq_text.specs.Grammar.{limit, plus_sign, is_base, begins_with as begins, title_fault as fault_of_title, sequence_fault as fault_of_sequence, plus_fault as fault_of_plus, quality_fault as fault_of_quality};
 
 use crate::encoding::Encoding;
 use crate::fault::Fault;
@@ -58,7 +58,7 @@ pub(crate) fn sequence_fault(bases: usize, line: &[u8]) -> Option<Fault>
 }
 
 pub(crate) fn plus_fault(title: &[u8], line: &[u8]) -> Option<Fault>
-    requires mark { begins 43 line.now ≡ true }
+    requires mark { begins plus_sign line.now ≡ true }
     requires line { length line.now ≤ limit }
     ensures { result ≡ fault_of_plus title.now line.now }
 {

@@ -3,7 +3,7 @@
 ghost use Rattle.std.specs.Prelude.{◌≡◌, ℕ, ◌+◌, ◌-◌, ◌*◌, ◌<◌, ◌≤◌, Bool, true, false, List, [], ◌∷◌, ◌++◌, length, take, drop, slice_index, IsTrue, Ok, Err, IfOk, IfErr, IfSome, OnOk, OnErr, is_ok, if◌then◌else◌, MatchResult};
 ghost use Rattle.fq_text.specs.Lines.{without_cr};
 ghost use Rattle.fq_text.specs.Grammar.{limit};
-ghost use Rattle.fq_text.specs.Reading.{Lined, IsSound, Reads, Advances, Halts, fails};
+ghost use Rattle.fq_text.specs.Reading.{chunk_limit, Lined, IsSound, Reads, Advances, Halts, fails};
 
 use crate::buffer::Buffer;
 use crate::fault::{Fault, ReadError};
@@ -27,7 +27,7 @@ pub(crate) struct LineReader<F: Feed> {
 
 impl<F: Feed> Model for LineReader<F> {
     ghost use Rattle.std.specs.Prelude.{◌≡◌, ◌*◌, ◌<◌, ◌≤◌, ◌^◌, [], IsTrue, false};
-    ghost use Rattle.fq_text.specs.Reading.{Lined};
+    ghost use Rattle.fq_text.specs.Reading.{chunk_limit, Lined};
 
     ghost Value = { Lined F };
 
@@ -41,7 +41,7 @@ impl<F: Feed> Model for LineReader<F> {
       max_reads = r.max_reads;
     } };
 
-    ghost invariant = { λ r. (0 < r.chunk) × (r.chunk ≤ 1048576) × (r.max_reads ≤ 2 ^ 40)
+    ghost invariant = { λ r. (0 < r.chunk) × (r.chunk ≤ chunk_limit) × (r.max_reads ≤ 2 ^ 40)
         × (r.reads ≤ r.max_reads) × (r.taken ≤ r.reads * r.chunk)
         × (r.ended ≡ false → r.reads ≤ r.taken)
         × (IsTrue r.ended → IsTrue (F.state r.feed).tells → (F.state r.feed).to_come ≡ []) };
@@ -55,7 +55,7 @@ impl<F: Feed> LineReader<F> {
     pub(crate) fn new(feed: F, buffer: Buffer, chunk: usize, max_reads: u64) -> LineReader<F>
         requires empty { buffer ≡ record { line = []; in_hand = [] } }
         requires some { 0 < chunk }
-        requires small { chunk ≤ 1048576 }
+        requires small { chunk ≤ chunk_limit }
         requires few { max_reads ≤ 2 ^ 40 }
         ensures { result ≡ record {
           feed = feed;
@@ -123,7 +123,7 @@ impl<F: Feed> LineReader<F> {
     fn fill(&mut self) -> Result<(), ReadError>
         requires failures { (F.state self.old.feed).failures < u64.MAX }
         requires going { self.old.ended ≡ false }
-        requires small { length self.old.in_hand ≤ 1048577 }
+        requires small { length self.old.in_hand ≤ limit + 1 }
         ensures fills { Fills F.state self.old self.new result }
         ensures sound { IsSound F.state self.new }
         ensures failures { (F.state self.new.feed).failures

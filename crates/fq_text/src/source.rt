@@ -43,7 +43,7 @@ impl<F: Feed> Model for Source<F> {
     ghost use Rattle.std.specs.Prelude.{◌≡◌, ◌+◌, ◌*◌, ◌<◌, ◌≤◌, ◌^◌, length, None, IfSome};
     ghost use Rattle.fq_text.specs.Sources.{Sourced};
     ghost use Rattle.fq_text.specs.Grammar.{IsLawful};
-    ghost use Rattle.fq_text.specs.Reading.{IsSound};
+    ghost use Rattle.fq_text.specs.Reading.{chunk_limit, IsSound};
     ghost use Rattle.fq_text.specs.Phases.{current_at, IsPlace};
 
     ghost Value = { Sourced F };
@@ -63,7 +63,7 @@ impl<F: Feed> Model for Source<F> {
 
     ghost invariant = { λ s. IsSound F.state s.lines
         × (s.given + length s.lines.in_hand ≤ s.lines.taken)
-        × (s.lines.chunk ≤ 1048576) × (s.lines.max_reads ≤ 2 ^ 40)
+        × (s.lines.chunk ≤ chunk_limit) × (s.lines.max_reads ≤ 2 ^ 40)
         × (s.last ≡ None → length s.lines.in_hand < s.lines.chunk)
         × (s.last ≡ None → (F.state s.lines.feed).failures ≡ 0)
         × IfSome s.place (IsPlace s.lines.line)
@@ -71,7 +71,7 @@ impl<F: Feed> Model for Source<F> {
 }
 
 impl<F: Feed> Source<F> {
-    ghost use Rattle.fq_text.specs.Reading.{text_limit};
+    ghost use Rattle.fq_text.specs.Reading.{chunk_limit, text_limit};
     ghost use Rattle.fq_text.specs.Grammar.{IsLawful};
     ghost use Rattle.fq_text.specs.declared.fault.TextFault.TheVariants.{OutOfMemory};
     ghost use Rattle.fq_text.specs.Sources.{Sourced, answer_of, more_of, KeepsCount, GivesRecord, EndsText, StopsText, failed_in};
@@ -86,7 +86,7 @@ impl<F: Feed> Source<F> {
         max_reads: u64,
     ) -> Result<Source<F>, NoSource<F>>
         requires some { 0 < chunk }
-        requires small { chunk ≤ 1048576 }
+        requires small { chunk ≤ chunk_limit }
         requires reads { 0 < max_reads }
         requires few { max_reads ≤ 2 ^ 40 }
         requires healthy { (F.state feed).failures ≡ 0 }

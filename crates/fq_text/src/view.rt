@@ -3,6 +3,7 @@
 ghost use Rattle.std.specs.Prelude.{true, ◌≡◌, ◌↔◌, ◌==◌, not, IsTrue};
 ghost use Rattle.std.specs.List.{list_all};
 ghost use Rattle.fq_text.specs.Grammar.{Read, IsLawful};
+ghost use Rattle.fq_text.specs.Lines.{line_feed};
 
 use crate::encoding::Encoding;
 use crate::judge::{LIMIT, all_bases, begins_with};
@@ -11,7 +12,7 @@ use std::marker::Model;
 
 // Whether a title is one line: it has no LF.
 fn is_one_line(title: &[u8]) -> bool
-    ensures { result ≡ list_all (λ b. not (b == 10)) title.now }
+    ensures { result ≡ list_all (λ b. not (b == line_feed)) title.now }
 {
     match memchr(b'\n', title) {
         None => true,
@@ -32,7 +33,7 @@ pub fn is_lawful(encoding: Encoding, title: &[u8], seq: &[u8], qual: &[u8]) -> b
 
 /// [`is_lawful`] for a title that is known to be one line.
 pub(crate) fn is_lawful_line(encoding: Encoding, title: &[u8], seq: &[u8], qual: &[u8]) -> bool
-    requires { list_all (λ b. not (b == 10)) title.now ≡ true }
+    requires { list_all (λ b. not (b == line_feed)) title.now ≡ true }
     ensures { IsTrue result ↔ IsLawful
         (record { encoding = encoding; title = title.now; seq = seq.now; qual = qual.now }) }
 {

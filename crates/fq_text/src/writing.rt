@@ -1,6 +1,8 @@
 //! Writes records.
 
 ghost use Rattle.std.specs.Prelude.{◌≡◌, ◌+◌, ◌≤◌, ◌++◌, ◌∷◌, [], length, min, OnOk, OnErr, IsOk, vec_len, vec_capacity};
+ghost use Rattle.fq_text.specs.Grammar.{at_sign, plus_sign};
+ghost use Rattle.fq_text.specs.Lines.{line_feed};
 ghost use Rattle.fq_text.specs.Written.{written, written_len, written_quality, CanRecode};
 
 use crate::encoding::Encoding;
@@ -71,7 +73,8 @@ pub fn append_record(
 fn append_head(out: &mut Vec<u8>, title: &[u8], seq: &[u8])
     requires { vec_len out.old + length title.now + length seq.now + 5 ≤ vec_capacity out.old }
     ensures items { out.new.items
-        ≡ out.old.items ++ (64 ∷ title.now ++ 10 ∷ seq.now ++ 10 ∷ 43 ∷ 10 ∷ []) }
+        ≡ out.old.items ++ (at_sign ∷ title.now ++ line_feed ∷ seq.now ++ line_feed ∷ plus_sign
+        ∷ line_feed ∷ []) }
     ensures capacity { vec_capacity out.old ≤ vec_capacity out.new }
 {
     out.push(b'@').unwrap();
