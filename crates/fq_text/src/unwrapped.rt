@@ -93,7 +93,7 @@ fn are_four_lines(hand: &[u8], shape: Shape) -> bool
 }
 
 // Whether these bytes begin with a valid record of this shape.
-fn stands_first(encoding: Encoding, hand: &[u8], shape: Shape) -> bool
+fn begins_with_record(encoding: Encoding, hand: &[u8], shape: Shape) -> bool
     requires shape { IsShape shape }
     requires title { IsFirstLine (drop 1 hand.now) shape.title shape.end }
     ensures { IsTrue result ↔ StandsFirst encoding hand.now shape }
@@ -135,7 +135,7 @@ fn shape_of(encoding: Encoding, hand: &[u8], title: FirstLine, bases: usize) -> 
         end,
         again: 0,
     };
-    if stands_first(encoding, hand, bare) {
+    if begins_with_record(encoding, hand, bare) {
         return Some(bare);
     }
     let titled = Shape {
@@ -144,7 +144,7 @@ fn shape_of(encoding: Encoding, hand: &[u8], title: FirstLine, bases: usize) -> 
         end,
         again: title,
     };
-    if stands_first(encoding, hand, titled) {
+    if begins_with_record(encoding, hand, titled) {
         Some(titled)
     } else {
         None

@@ -2,7 +2,7 @@ use Rattle.std.proofs.Common.{rules, ◌≡◌, ℕ, ◌+◌, ◌-◌, true, not
 use Rattle.std.specs.List.{list_all}
 use Rattle.fq_text.specs.Grammar.{IsLawful}
 use Rattle.fq_text.proofs.UnwrappedLemmas.{parts_of_hand, one_line_to}
-use Rattle.fq_text.proofs.unwrapped.stands_first.Goals as goal
+use Rattle.fq_text.proofs.unwrapped.begins_with_record.Goals as goal
 
 pub is_lawful_line-requires : goal.is_lawful_line-requires
 is_lawful_line-requires c =
