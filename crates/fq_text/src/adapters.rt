@@ -64,13 +64,11 @@ impl<R: Read> Feed for FromRead<R> {
         ensures reader { ReadConsumes (R.remaining self.old.inner)
             (R.remaining self.new.inner) result buf.new }
     {
-        match self.reader.read(buf) {
-            Ok(n) => Ok(n),
-            Err(_) => {
-                self.failed_reads += 1;
-                Err(FeedFailed)
-            }
-        }
+        let Ok(n) = self.reader.read(buf) else {
+            self.failed_reads += 1;
+            return Err(FeedFailed);
+        };
+        Ok(n)
     }
 
     fn failures(&self) -> u64 {
@@ -168,13 +166,11 @@ impl<W: Write> Outlet for FromWrite<W> {
         ensures writer { Keeps (W.contents self.old.inner) (W.contents self.new.inner) }
     {
         self.is_flushed = false;
-        match self.writer.flush() {
-            Ok(()) => {
-                self.is_flushed = true;
-                Ok(())
-            }
-            Err(_) => Err(self.fail()),
+        if self.writer.flush().is_err() {
+            return Err(self.fail());
         }
+        self.is_flushed = true;
+        Ok(())
     }
 
     fn failures(&self) -> u64 {

@@ -104,18 +104,18 @@ impl<F: Feed> Source<F> {
         }) }
         ensures err { IfErr result (λ refused. refused.feed ≡ feed) }
     {
-        match Buffer::new(alloc, chunk) {
-            Ok(buffer) => Ok(Source {
-                alloc,
-                encoding,
-                lines: LineReader::new(feed, buffer, chunk, max_reads),
-                parts: Parts::new(alloc, encoding),
-                place: None,
-                given: 0,
-                last: None,
-            }),
-            Err(_) => Err(NoSource { feed }),
-        }
+        let Ok(buffer) = Buffer::new(alloc, chunk) else {
+            return Err(NoSource { feed });
+        };
+        Ok(Source {
+            alloc,
+            encoding,
+            lines: LineReader::new(feed, buffer, chunk, max_reads),
+            parts: Parts::new(alloc, encoding),
+            place: None,
+            given: 0,
+            last: None,
+        })
     }
 
     /// Gives the feed back in its current state. Bytes that were read and not used yet are dropped.
@@ -182,8 +182,9 @@ impl<F: Feed> Source<F> {
         }
     }
 
-    /// Borrows the record in hand: there is one if [`advance`](Source::advance) has just returned
-    /// `true`, or [`next`](Source::next) a record.
+    /// Borrows the record in hand. There is one if [`advance`](Source::advance) or
+    /// [`next_into`](Source::next_into) has just returned `true`, or [`next`](Source::next) a
+    /// record.
     pub fn record(&self) -> ReadView<'_>
         requires { IsSome self.now.current }
         ensures record { self.now.current ≡ Some result }

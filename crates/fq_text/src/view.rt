@@ -14,10 +14,7 @@ use std::marker::Model;
 fn is_one_line(title: &[u8]) -> bool
     ensures { result ≡ list_all (λ b. not (b == line_feed)) title.now }
 {
-    match memchr(b'\n', title) {
-        None => true,
-        Some(_) => false,
-    }
+    memchr(b'\n', title).is_none()
 }
 
 /// Whether these parts make a valid record, one that a FASTQ text can hold. The title has no line

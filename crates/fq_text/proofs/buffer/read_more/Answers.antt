@@ -4,7 +4,7 @@ use Rattle.fq_text.proofs.ReadLemmas.{written_behind}
 use Rattle.fq_text.proofs.ResultLemmas.{cases_mapped}
 use Rattle.fq_text.proofs.buffer.read_more.Goals as goal
 
--- what stands before a place that was written from stays
+-- the first `filled` bytes stay the same when bytes are written after them
 unwritten : (grown wrote past other before : List ℕ) (filled room : ℕ) → take filled grown ≡ before → length before ≡ filled → filled ≤ room →
     take filled (take room (take filled grown ++ (wrote ++ past) ++ other)) ≡ before
 unwritten grown wrote past other before filled room is same within =

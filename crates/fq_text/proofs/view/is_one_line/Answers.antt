@@ -1,7 +1,9 @@
-use Rattle.std.proofs.Common.{◌≡◌, ℕ, suc, ◌<◌, ◌≤◌, true, not, eqb, List, [], ◌∷◌, length, get_or, refl, sym, arith, ⊎_elim}
+use Rattle.std.proofs.Common.{◌≡◌, ℕ, suc, ◌<◌, ◌≤◌, Bool, true, false, not, eqb, Option, Some, None, List, [], ◌∷◌, length, get_or, refl, sym, arith, ⊎_elim}
 use Rattle.std.specs.List.{list_all}
+use Rattle.std.specs.Option.{is_some}
 use Rattle.std.proofs.lemmas.Bool.{cases_Bool, and_from, not_from_false, not_from_true}
 use Rattle.std.proofs.lemmas.List.Folds.{list_all_at}
+use Rattle.memchr.specs.Find.{IsFirstByte, is_byte}
 use Rattle.fq_text.proofs.view.is_one_line.Goals as goal
 
 -- no byte is LF
@@ -12,10 +14,12 @@ without_lf (x ∷ xs) none = ⊎_elim
     (λ off. and_from _ _ (not_from_false _ off) (without_lf xs (λ k low lt. none (suc k) (omega arith) (omega arith))))
     (cases_Bool (eqb x 10))
 
-pub returns-in-None : goal.returns-in-None
-returns-in-None c = sym (without_lf c.args.title.now c.in-None.ensures)
+-- a search for LF finds none exactly if no byte is LF
+none_found : (xs : List ℕ) (at : Option ℕ) (none : Bool) → IsFirstByte (is_byte 10) xs at → is_some at ≡ not none → none ≡ list_all (λ b. not (eqb b 10)) xs
+none_found xs None true found is = sym (without_lf xs found)
+none_found xs None false found is = cc
+none_found xs (Some k) true found is = cc
+none_found xs (Some k) false found is = sym (list_all_at (λ b. not (eqb b 10)) xs k 0 found.0.high (not_from_true _ found.1))
 
-pub returns-in-Some : goal.returns-in-Some
-returns-in-Some c =
-    let found = c.in-Some.ensures in
-    sym (list_all_at (λ b. not (eqb b 10)) c.args.title.now c.in-Some.field-0 0 found.0.high (not_from_true _ found.1))
+pub returns : goal.returns
+returns c = none_found c.args.title.now c.memchr.result c.is_none.result c.memchr.ensures c.is_none.ensures
