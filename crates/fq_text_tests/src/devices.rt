@@ -54,7 +54,7 @@ fn no_bytes_make_no_write(rt: HostRuntime) {
 }
 
 #[test]
-fn a_flush_fails_where_it_is_told_to(rt: HostRuntime) {
+fn a_flush_fails_if_it_should(rt: HostRuntime) {
     let mut outlet = ScriptOutlet::new(rt.alloc(), 1, 0, true);
     assert_answer(&rt, &mut outlet, Asked::Flush(Err(OutletFailed)), 1);
     let mut outlet = ScriptOutlet::new(rt.alloc(), 1, 0, false);

@@ -2,6 +2,7 @@
 //! test is proved without what it does not need.
 
 ghost use Rattle.std.specs.Prelude.{◌<◌, ◌≤◌};
+ghost use Rattle.fq_text.specs.Reading.{chunk_limit};
 
 use fq_text::*;
 use std::alloc::Global;
@@ -21,7 +22,7 @@ pub fn source(
 ) -> Result<InMemory, Fail>
     requires cut { 0 < cut }
     requires some { 0 < chunk }
-    requires small { chunk ≤ 1048576 }
+    requires small { chunk ≤ chunk_limit }
 {
     let feed = ScriptFeed::new(alloc, text, cut, 0)?;
     match Source::new(alloc, feed, encoding, chunk, LONG) {

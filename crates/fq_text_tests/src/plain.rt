@@ -2,6 +2,7 @@
 //! compare the streaming reader with.
 
 ghost use Rattle.std.specs.Prelude.{◌<◌, ◌≤◌};
+ghost use Rattle.fq_text.specs.Reading.{chunk_limit};
 
 use super::frame::{InMemory, ends, faults, next, source};
 use fq_text::*;
@@ -48,11 +49,11 @@ fn without_cr(mut line: Vec<u8>) -> Vec<u8> {
     line
 }
 
-fn begins(line: &Vec<u8>, mark: u8) -> bool {
+fn begins(line: &[u8], mark: u8) -> bool {
     line.first() == Some(&mark)
 }
 
-fn title_fault(title: &Vec<u8>, k: u64) -> Option<TextFault> {
+fn title_fault(title: &[u8], k: u64) -> Option<TextFault> {
     if title.len() > LIMIT {
         return Some(TextFault::TooLong(k));
     }
@@ -63,11 +64,11 @@ fn title_fault(title: &Vec<u8>, k: u64) -> Option<TextFault> {
 }
 
 // The text after the first byte of a title line or a plus line.
-fn name(line: &Vec<u8>) -> &[u8] {
+fn name(line: &[u8]) -> &[u8] {
     line.get(1..).unwrap_or(&[])
 }
 
-fn plus_fault(title: &Vec<u8>, plus: &Vec<u8>, k: u64) -> Option<TextFault> {
+fn plus_fault(title: &[u8], plus: &[u8], k: u64) -> Option<TextFault> {
     if plus.len() > LIMIT {
         return Some(TextFault::TooLong(k));
     }
@@ -78,11 +79,11 @@ fn plus_fault(title: &Vec<u8>, plus: &Vec<u8>, k: u64) -> Option<TextFault> {
 }
 
 // Whether a byte is below `lowest` or above `~`.
-fn has_byte_outside(line: &Vec<u8>, lowest: u8) -> bool {
+fn has_byte_outside(line: &[u8], lowest: u8) -> bool {
     line.iter().any(|byte| *byte < lowest || *byte > 126)
 }
 
-fn sequence_fault(line: &Vec<u8>, before: usize, k: u64) -> Option<TextFault> {
+fn sequence_fault(line: &[u8], before: usize, k: u64) -> Option<TextFault> {
     if line.len() > LIMIT {
         return Some(TextFault::TooLong(k));
     }
@@ -100,7 +101,7 @@ fn sequence_fault(line: &Vec<u8>, before: usize, k: u64) -> Option<TextFault> {
 
 fn quality_fault(
     encoding: Encoding,
-    line: &Vec<u8>,
+    line: &[u8],
     before: usize,
     bases: usize,
     k: u64,
@@ -293,7 +294,7 @@ fn same(
     chunk: usize,
 ) -> Result<usize, Fail>
     requires some { 0 < chunk }
-    requires small { chunk ≤ 1048576 }
+    requires small { chunk ≤ chunk_limit }
 {
     let lines = lines(alloc, text)?;
     let mut source = source(alloc, text, encoding, 1 << 20, chunk)?;
