@@ -65,9 +65,17 @@ pub record IsBetween (test : ℕ → Bool) (n lo hi : ℕ) : Type 0 where
   pub inside : (k : ℕ) → lo ≤ k → k < hi → test k ≡ true
   pub behind : (k : ℕ) → hi ≤ k → k < n → test k ≡ false
 
+-- the most steps of a list
+abbrev pub most_steps : ℕ
+most_steps = 64
+
+-- the largest number of a step: the largest of 9 digits
+abbrev pub largest_number : ℕ
+largest_number = 999999999
+
 -- a number of a step is within the limit
 abbrev pub is_small : ℕ → Bool
-is_small m = nat_le m 999999999
+is_small m = nat_le m largest_number
 
 -- the numbers of a step are within the limit, and a window has at least one base
 abbrev pub is_in_range : Step → Bool

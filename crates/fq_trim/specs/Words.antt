@@ -6,6 +6,7 @@ use Rattle.std.specs.Cmp.Lexicographic.{pointwise}
 use Rattle.std.specs.Char.{is_ascii_digit}
 use Rattle.std.specs.Str.{bytes_eq}
 use denote.Ref.{Bor}
+use Rattle.fq_trim.specs.Keeping.{most_steps}
 use Rattle.fq_trim.specs.declared.step.Step.{Step}
 use Rattle.fq_trim.specs.declared.step.Step.TheVariants.{Leading, Trailing, Crop, HeadCrop, SlidingWindow, AverageQuality, MinLen, ToPhred33}
 use Rattle.fq_trim.specs.declared.fault.StepFault.{StepFault}
@@ -96,11 +97,12 @@ abbrev pub steps_from : ℕ → List (List ℕ) → Result (List Step) StepFault
 steps_from place [] = Ok []
 steps_from place (word ∷ words) = put_before place (step_of word) (steps_from (suc place) words)
 
--- the steps that 1 to 64 arguments name, or the first fault
+-- the steps that 1 to `most_steps` arguments name, or the first fault
 abbrev pub steps_of : List (List ℕ) → Result (List Step) StepFault
 steps_of words =
     if length words == 0 then Err (record { place = 0; kind = NoSteps })
-    else (if nat_lt 64 (length words) then Err (record { place = 65; kind = TooMany })
+    else (if nat_lt most_steps (length words)
+    then Err (record { place = most_steps + 1; kind = TooMany })
     else steps_from 1 words)
 
 -- the first faulty argument has this number, counted from 1, and `kind` is its first fault
@@ -114,5 +116,5 @@ pub record IsFirstFault (kind : StepFaultKind) (place : ℕ) (words : List (List
 -- the first faulty one
 pub record IsFault (kind : StepFaultKind) (place : ℕ) (words : List (List ℕ)) : Type 0 where
   pub none : length words ≡ 0 → (kind ≡ NoSteps) × (place ≡ 0)
-  pub many : 64 < length words → (kind ≡ TooMany) × (place ≡ 65)
-  pub first : 0 < length words → length words ≤ 64 → IsFirstFault kind place words
+  pub many : most_steps < length words → (kind ≡ TooMany) × (place ≡ most_steps + 1)
+  pub first : 0 < length words → length words ≤ most_steps → IsFirstFault kind place words

@@ -32,6 +32,7 @@ impl Model for Steps {
 
     ghost Value = { List Step };
 
+    ghost use Rattle.fq_trim.specs.Keeping.{most_steps};
     ghost use Rattle.fq_trim.specs.Steps.{IsHeld, inverse_view};
 
     ghost view = { λ s. take s.count s.held };
@@ -39,7 +40,7 @@ impl Model for Steps {
     ghost invariant = { λ s. IsHeld s.held s.count };
 
     ghost inverse = { λ steps. record {
-      held = steps ++ replicate (64 - length steps) ToPhred33;
+      held = steps ++ replicate (most_steps - length steps) ToPhred33;
       count = length steps;
     } };
 
@@ -47,7 +48,7 @@ impl Model for Steps {
 }
 
 impl Steps {
-    ghost use Rattle.fq_trim.specs.Keeping.{kept, only, scores, places, recodes, is_in_range};
+    ghost use Rattle.fq_trim.specs.Keeping.{kept, only, scores, places, recodes, is_in_range, most_steps};
     ghost use Rattle.fq_trim.specs.Words.{step_of, steps_of, IsFault};
 
     /// Reads a list of steps, one from each of `words` (command-line arguments), in their order. It
@@ -102,7 +103,7 @@ impl Steps {
     pub fn as_slice(&self) -> &[Step]
         ensures steps { result.now ≡ self.now }
         ensures some { 0 < length self.now }
-        ensures few { length self.now ≤ 64 }
+        ensures few { length self.now ≤ most_steps }
         ensures in_range { list_all is_in_range self.now ≡ true }
     {
         &self.held[..self.count]

@@ -3,7 +3,7 @@
 ghost use Rattle.std.specs.Prelude.{true, ◌≡◌, ◌∷◌, [], ◌≤◌, IfOk, slice_index, if◌then◌else◌};
 ghost use Rattle.std.specs.Char.{is_ascii_digit};
 ghost use Rattle.std.specs.List.{list_all};
-ghost use Rattle.fq_trim.specs.Keeping.{is_in_range};
+ghost use Rattle.fq_trim.specs.Keeping.{is_in_range, largest_number};
 ghost use Rattle.fq_trim.specs.Words.{pieces, pieces_in, is_number, number_of, numbers_of, result_map, step_of, step_of_kind, kind_of};
 ghost use Rattle.fq_trim.specs.declared.step.Step.TheVariants.{SlidingWindow};
 
@@ -54,7 +54,7 @@ fn parse_step(name: &str, numbers: Option<&str>) -> Result<Step, StepFaultKind>
 fn one_number(numbers: Option<&str>) -> Result<u32, StepFaultKind>
     ensures value { result ≡ result_map (λ values. slice_index values 0)
         (numbers_of (0 ∷ []) (pieces_in numbers.entry)) }
-    ensures small { IfOk result (λ n. n ≤ 999999999) }
+    ensures small { IfOk result (λ n. n ≤ largest_number) }
 {
     let Some(text) = numbers else {
         return Err(StepFaultKind::WrongCount);
@@ -96,7 +96,7 @@ fn sliding_window(numbers: Option<&str>) -> Result<Step, StepFaultKind>
 fn number(piece: &str) -> Result<u32, StepFaultKind>
     ensures value { result
         ≡ (if is_number piece.now then Ok (number_of piece.now) else Err StepFaultKind.BadNumber) }
-    ensures small { IfOk result (λ n. n ≤ 999999999) }
+    ensures small { IfOk result (λ n. n ≤ largest_number) }
 {
     if has_number(piece) {
         piece.parse().map_err(|_| StepFaultKind::BadNumber)
