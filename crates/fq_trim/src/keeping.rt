@@ -6,7 +6,7 @@ ghost use Rattle.fq_text.specs.Scores.{is_scored};
 ghost use Rattle.fq_trim.specs.Keeping.{scores, keeps, IsBetween, is_in_range};
 ghost use Rattle.fq_trim.specs.declared.step.Step.TheVariants.{Leading, Trailing, Crop, HeadCrop, SlidingWindow, AverageQuality, MinLen};
 
-use crate::low_end::behind_last;
+use crate::low_end::after_last;
 use crate::scoring::total_of;
 use crate::step::Step;
 use crate::windows::good_stop;
@@ -86,7 +86,7 @@ fn trailing(encoding: Encoding, score: u32, qual: &[u8]) -> Span
     ensures { IsBetween (keeps (Trailing score) (scores encoding qual.now))
         (length qual.now) result.start result.stop }
 {
-    stop_at(behind_last(encoding, score, qual))
+    stop_at(after_last(encoding, score, qual))
 }
 
 // The first bases.
@@ -122,7 +122,7 @@ fn sliding_window(encoding: Encoding, width: u32, score: u32, qual: &[u8]) -> Sp
     if good < width {
         return stop_at(0);
     }
-    stop_at(behind_last(encoding, score, &qual[..good]))
+    stop_at(after_last(encoding, score, &qual[..good]))
 }
 
 // All bases if the scores sum to at least `score` times their number, otherwise none.

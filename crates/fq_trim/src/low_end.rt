@@ -15,7 +15,7 @@ const TOGETHER: usize = 16;
 
 /// The index after the last base with a score of at least `score`, or 0 if there is none.
 #[inline(always)]
-pub(crate) fn behind_last(encoding: Encoding, score: u32, qual: &[u8]) -> usize
+pub(crate) fn after_last(encoding: Encoding, score: u32, qual: &[u8]) -> usize
     requires { list_all (is_scored encoding) qual.now ≡ true }
     ensures within { result ≤ length qual.now }
     ensures high { 0 < result → score ≤ slice_index (scores encoding qual.now) (result - 1) }
@@ -44,7 +44,7 @@ fn low_from(offset: u8, score: u8, qual: &[u8]) -> usize
 {
     let mut stop = qual.len();
     while TOGETHER <= stop {
-        let low = low_behind(
+        let low = low_after(
             less_16(u8x16::from_slice(&qual[stop - TOGETHER..]), offset),
             score,
         );
@@ -58,7 +58,7 @@ fn low_from(offset: u8, score: u8, qual: &[u8]) -> usize
 
 // How many scores are after the last that is at least `score`.
 #[inline(always)]
-fn low_behind(scores: u8x16, score: u8) -> usize
+fn low_after(scores: u8x16, score: u8) -> usize
     ensures { IsLowEnd score scores result }
 {
     let high = turned(scores).simd_ge(u8x16::splat(score)).to_bitmask();

@@ -46,9 +46,9 @@ pub(crate) fn good_stop(encoding: Encoding, width: usize, score: u32, qual: &[u8
 #[inline(always)]
 fn stop_together(offset: u8, width: usize, score: u8, least: u8, qual: &[u8]) -> usize
     requires window { 0 < width }
-    requires narrow { width ≤ 16 }
+    requires narrow { width ≤ WIDEST }
     requires least { least ≡ width * score }
-    requires fits { width + 32 ≤ length qual.now + 1 }
+    requires fits { width + TOGETHER ≤ length qual.now + 1 }
     ensures { IsGoodStop width least (distances offset qual.now) result }
 {
     let last = qual.len() - width;
@@ -79,14 +79,14 @@ fn pass_good(
     qual: &[u8],
 ) -> Result<usize, usize>
     requires window { 0 < width }
-    requires narrow { width ≤ 16 }
+    requires narrow { width ≤ WIDEST }
     requires least { least ≡ width * score }
-    requires fits { start + 32 ≤ length qual.now }
-    requires long { width + 32 ≤ length qual.now + 1 }
+    requires fits { start + TOGETHER ≤ length qual.now }
+    requires long { width + TOGETHER ≤ length qual.now + 1 }
     requires good { (s : ℕ) → s < start
         → least ≤ sum (take width (drop s (distances offset qual.now))) }
     ensures next { IfOk result (λ next. (start < next)
-        × (length qual.now ≤ start + 32 → length qual.now < next + width)
+        × (length qual.now ≤ start + TOGETHER → length qual.now < next + width)
         × ((s : ℕ) → s < next → least ≤ sum (take width (drop s (distances offset qual.now))))) }
     ensures stop { IfErr result (λ stop. IsGoodStop width least (distances offset qual.now) stop) }
 {
@@ -105,8 +105,8 @@ fn pass_good(
 // apart, only the lower is compared.
 #[inline(always)]
 fn are_all_high(offset: u8, score: u8, qual: &[u8]) -> bool
-    requires long { 32 ≤ length qual.now }
-    ensures { result ≡ list_all (nat_le score) (take 32 (distances offset qual.now)) }
+    requires long { TOGETHER ≤ length qual.now }
+    ensures { result ≡ list_all (nat_le score) (take TOGETHER (distances offset qual.now)) }
 {
     let lower = lower_of(u8x16::from_slice(qual), u8x16::from_slice(&qual[16..]));
     are_at_least(score, less_16(lower, offset))
@@ -132,9 +132,9 @@ fn are_at_least(score: u8, scores: u8x16) -> bool
 // saturate at 255.
 #[inline(always)]
 fn sums_of(offset: u8, width: usize, qual: &[u8]) -> u8x32
-    requires fits { width + 32 ≤ length qual.now + 1 }
-    ensures long { length result ≡ 32 }
-    ensures each { (k : ℕ) → k < 32 → slice_index result k
+    requires fits { width + TOGETHER ≤ length qual.now + 1 }
+    ensures long { length result ≡ TOGETHER }
+    ensures each { (k : ℕ) → k < TOGETHER → slice_index result k
         ≡ min 255 (sum (take width (drop k (distances offset qual.now)))) }
 {
     let mut sums = u8x32::splat(0);

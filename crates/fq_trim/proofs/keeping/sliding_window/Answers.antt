@@ -19,15 +19,15 @@ returns-then-good-width c =
     let bad = found.bad (omega arith) in
     rw c.stop_at-then-good-width.ensures (subst (λ n. IsBetween (keeps (SlidingWindow w c.args.score) q) n 0 0) len (window_bad w c.args.score q (omega arith)))
 
-pub behind_last-requires : goal.behind_last-requires
-behind_last-requires c = all_taken (is_scored c.args.encoding) c.args.qual.now c.good_stop-good.result c.requires.scored
+pub after_last-requires : goal.after_last-requires
+after_last-requires c = all_taken (is_scored c.args.encoding) c.args.qual.now c.good_stop-good.result c.requires.scored
 
 pub returns : goal.returns
 returns c =
     let found = c.good_stop-good.ensures in
     let long = c.if-qual-width.false in
     let some = c.if-good-width.false in
-    let last = c.behind_last.ensures in
+    let last = c.after_last.ensures in
     let len = length-scores c.args.encoding c.args.qual.now in
     let within = found.within in
-    rw c.stop_at-2.ensures (window_scores c.args.encoding c.args.qual.now c.args.width c.args.score _ c.good_stop-good.result c.behind_last.result refl c.requires.window (omega arith) (omega arith) (omega arith) last.within found.good (λ lt. found.bad (omega arith)) last.high last.low)
+    rw c.stop_at-2.ensures (window_scores c.args.encoding c.args.qual.now c.args.width c.args.score _ c.good_stop-good.result c.after_last.result refl c.requires.window (omega arith) (omega arith) (omega arith) last.within found.good (λ lt. found.bad (omega arith)) last.high last.low)

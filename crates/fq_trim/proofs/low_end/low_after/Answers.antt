@@ -4,7 +4,7 @@ use lib.Count.{count_trailing_zeros}
 use lib.Lanes.{mask_l}
 use Rattle.fq_text.proofs.VectorLemmas.{flag, mask_of}
 use Rattle.fq_trim.proofs.LowEndLemmas.{few, low}
-use Rattle.fq_trim.proofs.low_end.low_behind.Goals as goal
+use Rattle.fq_trim.proofs.low_end.low_after.Goals as goal
 
 pub returns-then-high-eq0 : goal.returns-then-high-eq0
 returns-then-high-eq0 c =

@@ -1,6 +1,6 @@
 use Rattle.std.proofs.Common.{ℕ, ◌<◌, ◌≤◌, length, get_or}
 use Rattle.fq_trim.specs.Keeping.{scores}
-use Rattle.fq_trim.proofs.low_end.behind_last.Given as goal
+use Rattle.fq_trim.proofs.low_end.after_last.Given as goal
 
 -- no score from index i on is high enough
 abbrev pub invariant-loop-i : goal.invariant-loop-i
