@@ -19,7 +19,11 @@ pub record IsFirstBelow (least : ℕ) (sums : List ℕ) (count : ℕ) : Type 0 w
   pub good : (k : ℕ) → k < count → least ≤ slice_index sums k
   pub bad : count < length sums → slice_index sums count < least
 
--- the last `count` of 16 scores are less than `score`
+-- how many scores a vector holds where the end of a read is searched
+abbrev pub vector_scores : ℕ
+vector_scores = 16
+
+-- the last `count` scores of a vector are less than `score`
 pub record IsLowEnd (score : ℕ) (q : List ℕ) (count : ℕ) : Type 0 where
-  pub within : count ≤ 16
-  pub low : (k : ℕ) → 16 ≤ k + count → k < 16 → slice_index q k < score
+  pub within : count ≤ vector_scores
+  pub low : (k : ℕ) → vector_scores ≤ k + count → k < vector_scores → slice_index q k < score

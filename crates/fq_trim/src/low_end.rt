@@ -72,8 +72,9 @@ fn low_after(scores: u8x16, score: u8) -> usize
 // The scores in reverse order.
 #[inline(always)]
 fn turned(scores: u8x16) -> u8x16
-    ensures long { length result ≡ 16 }
-    ensures each { (k : ℕ) → k < 16 → slice_index result k ≡ slice_index scores (15 - k) }
+    ensures long { length result ≡ TOGETHER }
+    ensures each { (k : ℕ) → k < TOGETHER
+        → slice_index result k ≡ slice_index scores (TOGETHER - 1 - k) }
 {
     scores.reverse()
 }
