@@ -18,24 +18,6 @@ use Rattle.fq_text.proofs.LineLemmas.{whole_to, without_cr_yes, without_cr_no}
 use Rattle.fq_text.proofs.AdvanceLemmas.{behind_line, behind_reads, reads_none}
 use Rattle.fq_text.proofs.WrittenLemmas.{Ends, ends_in_lf, ends_in_cr_lf, four, AreItsLines, clean_bases, plain_bases, plain_behind, quals_are_bases, found_first}
 
--- the parts by their offsets in the bytes in hand
-pub parts_of_hand : (encoding : Encoding) (hand : List ℕ) (s : Shape) → let t = s.title in let n = s.bases in let a = s.again in let e = s.end in
-    record { encoding = encoding; title = take (t + 1 - 1) (drop 1 hand); seq = take (t + e + 1 + n - (t + e + 1)) (drop (t + e + 1) hand); qual = take (t + n + a + 3 * e + 2 + n - (t + n + a + 3 * e + 2)) (drop (t + n + a + 3 * e + 2) hand) }
-    ≡ unwrapped encoding s (drop 1 hand)
-parts_of_hand encoding hand s =
-    let t = s.title in
-    let n = s.bases in
-    let a = s.again in
-    let e = s.end in
-    let title : t + 1 - 1 ≡ t = omega arith in
-    let bases : t + e + 1 + n - (t + e + 1) ≡ n = omega arith in
-    let scores : t + n + a + 3 * e + 2 + n - (t + n + a + 3 * e + 2) ≡ n = omega arith in
-    let j : 1 + (t + e) ≡ t + e + 1 = omega arith in
-    let k : 1 + (t + n + a + 3 * e + 1) ≡ t + n + a + 3 * e + 2 = omega arith in
-    let seq = drop-drop (t + e) 1 hand ∙ ap (λ m. drop m hand) j in
-    let qual = drop-drop (t + n + a + 3 * e + 1) 1 hand ∙ ap (λ m. drop m hand) k in
-    cc
-
 one_at : (xs : List ℕ) (i b : ℕ) → i < length xs → get_or xs i 0 ≡ b → take 1 (drop i xs) ≡ b ∷ []
 one_at [] i b lt is = absurd (omega arith)
 one_at (x ∷ xs) zero b lt is = ap (λ y. y ∷ []) is

@@ -92,11 +92,17 @@ fn are_four_lines(hand: &[u8], shape: Shape) -> bool
         && repeats(hand, plus + 1, again)
 }
 
-// Whether these bytes begin with a valid record of this shape.
-fn begins_with_record(encoding: Encoding, hand: &[u8], shape: Shape) -> bool
-    requires shape { IsShape shape }
-    requires title { IsFirstLine (drop 1 hand.now) shape.title shape.end }
-    ensures { IsTrue result ↔ StandsFirst encoding hand.now shape }
+// The title, the sequence and the quality in four lines of this shape. The last line needs no line
+// end.
+#[inline(always)]
+fn parts_of(lines: &[u8], shape: Shape) -> (&[u8], &[u8], &[u8])
+    requires { lines_len shape ≤ length lines.now }
+    ensures { (encoding : Encoding) → unwrapped encoding shape (drop 1 lines.now) ≡ record {
+      encoding = encoding;
+      title = result.0.now;
+      seq = result.1.now;
+      qual = result.2.now;
+    } }
 {
     let Shape {
         title,
@@ -104,17 +110,30 @@ fn begins_with_record(encoding: Encoding, hand: &[u8], shape: Shape) -> bool
         end,
         again,
     } = shape;
-    if title >= LIMIT || bases == 0 || bases > LIMIT || !are_four_lines(hand, shape) {
-        return false;
-    }
     let seq = title + end + 1;
     let qual = title + bases + again + 3 * end + 2;
-    is_lawful_line(
-        encoding,
-        &hand[1..title + 1],
-        &hand[seq..seq + bases],
-        &hand[qual..qual + bases],
+    (
+        &lines[1..title + 1],
+        &lines[seq..seq + bases],
+        &lines[qual..qual + bases],
     )
+}
+
+// Whether these bytes begin with a valid record of this shape.
+fn begins_with_record(encoding: Encoding, hand: &[u8], shape: Shape) -> bool
+    requires shape { IsShape shape }
+    requires title { IsFirstLine (drop 1 hand.now) shape.title shape.end }
+    ensures { IsTrue result ↔ StandsFirst encoding hand.now shape }
+{
+    if shape.title >= LIMIT
+        || shape.bases == 0
+        || shape.bases > LIMIT
+        || !are_four_lines(hand, shape)
+    {
+        return false;
+    }
+    let (title, seq, qual) = parts_of(hand, shape);
+    is_lawful_line(encoding, title, seq, qual)
 }
 
 // The shape of the record that these bytes begin with, if it has this title and `bases` bases.
@@ -204,18 +223,6 @@ pub(crate) fn view_of(encoding: Encoding, lines: &[u8], shape: Shape) -> ReadVie
     requires whole { lines_len shape ≤ length lines.now }
     ensures { result ≡ unwrapped encoding shape (drop 1 lines.now) }
 {
-    let Shape {
-        title,
-        bases,
-        end,
-        again,
-    } = shape;
-    let seq = title + end + 1;
-    let qual = title + bases + again + 3 * end + 2;
-    ReadView::new(
-        encoding,
-        &lines[1..title + 1],
-        &lines[seq..seq + bases],
-        &lines[qual..qual + bases],
-    )
+    let (title, seq, qual) = parts_of(lines, shape);
+    ReadView::new(encoding, title, seq, qual)
 }
