@@ -82,8 +82,7 @@ module _ (encoding : Encoding) (hand : List ℕ) (s : Shape) (p : IsFourLines ha
       let third : take (a + e + 1) (drop (t + n + 2 * e + 1) hand) ≡ (43 ∷ take a (drop (t + n + 2 * e + 1 + 1) hand)) ++ end =
       marked_at hand (t + n + 2 * e + 1) 43 a (t + n + a + 2 * e + 2) e (a + e + 1) is p.plus (omega arith) (omega arith) (omega arith) p.ends.plus in
       let fourth : take (n + e) (drop (t + n + a + 3 * e + 2) hand) ≡ qual ++ end = line_at hand (t + n + a + 3 * e + 2) n (t + n + n + a + 3 * e + 2) e (n + e) is (omega arith) refl (omega arith) p.ends.qual in
-      let behind : t + n + 2 * e + 1 + 1 ≡ t + n + 2 * e + 2 = omega arith in
-      let again : take a (drop (t + n + 2 * e + 1 + 1) hand) ≡ take a (drop 1 hand) = ap (λ m. take a (drop m hand)) behind ∙ p.repeats in
+      let again : take a (drop (t + n + 2 * e + 1 + 1) hand) ≡ take a (drop 1 hand) = p.repeats in
       let from_third : take (a + n + 2 * e + 1) (drop (t + n + 2 * e + 1) hand) ≡ ((43 ∷ take a (drop 1 hand)) ++ end) ++ (qual ++ end) =
       parted hand (t + n + 2 * e + 1) (t + n + a + 3 * e + 2) (a + e + 1) (n + e) (a + n + 2 * e + 1) (omega arith) (omega arith)
       ∙ ap (λ ys. ys ++ take (n + e) (drop (t + n + a + 3 * e + 2) hand)) (third ∙ ap (λ ys. (43 ∷ ys) ++ end) again)

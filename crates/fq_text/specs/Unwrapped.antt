@@ -20,6 +20,10 @@ unwrapped encoding s bytes = record {
 abbrev pub lines_len : Shape → ℕ
 lines_len s = s.title + s.bases + s.bases + s.again + 3 * s.end + 2
 
+-- where its third line begins, with the `+`
+abbrev pub plus_place : Shape → ℕ
+plus_place s = s.title + s.bases + 2 * s.end + 1
+
 -- there is a line end of `end` bytes at this index
 pub record EndsAt (hand : List ℕ) (place end : ℕ) : Type 0 where
   pub lf : slice_index hand (place + end - 1) ≡ line_feed
@@ -39,16 +43,15 @@ pub record DoLinesEnd (hand : List ℕ) (s : Shape) : Type 0 where
   pub title : EndsAt hand (s.title + 1) s.end
   pub seq : EndsAt hand (s.title + s.bases + s.end + 1) s.end
   pub plus : EndsAt hand (s.title + s.bases + s.again + 2 * s.end + 2) s.end
-  pub qual : EndsAt hand (s.title + s.bases + s.bases + s.again + 3 * s.end + 2) s.end
+  pub qual : EndsAt hand (lines_len s) s.end
 
 -- `@`, `+`, the line ends and the text after the `+` are at the places of this shape
 pub record IsFourLines (hand : List ℕ) (s : Shape) : Type 0 where
-  pub fits : s.title + s.bases + s.bases + s.again + 4 * s.end + 2 ≤ length hand
+  pub fits : lines_len s + s.end ≤ length hand
   pub mark : slice_index hand 0 ≡ at_sign
-  pub plus : slice_index hand (s.title + s.bases + 2 * s.end + 1) ≡ plus_sign
+  pub plus : slice_index hand (plus_place s) ≡ plus_sign
   pub ends : DoLinesEnd hand s
-  pub repeats : take s.again (drop (s.title + s.bases + 2 * s.end + 2) hand)
-      ≡ take s.again (drop 1 hand)
+  pub repeats : take s.again (drop (plus_place s + 1) hand) ≡ take s.again (drop 1 hand)
 
 -- a shape that four lines can have: all end alike
 pub record IsShape (s : Shape) : Type 0 where

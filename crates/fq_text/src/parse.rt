@@ -127,7 +127,7 @@ fn take_in_hand<F: Feed>(
 {
     let hand = lines.hand();
     let shape = first_record(encoding, hand, guess)?;
-    let len = shape.title + shape.bases + shape.bases + shape.again + 3 * shape.end + 2;
+    let len = shape.lines_len();
     lines.take_line(len, len + shape.end);
     Some(shape)
 }

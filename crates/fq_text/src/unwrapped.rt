@@ -4,7 +4,7 @@
 ghost use Rattle.std.specs.Prelude.{◌≡◌, ◌↔◌, ◌+◌, ◌*◌, ◌-◌, ◌≤◌, ◌⊎◌, ℕ, None, take, drop, length, slice_index, IsTrue, IfSome};
 ghost use Rattle.fq_text.specs.Grammar.{limit, IsLawful};
 ghost use Rattle.fq_text.specs.Reading.{NoLf, IsLineEnd};
-ghost use Rattle.fq_text.specs.Unwrapped.{unwrapped, lines_len, EndsAt, IsFirstLine, DoLinesEnd, IsFourLines, IsShape, StandsFirst};
+ghost use Rattle.fq_text.specs.Unwrapped.{unwrapped, lines_len, plus_place, EndsAt, IsFirstLine, DoLinesEnd, IsFourLines, IsShape, StandsFirst};
 ghost use Rattle.fq_text.specs.declared.unwrapped.Shape.{Shape};
 
 use crate::encoding::Encoding;
@@ -21,6 +21,26 @@ pub(crate) struct Shape {
     pub(crate) bases: usize,
     pub(crate) end: usize,
     pub(crate) again: usize,
+}
+
+impl Shape {
+    /// The length of the four lines without the last line end.
+    #[inline(always)]
+    pub(crate) fn lines_len(self) -> usize
+        requires { lines_len self ≤ usize.MAX }
+        ensures { result ≡ lines_len self }
+    {
+        self.title + self.bases + self.bases + self.again + 3 * self.end + 2
+    }
+
+    // Where the third line begins, with the `+`.
+    #[inline(always)]
+    fn plus_place(self) -> usize
+        requires { plus_place self ≤ usize.MAX }
+        ensures { result ≡ plus_place self }
+    {
+        self.title + self.bases + 2 * self.end + 1
+    }
 }
 
 // The lengths in bytes of a line and of its line end: 1 for LF, 2 for CR and LF.
@@ -51,8 +71,7 @@ fn repeats(hand: &[u8], place: usize, len: usize) -> bool
 // Whether each of the four line ends of this shape is at its place.
 fn do_lines_end(hand: &[u8], shape: Shape) -> bool
     requires some { 1 ≤ shape.end }
-    requires fits { shape.title + shape.bases + shape.bases + shape.again + 4 * shape.end + 2
-        ≤ length hand.now }
+    requires fits { lines_len shape + shape.end ≤ length hand.now }
     ensures { IsTrue result ↔ DoLinesEnd hand.now shape }
 {
     let Shape {
@@ -64,7 +83,7 @@ fn do_lines_end(hand: &[u8], shape: Shape) -> bool
     ends_at(hand, title + 1, end)
         && ends_at(hand, title + bases + end + 1, end)
         && ends_at(hand, title + bases + again + 2 * end + 2, end)
-        && ends_at(hand, title + bases + bases + again + 3 * end + 2, end)
+        && ends_at(hand, shape.lines_len(), end)
 }
 
 // Whether `@`, `+`, the line ends and the text after the `+` are at the places of this shape.
@@ -76,20 +95,14 @@ fn are_four_lines(hand: &[u8], shape: Shape) -> bool
     requires again { shape.again ≤ limit }
     ensures { IsTrue result ↔ IsFourLines hand.now shape }
 {
-    let Shape {
-        title,
-        bases,
-        end,
-        again,
-    } = shape;
-    if title + bases + bases + again + 4 * end + 2 > hand.len() {
+    if shape.lines_len() + shape.end > hand.len() {
         return false;
     }
-    let plus = title + bases + 2 * end + 1;
+    let plus = shape.plus_place();
     hand[0] == b'@'
         && hand[plus] == b'+'
         && do_lines_end(hand, shape)
-        && repeats(hand, plus + 1, again)
+        && repeats(hand, plus + 1, shape.again)
 }
 
 // The title, the sequence and the quality in four lines of this shape. The last line needs no line
@@ -145,15 +158,15 @@ fn shape_of(encoding: Encoding, hand: &[u8], title: FirstLine, bases: usize) -> 
         (record { title = title.len; bases = bases; end = title.end; again = again }) → ⊥ }
 {
     let FirstLine { len: title, end } = title;
-    if title >= LIMIT || bases > LIMIT || hand.get(title + bases + 2 * end + 1) != Some(&b'+') {
-        return None;
-    }
     let bare = Shape {
         title,
         bases,
         end,
         again: 0,
     };
+    if title >= LIMIT || bases > LIMIT || hand.get(bare.plus_place()) != Some(&b'+') {
+        return None;
+    }
     if begins_with_record(encoding, hand, bare) {
         return Some(bare);
     }
