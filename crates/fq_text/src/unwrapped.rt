@@ -171,10 +171,8 @@ fn shape_of(encoding: Encoding, hand: &[u8], title: FirstLine, bases: usize) -> 
         return Some(bare);
     }
     let titled = Shape {
-        title,
-        bases,
-        end,
         again: title,
+        ..bare
     };
     if begins_with_record(encoding, hand, titled) {
         Some(titled)
