@@ -163,11 +163,11 @@ class Lab:
             with open(inputs[-1], "wb") as file:
                 file.write(text)
         if has_adapters:
-            mixed = os.path.join(folder, "il.fq")
-            words = ["cutadapt", "--interleaved", "-a", ADAPTERS[0], "-A", ADAPTERS[1], "-o", mixed] + inputs
+            interleaved = os.path.join(folder, "il.fq")
+            words = ["cutadapt", "--interleaved", "-a", ADAPTERS[0], "-A", ADAPTERS[1], "-o", interleaved] + inputs
             if subprocess.run(words, stdout=subprocess.DEVNULL, stderr=subprocess.DEVNULL).returncode != 0:
                 return None
-            inputs = [mixed]
+            inputs = [interleaved]
         names = {role: os.path.join(folder, role) for role in ROLES}
         words = [PROGRAM, "IL" if len(inputs) == 1 else "PE", "--trimlog", names["trimlog"], "--"] + inputs
         words += [names[role] for role in list(ROLES)[:4]] + STEPS
@@ -190,7 +190,7 @@ class Case:
         self.lab, self.kind, self.detail = lab, kind, ""
         self.mark = f"{MARK}={os.getpid()}.{number}"
         self.has_adapters = lab.has_cutadapt and chance.random() < 0.35
-        self.is_mixed = chance.random() < 0.2
+        self.is_interleaved = chance.random() < 0.2
         self.texts = self.lanes(chance.choice([1, 1, 1, 2, 3]))
         self.blobs = [[pack(text, chance) for text in side] for side in self.texts]
         self.program, self.gone = PROGRAM, None
@@ -202,9 +202,9 @@ class Case:
         """The texts of each side, by lanes."""
         ends = [0] + sorted(self.chance.sample(range(1, PAIRS), count - 1)) + [PAIRS]
         forward, reverse = self.lab.sides
-        if self.is_mixed:
-            mixed = [line for pair in zip(forward, reverse) for line in pair]
-            return [[b"".join(mixed[2 * ends[k]:2 * ends[k + 1]]) for k in range(count)]]
+        if self.is_interleaved:
+            interleaved = [line for pair in zip(forward, reverse) for line in pair]
+            return [[b"".join(interleaved[2 * ends[k]:2 * ends[k + 1]]) for k in range(count)]]
         return [[b"".join(side[ends[k]:ends[k + 1]]) for k in range(count)] for side in (forward, reverse)]
 
     # Before the run.
@@ -238,7 +238,7 @@ class Case:
                 name = self.lab.path("in", f"{side}.{lane}.fq.gz")
                 with open(name, "wb") as file:
                     file.write(blob)
-                words += ["-i" if self.is_mixed else f"-{side + 1}", name]
+                words += ["-i" if self.is_interleaved else f"-{side + 1}", name]
         return words
 
     def outputs(self):

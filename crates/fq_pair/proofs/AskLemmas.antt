@@ -7,8 +7,8 @@ use Rattle.fq_text.specs.Sources.{rest_in}
 use Rattle.fq_pair.specs.declared.side.Side.TheVariants.{Forward, Reverse}
 use Rattle.fq_pair.specs.declared.fault.InputFault.{InputFault}
 use Rattle.fq_pair.specs.PairSources.{PairSourced, KeepsCounts, GivesPair, EndsPairs, StopsPairs, failed_on}
-use Rattle.fq_pair.specs.MixedSources.{MixedSourced}
-use Rattle.fq_pair.specs.MixedSources as interleaved
+use Rattle.fq_pair.specs.InterleavedSources.{InterleavedSourced}
+use Rattle.fq_pair.specs.InterleavedSources as interleaved
 use Rattle.fq_pair.specs.Walks.{source_state, interleaved_state, KeepsSettings, side_state, Draws, Walks, Advances}
 use Rattle.fq_pair.proofs.SideLemmas.{drawn, used}
 
@@ -95,7 +95,7 @@ module _ {F G : Type 0} (state : F → FeedState) (state' : G → FeedState) whe
 
 -- What a source of an interleaved text returns.
 module _ {F : Type 0} (state : F → FeedState) where
-  same_interleaved : (old new : MixedSourced F) → interleaved.KeepsCounts state old new → KeepsSettings (interleaved_state state old) (interleaved_state state new)
+  same_interleaved : (old new : InterleavedSourced F) → interleaved.KeepsCounts state old new → KeepsSettings (interleaved_state state old) (interleaved_state state new)
   same_interleaved old new k =
       let s = k.source in
       record {
@@ -105,7 +105,7 @@ module _ {F : Type 0} (state : F → FeedState) where
         most_bytes = ap (λ n. n * new.source.chunk) s.max_reads ∙ ap (λ n. old.source.max_reads * n) s.chunk;
       }
 
-  pub advances_interleaved : (old new : MixedSourced F) (r : Result Bool InputFault) →
+  pub advances_interleaved : (old new : InterleavedSourced F) (r : Result Bool InputFault) →
       (r ≡ Ok true → IsSomeAnd new.current (interleaved.GivesPair state old new)) →
       (r ≡ Ok false → interleaved.EndsPairs state old new) →
       IfErr r (interleaved.StopsPairs state old new) →
@@ -145,7 +145,7 @@ module _ {F : Type 0} (state : F → FeedState) where
     fault.current,
   )
 
-  pub encoded_interleaved : (old new : MixedSourced F) (r : Result Bool InputFault) →
+  pub encoded_interleaved : (old new : InterleavedSourced F) (r : Result Bool InputFault) →
       (r ≡ Ok true → IsSomeAnd new.current (interleaved.GivesPair state old new)) →
       (r ≡ Ok false → interleaved.EndsPairs state old new) →
       IfErr r (interleaved.StopsPairs state old new) →

@@ -14,7 +14,7 @@ use Rattle.fq_pair.specs.declared.fault.InputFault.TheVariants.{NamesDiffer}
 use Rattle.fq_pair.specs.Mates.{Mates, mates_in}
 use Rattle.fq_pair.specs.Pairing.{Pairs, belong, behind, PairFront, Ended, Stopped, Met, met, with_pair}
 use Rattle.fq_pair.specs.Interleaved.{interleaved_mates, interleaved_fault_at, interleaved_pairs_of, meeting_behind, interleaved_meeting, interleaved_front}
-use Rattle.fq_pair.specs.MixedSources.{MixedSourced, front_of, pairs_left}
+use Rattle.fq_pair.specs.InterleavedSources.{InterleavedSourced, front_of, pairs_left}
 use Rattle.fq_pair.proofs.PairLaws.{records_of, from_pair_front, records_of-front}
 
 -- the pairs of a text, if these mates belong together
@@ -82,12 +82,12 @@ module _ (check : Bool) (e : Encoding) (k : ℕ) where
   pub interleaved_pairs_of-ended : (ls : List (List ℕ)) → interleaved_front check e k ls ≡ Ended → interleaved_pairs_of check k (records_of e ls) ≡ record { mates = []; fault = None }
   interleaved_pairs_of-ended ls is = interleaved_pairs_of-front ls ∙ ap (from_pair_front (λ fs rs. interleaved_pairs_of check (suc k) (records_of e fs))) is
 
-module _ {F : Type 0} (state : F → FeedState) (old : MixedSourced F) where
+module _ {F : Type 0} (state : F → FeedState) (old : InterleavedSourced F) where
   abbrev text : List (List ℕ)
   text = lines (rest_in state old.source)
 
   -- a pair that comes first is the first of those left, and the others are left after it
-  pub interleaved_left_met : (new : MixedSourced F) (m : Mates) → new.source.encoding ≡ old.source.encoding → new.check_names ≡ old.check_names → new.given ≡ old.given + 1 →
+  pub interleaved_left_met : (new : InterleavedSourced F) (m : Mates) → new.source.encoding ≡ old.source.encoding → new.check_names ≡ old.check_names → new.given ≡ old.given + 1 →
       (let ls = lines (rest_in state new.source) in front_of state old ≡ Met m ls ls) → pairs_left state old ≡ with_pair m (pairs_left state new)
   interleaved_left_met new m encoding check_names given front =
       let ls = lines (rest_in state new.source) in

@@ -18,7 +18,7 @@ use Rattle.fq_pair.specs.Mates.{Mates, mates_in}
 use Rattle.fq_pair.specs.Pairing.{Pairs, belong, Stopped, Met}
 use Rattle.fq_pair.specs.Interleaved.{side_behind, interleaved_pairs, meeting_behind, interleaved_meeting}
 use Rattle.fq_pair.specs.PairSources.{is_outside, is_cut, if_cut, if_endless}
-use Rattle.fq_pair.specs.MixedSources.{front_of, GivesPair, IsNext, StopsPairs, IsReady, asked, stopped}
+use Rattle.fq_pair.specs.InterleavedSources.{front_of, GivesPair, IsNext, StopsPairs, IsReady, asked, stopped}
 use Rattle.fq_pair.proofs.FrontLemmas.{front_more}
 use Rattle.fq_pair.proofs.TakenLemmas.{front_fewer, no_records, one_record}
 use Rattle.fq_pair.specs.Walks.{SideState, side_state, Draws, Uses}

@@ -6,7 +6,7 @@ use Rattle.fq_pair.specs.declared.fault.InputFault.{InputFault}
 use Rattle.fq_pair.specs.Pairing.{Pairs, PairFront, pairs, pair_front}
 use Rattle.fq_pair.specs.Interleaved.{interleaved_pairs, interleaved_front}
 use Rattle.fq_pair.specs.PairSources.{failed_on}
-use Rattle.fq_pair.specs.MixedSources.{failed_in}
+use Rattle.fq_pair.specs.InterleavedSources.{failed_in}
 
 -- The form of the inputs. An interleaved text is both the forward and the reverse text.
 pub data Form : Type 0 where

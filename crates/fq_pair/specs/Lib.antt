@@ -2,7 +2,7 @@ pub mod Mates
 pub mod Pairing
 pub mod PairSources
 pub mod Interleaved
-pub mod MixedSources
+pub mod InterleavedSources
 pub mod Forms
 pub mod Walks
 pub mod Outputs

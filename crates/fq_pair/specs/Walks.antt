@@ -14,7 +14,7 @@ use Rattle.fq_pair.specs.Mates.{Mates}
 use Rattle.fq_pair.specs.Pairing.{PairFront, Ended, Stopped, Met}
 use Rattle.fq_pair.specs.Interleaved.{side_behind}
 use Rattle.fq_pair.specs.PairSources.{PairSourced, is_from_outside, is_cut_short, if_cut, if_endless}
-use Rattle.fq_pair.specs.MixedSources.{MixedSourced}
+use Rattle.fq_pair.specs.InterleavedSources.{InterleavedSourced}
 use Rattle.fq_pair.specs.Forms.{Form, TwoTexts, InterleavedText, pairs_in, front_in, records_of_pairs, failed_at}
 
 -- one side of a source of pairs: its feed, the bytes in hand, whether the feed has reported its
@@ -68,7 +68,7 @@ source_state state state' s = record {
   current = s.current;
 }
 
-abbrev pub interleaved_state : {F : Type 0} → (F → FeedState) → MixedSourced F → SourceState
+abbrev pub interleaved_state : {F : Type 0} → (F → FeedState) → InterleavedSourced F → SourceState
 interleaved_state state s = record {
   form = InterleavedText;
   forward = side_state state s.source;

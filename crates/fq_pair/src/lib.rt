@@ -8,8 +8,8 @@
 mod answer;
 mod counts;
 mod fault;
+mod interleaved_source;
 mod log_line;
-mod mixed_source;
 mod name;
 mod out;
 mod pair;
@@ -20,7 +20,7 @@ mod texts;
 
 pub use counts::{Counts, summary};
 pub use fault::InputFault;
-pub use mixed_source::MixedSource;
+pub use interleaved_source::MixedSource;
 pub use name::{NameLengths, name_of, names_match};
 pub use out::Out;
 pub use pair::{Pair, PairView};

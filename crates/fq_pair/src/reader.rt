@@ -6,7 +6,7 @@ ghost use Rattle.fq_pair.specs.PairSources.{more_of};
 ghost use Rattle.fq_pair.specs.Walks.{SourceState, Advances};
 
 use crate::fault::InputFault;
-use crate::mixed_source::MixedSource;
+use crate::interleaved_source::MixedSource;
 use crate::name::NameLengths;
 use crate::pair::PairView;
 use crate::pair_source::PairSource;

@@ -124,7 +124,7 @@ fn left_apart(alloc: Global, ending: Ending<ScriptFeed, ScriptFeed>) -> Result<B
     Ok(Box::new(alloc, left)?)
 }
 
-fn left_mixed(alloc: Global, ending: MixedEnding<ScriptFeed>) -> Result<Box<Left>> {
+fn left_interleaved(alloc: Global, ending: MixedEnding<ScriptFeed>) -> Result<Box<Left>> {
     let left = Left {
         outcome: ending.outcome,
         counts: ending.counts,
@@ -154,7 +154,7 @@ fn run_apart<R: Threads + Wait + Copy + Send + 'static>(
     Ok(run_serial(alloc, settings, forward, reverse, outlets))
 }
 
-fn run_mixed<R: Threads + Wait + Copy + Send + 'static>(
+fn run_interleaved<R: Threads + Wait + Copy + Send + 'static>(
     rt: &R,
     alloc: Global,
     settings: &Settings,
@@ -187,9 +187,9 @@ fn run<R: Threads + Wait + Copy + Send + 'static>(
     let fails = given.number("fails at read", 0)?;
     if given.find("interleaved").is_some() {
         let text = feed(alloc, given, "interleaved", fails)?;
-        return left_mixed(
+        return left_interleaved(
             alloc,
-            run_mixed(rt, alloc, &settings, threads, text, outlets)?,
+            run_interleaved(rt, alloc, &settings, threads, text, outlets)?,
         );
     }
     let forward = feed(alloc, given, "forward", fails)?;

@@ -92,7 +92,7 @@ fn pairs_of(
 }
 
 // Makes a source of the pairs of an interleaved text.
-fn mixed_of(
+fn interleaved_of(
     alloc: Global,
     given: &Given<'_>,
     text: &[u8],
@@ -192,7 +192,7 @@ fn add_apart(
 
 // Adds the pairs of an interleaved text. Returns what comes after them, and how often the feed
 // failed.
-fn add_mixed(
+fn add_interleaved(
     alloc: Global,
     given: &Given<'_>,
     text: &[u8],
@@ -201,7 +201,7 @@ fn add_mixed(
     lent: bool,
     names: bool,
 ) -> Result<(Came, u64, u64)> {
-    let mut pairs = mixed_of(alloc, given, text, names)?;
+    let mut pairs = interleaved_of(alloc, given, text, names)?;
     let came = add_all(&mut *pairs, left, steps, lent)?;
     Ok((came, Box::into_inner(pairs).into_feed().failures(), 0))
 }
@@ -212,7 +212,7 @@ fn add_row(alloc: Global, given: &Given<'_>, left: &mut Left) -> Result<(Came, u
     let lent = given.text("form")? == "lent";
     let names = given.text("names")? != "unchecked";
     match given.find("interleaved") {
-        Some(text) => add_mixed(alloc, given, text, left, &steps, lent, names),
+        Some(text) => add_interleaved(alloc, given, text, left, &steps, lent, names),
         None => add_apart(alloc, given, left, &steps, lent, names),
     }
 }

@@ -17,7 +17,7 @@ use Rattle.fq_pair.specs.PairSources.{is_from_outside, is_cut_short, if_cut, if_
 
 -- A source of pairs: the source of both mates, whether names are checked, how many pairs were
 -- given, the end or the fault once that was returned, and the current pair.
-pub record MixedSourced (F : Type 0) : Type 0 where
+pub record InterleavedSourced (F : Type 0) : Type 0 where
   pub source : Sourced F
   pub check_names : Bool
   pub given : ℕ
@@ -25,18 +25,18 @@ pub record MixedSourced (F : Type 0) : Type 0 where
   pub current : Option Mates
 
 -- what comes next
-abbrev pub front_of : {F : Type 0} → (F → FeedState) → MixedSourced F → PairFront
+abbrev pub front_of : {F : Type 0} → (F → FeedState) → InterleavedSourced F → PairFront
 front_of state s = interleaved_front s.check_names s.source.encoding s.given
     (lines (rest_in state s.source))
 
 -- the pairs that are left, and how they end
-abbrev pub pairs_left : {F : Type 0} → (F → FeedState) → MixedSourced F → Pairs
+abbrev pub pairs_left : {F : Type 0} → (F → FeedState) → InterleavedSourced F → Pairs
 pairs_left state s = interleaved_pairs s.check_names s.source.encoding s.given
     (rest_in state s.source)
 
 -- What every call keeps: the count of bytes taken grows by those that the feed gave.
 pub record KeepsCounts {F : Type 0} (state : F → FeedState)
-    (old new : MixedSourced F) : Type 0 where
+    (old new : InterleavedSourced F) : Type 0 where
   pub source : KeepsCount state old.source new.source
   pub check_names : new.check_names ≡ old.check_names
 
@@ -54,7 +54,7 @@ pub record GivesTwo {F : Type 0} (state : F → FeedState) (old new : Sourced F)
   pub in_hand : length new.in_hand < new.chunk
 
 -- A pair was returned: it is the first of those that were left, and the others are left.
-pub record GivesPair {F : Type 0} (state : F → FeedState) (old new : MixedSourced F)
+pub record GivesPair {F : Type 0} (state : F → FeedState) (old new : InterleavedSourced F)
     (m : Mates) : Type 0 where
   pub pair_is : IsTrue (state old.source.feed).tells →
       (let ls = lines (rest_in state new.source) in front_of state old ≡ Met m ls ls)
@@ -66,7 +66,8 @@ pub record GivesPair {F : Type 0} (state : F → FeedState) (old new : MixedSour
   pub last : new.last ≡ None
 
 -- The end was returned: no pair was left, and no fault.
-pub record EndsPairs {F : Type 0} (state : F → FeedState) (old new : MixedSourced F) : Type 0 where
+pub record EndsPairs {F : Type 0} (state : F → FeedState) (old new : InterleavedSourced F) :
+    Type 0 where
   pub end_is : IsTrue (state old.source.feed).tells → front_of state old ≡ Ended
   pub left : IsTrue (state old.source.feed).tells →
       pairs_left state old ≡ record { mates = []; fault = None }
@@ -77,7 +78,8 @@ pub record EndsPairs {F : Type 0} (state : F → FeedState) (old new : MixedSour
 
 -- the whole lines of the bytes in hand before a call and of those that the feed gave in it make no
 -- pair
-abbrev pub LacksPair : {F : Type 0} → (F → FeedState) → MixedSourced F → MixedSourced F → Type 0
+abbrev pub LacksPair : {F : Type 0} → (F → FeedState) → InterleavedSourced F →
+    InterleavedSourced F → Type 0
 LacksPair state old new = IsTrue (state old.source.feed).tells →
     (interleaved_pairs old.check_names old.source.encoding old.given
     (whole_part (held state old.source new.source))).mates ≡ []
@@ -100,7 +102,7 @@ WasReading old new _ = Unit {0}
 -- A fault was returned. If it is one of the text, no pair was left, and the pairs end with it. A
 -- read call that failed, or was one too many, was made for the next record, before the feed had
 -- reported its end.
-pub record StopsPairs {F : Type 0} (state : F → FeedState) (old new : MixedSourced F)
+pub record StopsPairs {F : Type 0} (state : F → FeedState) (old new : InterleavedSourced F)
     (why : InputFault) : Type 0 where
   pub fault_is : IsTrue (state old.source.feed).tells → is_from_outside why ≡ false →
       front_of state old ≡ Stopped why
@@ -126,7 +128,7 @@ pub record IsReady {F : Type 0} (source : Sourced F) (given : ℕ) : Type 0 wher
   pub records : source.given ≡ 2 * given
 
 -- a source of pairs that goes on, with the forward mate that was kept, and one that has stopped
-abbrev pub asked : {F : Type 0} → Sourced F → Read → Bool → ℕ → Bool → MixedSourced F
+abbrev pub asked : {F : Type 0} → Sourced F → Read → Bool → ℕ → Bool → InterleavedSourced F
 asked source forward check given has_pair = record {
   source = source;
   check_names = check;
@@ -136,6 +138,6 @@ asked source forward check given has_pair = record {
 }
 
 abbrev pub stopped : {F : Type 0} → Sourced F → Bool → ℕ → Result (Unit {0}) InputFault →
-    MixedSourced F
+    InterleavedSourced F
 stopped source check given last =
     record { source = source; check_names = check; given = given; last = Some last; current = None }

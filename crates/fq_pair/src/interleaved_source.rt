@@ -5,7 +5,7 @@ ghost use Rattle.std.specs.Option.{IsSomeAnd};
 ghost use Rattle.fq_text.specs.Reading.{text_limit};
 ghost use Rattle.fq_text.specs.Sources.{KeepsCount};
 ghost use Rattle.fq_pair.specs.PairSources.{IsBounded, pair_of, HasNames};
-ghost use Rattle.fq_pair.specs.MixedSources.{asked, stopped, GivesPair, EndsPairs, StopsPairs, failed_in, IsReady};
+ghost use Rattle.fq_pair.specs.InterleavedSources.{asked, stopped, GivesPair, EndsPairs, StopsPairs, failed_in, IsReady};
 
 use crate::answer::{keep, keep_more};
 use crate::fault::InputFault;
@@ -40,9 +40,9 @@ impl<F: Feed> Model for MixedSource<F> {
     ghost use Rattle.std.specs.Prelude.{◌≡◌, ◌*◌, ◌≤◌, ◌^◌, Some, None, is_some};
     ghost use Rattle.fq_text.specs.Reading.{text_limit};
     ghost use Rattle.fq_pair.specs.PairSources.{IsBounded, pair_of, HasNames};
-    ghost use Rattle.fq_pair.specs.MixedSources.{MixedSourced, IsReady};
+    ghost use Rattle.fq_pair.specs.InterleavedSources.{InterleavedSourced, IsReady};
 
-    ghost Value = { MixedSourced F };
+    ghost Value = { InterleavedSourced F };
 
     ghost view = { λ s. record {
       source = s.source;
@@ -62,7 +62,7 @@ impl<F: Feed> Model for MixedSource<F> {
 impl<F: Feed> MixedSource<F> {
     ghost use Rattle.fq_pair.specs.Mates.{mates_in, name_lengths};
     ghost use Rattle.fq_pair.specs.PairSources.{IsUnasked, answer_of, more_of};
-    ghost use Rattle.fq_pair.specs.MixedSources.{MixedSourced, KeepsCounts};
+    ghost use Rattle.fq_pair.specs.InterleavedSources.{InterleavedSourced, KeepsCounts};
 
     /// Makes a source of pairs from a source of records that has not been read from yet.
     pub fn new(source: Source<F>, check_names: bool) -> MixedSource<F>

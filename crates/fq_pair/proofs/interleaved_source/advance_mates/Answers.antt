@@ -7,7 +7,7 @@ use Rattle.fq_pair.specs.declared.fault.InputFault.TheVariants.{Text}
 use Rattle.fq_pair.specs.declared.side.Side.TheVariants.{Reverse}
 use Rattle.fq_pair.proofs.SourceLaws.{of_current, of_pair, of_titles}
 use Rattle.fq_pair.proofs.InterleavedLemmas.{keeps_then, two_given, second_fails, mate_missing, names_differ}
-use Rattle.fq_pair.proofs.mixed_source.advance_mates.Goals as goal
+use Rattle.fq_pair.proofs.interleaved_source.advance_mates.Goals as goal
 
 pub returns-in_err-has_second-clause-count : goal.returns-in_err-has_second-clause-count
 returns-in_err-has_second-clause-count g c = keeps_then g.F.Feed.state _ _ _ c.next_into.ensures.count c.advance.ensures.count

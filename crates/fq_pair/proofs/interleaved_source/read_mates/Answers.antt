@@ -7,7 +7,7 @@ use Rattle.fq_text.proofs.ResultLemmas.{err_mapped}
 use Rattle.fq_pair.specs.declared.fault.InputFault.TheVariants.{Text}
 use Rattle.fq_pair.specs.declared.side.Side.TheVariants.{Reverse}
 use Rattle.fq_pair.proofs.InterleavedLemmas.{keeps_then, two_given, second_fails, mate_missing, names_differ}
-use Rattle.fq_pair.proofs.mixed_source.read_mates.Goals as goal
+use Rattle.fq_pair.proofs.interleaved_source.read_mates.Goals as goal
 
 pub returns-in_err-second-clause-count : goal.returns-in_err-second-clause-count
 returns-in_err-second-clause-count g c = keeps_then g.F.Feed.state _ _ _ c.next_into.ensures.count c.next.ensures.count

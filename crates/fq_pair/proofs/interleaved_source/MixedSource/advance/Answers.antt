@@ -1,7 +1,7 @@
 -- If there is a further pair, it is the current one.
 use Rattle.std.proofs.Common.{sym, ◌∙◌}
 use Rattle.fq_pair.proofs.SourceLaws.{is_pair}
-use Rattle.fq_pair.proofs.mixed_source.MixedSource.advance.Goals as goal
+use Rattle.fq_pair.proofs.interleaved_source.MixedSource.advance.Goals as goal
 
 pub returns-in-None-clause-in_hand : goal.returns-in-None-clause-in_hand
 returns-in-None-clause-in_hand g c = λ is.
