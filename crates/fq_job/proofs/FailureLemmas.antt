@@ -14,7 +14,7 @@ use Rattle.fq_pair.specs.declared.side.Side.{Side}
 use Rattle.fq_pair.specs.declared.side.Side.TheVariants.{Forward, Reverse}
 use Rattle.fq_pair.specs.declared.fault.InputFault.{InputFault}
 use Rattle.fq_pair.specs.declared.fault.InputFault.TheVariants.{Text}
-use Rattle.fq_pair.specs.Pairing.{Pairs, mates_of, belong, fault_behind, text_fault, mate_fault, first_fault, behind, fault_at}
+use Rattle.fq_pair.specs.Pairing.{Pairs, mates_of, belong, fault_following, text_fault, mate_fault, first_fault, behind, fault_at}
 use Rattle.fq_pair.specs.Interleaved.{interleaved_mates, interleaved_fault_at}
 use Rattle.fq_pair.specs.Forms.{Form, TwoTexts, InterleavedText, pairs_in}
 use Rattle.fq_run.specs.Choices.{Choices}
@@ -156,7 +156,7 @@ endless_input c run every side is told = within _ _ _ (every.outcome.endless sid
 IsKnown : Option InputFault → Type 0
 IsKnown fault = end_of fault ≡ trimmed_outcome fault
 
-front_known : (side : Side) (reads : List grammar.Read) (n : ℕ) (text : Records) → IsKnown (text_fault side reads (fault_behind n text))
+front_known : (side : Side) (reads : List grammar.Read) (n : ℕ) (text : Records) → IsKnown (text_fault side reads (fault_following n text))
 unfolding IsKnown
 front_known side [] n text = elim text.fault as (λ found. end_of (text_fault side [] (option_map (λ f. numbered f n) found)) ≡ trimmed_outcome (text_fault side [] (option_map (λ f. numbered f n) found))) [
   | None ↦ refl

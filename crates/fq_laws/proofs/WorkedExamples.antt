@@ -10,7 +10,7 @@ use Rattle.fq_text.specs.Records.{records}
 use Rattle.fq_trim.specs.declared.step.Step.{Step}
 use Rattle.fq_trim.specs.declared.step.Step.TheVariants.{Leading, HeadCrop, ToPhred33}
 use Rattle.fq_pair.specs.Mates.{Mates}
-use Rattle.fq_pair.specs.Pairing.{pairs, fault_behind}
+use Rattle.fq_pair.specs.Pairing.{pairs, fault_following}
 use Rattle.fq_pair.specs.Outputs.{texts_of, counts_of, record_text, kept_places, log_numbers, both_survive, forward_alone}
 use Rattle.fq_tally.specs.Courses.{alone}
 use Rattle.fq_tally.specs.Tallies.{tally_of}
@@ -111,7 +111,7 @@ before = refl
 -- Reads that can't be read again.
 
 -- a cut that leaves @ as the first base
-cut_to_a_mark : fault_behind 1 (records Sanger (record_text (HeadCrop 1 ∷ []) (read (codes "m") (codes "A@C") (codes "III")))) ≡ Some (BadSequence 1)
+cut_to_a_mark : fault_following 1 (records Sanger (record_text (HeadCrop 1 ∷ []) (read (codes "m") (codes "A@C") (codes "III")))) ≡ Some (BadSequence 1)
 cut_to_a_mark = refl
 
 -- a title that ends in CR loses it

@@ -3,15 +3,15 @@ use Rattle.std.proofs.Common.{◌≡◌, ℕ, ◌-◌, ◌<◌, true, eqb, Some,
 use Rattle.std.specs.List.{concat}
 use Rattle.std.proofs.lemmas.Bool.{cond-true, cond-false, cases_Bool}
 use Rattle.fq_text.specs.declared.encoding.Encoding.{Encoding}
-use Rattle.fq_text.specs.Grammar.{Read, Found, front, begins_with, before_plus, from_plus, quality_lines, behind_quality, title_fault, plus_fault, quality_faults, sequence_faults, unless_faulty, completed, from_quality_lines, from_plus_line, from_title_line}
+use Rattle.fq_text.specs.Grammar.{Read, Found, front, begins_with, before_plus, from_plus, quality_lines, after_quality, title_fault, plus_fault, quality_faults, sequence_faults, unless_faulty, completed, from_quality_lines, from_plus_line, from_title_line}
 use Rattle.fq_text.proofs.LawfulLemmas.{passed, complete}
 
 module _ (more : List (List ℕ)) where
-  pub no_quality : (n : ℕ) (ls : List (List ℕ)) → eqb n 0 ≡ true → (quality_lines n ls ≡ []) × (behind_quality n ls ≡ Some ls)
+  pub no_quality : (n : ℕ) (ls : List (List ℕ)) → eqb n 0 ≡ true → (quality_lines n ls ≡ []) × (after_quality n ls ≡ Some ls)
   no_quality n [] none = (refl, cond-true (eqb n 0) (Some []) None none)
-  no_quality n (l ∷ ls) none = (cond-true (eqb n 0) [] (l ∷ quality_lines (n - length l) ls) none, cond-true (eqb n 0) (Some (l ∷ ls)) (behind_quality (n - length l) ls) none)
+  no_quality n (l ∷ ls) none = (cond-true (eqb n 0) [] (l ∷ quality_lines (n - length l) ls) none, cond-true (eqb n 0) (Some (l ∷ ls)) (after_quality (n - length l) ls) none)
 
-  quality_more : (n : ℕ) (ls rest : List (List ℕ)) → behind_quality n ls ≡ Some rest → (quality_lines n (ls ++ more) ≡ quality_lines n ls) × (behind_quality n (ls ++ more) ≡ Some (rest ++ more))
+  quality_more : (n : ℕ) (ls rest : List (List ℕ)) → after_quality n ls ≡ Some rest → (quality_lines n (ls ++ more) ≡ quality_lines n ls) × (after_quality n (ls ++ more) ≡ Some (rest ++ more))
   quality_more n [] rest is = ⊎_elim
       (λ none.
       let same : Some [] ≡ Some rest = sym (cond-true (eqb n 0) (Some []) None none) ∙ is in
@@ -22,15 +22,15 @@ module _ (more : List (List ℕ)) where
       (cases_Bool (eqb n 0))
   quality_more n (l ∷ ls) rest is = ⊎_elim
       (λ none.
-      let same : Some (l ∷ ls) ≡ Some rest = sym (cond-true (eqb n 0) (Some (l ∷ ls)) (behind_quality (n - length l) ls) none) ∙ is in
+      let same : Some (l ∷ ls) ≡ Some rest = sym (cond-true (eqb n 0) (Some (l ∷ ls)) (after_quality (n - length l) ls) none) ∙ is in
       let e : l ∷ ls ≡ rest = cc in
       let all = no_quality n (l ∷ (ls ++ more)) none in
       let first = no_quality n (l ∷ ls) none in
       (all.0 ∙ sym first.0, all.1 ∙ ap (λ ls. Some (ls ++ more)) e))
       (λ some.
-      let rest_of = quality_more (n - length l) ls rest (sym (cond-false (eqb n 0) (Some (l ∷ ls)) (behind_quality (n - length l) ls) some) ∙ is) in (
+      let rest_of = quality_more (n - length l) ls rest (sym (cond-false (eqb n 0) (Some (l ∷ ls)) (after_quality (n - length l) ls) some) ∙ is) in (
         cond-false (eqb n 0) [] (l ∷ quality_lines (n - length l) (ls ++ more)) some ∙ ap (λ ms. l ∷ ms) rest_of.0 ∙ sym (cond-false (eqb n 0) [] (l ∷ quality_lines (n - length l) ls) some),
-        cond-false (eqb n 0) (Some (l ∷ (ls ++ more))) (behind_quality (n - length l) (ls ++ more)) some ∙ rest_of.1,
+        cond-false (eqb n 0) (Some (l ∷ (ls ++ more))) (after_quality (n - length l) (ls ++ more)) some ∙ rest_of.1,
       ))
       (cases_Bool (eqb n 0))
 
@@ -55,10 +55,10 @@ module _ (more : List (List ℕ)) where
     quality_lines_more title bases ls is =
         let n = length bases in
         let read : List (List ℕ) → Read = λ qs. record { encoding = e; title = title; seq = bases; qual = concat qs } in
-        let first = passed (quality_faults e n 0 (quality_lines n ls)) (completed (read (quality_lines n ls)) (behind_quality n ls)) r rest is in
-        let second = complete (read (quality_lines n ls)) r (behind_quality n ls) rest first.1 in
+        let first = passed (quality_faults e n 0 (quality_lines n ls)) (completed (read (quality_lines n ls)) (after_quality n ls)) r rest is in
+        let second = complete (read (quality_lines n ls)) r (after_quality n ls) rest first.1 in
         let longer = quality_more n ls rest second.0 in
-        ap (λ qs. unless_faulty (quality_faults e n 0 qs) (completed (read qs) (behind_quality n (ls ++ more)))) longer.0
+        ap (λ qs. unless_faulty (quality_faults e n 0 qs) (completed (read qs) (after_quality n (ls ++ more)))) longer.0
         ∙ ap (λ o. unless_faulty (quality_faults e n 0 (quality_lines n ls)) (completed (read (quality_lines n ls)) o)) longer.1
         ∙ ap (λ o. unless_faulty o (Found (read (quality_lines n ls)) (rest ++ more))) first.0
         ∙ ap (λ s. Found s (rest ++ more)) second.1

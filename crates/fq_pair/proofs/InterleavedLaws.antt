@@ -13,7 +13,7 @@ use Rattle.fq_pair.specs.declared.fault.InputFault.{InputFault}
 use Rattle.fq_pair.specs.declared.fault.InputFault.TheVariants.{NamesDiffer}
 use Rattle.fq_pair.specs.Mates.{Mates, mates_in}
 use Rattle.fq_pair.specs.Pairing.{Pairs, belong, behind, PairFront, Ended, Stopped, Met, met, with_pair}
-use Rattle.fq_pair.specs.Interleaved.{interleaved_mates, interleaved_fault_at, interleaved_pairs_of, meeting_behind, interleaved_meeting, interleaved_front}
+use Rattle.fq_pair.specs.Interleaved.{interleaved_mates, interleaved_fault_at, interleaved_pairs_of, meeting_after, interleaved_meeting, interleaved_front}
 use Rattle.fq_pair.specs.InterleavedSources.{InterleavedSourced, front_of, pairs_left}
 use Rattle.fq_pair.proofs.PairLaws.{records_of, from_pair_front, records_of-front}
 
@@ -55,7 +55,7 @@ module _ (check : Bool) (k : ℕ) (T : List (List ℕ) → Records) where
       (cases_Bool (belong check m))
 
   -- after a forward mate
-  one_found : (f : Read) (A : Front) → interleaved_pairs_of check k (with_first f (from_front T A)) ≡ from_pair_front others (meeting_behind check (suc k) f A)
+  one_found : (f : Read) (A : Front) → interleaved_pairs_of check k (with_first f (from_front T A)) ≡ from_pair_front others (meeting_after check (suc k) f A)
   one_found f End = none_up_to k (with_first f (from_front T End))
   one_found f (Faulty x) = none_up_to k (with_first f (from_front T (Faulty x)))
   one_found f (Found r ls) = two_found f r ls

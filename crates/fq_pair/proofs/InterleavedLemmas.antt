@@ -16,7 +16,7 @@ use Rattle.fq_pair.specs.declared.fault.InputFault.{InputFault}
 use Rattle.fq_pair.specs.declared.fault.InputFault.TheVariants.{Text, MateMissing, NamesDiffer}
 use Rattle.fq_pair.specs.Mates.{Mates, mates_in}
 use Rattle.fq_pair.specs.Pairing.{Pairs, belong, Stopped, Met}
-use Rattle.fq_pair.specs.Interleaved.{side_behind, interleaved_pairs, meeting_behind, interleaved_meeting}
+use Rattle.fq_pair.specs.Interleaved.{side_after, interleaved_pairs, meeting_after, interleaved_meeting}
 use Rattle.fq_pair.specs.PairSources.{is_outside, is_cut, if_cut, if_endless}
 use Rattle.fq_pair.specs.InterleavedSources.{front_of, GivesPair, IsNext, StopsPairs, IsReady, asked, stopped}
 use Rattle.fq_pair.proofs.FrontLemmas.{front_more}
@@ -68,8 +68,8 @@ module _ {F : Type 0} (state : F → FeedState) (a b c : Sourced F) (p : KeepsCo
       let n = suc given in
       let pair_is : IsTrue (state a.feed).tells → front_of state (asked a kept check given before) ≡ Met (mates_in f r) ls ls = λ told.
       ap (interleaved_meeting check a.encoding n) (first.record_is told)
-      ∙ ap (λ (e : Encoding). meeting_behind check n f (front e (lines (rest_in state b)))) (sym p.encoding)
-      ∙ ap (meeting_behind check n f) (second.record_is (p.told ∙ told))
+      ∙ ap (λ (e : Encoding). meeting_after check n f (front e (lines (rest_in state b)))) (sym p.encoding)
+      ∙ ap (meeting_after check n f) (second.record_is (p.told ∙ told))
       ∙ cond-true (belong check (mates_in f r)) (Met (mates_in f r) ls ls) (Stopped (NamesDiffer n)) together in
       subst P (sym is) (record {
         pair_is = pair_is;
@@ -123,8 +123,8 @@ module _ {F : Type 0} (state : F → FeedState) (a b c : Sourced F) (p : KeepsCo
           (left ls same)
 
       by_second : (x : Read) (ls : List (List ℕ)) → front a.encoding whole_lines ≡ Found x ls → (B : Front) → front a.encoding ls ≡ B → HasNone
-      by_second x ls one End two = ap (λ (ps : Pairs). ps.mates) (interleaved_pairs_of-stopped check a.encoding given whole_lines _ (ap (interleaved_meeting check a.encoding n) one ∙ ap (meeting_behind check n x) two))
-      by_second x ls one (Faulty y) two = ap (λ (ps : Pairs). ps.mates) (interleaved_pairs_of-stopped check a.encoding given whole_lines _ (ap (interleaved_meeting check a.encoding n) one ∙ ap (meeting_behind check n x) two))
+      by_second x ls one End two = ap (λ (ps : Pairs). ps.mates) (interleaved_pairs_of-stopped check a.encoding given whole_lines _ (ap (interleaved_meeting check a.encoding n) one ∙ ap (meeting_after check n x) two))
+      by_second x ls one (Faulty y) two = ap (λ (ps : Pairs). ps.mates) (interleaved_pairs_of-stopped check a.encoding given whole_lines _ (ap (interleaved_meeting check a.encoding n) one ∙ ap (meeting_after check n x) two))
       by_second x ls one (Found y rest) two = absurd (none_behind x y ls rest one two)
 
       by_first : (A : Front) → front a.encoding whole_lines ≡ A → HasNone
@@ -147,15 +147,15 @@ module _ {F : Type 0} (state : F → FeedState) (a b c : Sourced F) (p : KeepsCo
           ∙ ap suc (no_records a.encoding behind (λ r rest is. lacks (p.told ∙ told) r rest (ap (λ (e : Encoding). front e behind) p.encoding ∙ is)))
 
 -- a fault of the text is that of the record that comes first, with its number
-stops_behind : (check : Bool) (n : ℕ) (f : Read) (x : Front) (k : ℕ) (why : TextFault) → k ≡ 2 * n → is_outside why ≡ false → FaultIs x k why → meeting_behind check n f x ≡ Stopped (Text Reverse why)
-stops_behind check n f x k (text.NoTitle j) is inside p = ap (meeting_behind check n f) p.0 ∙ ap (λ i. Stopped (Text Reverse (text.NoTitle i))) (sym (p.1 ∙ is))
-stops_behind check n f x k (text.BadSequence j) is inside p = ap (meeting_behind check n f) p.0 ∙ ap (λ i. Stopped (Text Reverse (text.BadSequence i))) (sym (p.1 ∙ is))
-stops_behind check n f x k (text.NoPlus j) is inside p = ap (meeting_behind check n f) p.0 ∙ ap (λ i. Stopped (Text Reverse (text.NoPlus i))) (sym (p.1 ∙ is))
-stops_behind check n f x k (text.PlusDiffers j) is inside p = ap (meeting_behind check n f) p.0 ∙ ap (λ i. Stopped (Text Reverse (text.PlusDiffers i))) (sym (p.1 ∙ is))
-stops_behind check n f x k (text.BadQuality j) is inside p = ap (meeting_behind check n f) p.0 ∙ ap (λ i. Stopped (Text Reverse (text.BadQuality i))) (sym (p.1 ∙ is))
-stops_behind check n f x k (text.QualityLong j) is inside p = ap (meeting_behind check n f) p.0 ∙ ap (λ i. Stopped (Text Reverse (text.QualityLong i))) (sym (p.1 ∙ is))
-stops_behind check n f x k (text.QualityShort j) is inside p = ap (meeting_behind check n f) p.0 ∙ ap (λ i. Stopped (Text Reverse (text.QualityShort i))) (sym (p.1 ∙ is))
-stops_behind check n f x k (text.TooLong j) is inside p = ap (meeting_behind check n f) p.0 ∙ ap (λ i. Stopped (Text Reverse (text.TooLong i))) (sym (p.1 ∙ is))
+stops_behind : (check : Bool) (n : ℕ) (f : Read) (x : Front) (k : ℕ) (why : TextFault) → k ≡ 2 * n → is_outside why ≡ false → FaultIs x k why → meeting_after check n f x ≡ Stopped (Text Reverse why)
+stops_behind check n f x k (text.NoTitle j) is inside p = ap (meeting_after check n f) p.0 ∙ ap (λ i. Stopped (Text Reverse (text.NoTitle i))) (sym (p.1 ∙ is))
+stops_behind check n f x k (text.BadSequence j) is inside p = ap (meeting_after check n f) p.0 ∙ ap (λ i. Stopped (Text Reverse (text.BadSequence i))) (sym (p.1 ∙ is))
+stops_behind check n f x k (text.NoPlus j) is inside p = ap (meeting_after check n f) p.0 ∙ ap (λ i. Stopped (Text Reverse (text.NoPlus i))) (sym (p.1 ∙ is))
+stops_behind check n f x k (text.PlusDiffers j) is inside p = ap (meeting_after check n f) p.0 ∙ ap (λ i. Stopped (Text Reverse (text.PlusDiffers i))) (sym (p.1 ∙ is))
+stops_behind check n f x k (text.BadQuality j) is inside p = ap (meeting_after check n f) p.0 ∙ ap (λ i. Stopped (Text Reverse (text.BadQuality i))) (sym (p.1 ∙ is))
+stops_behind check n f x k (text.QualityLong j) is inside p = ap (meeting_after check n f) p.0 ∙ ap (λ i. Stopped (Text Reverse (text.QualityLong i))) (sym (p.1 ∙ is))
+stops_behind check n f x k (text.QualityShort j) is inside p = ap (meeting_after check n f) p.0 ∙ ap (λ i. Stopped (Text Reverse (text.QualityShort i))) (sym (p.1 ∙ is))
+stops_behind check n f x k (text.TooLong j) is inside p = ap (meeting_after check n f) p.0 ∙ ap (λ i. Stopped (Text Reverse (text.TooLong i))) (sym (p.1 ∙ is))
 stops_behind check n f x k text.Read is inside p = absurd cc
 stops_behind check n f x k text.Endless is inside p = absurd cc
 stops_behind check n f x k text.OutOfMemory is inside p = absurd cc
@@ -214,14 +214,14 @@ module _ {F : Type 0} (state : F → FeedState) (a b c : Sourced F) (p : KeepsCo
       let number : b.given + 1 ≡ 2 * n = omega arith in
       let fault_is : IsTrue (state a.feed).tells → is_outside why ≡ false → front_of state (asked a kept check given before) ≡ Stopped (Text Reverse why) = λ told inside.
       ap (interleaved_meeting check a.encoding n) (first.record_is told)
-      ∙ ap (λ (e : Encoding). meeting_behind check n f (front e (lines (rest_in state b)))) (sym p.encoding)
+      ∙ ap (λ (e : Encoding). meeting_after check n f (front e (lines (rest_in state b)))) (sym p.encoding)
       ∙ stops_behind check n f (front b.encoding (lines (rest_in state b))) (b.given + 1) why number inside (stops.fault_is (p.told ∙ told)) in
       record {
         fault_is = fault_is;
         left = λ told inside. interleaved_left_stopped state (asked a kept check given before) (Text Reverse why) (fault_is told inside);
         lacks = λ cut told. no_pair state a b c p q told (first.tail told) check given f (first.record_is told) (cut_lacks _ why cut stops.lacks);
         next = cut_side (IsNext state a c) Reverse why (λ cut told.
-            ap side_behind (one_came state a b c p q told (first.tail told) check given f (first.record_is told) (cut_lacks _ why cut stops.lacks) (cut_lacks _ why cut stops.going)));
+            ap side_after (one_came state a b c p q told (first.tail told) check given f (first.record_is told) (cut_lacks _ why cut stops.lacks) (cut_lacks _ why cut stops.going)));
         going = λ cut. not_before p.ended (cut_lacks _ why cut stops.going);
         endless = endless_behind _ why stops.endless;
         reading = (stops.last, stops.given ∙ first.given);
@@ -237,8 +237,8 @@ module _ {F : Type 0} (state : F → FeedState) (a b c : Sourced F) (p : KeepsCo
       let n = suc given in
       let fault_is : IsTrue (state a.feed).tells → false ≡ false → front_of state (asked a kept check given before) ≡ Stopped (MateMissing Reverse (given + 1)) = λ told inside.
       ap (interleaved_meeting check a.encoding n) (first.record_is told)
-      ∙ ap (λ (e : Encoding). meeting_behind check n f (front e (lines (rest_in state b)))) (sym p.encoding)
-      ∙ ap (meeting_behind check n f) (ends.end_is (p.told ∙ told))
+      ∙ ap (λ (e : Encoding). meeting_after check n f (front e (lines (rest_in state b)))) (sym p.encoding)
+      ∙ ap (meeting_after check n f) (ends.end_is (p.told ∙ told))
       ∙ ap (λ k. Stopped (MateMissing Reverse k)) (sym (add-one given)) in
       record {
         fault_is = fault_is;
@@ -262,8 +262,8 @@ module _ {F : Type 0} (state : F → FeedState) (a b c : Sourced F) (p : KeepsCo
       let ls = lines (rest_in state c) in
       let fault_is : IsTrue (state a.feed).tells → false ≡ false → front_of state (asked a kept check given before) ≡ Stopped (NamesDiffer (given + 1)) = λ told inside.
       ap (interleaved_meeting check a.encoding n) (first.record_is told)
-      ∙ ap (λ (e : Encoding). meeting_behind check n f (front e (lines (rest_in state b)))) (sym p.encoding)
-      ∙ ap (meeting_behind check n f) (second.record_is (p.told ∙ told))
+      ∙ ap (λ (e : Encoding). meeting_after check n f (front e (lines (rest_in state b)))) (sym p.encoding)
+      ∙ ap (meeting_after check n f) (second.record_is (p.told ∙ told))
       ∙ cond-false (belong check (mates_in f r)) (Met (mates_in f r) ls ls) (Stopped (NamesDiffer n)) apart
       ∙ ap (λ k. Stopped (NamesDiffer k)) (sym (add-one given)) in
       subst P (sym is) (record {

@@ -4,15 +4,15 @@ use Rattle.std.specs.List.{concat}
 use Rattle.std.proofs.lemmas.Bool.{cond-true, cond-false, cases_Bool}
 use Rattle.std.proofs.lemmas.List.{append_cancel_right}
 use Rattle.fq_text.specs.declared.encoding.Encoding.{Encoding}
-use Rattle.fq_text.specs.Grammar.{Read, Front, End, Faulty, Found, front, begins_with, before_plus, from_plus, quality_lines, behind_quality, title_fault, plus_fault, quality_faults, sequence_faults, unless_faulty, completed, from_quality_lines, from_plus_line}
+use Rattle.fq_text.specs.Grammar.{Read, Front, End, Faulty, Found, front, begins_with, before_plus, from_plus, quality_lines, after_quality, title_fault, plus_fault, quality_faults, sequence_faults, unless_faulty, completed, from_quality_lines, from_plus_line}
 use Rattle.fq_text.specs.Records.{Records, from_front}
 use Rattle.fq_text.proofs.LawfulLemmas.{passed, complete}
 use Rattle.fq_pair.proofs.FrontLemmas.{no_quality}
 use Rattle.fq_pair.proofs.PairLaws.{records_of, records_of-front}
 
-quality_taken : (n : ℕ) (ls rest : List (List ℕ)) → behind_quality n ls ≡ Some rest →
+quality_taken : (n : ℕ) (ls rest : List (List ℕ)) → after_quality n ls ≡ Some rest →
     (ls ≡ quality_lines n ls ++ rest)
-    × ((others : List (List ℕ)) → (quality_lines n (quality_lines n ls ++ others) ≡ quality_lines n ls) × (behind_quality n (quality_lines n ls ++ others) ≡ Some others))
+    × ((others : List (List ℕ)) → (quality_lines n (quality_lines n ls ++ others) ≡ quality_lines n ls) × (after_quality n (quality_lines n ls ++ others) ≡ Some others))
 quality_taken n [] rest is = ⊎_elim
     (λ none.
     let same : Some [] ≡ Some rest = sym (cond-true (eqb n 0) (Some []) None none) ∙ is in
@@ -28,18 +28,18 @@ quality_taken n (l ∷ ls) rest is = ⊎_elim
       e ∙ ap (λ qs. qs ++ rest) (sym first.0),
       λ others. let here = no_quality others n others none in (
         ap (λ qs. quality_lines n (qs ++ others)) first.0 ∙ here.0 ∙ sym first.0,
-        ap (λ qs. behind_quality n (qs ++ others)) first.0 ∙ here.1,
+        ap (λ qs. after_quality n (qs ++ others)) first.0 ∙ here.1,
       ),
     ))
     (λ some.
     let m = n - length l in
     let q : quality_lines n (l ∷ ls) ≡ l ∷ quality_lines m ls = cond-false (eqb n 0) [] (l ∷ quality_lines m ls) some in
-    let behind = quality_taken m ls rest (sym (cond-false (eqb n 0) (Some (l ∷ ls)) (behind_quality m ls) some) ∙ is) in (
+    let behind = quality_taken m ls rest (sym (cond-false (eqb n 0) (Some (l ∷ ls)) (after_quality m ls) some) ∙ is) in (
       ap (λ xs. l ∷ xs) behind.0 ∙ ap (λ qs. qs ++ rest) (sym q),
       λ others. let there = behind.1 others in (
         ap (λ qs. quality_lines n (qs ++ others)) q ∙ cond-false (eqb n 0) [] (l ∷ quality_lines m (quality_lines m ls ++ others)) some ∙ ap (λ qs. l ∷ qs) there.0 ∙ sym q,
-        ap (λ qs. behind_quality n (qs ++ others)) q
-            ∙ cond-false (eqb n 0) (Some (l ∷ (quality_lines m ls ++ others))) (behind_quality m (quality_lines m ls ++ others)) some ∙ there.1,
+        ap (λ qs. after_quality n (qs ++ others)) q
+            ∙ cond-false (eqb n 0) (Some (l ∷ (quality_lines m ls ++ others))) (after_quality m (quality_lines m ls ++ others)) some ∙ there.1,
       ),
     ))
     (cases_Bool (eqb n 0))
@@ -58,8 +58,8 @@ plus_taken e title bases r (plus ∷ ls) rest is =
     let scores = quality_lines n ls in
     let read : List (List ℕ) → Read = λ qs. record { encoding = e; title = title; seq = bases; qual = concat qs } in
     let first = passed (plus_fault title plus) (from_quality_lines e title bases ls) r rest is in
-    let second = passed (quality_faults e n 0 scores) (completed (read scores) (behind_quality n ls)) r rest first.1 in
-    let third = complete (read scores) r (behind_quality n ls) rest second.1 in
+    let second = passed (quality_faults e n 0 scores) (completed (read scores) (after_quality n ls)) r rest first.1 in
+    let third = complete (read scores) r (after_quality n ls) rest second.1 in
     let all = quality_taken n ls rest third.0 in
     record {
       plus = plus;
@@ -67,7 +67,7 @@ plus_taken e title bases r (plus ∷ ls) rest is =
       split = ap (λ xs. plus ∷ xs) all.0;
       always = λ others. let there = all.1 others in
           ap (λ o. unless_faulty o (from_quality_lines e title bases (scores ++ others))) first.0
-          ∙ ap (λ qs. unless_faulty (quality_faults e n 0 qs) (completed (read qs) (behind_quality n (scores ++ others)))) there.0
+          ∙ ap (λ qs. unless_faulty (quality_faults e n 0 qs) (completed (read qs) (after_quality n (scores ++ others)))) there.0
           ∙ ap (λ o. unless_faulty (quality_faults e n 0 scores) (completed (read scores) o)) there.1
           ∙ ap (λ o. unless_faulty o (Found (read scores) others)) second.0
           ∙ ap (λ s. Found s others) third.1;

@@ -10,13 +10,13 @@ use Rattle.fq_pair.specs.declared.side.Side.TheVariants.{Forward, Reverse}
 use Rattle.fq_pair.specs.declared.fault.InputFault.{InputFault}
 use Rattle.fq_pair.specs.declared.fault.InputFault.TheVariants.{Text, MateMissing}
 use Rattle.fq_pair.specs.Mates.{Mates, mates_in}
-use Rattle.fq_pair.specs.Pairing.{Pairs, belong, fault_behind, text_fault, mate_fault, first_fault, behind, PairFront, Ended, Stopped, met}
+use Rattle.fq_pair.specs.Pairing.{Pairs, belong, fault_following, text_fault, mate_fault, first_fault, behind, PairFront, Ended, Stopped, met}
 
 -- the side of the next record of an interleaved text, after n records
-abbrev pub side_behind : ℕ → Side
-side_behind zero = Forward
-side_behind (suc zero) = Reverse
-side_behind (suc (suc n)) = side_behind n
+abbrev pub side_after : ℕ → Side
+side_after zero = Forward
+side_after (suc zero) = Reverse
+side_after (suc (suc n)) = side_after n
 
 -- the reads of a list, taken as mates two by two
 abbrev pub interleaved_mates : List Read → List Mates
@@ -28,8 +28,8 @@ interleaved_mates (f ∷ r ∷ others) = mates_in f r ∷ interleaved_mates othe
 abbrev pub interleaved_fault_at : ℕ → Records → Option InputFault
 interleaved_fault_at n text =
     let second = drop 1 text.reads in
-    first_fault (text_fault Forward text.reads (fault_behind (2 * n - 1) text))
-    (first_fault (text_fault Reverse second (fault_behind (2 * n) text))
+    first_fault (text_fault Forward text.reads (fault_following (2 * n - 1) text))
+    (first_fault (text_fault Reverse second (fault_following (2 * n) text))
     (mate_fault n text.reads second))
 
 -- The pairs of an interleaved text, numbered on from those given, until a record is missing or two
@@ -48,17 +48,17 @@ interleaved_pairs check encoding given text =
 -- One pair after the other.
 
 -- pair n, if its forward mate was found and this comes after it
-abbrev pub meeting_behind : Bool → ℕ → Read → Front → PairFront
-meeting_behind check n f (Faulty fault) = Stopped (Text Reverse (numbered fault (2 * n)))
-meeting_behind check n f End = Stopped (MateMissing Reverse n)
-meeting_behind check n f (Found r ls) = met check n (mates_in f r) ls ls
+abbrev pub meeting_after : Bool → ℕ → Read → Front → PairFront
+meeting_after check n f (Faulty fault) = Stopped (Text Reverse (numbered fault (2 * n)))
+meeting_after check n f End = Stopped (MateMissing Reverse n)
+meeting_after check n f (Found r ls) = met check n (mates_in f r) ls ls
 
 -- pair n, if this comes first in the text
 abbrev pub interleaved_meeting : Bool → Encoding → ℕ → Front → PairFront
 interleaved_meeting check encoding n (Faulty fault) =
     Stopped (Text Forward (numbered fault (2 * n - 1)))
 interleaved_meeting check encoding n End = Ended
-interleaved_meeting check encoding n (Found f ls) = meeting_behind check n f (front encoding ls)
+interleaved_meeting check encoding n (Found f ls) = meeting_after check n f (front encoding ls)
 
 -- What comes first in a list of lines, after the pairs given. The lines after a pair are left to
 -- both sides.

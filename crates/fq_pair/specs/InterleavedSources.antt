@@ -12,7 +12,7 @@ use Rattle.fq_pair.specs.declared.fault.InputFault.{InputFault}
 use Rattle.fq_pair.specs.declared.fault.InputFault.TheVariants.{Text}
 use Rattle.fq_pair.specs.Mates.{Mates}
 use Rattle.fq_pair.specs.Pairing.{Pairs, PairFront, Ended, Stopped, Met, belong, with_pair}
-use Rattle.fq_pair.specs.Interleaved.{side_behind, interleaved_pairs, interleaved_front}
+use Rattle.fq_pair.specs.Interleaved.{side_after, interleaved_pairs, interleaved_front}
 use Rattle.fq_pair.specs.PairSources.{is_from_outside, is_cut_short, if_cut, if_endless, failed_on, pair_of}
 
 -- A source of pairs: the source of both mates, whether names are checked, how many pairs were
@@ -88,7 +88,7 @@ LacksPair state old new = IsTrue (state old.source.feed).tells →
 -- call and of those that the feed gave in it
 abbrev pub IsNext : {F : Type 0} → (F → FeedState) → Sourced F → Sourced F → Side → Type 0
 IsNext state old new side = IsTrue (state old.feed).tells →
-    side_behind (length (records old.encoding (whole_part (held state old new))).reads) ≡ side
+    side_after (length (records old.encoding (whole_part (held state old new))).reads) ≡ side
 
 -- A fault of the text, of whatever kind, is the last result of its source, and its side is that of
 -- the record that was being read: if it is reverse, the forward record had been given.

@@ -28,8 +28,8 @@ abbrev pub belong : Bool → Mates → Bool
 belong check m = not check || names_match m.forward.title m.reverse.title
 
 -- the fault after the records of a text, as that of record n
-abbrev pub fault_behind : ℕ → Records → Option TextFault
-fault_behind n text = option_map (λ fault. numbered fault n) text.fault
+abbrev pub fault_following : ℕ → Records → Option TextFault
+fault_following n text = option_map (λ fault. numbered fault n) text.fault
 
 -- the fault because of which a text has no next record
 abbrev pub text_fault : Side → List Read → Option TextFault → Option InputFault
@@ -52,8 +52,8 @@ first_fault None later = later
 -- why there is no pair n, if the rests of two texts begin with their records n
 abbrev pub fault_at : ℕ → Records → Records → Option InputFault
 fault_at n forward reverse =
-    first_fault (text_fault Forward forward.reads (fault_behind n forward))
-    (first_fault (text_fault Reverse reverse.reads (fault_behind n reverse))
+    first_fault (text_fault Forward forward.reads (fault_following n forward))
+    (first_fault (text_fault Reverse reverse.reads (fault_following n reverse))
     (mate_fault n forward.reads reverse.reads))
 
 -- what is left of a text after its first n records

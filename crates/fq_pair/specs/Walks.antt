@@ -12,7 +12,7 @@ use Rattle.fq_pair.specs.declared.side.Side.TheVariants.{Forward, Reverse}
 use Rattle.fq_pair.specs.declared.fault.InputFault.{InputFault}
 use Rattle.fq_pair.specs.Mates.{Mates}
 use Rattle.fq_pair.specs.Pairing.{PairFront, Ended, Stopped, Met}
-use Rattle.fq_pair.specs.Interleaved.{side_behind}
+use Rattle.fq_pair.specs.Interleaved.{side_after}
 use Rattle.fq_pair.specs.PairSources.{PairSourced, is_from_outside, is_cut_short, if_cut, if_endless}
 use Rattle.fq_pair.specs.InterleavedSources.{InterleavedSourced}
 use Rattle.fq_pair.specs.Forms.{Form, TwoTexts, InterleavedText, pairs_in, front_in, records_of_pairs, failed_at}
@@ -162,7 +162,7 @@ faulty why = res.Err why
 -- came
 abbrev pub IsNext : SourceState → SourceState → Side → Type 0
 IsNext old new side = IsTrue old.forward.tells →
-    side_behind (length (records old.encoding (whole_part (came old.forward new.forward))).reads)
+    side_after (length (records old.encoding (whole_part (came old.forward new.forward))).reads)
     ≡ side
 
 -- A fault was met. In an interleaved text, a read call that failed, or was one too many, was made

@@ -5,7 +5,7 @@ use Rattle.fq_text.specs.declared.encoding.Encoding.{Encoding}
 use Rattle.fq_text.specs.Grammar.{Front, End, Faulty, Found, front}
 use Rattle.fq_pair.specs.Mates.{Mates}
 use Rattle.fq_pair.specs.Pairing.{Pairs, PairFront, Ended, Stopped, Met, meeting, pair_front}
-use Rattle.fq_pair.specs.Interleaved.{side_behind, interleaved_front}
+use Rattle.fq_pair.specs.Interleaved.{side_after, interleaved_front}
 use Rattle.fq_pair.specs.Forms.{TwoTexts, InterleavedText}
 use Rattle.fq_pair.specs.Walks.{Leads}
 use Rattle.fq_pair.proofs.PairLaws.{records_of, pairs_of-met, pairs_of-stopped, pairs_of-ended}
@@ -127,8 +127,8 @@ module _ (check : Bool) (e : Encoding) where
   module _ (more behind : List (List ℕ)) where
     -- two records to a pair leave the turn of the sides as it was
     pub turn_kept : (n : ℕ) (ms : List Mates) (ls same same' : List (List ℕ)) → Leads InterleavedText check e n ms (ls ++ more) same (behind ++ more) same' →
-        side_behind (length (records_of e ls).reads) ≡ side_behind (length (records_of e behind).reads)
-    turn_kept n [] ls same same' p = ap (λ xs. side_behind (length (records_of e xs).reads)) (append_cancel_right ls behind more p.0)
+        side_after (length (records_of e ls).reads) ≡ side_after (length (records_of e behind).reads)
+    turn_kept n [] ls same same' p = ap (λ xs. side_after (length (records_of e xs).reads)) (append_cancel_right ls behind more p.0)
     turn_kept n (m ∷ ms) ls same same' p =
         let q = meets_interleaved check e (suc n) m p.0 p.1 (front e (ls ++ more)) p.2 in
         let last = leads_end (suc n) ms p.0 p.1 (behind ++ more) same' p.3 in
@@ -139,5 +139,5 @@ module _ (check : Bool) (e : Encoding) where
         let between : q.ls ≡ rs ++ more = r.split ∙ ap (λ xs. r.taken ++ xs) left ∙ sym (append_assoc r.taken fs more) in
         let first = front_fewer e q.f ls rs more (q.first ∙ ap (Found q.f) between) in
         let P : List (List ℕ) → Type 0 = λ xs. Leads InterleavedText check e (suc n) ms xs p.1 (behind ++ more) same' in
-        ap side_behind (one_record e q.f ls rs first ∙ ap suc (one_record e q.r rs fs (r.always fs)))
+        ap side_after (one_record e q.f ls rs first ∙ ap suc (one_record e q.r rs fs (r.always fs)))
         ∙ turn_kept (suc n) ms fs p.1 same' (subst P left p.3)

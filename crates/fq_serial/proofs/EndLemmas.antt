@@ -11,7 +11,7 @@ use Rattle.fq_pair.specs.declared.side.Side.TheVariants.{Forward, Reverse}
 use Rattle.fq_pair.specs.declared.fault.InputFault.{InputFault}
 use Rattle.fq_pair.specs.declared.fault.InputFault.TheVariants.{Text}
 use Rattle.fq_pair.specs.Mates.{Mates}
-use Rattle.fq_pair.specs.Interleaved.{side_behind}
+use Rattle.fq_pair.specs.Interleaved.{side_after}
 use Rattle.fq_pair.specs.Forms.{Form, InterleavedText, pairs_in}
 use Rattle.fq_pair.specs.Pairing.{Pairs}
 use Rattle.fq_pair.specs.PairSources.{is_cut, is_cut_short, if_cut}
@@ -187,7 +187,7 @@ module _ (form : Form) (c : Choices) (f r : FeedState) (new : SourceState) (befo
       ((P : Side → Type 0) → if_cut P (Text side fault) → P side) → IsNext c run side
   next_side one told side fault is cut of_side =
       let R : Form → Type 0 = λ x. Reads (fresh_source x c f r) new all_read (Some (reading.Fault (Text side fault))) in
-      ap (λ xs. side_behind (length (records c.encoding (whole_part xs)).reads)) (forward_gave told.forward)
+      ap (λ xs. side_after (length (records c.encoding (whole_part xs)).reads)) (forward_gave told.forward)
       ∙ reads_next c f r new all_read side fault (subst R one (reads_at (reading.Fault (Text side fault)) is)) cut of_side told.forward told.reverse
 
   -- what was written if a flush failed

@@ -5,7 +5,7 @@ use Rattle.fq_text.specs.declared.encoding.Encoding.{Encoding}
 use Rattle.fq_text.specs.Grammar.{Read, Front, End, Faulty, Found, front}
 use Rattle.fq_pair.specs.Mates.{Mates, mates_in}
 use Rattle.fq_pair.specs.Pairing.{belong, Stopped, Met, met, meeting, pair_front}
-use Rattle.fq_pair.specs.Interleaved.{meeting_behind, interleaved_meeting, interleaved_front}
+use Rattle.fq_pair.specs.Interleaved.{meeting_after, interleaved_meeting, interleaved_front}
 use Rattle.fq_pair.specs.declared.fault.InputFault.TheVariants.{NamesDiffer}
 use Rattle.fq_pair.proofs.FrontLemmas.{front_more}
 
@@ -74,7 +74,7 @@ meets_interleaved check e n m fs rs End is = absurd cc
 meets_interleaved check e n m fs rs (Faulty x) is = absurd cc
 meets_interleaved check e n m fs rs (Found f ls) is = behind (front e ls) refl is
   where
-    behind : (y : Front) → front e ls ≡ y → meeting_behind check n f y ≡ Met m fs rs → MeetsInterleaved check e m fs rs (Found f ls)
+    behind : (y : Front) → front e ls ≡ y → meeting_after check n f y ≡ Met m fs rs → MeetsInterleaved check e m fs rs (Found f ls)
     behind End at there = absurd cc
     behind (Faulty x) at there = absurd cc
     behind (Found r qs) at there = found_interleaved check e n m f r ls qs fs rs at there
@@ -85,7 +85,7 @@ pub interleaved_met_more : (check : Bool) (e : Encoding) (n : ℕ) (m : Mates) (
 interleaved_met_more check e n m ls fs rs more is =
     let p = meets_interleaved check e (suc n) m fs rs (front e ls) is in
     ap (interleaved_meeting check e (suc n)) (front_more more e p.f p.ls ls p.first)
-    ∙ ap (meeting_behind check (suc n) p.f) (front_more more e p.r fs p.ls p.second)
+    ∙ ap (meeting_after check (suc n) p.f) (front_more more e p.r fs p.ls p.second)
     ∙ cond-true (belong check (mates_in p.f p.r)) (Met (mates_in p.f p.r) (fs ++ more) (fs ++ more)) (Stopped (NamesDiffer (suc n))) p.together
     ∙ ap (λ x. Met x (fs ++ more) (fs ++ more)) p.pair
     ∙ ap (λ xs. Met m (fs ++ more) (xs ++ more)) (sym p.same)

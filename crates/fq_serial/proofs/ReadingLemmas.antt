@@ -13,7 +13,7 @@ use Rattle.fq_pair.specs.Mates.{Mates}
 use Rattle.fq_pair.specs.Forms.{Form, TwoTexts, InterleavedText, pairs_in, front_in, failed_at}
 use Rattle.fq_pair.specs.Pairing.{Pairs, with_pair, PairFront, Ended, Stopped}
 use Rattle.fq_pair.specs.PairSources.{is_from_outside, is_cut, is_cut_short, if_cut}
-use Rattle.fq_pair.specs.Interleaved.{side_behind}
+use Rattle.fq_pair.specs.Interleaved.{side_after}
 use Rattle.fq_pair.proofs.WholeLemmas.{behind_whole}
 use Rattle.fq_pair.proofs.SideLemmas.{draws_then, lines_before, lines_left, lines_behind}
 use Rattle.fq_serial.specs.declared.reading_end.ReadingEnd.{ReadingEnd}
@@ -195,7 +195,7 @@ module _ (c : Choices) (f r : FeedState) where
 
   -- in an interleaved text the read call was made for the next record
   pub reads_next : (s : SourceState) (ms : List Mates) (side : Side) (fault : TextFault) → Reads (fresh_source InterleavedText c f r) s ms (Some (reading.Fault (Text side fault))) → is_cut fault ≡ true →
-      ((P : Side → Type 0) → if_cut P (Text side fault) → P side) → IsTrue f.tells → IsTrue r.tells → side_behind (length (records c.encoding (whole_part (fed (fresh_side c f) s.forward))).reads) ≡ side
+      ((P : Side → Type 0) → if_cut P (Text side fault) → P side) → IsTrue f.tells → IsTrue r.tells → side_after (length (records c.encoding (whole_part (fed (fresh_side c f) s.forward))).reads) ≡ side
   reads_next s ms side fault p cut of_side tf tr =
       let m = p.0 in let w = p.1 in let e = p.2 in let d = w.forward in let same = w.same in
       let F = lines_before (fresh_side c f) m.forward s.forward _ w.forward e.forward tf (w.forward_used tf) in
@@ -207,5 +207,5 @@ module _ (c : Choices) (f r : FeedState) where
       λ ls. Leads InterleavedText c.check_names c.encoding 0 ms (lines (whole_part (fed (fresh_side c f) s.forward)) ++ more) (lines (rest (fresh_side c r))) ls (lines (rest m.reverse)) in
       turn_kept c.check_names c.encoding more behind 0 ms (lines (whole_part (fed (fresh_side c f) s.forward))) (lines (rest (fresh_side c r))) (lines (rest m.reverse))
       (subst Q B (subst P F (w.leads tf tr)))
-      ∙ ap (λ (x : Encoding). side_behind (length (records x (whole_part (came m.forward s.forward))).reads)) (sym same.encoding)
+      ∙ ap (λ (x : Encoding). side_after (length (records x (whole_part (came m.forward s.forward))).reads)) (sym same.encoding)
       ∙ of_side (IsNext m s) (e.next same.form) (d.told ∙ tf)

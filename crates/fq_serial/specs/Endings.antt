@@ -10,7 +10,7 @@ use Rattle.fq_pair.specs.declared.counts.Counts.{Counts}
 use Rattle.fq_pair.specs.declared.fault.InputFault.{InputFault}
 use Rattle.fq_pair.specs.Mates.{Mates}
 use Rattle.fq_pair.specs.Pairing.{Pairs}
-use Rattle.fq_pair.specs.Interleaved.{side_behind}
+use Rattle.fq_pair.specs.Interleaved.{side_after}
 use Rattle.fq_pair.specs.Forms.{Form, TwoTexts, InterleavedText, pairs_in}
 use Rattle.fq_pair.specs.Outputs.{texts_of, text_of, counts_of}
 use Rattle.fq_tally.specs.declared.tally.Tally.{Tally}
@@ -150,7 +150,7 @@ pairs_given c run =
 -- lines that the feed gave
 abbrev pub IsNext : Choices → Run → Side → Type 0
 IsNext c run side =
-    side_behind
+    side_after
     (length (records c.encoding (whole_part (gave_to run.forward run.forward_left))).reads)
     ≡ side
 

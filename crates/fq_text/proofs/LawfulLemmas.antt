@@ -6,7 +6,7 @@ use Rattle.std.proofs.lemmas.List.Folds.{list_all-append}
 use Rattle.std.proofs.lemmas.Bool.{cond-true, cond-false, cases_Bool, and_parts, and_from, not-false, not_from_false, ltb-false, eqb-true}
 use Rattle.fq_text.specs.Scores.{is_scored}
 use Rattle.fq_text.specs.Lines.{pieces, before_first_piece, without_cr, lines}
-use Rattle.fq_text.specs.Grammar.{limit, is_base, IsLawful, Front, End, Faulty, Found, Read, begins_with, before_plus, from_plus, quality_lines, behind_quality, when, is_too_long, title_fault, sequence_fault, plus_fault, quality_fault, or_else, sequence_faults, quality_faults, unless_faulty, completed, from_quality_lines, from_plus_line, from_title_line, front}
+use Rattle.fq_text.specs.Grammar.{limit, is_base, IsLawful, Front, End, Faulty, Found, Read, begins_with, before_plus, from_plus, quality_lines, after_quality, when, is_too_long, title_fault, sequence_fault, plus_fault, quality_fault, or_else, sequence_faults, quality_faults, unless_faulty, completed, from_quality_lines, from_plus_line, from_title_line, front}
 use Rattle.fq_text.specs.declared.encoding.Encoding.{Encoding}
 use Rattle.fq_text.specs.declared.fault.Fault.{Fault}
 use Rattle.fq_text.specs.declared.fault.Fault.TheVariants as fault
@@ -109,7 +109,7 @@ sound_quality encoding bases n (l ∷ ls) le sound =
       valid = list_all-append (is_scored encoding) l (concat ls) ∙ and_from _ _ (not-false _ valid.0) rest.valid;
     }
 
-enough : (n : ℕ) (ls behind : List (List ℕ)) → behind_quality n ls ≡ Some behind → n ≤ length (concat (quality_lines n ls))
+enough : (n : ℕ) (ls behind : List (List ℕ)) → after_quality n ls ≡ Some behind → n ≤ length (concat (quality_lines n ls))
 enough n [] behind is = ⊎_elim
     (λ none. let e = eqb-true n 0 none in omega arith)
     (λ some. absurd (let h = sym (cond-false (eqb n 0) (Some []) None some) ∙ is in cc))
@@ -117,7 +117,7 @@ enough n [] behind is = ⊎_elim
 enough n (l ∷ ls) behind is = ⊎_elim
     (λ none. let e = eqb-true n 0 none in omega arith)
     (λ some.
-    let rest = enough (n - length l) ls behind (sym (cond-false (eqb n 0) (Some (l ∷ ls)) (behind_quality (n - length l) ls) some) ∙ is) in
+    let rest = enough (n - length l) ls behind (sym (cond-false (eqb n 0) (Some (l ∷ ls)) (after_quality (n - length l) ls) some) ∙ is) in
     let same = ap (λ ms. length (concat ms)) (cond-false (eqb n 0) [] (l ∷ quality_lines (n - length l) ls) some) in
     omega (arith, length-append l (concat (quality_lines (n - length l) ls)), same))
     (cases_Bool (eqb n 0))
@@ -138,8 +138,8 @@ module _ (encoding : Encoding) where
   found_quality title bases (plus ∷ ls) r behind is =
       let first = passed (plus_fault title plus) (from_quality_lines encoding title bases ls) r behind is in
       let scores = quality_lines (length bases) ls in
-      let second = passed (quality_faults encoding (length bases) 0 scores) (completed (record { encoding = encoding; title = title; seq = bases; qual = concat scores }) (behind_quality (length bases) ls)) r behind first.1 in
-      let third = complete (record { encoding = encoding; title = title; seq = bases; qual = concat scores }) r (behind_quality (length bases) ls) behind second.1 in
+      let second = passed (quality_faults encoding (length bases) 0 scores) (completed (record { encoding = encoding; title = title; seq = bases; qual = concat scores }) (after_quality (length bases) ls)) r behind first.1 in
+      let third = complete (record { encoding = encoding; title = title; seq = bases; qual = concat scores }) r (after_quality (length bases) ls) behind second.1 in
       let sound = sound_quality encoding (length bases) 0 scores (omega arith) second.0 in
       let most = sound.fits in
       let least = enough (length bases) ls behind third.0 in

@@ -13,7 +13,7 @@ use Rattle.fq_text.specs.Lines.{without_cr, is_whole, lines}
 use Rattle.fq_text.specs.Grammar.{limit, Read, IsLawful, Found, front, is_base, plus_fault}
 use Rattle.fq_text.specs.Reading.{Lined, NoLf}
 use Rattle.fq_text.specs.Phases.{Goes}
-use Rattle.fq_text.specs.Unwrapped.{unwrapped, lines_len, EndsAt, IsFirstLine, IsFourLines, StandsFirst}
+use Rattle.fq_text.specs.Unwrapped.{unwrapped, lines_len, EndsAt, IsFirstLine, IsFourLines, BeginsWithRecord}
 use Rattle.fq_text.proofs.LineLemmas.{whole_to, without_cr_yes, without_cr_no}
 use Rattle.fq_text.proofs.AdvanceLemmas.{behind_line, behind_reads, reads_none}
 use Rattle.fq_text.proofs.WrittenLemmas.{Ends, ends_in_lf, ends_in_cr_lf, four, AreItsLines, clean_bases, plain_bases, plain_behind, quals_are_bases, found_first}
@@ -145,14 +145,14 @@ lawful_lines (inr two) r again lawful plain shape =
       same = plus_is_sound r.title again lawful.title_fits shape;
     }
 
-its_lines : (encoding : Encoding) (hand : List ℕ) (s : Shape) (p : StandsFirst encoding hand s) → AreItsLines (bytes_of p.shape.end) (take s.again (drop 1 hand)) (unwrapped encoding s (drop 1 hand))
+its_lines : (encoding : Encoding) (hand : List ℕ) (s : Shape) (p : BeginsWithRecord encoding hand s) → AreItsLines (bytes_of p.shape.end) (take s.again (drop 1 hand)) (unwrapped encoding s (drop 1 hand))
 its_lines encoding hand s p =
     let again : (take s.again (drop 1 hand) ≡ []) ⊎ (take s.again (drop 1 hand) ≡ take s.title (drop 1 hand)) =
     ⊎_elim (λ none. inl (ap (λ (m : ℕ). take m (drop 1 hand)) none)) (λ same. inr (ap (λ (m : ℕ). take m (drop 1 hand)) same)) p.shape.again in
     lawful_lines p.shape.end (unwrapped encoding s (drop 1 hand)) (take s.again (drop 1 hand)) p.lawful p.plain again
 
 -- such a record is the one at the front, whatever lines follow
-pub found_in_hand : (encoding : Encoding) (hand : List ℕ) (s : Shape) (ls : List (List ℕ)) → StandsFirst encoding hand s →
+pub found_in_hand : (encoding : Encoding) (hand : List ℕ) (s : Shape) (ls : List (List ℕ)) → BeginsWithRecord encoding hand s →
     front encoding (lines (take (four_len s) hand) ++ ls) ≡ Found (unwrapped encoding s (drop 1 hand)) ls
 found_in_hand encoding hand s ls p =
     let r = unwrapped encoding s (drop 1 hand) in
@@ -175,7 +175,7 @@ unwrapped_front encoding bytes s k le =
 
 module _ {F : Type 0} (state : F → FeedState) where
   -- a reader that takes a record out of the bytes in hand is after it
-  pub goes_first : (a b : Lined F) (encoding : Encoding) (s : Shape) (k : ℕ) → b ≡ behind_line state a k (four_len s) → StandsFirst encoding a.in_hand s →
+  pub goes_first : (a b : Lined F) (encoding : Encoding) (s : Shape) (k : ℕ) → b ≡ behind_line state a k (four_len s) → BeginsWithRecord encoding a.in_hand s →
       Goes state a b (front encoding) (Found (unwrapped encoding s (drop 1 a.in_hand)))
   goes_first a b encoding s k is p =
       let len = four_len s in
@@ -282,7 +282,7 @@ first_line_ends xs k e p none =
     let fits = p.fits in
     none (k + e - 1) (omega arith) p.ends.lf
 
-module _ (encoding : Encoding) (hand : List ℕ) (s : Shape) (p : StandsFirst encoding hand s) where
+module _ (encoding : Encoding) (hand : List ℕ) (s : Shape) (p : BeginsWithRecord encoding hand s) where
   -- the last of these bytes has a score, so it is not CR
   lines_plain : without_cr (take (lines_len s) hand) ≡ take (lines_len s) hand
   lines_plain =

@@ -12,7 +12,7 @@ use Rattle.fq_text.specs.declared.parse.Place.{Place}
 use Rattle.fq_text.specs.declared.parse.Place.TheVariants.{Unwrapped, Joined}
 use Rattle.fq_text.specs.Lines.{lines, is_whole}
 use Rattle.fq_text.specs.Reading.{Lined, rest_of, Reads, Closed, NoLf}
-use Rattle.fq_text.specs.Grammar.{Read, Front, End, Faulty, Found, before_plus, from_plus, quality_lines, behind_quality, sequence_faults, quality_faults, unless_faulty, from_plus_line, completed, front, plus_sign, begins_with, limit}
+use Rattle.fq_text.specs.Grammar.{Read, Front, End, Faulty, Found, before_plus, from_plus, quality_lines, after_quality, sequence_faults, quality_faults, unless_faulty, from_plus_line, completed, front, plus_sign, begins_with, limit}
 use Rattle.fq_text.specs.Unwrapped.{unwrapped, lines_len}
 
 -- after the title and these bases have been read
@@ -36,7 +36,7 @@ in_quality encoding title bases quals ls =
       seq = bases;
       qual = quals ++ concat (quality_lines (length bases - length quals) ls);
     })
-    (behind_quality (length bases - length quals) ls))
+    (after_quality (length bases - length quals) ls))
 
 -- A reader has gone on from a place from which lines are read by S, to a place from which they are
 -- read by T.

@@ -60,7 +60,7 @@ pub record IsShape (s : Shape) : Type 0 where
 
 -- These bytes begin with a valid record of this shape. A title that is followed by LF alone does
 -- not end in CR.
-pub record StandsFirst (encoding : Encoding) (hand : List ℕ) (s : Shape) : Type 0 where
+pub record BeginsWithRecord (encoding : Encoding) (hand : List ℕ) (s : Shape) : Type 0 where
   pub shape : IsShape s
   pub lines : IsFourLines hand s
   pub some : 0 < s.bases

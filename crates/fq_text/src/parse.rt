@@ -3,7 +3,7 @@
 ghost use Rattle.std.specs.Prelude.{◌≡◌, ◌+◌, ◌*◌, ◌<◌, ◌≤◌, ℕ, true, List, [], ◌∷◌, length, drop, MatchResult, IfOk, IfSome, Ok, Some, None};
 ghost use Rattle.fq_text.specs.Grammar.{limit, begins_with, front, Read, Found};
 ghost use Rattle.fq_text.specs.Reading.{IsSound, fails};
-ghost use Rattle.fq_text.specs.Unwrapped.{unwrapped, lines_len, StandsFirst};
+ghost use Rattle.fq_text.specs.Unwrapped.{unwrapped, lines_len, BeginsWithRecord};
 ghost use Rattle.fq_text.specs.declared.parse.Place.TheVariants.{Joined};
 ghost use Rattle.fq_text.specs.declared.unwrapped.Shape.{Shape};
 ghost use Rattle.fq_text.specs.Phases.{in_sequence, at_plus, in_quality, Goes, Ends, Stops, FindsTitle, FindsPlus, FindsRecord, FindsRest};
@@ -121,7 +121,7 @@ fn take_in_hand<F: Feed>(
     ensures whole { IfSome result (λ shape. lines_len shape ≤ length lines.new.line) }
     ensures none { result ≡ None → lines.new ≡ lines.old }
     ensures passed_by { result ≡ None → (shape : Shape)
-        → StandsFirst encoding lines.old.in_hand shape → ⊥ }
+        → BeginsWithRecord encoding lines.old.in_hand shape → ⊥ }
     ensures sound { IsSound F.state lines.new }
     ensures feed { lines.new.feed ≡ lines.old.feed }
 {
@@ -147,7 +147,7 @@ pub(crate) fn read_record<F: Feed>(
         (Stops F.state lines.old lines.new (front encoding)) }
     ensures place { IfOk result (λ o. IfSome o (IsPlace lines.new.line)) }
     ensures lent { result ≡ Ok (Some Joined) → (shape : Shape)
-        → StandsFirst encoding lines.old.in_hand shape → ⊥ }
+        → BeginsWithRecord encoding lines.old.in_hand shape → ⊥ }
     ensures sound { IsSound F.state lines.new }
     ensures failures { (F.state lines.new.feed).failures
         ≡ (F.state lines.old.feed).failures + fails result }

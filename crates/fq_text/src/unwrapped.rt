@@ -4,7 +4,7 @@
 ghost use Rattle.std.specs.Prelude.{◌≡◌, ◌↔◌, ◌+◌, ◌*◌, ◌-◌, ◌≤◌, ◌⊎◌, ℕ, None, take, drop, length, slice_index, IsTrue, IfSome};
 ghost use Rattle.fq_text.specs.Grammar.{limit, IsLawful};
 ghost use Rattle.fq_text.specs.Reading.{NoLf, IsLineEnd};
-ghost use Rattle.fq_text.specs.Unwrapped.{unwrapped, lines_len, plus_place, EndsAt, IsFirstLine, DoLinesEnd, IsFourLines, IsShape, StandsFirst};
+ghost use Rattle.fq_text.specs.Unwrapped.{unwrapped, lines_len, plus_place, EndsAt, IsFirstLine, DoLinesEnd, IsFourLines, IsShape, BeginsWithRecord};
 ghost use Rattle.fq_text.specs.declared.unwrapped.Shape.{Shape};
 
 use crate::encoding::Encoding;
@@ -136,7 +136,7 @@ fn parts_of(lines: &[u8], shape: Shape) -> (&[u8], &[u8], &[u8])
 fn begins_with_record(encoding: Encoding, hand: &[u8], shape: Shape) -> bool
     requires shape { IsShape shape }
     requires title { IsFirstLine (drop 1 hand.now) shape.title shape.end }
-    ensures { IsTrue result ↔ StandsFirst encoding hand.now shape }
+    ensures { IsTrue result ↔ BeginsWithRecord encoding hand.now shape }
 {
     if shape.title >= LIMIT
         || shape.bases == 0
@@ -152,9 +152,9 @@ fn begins_with_record(encoding: Encoding, hand: &[u8], shape: Shape) -> bool
 // The shape of the record that these bytes begin with, if it has this title and `bases` bases.
 fn shape_of(encoding: Encoding, hand: &[u8], title: FirstLine, bases: usize) -> Option<Shape>
     requires { IsFirstLine (drop 1 hand.now) title.len title.end }
-    ensures found { IfSome result (StandsFirst encoding hand.now) }
+    ensures found { IfSome result (BeginsWithRecord encoding hand.now) }
     ensures none { result ≡ None → (again : ℕ)
-        → StandsFirst encoding hand.now
+        → BeginsWithRecord encoding hand.now
         (record { title = title.len; bases = bases; end = title.end; again = again }) → ⊥ }
 {
     let FirstLine { len: title, end } = title;
@@ -212,8 +212,8 @@ fn first_line(text: &[u8]) -> Option<FirstLine>
 /// bases do not make a record.
 #[inline(always)]
 pub(crate) fn first_record(encoding: Encoding, hand: &[u8], guess: usize) -> Option<Shape>
-    ensures found { IfSome result (StandsFirst encoding hand.now) }
-    ensures none { result ≡ None → (shape : Shape) → StandsFirst encoding hand.now shape → ⊥ }
+    ensures found { IfSome result (BeginsWithRecord encoding hand.now) }
+    ensures none { result ≡ None → (shape : Shape) → BeginsWithRecord encoding hand.now shape → ⊥ }
 {
     if !begins_with(hand, b'@') {
         return None;

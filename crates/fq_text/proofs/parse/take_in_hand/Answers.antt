@@ -2,7 +2,7 @@ use Rattle.std.proofs.Common.{◌≡◌, ◌+◌, List, ℕ, ap, sym, subst, ◌
 use Rattle.fq_text.specs.Grammar.{Read, Found, front}
 use Rattle.fq_text.specs.Reading.{Lined}
 use Rattle.fq_text.specs.Phases.{Goes}
-use Rattle.fq_text.specs.Unwrapped.{lines_len, StandsFirst}
+use Rattle.fq_text.specs.Unwrapped.{lines_len, BeginsWithRecord}
 use Rattle.fq_text.proofs.AdvanceLemmas.{behind_line}
 use Rattle.fq_text.proofs.UnwrappedLemmas.{four_len, goes_first, taken_same, taken_whole}
 use Rattle.fq_text.proofs.parse.take_in_hand.Goals as goal
@@ -13,7 +13,7 @@ returns-clause-found g c =
     let s = c.in_ok-shape.shape in
     let a = c.args.lines.now in
     let b = c.take_line.new.self in
-    let first = subst (λ (h : List ℕ). StandsFirst e h s) c.hand-hand.ensures c.in_ok-shape.ensures.found in
+    let first = subst (λ (h : List ℕ). BeginsWithRecord e h s) c.hand-hand.ensures c.in_ok-shape.ensures.found in
     let took = rw c.lines_len-len.ensures at c.take_line.ensures in
     let line = ap (λ (r : Lined g.row.F.Denot). r.line) took in
     let used : lines_len s + s.end ≡ four_len s = omega arith in
@@ -24,6 +24,6 @@ pub returns-clause-whole : goal.returns-clause-whole
 returns-clause-whole g c =
     let e = c.args.encoding in
     let s = c.in_ok-shape.shape in
-    let first = subst (λ (h : List ℕ). StandsFirst e h s) c.hand-hand.ensures c.in_ok-shape.ensures.found in
+    let first = subst (λ (h : List ℕ). BeginsWithRecord e h s) c.hand-hand.ensures c.in_ok-shape.ensures.found in
     let took = rw c.lines_len-len.ensures at c.take_line.ensures in
     taken_whole e c.args.lines.now.in_hand s first c.take_line.new.self.line (ap (λ (r : Lined g.row.F.Denot). r.line) took)

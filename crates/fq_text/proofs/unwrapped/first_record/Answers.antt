@@ -1,7 +1,7 @@
 use Rattle.std.proofs.Common.{◌≡◌, ℕ, ◌+◌, ◌-◌, List, length, take, drop, refl, sym, subst, ◌∙◌}
 use Rattle.std.proofs.lemmas.List.{take_rest}
 use Rattle.fq_text.specs.Reading.{NoLf}
-use Rattle.fq_text.specs.Unwrapped.{IsFirstLine, StandsFirst}
+use Rattle.fq_text.specs.Unwrapped.{IsFirstLine, BeginsWithRecord}
 use Rattle.fq_text.specs.declared.encoding.Encoding.{Encoding}
 use Rattle.fq_text.specs.declared.unwrapped.Shape.{Shape}
 use Rattle.fq_text.proofs.UnwrappedLemmas.{same_line, first_line_ends, title_line, as_found, shape_is}
@@ -12,7 +12,7 @@ abbrev behind : List ℕ → ℕ → List ℕ
 behind hand n = take (length hand - n) (drop n hand)
 
 -- the two lines that were found are the first lines of the record at the front
-two_lines : (e : Encoding) (hand : List ℕ) (s : Shape) (t k n m : ℕ) → StandsFirst e hand s → IsFirstLine (behind hand 1) t k → IsFirstLine (behind hand (t + k + 1)) n m →
+two_lines : (e : Encoding) (hand : List ℕ) (s : Shape) (t k n m : ℕ) → BeginsWithRecord e hand s → IsFirstLine (behind hand 1) t k → IsFirstLine (behind hand (t + k + 1)) n m →
     (t ≡ s.title) × (k ≡ s.end) × (n ≡ s.bases) × (m ≡ s.end)
 two_lines e hand s t k n m first title bases =
     let found = as_found e hand s first t k (subst (λ (xs : List ℕ). IsFirstLine xs t k) (take_rest hand 1) title) in
@@ -37,7 +37,7 @@ returns-in-Some-first_line-clause-none c none s first =
     let seq = c.in-Some-first_line.seq in
     let found = two_lines e hand s title.len title.end seq.len seq.end first c.in_ok-title.ensures.found c.in-Some-first_line.ensures.found in
     c.shape_of-in-Some-first_line.ensures.none none s.again
-    (subst (λ (shape : Shape). StandsFirst e hand shape) (shape_is s title.len seq.len title.end found.0 found.2 found.1) first)
+    (subst (λ (shape : Shape). BeginsWithRecord e hand shape) (shape_is s title.len seq.len title.end found.0 found.2 found.1) first)
 
 pub returns-in_default-first_line-clause-none : goal.returns-in_default-first_line-clause-none
 returns-in_default-first_line-clause-none c none s first =
