@@ -52,12 +52,12 @@ for name in fq_prog tibzharuk
     complete -c $name -n '__fq_prog_wants file' -F
     complete -c $name -n '__fq_prog_wants step' -a 'LEADING: TRAILING: SLIDINGWINDOW: CROP: HEADCROP: AVGQUAL: MINLEN: TOPHRED33'
     complete -c $name -n '__fq_prog_wants trimming' -l threads -x -d 'threads that trim, 1 to 64'
-    complete -c $name -n '__fq_prog_wants trimming' -l block -x -d 'pairs that are trimmed and written at a time, 1 to 65536'
-    complete -c $name -n '__fq_prog_wants trimming' -l depth -x -d 'blocks that wait for a thread, 1 to 64'
-    complete -c $name -n '__fq_prog_wants trimming' -l chunk -x -d 'bytes that are read at a time, 1 to 1048576'
+    complete -c $name -n '__fq_prog_wants trimming' -l block -x -d 'pairs trimmed and written at a time, 1 to 65536'
+    complete -c $name -n '__fq_prog_wants trimming' -l depth -x -d 'blocks that may wait for each thread, 1 to 64'
+    complete -c $name -n '__fq_prog_wants trimming' -l chunk -x -d 'bytes read at a time, 1 to 1048576'
     complete -c $name -n '__fq_prog_wants trimming' -l encoding -x -a 'sanger illumina13 solexa' -d 'what quality bytes are'
     complete -c $name -n '__fq_prog_wants trimming' -l trimlog -rF -d 'write a line for each read to a file'
-    complete -c $name -n '__fq_prog_wants trimming' -l report -rF -d 'write what was counted to a file, as JSON'
-    complete -c $name -n '__fq_prog_wants trimming' -l no-name-check -d 'take mates with different names as pairs'
-    complete -c $name -n '__fq_prog_wants trimming' -l sync -d 'wait at the end until the outputs are on their disk'
+    complete -c $name -n '__fq_prog_wants trimming' -l report -rF -d 'write counts of pairs, reads, bases and steps to a file, as JSON'
+    complete -c $name -n '__fq_prog_wants trimming' -l no-name-check -d 'pair mates whatever their names'
+    complete -c $name -n '__fq_prog_wants trimming' -l sync -d 'wait until the outputs are on disk'
 end

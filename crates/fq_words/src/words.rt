@@ -138,19 +138,19 @@ fn options<'a>(alloc: Global) -> Result<Vec<Arg<'a>>, AllocError>
         alloc,
         "block",
         "1024",
-        "Pairs that are trimmed and written at a time, 1 to 65536",
+        "Pairs trimmed and written at a time,\n1 to 65536",
     );
     let depth = number(
         alloc,
         "depth",
         "4",
-        "Blocks that wait for a thread, 1 to 64",
+        "Blocks that may wait for each thread,\n1 to 64",
     );
     let chunk = number(
         alloc,
         "chunk",
         "65536",
-        "Bytes that are read at a time, 1 to 1048576",
+        "Bytes read at a time, 1 to 1048576",
     );
     let encoding = encoding(alloc);
     let log = log(alloc);
@@ -171,7 +171,7 @@ fn encoding<'a>(alloc: Global) -> Arg<'a>
         .value_name("NAME")
         .default_value("sanger")
         .help(
-            "What a quality byte is: sanger (score + 33), illumina13 (score + 64) or solexa (Solexa score + 64, which counts as the nearest Phred score)",
+            "What a quality byte is: sanger (score + 33),\nillumina13 (score + 64) or solexa (Solexa score + 64,\ncounted as the nearest Phred score)",
         )
 }
 
@@ -183,7 +183,7 @@ fn log<'a>(alloc: Global) -> Arg<'a>
         .long("trimlog")
         .value_name("FILE")
         .help(
-            "Writes a line for each read: its name, the bases kept, removed at the start, up to the last kept, and removed at the end [default: no log]",
+            "Writes a line for each read: its name, the bases kept,\nthe bases removed at the start, the end of the kept\npart, and the bases removed at the end\n[default: no log]",
         )
 }
 
@@ -194,7 +194,7 @@ fn unchecked_names<'a>(alloc: Global) -> Arg<'a>
     Arg::new(alloc, "no-name-check")
         .long("no-name-check")
         .action(ArgAction::SetTrue)
-        .help("Takes mates with different names as pairs [default: names must match]")
+        .help("Pairs mates whatever their names\n[default: names must match]")
 }
 
 // The flag `--sync`.
@@ -205,7 +205,7 @@ fn sync<'a>(alloc: Global) -> Arg<'a>
         .long("sync")
         .action(ArgAction::SetTrue)
         .help(
-            "Waits at the end until the outputs are on their disk [default: only if an error may come late, as over a network]",
+            "Waits until the outputs are on disk [default: only on\nnetwork file systems and some others]",
         )
 }
 
@@ -216,9 +216,7 @@ fn report<'a>(alloc: Global) -> Arg<'a>
     Arg::new(alloc, "report")
         .long("report")
         .value_name("FILE")
-        .help(
-            "Writes what was counted of pairs, reads, bases and steps, as JSON [default: no report]",
-        )
+        .help("Writes counts of pairs, reads, bases and steps as JSON\n[default: no report]")
 }
 
 // An option that takes a number.
@@ -237,9 +235,9 @@ fn number<'a>(alloc: Global, id: &'a str, default: &'a str, help: &'a str) -> Ar
 fn outputs<'a>(alloc: Global) -> Result<Vec<Arg<'a>>, AllocError>
     ensures { IfOk result (λ outputs. AreArgs output_rules outputs.items) }
 {
-    let forward_paired = file(alloc, "FP", "Output: forward reads whose mate survives");
+    let forward_paired = file(alloc, "FP", "Output: forward reads whose mate survives too");
     let forward_unpaired = file(alloc, "FU", "Output: forward reads whose mate is dropped");
-    let reverse_paired = file(alloc, "RP", "Output: reverse reads whose mate survives");
+    let reverse_paired = file(alloc, "RP", "Output: reverse reads whose mate survives too");
     let reverse_unpaired = file(alloc, "RU", "Output: reverse reads whose mate is dropped");
     let steps = steps(alloc);
     Ok(vec![in alloc;
