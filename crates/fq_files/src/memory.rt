@@ -184,13 +184,11 @@ impl Outlet for MemoryTarget {
         ensures unflushed { self.new.is_flushed ≡ false }
     {
         self.is_flushed = false;
-        match self.bytes.extend_from_slice(bytes) {
-            Ok(()) => Ok(bytes.len()),
-            Err(_) => {
-                self.failures += 1;
-                Err(OutletFailed)
-            }
+        if self.bytes.extend_from_slice(bytes).is_err() {
+            self.failures += 1;
+            return Err(OutletFailed);
         }
+        Ok(bytes.len())
     }
 
     fn flush(&mut self) -> Result<(), OutletFailed>
