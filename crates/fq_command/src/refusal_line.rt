@@ -3,10 +3,11 @@
 ghost use Rattle.std.specs.Prelude.{◌≡◌, ◌++◌, [], IfOk, codes, decimal, unwrap_or};
 ghost use Rattle.fq_text.specs.Written.{line};
 ghost use Rattle.std.specs.String.{string_bytes};
-ghost use Rattle.fq_words.specs.Requests.{asking_of};
+ghost use Rattle.fq_words.specs.Requests.{asking_of, output_name};
 ghost use Rattle.fq_job.specs.Refusals.{status_of, line_of, step_fault_name, setting_name};
 
 use fq_job::{MEMORY_LINE, Refusal};
+use fq_pair::Out;
 use fq_run::BadSetting;
 use fq_text::OutOfMemory;
 use fq_trim::StepFaultKind;
@@ -18,8 +19,11 @@ pub(crate) fn refusal_status(refusal: Refusal) -> u8
     ensures { result ≡ status_of refusal }
 {
     match refusal {
-        Refusal::Encoding | Refusal::Step(_) | Refusal::Setting(_) | Refusal::SameName(_) => 2,
-        Refusal::SameReport => 2,
+        Refusal::Encoding
+        | Refusal::Step(_)
+        | Refusal::Setting(_)
+        | Refusal::SameName(_)
+        | Refusal::SameReport => 2,
         Refusal::Source(_) | Refusal::Target(_) | Refusal::Report => 4,
         Refusal::Memory => 5,
     }
@@ -43,26 +47,30 @@ pub(crate) fn refusal_line(
             let name = setting_name(bad);
             format!(in alloc; "bad setting: {name}\n")
         }
-        Refusal::SameName(out) => same_name_line(alloc, request.output_name(out)),
+        Refusal::SameName(out) => same_name_line(alloc, output_name(request, out)),
         Refusal::Source(side) => {
             let name = request.input_name(side);
             format!(in alloc; "cannot read {name}\n")
         }
-        Refusal::Target(out) => unwritten_line(alloc, request.output_name(out)),
+        Refusal::Target(out) => unwritten_line(alloc, output_name(request, out)),
         Refusal::SameReport => same_name_line(alloc, report_name(request)),
         Refusal::Report => unwritten_line(alloc, report_name(request)),
         Refusal::Memory => String::from_str(alloc, MEMORY_LINE),
     }
 }
 
-// The name of the report, or an empty text if no report is asked for.
+// The name of an output. It is empty for a log that is not written, which is never refused.
+fn output_name<'a>(request: &'a Request<'a>, out: Out) -> &'a str
+    ensures { result.now ≡ unwrap_or (output_name (asking_of request.now) out) [] }
+{
+    request.output_name(out).unwrap_or("")
+}
+
+// The name of the report. It is empty if no report is asked for: then none is refused.
 fn report_name<'a>(request: &Request<'a>) -> &'a str
     ensures { result.now ≡ unwrap_or (asking_of request.now).report [] }
 {
-    match request.report {
-        Some(name) => name,
-        None => "",
-    }
+    request.report.unwrap_or("")
 }
 
 // The line for an output or report that has the name of an input.

@@ -53,10 +53,10 @@ pub(crate) fn tell_account<O: Outlet, E: Outlet>(
         return 6;
     }
     let mut line = String::new(alloc);
-    if fault_line(alloc, &mut line, &account.outcome).is_err() {
+    if fault_line(alloc, &mut line, account.outcome).is_err() {
         return out_of_memory(err);
     }
-    let status = status_of(&account.outcome);
+    let status = status_of(account.outcome);
     if status == 0 || status == 3 {
         let Ok(printed) = print_summary(alloc, &account.counts, out) else {
             return out_of_memory(err);

@@ -1,6 +1,6 @@
 -- A run that was made, and what its files hold.
-use Rattle.std.proofs.Common.{◌≡◌, ◌≢◌, ◌⊎◌, ◌++◌, ◌∙◌, ℕ, Bool, true, IsTrue, IsSome, Option, Some, None, is_some, Ok, List, [], refl, sym, ap, subst}
-use Rattle.fq_files.specs.Holding.{Holding, IsUnchanged}
+use Rattle.std.proofs.Common.{◌≡◌, ◌≢◌, ◌⊎◌, ◌++◌, ◌∙◌, ℕ, Bool, IsTrue, Option, Some, None, is_some, Ok, List, [], refl, subst}
+use Rattle.fq_files.specs.Holding.{Holding}
 use Rattle.fq_text.specs.declared.encoding.Encoding.{Encoding}
 use Rattle.fq_text.specs.Devices.{FeedState, OutletState}
 use Rattle.fq_pair.specs.declared.side.Side.{Side}
@@ -9,7 +9,6 @@ use Rattle.fq_pair.specs.Forms.{Form}
 use Rattle.fq_pair.specs.Outputs.{texts_of, text_of}
 use Rattle.fq_run.specs.Choices.{Choices}
 use Rattle.fq_run.specs.Outcome.{Outcome}
-use Rattle.fq_run.specs.Outcome.TheVariants.{Lane}
 use Rattle.fq_run.specs.Devices.{OutletStates}
 use Rattle.fq_run.specs.Endings.{Run, EveryEnding, IsTrimmed, AreTold, all_pairs, ends_whole, feed_left}
 use Rattle.fq_run.specs.Fates.{failed_outlet, part_begun}

@@ -1,5 +1,5 @@
 -- Outlets that were handed back, and their failures.
-use Rattle.std.proofs.Common.{◌≡◌, ◌≢◌, ℕ, suc, ◌<◌, IsTrue, Option, Some, None, IfSome, List, refl, sym, ap, subst, ◌∙◌, arith, ⊎_elim}
+use Rattle.std.proofs.Common.{◌≡◌, ℕ, suc, ◌<◌, IsTrue, Option, Some, IfSome, List, refl, sym, ap, subst, ◌∙◌, arith, ⊎_elim}
 use Rattle.fq_text.specs.Devices.{OutletState}
 use Rattle.fq_pair.specs.declared.out.Out.{Out}
 use Rattle.fq_pair.specs.declared.out.Out.TheVariants.{ForwardPaired, ForwardUnpaired, ReversePaired, ReverseUnpaired, Log}

@@ -1,5 +1,5 @@
 -- What a run promises about failures.
-use Rattle.std.proofs.Common.{◌≡◌, ◌≢◌, ◌++◌, ℕ, zero, suc, ◌+◌, ◌-◌, ◌*◌, ◌<◌, ◌≤◌, Bool, true, IsTrue, Option, Some, None, is_some, IfSome, Ok, List, [], ◌∷◌, length, option_map, refl, sym, ap, subst, ◌∙◌, arith}
+use Rattle.std.proofs.Common.{◌≡◌, ◌≢◌, ◌++◌, ℕ, zero, suc, ◌+◌, ◌-◌, ◌*◌, ◌<◌, ◌≤◌, Bool, true, IsTrue, Option, Some, None, is_some, IfSome, Ok, List, [], ◌∷◌, length, option_map, refl, sym, subst, ◌∙◌, arith}
 use Rattle.std.specs.Prelude.{take_while}
 use Rattle.std.proofs.lemmas.List.{length-take}
 use Rattle.fq_files.specs.Holding.{Holding}
@@ -13,16 +13,15 @@ use Rattle.fq_pair.specs.declared.out.Out.TheVariants.{ForwardPaired, ForwardUnp
 use Rattle.fq_pair.specs.declared.side.Side.{Side}
 use Rattle.fq_pair.specs.declared.side.Side.TheVariants.{Forward, Reverse}
 use Rattle.fq_pair.specs.declared.fault.InputFault.{InputFault}
-use Rattle.fq_pair.specs.declared.fault.InputFault.TheVariants.{Text}
-use Rattle.fq_pair.specs.Pairing.{Pairs, mates_of, belong, fault_following, text_fault, mate_fault, first_fault, behind, fault_at}
+use Rattle.fq_pair.specs.Pairing.{mates_of, belong, fault_following, text_fault, mate_fault, first_fault, behind, fault_at}
 use Rattle.fq_pair.specs.Interleaved.{interleaved_mates, interleaved_fault_at}
 use Rattle.fq_pair.specs.Forms.{Form, TwoTexts, InterleavedText, pairs_in}
 use Rattle.fq_run.specs.Choices.{Choices}
 use Rattle.fq_run.specs.Outcome.{Outcome}
 use Rattle.fq_run.specs.Outcome.TheVariants.{Spawn, Lane, Gate, Memory, Write, Read, Endless, Input, Finished}
-use Rattle.fq_run.specs.Outcomes.{rank, text_outcome, end_of}
-use Rattle.fq_run.specs.Devices.{OutletStates, OutletsTook, Took, TookText, AreHealthy, AreFlushed, outlet_at, place, failures_at, gave}
-use Rattle.fq_run.specs.Endings.{Run, EveryEnding, IsTrimmed, AreTold, all_pairs, ends_whole, trimmed_outcome, feed_of, feed_left, gave_to, failures_in}
+use Rattle.fq_run.specs.Outcomes.{rank, end_of}
+use Rattle.fq_run.specs.Devices.{OutletStates, OutletsTook, Took, AreHealthy, AreFlushed, outlet_at, place, failures_at}
+use Rattle.fq_run.specs.Endings.{Run, EveryEnding, IsTrimmed, all_pairs, ends_whole, trimmed_outcome, feed_of, feed_left, gave_to, failures_in}
 use Rattle.fq_run.specs.Fates.{failed_outlet, part_begun}
 use Rattle.fq_pair.specs.Outputs.{texts_of, text_of}
 use Rattle.fq_words.specs.Requests.{Asking, input_name, output_name}

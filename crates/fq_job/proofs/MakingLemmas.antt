@@ -1,5 +1,5 @@
 -- Outputs that are made one after the other.
-use Rattle.std.proofs.Common.{◌≡◌, ◌≢◌, ℕ, suc, ◌<◌, Bool, IsTrue, IsSome, Option, Some, None, List, [], unwrap_or, refl, sym, ap, subst, ◌∙◌, arith, inl, inr, ◌⊎◌, ⊎_elim}
+use Rattle.std.proofs.Common.{◌≡◌, ◌≢◌, ℕ, suc, ◌<◌, Bool, IsTrue, IsSome, Option, Some, None, List, [], refl, sym, ap, subst, ◌∙◌, arith, inl, inr, ◌⊎◌, ⊎_elim}
 use Rattle.fq_pair.specs.declared.out.Out.{Out}
 use Rattle.fq_pair.specs.declared.out.Out.TheVariants.{ForwardPaired, ForwardUnpaired, ReversePaired, ReverseUnpaired, Log}
 use Rattle.fq_files.specs.Holding.{Holding, KeepsNames, KeepsOthers}
@@ -11,11 +11,6 @@ use Rattle.fq_job.specs.Trimming.{HasDistinctOutputs, KeepsRest, AreHeld}
 use Rattle.fq_job.specs.Leaving.{AreUntrimmed, StopsAt, RefusalLeaves}
 use Rattle.fq_job.specs.Making.{AreMade, Made, Unmade}
 use Rattle.fq_job.proofs.StoreLemmas.{same_place, below_next}
-
--- the name of an output that was asked for is the one that is passed on
-pub wanted : (o : Option (List ℕ)) (name : List ℕ) → IsSome o → name ≡ unwrap_or o [] → o ≡ Some name
-wanted (Some n) name some is = ap Some (sym is)
-wanted None name some is = absurd cc
 
 -- an output was made, empty, and no other file changed
 record IsMade (a : Asking) (out : Out) (old new : Holding) : Type 0 where
@@ -120,17 +115,17 @@ leaves_made a start old new this refusal distinct first unmade is =
     ⊎_elim (λ target. subst P (sym target) stops) (λ memory. subst P (sym memory) (stops_untrimmed a this start new stops)) is
 
 -- A call for one more output: the output is made, or it is refused.
-module _ (a : Asking) (start : Holding) (this : Out) (name : List ℕ) (wants : IsSome (output_name a this)) (name_is : name ≡ unwrap_or (output_name a this) [])
+module _ (a : Asking) (start : Holding) (this : Out) (name : List ℕ) (named : output_name a this ≡ Some name)
     (old new : Holding) (told_old told_new : Bool) (told_is : told_new ≡ told_old) (first : Made a start (place this) told_old old) (others : IsTrue told_old → KeepsOthers old new name) where
   pub one_made : (IsTrue told_old → new name ≡ Some []) → (IsTrue told_old → KeepsNames old new) → Made a start (suc (place this)) told_new new
   one_made emptied names told =
       let before = along told_old told_new (sym told_is) told in
-      next_made a start old new this (first before) (made_of a this name old new (wanted (output_name a this) name wants name_is) (emptied before) (names before) (others before))
+      next_made a start old new this (first before) (made_of a this name old new named (emptied before) (names before) (others before))
 
   pub none_more : (refusal : Refusal) → (IsTrue told_old → (new name ≡ old name) ⊎ (new name ≡ Some [])) → (refusal ≡ why.Target this) ⊎ (refusal ≡ why.Memory) → Unmade a refusal start told_new new
   none_more refusal there is told =
       let before = along told_old told_new (sym told_is) told in
-      let unmade = unmade_of a this name old new (wanted (output_name a this) name wants name_is) (there before) (others before) in
+      let unmade = unmade_of a this name old new named (there before) (others before) in
       record {
         rest = rest_unmade a start old new this (first before) unmade;
         leaves = λ distinct. leaves_made a start old new this refusal distinct (first before) unmade is;

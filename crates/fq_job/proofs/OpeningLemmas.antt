@@ -1,8 +1,8 @@
 -- What a refusal leaves, in the order in which inputs are opened and outputs are made.
-use Rattle.std.proofs.Common.{◌≡◌, ◌≢◌, ◌⊎◌, ◌∙◌, ℕ, Bool, true, false, IsTrue, IsSome, Option, Some, None, is_some, option_map, Ok, Err, Result, List, [], refl, sym, subst, inl, inr, ⊎_elim}
+use Rattle.std.proofs.Common.{◌≡◌, ◌≢◌, ◌⊎◌, ◌∙◌, ℕ, Bool, true, false, IsTrue, IsSome, Option, Some, None, is_some, option_map, Ok, Err, Result, List, [], refl, sym, subst, inl, ⊎_elim}
 use Rattle.std.specs.Prelude.{IfSome}
 use Rattle.fq_text.specs.Devices.{OutletState}
-use Rattle.fq_files.specs.Holding.{Holding, IsUnchanged, KeepsNames}
+use Rattle.fq_files.specs.Holding.{Holding, KeepsNames}
 use Rattle.fq_pair.specs.declared.out.Out.{Out}
 use Rattle.fq_pair.specs.declared.side.Side.{Side}
 use Rattle.fq_pair.specs.declared.side.Side.TheVariants.{Forward, Reverse}

@@ -46,8 +46,8 @@ fn settings_of(request: &Request<'_>) -> Result<Settings, Refusal>
         CALL_LIMIT,
     )
     .map_err(|bad| Refusal::Setting(bad))?;
-    match request.report {
-        Some(_) => Ok(settings.with_tally()),
-        None => Ok(settings),
-    }
+    Ok(match request.report {
+        Some(_) => settings.with_tally(),
+        None => settings,
+    })
 }

@@ -18,14 +18,14 @@ pub const LANE_LINE: &str = "lane not confirmed\n";
 
 // The outcome to report: a text that could not be read to its end is a failed read, an endless
 // input or memory that was refused, and not a fault of the text.
-fn settled(outcome: &Outcome) -> Outcome
-    ensures { result ≡ settled outcome.now }
+fn settled(outcome: Outcome) -> Outcome
+    ensures { result ≡ settled outcome }
 {
     match outcome {
-        Outcome::Input(InputFault::Text(side, TextFault::Read)) => Outcome::Read(*side),
-        Outcome::Input(InputFault::Text(side, TextFault::Endless)) => Outcome::Endless(*side),
+        Outcome::Input(InputFault::Text(side, TextFault::Read)) => Outcome::Read(side),
+        Outcome::Input(InputFault::Text(side, TextFault::Endless)) => Outcome::Endless(side),
         Outcome::Input(InputFault::Text(_, TextFault::OutOfMemory)) => Outcome::Memory,
-        _ => *outcome,
+        _ => outcome,
     }
 }
 
@@ -35,8 +35,8 @@ fn settled(outcome: &Outcome) -> Outcome
 /// doesn't end, 5 if memory was refused, and 6 if threads failed. A text that could not be read to
 /// its end counts as the failed read, the endless input or the refused memory that stopped it.
 /// `status_of` allocates nothing.
-pub fn status_of(outcome: &Outcome) -> u8
-    ensures { result ≡ outcome_status outcome.now }
+pub fn status_of(outcome: Outcome) -> u8
+    ensures { result ≡ outcome_status outcome }
 {
     match settled(outcome) {
         Outcome::Finished => 0,
@@ -51,9 +51,9 @@ pub fn status_of(outcome: &Outcome) -> u8
 /// `input: reverse record 6: MateMissing`. It appends nothing if the run finished.
 ///
 /// If memory is refused, `text` is unchanged.
-pub fn fault_line(alloc: Global, text: &mut String, outcome: &Outcome) -> Result<(), OutOfMemory>
+pub fn fault_line(alloc: Global, text: &mut String, outcome: Outcome) -> Result<(), OutOfMemory>
     ensures ok { OnOk result (string_bytes text.new
-        ≡ string_bytes text.old ++ outcome_line outcome.now) }
+        ≡ string_bytes text.old ++ outcome_line outcome) }
     ensures err { OnErr result (string_bytes text.new ≡ string_bytes text.old) }
 {
     let line = made_line(alloc, settled(outcome))?;

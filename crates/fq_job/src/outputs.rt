@@ -88,8 +88,11 @@ fn output<T: Files>(request: &Request<'_>, files: &mut T, out: Out) -> Result<T:
     ensures failed { T.has_failed files.new ≡ T.has_failed files.old }
     ensures flushed { T.is_unflushed files.new ≡ T.is_unflushed files.old }
 {
+    let Some(name) = request.output_name(out) else {
+        unreachable!()
+    };
     files
-        .target(request.output_name(out))
+        .target(name)
         .map_err(|fault| file_refused(fault, Refusal::Target(out)))
 }
 
@@ -148,5 +151,8 @@ fn store_one<T: Files>(request: &Request<'_>, files: &mut T, out: Out, outlet: T
     ensures flushed { IsTrue (T.Target.state outlet).is_flushed
         → T.is_unflushed files.new ≡ T.is_unflushed files.old }
 {
-    files.done(request.output_name(out), outlet);
+    let Some(name) = request.output_name(out) else {
+        unreachable!()
+    };
+    files.done(name, outlet);
 }

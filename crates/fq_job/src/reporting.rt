@@ -1,6 +1,6 @@
 //! Writes the report of a run. Its file is made after all outputs, and is written once, at the end.
 
-ghost use Rattle.std.specs.Prelude.{◌≡◌, ◌≢◌, ◌⊎◌, ◌++◌, ℕ, List, true, false, Some, None, [], take, is_some, option_map, IsTrue, IsSome, IfOk, IfSome, OnOk, IfErr};
+ghost use Rattle.std.specs.Prelude.{◌≡◌, ◌≢◌, ◌⊎◌, ◌++◌, ℕ, List, true, false, Some, None, [], take, is_some, option_map, IsTrue, IsSome, IfOk, IfSome, OnOk, OnErr, IfErr};
 ghost use Rattle.std.specs.String.{string_bytes};
 ghost use Rattle.fq_files.specs.Holding.{KeepsOthers, KeepsNames};
 ghost use Rattle.fq_text.specs.Written.{line};
@@ -19,7 +19,7 @@ use crate::refusal::{Refusal, file_refused};
 use fq_files::Files;
 use fq_report::{Inputs as NamedInputs, Report, report_text};
 use fq_tally::Tally;
-use fq_text::{Encoding, OutOfMemory, Outlet, send};
+use fq_text::{Encoding, OutOfMemory, Outlet, OutletFailed, send};
 use fq_words::{Inputs, Request, VERSION};
 use std::alloc::Global;
 
@@ -147,7 +147,7 @@ fn write_report<O: Outlet>(
     ensures flushed { result ≡ Reported.Written → IsTrue (O.state target.new).is_flushed }
     ensures told { (O.state target.new).tells ≡ (O.state target.old).tells }
 {
-    let status = status_of(&account.outcome);
+    let status = status_of(account.outcome);
     if status != 0 && status != 3 {
         return Reported::NotDue;
     }
@@ -158,27 +158,29 @@ fn write_report<O: Outlet>(
     let Ok(text) = run_text(alloc, request, encoding, account, tally) else {
         return Reported::OutOfMemory;
     };
-    if put_text(target, text.as_bytes()) {
-        Reported::Written
-    } else {
-        Reported::Failed
+    match put_text(target, text.as_bytes()) {
+        Ok(()) => Reported::Written,
+        Err(OutletFailed) => Reported::Failed,
     }
 }
 
-// Sends a text to the outlet and flushes the outlet. Returns whether both succeeded.
-fn put_text<O: Outlet>(target: &mut O, text: &[u8]) -> bool
+// Sends a text to the outlet and flushes the outlet.
+fn put_text<O: Outlet>(target: &mut O, text: &[u8]) -> Result<(), OutletFailed>
     requires { (O.state target.old).failures ≡ 0 }
-    ensures whole { result ≡ true → IsTrue (O.state target.old).tells
-        → (O.state target.new).taken ≡ (O.state target.old).taken ++ text.now }
-    ensures part { result ≡ false → IsTrue (O.state target.old).tells
+    ensures whole { OnOk result (IsTrue (O.state target.old).tells
+        → (O.state target.new).taken ≡ (O.state target.old).taken ++ text.now) }
+    ensures part { OnErr result (IsTrue (O.state target.old).tells
         → (count : ℕ)
-        × ((O.state target.new).taken ≡ (O.state target.old).taken ++ take count text.now) }
-    ensures sent { result ≡ true → (O.state target.new).failures ≡ 0 }
-    ensures failed { result ≡ false → (O.state target.new).failures ≢ 0 }
-    ensures flushed { result ≡ true → IsTrue (O.state target.new).is_flushed }
+        × ((O.state target.new).taken ≡ (O.state target.old).taken ++ take count text.now)) }
+    ensures sent { OnOk result ((O.state target.new).failures ≡ 0) }
+    ensures failed { OnErr result ((O.state target.new).failures ≢ 0) }
+    ensures flushed { OnOk result (IsTrue (O.state target.new).is_flushed) }
     ensures told { (O.state target.new).tells ≡ (O.state target.old).tells }
 {
-    send(target, text).is_ok() && target.flush().is_ok()
+    if send(target, text).is_err() {
+        return Err(OutletFailed);
+    }
+    target.flush()
 }
 
 // Returns the text of the report of a run that ended whole.
@@ -195,7 +197,7 @@ fn run_text<'a>(
         encoding account.now.outcome account.now.counts tally.now)) }
 {
     let mut line = String::new(alloc);
-    fault_line(alloc, &mut line, &account.outcome)?;
+    fault_line(alloc, &mut line, account.outcome)?;
     let fault = without_end(line.as_str());
     report_text(
         alloc,

@@ -23,9 +23,9 @@ const OUTCOMES: [Outcome; 10] = [
 ];
 
 fn put_outcome(alloc: Global, answers: &mut Answers, outcome: Outcome) -> Result<()> {
-    let status = status_of(&outcome);
+    let status = status_of(outcome);
     let mut text = format!(in alloc; "{status} ")?;
-    fault_line(alloc, &mut text, &outcome)?;
+    fault_line(alloc, &mut text, outcome)?;
     answers.put(&format!(in alloc; "{outcome:?}")?, text.as_bytes())?;
     Ok(())
 }

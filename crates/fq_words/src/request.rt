@@ -1,6 +1,6 @@
 //! Requests: what to trim, from which files and into which.
 
-ghost use Rattle.std.specs.Prelude.{◌≡◌, [], unwrap_or};
+ghost use Rattle.std.specs.Prelude.{◌≡◌, option_map};
 ghost use Rattle.fq_words.specs.Requests.{asking_of, encoding_of, same_name, output_name, input_name, is_input, report_is_input};
 
 use fq_pair::{Out, Side};
@@ -104,19 +104,16 @@ fn is_input(request: &Request<'_>, name: &str) -> bool
 }
 
 impl Request<'_> {
-    /// The name of an output, or an empty text for a log that is not written.
-    pub fn output_name(&self, out: Out) -> &str
-        ensures { result.now ≡ unwrap_or (output_name (asking_of self.now) out) [] }
+    /// The name of an output. `None` for a log that is not written.
+    pub fn output_name(&self, out: Out) -> Option<&str>
+        ensures { option_map (λ name. name.now) result ≡ output_name (asking_of self.now) out }
     {
         match out {
-            Out::ForwardPaired => self.forward_paired,
-            Out::ForwardUnpaired => self.forward_unpaired,
-            Out::ReversePaired => self.reverse_paired,
-            Out::ReverseUnpaired => self.reverse_unpaired,
-            Out::Log => match self.log {
-                Some(name) => name,
-                None => "",
-            },
+            Out::ForwardPaired => Some(self.forward_paired),
+            Out::ForwardUnpaired => Some(self.forward_unpaired),
+            Out::ReversePaired => Some(self.reverse_paired),
+            Out::ReverseUnpaired => Some(self.reverse_unpaired),
+            Out::Log => self.log,
         }
     }
 

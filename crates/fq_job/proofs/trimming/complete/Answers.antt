@@ -1,4 +1,4 @@
-use Rattle.std.proofs.Common.{◌≡◌, ◌∙◌, ℕ, IsTrue, IsSome, Option, List, refl, sym, subst}
+use Rattle.std.proofs.Common.{◌∙◌, ℕ, IsTrue, IsSome, Option, List, refl, sym, subst}
 use Rattle.fq_pair.specs.declared.side.Side.TheVariants.{Forward, Reverse}
 use Rattle.fq_run.specs.Devices.{outlet_states}
 use Rattle.fq_run.specs.Endings.{AreTold}

@@ -1,4 +1,4 @@
-use Rattle.std.proofs.Common.{◌≡◌, ◌∙◌, IsSome, Option, List, ℕ, sym, subst}
+use Rattle.std.proofs.Common.{◌∙◌, IsSome, Option, List, ℕ, sym, subst}
 use Rattle.std.proofs.lemmas.Result.{err_from_is_err_and}
 use Rattle.fq_words.specs.Requests.{asking_of}
 use Rattle.fq_job.specs.Trimming.{opened_of}
