@@ -3,7 +3,7 @@
 ghost use Rattle.std.specs.Prelude.{◌<◌};
 
 use super::frame::Given;
-use super::sweeps::{RECORD, WAYS, Way, front_behind, run, seven_in_twos};
+use super::sweeps::{RECORD, WAYS, Way, front_after, run, seven_in_twos};
 use fq_pair::{InputFault, Side};
 use fq_run::Outcome;
 use fq_samples::SEVEN_FORWARD;
@@ -39,7 +39,7 @@ fn assert_cut<R: Abort + Threads + Wait + Copy + Send + 'static>(
     pairs: usize,
 ) -> Result<(), Fail> {
     let left = run(rt, alloc, given, way, None)?;
-    let front = front_behind(rt, &left, outcome, given.forward.len() as u64)?;
+    let front = front_after(rt, &left, outcome, given.forward.len() as u64)?;
     assert_eq!(rt; (front.pairs, front.failed), (pairs, None));
     Ok(())
 }

@@ -279,7 +279,7 @@ pub fn threaded<
 }
 
 /// Runs with a log on several threads, with a gate.
-pub fn run_behind<R: Abort + Threads + Wait + Copy + Send + 'static, H: Gate + 'static>(
+pub fn run_with_gate<R: Abort + Threads + Wait + Copy + Send + 'static, H: Gate + 'static>(
     rt: &R,
     alloc: Global,
     given: &Given<'_>,
@@ -294,7 +294,7 @@ pub fn run_behind<R: Abort + Threads + Wait + Copy + Send + 'static, H: Gate + '
 }
 
 /// Runs with a log on several threads, with a gate, and compares what the run leaves.
-pub fn leaves_behind<R: Abort + Threads + Wait + Copy + Send + 'static, H: Gate + 'static>(
+pub fn assert_run_with_gate<R: Abort + Threads + Wait + Copy + Send + 'static, H: Gate + 'static>(
     rt: &R,
     alloc: Global,
     given: &Given<'_>,
@@ -302,6 +302,6 @@ pub fn leaves_behind<R: Abort + Threads + Wait + Copy + Send + 'static, H: Gate 
     gate: H,
     wanted: &Wanted<'_>,
 ) -> Result<(), Fail> {
-    let left = run_behind(rt, alloc, given, settings, gate)?;
+    let left = run_with_gate(rt, alloc, given, settings, gate)?;
     assert_left(rt, &left, wanted)
 }

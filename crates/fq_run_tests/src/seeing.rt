@@ -4,7 +4,7 @@ ghost use Rattle.std.specs.Prelude.{◌≡◌, ◌<◌, ◌+◌, ◌^◌, false,
 ghost use Rattle.fq_serial.specs.Devices.{outlet_states, AreHealthy};
 
 use super::frame::{
-    Given, Wanted, assert_ended, feed, leaves_behind, nothing, settings_with, threaded,
+    Given, Wanted, assert_ended, assert_run_with_gate, feed, nothing, settings_with, threaded,
     with_defaults,
 };
 use super::rows::{seven_pairs, two_pairs};
@@ -13,6 +13,7 @@ use fq_samples::{SEVEN_FORWARD, SEVEN_REVERSE, SEVEN_STEPS, TWO_FORWARD, TWO_REV
 use fq_text::{Feed, FeedFailed, Outlet, OutletFailed, ScriptFeed, ScriptOutlet};
 use fq_work::{Gate, OpenGate};
 use std::alloc::Global;
+use std::hint;
 use std::process::Abort;
 use std::sync::Arc;
 use std::sync::atomic::{AtomicBool, Ordering};
@@ -53,6 +54,7 @@ impl Meeting {
             if other.load(Ordering::SeqCst) {
                 return true;
             }
+            hint::spin_loop();
         }
         false
     }
@@ -92,7 +94,7 @@ fn two_workers_see_each_other_through_the_gate(rt: HostRuntime) -> Result<(), Fa
     let gate = BothAtOnce {
         meeting: Meeting::new(LOOKS),
     };
-    leaves_behind(&rt, rt.alloc(), &given, &settings, gate, &two_pairs())
+    assert_run_with_gate(&rt, rt.alloc(), &given, &settings, gate, &two_pairs())
 }
 
 #[test]
@@ -102,7 +104,7 @@ fn one_worker_sees_no_other(rt: HostRuntime) -> Result<(), Fail> {
     let gate = BothAtOnce {
         meeting: Meeting::new(FEW_LOOKS),
     };
-    leaves_behind(
+    assert_run_with_gate(
         &rt,
         rt.alloc(),
         &given,

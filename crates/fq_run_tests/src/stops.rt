@@ -4,8 +4,8 @@ ghost use Rattle.std.specs.Prelude.{◌≡◌, ◌+◌, ◌<◌, ◌^◌, None, 
 ghost use Rattle.fq_serial.specs.Devices.{outlet_states, AreHealthy};
 
 use super::frame::{
-    Given, Left, Wanted, assert_ended, assert_reads, feed, leaves_behind, nothing, outlets,
-    run_behind, settings_with, threaded, with_defaults,
+    Given, Left, Wanted, assert_ended, assert_reads, assert_run_with_gate, feed, nothing, outlets,
+    run_with_gate, settings_with, threaded, with_defaults,
 };
 use super::rows::{seven_pairs, two_pairs};
 use super::sweeps::{WAYS, run};
@@ -15,6 +15,7 @@ use fq_samples::{SEVEN_FORWARD, SEVEN_REVERSE, SEVEN_STEPS, TWO_FORWARD, TWO_REV
 use fq_text::{Feed, FeedFailed, Outlet, ScriptFeed};
 use fq_work::Gate;
 use std::alloc::Global;
+use std::hint;
 use std::process::Abort;
 use std::sync::atomic::{AtomicU64, Ordering};
 use std::sync::{Arc, Wait};
@@ -49,8 +50,8 @@ fn with(given: &Given<'_>, depth: u64, gate_turns: u64) -> Result<Settings, Fail
 fn a_gate_is_asked_as_often_as_is_set(rt: HostRuntime) -> Result<(), Fail> {
     let given = with_defaults(TWO_FORWARD, TWO_REVERSE, TWO_STEPS);
     let three = with(&given, 1, 3)?;
-    leaves_behind(&rt, rt.alloc(), &given, &three, late(2), &two_pairs())?;
-    leaves_behind(
+    assert_run_with_gate(&rt, rt.alloc(), &given, &three, late(2), &two_pairs())?;
+    assert_run_with_gate(
         &rt,
         rt.alloc(),
         &given,
@@ -61,13 +62,13 @@ fn a_gate_is_asked_as_often_as_is_set(rt: HostRuntime) -> Result<(), Fail> {
 }
 
 #[test]
-fn outlets_are_flushed_behind_a_stop(rt: HostRuntime) -> Result<(), Fail> {
+fn outlets_are_flushed_after_a_stop(rt: HostRuntime) -> Result<(), Fail> {
     let given = Given {
         fails_at_flush: Some(Out::ForwardUnpaired),
         ..with_defaults(TWO_FORWARD, TWO_REVERSE, TWO_STEPS)
     };
     let settings = with(&given, 1, 1)?;
-    let left = run_behind(&rt, rt.alloc(), &given, &settings, late(u64::MAX))?;
+    let left = run_with_gate(&rt, rt.alloc(), &given, &settings, late(u64::MAX))?;
     assert_eq!(rt; left.outcome, Outcome::Gate);
     assert_eq!(rt; left.outlets.forward_unpaired.failures(), 1);
     Ok(())
@@ -103,7 +104,7 @@ impl Feed for CountedFeed {
 // How often a gate looks for a read call, and how often for one too many after it.
 const LOOKS: u64 = 1_000_000_000;
 
-const MORE_LOOKS: u64 = 30_000_000;
+const MORE_LOOKS: u64 = 3_000_000;
 
 /// A gate that lets the first block pass only if exactly `wanted` read calls are made meanwhile.
 #[derive(Drop)]
@@ -119,6 +120,7 @@ impl JustSoManyReads {
             if reads <= self.reads.load(Ordering::SeqCst) {
                 return true;
             }
+            hint::spin_loop();
         }
         false
     }
@@ -132,7 +134,7 @@ impl Gate for JustSoManyReads {
 }
 
 // A run in which exactly `wanted` read calls are made while its first block waits.
-fn leaves_behind_reads<R: Abort + Threads + Wait + Copy + Send + 'static>(
+fn assert_reads_ahead<R: Abort + Threads + Wait + Copy + Send + 'static>(
     rt: &R,
     alloc: Global,
     given: &Given<'_>,
@@ -181,7 +183,7 @@ fn just_as_much_is_read_ahead_as_the_lanes_hold(rt: HostRuntime) -> Result<(), F
     };
     for depth in 1..4u64 {
         let settings = with(&given, depth, 1)?;
-        leaves_behind_reads(&rt, rt.alloc(), &given, &settings, depth + 2)?;
+        assert_reads_ahead(&rt, rt.alloc(), &given, &settings, depth + 2)?;
     }
     Ok(())
 }

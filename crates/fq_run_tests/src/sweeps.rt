@@ -122,7 +122,7 @@ pub fn front_of(outlets: &Outlets<ScriptOutlet>, counts: Counts) -> Result<Front
 
 /// Checks that a run whose call of this number failed has this outcome. Returns which pairs it has
 /// written.
-pub fn front_behind(
+pub fn front_after(
     rt: &impl Abort,
     left: &Left,
     outcome: Outcome,
@@ -137,7 +137,7 @@ fn met_read(rt: &impl Abort, left: &Left, side: Side, number: u64) -> Result<boo
     if met_none(rt, left)? {
         return Ok(false);
     }
-    let front = front_behind(rt, left, Outcome::Read(side), number)?;
+    let front = front_after(rt, left, Outcome::Read(side), number)?;
     let came = (number.saturating_sub(1) as usize).saturating_mul(CUT);
     assert!(rt;
         front.failed.is_none() && front.pairs >= came / RECORD,
@@ -216,7 +216,7 @@ fn assert_first_is_answered<R: Abort + Threads + Wait + Copy + Send + 'static>(
     };
     let given = seven_in_twos();
     let left = run_failing(rt, alloc, &given, way, fails_forward, fails_reverse)?;
-    let front = front_behind(rt, &left, Outcome::Read(side), fails_forward)?;
+    let front = front_after(rt, &left, Outcome::Read(side), fails_forward)?;
     assert_eq!(rt;
         (front.pairs as u64, front.failed),
         (pair.saturating_sub(1), None)
@@ -225,9 +225,7 @@ fn assert_first_is_answered<R: Abort + Threads + Wait + Copy + Send + 'static>(
 }
 
 #[test]
-fn where_both_feeds_fail_the_one_that_is_read_first_is_answered(
-    rt: HostRuntime,
-) -> Result<(), Fail> {
+fn if_both_feeds_fail_the_one_that_is_read_first_is_answered(rt: HostRuntime) -> Result<(), Fail> {
     let reads = [1, 4, 5, 8, 26, 27u64];
     for fails_forward in reads {
         for fails_reverse in reads {
@@ -244,7 +242,7 @@ fn met_write(rt: &impl Abort, left: &Left, out: Out, number: u64) -> Result<bool
     if met_none(rt, left)? {
         return Ok(false);
     }
-    let front = front_behind(rt, left, Outcome::Write(out), number)?;
+    let front = front_after(rt, left, Outcome::Write(out), number)?;
     assert_eq!(rt; front.failed, Some(out), "write {number}");
     Ok(true)
 }

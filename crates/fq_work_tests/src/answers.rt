@@ -144,7 +144,7 @@ fn no_blocks_have_no_replies(rt: HostRuntime) -> Result<(), Fail> {
 }
 
 #[test]
-fn two_blocks_are_tallied_where_that_is_asked_for(rt: HostRuntime) -> Result<(), Fail> {
+fn two_blocks_are_tallied_if_that_is_asked_for(rt: HostRuntime) -> Result<(), Fail> {
     let case = Case {
         tallied: true,
         ..TWO_BLOCKS
@@ -266,7 +266,7 @@ fn assert_asked_anew(
 }
 
 #[test]
-fn a_block_is_tallied_where_that_is_asked_for(rt: HostRuntime) -> Result<(), Fail> {
+fn a_block_is_tallied_if_that_is_asked_for(rt: HostRuntime) -> Result<(), Fail> {
     let steps = Steps::parse(TWO_STEPS)?;
     let block = two_pairs(&rt, rt.alloc())?;
     assert_asked_anew(&rt, rt.alloc(), &block, &steps)

@@ -83,7 +83,7 @@ fn a_gate_is_asked_until_it_passes_or_as_often_as_is_set(rt: HostRuntime) -> Res
 }
 
 #[test]
-fn behind_a_refused_block_none_is_answered(rt: HostRuntime) -> Result<(), Fail> {
+fn after_a_refused_block_none_is_answered(rt: HostRuntime) -> Result<(), Fail> {
     let case = Case {
         pairs: &[FIRST, SECOND, FIRST],
         gate_turns: 2,
