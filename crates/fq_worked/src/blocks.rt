@@ -17,8 +17,11 @@ use fq_text::ReadView;
 use std::alloc::Global;
 use std::fmt::Write;
 
+// The most pairs of a block.
+const MOST_PAIRS: usize = 65_536;
+
 fn push(block: &mut Block, pair: &Pair) -> Result<()> {
-    if pair.encoding() != block.encoding() || block.len() >= 65_536 {
+    if pair.encoding() != block.encoding() || block.len() >= MOST_PAIRS {
         bail!("no room");
     }
     block.push(pair)?;
@@ -61,7 +64,7 @@ fn push_lent(block: &mut Block, pair: &PairView<'_>) -> Result<()> {
     let encoding = block.encoding();
     if pair.forward.encoding() != encoding
         || pair.reverse.encoding() != encoding
-        || block.len() >= 65_536
+        || block.len() >= MOST_PAIRS
     {
         bail!("another encoding");
     }

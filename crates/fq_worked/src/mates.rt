@@ -8,7 +8,7 @@
 
 use crate::answers::Answers;
 use crate::row::Given;
-use anyhow::{Context, Result};
+use anyhow::{Context, Result, bail};
 use fq_pair::{Counts, InputFault, Out, Side, name_of, names_match};
 use fq_text::TextFault;
 use std::alloc::Global;
@@ -62,23 +62,21 @@ pub fn answer_printed(alloc: Global, given: &Given<'_>, answers: &mut Answers) -
     put_fault(alloc, answers, "names", InputFault::NamesDiffer(3))
 }
 
-// Returns the number at a place, or 0 if there is none.
-fn number_at(numbers: &[u64], place: usize) -> u64 {
-    numbers.get(place).copied().unwrap_or(0)
-}
-
 /// Reads counts as a row writes them.
 pub fn counts_of(alloc: Global, text: &str) -> Result<Counts> {
     let mut numbers = Vec::new(alloc);
     for word in text.split(' ') {
         numbers.push(word.parse::<u64>().context("a number")?)?;
     }
+    let [pairs, both, forward_only, reverse_only, dropped] = *numbers.as_slice() else {
+        bail!("not five numbers: {text:?}");
+    };
     Ok(Counts {
-        pairs: number_at(&numbers, 0),
-        both: number_at(&numbers, 1),
-        forward_only: number_at(&numbers, 2),
-        reverse_only: number_at(&numbers, 3),
-        dropped: number_at(&numbers, 4),
+        pairs,
+        both,
+        forward_only,
+        reverse_only,
+        dropped,
     })
 }
 

@@ -71,6 +71,9 @@ fn read_line<'a>(
         let text = decode(alloc, names, text)?;
         names.put(name, text)?;
     } else if let Some(name) = key.strip_prefix("each ") {
+        if row.sweeps.len() == 2 {
+            bail!("a third sweep: {line:?}");
+        }
         row.sweeps.push((name, text))?;
     } else {
         row.lines.push((key, text))?;
