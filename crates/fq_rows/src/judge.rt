@@ -393,12 +393,14 @@ fn run_and_judge<R: Threads + Wait + Copy + Send + 'static>(
 }
 
 // Reads an argument.
-fn take_word(way: &mut Way, word: &str) {
+fn take_word(way: &mut Way, word: &str) -> Result<()> {
     match word {
+        "serial" => {}
         "threads" => way.threads = true,
         "interleaved" => way.interleaved = true,
-        _ => {}
+        _ => bail!("no run is {word:?}"),
     }
+    Ok(())
 }
 
 // Prints how a run ended that left what it should.
@@ -419,7 +421,7 @@ pub fn judge_words<R: Threads + Wait + Print + Copy + Send + 'static>(
 ) -> Result<()> {
     let mut way = SERIAL;
     for word in words {
-        take_word(&mut way, word);
+        take_word(&mut way, word)?;
     }
     match run_and_judge(alloc, rt, way)? {
         Some(left) => tell(rt, way, left),
@@ -443,7 +445,7 @@ pub fn answer<R: Threads + Wait + Copy + Send + 'static>(
     given.allow(&["way"])?;
     let mut way = SERIAL;
     for word in given.text("way")?.split(' ') {
-        take_word(&mut way, word);
+        take_word(&mut way, word)?;
     }
     let left = run_and_judge(alloc, rt, way)?;
     answers.put_yes(

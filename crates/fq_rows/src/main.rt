@@ -163,7 +163,7 @@ fn main(rt: HostRuntime) -> Result<ExitCode> {
     };
     let files = words.get(1..).unwrap_or(&[]);
     if files.first().is_some_and(|word| word.as_str() == "judge") {
-        judge::judge_words(rt.alloc(), &rt, files)?;
+        judge::judge_words(rt.alloc(), &rt, words.get(2..).unwrap_or(&[]))?;
         return Ok(ExitCode::from(0));
     }
     run_files(&rt, files)

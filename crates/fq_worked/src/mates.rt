@@ -24,14 +24,6 @@ pub fn answer(_alloc: Global, given: &Given<'_>, answers: &mut Answers) -> Resul
     Ok(())
 }
 
-const OUTS: [Out; 5] = [
-    Out::ForwardPaired,
-    Out::ForwardUnpaired,
-    Out::ReversePaired,
-    Out::ReverseUnpaired,
-    Out::Log,
-];
-
 fn put_fault(alloc: Global, answers: &mut Answers, key: &str, fault: InputFault) -> Result<()> {
     answers.put(key, format!(in alloc; "{fault}")?.as_bytes())?;
     Ok(())
@@ -41,7 +33,7 @@ fn put_fault(alloc: Global, answers: &mut Answers, key: &str, fault: InputFault)
 pub fn answer_printed(alloc: Global, given: &Given<'_>, answers: &mut Answers) -> Result<()> {
     given.allow(&[])?;
     let mut outs = String::new(alloc);
-    for out in OUTS {
+    for out in Out::ALL {
         write!(outs, "{out}, ")?;
     }
     answers.put("outs", outs.as_bytes())?;
