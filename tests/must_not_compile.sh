@@ -24,10 +24,11 @@ cp -r "$tree"/crates/fq_lane/{src,specs,proofs} "$room/crates/fq_lane/"
 grep -E '^fq_lane[ :]' "$tree/crates.txt" > "$room/crates.txt"
 echo "misuse: fq_lane" >> "$room/crates.txt"
 
-# judge NAME WANTED STATUS: compares the errors that were found ("none", or one code).
+# judge NAME WANTED STATUS: compares the errors that were found ("none", or one code, which may come
+# several times).
 judge() {
   local found
-  found=$(grep -oE '\berror(\[[^]]+\])?:' "$room/log" | sed -E 's/^error(\[(.*)\])?:$/\2/' | tr '\n' ' ')
+  found=$(grep -oE '\berror(\[[^]]+\])?:' "$room/log" | sed -E 's/^error(\[(.*)\])?:$/\2/' | sort -u | tr '\n' ' ')
   found=${found% }
   if [ "$2" = none ] && [ "$3" -eq 0 ] && [ -z "$found" ]; then
     echo "compiles, as it must: $1"
@@ -141,7 +142,7 @@ try_in_lane "an offer that wakes before it pushes" linear-value-let-go tx.rt \
   'self.parkers.wake_receiver();
             let _ = ring::push_item(&mut self.producer, item);'
 
-try_in_lane "a mark behind which nobody is woken" linear-value-let-go tx.rt \
+try_in_lane "a mark that wakes nobody" linear-value-let-go tx.rt \
   'pushed.wake_receiver(&parkers);' \
   'drop(parkers);'
 
