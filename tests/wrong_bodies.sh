@@ -1,5 +1,6 @@
 #!/usr/bin/env bash
-# The wrong bodies still apply to the code, and each public operation has one that the gate tries.
+# The wrong bodies still apply to the code, and each public operation has one that the gate or
+# `make deep` tries.
 # Nothing is proved.
 # Status 77, and 'skipped', if a package is missing.
 set -uo pipefail

@@ -15,11 +15,12 @@ ghost use Rattle.clap.specs.declared.error.kind.ErrorKind.TheVariants.{DisplayHe
 use crate::example::example;
 use crate::refusal_line::{refusal_line, refusal_status};
 use crate::telling::{cannot_print, cannot_report, out_of_memory, tell_account};
+use crate::trimming::{Completed, trim_files};
 use crate::unshown::Unshown;
 use clap::Error;
 use clap::error::ErrorKind;
 use fq_files::Files;
-use fq_job::{Completed, Refusal, Reported, trim_files};
+use fq_job::{Refusal, Reported};
 use fq_text::{Outlet, send};
 use fq_words::{Asked, Request, read_words};
 use std::alloc::Global;

@@ -9,6 +9,7 @@ mod answering;
 mod example;
 mod refusal_line;
 mod telling;
+mod trimming;
 mod unshown;
 
 pub use answering::program;

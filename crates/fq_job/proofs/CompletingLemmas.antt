@@ -7,11 +7,11 @@ use Rattle.fq_pair.specs.declared.side.Side.{Side}
 use Rattle.fq_pair.specs.declared.side.Side.TheVariants.{Forward, Reverse}
 use Rattle.fq_pair.specs.Forms.{Form}
 use Rattle.fq_pair.specs.Outputs.{texts_of, text_of}
-use Rattle.fq_run.specs.Choices.{Choices}
-use Rattle.fq_run.specs.Outcome.{Outcome}
-use Rattle.fq_run.specs.Devices.{OutletStates}
-use Rattle.fq_run.specs.Endings.{Run, EveryEnding, IsTrimmed, AreTold, all_pairs, ends_whole, feed_left}
-use Rattle.fq_run.specs.Fates.{failed_outlet, part_begun}
+use Rattle.fq_serial.specs.Choices.{Choices}
+use Rattle.fq_serial.specs.declared.outcome.Outcome.{Outcome}
+use Rattle.fq_serial.specs.Devices.{OutletStates}
+use Rattle.fq_serial.specs.Endings.{Run, EveryEnding, IsTrimmed, AreTold, all_pairs, ends_whole, feed_left}
+use Rattle.fq_serial.specs.Fates.{failed_outlet, part_begun}
 use Rattle.fq_words.specs.Requests.{Asking}
 use Rattle.fq_job.specs.Judging.{settings_of}
 use Rattle.fq_job.specs.Faults.{outcome_status}

@@ -3,7 +3,7 @@ use Rattle.std.proofs.Common.{◌≡◌, ℕ, suc, ◌<◌, IsTrue, Option, Some
 use Rattle.fq_text.specs.Devices.{OutletState}
 use Rattle.fq_pair.specs.declared.out.Out.{Out}
 use Rattle.fq_pair.specs.declared.out.Out.TheVariants.{ForwardPaired, ForwardUnpaired, ReversePaired, ReverseUnpaired, Log}
-use Rattle.fq_run.specs.Devices.{OutletStates, AreHealthy, outlet_at, place}
+use Rattle.fq_serial.specs.Devices.{OutletStates, AreHealthy, outlet_at, place}
 use Rattle.fq_words.specs.Requests.{Asking, output_name}
 use Rattle.fq_job.specs.Completing.{Failed, KeepsFailed, AreCounted}
 use Rattle.fq_job.proofs.StoreLemmas.{same_place, below_next}

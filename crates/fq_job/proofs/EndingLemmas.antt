@@ -1,8 +1,8 @@
 -- Which runs have ended whole, by the status of their outcome.
 use Rattle.std.proofs.Common.{◌≡◌, ◌⊎◌, ◌∙◌, ℕ, IsTrue, ⊎_elim, refl, arith}
-use Rattle.fq_run.specs.Outcome.{Outcome}
-use Rattle.fq_run.specs.Outcome.TheVariants.{Spawn, Lane, Gate, Memory, Write, Read, Endless, Input, Finished}
-use Rattle.fq_run.specs.Endings.{ends_whole}
+use Rattle.fq_serial.specs.declared.outcome.Outcome.{Outcome}
+use Rattle.fq_serial.specs.declared.outcome.Outcome.TheVariants.{Spawn, Lane, Gate, Memory, Write, Read, Endless, Input, Finished}
+use Rattle.fq_serial.specs.Endings.{ends_whole}
 use Rattle.fq_job.specs.Faults.{outcome_status}
 
 -- a run whose outcome has status 0 has ended whole

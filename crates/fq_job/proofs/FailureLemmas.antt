@@ -16,13 +16,13 @@ use Rattle.fq_pair.specs.declared.fault.InputFault.{InputFault}
 use Rattle.fq_pair.specs.Pairing.{mates_of, belong, fault_following, text_fault, mate_fault, first_fault, behind, fault_at}
 use Rattle.fq_pair.specs.Interleaved.{interleaved_mates, interleaved_fault_at}
 use Rattle.fq_pair.specs.Forms.{Form, TwoTexts, InterleavedText, pairs_in}
-use Rattle.fq_run.specs.Choices.{Choices}
-use Rattle.fq_run.specs.Outcome.{Outcome}
-use Rattle.fq_run.specs.Outcome.TheVariants.{Spawn, Lane, Gate, Memory, Write, Read, Endless, Input, Finished}
-use Rattle.fq_run.specs.Outcomes.{rank, end_of}
-use Rattle.fq_run.specs.Devices.{OutletStates, OutletsTook, Took, AreHealthy, AreFlushed, outlet_at, place, failures_at}
-use Rattle.fq_run.specs.Endings.{Run, EveryEnding, IsTrimmed, all_pairs, ends_whole, trimmed_outcome, feed_of, feed_left, gave_to, failures_in}
-use Rattle.fq_run.specs.Fates.{failed_outlet, part_begun}
+use Rattle.fq_serial.specs.Choices.{Choices}
+use Rattle.fq_serial.specs.declared.outcome.Outcome.{Outcome}
+use Rattle.fq_serial.specs.declared.outcome.Outcome.TheVariants.{Spawn, Lane, Gate, Memory, Write, Read, Endless, Input, Finished}
+use Rattle.fq_serial.specs.Outcomes.{rank, end_of}
+use Rattle.fq_serial.specs.Devices.{OutletStates, OutletsTook, Took, AreHealthy, AreFlushed, outlet_at, place, failures_at}
+use Rattle.fq_serial.specs.Endings.{Run, EveryEnding, IsTrimmed, all_pairs, ends_whole, trimmed_outcome, feed_of, feed_left, gave_to, failures_in}
+use Rattle.fq_serial.specs.Fates.{failed_outlet, part_begun}
 use Rattle.fq_pair.specs.Outputs.{texts_of, text_of}
 use Rattle.fq_words.specs.Requests.{Asking, input_name, output_name}
 use Rattle.fq_job.specs.Faults.{settled}

@@ -8,12 +8,12 @@ use Rattle.fq_pair.specs.declared.out.Out.{Out}
 use Rattle.fq_pair.specs.Mates.{Mates}
 use Rattle.fq_pair.specs.Pairing.{Pairs}
 use Rattle.fq_pair.specs.Outputs.{texts_of, text_of}
-use Rattle.fq_run.specs.Choices.{Choices}
-use Rattle.fq_run.specs.Outcome.{Outcome}
-use Rattle.fq_run.specs.Outcome.TheVariants.{Spawn, Write}
-use Rattle.fq_run.specs.Devices.{OutletStates, OutletsTook}
-use Rattle.fq_run.specs.Endings.{Run, AreFirst, AreTold, EveryEnding, all_pairs, trimmed_outcome}
-use Rattle.fq_run.specs.Fates.{Fate, Unbroken, failed_outlet, block_begun, part_begun, IsCutShort}
+use Rattle.fq_serial.specs.Choices.{Choices}
+use Rattle.fq_serial.specs.declared.outcome.Outcome.{Outcome}
+use Rattle.fq_serial.specs.declared.outcome.Outcome.TheVariants.{Spawn, Write}
+use Rattle.fq_serial.specs.Devices.{OutletStates, OutletsTook}
+use Rattle.fq_serial.specs.Endings.{Run, AreFirst, AreTold, EveryEnding, all_pairs, trimmed_outcome}
+use Rattle.fq_serial.specs.Fates.{Fate, Unbroken, failed_outlet, block_begun, part_begun, IsCutShort}
 use Rattle.fq_job.specs.declared.refusal.Refusal.{Refusal}
 use Rattle.fq_job.specs.declared.refusal.Refusal.TheVariants as why
 use Rattle.fq_words.specs.Requests.{Asking, InputNames}

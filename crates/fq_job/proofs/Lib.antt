@@ -1,11 +1,11 @@
 pub mod EndingLemmas
 pub mod LeavingLemmas
-mod StoreLemmas
+pub mod StoreLemmas
 mod RestLemmas
-mod MakingLemmas
+pub mod MakingLemmas
 mod TextLemmas
 mod ReportingLemmas
 mod CountingLemmas
-mod FailureLemmas
-mod CompletingLemmas
-mod OpeningLemmas
+pub mod FailureLemmas
+pub mod CompletingLemmas
+pub mod OpeningLemmas

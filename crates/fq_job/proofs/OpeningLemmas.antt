@@ -10,8 +10,8 @@ use Rattle.fq_text.specs.declared.encoding.Encoding.{Encoding}
 use Rattle.fq_trim.specs.declared.step.Step.{Step}
 use Rattle.fq_trim.specs.declared.fault.StepFault.{StepFault}
 use Rattle.fq_trim.specs.Words.{steps_of}
-use Rattle.fq_run.specs.Choices.{Choices, checked}
-use Rattle.fq_run.specs.BadSetting.{BadSetting}
+use Rattle.fq_serial.specs.Choices.{Choices, checked}
+use Rattle.fq_serial.specs.declared.settings.BadSetting.{BadSetting}
 use Rattle.fq_words.specs.Requests.{Asking, InputNames, encoding_of, input_name, same_name, report_is_input}
 use Rattle.fq_job.specs.declared.refusal.Refusal.{Refusal}
 use Rattle.fq_job.specs.declared.refusal.Refusal.TheVariants as why

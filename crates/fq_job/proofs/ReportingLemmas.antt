@@ -11,10 +11,10 @@ use Rattle.fq_tally.specs.declared.tally.Tally.{Tally}
 use Rattle.fq_tally.specs.Courses.{alone}
 use Rattle.fq_tally.specs.Tallies.{tally_of}
 use Rattle.fq_tally.specs.Results.{tally_if}
-use Rattle.fq_run.specs.Choices.{Choices}
-use Rattle.fq_run.specs.Outcome.{Outcome}
-use Rattle.fq_run.specs.Outcome.TheVariants.{Spawn, Lane, Gate, Memory, Write, Read, Endless, Input, Finished}
-use Rattle.fq_run.specs.Endings.{trimmed_outcome}
+use Rattle.fq_serial.specs.Choices.{Choices}
+use Rattle.fq_serial.specs.declared.outcome.Outcome.{Outcome}
+use Rattle.fq_serial.specs.declared.outcome.Outcome.TheVariants.{Spawn, Lane, Gate, Memory, Write, Read, Endless, Input, Finished}
+use Rattle.fq_serial.specs.Endings.{trimmed_outcome}
 use Rattle.fq_report.specs.Reports.{text_of}
 use Rattle.fq_words.specs.Requests.{Asking}
 use Rattle.fq_job.specs.Faults.{settled, status_when, line_when, outcome_status, outcome_line, input_words}

@@ -4,7 +4,7 @@ use Rattle.fq_pair.specs.declared.out.Out.{Out}
 use Rattle.fq_pair.specs.declared.out.Out.TheVariants.{ForwardPaired, ForwardUnpaired, ReversePaired, ReverseUnpaired, Log}
 use Rattle.fq_files.specs.Holding.{Holding, KeepsOthers}
 use Rattle.fq_text.specs.Devices.{OutletState}
-use Rattle.fq_run.specs.Devices.{OutletStates, outlet_at, place}
+use Rattle.fq_serial.specs.Devices.{OutletStates, outlet_at, place}
 use Rattle.fq_words.specs.Requests.{Asking, output_name}
 use Rattle.fq_job.specs.Trimming.{HasDistinctOutputs}
 use Rattle.fq_job.specs.Making.{HoldFirst, Stored}

@@ -6,11 +6,11 @@ use Rattle.fq_pair.specs.declared.out.Out.{Out}
 use Rattle.fq_pair.specs.declared.side.Side.{Side}
 use Rattle.fq_pair.specs.declared.side.Side.TheVariants.{Forward, Reverse}
 use Rattle.fq_pair.specs.declared.counts.Counts.{Counts}
-use Rattle.fq_run.specs.Choices.{Choices}
-use Rattle.fq_run.specs.Outcome.{Outcome}
-use Rattle.fq_run.specs.Outcome.TheVariants.{Lane, Write, Read, Endless}
-use Rattle.fq_run.specs.Devices.{OutletStates, AreHealthy, outlet_at, place}
-use Rattle.fq_run.specs.Endings.{ends_whole, failures_in}
+use Rattle.fq_serial.specs.Choices.{Choices}
+use Rattle.fq_serial.specs.declared.outcome.Outcome.{Outcome}
+use Rattle.fq_serial.specs.declared.outcome.Outcome.TheVariants.{Lane, Write, Read, Endless}
+use Rattle.fq_serial.specs.Devices.{OutletStates, AreHealthy, outlet_at, place}
+use Rattle.fq_serial.specs.Endings.{ends_whole, failures_in}
 use Rattle.fq_words.specs.Requests.{Asking, InputNames, input_name, output_name}
 use Rattle.fq_job.specs.Faults.{settled, outcome_status}
 use Rattle.fq_job.specs.Judging.{settings_of}

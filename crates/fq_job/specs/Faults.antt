@@ -7,9 +7,9 @@ use Rattle.fq_pair.specs.declared.side.Side.{Side}
 use Rattle.fq_pair.specs.declared.fault.InputFault.{InputFault}
 use Rattle.fq_pair.specs.declared.fault.InputFault.TheVariants.{Text, MateMissing, NamesDiffer}
 use Rattle.fq_pair.specs.Summaries.{side_name, out_name}
-use Rattle.fq_run.specs.Outcome.{Outcome}
-use Rattle.fq_run.specs.Outcome.TheVariants.{Spawn, Lane, Gate, Memory, Write, Read, Endless, Input, Finished}
-use Rattle.fq_run.specs.Outcomes.{end_of}
+use Rattle.fq_serial.specs.declared.outcome.Outcome.{Outcome}
+use Rattle.fq_serial.specs.declared.outcome.Outcome.TheVariants.{Spawn, Lane, Gate, Memory, Write, Read, Endless, Input, Finished}
+use Rattle.fq_serial.specs.Outcomes.{end_of}
 
 -- The outcome to report: a text that could not be read to its end has no fault of its own.
 abbrev pub settled : Outcome → Outcome

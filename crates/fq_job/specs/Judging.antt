@@ -5,8 +5,8 @@ use Rattle.fq_trim.specs.declared.step.Step.{Step}
 use Rattle.fq_trim.specs.declared.fault.StepFault.{StepFault}
 use Rattle.fq_trim.specs.Words.{steps_of}
 use Rattle.fq_pair.specs.declared.out.Out.{Out}
-use Rattle.fq_run.specs.Choices.{Choices, checked, tallying}
-use Rattle.fq_run.specs.BadSetting.{BadSetting}
+use Rattle.fq_serial.specs.Choices.{Choices, checked, tallying}
+use Rattle.fq_serial.specs.declared.settings.BadSetting.{BadSetting}
 use Rattle.fq_words.specs.Requests.{Asking, encoding_of, same_name, report_is_input}
 use Rattle.fq_job.specs.declared.refusal.Refusal.{Refusal}
 use Rattle.fq_job.specs.declared.refusal.Refusal.TheVariants as why

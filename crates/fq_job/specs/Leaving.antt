@@ -5,13 +5,13 @@ use Rattle.fq_pair.specs.declared.out.Out.{Out}
 use Rattle.fq_pair.specs.declared.side.Side.TheVariants as side
 use Rattle.fq_pair.specs.Mates.{Mates}
 use Rattle.fq_pair.specs.Outputs.{texts_of, text_of}
-use Rattle.fq_run.specs.Choices.{Choices}
-use Rattle.fq_run.specs.Outcome.{Outcome}
-use Rattle.fq_run.specs.Outcome.TheVariants as outcome
-use Rattle.fq_run.specs.Devices.{place}
-use Rattle.fq_run.specs.Endings.{AreFirst}
-use Rattle.fq_run.specs.Fates.{Fate, failed_outlet, block_begun, part_begun, IsCutShort}
-use Rattle.fq_run.specs.Outcomes.{rank}
+use Rattle.fq_serial.specs.Choices.{Choices}
+use Rattle.fq_serial.specs.declared.outcome.Outcome.{Outcome}
+use Rattle.fq_serial.specs.declared.outcome.Outcome.TheVariants as outcome
+use Rattle.fq_serial.specs.Devices.{place}
+use Rattle.fq_serial.specs.Endings.{AreFirst}
+use Rattle.fq_serial.specs.Fates.{Fate, failed_outlet, block_begun, part_begun, IsCutShort}
+use Rattle.fq_serial.specs.Outcomes.{rank}
 use Rattle.fq_job.specs.declared.refusal.Refusal.{Refusal}
 use Rattle.fq_job.specs.declared.refusal.Refusal.TheVariants as why
 use Rattle.fq_words.specs.Requests.{Asking, InputNames, output_name}

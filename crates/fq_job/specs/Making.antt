@@ -4,7 +4,7 @@ use Rattle.std.specs.Prelude.{◌≡◌, ◌<◌, ◌≤◌, ℕ, Bool, IsTrue, 
 use Rattle.fq_files.specs.Holding.{Holding}
 use Rattle.fq_pair.specs.declared.out.Out.{Out}
 use Rattle.fq_text.specs.Devices.{OutletState}
-use Rattle.fq_run.specs.Devices.{OutletStates, outlet_at, place}
+use Rattle.fq_serial.specs.Devices.{OutletStates, outlet_at, place}
 use Rattle.fq_words.specs.Requests.{Asking, output_name}
 use Rattle.fq_job.specs.declared.refusal.Refusal.{Refusal}
 use Rattle.fq_job.specs.Trimming.{HasDistinctOutputs, KeepsRest}

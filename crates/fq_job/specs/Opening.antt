@@ -3,7 +3,7 @@ use Rattle.std.specs.Prelude.{◌≡◌, ◌≢◌, ℕ, Bool, IsTrue, IsSome, I
 use Rattle.fq_files.specs.Holding.{Holding, IsUnchanged}
 use Rattle.fq_text.specs.Devices.{OutletState}
 use Rattle.fq_pair.specs.declared.side.Side.{Side}
-use Rattle.fq_run.specs.Devices.{OutletStates, AreHealthy}
+use Rattle.fq_serial.specs.Devices.{OutletStates, AreHealthy}
 use Rattle.fq_words.specs.Requests.{Asking, input_name, output_name}
 use Rattle.fq_job.specs.declared.refusal.Refusal.{Refusal}
 use Rattle.fq_job.specs.declared.refusal.Refusal.TheVariants as why

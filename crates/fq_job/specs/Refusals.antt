@@ -3,8 +3,8 @@ use Rattle.std.specs.Prelude.{ℕ, List, [], ◌++◌, codes, decimal, unwrap_or
 use Rattle.fq_text.specs.Written.{line}
 use Rattle.fq_trim.specs.declared.fault.StepFaultKind.{StepFaultKind}
 use Rattle.fq_trim.specs.declared.fault.StepFaultKind.TheVariants as step
-use Rattle.fq_run.specs.BadSetting.{BadSetting}
-use Rattle.fq_run.specs.BadSetting.TheVariants as setting
+use Rattle.fq_serial.specs.declared.settings.BadSetting.{BadSetting}
+use Rattle.fq_serial.specs.declared.settings.BadSetting.TheVariants as setting
 use Rattle.fq_job.specs.Faults.{memory_words}
 use Rattle.fq_job.specs.declared.refusal.Refusal.{Refusal}
 use Rattle.fq_job.specs.declared.refusal.Refusal.TheVariants.{Encoding, Step, Setting, SameName, Source, Target, SameReport, Report, Memory}

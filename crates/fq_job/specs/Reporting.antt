@@ -8,10 +8,10 @@ use Rattle.fq_pair.specs.Outputs.{counts_of}
 use Rattle.fq_tally.specs.declared.tally.Tally.{Tally}
 use Rattle.fq_tally.specs.Courses.{alone}
 use Rattle.fq_tally.specs.Tallies.{tally_of}
-use Rattle.fq_run.specs.Choices.{Choices}
-use Rattle.fq_run.specs.Outcome.{Outcome}
-use Rattle.fq_run.specs.Outcome.TheVariants.{Input}
-use Rattle.fq_run.specs.Endings.{trimmed_outcome}
+use Rattle.fq_serial.specs.Choices.{Choices}
+use Rattle.fq_serial.specs.declared.outcome.Outcome.{Outcome}
+use Rattle.fq_serial.specs.declared.outcome.Outcome.TheVariants.{Input}
+use Rattle.fq_serial.specs.Endings.{trimmed_outcome}
 use Rattle.fq_files.specs.Holding.{Holding}
 use Rattle.fq_report.specs.Facts as facts
 use Rattle.fq_report.specs.Reports.{text_of}

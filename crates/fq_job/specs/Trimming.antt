@@ -9,11 +9,11 @@ use Rattle.fq_pair.specs.declared.counts.Counts.{Counts}
 use Rattle.fq_pair.specs.Pairing.{Pairs}
 use Rattle.fq_pair.specs.Forms.{Form, TwoTexts, InterleavedText, pairs_in}
 use Rattle.fq_pair.specs.Outputs.{texts_of, text_of, counts_of}
-use Rattle.fq_run.specs.Choices.{Choices}
-use Rattle.fq_run.specs.Outcome.{Outcome}
+use Rattle.fq_serial.specs.Choices.{Choices}
+use Rattle.fq_serial.specs.declared.outcome.Outcome.{Outcome}
 use Rattle.fq_text.specs.Devices.{FeedState, OutletState}
-use Rattle.fq_run.specs.Devices.{OutletStates, OutletsTook, outlet_at}
-use Rattle.fq_run.specs.Endings.{Run, trimmed_outcome}
+use Rattle.fq_serial.specs.Devices.{OutletStates, OutletsTook, outlet_at}
+use Rattle.fq_serial.specs.Endings.{Run, trimmed_outcome}
 use Rattle.fq_words.specs.Requests.{Asking, InputNames, output_name}
 use Rattle.fq_job.specs.Judging.{settings_of}
 use Rattle.fq_job.specs.declared.account.Account.{Account}

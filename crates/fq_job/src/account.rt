@@ -1,7 +1,7 @@
 //! How a run went.
 
 use fq_pair::Counts;
-use fq_run::Outcome;
+use fq_serial::Outcome;
 use fq_tally::Tally;
 
 /// The outcome, the counts and the tally of a run.

@@ -17,7 +17,7 @@ use fq_words::{Inputs, Request};
 
 /// The opened inputs.
 #[derive(Drop)]
-pub(crate) enum Feeds<F> {
+pub enum Feeds<F> {
     /// Forward and reverse reads, each in a feed of its own.
     Apart { forward: F, reverse: F },
     /// One interleaved feed: each forward read comes before its reverse mate.
@@ -86,11 +86,7 @@ fn input<T: Files>(request: &Request<'_>, files: &mut T, side: Side) -> Result<T
 
 /// Hands the feeds back to their files, which count the failed ones. A feed that was lost with its
 /// thread counts as not failed.
-pub(crate) fn inputs_done<T: Files>(
-    request: &Request<'_>,
-    files: &mut T,
-    feeds: Feeds<Option<T::In>>,
-)
+pub fn inputs_done<T: Files>(request: &Request<'_>, files: &mut T, feeds: Feeds<Option<T::In>>)
     requires there { IsTrue (T.tells_bytes files.old)
         → AreThere (asking_of request.now).inputs (T.bytes_of files.old) }
     requires form { form_of feeds ≡ (asking_of request.now).inputs.form }

@@ -5,7 +5,7 @@ ghost use Rattle.fq_words.specs.Requests.{asking_of};
 ghost use Rattle.fq_job.specs.Judging.{settings_of, wrong_with};
 
 use crate::refusal::Refusal;
-use fq_run::Settings;
+use fq_serial::Settings;
 use fq_trim::Steps;
 use fq_words::{Request, encoding_of, report_is_input, same_name};
 
@@ -13,7 +13,7 @@ use fq_words::{Request, encoding_of, report_is_input, same_name};
 pub const CALL_LIMIT: u64 = 1 << 40;
 
 /// Returns the settings of the run, or the first thing that is wrong with the request.
-pub(crate) fn judge(request: &Request<'_>) -> Result<Settings, Refusal>
+pub fn judge(request: &Request<'_>) -> Result<Settings, Refusal>
     ensures settings { IfOk result (λ settings. settings_of (asking_of request.now) ≡ Ok settings) }
     ensures right { IfOk result (λ settings. wrong_with (asking_of request.now) ≡ None) }
     ensures wrong { IfErr result (λ why. wrong_with (asking_of request.now) ≡ Some why) }

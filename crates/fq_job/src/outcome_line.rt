@@ -6,7 +6,7 @@ ghost use Rattle.fq_text.specs.Written.{line};
 ghost use Rattle.fq_job.specs.Faults.{settled, status_when, outcome_status, record_and_name, at_record, input_words, line_when, outcome_line};
 
 use fq_pair::{InputFault, Side};
-use fq_run::Outcome;
+use fq_serial::Outcome;
 use fq_text::{OutOfMemory, TextFault};
 use std::alloc::Global;
 

@@ -2,7 +2,7 @@
 
 ghost use Rattle.std.specs.Prelude.{◌≡◌, ◌≢◌, ◌⊎◌, [], suc, IsTrue, IsSome, IfOk, IfErr, OnOk, is_some};
 ghost use Rattle.fq_files.specs.Holding.{Holding, KeepsNames};
-ghost use Rattle.fq_run.specs.Devices.{OutletStates, outlet_at, outlet_states, place, AreHealthy, AreFlushed};
+ghost use Rattle.fq_serial.specs.Devices.{OutletStates, outlet_at, outlet_states, place, AreHealthy, AreFlushed};
 ghost use Rattle.fq_words.specs.Requests.{asking_of, output_name};
 ghost use Rattle.fq_job.specs.declared.refusal.Refusal.{Refusal as Refused};
 ghost use Rattle.fq_job.specs.Refusals.{status_of};
@@ -15,7 +15,7 @@ ghost use Rattle.fq_job.specs.Completing.{Failed, AreCounted};
 use crate::refusal::{Refusal, file_refused};
 use fq_files::Files;
 use fq_pair::Out;
-use fq_run::Outlets;
+use fq_serial::Outlets;
 use fq_text::Outlet;
 use fq_words::Request;
 
@@ -97,7 +97,7 @@ fn output<T: Files>(request: &Request<'_>, files: &mut T, out: Out) -> Result<T:
 }
 
 /// Hands each outlet back: its file then holds what the outlet has taken.
-pub(crate) fn store<T: Files>(request: &Request<'_>, files: &mut T, outlets: Outlets<T::Target>)
+pub fn store<T: Files>(request: &Request<'_>, files: &mut T, outlets: Outlets<T::Target>)
     requires { IsTrue (T.tells_bytes files.old)
         → AreHeld (asking_of request.now) (T.bytes_of files.old) }
     ensures stored { Stored (asking_of request.now)

@@ -5,7 +5,7 @@ ghost use Rattle.fq_job.specs.Refusals.{status_of};
 
 use fq_files::FileFault;
 use fq_pair::{Out, Side};
-use fq_run::BadSetting;
+use fq_serial::BadSetting;
 use fq_text::OutOfMemory;
 use fq_trim::StepFault;
 

@@ -79,7 +79,7 @@ pub(crate) fn report_target<T: Files>(
 }
 
 /// Writes the report if one was asked for and the run ended whole, and hands its outlet back.
-pub(crate) fn store_report<T: Files>(
+pub fn store_report<T: Files>(
     alloc: Global,
     request: &Request<'_>,
     files: &mut T,

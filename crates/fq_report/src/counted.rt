@@ -103,6 +103,10 @@ fn reads_value(alloc: Global, tally: &ReadsTally, columns: &Columns) -> Result<V
     let parts = reads_parts(alloc, tally, columns)?;
     let bases = tally.bases;
     json!(in alloc; {
+        "lengths": parts.lengths,
+        "mean_scores": parts.mean_scores,
+        "gc_percents": parts.gc_percents,
+        "positions": parts.positions,
         "reads": tally.reads,
         "bases": bases.bases,
         "q20_bases": bases.at_least_20,
@@ -112,10 +116,6 @@ fn reads_value(alloc: Global, tally: &ReadsTally, columns: &Columns) -> Result<V
         "n_bases": bases.n,
         "shortest": length_value(tally.reads, tally.shortest),
         "longest": length_value(tally.reads, tally.longest),
-        "lengths": parts.lengths,
-        "mean_scores": parts.mean_scores,
-        "gc_percents": parts.gc_percents,
-        "positions": parts.positions,
     })
 }
 

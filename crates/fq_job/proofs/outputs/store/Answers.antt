@@ -1,6 +1,6 @@
 use Rattle.std.proofs.Common.{◌≡◌, Some, None, refl, sym, ◌∙◌}
 use Rattle.fq_pair.specs.declared.out.Out.TheVariants.{Log}
-use Rattle.fq_run.specs.Devices.{outlet_states, outlet_at}
+use Rattle.fq_serial.specs.Devices.{outlet_states, outlet_at}
 use Rattle.fq_words.specs.Requests.{asking_of, output_name}
 use Rattle.fq_job.proofs.StoreLemmas.{none_stored, no_log_stored}
 use Rattle.fq_job.proofs.CountingLemmas.{none_counted, no_log_counted}

@@ -10,7 +10,7 @@ use Rattle.fq_job.proofs.EndingLemmas.{ends_so}
 use Rattle.fq_job.proofs.FailureLemmas.{as_it_is, fails_as_told, feed_sound, not_lane, outlets_flushed, outlets_sound}
 use Rattle.fq_job.proofs.OpeningLemmas.{taken_unmap, tells_unmap}
 use Rattle.fq_job.proofs.CompletingLemmas.{IsHeld, first_pairs, report_of_run, sides_in, trims_files}
-use Rattle.fq_job.proofs.trimming.complete.Goals as goal
+use Rattle.fq_command.proofs.trimming.complete.Goals as goal
 
 pub store-requires-after_bounds : goal.store-requires-after_bounds
 store-requires-after_bounds g c κs within = λ told out name named.

@@ -5,7 +5,7 @@ use Rattle.fq_job.specs.Trimming.{opened_of}
 use Rattle.fq_job.proofs.LeavingLemmas.{leaves_since, report_behind, report_refused, unchanged_or_nothing}
 use Rattle.fq_job.proofs.MakingLemmas.{along, five_empty, five_held, report_unmade}
 use Rattle.fq_job.proofs.OpeningLemmas.{empty_map, fresh_map, is_some_map, late_status, refusable_since, refused_late, report_late, still_there}
-use Rattle.fq_job.proofs.trimming.open.Goals as goal
+use Rattle.fq_job.proofs.opening.open.Goals as goal
 
 pub returns-in_err-outlets-clause-unopened : goal.returns-in_err-outlets-clause-unopened
 returns-in_err-outlets-clause-unopened g c =

@@ -1,6 +1,6 @@
 //! Trims pairs from input files into output files.
 
-ghost use Rattle.std.specs.Prelude.{◌≡◌, ◌≢◌, false, Some, None, Ok, Err, IsTrue, IfSome, IfOk, IfErr, OnErr};
+ghost use Rattle.std.specs.Prelude.{◌≡◌, ◌≢◌, Some, None, Ok, Err, IsTrue, IfOk, IfErr, OnErr};
 ghost use Rattle.std.specs.Option.{option_map};
 ghost use Rattle.fq_run.specs.Devices.{outlet_states, AreHealthy};
 ghost use Rattle.fq_run.specs.Endings.{ends_whole, AreTold, IsTrimmed, EveryEnding};
@@ -9,18 +9,15 @@ ghost use Rattle.fq_job.specs.Refusals.{status_of};
 ghost use Rattle.fq_words.specs.Requests.{asking_of, input_name};
 ghost use Rattle.fq_job.specs.Judging.{settings_of, wrong_with};
 ghost use Rattle.fq_job.specs.Trimming.{KeepsUnnamed, opened_of, left_of, form_of, run_in, AreFresh};
-ghost use Rattle.fq_job.specs.Opening.{AreReady, AreOpened, IsRefusable, IsUnopened, IsRefused};
+ghost use Rattle.fq_job.specs.Opening.{AreReady, AreOpened, IsRefused};
 ghost use Rattle.fq_job.specs.Completing.{IsCompleted};
 ghost use Rattle.fq_files.specs.Holding.{Holding, IsUnchanged};
 
-use crate::account::Account;
-use crate::feeds::{Feeds, inputs, inputs_done};
-use crate::judging::judge;
-use crate::outputs::{outputs, store};
-use crate::refusal::Refusal;
-use crate::reporting::{Reported, report_target, store_report};
 use fq_files::Files;
-use fq_pair::{Out, Side};
+use fq_job::{
+    Account, Devices, Feeds, Refusal, Reported, inputs_done, judge, open, store, store_report,
+};
+use fq_pair::Side;
 use fq_run::{Outcome, Outlets, Settings, run_threads, run_threads_mixed};
 use fq_text::{Feed, Outlet};
 use fq_words::Request;
@@ -81,46 +78,6 @@ pub fn trim_files<R: Threads + Wait + Copy + Send + 'static, T: Files>(
     };
     let devices = open(request, files)?;
     Ok(complete(alloc, rt, request, &settings, gate, files, devices))
-}
-
-// The opened files of a run: the inputs, the outputs, and the report if one was asked for.
-#[derive(Drop)]
-struct Devices<F, O> {
-    feeds: Feeds<F>,
-    outlets: Outlets<O>,
-    report: Option<O>,
-}
-
-// Opens the inputs, then makes the outputs, and last the report.
-fn open<T: Files>(
-    request: &Request<'_>,
-    files: &mut T,
-) -> Result<Devices<T::In, T::Target>, Refusal>
-    ensures opened { IfOk result (λ devices. AreOpened (asking_of request.now)
-        (T.tells_bytes files.old) (T.bytes_of files.old) (T.bytes_of files.new)
-        (opened_of T.In.state devices.feeds)
-        (outlet_states T.Target.state devices.outlets) (option_map T.Target.state devices.report)) }
-    ensures unopened { IfErr result (λ why.
-        IsUnopened (asking_of request.now) why (T.tells_bytes files.old) (T.refuses files.old)
-        (T.bytes_of files.old) (T.bytes_of files.new)) }
-    ensures told { T.tells_bytes files.new ≡ T.tells_bytes files.old }
-    ensures failed { T.has_failed files.new ≡ T.has_failed files.old }
-    ensures flushed { T.is_unflushed files.new ≡ T.is_unflushed files.old }
-{
-    let feeds = inputs(request, files)?;
-    if let Some(out) = input_among_outputs(request, files) {
-        return Err(Refusal::Target(out));
-    }
-    if input_as_report(request, files) {
-        return Err(Refusal::Report);
-    }
-    let outlets = outputs(request, files)?;
-    let report = report_target(request, files)?;
-    Ok(Devices {
-        feeds,
-        outlets,
-        report,
-    })
 }
 
 // Trims the pairs of the inputs, and hands each feed and outlet back, however the run ended. The
@@ -215,39 +172,4 @@ fn run<R: Threads + Wait + Copy + Send + 'static, F: Feed + Drop + Send + 'stati
             }
         }
     }
-}
-
-// Returns the first output that is an input under another name.
-fn input_among_outputs<T: Files>(request: &Request<'_>, files: &T) -> Option<Out>
-    ensures none { IsTrue (T.tells_bytes files.now) → result ≡ None }
-    ensures refused { IfSome result (λ out.
-        IsRefusable (asking_of request.now) (T.refuses files.now) (Refusal.Target out)) }
-{
-    if files.leads_to_input(request.forward_paired) {
-        return Some(Out::ForwardPaired);
-    }
-    if files.leads_to_input(request.forward_unpaired) {
-        return Some(Out::ForwardUnpaired);
-    }
-    if files.leads_to_input(request.reverse_paired) {
-        return Some(Out::ReversePaired);
-    }
-    if files.leads_to_input(request.reverse_unpaired) {
-        return Some(Out::ReverseUnpaired);
-    }
-    match request.log {
-        Some(log) if files.leads_to_input(log) => Some(Out::Log),
-        _ => None,
-    }
-}
-
-// Whether the report is an input under another name.
-fn input_as_report<T: Files>(request: &Request<'_>, files: &T) -> bool
-    ensures none { IsTrue (T.tells_bytes files.now) → result ≡ false }
-    ensures refused { IsTrue result
-        → IsRefusable (asking_of request.now) (T.refuses files.now) Refusal.Report }
-{
-    request
-        .report
-        .is_some_and(|report| files.leads_to_input(report))
 }

@@ -4,7 +4,7 @@ use Rattle.fq_words.specs.Requests.{asking_of}
 use Rattle.fq_job.proofs.MakingLemmas.{along}
 use Rattle.fq_job.proofs.OpeningLemmas.{wrong_refused}
 use Rattle.fq_job.proofs.CompletingLemmas.{opened_as}
-use Rattle.fq_job.proofs.trimming.trim_files.Goals as goal
+use Rattle.fq_command.proofs.trimming.trim_files.Goals as goal
 
 pub returns-in_err-settings-clause-refused : goal.returns-in_err-settings-clause-refused
 returns-in_err-settings-clause-refused g c =

@@ -1,0 +1,92 @@
+//! Opens the files of a run.
+
+ghost use Rattle.std.specs.Prelude.{◌≡◌, false, Some, None, IsTrue, IfSome, IfOk, IfErr};
+ghost use Rattle.std.specs.Option.{option_map};
+ghost use Rattle.fq_serial.specs.Devices.{outlet_states};
+ghost use Rattle.fq_words.specs.Requests.{asking_of};
+ghost use Rattle.fq_job.specs.Trimming.{opened_of};
+ghost use Rattle.fq_job.specs.Opening.{AreOpened, IsRefusable, IsUnopened};
+
+use crate::feeds::{Feeds, inputs};
+use crate::outputs::outputs;
+use crate::refusal::Refusal;
+use crate::reporting::report_target;
+use fq_files::Files;
+use fq_pair::Out;
+use fq_serial::Outlets;
+use fq_words::Request;
+
+/// The opened files of a run: the inputs, the outputs, and the report if one was asked for.
+#[derive(Drop)]
+pub struct Devices<F, O> {
+    pub feeds: Feeds<F>,
+    pub outlets: Outlets<O>,
+    pub report: Option<O>,
+}
+
+/// Opens the inputs, then makes the outputs, and last the report.
+pub fn open<T: Files>(
+    request: &Request<'_>,
+    files: &mut T,
+) -> Result<Devices<T::In, T::Target>, Refusal>
+    ensures opened { IfOk result (λ devices. AreOpened (asking_of request.now)
+        (T.tells_bytes files.old) (T.bytes_of files.old) (T.bytes_of files.new)
+        (opened_of T.In.state devices.feeds)
+        (outlet_states T.Target.state devices.outlets) (option_map T.Target.state devices.report)) }
+    ensures unopened { IfErr result (λ why.
+        IsUnopened (asking_of request.now) why (T.tells_bytes files.old) (T.refuses files.old)
+        (T.bytes_of files.old) (T.bytes_of files.new)) }
+    ensures told { T.tells_bytes files.new ≡ T.tells_bytes files.old }
+    ensures failed { T.has_failed files.new ≡ T.has_failed files.old }
+    ensures flushed { T.is_unflushed files.new ≡ T.is_unflushed files.old }
+{
+    let feeds = inputs(request, files)?;
+    if let Some(out) = input_among_outputs(request, files) {
+        return Err(Refusal::Target(out));
+    }
+    if input_as_report(request, files) {
+        return Err(Refusal::Report);
+    }
+    let outlets = outputs(request, files)?;
+    let report = report_target(request, files)?;
+    Ok(Devices {
+        feeds,
+        outlets,
+        report,
+    })
+}
+
+// Returns the first output that is an input under another name.
+fn input_among_outputs<T: Files>(request: &Request<'_>, files: &T) -> Option<Out>
+    ensures none { IsTrue (T.tells_bytes files.now) → result ≡ None }
+    ensures refused { IfSome result (λ out.
+        IsRefusable (asking_of request.now) (T.refuses files.now) (Refusal.Target out)) }
+{
+    if files.leads_to_input(request.forward_paired) {
+        return Some(Out::ForwardPaired);
+    }
+    if files.leads_to_input(request.forward_unpaired) {
+        return Some(Out::ForwardUnpaired);
+    }
+    if files.leads_to_input(request.reverse_paired) {
+        return Some(Out::ReversePaired);
+    }
+    if files.leads_to_input(request.reverse_unpaired) {
+        return Some(Out::ReverseUnpaired);
+    }
+    match request.log {
+        Some(log) if files.leads_to_input(log) => Some(Out::Log),
+        _ => None,
+    }
+}
+
+// Whether the report is an input under another name.
+fn input_as_report<T: Files>(request: &Request<'_>, files: &T) -> bool
+    ensures none { IsTrue (T.tells_bytes files.now) → result ≡ false }
+    ensures refused { IsTrue result
+        → IsRefusable (asking_of request.now) (T.refuses files.now) Refusal.Report }
+{
+    request
+        .report
+        .is_some_and(|report| files.leads_to_input(report))
+}
