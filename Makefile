@@ -9,34 +9,35 @@ LANE_TESTS = crates/fq_lane/out/fq_lane_tests crates/fq_lane_tests/out/fq_lane_t
 SOURCES := HANDLES crates.txt $(shell find crates -name out -prune -o '(' -name '*.rt' -o -name '*.antt' ')' -print)
 VERSION := $(shell sed -n 's/^pub const VERSION: &str = "\([0-9.]*\)";/\1/p' crates/fq_words/src/words.rt)
 SHOW = bash packaging/progress.sh
-NEEDS_KIT = @rt version > /dev/null 2>&1 || { echo "The Rattle kit is missing: its command 'rt' must be on the path." >&2; exit 1; }
+NEEDS_KIT = @bash packaging/needs.sh
 .DEFAULT_GOAL := help
 
-.PHONY: help run test build demo try check gate deep static dist image install uninstall clean \
+.PHONY: help run test build try check gate deep static dist image install uninstall clean \
   bench bench-reading bench-lane bench-waiting
 
 # Lists the targets, each with the comment above it.
 help:
 	@awk '/^# /{ said = said " " substr($$0, 3); next } /^[a-z-]+:/{ sub(":.*", ""); printf "make %-14s%s\n", $$0, said } { said = "" }' Makefile
 
-# Builds the program, trims the reads in examples/, prints the summary, and says where the trimmed
-# reads are.
-run: build
+# Trims the reads in examples/, within two minutes of a clone, and shows what comes out: with the
+# proved program if it is built, else with a build that isn't proved.
+run:
 	@bash packaging/run_examples.sh
 
 # Builds the program and runs all tests except the proofs of tests: unit tests of every crate,
-# unproved, and the scripts in tests/.
+# unproved, and the scripts in tests/, several side by side.
 test:
 	$(NEEDS_KIT)
 	@bash tests/all.sh
 
-# Proves the program and all crates below it, prints a line for each crate, and leaves the program
-# at crates/fq_prog/out/fq_prog. Does nothing if that is newer than all sources.
+# Proves the program and all crates below it, prints a line for each crate, leaves the program at
+# crates/fq_prog/out/fq_prog, and prints its SHA-256. Does nothing if the program is newer than all
+# sources.
 build: $(PROGRAM)
 
 $(PROGRAM): $(SOURCES)
-	$(NEEDS_KIT)
-	@cd crates/fq_prog && bash ../../packaging/progress.sh rt run -- EXAMPLE
+	$(NEEDS_KIT) 4
+	@bash packaging/build.sh
 	@touch $@
 
 # (The proved test programs that scripts of tests/ run. A gate leaves them.)
@@ -49,12 +50,6 @@ $(LANE_TESTS): $(SOURCES)
 	$(NEEDS_KIT)
 	@cd $(dir $(@D)) && rt test
 	@touch $@
-
-# Shows what becomes of two built-in pairs, by an unproved build: about a minute.
-demo:
-	$(NEEDS_KIT)
-	@echo "The program's built-in example, run without a proof (about a minute):"
-	@cd crates/fq_prog && rt try -- EXAMPLE
 
 # Runs the unit tests without proofs: of one crate with CRATE=fq_trim, else of every crate.
 try:

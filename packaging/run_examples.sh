@@ -1,18 +1,63 @@
 #!/usr/bin/env bash
-# Trims the reads in examples/ with the built program, prints the command, its summary, and where
-# the outputs are.
-set -euo pipefail
-cd "$(dirname "$0")/.."
+# Trims the reads in examples/ and shows what comes out, also as a page for the browser: with the
+# proved program if it is built, else with a build that isn't proved.
+set -uo pipefail
+cd "$(dirname "$0")/.." || exit 1
 program=crates/fq_prog/out/fq_prog
-reads=examples/reads
-out=examples/out
-mkdir -p "$out"
-command=("$program" PE --trimlog "$out/trim.log" "${reads}_1.fq" "${reads}_2.fq"
-  "$out/p1.fq" "$out/u1.fq" "$out/p2.fq" "$out/u2.fq" LEADING:3 TRAILING:3 SLIDINGWINDOW:4:15 MINLEN:36)
+# By a path from the root, a program that `rt try` runs reaches files outside the directory that rt
+# makes for it.
+out=$PWD/examples/out
+arguments=(PE --trimlog "$out/trim.log" --report "$out/report.json"
+  "$PWD/examples/reads_1.fq" "$PWD/examples/reads_2.fq" "$out/p1.fq" "$out/u1.fq" "$out/p2.fq" "$out/u2.fq"
+  LEADING:3 TRAILING:3 SLIDINGWINDOW:4:15 MINLEN:36)
+log=$(mktemp)
+trap 'rm -f "$log"' EXIT
 
-echo "${command[*]}"
+if "${MAKE:-make}" -q "$program" > /dev/null 2>&1; then
+  proved=yes
+  call=("$PWD/$program")
+  echo 'Trims the reads in examples/ with the proved program:'
+else
+  proved=''
+  bash packaging/needs.sh 1 || exit
+  call=(rt try --)
+  echo 'Compiles the program without proofs, in about a minute, and trims the reads in examples/:'
+fi
+echo "    fq_prog ${arguments[*]}" | sed "s|$PWD/||g"
 echo
-"${command[@]}" | tee "$out/summary.txt"
+
+rm -rf "$out"
+mkdir -p "$out"
+(cd crates/fq_prog && "${call[@]}" "${arguments[@]}") < /dev/null > "$out/summary.txt" 2> "$log"
+status=$?
+if [ "$status" -ne 0 ]; then
+  cat "$out/summary.txt" "$log"
+  echo "The run failed with status $status. If it wasn't compiled, see whether 'rt version' prints the kit that README.md names." >&2
+  exit "$status"
+fi
+cat "$out/summary.txt"
+
 echo
-echo "The trimmed reads are in $out/: pairs in p1.fq and p2.fq, reads that lost their mate in u1.fq and u2.fq."
-echo "trim.log there has a line for each read. The same files, trimmed by another program, are in examples/trimmed/."
+echo 'The first pair, trimmed (p1.fq, p2.fq), and its lines of trim.log:'
+head -q -n 4 "$out/p1.fq" "$out/p2.fq"
+head -n 2 "$out/trim.log"
+echo
+echo 'All files are in examples/out/: pairs in p1.fq and p2.fq, reads that lost their mate in u1.fq and u2.fq.'
+for file in examples/trimmed/*; do
+  if ! cmp "$file" "$out/${file##*/}"; then
+    echo "They differ from those in examples/trimmed/, which another program made." >&2
+    exit 1
+  fi
+done
+echo 'They equal those in examples/trimmed/, which another program made.'
+if command -v python3 > /dev/null; then
+  contrib/report_to_html --sample 'the example' "$out/report.json" > "$out/report.html" || exit
+  echo "The page of this run, for a browser: file://$out/report.html"
+else
+  echo "A page of this run needs python3: contrib/report_to_html examples/out/report.json > report.html"
+fi
+if [ -z "$proved" ]; then
+  echo "
+This build is NOT PROVED. 'make build' proves the program, in some 20 minutes on four processors.
+'make install' installs only a proved program."
+fi

@@ -1,52 +1,101 @@
 #!/usr/bin/env bash
-# All tests but the proofs: builds the program, runs the unit tests of every crate without proofs,
-# and then each script of this directory over the built program. A script counts as one test. One
-# that ends with status 77 was skipped, and says what it lacks.
+# All tests but the proofs: the unit tests of every crate, unproved, and each script of this
+# directory over the proved program, several side by side. What needs no program runs beside the
+# build. A script counts as one test, and its output is printed when it ends. One that ends with
+# status 77 was skipped, and says what it lacks.
+# With GATE=1 a script that needs the proved test programs of a gate fails without them.
 # The last line is 'N passed, M failed, K skipped'.
 set -uo pipefail
 cd "$(dirname "$0")/.." || exit 1
-log=$(mktemp)
-trap 'rm -f "$log"' EXIT
+logs=$(mktemp -d)
+export logs
+trap 'rm -rf "$logs"' EXIT
+trap 'exit 130' INT
+trap 'exit 143' TERM HUP
 
-scripts=()
-for script in tests/*.sh; do
-  [ "$script" = tests/all.sh ] || scripts+=("$script")
-done
-cat << END
-make test does three things. Times are those of four processors; docs/GATE.md has more.
-1. It builds the program, which proves it: 30 minutes if nothing is built, else seconds.
-2. It runs the unit tests of every crate and the worked examples, unproved: 2 minutes.
-3. It runs ${#scripts[@]} scripts over the built program: 13 minutes. A script that lacks a package says 'skipped'.
-The proofs of the tests and the wrong bodies that the prover must refuse are the gate: make gate.
-END
+# Scripts that need no program.
+early=(must_not_compile scripts trim_gz_pieces pages wrong_bodies)
+# Scripts that take long begin first.
+first=(workflow)
+# Scripts that use the same directories of this tree, so each waits for the one before.
+in_turn=(dist container examples cwl)
+# Scripts that wait for a thread to sleep or for a disk: without others beside them.
+alone=(late_errors lane_processors)
+processors=$(nproc)
 
-if ! make --no-print-directory build; then
-  echo 'the program is not built'
-  echo '0 passed, 1 failed, 0 skipped'
-  exit 1
+# run SCRIPT..: runs these scripts of tests/, one after the other
+run() {
+  local name status begun
+  for name; do
+    begun=$SECONDS
+    bash "tests/$name.sh" > "$logs/$name.said" 2>&1 < /dev/null
+    status=$?
+    echo "$status" > "$logs/$name.status"
+    case $status in
+      0 | 77) ;;
+      *) echo "tests/$name.sh: FAILED" >> "$logs/$name.said" ;;
+    esac
+    flock "$logs" printf '== tests/%s.sh (%s s)\n%s\n' "$name" "$((SECONDS - begun))" "$(cat "$logs/$name.said")"
+  done
+}
+export -f run
+
+# side_by_side: runs the lines of standard input, each with the names of scripts that run in turn
+side_by_side() {
+  xargs -d '\n' -P "$processors" -I NAMES bash -c 'run NAMES'
+}
+
+unit_tests() {
+  nice bash packaging/try.sh > "$logs/unit_tests" 2>&1
+  flock "$logs" printf '== unit tests\n%s\n' "$(cat "$logs/unit_tests")"
+}
+
+missing=$(bash packaging/missing_packages.sh | paste -sd' ')
+if [ -n "$missing" ]; then
+  echo "Tests that lack a package are skipped. To run all: apt-get install --no-install-recommends $missing"
 fi
 
-echo '== unit tests'
-bash packaging/try.sh | tee "$log"
-read -r passed failed < <(sed -nE '$s/^([0-9]+) passed, ([0-9]+) failed$/\1 \2/p' "$log")
+later=("${first[@]}")
+for script in tests/*.sh; do
+  name=$(basename "$script" .sh)
+  case " all ${early[*]} ${first[*]} ${in_turn[*]} ${alone[*]} " in
+    *" $name "*) ;;
+    *) later+=("$name") ;;
+  esac
+done
+
+JOBS=$(((processors + 1) / 2)) unit_tests &
+printf '%s\n' "${early[@]}" | nice xargs -d '\n' -I NAMES bash -c 'run NAMES' &
+built=0
+make --no-print-directory build || built=1
+if [ "$built" -eq 0 ]; then
+  printf '%s\n' "${later[0]}" "${in_turn[*]}" "${later[@]:1}" | side_by_side
+fi
+wait
+if [ "$built" -eq 0 ]; then
+  run "${alone[@]}"
+fi
+
+read -r passed failed < <(sed -nE '$s/^([0-9]+) passed, ([0-9]+) failed$/\1 \2/p' "$logs/unit_tests")
 : "${passed:=0}" "${failed:=1}" # no such line: the unit tests did not run
 skipped=0
 wrong=()
 [ "$failed" -eq 0 ] || wrong+=('unit tests')
-for script in "${scripts[@]}"; do
-  echo "== $script"
-  begun=$SECONDS
-  bash "$script"
-  case $? in
+if [ "$built" -ne 0 ]; then
+  wrong+=('the program is not built')
+  failed=$((failed + 1))
+fi
+for script in "${early[@]}" "${later[@]}" "${in_turn[@]}" "${alone[@]}"; do
+  case $(cat "$logs/$script.status" 2> /dev/null) in
     0) passed=$((passed + 1)) ;;
     77) skipped=$((skipped + 1)) ;;
     *)
-      failed=$((failed + 1))
-      wrong+=("$script")
-      echo "$script: FAILED"
+      if [ "$built" -eq 0 ] || [ -e "$logs/$script.status" ]; then
+        failed=$((failed + 1))
+        wrong+=("tests/$script.sh")
+      fi
       ;;
   esac
-  echo "($((SECONDS - begun)) s)"
 done
 [ "${#wrong[@]}" -eq 0 ] || printf 'FAILED: %s\n' "${wrong[@]}"
 echo "$passed passed, $failed failed, $skipped skipped"

@@ -44,9 +44,12 @@ find_program() {
 }
 
 # need_proved PROGRAM..: ends the script as skipped unless these programs, which only a gate leaves,
-# exist and are up to date.
+# exist and are up to date. In a gate (GATE=1) their lack is a failure.
 need_proved() {
-  make -q "$@" 2> /dev/null || skip "needs $(printf '%s ' "${@##*/}")as the gate leaves it (make gate)"
+  make -q "$@" 2> /dev/null && return
+  if [ -z "${GATE-}" ]; then skip "needs $(printf '%s ' "${@##*/}")as a gate leaves it: make gate"; fi
+  fail "the gate didn't leave $(printf '%s ' "${@##*/}")"
+  exit 1
 }
 
 # compile_library SOURCE LIBRARY: compiles a library for LD_PRELOAD, with cc or otherwise the kit's

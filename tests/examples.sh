@@ -1,6 +1,7 @@
 #!/usr/bin/env bash
 # The reads in examples/ are those that examples/draw.py makes, and examples/trimmed/ is what the
-# slow program tests/examples/trim.py makes of them. `make run` and contrib/trim_gz make the same.
+# slow program tests/examples/trim.py makes of them. `make run` and contrib/trim_gz make the same:
+# `make run` with the proved program, and in a copy that isn't built by a build without proofs.
 # Status 77, and 'skipped', if a package is missing.
 set -uo pipefail
 . "$(dirname "$0")/common.bash"
@@ -25,10 +26,22 @@ done
 python3 tests/examples/trim.py examples/reads_1.fq examples/reads_2.fq "$work/slow" "${steps[@]}" || fail 'trim.py fails'
 same_files "$work/slow" 'examples/trimmed/ is not what trim.py makes'
 
-rm -rf examples/out
-make -s run > "$work/said" || fail 'make run fails'
-same_files examples/out 'make run gives other files'
-grep -qF -- "$(cat examples/trimmed/summary.txt)" "$work/said" || fail 'make run prints another summary'
+# trims TREE WORDS: `make run` there says what it must, and says these words about proofs
+trims() {
+  make -s -C "$1" run > "$work/said" 2>&1 || {
+    fail "make run fails in $1: $(cat "$work/said")"
+    return
+  }
+  diff -rq -x report.json -x report.html examples/trimmed "$1/examples/out" || fail "make run gives other files in $1"
+  grep -qF -- "$(cat examples/trimmed/summary.txt)" "$work/said" || fail "make run prints another summary in $1"
+  grep -q '<title>' "$1/examples/out/report.html" || fail "make run makes no page in $1"
+  grep -qF "$2" "$work/said" || fail "make run doesn't say in $1: $2"
+}
+
+trims "$tree" 'with the proved program'
+mkdir "$work/unbuilt"
+find . '(' -name .git -o -name out -o -name dist ')' -prune -o -type f -print0 | xargs -0 cp --parents -t "$work/unbuilt"
+trims "$work/unbuilt" 'NOT PROVED'
 
 PATH=$PWD/crates/fq_prog/out:$PATH contrib/trim_gz -1 examples/reads_1.fq.gz -2 examples/reads_2.fq.gz \
   --paired1 "$work/gz/p1.fq" --unpaired1 "$work/gz/u1.fq" --paired2 "$work/gz/p2.fq" --unpaired2 "$work/gz/u2.fq" \

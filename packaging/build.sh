@@ -1,0 +1,98 @@
+#!/usr/bin/env bash
+# Proves the program and every crate below it, and leaves the program at crates/fq_prog/out/fq_prog.
+# The crates that depend on each other are proved here, one after the other. Those that can be
+# proved beside them are, at the same time, in copies of the sources: rt shares what the checkouts on
+# a machine have proved of the same files, so each takes from the others what it needs.
+set -uo pipefail
+cd "$(dirname "$0")/.." || exit 1
+
+if [ "${1-}" = --help ]; then
+  echo "usage: packaging/build.sh
+Prints a line for each crate that is proved, and at last the SHA-256 of the program. If a proof
+fails, prints the goals that are open, and ends with status 1. JOBS is how many proofs run at a time
+in the crates of the longest chain (default: one for each processor; with less than 16 GB of memory
+rt decides)."
+  exit
+fi
+
+# In each list a crate comes after those that it depends on. What is beside the chain is in the chain
+# too, but proved by then. 'after:CRATE' waits until the chain has proved that crate.
+chain=(fq_text fq_trim fq_pair fq_tally fq_lane fq_serial fq_block fq_work fq_run fq_words fq_files fq_report fq_job fq_command)
+threads=(fq_lane after:fq_text fq_files after:fq_pair fq_words fq_block after:fq_tally fq_work)
+reports=(after:fq_tally fq_report after:fq_serial fq_job)
+processors=$(nproc)
+jobs=(--jobs "${JOBS:-$processors}")
+if [ "$(awk '/^MemTotal:/ { print $2 }' /proc/meminfo)" -lt $((15 * 1048576)) ]; then jobs=(${JOBS:+--jobs "$JOBS"}); fi
+
+# Each command runs in a process group of its own, so that nothing of it goes on after a signal.
+set -m
+room=$(mktemp -d)
+helpers=()
+running=
+clean_up() {
+  local group
+  for group in "${helpers[@]}" $running; do
+    kill -- "-$group" 2> /dev/null
+    wait "$group"
+  done
+  rm -rf "$room"
+}
+trap clean_up EXIT
+trap 'exit 130' INT
+trap 'exit 143' TERM HUP
+
+# shown LOG: what rt printed, without the lines of what is proved
+shown() {
+  grep -vE '^(fn|struct|enum|impl|trait) .*: proved$|^(statements|by-macro|axioms|logic |crate )' "$1"
+}
+
+# prove COPY CRATE COMMAND..: runs the command in the crate of a copy, and says how long it took
+prove() {
+  local crate=$2 folder=$1/crates/$2 log=$room/log.$2.${1//\//_} begun=$SECONDS functions
+  shift 2
+  (cd "$folder" && exec "$@") > "$log" 2>&1 &
+  running=$!
+  if ! wait "$running"; then
+    echo "$crate: NOT PROVED
+$(shown "$log")"
+    return 1
+  fi
+  running=
+  functions=$(sed -n 's/^logic=proved functions=\([0-9]*\) .*/\1/p' "$log" | tail -n 1)
+  # Without a number of functions it was proved before.
+  if [ -n "$functions" ]; then echo "$crate: $functions functions proved ($((SECONDS - begun)) s)"; fi
+}
+
+# beside COUNT WORDS..: proves these crates in a copy, in the background, with COUNT jobs
+beside() {
+  local count=$1 word copy=$room/copy${#helpers[@]}
+  shift
+  mkdir "$copy" "$copy/.git"
+  tar -c --exclude=out --exclude=must-fail --exclude=wrong-bodies crates crates.txt HANDLES | tar -x -C "$copy"
+  (
+    set +m # all in the group of this helper
+    for word; do
+      case $word in
+        after:*) until [ -e "$room/${word#after:}" ]; do sleep 1; done ;;
+        *) prove "$copy" "$word" rt lib --jobs "$count" || exit ;;
+      esac
+    done
+  ) &
+  helpers+=($!)
+}
+
+echo "Proves ${#chain[@]} libraries and the program: some 20 minutes on four processors, if nothing is kept of earlier builds."
+if [ "$processors" -ge 4 ]; then
+  beside 1 "${threads[@]}"
+  beside 2 "${reports[@]}"
+else
+  beside 1 "${threads[@]}" "${reports[@]}"
+fi
+for crate in "${chain[@]}"; do
+  prove "$PWD" "$crate" rt lib "${jobs[@]}" || exit 1
+  : > "$room/$crate"
+done
+for helper in "${helpers[@]}"; do wait "$helper" || exit 1; done
+helpers=()
+prove "$PWD" fq_prog rt run "${jobs[@]}" -- EXAMPLE || exit 1
+sha256sum crates/fq_prog/out/fq_prog
