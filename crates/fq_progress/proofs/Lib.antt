@@ -1,0 +1,5 @@
+pub mod Seats
+pub mod Measure
+pub mod Turns
+pub mod Kept
+pub mod GoesOn

@@ -1,0 +1,3 @@
+pub mod Model
+pub mod Moves
+pub mod Progress
