@@ -3,3 +3,4 @@ pub mod Measure
 pub mod Turns
 pub mod Kept
 pub mod GoesOn
+pub mod WorkedExamples

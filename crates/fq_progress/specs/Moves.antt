@@ -1,5 +1,5 @@
 -- The moves of the threads. A thread that waits has no move until another has made one.
-use Rattle.std.specs.Prelude.{◌≡◌, ◌⊎◌, ℕ, suc, ◌-◌, ◌%◌, ◌<◌, ◌≤◌, true, false, Option, Some, None, List, [], ◌∷◌, ◌++◌, length, drop}
+use Rattle.std.specs.Prelude.{◌≡◌, ◌⊎◌, ℕ, suc, ◌-◌, ◌%◌, ◌<◌, ◌≤◌, Bool, true, false, Option, Some, None, List, [], ◌∷◌, ◌++◌, length, drop}
 use Rattle.fq_progress.specs.Model.{Run, Reply, texts, stop, Doing, takes, answers, empties, left, Seat, awaits_start, deals, passes_start, closes, begins, closes_start, writes, drains, awaits_dealer, awaits_workers, State, closed_lanes, changed}
 
 pub data Move : Type 0 where
@@ -163,3 +163,9 @@ AreMoves p s (m ∷ ms) = May p s m × AreMoves p (after p s m) ms
 abbrev pub after_all : Run → State → List Move → State
 after_all p s [] = s
 after_all p s (m ∷ ms) = after_all p (after p s m) ms
+
+-- a write that fails, or a block to which the worker answers by a stop
+abbrev pub is_failure : Move → Bool
+is_failure fail_to_write = true
+is_failure (take_block j stop) = true
+is_failure m = false

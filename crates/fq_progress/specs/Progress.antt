@@ -1,7 +1,7 @@
 -- What is proved of all runs: none gets stuck, and each ends.
 use Rattle.std.specs.Prelude.{◌≡◌, ◌⊎◌, ℕ, zero, suc, ◌+◌, ◌-◌, ◌*◌, ◌<◌, ◌≤◌, Bool, true, false, List, length}
 use Rattle.fq_progress.specs.Model.{Run, IsRun, Doing, takes, answers, empties, left, Seat, Dealer, awaits_start, deals, passes_start, closes, Caller, begins, closes_start, writes, drains, awaits_dealer, awaits_workers, State, start}
-use Rattle.fq_progress.specs.Moves.{Move, May, after, AreMoves, after_all}
+use Rattle.fq_progress.specs.Moves.{Move, May, after, AreMoves, after_all, is_failure}
 
 -- All threads that were started have returned, and the calling thread has joined them.
 pub record HasEnded (p : Run) (s : State) : Type 0 where
@@ -9,10 +9,14 @@ pub record HasEnded (p : Run) (s : State) : Type 0 where
   pub dealer : s.dealer ≡ closes p.workers
   pub workers : (j : ℕ) → j < p.started → (s.seats j).doing ≡ left
 
--- In every state that a run can reach, it has ended, or some thread has a move.
+-- some thread has a move that is no failure
+abbrev pub CanGoOn : Run → State → Type 0
+CanGoOn p s = (m : Move) × May p s m × (is_failure m ≡ false)
+
+-- Every state that a run can reach is its end, or some thread has a move.
 abbrev pub NeverStuck : Type 0
 NeverStuck = (p : Run) (moves : List Move) → IsRun p → AreMoves p start moves →
-    HasEnded p (after_all p start moves) ⊎ ((m : Move) × May p (after_all p start moves) m)
+    HasEnded p (after_all p start moves) ⊎ CanGoOn p (after_all p start moves)
 
 -- How much is left to be done: at most this many moves.
 
