@@ -54,10 +54,10 @@ dealer p s mark within = dealer_by p s mark within s.dealer refl
 
 -- While the collector writes.
 
--- If all that was dealt to the worker in turn was written, no more blocks were dealt than written.
-all_written : (p : Run) (s : State) → IsRun p → IsKept p s → HoldAll p s.written s.dealt s.seats → share p.workers s.dealt s.turn ≤ share p.workers s.written s.turn → s.turn ≡ s.deal_turn
+-- If all that was dealt to the worker in turn was written, so was all that was dealt.
+pub all_written : (p : Run) (s : State) → IsRun p → IsKept p s → HoldAll p s.written s.dealt s.seats → share p.workers s.dealt s.turn ≤ share p.workers s.written s.turn → s.written ≡ s.dealt
 all_written p s run kept holds few = ⊎_elim
-    (λ e. kept.turn ∙ ap (turn_at p.workers) e ∙ sym kept.deal_turn)
+    (λ e. e)
     (⊎_elim
     (λ h. (let less = share_less p.workers s.written s.dealt h in let less' = rw (← kept.turn) at less in absurd (omega (arith, less', few))))
     (λ h. (let less = share_less p.workers s.dealt s.written h in
@@ -76,7 +76,7 @@ starves p s run kept here ph is doing none full =
     let nothing : in_seat (s.seats s.turn) ≡ 0 = omega (arith, ap length is, idle_hand (s.seats s.turn).doing doing, none) in
     ⊎_elim
     (λ stopped. (let a = ap has_stop is in cc))
-    (λ all. (let same = all_written p s run kept ph.1 (omega (arith, all, nothing)) in
+    (λ all. (let same : s.turn ≡ s.deal_turn = kept.turn ∙ ap (turn_at p.workers) (all_written p s run kept ph.1 (omega (arith, all, nothing))) ∙ sym kept.deal_turn in
     omega (arith, full, none, ap (λ t. (s.seats t).blocks) same, run.some_room)))
     (ph.1 s.turn here).all
 
@@ -154,7 +154,7 @@ by_caller p s run kept drains e ph =
 by_caller p s run kept awaits_dealer e ph = inr (joins_dealer p s kept e ph)
 by_caller p s run kept (awaits_workers k) e ph = joins_workers p s k run e ph
 
-kept_all : (p : Run) (s : State) (moves : List Move) → IsRun p → IsKept p s → AreMoves p s moves → IsKept p (after_all p s moves)
+pub kept_all : (p : Run) (s : State) (moves : List Move) → IsRun p → IsKept p s → AreMoves p s moves → IsKept p (after_all p s moves)
 kept_all p s [] run kept are = kept
 kept_all p s (m ∷ ms) run kept are = kept_all p (after p s m) ms run (keeps p s m run kept are.0) are.1
 

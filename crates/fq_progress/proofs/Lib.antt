@@ -3,4 +3,5 @@ pub mod Measure
 pub mod Turns
 pub mod Kept
 pub mod GoesOn
+pub mod WritesAll
 pub mod WorkedExamples

@@ -1,5 +1,5 @@
 -- What is proved of all runs: none gets stuck, and each ends.
-use Rattle.std.specs.Prelude.{◌≡◌, ◌⊎◌, ℕ, zero, suc, ◌+◌, ◌-◌, ◌*◌, ◌<◌, ◌≤◌, Bool, true, false, List, length}
+use Rattle.std.specs.Prelude.{◌≡◌, ◌⊎◌, ℕ, zero, suc, ◌+◌, ◌-◌, ◌*◌, ◌<◌, ◌≤◌, Bool, true, false, List, [], ◌∷◌, length}
 use Rattle.fq_progress.specs.Model.{Run, IsRun, Doing, takes, answers, empties, left, Seat, Dealer, awaits_start, deals, passes_start, closes, Caller, begins, closes_start, writes, drains, awaits_dealer, awaits_workers, State, start}
 use Rattle.fq_progress.specs.Moves.{Move, May, after, AreMoves, after_all, is_failure}
 
@@ -66,3 +66,14 @@ MovesLeaveLess = (p : Run) (s : State) (m : Move) → IsRun p → May p s m →
 abbrev pub RunsAreShort : Type 0
 RunsAreShort = (p : Run) (moves : List Move) → IsRun p → AreMoves p start moves →
     length moves ≤ 4 * p.blocks + 3 * p.workers + p.started + 8
+
+-- Without a failure every block is written.
+
+abbrev pub HaveNoFailure : List Move → Type 0
+HaveNoFailure [] = Unit {0}
+HaveNoFailure (m ∷ ms) = (is_failure m ≡ false) × HaveNoFailure ms
+
+abbrev pub AllIsWritten : Type 0
+AllIsWritten = (p : Run) (moves : List Move) → IsRun p → p.started ≡ p.workers →
+    AreMoves p start moves → HaveNoFailure moves → HasEnded p (after_all p start moves) →
+    (after_all p start moves).written ≡ p.blocks

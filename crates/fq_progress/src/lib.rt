@@ -15,7 +15,7 @@
 //! sleep and wake each other is another model's matter, in `fq_lane_tests`.
 #![tactic(auto)]
 
-ghost use Rattle.fq_progress.specs.Progress.{MovesLeaveLess, NeverStuck, RunsAreShort};
+ghost use Rattle.fq_progress.specs.Progress.{AllIsWritten, MovesLeaveLess, NeverStuck, RunsAreShort};
 
 /// In every state that a run can reach, some thread has a move, or all threads have returned and
 /// were joined.
@@ -38,4 +38,10 @@ pub fn moves_leave_less()
 /// that was started, and eight more. So it ends, whichever moves are made.
 pub fn runs_are_short()
     ensures { RunsAreShort }
+{}
+
+/// If all threads were started, no write failed and no worker stopped, a run that has ended has
+/// written every block.
+pub fn all_is_written()
+    ensures { AllIsWritten }
 {}

@@ -1,0 +1,5 @@
+use Rattle.fq_progress.proofs.WritesAll.{writes_all_blocks}
+use Rattle.fq_progress.proofs.all_is_written.Goals as goal
+
+pub returns : goal.returns
+returns c = writes_all_blocks
