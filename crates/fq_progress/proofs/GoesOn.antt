@@ -70,7 +70,7 @@ idle_hand : (d : Doing) → (d ≡ takes) ⊎ (d ≡ empties) → in_hand d ≡ 
 idle_hand d (inl e) = ap in_hand e
 idle_hand d (inr e) = ap in_hand e
 
--- The worker in turn doesn't wait for a block while the lane whose turn it is at the dealer is full.
+-- While the dealer waits for room, the worker in turn doesn't wait for a block.
 starves : (p : Run) (s : State) → IsRun p → IsKept p s → s.turn < p.workers → Phase p s writes → (s.seats s.turn).replies ≡ [] → ((s.seats s.turn).doing ≡ takes) ⊎ ((s.seats s.turn).doing ≡ empties) → (s.seats s.turn).blocks ≡ 0 → p.depth ≤ (s.seats s.deal_turn).blocks → ⊥
 starves p s run kept here ph is doing none full =
     let nothing : in_seat (s.seats s.turn) ≡ 0 = omega (arith, ap length is, idle_hand (s.seats s.turn).doing doing, none) in

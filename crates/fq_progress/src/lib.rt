@@ -5,14 +5,12 @@
 //!
 //! - `specs/Model.antt` has the state of a run: what the dealer, each worker and the calling thread
 //!   do next, and what the lanes between them hold.
-//! - `specs/Moves.antt` has the moves: when a thread can make one, and what it leaves. A thread that
-//!   waits is one whose next move can't be made yet. Whether a write fails, whether a worker stops,
-//!   and whether all threads are started is left open, so the laws hold of every failure.
+//! - `specs/Moves.antt` has the moves: when a thread can make one, and what it leaves. A thread
+//!   waits while its next move can't be made. Whether a write fails, whether a worker stops, where
+//!   reading ends and how many workers get a thread is left open, so the laws hold of every failure.
 //!
-//! Nothing ties the model to the code but a reading of both: the table of `docs/ARCHITECTURE.md`
-//! names the function that makes each move. The model takes it that a thread that has a move makes
-//! it at some time, and that calls of devices and of the gate return. How the two ends of a lane
-//! sleep and wake each other is another model's matter, in `fq_lane_tests`.
+//! Nothing ties the model to the code but a reading of both. The table of `docs/ARCHITECTURE.md`
+//! names the function that makes each move, and the text below it what the model takes for granted.
 #![tactic(auto)]
 
 ghost use Rattle.fq_progress.specs.Progress.{AllIsWritten, MovesLeaveLess, NeverStuck, RunsAreShort};
