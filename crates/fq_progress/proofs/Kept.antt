@@ -258,30 +258,34 @@ start_holds = record { most = omega arith; all = inr (omega arith); stopped = λ
 start_share : (workers i : ℕ) → Holds (share workers 0 i) (share workers 0 i) new_seat
 start_share workers i = start_holds
 
+-- Moves of the calling thread: those that change no seat, and those that take from one.
+
+caller_moves : (p : Run) (s : State) (c : Caller) (item mark : Bool) → IsKept p s → Phase p (record s { caller = c; start_item = item; start_mark = mark }) c → IsKept p (record s { caller = c; start_item = item; start_mark = mark })
+caller_moves p s c item mark kept ph = record { deal_turn = kept.deal_turn; turn = kept.turn; closed = kept.closed; marks = kept.marks; phase = ph }
+
+takes_from : (p : Run) (s : State) (c : Caller) (j : ℕ) (q : Seat) → IsKept p s → (Closes (closed_lanes s.dealer) j (s.seats j) → Closes (closed_lanes s.dealer) j q) → Phase p (record s { caller = c; seats = changed j q s.seats }) c → IsKept p (record s { caller = c; seats = changed j q s.seats })
+takes_from p s c j q kept ends ph = record {
+  deal_turn = kept.deal_turn;
+  turn = kept.turn;
+  closed = kept.closed;
+  marks = close_all p s.dealer s.seats j q kept.marks ends;
+  phase = ph;
+}
+
 -- All moves.
 
 pub keeps : (p : Run) (s : State) (m : Move) → IsRun p → IsKept p s → May p s m → IsKept p (after p s m)
 keeps p s put_start run kept may =
     let e : s ≡ start = subst (Phase p s) may.0 kept.phase in
-    record {
-      deal_turn = kept.deal_turn;
-      turn = kept.turn;
-      closed = kept.closed;
-      marks = kept.marks;
-      phase = (record { all = may.1; starts = λ x. refl }, subst (λ (x : State). HoldAll p x.written x.dealt x.seats) (sym e) (λ i h. start_share p.workers i));
-    }
+    caller_moves p s closes_start true s.start_mark kept
+    (record { all = may.1; starts = λ x. refl }, subst (λ (x : State). HoldAll p x.written x.dealt x.seats) (sym e) (λ i h. start_share p.workers i))
 keeps p s give_up run kept may =
     let e : s ≡ start = subst (Phase p s) may.0 kept.phase in
-    record {
-      deal_turn = kept.deal_turn;
-      turn = kept.turn;
-      closed = kept.closed;
-      marks = kept.marks;
-      phase = (inl (ap (λ (x : State). x.dealer) e, ap (λ (x : State). x.start_item) e), subst (λ (x : State). AreQuiet p x.seats) (sym e) (λ i h. inr (refl, refl)), refl);
-    }
+    caller_moves p s awaits_dealer s.start_item true kept
+    (inl (ap (λ (x : State). x.dealer) e, ap (λ (x : State). x.start_item) e), subst (λ (x : State). AreQuiet p x.seats) (sym e) (λ i h. inr (refl, refl)), refl)
 keeps p s close_start run kept may =
     let ph : Phase p s closes_start = subst (Phase p s) may kept.phase in
-    record { deal_turn = kept.deal_turn; turn = kept.turn; closed = kept.closed; marks = kept.marks; phase = (ph.0, ph.1, refl) }
+    caller_moves p s writes s.start_item true kept (ph.0, ph.1, refl)
 keeps p s write run kept may =
     let ph : Phase p s writes = subst (Phase p s) may.0 kept.phase in
     record {
@@ -293,63 +297,31 @@ keeps p s write run kept may =
     }
 keeps p s fail_to_write run kept may =
     let ph : Phase p s writes = subst (Phase p s) may.0 kept.phase in
-    record {
-      deal_turn = kept.deal_turn;
-      turn = kept.turn;
-      closed = kept.closed;
-      marks = close_all p s.dealer s.seats s.turn (with_reply_taken (s.seats s.turn)) kept.marks (taken_closes _ _ (s.seats s.turn));
-      phase = (ph.0, ph.2);
-    }
+    takes_from p s drains s.turn (with_reply_taken (s.seats s.turn)) kept (taken_closes _ _ (s.seats s.turn)) (ph.0, ph.2)
 keeps p s hear_stop run kept may =
     let ph : Phase p s writes = subst (Phase p s) may.0 kept.phase in
-    record {
-      deal_turn = kept.deal_turn;
-      turn = kept.turn;
-      closed = kept.closed;
-      marks = close_all p s.dealer s.seats s.turn (with_reply_taken (s.seats s.turn)) kept.marks (taken_closes _ _ (s.seats s.turn));
-      phase = (ph.0, ph.2);
-    }
+    takes_from p s drains s.turn (with_reply_taken (s.seats s.turn)) kept (taken_closes _ _ (s.seats s.turn)) (ph.0, ph.2)
 keeps p s find_mark run kept may =
     let ph : Phase p s writes = subst (Phase p s) may.0 kept.phase in
-    record {
-      deal_turn = kept.deal_turn;
-      turn = kept.turn;
-      closed = kept.closed;
-      marks = close_all p s.dealer s.seats s.turn (record (s.seats s.turn) { marked = true }) kept.marks (marked_closes _ _ (s.seats s.turn) may.2.closed);
-      phase = (ph.0, ph.2);
-    }
+    takes_from p s drains s.turn (record (s.seats s.turn) { marked = true }) kept (marked_closes _ _ (s.seats s.turn) may.2.closed) (ph.0, ph.2)
 keeps p s (drop_reply j) run kept may =
-    record {
-      deal_turn = kept.deal_turn;
-      turn = kept.turn;
-      closed = kept.closed;
-      marks = close_all p s.dealer s.seats j (with_reply_taken (s.seats j)) kept.marks (taken_closes _ _ (s.seats j));
-      phase = subst (Phase p (after p s (drop_reply j))) (sym may.0) (let ph : Phase p s drains = subst (Phase p s) may.0 kept.phase in ph);
-    }
+    takes_from p s s.caller j (with_reply_taken (s.seats j)) kept (taken_closes _ _ (s.seats j))
+    (subst (Phase p (after p s (drop_reply j))) (sym may.0) (let ph : Phase p s drains = subst (Phase p s) may.0 kept.phase in ph))
 keeps p s (drop_mark j) run kept may =
-    record {
-      deal_turn = kept.deal_turn;
-      turn = kept.turn;
-      closed = kept.closed;
-      marks = close_all p s.dealer s.seats j (record (s.seats j) { marked = true }) kept.marks (marked_closes _ _ (s.seats j) may.3.closed);
-      phase = subst (Phase p (after p s (drop_mark j))) (sym may.0) (let ph : Phase p s drains = subst (Phase p s) may.0 kept.phase in ph);
-    }
+    takes_from p s s.caller j (record (s.seats j) { marked = true }) kept (marked_closes _ _ (s.seats j) may.3.closed)
+    (subst (Phase p (after p s (drop_mark j))) (sym may.0) (let ph : Phase p s drains = subst (Phase p s) may.0 kept.phase in ph))
 keeps p s end_drain run kept may =
     let ph : Phase p s drains = subst (Phase p s) may.0 kept.phase in
-    let over : 0 < closed_lanes s.dealer = (let h : 0 < p.workers = omega (arith, run.some_workers) in let c = (kept.marks 0 h).over ((kept.marks 0 h).told (may.1 0 h)) in omega (arith, c)) in
-    record {
-      deal_turn = kept.deal_turn;
-      turn = kept.turn;
-      closed = kept.closed;
-      marks = kept.marks;
-      phase = (inr (closed_by s.dealer over), (λ i h. inl ((kept.marks i h).told (may.1 i h))), ph.1);
-    }
+    let first : 0 < p.workers = omega (arith, run.some_workers) in
+    let over = (kept.marks 0 first).over ((kept.marks 0 first).told (may.1 0 first)) in
+    caller_moves p s awaits_dealer s.start_item s.start_mark kept
+    (inr (closed_by s.dealer over), (λ i h. inl ((kept.marks i h).told (may.1 i h))), ph.1)
 keeps p s join_dealer run kept may =
     let ph : Phase p s awaits_dealer = subst (Phase p s) may.0 kept.phase in
-    record { deal_turn = kept.deal_turn; turn = kept.turn; closed = kept.closed; marks = kept.marks; phase = (may.1, ph.1, omega arith, λ i h. absurd (omega arith)) }
+    caller_moves p s (awaits_workers 0) s.start_item s.start_mark kept (may.1, ph.1, omega arith, λ i h. absurd (omega arith))
 keeps p s (join_worker k) run kept may =
     let ph : Phase p s (awaits_workers k) = subst (Phase p s) may.0 kept.phase in
-    record { deal_turn = kept.deal_turn; turn = kept.turn; closed = kept.closed; marks = kept.marks; phase = (ph.0, ph.1, may.1, below_next (λ i. (s.seats i).doing ≡ left) k ph.3 may.2) }
+    caller_moves p s (awaits_workers (suc k)) s.start_item s.start_mark kept (ph.0, ph.1, may.1, below_next (λ i. (s.seats i).doing ≡ left) k ph.3 may.2)
 keeps p s take_start run kept may =
     dealer_moves p s deals kept (λ e. (let a = ap (λ (x : State). x.start_item) e in let b = may.1 in cc)) (λ e. cc) (omega arith) (omega (arith, ap closed_lanes may.0))
     (⊎_elim (λ h. (let a = h.1 in let b = may.1 in cc)) (λ h. (let a = h.1 in let b = may.0 in cc))) (λ e. (let b = may.0 in cc))

@@ -6,8 +6,10 @@
 //! - `specs/Model.antt` has the state of a run: what the dealer, each worker and the calling thread
 //!   do next, and what the lanes between them hold.
 //! - `specs/Moves.antt` has the moves: when a thread can make one, and what it leaves. A thread
-//!   waits while its next move can't be made. Whether a write fails, whether a worker stops, where
-//!   reading ends and how many workers get a thread is left open, so the laws hold of every failure.
+//!   waits while its next move can't be made.
+//!
+//! The laws hold whichever write fails, whichever workers stop, wherever reading ends and however
+//! many workers get a thread.
 //!
 //! Nothing ties the model to the code but a reading of both. The table of `docs/ARCHITECTURE.md`
 //! names the function that makes each move, and the text below it what the model takes for granted.
