@@ -1,5 +1,5 @@
 -- Runs of the model, move by move, and what gets stuck if a rule is broken.
-use Rattle.std.proofs.Common.{◌≡◌, ℕ, zero, suc, ◌<◌, true, false, List, [], ◌∷◌, length, refl, arith, rules}
+use Rattle.std.proofs.Common.{◌≡◌, ℕ, zero, suc, ◌<◌, List, [], ◌∷◌, length, refl, arith, rules}
 use Rattle.fq_progress.specs.Model.{Run, texts, stop, left, State, start}
 use Rattle.fq_progress.specs.Moves.{Move, put_start, close_start, give_up, write, fail_to_write, hear_stop, find_mark, drop_reply, drop_mark, end_drain, join_dealer, join_worker, take_start, find_no_start, deal, end_reading, pass_start, close_blocks, take_block, put_reply, empty_block, leave, May, AreMoves, after_all, at_seat}
 use Rattle.fq_progress.specs.Progress.{HasEnded, moves_left}
@@ -77,10 +77,14 @@ given_up = give_up ∷ find_no_start ∷ close_blocks 0 ∷ close_blocks 1 ∷ l
 given_up_moves : AreMoves refused start given_up
 given_up_moves = search rules
 
+given_up_ended : HasEnded refused (after_all refused start given_up)
+given_up_ended = record { caller = refl; dealer = refl; workers = λ j h. of_two (λ i. i < 1 → ((after_all refused start given_up).seats i).doing ≡ left) (λ k. refl) (λ k. absurd (omega arith)) j (omega arith) h }
+
 -- Broken rules: no thread has a move, and the run hasn't ended.
 
-abbrev IsStuck : Run → State → Type 0
-IsStuck p s = (m : Move) → May p s m → ⊥
+record IsStuck (p : Run) (s : State) : Type 0 where
+  pub no_move : (m : Move) → May p s m → ⊥
+  pub no_end : HasEnded p s → ⊥
 
 -- A worker that leaves after its stop, and doesn't empty its lane: the dealer waits for room in it,
 -- and the calling thread for the dealer.
@@ -101,33 +105,8 @@ not_emptied = after_all one gone_early (drop_mark 0 ∷ end_drain ∷ [])
 all_can_be_made : AreMoves one start until_its_stop × AreMoves one gone_early (drop_mark 0 ∷ end_drain ∷ [])
 all_can_be_made = search rules
 
-no_move_unemptied : IsStuck one not_emptied
-no_move_unemptied put_start h = (let a = h.0 in cc)
-no_move_unemptied close_start h = cc
-no_move_unemptied give_up h = (let a = h.0 in cc)
-no_move_unemptied write h = (let a = h.0 in cc)
-no_move_unemptied fail_to_write h = (let a = h.0 in cc)
-no_move_unemptied hear_stop h = (let a = h.0 in cc)
-no_move_unemptied find_mark h = (let a = h.0 in cc)
-no_move_unemptied (drop_reply j) h = (let a = h.0 in cc)
-no_move_unemptied (drop_mark j) h = (let a = h.0 in cc)
-no_move_unemptied end_drain h = (let a = h.0 in cc)
-no_move_unemptied join_dealer h = (let a = h.1 in cc)
-no_move_unemptied (join_worker k) h = (let a = h.0 in cc)
-no_move_unemptied take_start h = (let a = h.0 in cc)
-no_move_unemptied find_no_start h = (let a = h.0 in cc)
-no_move_unemptied deal h = omega (arith, h.3)
-no_move_unemptied end_reading h = omega (arith, h.1)
-no_move_unemptied pass_start h = (let a = h.0 in cc)
-no_move_unemptied (close_blocks k) h = (let a = h.0 in cc)
-no_move_unemptied (take_block zero r) h = (let a = h.1 in cc)
-no_move_unemptied (take_block (suc j) r) h = omega (arith, h.0)
-no_move_unemptied (put_reply zero r) h = (let a = h.1 in cc)
-no_move_unemptied (put_reply (suc j) r) h = omega (arith, h.0)
-no_move_unemptied (empty_block zero) h = (let a = h.1 in cc)
-no_move_unemptied (empty_block (suc j)) h = omega (arith, h.0)
-no_move_unemptied (leave zero) h = omega (arith, h.3)
-no_move_unemptied (leave (suc j)) h = omega (arith, h.0)
+stuck_unemptied : IsStuck one not_emptied
+stuck_unemptied = record { no_move = λ m h. grind arith; no_end = λ h. grind arith }
 
 -- A collector that takes its replies from the second worker alone: the first worker waits for room
 -- for its second reply, the dealer for room in the lane of the first worker, the second worker for
@@ -168,37 +147,8 @@ out_of_turn = at_second (after_all seven first_in_hand two_more)
 each_can_be_made : AreMoves seven start opening × AreMoves seven opened two_more × AreMoves seven one_written (take_block 0 texts ∷ put_reply 0 texts ∷ []) × AreMoves seven first_answered two_more × AreMoves seven two_written (take_block 0 texts ∷ []) × AreMoves seven first_in_hand two_more
 each_can_be_made = search rules
 
-no_move_out_of_turn : IsStuck seven out_of_turn
-no_move_out_of_turn put_start h = (let a = h.0 in cc)
-no_move_out_of_turn close_start h = cc
-no_move_out_of_turn give_up h = (let a = h.0 in cc)
-no_move_out_of_turn write h = (let a = h.2 in cc)
-no_move_out_of_turn fail_to_write h = (let a = h.2 in cc)
-no_move_out_of_turn hear_stop h = (let a = h.2 in cc)
-no_move_out_of_turn find_mark h = (let a = h.2.closed in cc)
-no_move_out_of_turn (drop_reply j) h = (let a = h.0 in cc)
-no_move_out_of_turn (drop_mark j) h = (let a = h.0 in cc)
-no_move_out_of_turn end_drain h = (let a = h.0 in cc)
-no_move_out_of_turn join_dealer h = (let a = h.0 in cc)
-no_move_out_of_turn (join_worker k) h = (let a = h.0 in cc)
-no_move_out_of_turn take_start h = (let a = h.0 in cc)
-no_move_out_of_turn find_no_start h = (let a = h.0 in cc)
-no_move_out_of_turn deal h = omega (arith, h.3)
-no_move_out_of_turn end_reading h = omega (arith, h.1)
-no_move_out_of_turn pass_start h = (let a = h.0 in cc)
-no_move_out_of_turn (close_blocks k) h = (let a = h.0 in cc)
-no_move_out_of_turn (take_block zero r) h = (let a = h.1 in cc)
-no_move_out_of_turn (take_block (suc zero) r) h = omega (arith, h.2)
-no_move_out_of_turn (take_block (suc (suc j)) r) h = omega (arith, h.0)
-no_move_out_of_turn (put_reply zero r) h = omega (arith, h.2)
-no_move_out_of_turn (put_reply (suc zero) r) h = (let a = h.1 in cc)
-no_move_out_of_turn (put_reply (suc (suc j)) r) h = omega (arith, h.0)
-no_move_out_of_turn (empty_block zero) h = (let a = h.1 in cc)
-no_move_out_of_turn (empty_block (suc zero)) h = (let a = h.1 in cc)
-no_move_out_of_turn (empty_block (suc (suc j))) h = omega (arith, h.0)
-no_move_out_of_turn (leave zero) h = omega (arith, h.3)
-no_move_out_of_turn (leave (suc zero)) h = omega (arith, h.3)
-no_move_out_of_turn (leave (suc (suc j))) h = omega (arith, h.0)
+stuck_out_of_turn : IsStuck seven out_of_turn
+stuck_out_of_turn = record { no_move = λ m h. grind arith; no_end = λ h. grind arith }
 
 -- A collector that drains the lane of one worker alone: after a stop of the first worker there is a
 -- state in which only a reply of the second one can be taken.
@@ -216,37 +166,4 @@ full_beside_moves : AreMoves eight start full_beside
 full_beside_moves = search rules
 
 only_the_other : (m : Move) → May eight (after_all eight start full_beside) m → m ≡ drop_reply 1
-only_the_other put_start h = absurd (let a = h.0 in cc)
-only_the_other close_start h = absurd cc
-only_the_other give_up h = absurd (let a = h.0 in cc)
-only_the_other write h = absurd (let a = h.0 in cc)
-only_the_other fail_to_write h = absurd (let a = h.0 in cc)
-only_the_other hear_stop h = absurd (let a = h.0 in cc)
-only_the_other find_mark h = absurd (let a = h.0 in cc)
-only_the_other (drop_reply zero) h = absurd (omega (arith, h.2))
-only_the_other (drop_reply (suc zero)) h = refl
-only_the_other (drop_reply (suc (suc j))) h = absurd (omega (arith, h.1))
-only_the_other (drop_mark zero) h = absurd (let a = h.3.closed in cc)
-only_the_other (drop_mark (suc zero)) h = absurd (let a = h.3.closed in cc)
-only_the_other (drop_mark (suc (suc j))) h = absurd (omega (arith, h.1))
-only_the_other end_drain h = absurd (let a : false ≡ true = h.1 0 (omega arith) in cc)
-only_the_other join_dealer h = absurd (let a = h.0 in cc)
-only_the_other (join_worker k) h = absurd (let a = h.0 in cc)
-only_the_other take_start h = absurd (let a = h.0 in cc)
-only_the_other find_no_start h = absurd (let a = h.0 in cc)
-only_the_other deal h = absurd (omega (arith, h.3))
-only_the_other end_reading h = absurd (omega (arith, h.1))
-only_the_other pass_start h = absurd (let a = h.0 in cc)
-only_the_other (close_blocks k) h = absurd (let a = h.0 in cc)
-only_the_other (take_block zero r) h = absurd (let a = h.1 in cc)
-only_the_other (take_block (suc zero) r) h = absurd (let a = h.1 in cc)
-only_the_other (take_block (suc (suc j)) r) h = absurd (omega (arith, h.0))
-only_the_other (put_reply zero r) h = absurd (let a = h.1 in cc)
-only_the_other (put_reply (suc zero) r) h = absurd (omega (arith, h.2))
-only_the_other (put_reply (suc (suc j)) r) h = absurd (omega (arith, h.0))
-only_the_other (empty_block zero) h = absurd (omega (arith, h.2))
-only_the_other (empty_block (suc zero)) h = absurd (let a = h.1 in cc)
-only_the_other (empty_block (suc (suc j))) h = absurd (omega (arith, h.0))
-only_the_other (leave zero) h = absurd (omega (arith, h.3))
-only_the_other (leave (suc zero)) h = absurd (omega (arith, h.3))
-only_the_other (leave (suc (suc j))) h = absurd (omega (arith, h.0))
+only_the_other m h = grind arith
