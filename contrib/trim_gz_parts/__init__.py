@@ -2,6 +2,7 @@
 
     arguments   the arguments of a run
     tools       compressors and decompressors: which are safe, their arguments and messages
+    checks      what inputs show before a run
     files       inputs and outputs, hidden names and final names
     children    programs that were started, and what they print
     progress    how much of the inputs was read

@@ -8,15 +8,18 @@ import signal
 import subprocess
 import threading
 import time
+from typing import Any, Callable, Dict, Iterable, Iterator, List, Optional, Sequence, Tuple
 
-from .faults import SIGNALS, Fault, Stopped, signal_name, write_all
+from .faults import SIGNALS, Fault, Stopped, reason, signal_name, write_all
 from .tools import reason_of
 
 F_SETPIPE_SZ = getattr(fcntl, "F_SETPIPE_SZ", 1031)
 PIPE_BYTES = 1 << 20
+PR_SET_PDEATHSIG = 1
+Usual = Iterable[Tuple[str, str]]   # variables of the environment, unless the user has set them
 
 
-def make_pipe():
+def make_pipe() -> Tuple[int, int]:
     """Both ends of a pipe, with more room than usual if the system gives it."""
     ends = os.pipe()
     with contextlib.suppress(OSError):
@@ -24,15 +27,8 @@ def make_pipe():
     return ends
 
 
-class Nowhere:
-    """A text that forgets what is added to it."""
-
-    def __iadd__(self, _):
-        return self
-
-
-def drain(fd, into):
-    """Reads all that a pipe holds now. Returns whether more may come."""
+def drain(fd: int, into: Optional[bytearray]) -> bool:
+    """Reads all that a pipe holds now, and forgets it at None. Returns whether more may come."""
     for _ in range(64):
         try:
             part = os.read(fd, 65536)
@@ -40,44 +36,68 @@ def drain(fd, into):
             return True
         if not part:
             return False
-        into += part
+        if into is not None:
+            into += part
     return True
 
 
-def feed(fd, data):
+def feed(fd: int, data: bytes) -> None:
     """Writes the data into a pipe, in a thread of its own, and closes the pipe."""
-    def write():
+    def write() -> None:
         with contextlib.suppress(OSError):
             write_all(fd, data)
         os.close(fd)
     threading.Thread(target=write, daemon=True).start()
 
 
-class Child:
-    """A program that was started, in a process group of its own, and what it prints on standard error."""
+def way_to_end_with_us() -> Optional[Callable[[], None]]:
+    """What a child calls first, so that the system kills it if this process is gone, as by kill -9.
+    Otherwise it would work on to the end of its input. None: this system can't."""
+    try:
+        import ctypes
+        prctl = ctypes.CDLL(None).prctl
+    except (ImportError, OSError, AttributeError):
+        return None
+    parent = os.getpid()
 
-    def __init__(self, name, words, stdin, stdout, passed, said, usual):
-        self.name, self.status = name, None
-        environment = {**usual, **os.environ, "LC_ALL": "C"}
+    def end_with_us() -> None:
+        prctl(PR_SET_PDEATHSIG, signal.SIGKILL)
+        if os.getppid() != parent:
+            os.kill(os.getpid(), signal.SIGKILL)
+    return end_with_us
+
+
+class Child:
+    """A program that was started, in a process group of its own, and what it prints on standard
+    error."""
+
+    def __init__(self, name: str, words: List[str], stdin: Optional[int], stdout: Optional[int],
+                 passed: Sequence[int], said: Tuple[bytearray, int], usual: Usual,
+                 first: Optional[Callable[[], None]]) -> None:
+        self.name = name
+        self.status: Optional[int] = None
+        environment: Dict[str, str] = {**dict(usual), **os.environ, "LC_ALL": "C"}
         for options in "GZIP", "PIGZ":
             environment.pop(options, None)
         self.said, said_end = said
         for fd in passed:
             os.set_inheritable(fd, True)
         try:
-            # Not close_fds: a name such as /dev/fd/63 leads to a file that the shell has opened. exec closes our own files.
+            # Not close_fds: a name such as /dev/fd/63 leads to a file that the shell has opened.
+            # exec closes our own files.
             self.process = subprocess.Popen(
                 words, stdin=stdin, stdout=said_end if stdout is None else stdout, stderr=said_end,
-                close_fds=False, start_new_session=True, env=environment)
+                close_fds=False, start_new_session=True, env=environment, preexec_fn=first)
         except OSError as error:
-            raise Fault(4, f"cannot start {words[0]}: {error.strerror}")
+            raise Fault(4, f"cannot start {words[0]}: {reason(error)}")
         finally:
             for fd in passed:
                 os.set_inheritable(fd, False)
             os.close(said_end)
 
-    def look(self):
-        """Whether it has ended. All that it started ends with it, while its process number is still its own."""
+    def look(self) -> bool:
+        """Whether it has ended. All that it started ends with it, while its process number is still
+        its own."""
         if self.status is not None:
             return True
         if os.waitid(os.P_PID, self.process.pid, os.WEXITED | os.WNOHANG | os.WNOWAIT) is None:
@@ -86,7 +106,7 @@ class Child:
         self.status = self.process.wait()
         return True
 
-    def signal(self, number):
+    def signal(self, number: int) -> bool:
         """Sends a signal to it and to all that it started. Returns whether there is any of them."""
         try:
             os.killpg(self.process.pid, number)
@@ -94,47 +114,52 @@ class Child:
             return False
         return True
 
-    def text(self):
+    def text(self) -> str:
         return self.said.decode("utf-8", "replace")
 
-    def met_closed_pipe(self):
+    def met_closed_pipe(self) -> bool:
         """Whether it ended because nobody reads what it writes."""
         return self.status == -signal.SIGPIPE or b"Broken pipe" in self.said
 
-    def why(self, name=""):
+    def was_killed(self) -> bool:
+        return self.status is not None and self.status < 0
+
+    def why(self, name: str = "") -> str:
         """Why it failed."""
-        if self.status < 0:
-            return f"ended by {signal_name(-self.status)}"
+        if self.was_killed():
+            return f"ended by {signal_name(-(self.status or 0))}"
         return reason_of(self.text(), name) or f"status {self.status}"
 
 
 class Family:
     """All children, and what they print."""
 
-    def __init__(self, tick, pause):
-        self.children = []
-        self.lent = []          # ends of pipes that children get, to be closed here
+    def __init__(self, tick: Callable[[], None], pause: float) -> None:
+        self.children: List[Child] = []
+        self.lent: List[int] = []   # ends of pipes that children get, to be closed here
         self.tick, self.pause = tick, pause
         self.selector = selectors.DefaultSelector()
-        self.first_signal = None
+        self.first_signal: Optional[int] = None
         self.is_waiting = False
+        self.end_with_us = way_to_end_with_us()
         awake, wake = os.pipe()
         os.set_blocking(awake, False)
         os.set_blocking(wake, False)
         self.selector.register(awake, selectors.EVENT_READ, bytearray())
         signal.set_wakeup_fd(wake)
-        signal.signal(signal.SIGCHLD, lambda *_: None)  # if it is ignored, the system keeps no status
+        # If SIGCHLD is ignored, the system keeps no status.
+        signal.signal(signal.SIGCHLD, lambda *_: None)
         for number in SIGNALS:
             if signal.getsignal(number) != signal.SIG_IGN:
                 signal.signal(number, self.note)
 
-    def note(self, number, _):
+    def note(self, number: int, _: Any) -> None:
         self.first_signal = self.first_signal or number
         if self.is_waiting:
             raise Stopped
 
     @contextlib.contextmanager
-    def heeding_signals(self):
+    def heeding_signals(self) -> Iterator[None]:
         """A signal interrupts a system call that may wait forever."""
         self.is_waiting = True
         try:
@@ -144,7 +169,7 @@ class Family:
         finally:
             self.is_waiting = False
 
-    def listen(self):
+    def listen(self) -> Tuple[bytearray, int]:
         """A buffer for what comes through a new pipe, and the writing end of that pipe."""
         ours, theirs = os.pipe()
         os.set_blocking(ours, False)
@@ -152,40 +177,44 @@ class Family:
         self.selector.register(ours, selectors.EVENT_READ, heard)
         return heard, theirs
 
-    def gather(self):
+    def gather(self) -> Tuple[bytearray, int]:
         """As `listen`, for a pipe whose writing end a child gets."""
         heard, theirs = self.listen()
         self.lent.append(theirs)
         return heard, theirs
 
-    def discard(self, fd):
+    def discard(self, fd: int) -> None:
         """Reads what comes through this pipe from now on, and forgets it."""
         os.set_blocking(fd, False)
-        self.selector.register(fd, selectors.EVENT_READ, Nowhere())
+        self.selector.register(fd, selectors.EVENT_READ, None)
 
-    def pipe(self):
+    def pipe(self) -> Tuple[int, int]:
         """A pipe between two children."""
         ends = make_pipe()
         self.lent.extend(ends)
         return ends
 
-    def keep(self, fd):
+    def keep(self, fd: int) -> int:
         """Keeps this end of a pipe open in this process, too."""
         self.lent.remove(fd)
         return fd
 
-    def let_go(self):
+    def let_go(self) -> None:
         """Closes the ends of pipes that only children need, after all children have them."""
         for fd in self.lent:
             os.close(fd)
         self.lent.clear()
 
-    def start(self, name, words, stdin=None, stdout=None, passed=(), usual=()):
-        """Starts a child. Its standard error is gathered, and its standard output too if none is given. The variables in `usual`
-        are in its environment, unless the user has set them."""
-        self.children.append(Child(name, words, stdin, stdout, passed, self.listen(), dict(usual)))
+    def start(self, name: str, words: List[str], stdin: Optional[int] = None,
+              stdout: Optional[int] = None, passed: Sequence[int] = (), usual: Usual = ()) -> None:
+        """Starts a child. Its standard error is gathered, and its standard output too if none is
+        given. cutadapt isn't killed with this process, as its own processes would wait for it
+        forever: it ends soon after its inputs do."""
+        first = None if name == "cutadapt" else self.end_with_us
+        self.children.append(
+            Child(name, words, stdin, stdout, passed, self.listen(), usual, first))
 
-    def attend(self):
+    def attend(self) -> None:
         """Waits until something happens, but at most for `pause` seconds."""
         for key, _ in self.selector.select(self.pause):
             if not drain(key.fd, key.data):
@@ -193,8 +222,15 @@ class Family:
                 os.close(key.fd)
         self.tick()
 
-    def next_end(self, until=float("inf")):
-        """The next child that has ended, or None if none has ended by then. If several have, the one that was started first."""
+    def next_end(self) -> Child:
+        """The next child that has ended. If several have, the one that was started first."""
+        child = None
+        while child is None:
+            child = self.next_end_until(float("inf"))
+        return child
+
+    def next_end_until(self, until: float) -> Optional[Child]:
+        """The next child that has ended, or None if none has ended by then."""
         while time.monotonic() < until:
             child = next((child for child in self.children if child.look()), None)
             if self.first_signal:
@@ -207,13 +243,13 @@ class Family:
             self.attend()
         return None
 
-    def find(self, name):
+    def find(self, name: str) -> Optional[Child]:
         """The child of this name that still runs, or None."""
         return next((child for child in self.children if child.name == name), None)
 
-    def end_all(self):
-        """Ends the children and all that they started, by force if they don't end soon. Waits only for a moment for a killed
-        process that nobody reaps."""
+    def end_all(self) -> None:
+        """Ends the children and all that they started, by force if they don't end soon. Waits only
+        for a moment for a killed process that nobody reaps."""
         left = list(self.children)
         for child in left:
             child.signal(signal.SIGTERM)

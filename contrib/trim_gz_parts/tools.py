@@ -1,24 +1,34 @@
 """Compressors and decompressors: which are safe, their arguments and their messages.
 
-gzip and bgzip ended with a nonzero status on each damaged file that was tried. pigz and igzip didn't: if a later
-member of a file is cut or damaged in its first bytes, they leave out the rest and end with 0. So these two never
-decompress. igzip doesn't check its last write either, so it compresses into a pipe, and cat writes the file.
+gzip and bgzip ended with a nonzero status on each damaged file that was tried. pigz and igzip
+didn't: if a later member of a file is cut or damaged in its first bytes, they leave out the rest
+and end with 0. So these two never decompress. igzip doesn't check its last write either, so it
+compresses into a pipe, and cat writes the file.
 """
 
 import os
 import re
 import shutil
+from typing import TYPE_CHECKING, Callable, Dict, List, Tuple
 
 from .faults import Fault
 
+if TYPE_CHECKING:
+    from .arguments import Arguments
+    from .files import Output
+
 DECOMPRESSORS = ("bgzip", "gzip")
-COMPRESSORS = {  # the level without --level, and the arguments
+
+Command = Callable[[int, int], List[str]]
+COMPRESSORS: Dict[str, Tuple[int, Command]] = {  # the level without --level, and the arguments
     "bgzip": (4, lambda level, threads: ["bgzip", "-c", "-l", str(level), "-@", str(threads)]),
-    "igzip": (2, lambda level, threads: ["igzip", "-c", "-n", f"-{min(level, 3)}", "-T", str(threads)]),
+    "igzip": (
+        2, lambda level, threads: ["igzip", "-c", "-n", f"-{min(level, 3)}", "-T", str(threads)]),
     "pigz": (6, lambda level, threads: ["pigz", "-n", f"-{level}", "-p", str(threads)]),
     "gzip": (6, lambda level, threads: ["gzip", "-n", f"-{level}"]),
 }
-# The level beside cutadapt, which needs the processors: level 3 takes 0.6 of level 4's time, and its files are 0.8 % larger.
+# The level beside cutadapt, which needs the processors: level 3 takes 0.6 of level 4's time, and
+# its files are 0.8 % larger.
 BESIDE_CUTADAPT = {"bgzip": 3}
 # What bgzip prints for a damaged file, and gzip's words for it.
 GZIP_WORDS = (
@@ -32,13 +42,15 @@ GZIP_WORDS = (
     ("length check", "invalid compressed data--length error"),
     ("Inflate operation failed", "invalid compressed data--format violated"),
 )
-PREFIXES = ("gzip: ", "pigz: ", "igzip: ", "[bgzip] ", "abort: ", "cat: ", "report_to_html: ", "tibzharuk-report: ")
+PREFIXES = (
+    "gzip: ", "pigz: ", "igzip: ", "[bgzip] ", "abort: ", "cat: ", "report_to_html: ",
+    "tibzharuk-report: ")
 
 
 class Tools:
     """The compressor and the decompressor of a run, and their threads."""
 
-    def __init__(self, arguments):
+    def __init__(self, arguments: "Arguments") -> None:
         self.compressor = self.choose_compressor(arguments.compressor)
         self.decompressor = self.choose_decompressor(arguments.decompressor)
         self.level = arguments.level or self.usual_level(arguments.uses_cutadapt())
@@ -49,7 +61,7 @@ class Tools:
         self.compress_threads = arguments.compress_threads
 
     @staticmethod
-    def choose_compressor(name):
+    def choose_compressor(name: str) -> str:
         if name == "auto":
             return next((name for name in ("bgzip", "pigz") if shutil.which(name)), "gzip")
         if not shutil.which(name):
@@ -57,29 +69,33 @@ class Tools:
         return name
 
     @staticmethod
-    def choose_decompressor(name):
+    def choose_decompressor(name: str) -> str:
         if name == "auto":
             return "bgzip" if shutil.which("bgzip") else "gzip"
         if not shutil.which(name):
             raise Fault(1, f"no program {name} (--decompressor)")
         return name
 
-    def usual_level(self, is_beside_cutadapt):
+    def usual_level(self, is_beside_cutadapt: bool) -> int:
         level = COMPRESSORS[self.compressor][0]
         return BESIDE_CUTADAPT.get(self.compressor, level) if is_beside_cutadapt else level
 
-    def compress(self, role):
-        """The command that compresses the output of this role. Both paired outputs share all threads."""
-        threads = self.threads // (2 if role.startswith("paired") else 4)
-        return COMPRESSORS[self.compressor][1](self.level, self.compress_threads or max(1, threads))
+    def compress(self, role: str) -> List[str]:
+        """The command that compresses the output of this role. Both paired outputs share all
+        threads, and an interleaved one gets all."""
+        share = 1 if role == "interleaved" else 2 if role.startswith("paired") else 4
+        threads = self.compress_threads or max(1, self.threads // share)
+        return COMPRESSORS[self.compressor][1](self.level, threads)
 
-    def needs_cat(self, output):
-        """Whether cat writes the output. igzip doesn't check its last write, and bgzip doesn't say why a write failed."""
+    def needs_cat(self, output: "Output") -> bool:
+        """Whether cat writes the output. igzip doesn't check its last write, and bgzip doesn't say
+        why a write failed."""
         return self.compressor == "igzip" or self.compressor == "bgzip" and output.is_device
 
 
-def reason_of(text, name=""):
-    """Why a tool failed: the first line that it printed, in gzip's words if bgzip printed it, or nothing."""
+def reason_of(text: str, name: str = "") -> str:
+    """Why a tool failed: the first line that it printed, in gzip's words if bgzip printed it, or
+    nothing."""
     if text.startswith("[E::"):
         for word, meaning in GZIP_WORDS:
             if word in text:

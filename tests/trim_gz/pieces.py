@@ -8,11 +8,12 @@ import re
 import sys
 import tempfile
 import unittest
+import zlib
 
 sys.dont_write_bytecode = True
 sys.path.insert(0, os.path.join(os.path.dirname(os.path.abspath(__file__)), "..", "..", "contrib"))
 
-from trim_gz_parts import arguments, cutadapt, files, progress, report, tools
+from trim_gz_parts import arguments, checks, cutadapt, files, progress, report, tools
 from trim_gz_parts.faults import Fault
 
 
@@ -26,12 +27,52 @@ class Pieces(unittest.TestCase):
 
 class ArgumentsTest(Pieces):
     def test_what_is_known(self):
-        got = arguments.Arguments(["-1", "a", "-1", "b", "--level=3", "--encoding", "solexa", "--sync", "--block=7", "--threads", "2", "--html", "x",
-                                   "--cutadapt", "-e 0.2", "--no-progress", "--", "MINLEN:3", "--", "x"])
-        self.assertEqual((got.forward, got.level, got.progress, got.outputs), (["a", "b"], 3, False, {"html": "x"}))
-        self.assertEqual(got.passed, ["--encoding", "solexa", "--sync", "--block=7", "--threads=2"])
+        got = arguments.Arguments([
+            "-1", "a", "-1", "b", "--level=3", "--encoding", "solexa", "--sync", "--block=7",
+            "--threads", "2", "--html", "x", "--cutadapt", "-e 0.2", "--no-progress",
+            "--", "MINLEN:3", "--", "x"])
+        self.assertEqual((got.forward, got.level, got.progress), (["a", "b"], 3, False))
+        self.assertEqual(got.outputs, {"html": "x"})
+        self.assertEqual(got.passed, ["--encoding=solexa", "--sync", "--threads=2", "--block=7"])
         self.assertEqual((got.cutadapt, got.steps), (["-e", "0.2"], ["MINLEN:3", "--", "x"]))
         self.assertIsNone(arguments.Arguments(["-1", "-"]).steps)
+
+    def test_several_files_and_what_adds_up(self):
+        got = arguments.Arguments(
+            "-1 a b -2 c -1 d -2 e f -t 3 --adapters A --adapters B,C --poly-g --".split())
+        self.assertEqual((got.forward, got.reverse), (["a", "b", "d"], ["c", "e", "f"]))
+        self.assertEqual((got.adapters, got.threads), (["A", "B,C"], "3"))
+        self.assertTrue(got.poly_g and got.uses_cutadapt() and got.checks_names)
+        self.assertEqual(arguments.Arguments(["-t4"]).passed, ["--threads=4"])
+        self.assertFalse(arguments.Arguments(["--no-name-check"]).checks_names)
+
+    def test_names_of_outputs(self):
+        four = {role: f"d/s.r{role[-1]}.{role[:-1]}.fastq.gz" for role in arguments.READS}
+        paired = {role: four[role] for role in ("paired1", "paired2")}
+        page = {"report": "d/s.json", "html": "d/s.html"}
+        nowhere = {"unpaired1": "/dev/null", "unpaired2": "/dev/null"}
+        for words, outputs in (
+            ("", {**four, **page}),
+            ("--no-report", four),
+            ("--no-unpaired", {**paired, **nowhere, **page}),
+            ("--no-unpaired --unpaired2 x --no-report --html y",
+             {**paired, **nowhere, "unpaired2": "x", "html": "y"}),
+            ("--interleaved - --no-unpaired --no-report", {"interleaved": "-", **nowhere}),
+            ("--trimlog z --paired1 x --no-report", {**four, "paired1": "x", "trimlog": "z"}),
+        ):
+            got = arguments.Arguments(["-i", "a", "--out", "d/s", *words.split(), "--"])
+            got.check()
+            self.assertEqual(got.outputs, outputs, words)
+        self.assertEqual(arguments.Arguments(["--no-unpaired"]).outputs, nowhere)
+        self.assertEqual(self.refused(arguments.Arguments, ["--out", "d/"])[0], 1)
+
+    def test_files_that_are_read(self):
+        for words, name in (
+            (["--adapters", __file__], __file__), (["--cutadapt", f"-a file:{__file__}"], __file__),
+            (["--cutadapt", f"-g '^file:{__file__};e=0'"], __file__), (["--adapters", "A"], None),
+        ):
+            got = arguments.Arguments(["-i", "a", *words]).files_that_are_read()
+            self.assertEqual(got, ["a"] + ([name] if name else []))
 
     def test_help(self):
         for words in ["--help"], ["-1", "a", "-h"]:
@@ -41,6 +82,7 @@ class ArgumentsTest(Pieces):
     def test_what_is_refused(self):
         is_option = " is an option; a file of that name is ./"
         astray = " is not an option; steps come after -- (trim_gz --help)"
+        near = " is not an option; did you mean {}? (trim_gz --help)"
         for words, line in (
             ("--level 0", "--level must be a number from 1 to 9, not 0"),
             ("--level=10", "--level must be a number from 1 to 9, not 10"),
@@ -52,9 +94,20 @@ class ArgumentsTest(Pieces):
             ("x", f"x{astray}"),
             ("--sync x", f"x{astray}"),
             ("-x", f"-x{astray}"),
-            ("-1=x", f"-1=x{astray}"),
             ("--block 7 x", f"x{astray}"),
+            ("--strange x", f"--strange{astray}"),
+            ("-1=x", f"-1=x{near.format('-1')}"),
+            ("--sync=x", f"--sync=x{near.format('--sync')}"),
+            ("-threads 4", f"-threads{near.format('--threads')}"),
+            ("--adapter x", f"--adapter{near.format('--adapters')}"),
+            ("--no-namecheck", f"--no-namecheck{near.format('--no-name-check')}"),
             ("--report a --report b", "--report is given twice"),
+            ("--cutadapt -N --cutadapt -O5", "--cutadapt is given twice"),
+            ("--level 3 --level 3", "--level is given twice"),
+            ("--threads 3 -t 4", "--threads is given twice"),
+            ("--progress --no-progress", "either --progress or --no-progress"),
+            ("--threads x", "--threads must be a number from 1 to 64, not x"),
+            ("--block 1k", "--block must be a number from 1 to 65536, not 1k"),
             ("--compressor xz", "--compressor must be one of auto, bgzip, igzip, pigz, gzip, not xz"),
             ("--decompressor pigz", "--decompressor must be one of auto, bgzip, gzip, not pigz"),
         ):
@@ -68,15 +121,26 @@ class ArgumentsTest(Pieces):
             (["-1", "a"], "1 forward files (-1), but 0 reverse files (-2)"),
             (["-i", "a"] + four[2:], "no --paired1 (trim_gz --help)"),
             (["-i", "a"] + four, "no steps; they come after -- (trim_gz --help)"),
-            (["-i", "a", "--cutadapt-log", "x"] + four + ["--"], "--cutadapt-log without --adapters or --cutadapt"),
+            (["-i", "a", "--cutadapt-log", "x"] + four + ["--"],
+             "--cutadapt-log without --adapters or --cutadapt"),
+            (["-i", "a", "--interleaved", "x"] + four + ["--"],
+             "either --interleaved, or --paired1 and --paired2"),
+            (["-i", "a", "--interleaved", "x", "--no-unpaired", "--block", "9", "--"],
+             "--interleaved sets --block itself"),
+            (["-i", "a", "--interleaved", "x", "--unpaired1", "y", "--"],
+             "no --unpaired2 (trim_gz --help)"),
         ):
             self.assertEqual(self.refused(arguments.Arguments(words).check), (1, line))
-        arguments.Arguments(["-i", "a", "--cutadapt-log", "x", "--adapters", "A"] + four + ["--"]).check()
+        words = ["-i", "a", "--cutadapt-log", "x", "--adapters", "A"] + four + ["--"]
+        arguments.Arguments(words).check()
 
     def test_options_for_cutadapt(self):
-        self.assertEqual(arguments.cutadapt_options("--cutadapt", "-e 0.2 -a 'x y'"), ["-e", "0.2", "-a", "x y"])
-        for text in "-o x", "-ox", "--out x", "--info", "--untrimmed-o=x", "-j 3", "--json=x", "'":
-            self.assertEqual(self.refused(arguments.cutadapt_options, "--cutadapt", text)[0], 1)
+        got = arguments.cutadapt_options("-e 0.2 -a 'x y' -Nz -u -3 -")
+        self.assertEqual(got, ["-e", "0.2", "-a", "x y", "-Nz", "-u", "-3", "-"])
+        for text in (
+                "-o x", "-ox", "--out x", "--info", "--untrimmed-o=x", "-j 3", "--json=x", "'",
+                "-Zpx", "-NZzo x", "-Zh"):
+            self.assertEqual(self.refused(arguments.cutadapt_options, text)[0], 1, text)
 
 
 class ToolsTest(Pieces):
@@ -223,10 +287,107 @@ class FilesTest(Pieces):
         a, b = self.put("a"), os.path.join(self.folder, "b")
         os.link(a, b)
         self.assertEqual(self.refused(files.check_inputs, [a, b]), (2, f"{b} is given twice"))
-        self.assertEqual(self.refused(files.check_inputs, [a, self.folder]), (4, f"cannot read {self.folder}"))
+        self.assertEqual(self.refused(files.check_inputs, [a, self.folder]),
+                         (4, f"cannot read {self.folder}: Is a directory"))
         output = files.Output("trimlog", b)
         self.assertEqual(self.refused(output.check, [a], []), (2, f"{b} is an input and an output"))
-        self.assertEqual(self.refused(output.check, [], [files.Output("report", a)]), (2, f"{b} is given for two outputs"))
+        self.assertEqual(self.refused(output.check, [], [files.Output("report", a)]),
+                         (2, f"{b} is given for two outputs"))
+
+    def test_outputs_that_are_refused(self):
+        long = "x" * 256
+        for name, status, why in (
+            (self.folder, 4, ": Is a directory"),
+            (os.path.join(self.folder, long), 4, ": File name too long"),
+            (os.path.join(self.put("plain"), "below"), 4, ": Not a directory"),
+            *((f"x{ending}", 2, None) for ending in (".bz2", ".xz", ".zst", ".XZ", ".bgz", ".zip")),
+        ):
+            line = f"cannot write {name}{why}"
+            if why is None:
+                line = f"{name}: outputs are compressed only under names that end in .gz"
+            output = files.Output("trimlog", name)
+            self.assertEqual(self.refused(output.check, [], []), (status, line))
+        self.assertEqual(
+            self.refused(files.Output("trimlog", os.path.join(self.folder, "no", "x")).hide),
+            (4, f"cannot write {self.folder}/no/x: No such file or directory"))
+        self.assertTrue(files.Output("trimlog", "x.GZ").is_compressed)
+
+    def test_standard_output_for_two(self):
+        first, second = files.Output("interleaved", "-"), files.Output("trimlog", "/dev/stdout")
+        self.assertTrue(first.is_stdout and first.is_device and second.is_stdout)
+        self.assertEqual(self.refused(second.check, [], [first]),
+                         (2, "/dev/stdout is given for two outputs"))
+
+    def test_long_names(self):
+        for length, name in (255, "n" * 255), (254, "\u00e4" * 127):
+            self.assertEqual(len(os.fsencode(name)), length)
+            self.put(name, b"old")
+            output = files.Output("trimlog", os.path.join(self.folder, name))
+            output.check([], [])
+            output.hide()
+            self.assertLessEqual(len(os.fsencode(os.path.basename(output.hidden + files.OLD))), 255)
+            output.hidden.encode("utf-8")
+            output.write(b"new", 6)
+            files.give_names([output])
+            output.forget()
+            self.assertEqual(os.listdir(self.folder), [name])
+            os.unlink(output.target)
+
+    def test_formats(self):
+        for head, name in (
+            (b"BZh91AY&SY", "bzip2"), (b"\xfd7zXZ\0\0", "xz"), (b"\x28\xb5\x2f\xfd$", "zstd"),
+            (b"PK\3\4\x14", "zip"), (b"\x1f\x8b\x08", None), (b"@r1", None), (b"", None),
+        ):
+            each = files.Input(self.put("f.gz", head))
+            if name:
+                line = f"cannot read {each.name}: it is compressed by {name}, not by gzip"
+                self.assertEqual(self.refused(each.look), (3, line))
+            else:
+                self.assertFalse(each.look())
+
+    def test_ends_of_blocks(self):
+        text = gzip.compress(b"text")
+        end = block(b"")
+        for data, lacks in (
+            (b"", False), (text, False), (b"@r1", False), (block(b"a"), True),
+            (block(b"a") + end, False), (block(b"a") + block(b"b"), True), (end, False),
+            (block(b"a") + text, False), (text + block(b"a"), True),
+            (block(os.urandom(65000)), True), (block(b"a") * 3000, True),
+            (block(b"a")[:-1], False),
+        ):
+            self.assertEqual(files.Input(self.put("f.gz", data)).look(), lacks, data[:40])
+
+    def test_first_records(self):
+        record = b"@r1 1:N:0:A\nACGT\n+\nIIII\n"
+        lines = record.split(b"\n")[:4]
+        for data, wanted in (
+            (record * 3, [lines, lines]), (b"\n" + record.replace(b"\n", b"\r\n"), [lines]),
+            (gzip.compress(record[:9]) + gzip.compress(record[9:] + record), [lines, lines]),
+            (block(b"") + block(record), [lines]), (gzip.compress(record * 9)[:-9], [lines, lines]),
+            (record[:-1], []), (b"", []), (b"\x1f\x8b none", []),
+        ):
+            self.assertEqual(checks.first_records(self.put("f", data), 2), wanted, data[:40])
+
+    def test_mates(self):
+        def record(title, bases=b"A"):
+            return [title, bases, b"+", b"I"]
+        for forward, reverse, start in (
+            (b"@a 2:N:0:A", b"@a 1:N:0:A", "the sides seem to be exchanged: the first read numbers "
+                                           "are 2 and 1: f, r (--no-name-check passes them)"),
+            (b"@a 3:Y:0:A", b"@a 1:Y:0:A", "the sides seem to be exchanged: the first read numbers "
+                                           "are 3 and 1: f, r (--no-name-check passes them)"),
+            (b"@a", b"@a", "both sides begin with the same record: f, r "
+                           "(--no-name-check passes them)"),
+        ):
+            self.assertEqual(
+                self.refused(checks.check_mates, record(forward), record(reverse), "f, r"),
+                (3, start))
+        for forward, reverse in (
+            (b"@a 1:N:0:A", b"@a 2:N:0:A"), (b"@a 1:N:0:A", b"@a 3:N:0:A"), (b"@a/1", b"@a/2"),
+            (b"@a 2:N:0:A", b"@a 3:N:0:A"), (b"@a", b"@a 1:N:0:A"), (b"@a 2:x", b"@a 1:x"),
+        ):
+            checks.check_mates(record(forward), record(reverse), "f, r")
+        checks.check_mates(record(b"@a"), record(b"@a", b"C"), "f, r")
 
     def output(self, old):
         """An output with new text in its hidden file, and an older output if its text is given."""
@@ -235,7 +396,11 @@ class FilesTest(Pieces):
         if old:
             self.put("o", old)
         output = files.Output("trimlog", os.path.join(self.folder, "o"))
-        output.hide(0o640)
+        mask = os.umask(0o026)
+        try:
+            output.hide()
+        finally:
+            os.umask(mask)
         output.write(b"new", 6)
         return output
 
@@ -273,6 +438,16 @@ class FilesTest(Pieces):
     def test_compressed(self):
         self.assertEqual(gzip.decompress(files.compressed(b"text", 1)), b"text")
         self.assertEqual(files.compressed(b"text", 9)[4:8], bytes(4))
+
+
+def block(text):
+    """A block of BGZF, as the SAM specification says."""
+    packed = zlib.compressobj(6, zlib.DEFLATED, -15)
+    data = packed.compress(text) + packed.flush()
+    head = b"\x1f\x8b\x08\x04" + bytes(5) + b"\xff\x06\0BC\x02\0"
+    size = (len(head) + 2 + len(data) + 8 - 1).to_bytes(2, "little")
+    tail = zlib.crc32(text).to_bytes(4, "little") + len(text).to_bytes(4, "little")
+    return head + size + data + tail
 
 
 if __name__ == "__main__":
