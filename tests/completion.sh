@@ -32,7 +32,7 @@ options_of_program() { "$program" "$1" --help | sed -nE 's/^ *(-[a-zA-Z], )?(--[
 # The options of trim_gz: its own, and those that it passes to the program.
 options_of_script() {
   {
-    "$tree/contrib/trim_gz" --help | sed -nE "s/^    (-[-0-9a-z]+( [A-Z']+)?(, -[-0-9a-z]+( [A-Z']+)?)*)  .*/\1/p" | sed "s/, /\n/g; s/'//g"
+    "$tree/contrib/trim_gz" --help | sed -nE "s/^    (-[-0-9a-zV]+( [A-Z.']+)?(, -[-0-9a-z]+( [A-Z.']+)?)*)  .*/\1/p" | sed "s/, /\n/g; s/[.']//g"
     options_of_program PE
   } | awk '!seen[$1]++ { print $1, $2 }'
 }
@@ -46,7 +46,7 @@ words_for() {
     --encoding,*) echo "$encodings" ;;
     --compressor,*) echo 'bgzip gzip igzip pigz' ;;
     --decompressor,*) echo 'bgzip gzip' ;;
-    *,FILE | *,OUT | *,PATH | *,WHAT) echo "$files" ;;
+    *,FILE | *,OUT | *,PATH | *,PREFIX | *,WHAT) echo "$files" ;;
   esac
 }
 
@@ -76,6 +76,7 @@ want_script() {
     [ -n "$value" ] || continue
     want "$(words_for "$option" "$value")" "$name $option "
     want '' "$name $option 7 L"
+    case $option in -[12i]) want "$files" "$name $option 7 8 " ;; esac
     want "$steps" "$name $option 7 -- "
     want "$steps" "$name $option 7 -- LEADING:3 "
     want 'LEADING:' "$name $option 7 -- L"

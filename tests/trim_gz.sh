@@ -6,150 +6,11 @@
 set -uo pipefail
 . "$(dirname "$0")/common.bash"
 find_program
-script=$tree/contrib/trim_gz
-work=$(mktemp -d)
-trap 'umount "$work/small" 2> /dev/null; rm -rf "$work"' EXIT
-mkdir "$work/data" "$work/tmp" "$work/out" "$work/plain" "$work/bin"
-cd "$work/data" || exit 1
-export TMPDIR=$work/tmp
-tools=$PATH # where the script finds its tools
-steps=(LEADING:3 TRAILING:3 SLIDINGWINDOW:4:15 MINLEN:36)
-last=(-- "${steps[@]}")
-
-# draw FIRST LAST SIDE: records, always the same for the same arguments
-draw() {
-  awk -v first="$1" -v last="$2" -v side="$3" 'BEGIN {
-    for (k = first; k <= last; k++) {
-      x = (k * 7919 + side * 104729) % 1000003
-      bases = ""; scores = ""
-      for (i = 0; i < 100; i++) {
-        x = (x * 16807 + i) % 2147483647
-        bases = bases substr("ACGT", x % 4 + 1, 1)
-        scores = scores substr("!#5?IIIIIIII", int(x / 7) % (k % 5 == side ? 4 : 12) + 1, 1)
-      }
-      printf "@r%d/%d lane\n%s\n+\n%s\n", k, side, bases, scores
-    }
-  }'
-}
-
-both=(-1 data/f.gz -2 data/r.gz)
-outputs=(--paired1 out/p1.fq.gz --unpaired1 out/u1.fq.gz --paired2 out/p2.fq.gz --unpaired2 out/u2.fq.gz)
-rest=("${outputs[@]}" "${last[@]}")
-
-# Outputs of an earlier run, which a failing run leaves unchanged.
-earlier() {
-  rm -rf "$work/out"
-  mkdir "$work/out"
-  echo earlier > "$work/out/p1.fq.gz"
-  echo earlier > "$work/out/u2.fq.gz"
-}
-
-# no_rest: no temporary file, no hidden file and no process is left
-no_rest() {
-  [ -z "$(ls -A "$TMPDIR")" ] || fail "left in the temporary directory: $(ls -A "$TMPDIR")"
-  rm -rf "${TMPDIR:?}"/*
-  [ -z "$(find "$work" -name '.*trim_gz*')" ] || fail 'a hidden file is left'
-  [ -z "$(find /proc/[0-9]*/fd -lname "$work/out/*" 2> /dev/null)" ] || fail 'a process is left'
-}
-
-# Outputs as before the run.
-untouched() {
-  [ "$(cd "$work/out" && ls -A)" = "$(printf 'p1.fq.gz\nu2.fq.gz')" ] || fail "outputs: $(cd "$work/out" && echo ./*)"
-  [ "$(cat "$work/out/p1.fq.gz" "$work/out/u2.fq.gz" 2>&1)" = "$(printf 'earlier\nearlier')" ] || fail 'an earlier output was touched'
-  no_rest
-}
-
-# trimmed WORDS..: the script, with this program
-trimmed() {
-  PATH=$tools "$script" --program "$program" "$@"
-}
-
-# refused STATUS LINE WORDS..: nothing is made, and one line says why
-refused() {
-  local status=$1 line=$2 got
-  shift 2
-  earlier
-  (cd "$work" && trimmed "$@") > "$work/printed" 2> "$work/told"
-  got=$?
-  [ "$got" -eq "$status" ] || fail "status $got, not $status"
-  [ "$(cat "$work/told")" = "$line" ] || fail "it says '$(cat "$work/told")', not '$line'"
-  [ ! -s "$work/printed" ] || fail 'a summary was printed'
-  untouched
-}
-
-# made WORDS..: all outputs are made, and nothing is reported
-made() {
-  local got
-  rm -rf "$work/out"
-  mkdir "$work/out"
-  (cd "$work" && trimmed "$@") > "$work/printed" 2> "$work/told"
-  got=$?
-  [ "$got" -eq 0 ] || fail "status $got: $(cat "$work/told")"
-  [ ! -s "$work/told" ] || fail "it says $(cat "$work/told")"
-  no_rest
-}
-
-# as_plain NAME..: these outputs are those of the program on plain files
-plain=$work/plain
-as_plain() {
-  local name
-  for name; do
-    if [ -e "$work/out/$name.gz" ]; then
-      gzip -dc "$work/out/$name.gz" 2>&1 | cmp -s - "$plain/$name" || fail "$name.gz is not as over plain files"
-    else
-      cmp -s "$work/out/$name" "$plain/$name" || fail "$name is not as over plain files"
-    fi
-  done
-  cmp -s "$work/printed" "$plain/summary" || fail 'the summary is not as over plain files'
-}
-
-# same_report FILE: it is that of the program on plain files, except for the names of the files
-same_report() {
-  diff <(nameless "$1") <(nameless "$work/plain/report") > /dev/null || fail 'the report is not as over plain files'
-}
-
-# nameless FILE: a report without the names of its files
-nameless() { sed 's/"inputs":{[^}]*}//; s/"outputs":{[^}]*}//' "$1"; }
-
-draw 1 1500 1 > a1
-draw 1 1500 2 > a2
-draw 1501 4000 1 > b1
-draw 1501 4000 2 > b2
-cat a1 b1 > f
-cat a2 b2 > r
-paste -d '\n' <(paste - - - - < f) <(paste - - - - < r) | tr '\t' '\n' > i
-for name in a1 a2 b1 b2 f r i; do gzip -1 < "$name" > "$name.gz"; done
-"$program" PE --trimlog "$work/plain/log" --report "$work/plain/report" f r "$work/plain/p1.fq" "$work/plain/u1.fq" "$work/plain/p2.fq" "$work/plain/u2.fq" \
-  "${steps[@]}" > "$work/plain/summary"
-for name in p1.fq u1.fq p2.fq u2.fq log report; do
-  row='the simulated pairs'
-  [ -s "$work/plain/$name" ] || fail "$name is empty"
-done
+. tests/trim_gz/common.bash
 
 # Few tools: neither bgzip nor pigz.
 ln -s "$(python3 -c 'import sys; print(sys.executable)')" "$work/bin/python3"
 for tool in env sh bash gzip cat; do ln -s "$(command -v "$tool")" "$work/bin/$tool"; done
-
-# has TOOL PACKAGE: whether it is installed; otherwise the row is skipped
-has() {
-  command -v "$1" > /dev/null && return
-  echo "trim_gz: skipped: $row: $1 is not installed (apt-get install $2)"
-  return 1
-}
-decompressors=(gzip)
-row='files that bgzip decompresses'
-if has bgzip tabix; then decompressors+=(bgzip); fi
-
-# damaged FILE WHY WORDS..: each decompressor refuses the input, with status 3 and one line
-damaged() {
-  local file=$1 why=$2 by was=$row
-  shift 2
-  for by in "${decompressors[@]}"; do
-    row="$was, $by"
-    refused 3 "trim_gz: cannot read $file: $why" --decompressor "$by" "$@"
-  done
-  row=$was
-}
 
 good_runs() {
   row="two files, $1"
@@ -235,22 +96,6 @@ gzip < /dev/null > none2.gz
 made -1 data/a1.short.gz -1 data/none1.gz -1 data/b1.members.gz -2 data/members.gz -2 data/none2.gz -2 data/empty "${rest[@]}"
 as_plain p1.fq u1.fq p2.fq u2.fq
 
-# late NAME FILE [SECONDS]: a named pipe whose writer opens it a second later, or after this many
-writers=()
-late() {
-  rm -f "$1"
-  mkfifo "$1"
-  { sleep "${3-1}" && cat "$2" > "$1"; } &
-  writers+=("$!")
-}
-
-# all_late: the writers have ended
-all_late() {
-  kill "${writers[@]}" 2> /dev/null && fail 'a pipe was not read'
-  wait "${writers[@]}" 2> /dev/null
-  writers=()
-}
-
 row='named pipes whose writers come a second later'
 for ending in '' .gz; do
   late "late1$ending" "f$ending"
@@ -280,11 +125,12 @@ head -c -20 a1 | gzip > a1.cut.gz
 refused 3 'trim_gz: input: forward record 1500: BadQuality (data/a1.cut.gz data/b1.gz)' -1 data/a1.cut.gz -1 data/b1.gz -2 data/a2.gz -2 data/b2.gz "${rest[@]}"
 
 row='a missing file'
-refused 4 'trim_gz: cannot read data/none.gz' -1 data/f.gz -2 data/none.gz "${rest[@]}"
-refused 4 'trim_gz: cannot read data/none.gz' -1 data/none.gz -2 data/none.gz "${rest[@]}"
+refused 4 'trim_gz: cannot read data/none.gz: No such file or directory' -1 data/f.gz -2 data/none.gz "${rest[@]}"
+refused 4 'trim_gz: cannot read data/none.gz: No such file or directory' -1 data/none.gz -2 data/none.gz "${rest[@]}"
+refused 4 'trim_gz: cannot read data/f.gz/none.gz: Not a directory' -1 data/f.gz/none.gz -2 data/r.gz "${rest[@]}"
 
 row='a directory as an input'
-refused 4 'trim_gz: cannot read data' -1 data -2 data/r.gz "${rest[@]}"
+refused 4 'trim_gz: cannot read data: Is a directory' -1 data -2 data/r.gz "${rest[@]}"
 
 row='compressed files without a byte'
 : > nothing1.gz
@@ -416,11 +262,6 @@ refused 2 'trim_gz: bad step 2: Unknown' "${both[@]}" "${outputs[@]}" -- LEADING
 refused 2 'trim_gz: bad step 0: NoSteps' "${both[@]}" "${outputs[@]}" --
 refused 2 'trim_gz: bad encoding: phred' "${both[@]}" "${outputs[@]}" --encoding phred "${last[@]}"
 refused 2 'trim_gz: bad setting: workers' "${both[@]}" "${outputs[@]}" --threads 0 "${last[@]}"
-earlier
-(cd "$work" && trimmed "${both[@]}" "${outputs[@]}" --unknown x "${last[@]}") > "$work/printed" 2> "$work/told"
-[ $? -eq 1 ] || fail 'an unknown option: the status is not 1'
-grep -q -- --unknown "$work/told" || fail "an unknown option: it says $(cat "$work/told")"
-untouched
 
 row='words that the script refuses'
 refused 1 'trim_gz: 2 forward files (-1), but 1 reverse files (-2)' -1 data/a1.gz -1 data/b1.gz -2 data/r.gz "${rest[@]}"
@@ -431,6 +272,11 @@ refused 1 'trim_gz: --unpaired2 has no value, as -- is an option; a file of that
   "${both[@]}" "${outputs[@]:0:6}" --unpaired2 "${last[@]}"
 refused 1 'trim_gz: LEADING:3 is not an option; steps come after -- (trim_gz --help)' "${both[@]}" "${outputs[@]}" LEADING:3
 refused 1 'trim_gz: no steps; they come after -- (trim_gz --help)' "${both[@]}" "${outputs[@]}"
+refused 1 'trim_gz: --unknown is not an option; steps come after -- (trim_gz --help)' "${both[@]}" "${outputs[@]}" --unknown x "${last[@]}"
+refused 1 'trim_gz: --adapter is not an option; did you mean --adapters? (trim_gz --help)' "${both[@]}" "${outputs[@]}" --adapter A "${last[@]}"
+refused 1 'trim_gz: --level is given twice' "${both[@]}" "${outputs[@]}" --level 1 --level 2 "${last[@]}"
+refused 1 'trim_gz: --cutadapt is given twice' "${both[@]}" "${outputs[@]}" --cutadapt '-e 0.2' --cutadapt '-O 5' "${last[@]}"
+refused 1 "trim_gz: --cutadapt: -Zpvictim.fq can't be given here" "${both[@]}" "${outputs[@]}" --cutadapt '-Zpvictim.fq' "${last[@]}"
 refused 1 'trim_gz: no program nowhere/fq_prog (--program PATH)' --program nowhere/fq_prog "${both[@]}" "${rest[@]}"
 
 row='names that are given twice'
@@ -443,8 +289,8 @@ gzip -dc f.gz | cmp -s - f || fail 'an input was touched'
 gzip -dc r.gz | cmp -s - r || fail 'an input was touched'
 
 row='an output in a directory that is not there'
-refused 4 'trim_gz: cannot write no/log' "${both[@]}" "${outputs[@]}" --trimlog no/log "${last[@]}"
-refused 4 'trim_gz: cannot write no/report' "${both[@]}" "${outputs[@]}" --report no/report "${last[@]}"
+refused 4 'trim_gz: cannot write no/log: No such file or directory' "${both[@]}" "${outputs[@]}" --trimlog no/log "${last[@]}"
+refused 4 'trim_gz: cannot write no/report: No such file or directory' "${both[@]}" "${outputs[@]}" --report no/report "${last[@]}"
 
 row='no place for temporary files'
 (
@@ -465,7 +311,7 @@ earlier
 untouched
 
 row='a directory as an output'
-refused 4 'trim_gz: cannot write data' "${both[@]}" "${outputs[@]}" --trimlog data "${last[@]}"
+refused 4 'trim_gz: cannot write data: Is a directory' "${both[@]}" "${outputs[@]}" --trimlog data "${last[@]}"
 
 row='a write-protected output'
 echo protected > protected.gz
@@ -473,7 +319,7 @@ chmod a-w protected.gz
 if [ -w protected.gz ]; then
   echo 'trim_gz: skipped: a write-protected output, as root may write it'
 else
-  refused 4 'trim_gz: cannot write data/protected.gz' "${both[@]}" "${outputs[@]}" --trimlog data/protected.gz "${last[@]}"
+  refused 4 'trim_gz: cannot write data/protected.gz: Permission denied' "${both[@]}" "${outputs[@]}" --trimlog data/protected.gz "${last[@]}"
 fi
 
 if [ -w /dev/full ]; then
@@ -482,7 +328,7 @@ if [ -w /dev/full ]; then
   row='a full device as the log'
   refused 4 'trim_gz: write failed: trim log (/dev/full)' "${both[@]}" "${outputs[@]}" --trimlog /dev/full "${last[@]}"
   row='a full device as the report'
-  refused 4 'trim_gz: write failed: report (/dev/full)' "${both[@]}" "${outputs[@]}" --report /dev/full "${last[@]}"
+  refused 4 'trim_gz: write failed: report (/dev/full): No space left on device' "${both[@]}" "${outputs[@]}" --report /dev/full "${last[@]}"
   row='a full device after a compressor'
   ln -s /dev/full full.gz
   # full LINE WORDS..
@@ -508,7 +354,7 @@ if [ -w /dev/full ]; then
   earlier
   (cd "$work" && trimmed "${both[@]}" "${rest[@]}") > /dev/full 2> "$work/told"
   [ $? -eq 4 ] || fail 'the status is not 4'
-  [ "$(cat "$work/told")" = 'trim_gz: cannot print' ] || fail "it says $(cat "$work/told")"
+  [ "$(cat "$work/told")" = 'trim_gz: cannot print: No space left on device' ] || fail "it says $(cat "$work/told")"
   untouched
 else
   echo 'trim_gz: skipped: a full device, as there is no /dev/full'
@@ -551,29 +397,21 @@ earlier
 (cd "$work" && PATH=$tools "$script" --program ./meddling "${both[@]}" "${outputs[@]}" --trimlog out/log.gz "${last[@]}") \
   > "$work/printed" 2> "$work/told"
 [ $? -eq 4 ] || fail 'the status is not 4'
-[ "$(cat "$work/told")" = 'trim_gz: cannot write out/log.gz' ] || fail "it says $(cat "$work/told")"
+[ "$(cat "$work/told")" = 'trim_gz: cannot write out/log.gz: Is a directory' ] || fail "it says $(cat "$work/told")"
+[ ! -s "$work/printed" ] || fail 'a summary was printed'
 rm -r "$work/out/log.gz"
 untouched
 
-# endless TEXT: an input that doesn't end after this text
-endless() {
-  rm -f endless
-  mkfifo endless
-  {
-    cat "$1"
-    exec sleep 600
-  } > endless &
-  fed=$!
-}
-
-# stopped SIGNAL STATUS HOW: a run whose input doesn't end gets this signal
+# stopped SIGNAL STATUS HOW: a run whose input doesn't end gets this signal. `around` runs it as its
+# child.
+around=()
 stopped() {
-  local pid got
+  local pid victim got
   earlier
   endless f
   set -m
-  (cd "$work" && exec "$script" --program "$program" -1 data/endless -2 data/r.gz --paired1 out/p1.fq "${outputs[@]:2}" "${last[@]}") \
-    > "$work/printed" 2> "$work/told" &
+  (cd "$work" && ulimit -c 0 && exec "${around[@]}" "$script" --program "$program" -1 data/endless -2 data/r.gz --paired1 out/p1.fq \
+    "${outputs[@]:2}" "${last[@]}") > "$work/printed" 2> "$work/told" &
   pid=$!
   set +m
   # The run works once the plain output beside the final name has something in it.
@@ -582,7 +420,9 @@ stopped() {
     sleep 0.05
   done
   [ -n "$(find "$work/out" -name '.p1.fq.trim_gz.*' -size +0)" ] || fail 'nothing is written beside the final name'
-  kill -s "$1" -- "$3$pid"
+  victim=$pid
+  [ "${#around[@]}" -eq 0 ] || victim=$(pgrep -P "$pid")
+  kill -s "$1" -- "$3$victim"
   wait "$pid" 2> /dev/null
   got=$?
   kill "$fed"
@@ -603,6 +443,51 @@ else
 fi
 row='ended by SIGTERM'
 stopped TERM 143 ''
+row='signals that batch systems send before they kill'
+for each in USR1:138 USR2:140 XCPU:152 ALRM:142 VTALRM:154 PROF:155; do stopped "${each%:*}" "${each#*:}" ''; done
+row='the first process of a container'
+around=(unshare -m -p -f --mount-proc)
+if ! "${around[@]}" true 2> /dev/null; then
+  echo "trim_gz: skipped: $row, as unshare is refused here"
+elif has pgrep procps; then
+  for each in TERM:143 HUP:129 QUIT:131 USR1:138; do stopped "${each%:*}" "${each#*:}" ''; done
+fi
+around=()
+
+# with_mark: the processes that a run has started, with their names
+with_mark() {
+  grep -lz "^TRIM_GZ_ROW=$$\$" /proc/[0-9]*/environ 2> /dev/null | sed 's/environ$/comm/' | xargs -r cat 2> /dev/null | sort -u | paste -sd ' '
+}
+
+# killed FILE WORDS..: after kill -9 of a run over this text, which doesn't end, no process goes on
+killed() {
+  local pid
+  rm -rf "$work/out"
+  mkdir "$work/out"
+  endless "$1"
+  shift
+  set -m
+  (cd "$work" && TRIM_GZ_ROW=$$ exec "$script" --program "$program" -1 data/endless "$@") > "$work/printed" 2> "$work/told" &
+  pid=$!
+  set +m
+  for _ in {1..200}; do
+    [ -n "$(find "$work/out" -name '.p1.fq.trim_gz.*' -size +0)" ] && break
+    sleep 0.05
+  done
+  [[ $(with_mark) == *gzip* ]] || fail "there is no decompressor, but $(with_mark)"
+  kill -KILL "$pid"
+  wait "$pid" 2> /dev/null
+  for _ in {1..60}; do
+    [ -n "$(with_mark)" ] || break
+    sleep 0.05
+  done
+  [ -z "$(with_mark)" ] || fail "3 seconds later there are $(with_mark)"
+  kill "$fed"
+  rm -rf "$work/out"
+}
+
+row='kill -9'
+killed f -2 data/r.gz --paired1 out/p1.fq "${outputs[@]:2}" "${last[@]}"
 
 row='a decompressor that is killed'
 if command -v pgrep > /dev/null; then
@@ -626,11 +511,6 @@ else
 fi
 
 row='the report names the files of the call'
-# named REPORT JSON: its inputs and outputs
-named() {
-  [ "$(python3 -c 'import json, sys; r = json.load(open(sys.argv[1])); print(json.dumps([r["command"], r["inputs"], r["outputs"]], sort_keys=True))' "$1")" = "$2" ] ||
-    fail "it names others: $(cut -c 1-600 "$1")"
-}
 made "${both[@]}" "${outputs[@]}" --report out/report --trimlog out/log "${last[@]}"
 as_outputs='{"forward_paired": "out/p1.fq.gz", "forward_unpaired": "out/u1.fq.gz", "reverse_paired": "out/p2.fq.gz", "reverse_unpaired": "out/u2.fq.gz", "trim_log":'
 named "$work/out/report" "[\"PE\", {\"forward\": \"data/f.gz\", \"reverse\": \"data/r.gz\"}, $as_outputs \"out/log\"}]"
@@ -657,9 +537,9 @@ row='a page of the report'
 refused 1 'trim_gz: no program report_to_html (--html)' "${both[@]}" "${outputs[@]}" --html out/page.html "${last[@]}"
 cat > "$work/links/tibzharuk-report" << 'END'
 #!/bin/sh
-cat "$3" > "$0.got"
+cat "$2" > "$0.got"
 [ ! -e "$0.fails" ] || { echo 'report_to_html: no page today' >&2; exit 1; }
-echo "page of $2"
+echo "page of ${1#--sample=}"
 END
 chmod +x "$work/links/tibzharuk-report"
 tools=$work/links:$PATH
@@ -735,7 +615,12 @@ END
   cut_plainly -a file:adapters.fa -A file:adapters.fa -e 0.2 -O 5 -m 30
   made "${lanes[@]}" "${outputs[@]}" --adapters data/adapters.fa --cutadapt '-e 0.2 -O 5 -m 30' "${last[@]}"
   as_plain p1.fq u1.fq p2.fq u2.fq
+  row='adapters that are given twice'
+  cut_plainly -a "${adapters%,*}" -A "${adapters%,*}" -a "${adapters#*,}" -A "${adapters#*,}"
+  made "${lanes[@]}" "${outputs[@]}" --adapters "${adapters%,*}" --adapters "${adapters#*,}" "${last[@]}"
+  as_plain p1.fq u1.fq p2.fq u2.fq
   row='adapters by options alone'
+  cut_plainly -a file:adapters.fa -A file:adapters.fa -e 0.2 -O 5 -m 30
   made "${lanes[@]}" "${outputs[@]}" --cutadapt '-a file:data/adapters.fa -A file:data/adapters.fa -e 0.2 -O 5 -m 30' "${last[@]}"
   as_plain p1.fq u1.fq p2.fq u2.fq
   plain=$work/plain
@@ -743,6 +628,14 @@ END
   refused 4 'trim_gz: cannot read data/none.fa' "${lanes[@]}" --adapters data/none.fa "${rest[@]}"
   refused 1 "trim_gz: --cutadapt: --info-file=x can't be given here" "${lanes[@]}" --cutadapt '-a A --info-file=x' "${rest[@]}"
   refused 2 'trim_gz: cutadapt: unrecognized arguments: --frob' "${lanes[@]}" --adapters A --cutadapt '--frob' "${rest[@]}"
+  row='a file of adapters as an output'
+  ln -s adapters.fa link.fa
+  cp adapters.fa adapters.kept
+  refused 2 'trim_gz: data/adapters.fa is an input and an output' "${lanes[@]}" --adapters data/adapters.fa "${outputs[@]:0:6}" --unpaired2 data/adapters.fa "${last[@]}"
+  refused 2 'trim_gz: data/link.fa is an input and an output' "${lanes[@]}" --adapters data/adapters.fa --report data/link.fa "${rest[@]}"
+  refused 2 'trim_gz: data/link.fa is an input and an output' "${lanes[@]}" --cutadapt '-a file:data/adapters.fa' --html data/link.fa "${rest[@]}"
+  cmp -s adapters.fa adapters.kept || fail 'the adapters were written over'
+  row='adapters that are refused'
   refused 2 'trim_gz: cutadapt: unrecognized arguments: data/xi.gz' -i data/xi.gz --adapters A --cutadapt "data/xf" "${rest[@]}"
   row='adapters, and a damaged input'
   damaged data/f.cut.gz 'unexpected end of file' -1 data/f.cut.gz -2 data/r.gz --adapters "$adapters" "${rest[@]}"
@@ -750,6 +643,8 @@ END
   row='adapters, and files that are not mates'
   refused 3 "trim_gz: cutadapt: Error in sequence file at unknown line: Reads are improperly paired. Read name 'r1/1 lane' in file 1 does not match 'r1501/2 lane' in file 2." \
     -1 data/f.gz -2 data/b2.gz --adapters "$adapters" "${rest[@]}"
+  row='kill -9, with cutadapt'
+  killed xf -2 data/xr --paired1 out/p1.fq "${outputs[@]:2}" --adapters "$adapters" --threads 2 "${last[@]}"
   row='a process of cutadapt that is killed'
   if has pgrep procps; then
     earlier
