@@ -5,10 +5,11 @@
 
 Each run has simulated pairs in one to three lanes or interleaved, in several forms of gzip files,
 random compressors and options, and one fault: an input is cut or changed, one of its processes is
-killed at a random moment, a small file system fills up, trim_gz gets a signal, or a program is
-missing. After the run, either the status is 0 and each output is that of the program over plain
-files, or the status is another one, a line says why, and each output is as it was before. No child
-process and no hidden file is left, except after SIGKILL.
+killed at a random moment, a small file system fills up, trim_gz gets a signal, also as the first
+process of a container, or a program is missing. After the run, either the status is 0 and each
+output is that of the program over plain files, or the status is another one, a line says why, and
+each output is as it was before. No child process and no hidden file is left, except for hidden
+files after SIGKILL, and cutadapt for a moment then.
 
 FQ_PROG names another build of the program. The status is 0 if nothing was wrong.
 """
@@ -27,18 +28,54 @@ import zlib
 
 TOP = os.path.dirname(os.path.dirname(os.path.abspath(__file__)))
 SCRIPT = os.path.join(TOP, "contrib", "trim_gz")
-PROGRAM = os.path.abspath(os.environ.get("FQ_PROG") or os.path.join(TOP, "crates", "fq_prog", "out", "fq_prog"))
+BUILT = os.path.join(TOP, "crates", "fq_prog", "out", "fq_prog")
+PROGRAM = os.path.abspath(os.environ.get("FQ_PROG") or BUILT)
 STEPS = ["LEADING:3", "TRAILING:3", "SLIDINGWINDOW:4:15", "MINLEN:36"]
 ADAPTERS = ("AGATCGGAAGAGCACACGTCTGAACTCCAGTCA", "AGATCGGAAGAGCGTCGTGTAGGGAAAGAGTGT")
 PAIRS = 20000
-ROLES = {"paired1": ".fq", "unpaired1": ".fq", "paired2": ".fq", "unpaired2": ".fq", "trimlog": ".log", "summary": ".txt"}
-KINDS = {"none": 1, "cut": 3, "changed": 3, "between": 1, "both ends cut": 1, "killed": 4, "full": 2, "signal": 3, "SIGKILL": 1, "missing": 1}
+ROLES = {
+    "paired1": ".fq",
+    "unpaired1": ".fq",
+    "paired2": ".fq",
+    "unpaired2": ".fq",
+    "trimlog": ".log",
+    "summary": ".txt",
+}
+KINDS = {
+    "none": 1,
+    "cut": 3,
+    "changed": 3,
+    "between": 1,
+    "both ends cut": 1,
+    "killed": 4,
+    "full": 2,
+    "signal": 4,
+    "process 1": 2,
+    "SIGKILL": 1,
+    "missing": 1,
+}
 TOOLS = ["env", "sh", "cat", "gzip", "bgzip", "pigz", "igzip", "cutadapt"]
+# Those of a terminal and of the system, and those that batch systems send before they kill.
+SIGNALS = [
+    signal.SIGINT, signal.SIGTERM, signal.SIGHUP, signal.SIGQUIT, signal.SIGUSR1, signal.SIGUSR2,
+    signal.SIGXCPU, signal.SIGALRM, signal.SIGVTALRM, signal.SIGPROF]
+AS_FIRST = [shutil.which("unshare") or "unshare", "-m", "-p", "-f", "--mount-proc"]
+WARNING = "trim_gz: warning: "
 MARK = "TRIM_GZ_FAULTS"
 
 
 def run(words, data=b""):
-    return subprocess.run(words, input=data, stdout=subprocess.PIPE, stderr=subprocess.DEVNULL).stdout
+    done = subprocess.run(words, input=data, stdout=subprocess.PIPE, stderr=subprocess.DEVNULL)
+    return done.stdout
+
+
+def succeeds(words):
+    """Whether this program can be run and ends with 0."""
+    try:
+        done = subprocess.run(words, stdout=subprocess.DEVNULL, stderr=subprocess.DEVNULL)
+    except OSError:
+        return False
+    return done.returncode == 0
 
 
 def draw_pairs(chance):
@@ -57,7 +94,8 @@ def draw_pairs(chance):
 
 def pack(text, chance):
     """The text in one of several forms of a gzip file."""
-    here = [words for words in (["bgzip", "-c", "-l", "1"], ["igzip", "-c", "-1"]) if shutil.which(words[0])] + [["gzip", "-1"]]
+    forms = ["bgzip", "-c", "-l", "1"], ["igzip", "-c", "-1"], ["gzip", "-1"]
+    here = [words for words in forms if shutil.which(words[0])]
     place = chance.randrange(len(text)) if chance.random() < 0.4 else len(text)
     return b"".join(run(chance.choice(here), part) for part in (text[:place], text[place:]) if part)
 
@@ -79,16 +117,20 @@ def unpack(blob):
     return b"".join(parts) if parts else None
 
 
+def children_of(pid):
+    """The processes that this one started."""
+    try:
+        with open(f"/proc/{pid}/task/{pid}/children") as children:
+            return [int(word) for word in children.read().split()]
+    except OSError:
+        return []
+
+
 def below(pid):
     """All processes that this one started, and those that they did."""
     found, left = [], [pid]
     while left:
-        each = left.pop()
-        try:
-            with open(f"/proc/{each}/task/{each}/children") as children:
-                kids = [int(word) for word in children.read().split()]
-        except OSError:
-            continue
+        kids = children_of(left.pop())
         found += kids
         left += kids
     return found
@@ -111,18 +153,21 @@ def marked(mark):
 def catches(pid, number):
     """Whether the process has a handler of its own for the signal."""
     try:
-        caught = [line for line in read(f"/proc/{pid}/status").split(b"\n") if line.startswith(b"SigCgt:")]
+        lines = read(f"/proc/{pid}/status").split(b"\n")
     except OSError:
         return False
+    caught = [line for line in lines if line.startswith(b"SigCgt:")]
     return bool(caught) and int(caught[0].split()[1], 16) >> (number - 1) & 1 == 1
 
 
 class Lab:
-    """The directory of all runs: simulated pairs, tools, and what the program makes of plain files."""
+    """The directory of all runs: simulated pairs, tools, and what the program makes of plain
+    files."""
 
     def __init__(self, seed):
         self.chance = random.Random(seed)
-        self.folder = tempfile.mkdtemp(prefix="trim_gz_faults.", dir="/dev/shm" if os.access("/dev/shm", os.W_OK) else None)
+        memory = "/dev/shm" if os.access("/dev/shm", os.W_OK) else None
+        self.folder = tempfile.mkdtemp(prefix="trim_gz_faults.", dir=memory)
         for name in ("in", "bin", "small", "plain"):
             os.mkdir(self.path(name))
         self.sides = draw_pairs(self.chance)
@@ -131,7 +176,11 @@ class Lab:
             self.put_tool(tool)
         os.symlink(sys.executable, self.path("bin", "python3"))
         self.has_cutadapt = shutil.which("cutadapt") is not None
-        self.has_small = os.geteuid() == 0 and self.mount("16k") and self.unmount()
+        self.lacks = set()      # kinds that can't be tried here
+        if not (os.geteuid() == 0 and self.mount("16k") and self.unmount()):
+            self.lacks.add("full")
+        if not succeeds(AS_FIRST + ["true"]):
+            self.lacks.add("process 1")
 
     def path(self, *names):
         return os.path.join(self.folder, *names)
@@ -142,14 +191,15 @@ class Lab:
             os.symlink(place, self.path("bin", tool))
 
     def mount(self, size):
-        words = ["mount", "-t", "tmpfs", "-o", f"size={size}", "tmpfs", self.path("small")]
-        return subprocess.run(words, stderr=subprocess.DEVNULL).returncode == 0
+        options = ["-t", "tmpfs", "-o", f"size={size}", "tmpfs"]
+        return succeeds(["mount"] + options + [self.path("small")])
 
     def unmount(self):
-        return subprocess.run(["umount", self.path("small")], stderr=subprocess.DEVNULL).returncode == 0
+        return succeeds(["umount", self.path("small")])
 
     def plain(self, texts, has_adapters):
-        """What cutadapt and the program make of plain texts, by roles; None if one of them refuses."""
+        """What cutadapt and the program make of plain texts, by roles; None if one of them
+        refuses."""
         key = tuple(zlib.crc32(text) for text in texts) + (has_adapters,)
         if key not in self.known:
             self.known[key] = self.make_plain(texts, has_adapters)
@@ -164,17 +214,19 @@ class Lab:
                 file.write(text)
         if has_adapters:
             interleaved = os.path.join(folder, "il.fq")
-            words = ["cutadapt", "--interleaved", "-a", ADAPTERS[0], "-A", ADAPTERS[1], "-o", interleaved] + inputs
-            if subprocess.run(words, stdout=subprocess.DEVNULL, stderr=subprocess.DEVNULL).returncode != 0:
+            words = ["cutadapt", "--interleaved", "-a", ADAPTERS[0], "-A", ADAPTERS[1]]
+            if not succeeds(words + ["-o", interleaved] + inputs):
                 return None
             inputs = [interleaved]
         names = {role: os.path.join(folder, role) for role in ROLES}
-        words = [PROGRAM, "IL" if len(inputs) == 1 else "PE", "--trimlog", names["trimlog"], "--"] + inputs
-        words += [names[role] for role in list(ROLES)[:4]] + STEPS
+        words = [PROGRAM, "IL" if len(inputs) == 1 else "PE", "--trimlog", names["trimlog"], "--"]
+        words += inputs + [names[role] for role in list(ROLES)[:4]] + STEPS
         done = subprocess.run(words, stdout=subprocess.PIPE, stderr=subprocess.DEVNULL)
         with open(names["summary"], "wb") as file:
             file.write(done.stdout)
-        return {role: read(name) for role, name in names.items()} if done.returncode == 0 else None
+        if done.returncode != 0:
+            return None
+        return {role: read(name) for role, name in names.items()}
 
 
 def read(name):
@@ -205,7 +257,8 @@ class Case:
         if self.is_interleaved:
             interleaved = [line for pair in zip(forward, reverse) for line in pair]
             return [[b"".join(interleaved[2 * ends[k]:2 * ends[k + 1]]) for k in range(count)]]
-        return [[b"".join(side[ends[k]:ends[k + 1]]) for k in range(count)] for side in (forward, reverse)]
+        return [[b"".join(side[ends[k]:ends[k + 1]]) for k in range(count)]
+                for side in (forward, reverse)]
 
     # Before the run.
 
@@ -215,7 +268,9 @@ class Case:
         side = chance.choice(self.blobs)
         lane = chance.randrange(len(side))
         blob = bytearray(side[lane])
-        place = chance.choice([chance.randrange(len(blob)), len(blob) - chance.randrange(1, 30), chance.randrange(1, 30)])
+        place = chance.choice([
+            chance.randrange(len(blob)), len(blob) - chance.randrange(1, 30),
+            chance.randrange(1, 30)])
         if self.kind == "cut":
             side[lane] = bytes(blob[:place])
         elif self.kind == "changed":
@@ -228,7 +283,8 @@ class Case:
             text = self.texts[self.blobs.index(side)][lane]
             place = chance.randrange(1, len(text))
             odd = chance.choice([b"x", bytes(600), b"\n", b"garbage" * 1000, b"\x1f\x8b\x08"])
-            side[lane] = run(["gzip", "-1"], text[:place]) + odd + chance.choice([run(["gzip", "-1"], text[place:]), b""])
+            rest = chance.choice([run(["gzip", "-1"], text[place:]), b""])
+            side[lane] = run(["gzip", "-1"], text[:place]) + odd + rest
         self.detail = f"{place} of {len(blob)}"
 
     def inputs(self):
@@ -246,10 +302,13 @@ class Case:
         chance, out = self.chance, self.lab.path("out")
         shutil.rmtree(out, ignore_errors=True)
         os.mkdir(out)
-        full = chance.sample(list(ROLES), chance.choice([1, 2, len(ROLES)])) if self.kind == "full" else []
+        full = []
+        if self.kind == "full":
+            full = chance.sample(list(ROLES), chance.choice([1, 2, len(ROLES)]))
         words = []
         for role, ending in ROLES.items():
-            name = os.path.join(self.lab.path("small") if role in full else out, role + ending + chance.choice([".gz", ".gz", ".gz", ""]))
+            folder = self.lab.path("small") if role in full else out
+            name = os.path.join(folder, role + ending + chance.choice([".gz", ".gz", ".gz", ""]))
             self.names[role] = name
             words += [f"--{role}", name]
             if chance.random() < 0.3:
@@ -267,7 +326,8 @@ class Case:
     def options(self):
         chance = self.chance
         here = [name for name in ("bgzip", "igzip", "pigz", "gzip") if shutil.which(name)]
-        words = ["--compressor", chance.choice(["auto"] * 2 + here), "--decompressor", chance.choice(["auto", "auto", "gzip"])]
+        words = ["--compressor", chance.choice(["auto"] * 2 + here)]
+        words += ["--decompressor", chance.choice(["auto", "auto", "gzip"])]
         words += ["--threads", str(chance.randrange(1, 6))] if chance.random() < 0.5 else []
         words += ["--level", str(chance.choice([1, 1, 2, 4, 6]))] if chance.random() < 0.5 else []
         words += ["--adapters", ",".join(ADAPTERS)] if self.has_adapters else []
@@ -278,53 +338,74 @@ class Case:
     def go(self):
         lab, chance = self.lab, self.chance
         if self.kind == "full":
-            lab.mount(f"{chance.choice([4, 64, 200, 400, 700, 1000, 1500, 2000, 3000])}k")
+            size = chance.choice([4, 64, 200, 400, 700, 1000, 1500, 2000, 3000])
+            lab.mount(f"{size}k")
         if self.kind in ("cut", "changed", "both ends cut", "between"):
             self.damage()
         words = self.inputs() + self.outputs() + self.options()
         if self.kind == "missing":
-            self.gone = self.detail = chance.choice(["fq_prog"] + [tool for tool in TOOLS[1:] if shutil.which(tool)])
+            here = [tool for tool in TOOLS[1:] if shutil.which(tool)]
+            self.gone = self.detail = chance.choice(["fq_prog"] + here)
             if self.gone == "fq_prog":
                 self.program = "/nowhere/fq_prog"
             else:
                 os.unlink(lab.path("bin", self.gone))
         environment = dict(os.environ, PATH=lab.path("bin"))
         environment.update([self.mark.split("=")])
+        words = [sys.executable, SCRIPT] + words + ["--program", self.program, "--"] + STEPS
+        words = AS_FIRST + words if self.kind == "process 1" else words
         with open(lab.path("told"), "wb") as told, open(lab.path("printed"), "wb") as printed:
-            child = subprocess.Popen([sys.executable, SCRIPT] + words + ["--program", self.program, "--"] + STEPS, env=environment, stdin=subprocess.DEVNULL,
-                                     stdout=printed, stderr=told, start_new_session=True)
+            child = subprocess.Popen(
+                words, env=environment, stdin=subprocess.DEVNULL, stdout=printed, stderr=told,
+                start_new_session=True)
         self.interfere(child)
         self.wait(child)
         if self.gone and self.gone != "fq_prog":
             lab.put_tool(self.gone)
 
+    def pid_of_run(self, child, until):
+        """The process of trim_gz: the child, or the first process that unshare starts."""
+        while self.kind == "process 1" and child.poll() is None and time.monotonic() < until:
+            kids = children_of(child.pid)
+            if kids:
+                return kids[0]
+            time.sleep(0.002)
+        return child.pid
+
     def interfere(self, child):
         """Sends a signal at a random moment."""
-        if self.kind not in ("killed", "signal", "SIGKILL"):
+        if self.kind not in ("killed", "signal", "process 1", "SIGKILL"):
             return
         chance = self.chance
         until = time.monotonic() + 10
+        victim = pid = self.pid_of_run(child, until)
         if chance.random() < 0.7:  # when all children are there, or else at any moment
-            while child.poll() is None and len(below(child.pid)) < 6 and time.monotonic() < until:
+            while child.poll() is None and len(below(pid)) < 6 and time.monotonic() < until:
                 time.sleep(0.002)
         delay = chance.random() * chance.choice([0.01, 0.1, 0.5, 1.5])
-        number, victim = signal.SIGKILL, child.pid
-        if self.kind == "signal":
-            number = chance.choice([signal.SIGINT, signal.SIGTERM, signal.SIGHUP, signal.SIGQUIT])
+        number = signal.SIGKILL
+        if self.kind in ("signal", "process 1"):
+            number = chance.choice(SIGNALS)
         # A Ctrl-C while Python starts ends it with a traceback of its own library.
-        while number == signal.SIGINT and child.poll() is None and not catches(child.pid, signal.SIGTERM) and time.monotonic() < until:
+        while number == signal.SIGINT and not catches(pid, signal.SIGTERM):
+            if child.poll() is not None or time.monotonic() > until:
+                break
             time.sleep(0.002)
         time.sleep(delay)
         if self.kind == "killed":
-            number = chance.choice([signal.SIGKILL] * 3 + [signal.SIGTERM, signal.SIGPIPE, signal.SIGABRT])
-            victim = chance.choice(below(child.pid) or [0])
+            several = [signal.SIGKILL] * 3 + [signal.SIGTERM, signal.SIGPIPE, signal.SIGABRT]
+            number = chance.choice(several)
+            victim = chance.choice(below(pid) or [0])
         if victim and child.poll() is None:
-            self.is_early = not below(child.pid)
-            try:
-                self.detail = f"{read(f'/proc/{victim}/comm').decode().strip()} by {number.name}"
-                os.kill(victim, number)
-            except OSError:
-                self.detail = "too late"
+            self.is_early = not below(pid)
+            self.send(victim, number)
+
+    def send(self, victim, number):
+        try:
+            self.detail = f"{read(f'/proc/{victim}/comm').decode().strip()} by {number.name}"
+            os.kill(victim, number)
+        except OSError:
+            self.detail = "too late"
 
     def wait(self, child):
         try:
@@ -333,14 +414,15 @@ class Case:
             self.problems.append("it hangs")
             os.kill(child.pid, signal.SIGKILL)
             self.status = child.wait()
+        # cutadapt ends when its inputs do. The system kills the others at once.
+        seconds = 0 if self.kind != "SIGKILL" else 20 if self.has_adapters else 2
+        until = time.monotonic() + seconds
+        while marked(self.mark) and time.monotonic() < until:
+            time.sleep(0.05)
         left = marked(self.mark)
-        if left and self.kind == "SIGKILL":
-            until = time.monotonic() + 20
-            while marked(self.mark) and time.monotonic() < until:
-                time.sleep(0.05)
-        elif left:
+        if left:
             self.problems.append(f"{len(left)} processes are left")
-        for pid in marked(self.mark):
+        for pid in left:
             try:
                 os.kill(pid, signal.SIGKILL)
             except OSError:
@@ -350,11 +432,13 @@ class Case:
 
     def there(self):
         """All files in the directories of outputs."""
-        folders = [self.lab.path("out")] + ([self.lab.path("small")] if self.kind == "full" else [])
-        return {os.path.join(folder, name): read(os.path.join(folder, name)) for folder in folders for name in os.listdir(folder)}
+        folders = [self.lab.path("out")]
+        folders += [self.lab.path("small")] if self.kind == "full" else []
+        names = [os.path.join(folder, name) for folder in folders for name in os.listdir(folder)]
+        return {name: read(name) for name in names}
 
     def judge(self):
-        there, told = self.there(), read(self.lab.path("told")).decode("utf-8", "replace").strip()
+        there, told = self.there(), self.told()
         is_killed = self.kind == "SIGKILL" and self.status == -signal.SIGKILL
         hidden = [name for name in there if os.path.basename(name).startswith(".")]
         if hidden and not is_killed:
@@ -371,7 +455,8 @@ class Case:
             self.lab.unmount()
 
     def wanted(self):
-        """The outputs that are right, by roles: of the simulated texts, and of the inputs as they are if they can be read."""
+        """The outputs that are right, by roles: of the simulated texts, and of the inputs as they
+        are if they can be read."""
         yield self.lab.plain([b"".join(side) for side in self.texts], self.has_adapters)
         read_back = [[unpack(blob) for blob in side] for side in self.blobs]
         if all(text is not None for side in read_back for text in side):
@@ -384,14 +469,18 @@ class Case:
     def judge_whole(self, there, told):
         got = {role: self.text_of(there, role) for role in ROLES}
         if not any(got == wanted for wanted in self.wanted()):
-            self.problems.append(f"status 0, but other outputs: {[role for role in ROLES if got[role] is None]} are missing")
+            missing = [role for role in ROLES if got[role] is None]
+            self.problems.append(f"status 0, but other outputs: {missing} are missing")
         if read(self.lab.path("printed")) != got["summary"]:
             self.problems.append("another summary was printed")
-        if told:
+        if any(not line.startswith(WARNING) for line in told.splitlines()):
             self.problems.append("something was said at status 0")
+        if told and self.kind not in ("cut", "changed", "between", "both ends cut"):
+            self.problems.append("a warning of good inputs")
 
     def judge_killed(self, there):
-        """A kill in the middle of naming leaves some names old. Each file is whole, or as it was."""
+        """A kill in the middle of naming leaves some names old. Each file is whole, or as it
+        was."""
         wanted = next(self.wanted())
         for role, name in self.names.items():
             if there.get(name) != self.olds.get(name) and self.text_of(there, role) != wanted[role]:
@@ -400,9 +489,10 @@ class Case:
     def judge_none(self, there, told):
         if there != self.olds:
             self.problems.append(f"there are {sorted(there)}, before {sorted(self.olds)}")
-        if not told and not self.is_early:
+        lines = [line for line in told.splitlines() if not line.startswith(WARNING)]
+        if not lines and not self.is_early:
             self.problems.append("nothing was said")
-        if "Traceback" in told or len(told.splitlines()) > 1 and self.status != 1:
+        if "Traceback" in told or len(lines) > 1 and self.status != 1:
             self.problems.append("more than a line was said")
         if os.path.getsize(self.lab.path("printed")):
             self.problems.append("a summary was printed")
@@ -411,13 +501,17 @@ class Case:
         if self.kind in ("cut", "both ends cut", "between") and self.status != 3:
             self.problems.append("the status is not 3")
 
+    def told(self):
+        return read(self.lab.path("told")).decode("utf-8", "replace").strip()
+
     def line(self):
-        told = read(self.lab.path("told")).decode("utf-8", "replace").strip()
-        return f"{self.kind}, {self.detail}{', adapters' if self.has_adapters else ''}: status {self.status}, {told[:200]}"
+        adapters = ", adapters" if self.has_adapters else ""
+        return f"{self.kind}, {self.detail}{adapters}: status {self.status}, {self.told()[:200]}"
 
 
 def main():
-    parser = argparse.ArgumentParser(description=__doc__, formatter_class=argparse.RawDescriptionHelpFormatter)
+    parser = argparse.ArgumentParser(
+        description=__doc__, formatter_class=argparse.RawDescriptionHelpFormatter)
     parser.add_argument("runs", type=int)
     parser.add_argument("--seed", type=int, default=int(time.time()))
     parser.add_argument("--kind", choices=list(KINDS))
@@ -426,7 +520,9 @@ def main():
     signal.signal(signal.SIGTERM, lambda *_: sys.exit(143))  # the folder is removed then, too
     lab = Lab(asked.seed)
     table, wrong = collections.Counter(), 0
-    kinds = [kind for kind in KINDS if kind != "full" or lab.has_small]
+    kinds = [kind for kind in KINDS if kind not in lab.lacks]
+    for kind in lab.lacks:
+        print(f"trim_gz_faults: skipped: {kind}: it is refused here")
     try:
         for number in range(asked.runs):
             kind = asked.kind or lab.chance.choices(kinds, [KINDS[kind] for kind in kinds])[0]
@@ -436,7 +532,8 @@ def main():
             table[kind, "whole" if case.status == 0 else "none"] += 1
             if case.problems:
                 wrong += 1
-                print(f"WRONG in run {number} of seed {asked.seed}: {'; '.join(case.problems)} ({case.line()})", flush=True)
+                what = f"{'; '.join(case.problems)} ({case.line()})"
+                print(f"WRONG in run {number} of seed {asked.seed}: {what}", flush=True)
             elif asked.tell:
                 print(f"{number}: {case.line()}", flush=True)
             if number % 100 == 99 and number + 1 < asked.runs:
