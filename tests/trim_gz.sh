@@ -277,7 +277,7 @@ refused 1 'trim_gz: --adapter is not an option; did you mean --adapters? (trim_g
 refused 1 'trim_gz: --level is given twice' "${both[@]}" "${outputs[@]}" --level 1 --level 2 "${last[@]}"
 refused 1 'trim_gz: --cutadapt is given twice' "${both[@]}" "${outputs[@]}" --cutadapt '-e 0.2' --cutadapt '-O 5' "${last[@]}"
 refused 1 "trim_gz: --cutadapt: -Zpvictim.fq can't be given here" "${both[@]}" "${outputs[@]}" --cutadapt '-Zpvictim.fq' "${last[@]}"
-refused 1 'trim_gz: no program nowhere/fq_prog (--program PATH)' --program nowhere/fq_prog "${both[@]}" "${rest[@]}"
+program=nowhere/fq_prog refused 1 'trim_gz: no program nowhere/fq_prog (--program PATH)' "${both[@]}" "${rest[@]}"
 
 row='names that are given twice'
 refused 2 'trim_gz: data/f.gz is given twice' -1 data/f.gz -2 data/f.gz "${rest[@]}"
