@@ -669,7 +669,10 @@ END
 fi
 
 row='help and version'
-[[ $("$script" --help) == *'--paired1 OUT'* ]] || fail 'the outputs are not explained'
+"$script" --help > "$work/help" || fail 'help fails'
+grep -q -- '--paired1 OUT' "$work/help" || fail 'the outputs are not explained'
+wide=$(awk 'length > 80' "$work/help")
+[ -z "$wide" ] || fail "wider than 80 columns: $wide"
 [ "$("$script" --program "$program" --version)" = "$("$program" --version)" ] || fail 'another version than the program'
 
 finish ok

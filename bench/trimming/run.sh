@@ -214,7 +214,9 @@ call_row() {
 
 # pairs_kept: the pairs of which both mates were written
 pairs_kept() {
-  if [ -e "$out/fp" ]; then
+  if [ -e "$out/kept" ]; then
+    cat "$out/kept"
+  elif [ -e "$out/fp" ]; then
     echo $(($(wc -l < "$out/fp") / 4))
   else
     echo $(($(gzip -dc "$out/fp.gz" | wc -l) / 4))
@@ -342,6 +344,7 @@ measure_gz_data() {
   pack_inputs
   list_gz_rows ${word:+"$word"}
   row "trim_gz --level $next${word:+, $word}" 4 "gz_ours level$next $word"
+  row "trim_gz --interleaved -${word:+, $word}" 4 "gz_stream $word"
   slow=${#rows[@]}
   list_gz_rows fast ${word:+"$word"}
   row "trim_gz --level 2${word:+, $word}" 4 "gz_ours level2 $word"

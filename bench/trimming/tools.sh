@@ -164,6 +164,17 @@ gz_ours() {
   pairs_read=$(number_in "$room/said" 'Input Read Pairs')
 }
 
+# gz_stream THREADS [adapters]: into a reader of a pipe, such as a mapper, that takes no time
+# shellcheck disable=SC2016  # the inner bash gets the words
+gz_stream() {
+  local more=(--threads "$1")
+  ! given adapters "$@" || more+=(--adapters "${adapters[0]},${adapters[1]}")
+  timed bash -c 'set -o pipefail; "$@" | cat > /dev/null' bash "$python" "$here/../../contrib/trim_gz" --program "$program" "${more[@]}" \
+    -1 "$forward.gz" -2 "$reverse.gz" --interleaved - --no-unpaired -- "${steps[@]}"
+  pairs_read=$(number_in "$room/told" 'Input Read Pairs')
+  number_in "$room/told" 'Both Surviving' > "$out/kept"
+}
+
 gz_fastp() {
   local more=(--disable_adapter_trimming)
   ! given adapters "$@" || more=(--adapter_sequence "${adapters[0]}" --adapter_sequence_r2 "${adapters[1]}")

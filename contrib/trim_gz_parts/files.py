@@ -18,6 +18,7 @@ FROM_PIPE = ["sh", "-c", 'exec "$@" < "$0"']
 # between two records, which the program skips.
 AFTER_LINE_FEED = ["sh", "-c", 'echo; exec "$@"', "sh"]
 STDOUT_NAMES = ("-", "/dev/stdout", "/dev/fd/1", "/proc/self/fd/1")
+STDERR_NAMES = ("/dev/stderr", "/dev/fd/2", "/proc/self/fd/2")
 # Under these names a reader expects a format that isn't written.
 OTHER_ENDINGS = (".bz2", ".xz", ".zst", ".zip", ".lz4", ".bgz", ".gzip")
 OLD = ".old"
@@ -190,10 +191,11 @@ class Output:
     def check_streams(self) -> None:
         """Refuses it if what is printed would be in the same file."""
         name = "/dev/stdout" if self.is_stdout else self.name
-        if not self.is_stdout and is_stream(name, 1):
-            raise self.fault("it is stdout too")
-        if is_stream(name, 2):
+        if name in STDERR_NAMES or self.is_stdout and is_stream(name, 2):
             raise self.fault("it is stderr too")
+        for fd, stream in (1, "stdout"), (2, "stderr"):
+            if not self.is_stdout and is_stream(name, fd):
+                raise self.fault(f"it is {stream} too")
 
     def check_place(self) -> None:
         """Refuses it if a file of this name can't be made."""

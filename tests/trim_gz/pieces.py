@@ -1,5 +1,6 @@
 """Unit tests of the parts of contrib/trim_gz. They start no other program."""
 
+import ast
 import gzip
 import json
 import os
@@ -108,7 +109,8 @@ class ArgumentsTest(Pieces):
             ("--progress --no-progress", "either --progress or --no-progress"),
             ("--threads x", "--threads must be a number from 1 to 64, not x"),
             ("--block 1k", "--block must be a number from 1 to 65536, not 1k"),
-            ("--compressor xz", "--compressor must be one of auto, bgzip, igzip, pigz, gzip, not xz"),
+            ("--compressor xz",
+             "--compressor must be one of auto, bgzip, igzip, pigz, gzip, not xz"),
             ("--decompressor pigz", "--decompressor must be one of auto, bgzip, gzip, not pigz"),
         ):
             self.assertEqual(self.refused(arguments.Arguments, words.split()), (1, line))
@@ -143,14 +145,33 @@ class ArgumentsTest(Pieces):
             self.assertEqual(self.refused(arguments.cutadapt_options, text)[0], 1, text)
 
 
+class SourceTest(unittest.TestCase):
+    def test_annotations_and_width(self):
+        folder = os.path.dirname(arguments.__file__)
+        names = [os.path.join(folder, name) for name in os.listdir(folder) if name.endswith(".py")]
+        for name in names + [os.path.join(folder, "..", "trim_gz")]:
+            with open(name, encoding="utf-8") as file:
+                text = file.read()
+            wide = [line for line in text.splitlines() if len(line) > 100]
+            self.assertEqual(wide, [], name)
+            for node in ast.walk(ast.parse(text)):
+                if isinstance(node, ast.FunctionDef):
+                    given = [each for each in node.args.args if each.arg != "self"]
+                    bare = [each.arg for each in given if each.annotation is None]
+                    self.assertTrue(node.returns and not bare, f"{name}: {node.name} {bare}")
+
+
 class ToolsTest(Pieces):
     def test_reasons(self):
         for text, reason in (
-            ("[E::bgzf_read_block] Failed to read BGZF block data at offset 5 expected 3 bytes; hread returned 0\n", "unexpected end of file"),
-            ("[E::bgzf_uncompress] CRC32 checksum mismatch\n", "invalid compressed data--crc error"),
+            ("[E::bgzf_read_block] Failed to read BGZF block data at offset 5 expected 3 bytes; "
+             "hread returned 0\n", "unexpected end of file"),
+            ("[E::bgzf_uncompress] CRC32 checksum mismatch\n",
+             "invalid compressed data--crc error"),
             ("[E::something] else\n", "else"),
             ("\ngzip: stdin: not in gzip format\n", "not in gzip format"),
-            ("pigz: abort: write error on <stdout> (No space left on device)\n", "write error on <stdout> (No space left on device)"),
+            ("pigz: abort: write error on <stdout> (No space left on device)\n",
+             "write error on <stdout> (No space left on device)"),
             ("", ""),
         ):
             self.assertEqual(tools.reason_of(text), reason)
@@ -159,23 +180,29 @@ class ToolsTest(Pieces):
     def test_threads(self):
         for threads, paired, unpaired in ("1", 1, 1), ("4", 2, 1), ("16", 8, 4), (None, 2, 1):
             each = tools.Tools.__new__(tools.Tools)
-            each.compressor, each.level, each.threads, each.compress_threads = "pigz", 6, int(threads or 4), None
-            self.assertEqual([int(each.compress(role)[-1]) for role in ("paired2", "unpaired1")], [paired, unpaired])
+            each.compressor, each.level, each.compress_threads = "pigz", 6, None
+            each.threads = int(threads or 4)
+            got = [int(each.compress(role)[-1]) for role in ("paired2", "unpaired1", "interleaved")]
+            self.assertEqual(got, [paired, unpaired, each.threads])
 
     def test_level_beside_cutadapt(self):
-        for compressor, alone, beside in (("bgzip", 4, 3), ("igzip", 2, 2), ("pigz", 6, 6), ("gzip", 6, 6)):
+        for compressor, alone, beside in (
+                ("bgzip", 4, 3), ("igzip", 2, 2), ("pigz", 6, 6), ("gzip", 6, 6)):
             each = tools.Tools.__new__(tools.Tools)
             each.compressor = compressor
-            self.assertEqual([each.usual_level(is_beside) for is_beside in (False, True)], [alone, beside])
+            got = [each.usual_level(is_beside) for is_beside in (False, True)]
+            self.assertEqual(got, [alone, beside])
 
 
 class CutadaptTest(Pieces):
     def test_adapters(self):
         self.assertEqual(cutadapt.adapter_options("ACGT"), ["-a", "ACGT", "-A", "ACGT"])
         self.assertEqual(cutadapt.adapter_options("ACGT,tt"), ["-a", "ACGT", "-A", "tt"])
-        self.assertEqual(cutadapt.adapter_options("/dev/null"), ["-a", "file:/dev/null", "-A", "file:/dev/null"])
+        self.assertEqual(cutadapt.adapter_options("/dev/null"),
+                         ["-a", "file:/dev/null", "-A", "file:/dev/null"])
         for name in "none.fa", "ACGT,", "/":
-            self.assertEqual(self.refused(cutadapt.adapter_options, name), (4, f"cannot read {name}"))
+            got = self.refused(cutadapt.adapter_options, name)
+            self.assertEqual(got, (4, f"cannot read {name}"))
 
     def test_nobody_was_killed(self):
         self.assertEqual((cutadapt.killed_below(os.getpid()), cutadapt.killed_below(0)), (0, 0))
@@ -229,21 +256,29 @@ class ProgressTest(Pieces):
 class ReportTest(Pieces):
     def names(self, words):
         outputs = {field: f"/dev/fd/{number}" for number, field in enumerate(report.OUTPUTS)}
-        said = json.dumps({"command": "IL", "inputs": {"interleaved": "/dev/fd/5"}, "outputs": outputs, "pairs": 1}).encode()
-        text = report.with_real_names(said, arguments.Arguments(words + ["--paired1", "p1", "--unpaired1", "u1", "--paired2", "p2", "--unpaired2", "u2"]))
+        inputs = {"interleaved": "/dev/fd/5"}
+        said = {"command": "IL", "inputs": inputs, "outputs": outputs, "pairs": 1}
+        text = report.with_real_names(json.dumps(said).encode(), arguments.Arguments(words))
         return json.loads(text.decode())
 
     def test_names(self):
-        got = self.names(["-1", "a", "-1", "b", "-2", "c", "-2", "d", "--adapters", "A"])
-        self.assertEqual((got["command"], got["inputs"]), ("PE", {"forward": ["a", "b"], "reverse": ["c", "d"]}))
-        self.assertEqual(got["outputs"], {"forward_paired": "p1", "forward_unpaired": "u1", "reverse_paired": "p2", "reverse_unpaired": "u2", "trim_log": None})
+        unpaired = ["--unpaired1", "u1", "--unpaired2", "u2"]
+        four = ["--paired1", "p1", "--paired2", "p2"] + unpaired
+        got = self.names(["-1", "a", "-1", "b", "-2", "c", "-2", "d", "--adapters", "A"] + four)
+        self.assertEqual(got["command"], "PE")
+        self.assertEqual(got["inputs"], {"forward": ["a", "b"], "reverse": ["c", "d"]})
+        wanted = dict(zip(report.OUTPUTS, ("p1", "u1", "p2", "u2", None)))
+        self.assertEqual(got["outputs"], wanted)
         self.assertEqual(list(got), ["command", "inputs", "outputs", "pairs"])
-        got = self.names(["-i", "\udcff.gz", "--trimlog", "log"])
-        self.assertEqual((got["command"], got["inputs"], got["outputs"]["trim_log"]), ("IL", {"interleaved": "\ufffd.gz"}, "log"))
+        got = self.names(["-i", "\udcff.gz", "--trimlog", "log", "--interleaved", "-"] + unpaired)
+        self.assertEqual((got["command"], got["inputs"]), ("IL", {"interleaved": "\ufffd.gz"}))
+        wanted = dict(zip(report.OUTPUTS, ("-", "u1", "-", "u2", "log")))
+        self.assertEqual(got["outputs"], wanted)
 
     def test_title(self):
         page = report.Page.__new__(report.Page)
-        for page.name, title in ("out/s1.html", "s1"), ("s1.html.gz", "s1"), (".html", ".html"), ("s1", "s1"):
+        for page.name, title in (
+                ("out/s1.html", "s1"), ("s1.html.gz", "s1"), (".html", ".html"), ("s1", "s1")):
             self.assertEqual(page.title(), title)
 
 
@@ -311,6 +346,11 @@ class FilesTest(Pieces):
             self.refused(files.Output("trimlog", os.path.join(self.folder, "no", "x")).hide),
             (4, f"cannot write {self.folder}/no/x: No such file or directory"))
         self.assertTrue(files.Output("trimlog", "x.GZ").is_compressed)
+
+    def test_standard_error(self):
+        for name in files.STDERR_NAMES:
+            self.assertEqual(self.refused(files.Output("trimlog", name).check, [], []),
+                             (4, f"cannot write {name}: it is stderr too"))
 
     def test_standard_output_for_two(self):
         first, second = files.Output("interleaved", "-"), files.Output("trimlog", "/dev/stdout")

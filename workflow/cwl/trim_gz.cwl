@@ -49,6 +49,10 @@ inputs:
     doc: takes mates with different names as pairs
     type: boolean?
     inputBinding: {prefix: --no-name-check, position: 4}
+  need_end:
+    doc: refuses a file whose BGZF lacks its end block, since it may be cut
+    type: boolean?
+    inputBinding: {prefix: --need-end, position: 4}
   threads:
     doc: threads, and the processors that are reserved
     type: int
