@@ -335,7 +335,7 @@ bad_tables() {
 bad_option() {
   row='an option that the program does not know'
   call 1 --profile profiles/local --config trim_logs=False options=--frob
-  grep -q "^failed: s1: error: .*'--frob'" said || fail "it is not named, but: $(grep '^failed:' said)"
+  grep -q '^failed: s1: trim_gz: --frob is not an option' said || fail "it is not named, but: $(grep '^failed:' said)"
 }
 
 # refuses SCRIPT FILE: the script ends with status 1 and one line, and writes nothing
