@@ -50,10 +50,19 @@ trim() {
 }
 
 row='the syntax of Python 3.6'
-python3 - "$script" << 'END' || fail 'it has newer syntax'
+python3 - "$script" "$tree"/contrib/{tibzharuk_report.py,report_to_html_parts/*.py} << 'END' || fail 'a file has newer syntax'
 import ast, sys
-ast.parse(open(sys.argv[1], encoding="utf-8").read(), feature_version=(3, 6))
+for path in sys.argv[1:]:
+    ast.parse(open(path, encoding="utf-8").read(), path, feature_version=(3, 6))
 END
+row='a link, and a copy without its parts'
+python3 "$tree/tests/report_page/count.py" small small.json || exit 1
+mkdir links
+ln -s "$script" links/tibzharuk-report
+links/tibzharuk-report small.json | cmp - <("$script" small.json) || fail 'a link makes another page'
+cp "$script" links/alone
+[ "$(links/alone small.json 2>&1)" = "report_to_html: there is no directory report_to_html_parts beside $PWD/links/alone (make a link to it, not a copy)" ] ||
+  fail 'the copy does not say so'
 
 for kind in plain long small none; do
   python3 "$tree/tests/report_page/count.py" "$kind" "$kind.json" || exit 1

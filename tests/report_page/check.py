@@ -9,9 +9,9 @@
 
 import copy
 import html.parser
-import importlib.machinery
-import importlib.util
+import importlib
 import json
+import os
 import re
 import sys
 
@@ -267,12 +267,11 @@ def check_mqc(report, start):
 # Reports that are changed.
 
 
-def loaded(path):
-    loader = importlib.machinery.SourceFileLoader("report_to_html", path)
-    module = importlib.util.module_from_spec(importlib.util.spec_from_loader("report_to_html", loader))
+def loaded(script):
+    """The function that makes a page, and the module that checks reports, beside the script."""
     sys.dont_write_bytecode = True
-    loader.exec_module(module)
-    return module
+    sys.path.insert(0, os.path.dirname(script))
+    return importlib.import_module("report_to_html_parts.page").page, importlib.import_module("tibzharuk_report")
 
 
 def places(value, before=()):
@@ -292,8 +291,8 @@ def copied(report, way):
 
 
 def check_hostile(script, report):
-    module = loaded(script)
-    plain = parsed(module.page(report, "x")).structure()
+    page, checks = loaded(script)
+    plain = parsed(page(report, "x")).structure()
     changed = 0
     for way in places(report):
         one, holder = copied(report, way)
@@ -301,23 +300,23 @@ def check_hostile(script, report):
         if isinstance(holder[key], str) and key != "outcome":
             holder[key] = HOSTILE
             changed += 1
-            module.REPORT(one, "")
-            content = module.page(one, HOSTILE)
-            parsed(module.page(one, "x", HOSTILE))
+            checks.check(one)
+            content = page(one, HOSTILE)
+            parsed(page(one, "x", HOSTILE))
             assert parsed(content).structure() == plain, f"{key}: {HOSTILE!r} changes the page"
             content.encode("utf-8", "replace")
             assert "\x1b" not in content and "\u202e" not in content and "\ud800" not in content, key
     for part in "inputs", "outputs":
         one = copy.deepcopy(report)
         one[part] = {HOSTILE: HOSTILE, **one[part]}
-        module.REPORT(one, "")
-        parsed(module.page(one, "x"))
+        checks.check(one)
+        parsed(page(one, "x"))
     assert changed >= 10, changed
 
 
 def check_changed(script, report):
     """Makes some of the changes at each place, others at the next one: all would take too long."""
-    module = loaded(script)
+    page, checks = loaded(script)
     refused = drawn = 0
     changes = [
         lambda holder, key: holder.pop(key),
@@ -332,12 +331,12 @@ def check_changed(script, report):
             one, holder = copied(report, way)
             change(holder, way[-1])
             try:
-                module.REPORT(one, "")
-            except module.Refused:
+                checks.check(one)
+            except checks.Refused:
                 refused += 1
                 continue
             drawn += 1
-            parsed(module.page(one, "x"))
+            parsed(page(one, "x"))
     assert refused > 400 and drawn > 100, (refused, drawn)
 
 

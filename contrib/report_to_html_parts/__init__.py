@@ -1,0 +1,11 @@
+"""The parts of report_to_html, which is beside this directory.
+
+    texts       numbers and texts as the page shows them
+    graph       a graph of lines, drawn as SVG
+    drawings    the sections with graphs
+    sections    the other sections
+    page        the whole page
+    style.css   how it looks
+
+tibzharuk_report.py, beside report_to_html too, reads and checks the report.
+"""

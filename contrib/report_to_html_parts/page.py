@@ -1,0 +1,48 @@
+"""The whole page of a report."""
+
+import os
+
+from tibzharuk_report import SIDES, Report, both
+
+from .drawings import drawings
+from .sections import cards, pair_bar, run, side_table, step_table, warnings
+from .texts import shown
+
+STYLE_FILE = os.path.join(os.path.dirname(os.path.realpath(__file__)), "style.css")
+
+
+def style() -> str:
+    with open(STYLE_FILE, encoding="utf-8") as file:
+        return file.read()
+
+
+def page(report: Report, sample: str, cutadapt: str = "") -> str:
+    """The page of a checked report, with its title, and what was said of cutadapt."""
+    before = {side: report["reads"][side]["before"] for side in SIDES}
+    after = {
+        side: both(report["reads"][side]["paired"], report["reads"][side]["unpaired"])
+        for side in SIDES
+    }
+    steps = "".join(f"<code>{shown(step['step'])}</code>" for step in report["steps"])
+    program = shown(f"{report['program']} {report['version']}")
+    body = [
+        f"<header><h1>{shown(sample)}</h1>"
+        f'<span class="soft">trimmed by Tibzharuk, {program}</span></header>',
+        f'<p class="steps">{steps}</p>',
+        warnings(report, before),
+        cards(report["pairs"], before, after),
+        pair_bar(report["pairs"]),
+        side_table(before, after, cutadapt),
+        step_table(report["steps"], before),
+        *drawings(report, before, after),
+        run(report, cutadapt),
+        "<footer>Made by report_to_html from a report of fq_prog, "
+        "which has all numbers of this page.</footer>",
+    ]
+    return (
+        '<!DOCTYPE html>\n<html lang="en"><head><meta charset="utf-8">'
+        '<link rel="icon" href="data:,">'
+        '<meta name="viewport" content="width=device-width,initial-scale=1">'
+        f"<title>{shown(sample)}: trimming</title><style>\n{style()}</style></head>\n"
+        "<body><main>" + "\n".join(body) + "</main></body></html>\n"
+    )
