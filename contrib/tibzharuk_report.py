@@ -29,6 +29,10 @@ class Refused(Exception):
     """One line that says why a file is refused."""
 
 
+class TooNew(Refused):
+    """The form of the report is newer than this module."""
+
+
 def plain(text: str) -> str:
     """Text on one line: characters that can't be printed become escapes."""
     escaped = (c.encode("unicode_escape").decode("ascii") for c in text)
@@ -161,12 +165,19 @@ REPORT = fields(
         "pairs": fields({name: count for name in ("input",) + PAIRS}),
         "reads": fields({side: SIDE for side in SIDES}),
         "steps": each(fields({"step": text, "forward": DONE, "reverse": DONE})),
-    }
+    },
+    {"schema": count},
 )
 
 
 def check(report: Any) -> None:
     """Raises Refused, with the place and what is wrong there, unless this is a report."""
+    schema: Any = report.get("schema") if isinstance(report, dict) else None
+    if is_count(schema) and schema > NEWEST_SCHEMA:
+        raise TooNew(
+            f"a report of a later version (its schema is {schema}, and this program reads "
+            f"{NEWEST_SCHEMA} and older)"
+        )
     REPORT(report, "")
 
 
@@ -181,6 +192,8 @@ def read_report(path: str) -> Report:
         need(len(content) <= MOST_BYTES, "", "is too large")
         report: Report = json.loads(content.decode("utf-8"))
         check(report)
+    except TooNew as why:
+        raise TooNew(f"{plain(path)}: {why}") from why
     except Refused as why:
         raise Refused(f"{plain(path)}: not a report of fq_prog: {plain(str(why))}") from why
     except (ValueError, RecursionError) as error:

@@ -1,10 +1,15 @@
 #!/usr/bin/env bash
 # Makes pages with contrib/report_to_html and reads them as HTML. Each is well formed, loads
 # nothing, runs nothing, and has the numbers of its report. The reports are those of the program,
-# and those of a slow count: with no read, with 150 bases and with more than 10,000. No text of a
-# report becomes markup. Faults, and scores that are too high, are at the top. A file that is not a
-# report is refused in one line. contrib/report_to_mqc draws mean scores by position and reads by
-# mean score for the same reports.
+# and those of a slow count: with no read, with one base, with 150 bases and with more than 10,000,
+# with reads that are all alike, and with other letters than A, C, G, T and N. No text of a report
+# becomes markup. Faults, and scores that are too high, are at the top. A file that is not a report
+# is refused in one line. contrib/report_to_mqc draws mean scores by position and reads by mean
+# score for the same reports.
+#
+# Chromium shows each page in windows of 1280 and of 400 pixels, light and dark: nothing is cut,
+# wider than the window, too small or too pale, nothing is printed on the console, and nothing is
+# requested. This part is skipped if chromium isn't installed.
 #
 # FQ_PROG is the program, crates/fq_prog/out/fq_prog if not set. If python3.6 is on the path, it
 # makes the pages too.
@@ -64,7 +69,8 @@ cp "$script" links/alone
 [ "$(links/alone small.json 2>&1)" = "report_to_html: there is no directory report_to_html_parts beside $PWD/links/alone (make a link to it, not a copy)" ] ||
   fail 'the copy does not say so'
 
-for kind in plain long small none; do
+# (The page of `longest` has mean lengths of five digits. Those of `alike` have one number each.)
+for kind in plain long longest small one alike other none; do
   python3 "$tree/tests/report_page/count.py" "$kind" "$kind.json" || exit 1
   drawn "$kind"
 done
@@ -143,12 +149,17 @@ sed 's/"input":/&-/' two.json > below.json
 sed 's/"bases":\([0-9]*\)/"bases":"\1"/' two.json > text.json
 sed 's/"lengths":\[\[/"lengths":[[99999,1],[/' two.json > lengths.json
 sed 's/^/[/; s/$/]/' two.json > list.json
+sed 's/"schema":2/"schema":3/' two.json > newer.json
+sed 's/"schema":2/"schema":"2"/' two.json > named.json
 sed 's/"positions":{"a":\[[0-9]*,/"positions":{"a":[/' plain.json > positions.json
 head -c 200000 /dev/zero | tr '\0' '[' > deep.json
 printf '\377\376' > bytes.json
-for file in {torn,less,below,text,lengths,list,positions,deep,bytes}.json r1.fq two.html "$program" /dev/zero /dev/null "$work" 'not there'; do
+for file in {torn,less,below,text,lengths,list,newer,named,positions,deep,bytes}.json r1.fq two.html "$program" /dev/zero /dev/null "$work" 'not there'; do
   refuses "$file"
 done
+row='a report of a later version'
+[ "$("$script" newer.json 2>&1)" = 'report_to_html: newer.json: a report of a later version (its schema is 3, and this program reads 2 and older)' ] ||
+  fail 'it does not say so'
 row='no argument'
 "$script" 2> told
 [ $? -eq 2 ] || fail 'the status is not 2'
@@ -157,6 +168,20 @@ if [ -w /dev/full ]; then
   "$script" two.json > /dev/full 2> told
   [ $? -eq 1 ] || fail 'the status is not 1'
   [ "$(wc -l < told)" -eq 1 ] || fail "not one line: $(cat told)"
+fi
+
+# What a reader sees: a browser shows each page, in a large window and in a small one. The pages as
+# the browser understood them have the numbers of their reports too.
+row='a browser'
+if command -v chromium > /dev/null; then
+  mkdir shown
+  timeout 600 python3 "$tree/tests/report_page/browser.py" shown ./*.html > told 2>&1 || fail "$(cat told)"
+  for page in shown/*.html; do
+    row="the page of $(basename "$page" .html) in a browser"
+    check page "$(basename "$page" .html).json" "$page" || fail 'it is not that of its report'
+  done
+else
+  echo 'report_page: the pages in a browser: skipped: needs chromium'
 fi
 
 row='report_to_mqc'

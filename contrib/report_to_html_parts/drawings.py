@@ -3,9 +3,9 @@
 import itertools
 from typing import Callable, Dict, Iterable, Iterator, List, Sequence
 
-from tibzharuk_report import LAST, SIDES, Reads, Report
+from tibzharuk_report import LAST, ROWS, SIDES, Reads, Report
 
-from .graph import LETTERS, Graph, Point, Span, key, span_name, spans
+from .graph import LETTERS, Axes, Graph, Point, Span, key, span_name, spans
 from .texts import mean, section, share
 
 Sides = Dict[str, Reads]
@@ -13,6 +13,7 @@ Row = Sequence[int]  # a number, and how many reads have it
 Means = Dict[Span, float]
 Make = Callable[[str], Iterable[Graph]]
 
+WHEN = ("before", "after")
 BEFORE_AFTER = key(
     [
         ("line dashed", "grey", "before trimming"),
@@ -29,15 +30,26 @@ def graphs(title: str, said: str, names_of_lines: str, make: Make) -> str:
 
 # By position.
 
+OTHER = "other"  # what is none of LETTERS, such as R and Y
+SCORES = Axes("mean score", "position in the read", "position {}", WHEN)
+
 
 def means(reads: Reads, field: str, over: Iterable[Span], factor: int) -> Means:
     """Mean of a field over the bases at positions. Spans without bases are left out."""
     found = {}
+    values = others(reads) if field == OTHER else reads["positions"][field]
     for start, end in over:
         bases = sum(reads["positions"]["bases"][start:end])
         if bases:
-            found[start, end] = factor * sum(reads["positions"][field][start:end]) / bases
+            found[start, end] = factor * sum(values[start:end]) / bases
     return found
+
+
+def others(reads: Reads) -> List[int]:
+    """The bases at each position that have none of the five letters."""
+    found = reads["positions"]
+    letters = zip(*(found[name.lower()] for name in LETTERS))
+    return [max(bases - sum(each), 0) for bases, each in zip(found["bases"], letters)]
 
 
 def points(found: Means) -> List[Point]:
@@ -57,20 +69,17 @@ def not_drawn(*sets: Sides) -> str:
 def scores_by_position(before: Sides, after: Sides) -> str:
     def make(side: str) -> Iterator[Graph]:
         over = position_spans(before[side], after[side])
-        old, new = (means(reads[side], "score_sum", over, 1) for reads in (before, after))
-        high = max(itertools.chain(old.values(), new.values()), default=0)
-        last = over[-1][1] if over else 1
-        graph = Graph(side, "mean score", "position in the read", 1, last, max(high, 40))
+        lines = [means(reads[side], "score_sum", over, 1) for reads in (before, after)]
+        high = max(itertools.chain(*(found.values() for found in lines)), default=0)
+        graph = Graph(side, SCORES, 1, over[-1][1] if over else 1, max(high, 40))
         graph.mark(20, "Q20")
         graph.mark(30, "Q30")
-        graph.line(points(old), "grey", dashed=True)
-        graph.line(points(new), "blue")
-        lines = (("before", old), ("after", new))
+        graph.line(points(lines[0]), "grey", dashed=True)
+        graph.line(points(lines[1]), "blue")
         for span in over:
-            said = [f"{when} {found[span]:.1f}" for when, found in lines if span in found]
-            if said:
-                told = f"position {span_name(span)}: {', '.join(said)}"
-                graph.tip(span[0] + 0.5, span[1] + 0.5, told)
+            values = [f"{found[span]:.1f}" if span in found else None for found in lines]
+            if any(values):
+                graph.tip(span[0] + 0.5, span[1] + 0.5, span_name(span), values)
         yield graph
 
     said = (
@@ -81,33 +90,50 @@ def scores_by_position(before: Sides, after: Sides) -> str:
     return graphs("Mean score by position", said, BEFORE_AFTER, make)
 
 
+def letters_graph(side: str, when: str, reads: Reads, names: Sequence[str]) -> Graph:
+    over = position_spans(reads)
+    found = {name: means(reads, name.lower(), over, 100) for name in names}
+    high = max((value for each in found.values() for value in each.values()), default=0)
+    axes = Axes("% of bases", "position in the read", "position {}", names, " %")
+    graph = Graph(f"{side}, {when}", axes, 1, over[-1][1] if over else 1, max(high, 40))
+    for name in names:
+        graph.line(points(found[name]), LETTERS.get(name, "purple"), dashed=name == OTHER)
+    graph.letters({name: points(found[name]) for name in LETTERS})
+    for span in found["A"]:
+        values = [f"{found[name][span]:.1f}" for name in names]
+        graph.tip(span[0] + 0.5, span[1] + 0.5, span_name(span), values)
+    return graph
+
+
 def letters_by_position(before: Sides, after: Sides) -> str:
+    every = [reads[side] for reads in (before, after) for side in SIDES]
+    names = [*LETTERS, OTHER] if any(any(others(reads)) for reads in every) else list(LETTERS)
+
     def make(side: str) -> Iterator[Graph]:
-        for when, reads in ("before", before[side]), ("after", after[side]):
-            over = position_spans(reads)
-            found = {name: means(reads, name.lower(), over, 100) for name in LETTERS}
-            high = max((value for each in found.values() for value in each.values()), default=0)
-            last, title = over[-1][1] if over else 1, f"{side}, {when}"
-            graph = Graph(title, "% of bases", "position in the read", 1, last, max(high, 40))
-            for name, colour in LETTERS.items():
-                graph.line(points(found[name]), colour)
-            graph.letters({name: points(found[name]) for name in LETTERS})
-            for span in found["A"]:
-                said = ", ".join(f"{name} {found[name][span]:.1f} %" for name in LETTERS)
-                told = f"position {span_name(span)}: {said}"
-                graph.tip(span[0] + 0.5, span[1] + 0.5, told)
-            yield graph
+        for when, reads in zip(WHEN, (before, after)):
+            yield letters_graph(side, when, reads[side], names)
 
     said = (
         "Share of each letter among the bases at each position. Lines that differ at the first "
         "positions are usual for RNA and for libraries that were cut by enzymes."
     )
     said += not_drawn(before, after)
-    entries = key([("line", colour, name) for name, colour in LETTERS.items()])
-    return graphs("Letters by position", said, entries, make)
+    entries = [("line", colour, name) for name, colour in LETTERS.items()]
+    if OTHER in names:
+        entries.append(("line dashed", "purple", "other letters"))
+    return graphs("Letters by position", said, key(entries), make)
 
 
 # By length and by the number of removed bases: how many reads have this many or more.
+
+LENGTHS = Axes("% of reads", "this many bases or more", "at least {} bases", WHEN)
+PLACES = (("front", "at the start of the read", "brown"), ("behind", "at its end", "blue"))
+REMOVED = Axes(
+    "% of reads that survive",
+    "this many bases removed or more",
+    "at least {} bases removed",
+    [name for _, name, _ in PLACES],
+)
 
 
 def at_least(found: Sequence[Row], over: Iterable[Span]) -> List[int]:
@@ -137,12 +163,11 @@ def reads_by_length(before: Sides, after: Sides) -> str:
         whole = sum(reads for _, reads in old)
         over = spans(max([length for length, _ in old + new] + [1]))
         counts = [at_least(each, over) for each in (old, new)]
-        graph = Graph(side, "% of reads", "this many bases or more", 0, over[-1][1], 100)
+        graph = Graph(side, LENGTHS, 0, over[-1][1], 100)
         graph.line(stairs(counts[0], over, whole), "grey", dashed=True)
         graph.line(stairs(counts[1], over, whole), "blue", filled=True)
-        for (start, end), a, b in zip(over, *counts):
-            said = f"before {share(a, whole)}, after {share(b, whole)}"
-            graph.tip(start, end, f"at least {end:,} bases: {said}")
+        for (start, end), *reads in zip(over, *counts):
+            graph.tip(start, end, f"{end:,}", [share(each, whole) for each in reads])
         yield graph
 
     said = (
@@ -154,24 +179,20 @@ def reads_by_length(before: Sides, after: Sides) -> str:
     return graphs("Reads by length", said, BEFORE_AFTER, make)
 
 
-PLACES = (("front", "at the start of the read", "orange"), ("behind", "at its end", "blue"))
-
-
 def removed_graph(side: str, counts_of: Reads) -> Graph:
-    found = {place: counts_of[f"removed_{place}"] for place, _, _ in PLACES}
-    over = spans(max([number for each in found.values() for number, _ in each] + [1]))
-    whole = {place: sum(reads for _, reads in found[place]) for place in found}
-    counts = {place: at_least(found[place], over) for place in found}
-    lines = {place: stairs(counts[place], over, whole[place]) for place in found}
-    high = max((y for line in lines.values() for _, y in line), default=1)
-    across, last = "this many bases removed or more", over[-1][1]
-    graph = Graph(side, "% of reads that survive", across, 0, last, high)
-    for place, _, colour in PLACES:
-        graph.line(lines[place], colour)
-    for number, (start, end) in enumerate(over):
-        told = ((name, share(counts[place][number], whole[place])) for place, name, _ in PLACES)
-        said = ", ".join(" ".join(each) for each in told)
-        graph.tip(start, end, f"at least {end:,} bases removed: {said}")
+    found = [counts_of[f"removed_{place}"] for place, _, _ in PLACES]
+    over = spans(max([number for each in found for number, _ in each] + [1]))
+    wholes = [sum(reads for _, reads in each) for each in found]
+    counts = [at_least(each, over) for each in found]
+    lines = [stairs(each, over, whole) for each, whole in zip(counts, wholes)]
+    high = max((y for line in lines for _, y in line), default=1)
+    graph = Graph(side, REMOVED, 0, over[-1][1], high)
+    for line, (_, _, colour) in zip(lines, PLACES):
+        graph.line(line, colour)
+    for (start, end), *reads in zip(over, *counts):
+        values = [share(part, whole) for part, whole in zip(reads, wholes)]
+        if any(wholes):
+            graph.tip(start, end, f"{end:,}", values)
     return graph
 
 
@@ -211,29 +232,33 @@ class Histogram:
     A smooth line is the mean of three neighbours, of which the middle one counts twice."""
 
     def __init__(
-        self, field: str, title: str, said: str, across: str, name: str, smooth: bool = False
+        self, field: str, title: str, said: str, across: str, told: str, smooth: bool = False
     ) -> None:
-        self.field, self.title, self.said = field, title, said
-        self.across, self.name, self.smooth = across, name, smooth
+        self.field, self.title, self.said, self.smooth = field, title, said, smooth
+        self.axes = Axes("reads", across, told, WHEN)
+        self.most = ROWS[field]
 
     def height(self, found: Dict[int, int], x: int) -> float:
-        here = found.get(x, 0)
-        return (found.get(x - 1, 0) + 2 * here + found.get(x + 1, 0)) / 4 if self.smooth else here
+        if not self.smooth:
+            return found.get(x, 0)
+        near = [(y, 1 + (x == y)) for y in (x - 1, x, x + 1) if 0 <= y <= self.most]
+        return sum(found.get(y, 0) * weight for y, weight in near) / sum(w for _, w in near)
 
     def graph(self, side: str, old: Dict[int, int], new: Dict[int, int]) -> Graph:
-        among = list(old) + list(new) or [0]
-        numbers = range(max(min(among) - 1, 0), max(among) + 2)
+        among = [*old, *new]
+        if not among:
+            return Graph(side, self.axes, 0, 1, 1)
+        numbers = range(max(min(among) - 1, 0), min(max(among) + 1, self.most) + 1)
         lines = [
             [(x + d, self.height(each, x)) for x in numbers for d in (-0.5, 0.5)]
             for each in (old, new)
         ]
         most = max(max(y for line in lines for _, y in line), 1)
-        graph = Graph(side, "reads", self.across, numbers[0] - 0.5, numbers[-1] + 0.5, most)
+        graph = Graph(side, self.axes, numbers[0] - 0.5, numbers[-1] + 0.5, most)
         graph.line(lines[0], "grey", filled=True, dashed=True)
         graph.line(lines[1], "blue", filled=True)
         for x in numbers:
-            said = f"before {old.get(x, 0):,} reads, after {new.get(x, 0):,}"
-            graph.tip(x - 0.5, x + 0.5, f"{self.name.format(x)}: {said}")
+            graph.tip(x - 0.5, x + 0.5, f"{x}", [f"{each.get(x, 0):,}" for each in (old, new)])
         return graph
 
     def html(self, before: Sides, after: Sides) -> str:
@@ -249,7 +274,7 @@ HISTOGRAMS = (
         "Reads by mean score",
         "Reads by the whole part of their mean Phred score.",
         "mean score",
-        "mean score {}",
+        "reads with mean score {}",
     ),
     Histogram(
         "gc_percents",
@@ -257,7 +282,7 @@ HISTOGRAMS = (
         "Reads by their share of G and C. One peak is usual; a second one can come from another "
         "organism. The line is smoothed: it is the mean of neighbours.",
         "% G and C",
-        "{} % G and C",
+        "reads with {} % G and C",
         smooth=True,
     ),
 )

@@ -1,28 +1,48 @@
-"""A graph of lines over whole numbers, drawn as SVG, and the keys of its colours."""
+"""A graph of lines over whole numbers, drawn as SVG, with its numbers as a folded table, and the
+keys of its colours."""
 
-from typing import Dict, Iterable, List, Sequence, Tuple
+import math
+from typing import Dict, Iterable, List, NamedTuple, Optional, Sequence, Tuple
 
 Point = Tuple[float, float]
 Span = Tuple[int, int]
 
-LETTERS = {"A": "green", "C": "blue", "G": "orange", "T": "red", "N": "grey"}
+LETTERS = {"A": "green", "C": "blue", "G": "brown", "T": "red", "N": "grey"}
+# From which number on a level is written with this letter, and what the letter stands for.
+SIZES = ((1e12, 1e12, " T"), (1e9, 1e9, " G"), (1e6, 1e6, " M"), (1e4, 1e3, " k"))
 
 
-def ticks(most: float, number: int) -> List[float]:
-    """Round numbers from 0 to `most` or just above it, at most `number` steps."""
+class Axes(NamedTuple):
+    """What a graph shows, and over what."""
+
+    unit: str  # such as "% of reads"
+    across: str  # such as "position in the read"
+    told: str  # the name of a place under the mouse, such as "position {}"
+    columns: Sequence[str]  # what has a value at each place, such as "before"
+    sign: str = ""  # what follows each value under the mouse
+
+
+def round_step(most: float, number: int) -> float:
+    """The least of 1, 2 or 5 times a power of ten that reaches `most` in at most `number` steps."""
     for digits in range(-2, 25):
         for digit in (1, 2, 5):
             step = digit * 10.0**digits
             if most <= number * step:
-                return [step * place for place in range(max(int(-(-most // step)), 1) + 1)]
-    return [0, most]
+                return step
+    return most
 
 
-def tick_name(value: float) -> str:
-    for size, letter in ((10**12, " T"), (10**9, " G"), (10**6, " M")):
-        if value >= size:
-            return f"{value / size:g}{letter}"
-    return f"{value:,g}"
+def levels_to(most: float, number: int) -> List[float]:
+    """Round numbers from 0 to `most` or just above it, at most `number` steps."""
+    step = round_step(most, number)
+    return [step * place for place in range(max(math.ceil(most / step), 1) + 1)]
+
+
+def level_names(levels: Sequence[float]) -> List[str]:
+    """All levels in the unit of the highest: at most five characters each."""
+    sizes = ((size, letter) for least, size, letter in SIZES if levels[-1] >= least)
+    size, letter = next(sizes, (1, ""))
+    return [f"{level / size:,g}{letter}" if level else "0" for level in levels]
 
 
 def spans(last: int, most: int = 320) -> List[Span]:
@@ -40,57 +60,67 @@ def span_name(span: Span) -> str:
 class Graph:
     """A graph of lines over whole numbers. Its parts are drawn in the order of the calls."""
 
-    WIDE, HIGH, LEFT, RIGHT, TOP, BOTTOM = 520, 230, 48, 28, 10, 36
+    WIDE, HIGH, LEFT, RIGHT, TOP, BOTTOM, LINE = 520, 240, 56, 44, 10, 44, 15
+    END = WIDE - RIGHT
+    FLOOR = HIGH - BOTTOM
 
-    def __init__(
-        self, title: str, unit: str, across: str, first: float, last: float, most: float
-    ) -> None:
-        self.first, self.last = first, max(last, first + 1)
-        self.levels = ticks(max(most, 0.1), 5)
-        name = f"{title}: {unit} by {across}"
-        self.parts = [
-            f"<figure><figcaption><b>{title.capitalize()}</b> {unit}</figcaption>"
-            f'<svg viewBox="0 0 {self.WIDE} {self.HIGH}" role="img" aria-label="{name}">'
-        ]
-        for level in self.levels:
-            y = self.y(level)
-            self.parts.append(f'<path class="grid" d="M{self.LEFT} {y}H{self.WIDE - self.RIGHT}"/>')
-            self.text(self.LEFT - 7, f"{y + 4:.1f}", tick_name(level), "end")
-        self.columns()
-        self.text((self.LEFT + self.WIDE - self.RIGHT) / 2, f"{self.HIGH - 4}", across, "mid")
+    def __init__(self, title: str, axes: Axes, first: float, last: float, most: float) -> None:
+        self.title, self.axes = title, axes
+        # A single number is in the middle.
+        self.first, self.last = (first, last) if first < last else (first - 0.5, first + 0.5)
+        self.levels = levels_to(max(most, 0.1), 5)
+        self.parts: List[str] = []
+        self.rows: List[str] = []
 
     def x(self, value: float) -> float:
-        inside = self.WIDE - self.LEFT - self.RIGHT
+        inside = self.END - self.LEFT
         return round(self.LEFT + (value - self.first) / (self.last - self.first) * inside, 1)
 
     def y(self, value: float) -> float:
-        inside = self.HIGH - self.TOP - self.BOTTOM
-        return round(self.HIGH - self.BOTTOM - value / self.levels[-1] * inside, 1)
+        inside = self.FLOOR - self.TOP
+        return round(self.FLOOR - value / self.levels[-1] * inside, 1)
 
-    def text(self, x: float, y: str, said: str, form: str) -> None:
-        self.parts.append(f'<text class="{form}" x="{x}" y="{y}">{said}</text>')
+    def text(self, x: float, y: float, said: str, form: str) -> str:
+        return f'<text class="{form}" x="{x}" y="{y:.1f}">{said}</text>'
 
-    def columns(self) -> None:
-        """Round numbers under the graph, and its first number unless the next one is too near."""
-        found = ticks(self.last, 8)
-        step = max(found[1], 1)
-        values = [each for each in found if self.first <= each <= self.last and each == int(each)]
-        if self.first == int(self.first) and (not values or values[0] - self.first > step / 2):
-            values.insert(0, self.first)
-        elif self.first == 1 and values[0] > 1:
-            values[0] = 1
+    def level(self, value: float, form: str) -> str:
+        return f'<path class="{form}" d="M{self.LEFT} {self.y(value)}H{self.END}"/>'
+
+    def grid(self) -> List[str]:
+        """The levels with their numbers, and the name of the axis below."""
+        drawn = []
+        for value, name in zip(self.levels, level_names(self.levels)):
+            drawn.append(self.level(value, "grid"))
+            drawn.append(self.text(self.LEFT - 7, self.y(value) + 4, name, "end"))
+        middle = (self.LEFT + self.END) / 2
+        return drawn + [self.text(middle, self.HIGH - 5, self.axes.across, "mid")]
+
+    def columns(self) -> List[str]:
+        """Round numbers under the graph, and 1 if it is the first. Small windows show some only."""
+        step = max(round_step(self.last - self.first, 8), 1)
+        places = range(math.ceil(self.first / step), math.floor(self.last / step) + 1)
+        values = [step * place for place in places]
+        if self.first == 1:
+            values = [1] + [value for value in values if value - 1 > step / 2]
+        drawn = []
         for value in values:
-            self.text(self.x(value), f"{self.HIGH - self.BOTTOM + 17}", tick_name(value), "mid")
+            is_spare = len(values) > 5 and value / step % 2 == 1 and value != self.first
+            form = "mid more" if is_spare else "mid"
+            drawn.append(self.text(self.x(value), self.FLOOR + 18, f"{value:,g}", form))
+        return drawn
 
-    def mark(self, level: float, name: str) -> None:
-        y = self.y(level)
-        self.parts.append(f'<path class="mark" d="M{self.LEFT} {y}H{self.WIDE - self.RIGHT}"/>')
-        self.parts.append(f'<text x="{self.WIDE - self.RIGHT + 4}" y="{y + 4:.1f}">{name}</text>')
+    def mark(self, value: float, name: str) -> None:
+        self.parts.append(self.level(value, "mark"))
+        self.parts.append(self.text(self.END + 4, self.y(value) + 4, name, "name"))
 
     def line(
         self, points: Sequence[Point], colour: str, filled: bool = False, dashed: bool = False
     ) -> None:
-        if not points:
+        """A line through the points; a single one is a dot."""
+        if len(points) == 1:
+            x, y = self.x(points[0][0]), self.y(points[0][1])
+            self.parts.append(f'<circle class="full {colour}" cx="{x}" cy="{y}" r="3.5"/>')
+        if len(points) < 2:
             return
         way = "M" + "L".join(f"{self.x(x)} {self.y(y)}" for x, y in points)
         if filled:
@@ -101,21 +131,46 @@ class Graph:
     def letters(self, lines: Dict[str, List[Point]]) -> None:
         """The name of each line after its end; names that would overlap are moved apart."""
         ends = sorted((self.y(points[-1][1]) + 4, name) for name, points in lines.items() if points)
-        for place, (y, name) in enumerate(ends):
-            ends[place] = (max(y, ends[place - 1][0] + 11) if place else y, name)
-        over = max(ends[-1][0] - (self.HIGH - self.BOTTOM + 4), 0) if ends else 0
-        for y, name in ends:
-            at, form = self.WIDE - self.RIGHT + 5, f"letter {LETTERS[name]}"
-            self.text(at, f"{y - over:.1f}", name, form)
+        heights = [y for y, _ in ends]
+        for place in range(1, len(heights)):
+            heights[place] = max(heights[place], heights[place - 1] + self.LINE)
+        lowest = self.FLOOR + 4.0
+        for place in reversed(range(len(heights))):
+            heights[place] = min(heights[place], lowest)
+            lowest = heights[place] - self.LINE
+        for y, (_, name) in zip(heights, ends):
+            self.parts.append(self.text(self.END + 6, y, name, f"letter {LETTERS[name]}"))
 
-    def tip(self, start: float, end: float, said: str) -> None:
-        """Numbers that are shown while the mouse rests between two places."""
+    def tip(self, start: float, end: float, name: str, values: Sequence[Optional[str]]) -> None:
+        """The values of a place, shown while the mouse is there, and a row of the table."""
         left, right = self.x(max(start, self.first)), self.x(min(end, self.last))
-        box = f"M{left} {self.TOP}H{right}V{self.HIGH - self.BOTTOM}H{left}Z"
+        box = f"M{left} {self.TOP}H{right}V{self.FLOOR}H{left}Z"
+        pairs = [(column, value) for column, value in zip(self.axes.columns, values) if value]
+        told = ", ".join(f"{column} {value}{self.axes.sign}" for column, value in pairs)
+        said = f"{self.axes.told.format(name)}: {told}"
         self.parts.append(f'<path class="tip" d="{box}"><title>{said}</title></path>')
+        cells = "".join(f"<td>{value or '–'}</td>" for value in values)
+        self.rows.append(f'<tr><th scope="row">{name}</th>{cells}</tr>')
+
+    def table(self, caption: str) -> str:
+        head = "".join(f'<th scope="col">{name}</th>' for name in self.axes.columns)
+        return (
+            '<details><summary>Numbers</summary><div class="wide">'
+            f'<table><caption>{caption}</caption><thead><tr><th scope="col">{self.axes.across}</th>'
+            f'{head}</tr></thead><tbody>{"".join(self.rows)}</tbody></table></div></details>'
+        )
 
     def html(self) -> str:
-        return "".join(self.parts) + "</svg></figure>"
+        name = f"{self.title}: {self.axes.unit} by {self.axes.across}"
+        drawn = self.grid() + (self.columns() if self.rows else []) + self.parts
+        if not self.rows:
+            middle = (self.LEFT + self.END) / 2
+            drawn.append(self.text(middle, (self.TOP + self.FLOOR) / 2, "nothing to draw", "mid"))
+        return (
+            f"<figure><figcaption><b>{self.title.capitalize()}</b> {self.axes.unit}</figcaption>"
+            f'<svg viewBox="0 0 {self.WIDE} {self.HIGH}" role="img" aria-label="{name}">'
+            f'{"".join(drawn)}</svg>{self.table(name) if self.rows else ""}</figure>'
+        )
 
 
 def swatch(kind: str, colour: str) -> str:

@@ -6,7 +6,7 @@ from typing import Callable, Dict, List, Sequence, Tuple
 from tibzharuk_report import COUNTS, SIDES, Reads, Report
 
 from .graph import key
-from .texts import mean, section, share, short, shown
+from .texts import mean, section, share, short, shown, unbroken
 
 Sides = Dict[str, Reads]
 Entry = Tuple[str, List[str]]  # a name, and what is listed under it
@@ -53,25 +53,25 @@ def cards(pairs: Dict[str, int], before: Sides, after: Sides) -> str:
         for reads in (before, after)
     )
     lengths = [
-        [mean(reads[side]["bases"], reads[side]["reads"], 0) for side in SIDES]
+        " | ".join(mean(reads[side]["bases"], reads[side]["reads"], 0) for side in SIDES)
         for reads in (before, after)
     ]
     kept = pairs["both_surviving"]
     low = " low" if 2 * kept < pairs["input"] else ""
     q30 = [share(each["q30_bases"], each["bases"]) for each in (old, new)]
     entries = (
-        ("Pairs kept", share(kept, pairs["input"]), f"{kept:,} of {pairs['input']:,} pairs"),
+        (
+            "Pairs kept",
+            unbroken(share(kept, pairs["input"])),
+            f"{kept:,} of {pairs['input']:,} pairs",
+        ),
         (
             "Bases kept",
-            share(new["bases"], old["bases"]),
+            unbroken(share(new["bases"], old["bases"])),
             f"{short(new['bases'])} of {short(old['bases'])}",
         ),
-        ("Bases with Q30 or more", q30[1], f"before: {q30[0]}"),
-        (
-            "Mean length, forward | reverse",
-            " | ".join(lengths[1]),
-            f"before: {' | '.join(lengths[0])}",
-        ),
+        ("Bases with Q30 or more", unbroken(q30[1]), f"before: {q30[0]}"),
+        ("Mean length, forward | reverse", lengths[1], f"before: {lengths[0]}"),
     )
     drawn = [
         f"<small>{name}</small><b>{value}</b><small>{more}</small></div>"
@@ -101,17 +101,23 @@ def pair_bar(pairs: Dict[str, int]) -> str:
     return section("Pairs", said, bar, key(entries, "key squares"))
 
 
-def table(head: Tuple[str, str, str], body: Sequence[Tuple[str, Sequence[str]]]) -> str:
-    """A table of two columns for each side, under the name of the side."""
-    sides = "".join(f'<th class="first" colspan="2">{side.capitalize()}</th>' for side in SIDES)
-    columns = f'<th class="first">{head[1]}</th><th>{head[2]}</th>' * len(SIDES)
-    lines = []
-    for name, cells in body:
-        forms = (" class=first", "")
-        drawn = (f"<td{forms[place % 2]}>{cell}</td>" for place, cell in enumerate(cells))
-        lines.append(f"<tr><td>{name}</td>{''.join(drawn)}</tr>")
-    top = f"<thead><tr><th></th>{sides}</tr><tr><th>{head[0]}</th>{columns}</tr></thead>"
-    return f'<div class="wide"><table>{top}<tbody>{"".join(lines)}</tbody></table></div>'
+def table(head: Sequence[str], body: Sequence[Tuple[str, Sequence[str]]]) -> str:
+    """A table for each side. A row of the body has the cells of all sides, in their order."""
+    columns = len(head) - 1
+    first = f'<th scope="col">{head[0]}</th>' if head[0] else "<td></td>"
+    top = first + "".join(f'<th scope="col">{name}</th>' for name in head[1:])
+    tables = []
+    for place, side in enumerate(SIDES):
+        lines = []
+        for name, cells in body:
+            part = cells[place * columns : (place + 1) * columns]
+            drawn = "".join(f"<td>{cell}</td>" for cell in part)
+            lines.append(f'<tr><th scope="row">{name}</th>{drawn}</tr>')
+        tables.append(
+            f'<div class="wide"><table><caption>{side.capitalize()}</caption>'
+            f'<thead><tr>{top}</tr></thead><tbody>{"".join(lines)}</tbody></table></div>'
+        )
+    return f'<div class="two">{"".join(tables)}</div>'
 
 
 def lengths_of(reads: Reads) -> str:
@@ -143,13 +149,13 @@ def side_table(before: Sides, after: Sides, cutadapt: str) -> str:
 
 
 def step_cell(number: int, most: int, reads: int, colour: str) -> str:
-    """A number of reads, with a bar and the share of all reads."""
+    """A number of reads, the share of all reads, and a bar below."""
     if not number:
         return '<span class="soft">0</span> <span class="part"></span>'
-    wide = f"{70 * number / most:.1f}"
-    bar = f'<rect class="full {colour}" width="{wide}" height="10" rx="2"/>'
-    drawn = f'<svg viewBox="0 0 70 10" aria-hidden="true">{bar}</svg>'
-    return f'{drawn}{number:,} <span class="part">{share(number, reads)}</span>'
+    wide = 100 * number / most
+    bar = f'<rect class="full {colour}" x="{100 - wide:.1f}" width="{wide:.1f}" height="4"/>'
+    box = 'viewBox="0 0 100 4" preserveAspectRatio="none" aria-hidden="true"'
+    return f'{number:,} <span class="part">{share(number, reads)}</span><svg {box}>{bar}</svg>'
 
 
 def step_table(steps: List[Report], before: Sides) -> str:

@@ -31,7 +31,12 @@ def short(number: int) -> str:
 
 
 def mean(total: int, number: int, digits: int = 1) -> str:
-    return f"{total / number:.{digits}f}" if number else "–"
+    return f"{total / number:,.{digits}f}" if number else "–"
+
+
+def unbroken(text: str) -> str:
+    """Text that stays on one line."""
+    return text.replace(" ", "\u00a0")
 
 
 def section(title: str, said: str, *parts: str) -> str:

@@ -21,14 +21,28 @@ HOSTILE = "</code></title><script src=http://x>'\"&amp;<img onerror=x>\x1b\u202e
 LAST = 10_001
 
 
+class Table:
+    """A table of a page: its caption, and the texts of its cells in rows, of which the first is its
+    head."""
+
+    def __init__(self):
+        self.caption, self.rows = "", []
+
+    def values(self):
+        """The name of each row, and its values as they are shown under the mouse."""
+        for name, *cells in self.rows[1:]:
+            told = (f"{column} {cell}" for column, cell in zip(self.rows[0][1:], cells) if cell != "–")
+            yield name, ", ".join(told)
+
+
 class Page(html.parser.HTMLParser):
-    """The tags of a page with their attributes, its text, its parts with a class, and the titles
-    that its graphs show under the mouse."""
+    """The tags of a page with their attributes, its text, its parts with a class, its tables, and
+    the titles that its graphs show under the mouse."""
 
     def __init__(self, content):
         super().__init__(convert_charrefs=True)
         self.open, self.tags, self.texts, self.classes = [], [], [], []
-        self.figures, self.titles = {}, []
+        self.figures, self.titles, self.tables = {}, [], []
         self.feed(content)
         self.close()
         assert not self.open, f"not closed: {self.open}"
@@ -38,8 +52,14 @@ class Page(html.parser.HTMLParser):
         self.classes += dict(attributes).get("class", "").split()
         if tag == "figure":
             self.titles = []
-        if tag == "svg" and "figure" in self.open:
+        elif tag == "svg" and "figure" in self.open:
             self.figures[dict(attributes)["aria-label"]] = self.titles
+        elif tag == "table":
+            self.tables.append(Table())
+        elif tag == "tr":
+            self.tables[-1].rows.append([])
+        elif tag in ("th", "td"):
+            self.tables[-1].rows[-1].append("")
         if tag not in VOID:
             self.open.append(tag)
 
@@ -56,6 +76,10 @@ class Page(html.parser.HTMLParser):
             self.titles.append(data)
         elif self.open and self.open[-1] != "style":
             self.texts.append(data)
+        if "caption" in self.open:
+            self.tables[-1].caption += data
+        elif "th" in self.open or "td" in self.open:
+            self.tables[-1].rows[-1][-1] += data
 
     def text(self):
         return " ".join(" ".join(self.texts).split())
@@ -76,7 +100,26 @@ def parsed(content):
     style = content.split("<style>")[1].split("</style>")[0]
     assert "url(" not in style and "@import" not in style and "<" not in style
     assert "prefers-color-scheme:dark" in style and "size:A4" in style
+    check_without_eyes(page)
     return page
+
+
+def check_without_eyes(page):
+    """What a screen reader needs: each graph has a name and a table of its numbers, and each cell of
+    a table a row and a column that have names."""
+    for tag, attributes in page.tags:
+        given = dict(attributes)
+        assert tag != "th" or given.get("scope") in ("col", "row"), given
+        assert tag != "svg" or given.get("aria-hidden") == "true" or given.get("role") == "img" and given["aria-label"], given
+    tables = {table.caption: table for table in page.tables}
+    assert all(tables)
+    for figure, titles in page.figures.items():
+        assert (figure in tables) == bool(titles), figure
+        rows = list(tables[figure].values()) if titles else []
+        assert len(rows) == len(titles), figure
+        for (name, values), title in zip(rows, titles):
+            place, told = title.replace(" %", "").split(": ", 1)
+            assert f" {name} " in f" {place} " and told == values.replace(" %", ""), (figure, name, values, title)
 
 
 # The numbers of a page, computed a second time from the report.
@@ -139,11 +182,13 @@ def check_letters(page, report, side):
             places = range(first - 1, (last or [first])[0])
             assert places[-1] < LAST - 1, line
             bases = sum(at(parts, "bases", place) for place in places)
-            found = dict(re.findall(r"([ACGTN]) ([0-9.]+) %", letters))
-            assert list(found) == list("ACGTN"), line
+            found = dict(re.findall(r"([ACGTN]|other) ([0-9.]+) %", letters))
+            counts = {letter: sum(at(parts, letter.lower(), place) for place in places) for letter in "ACGTN"}
+            counts["other"] = bases - sum(counts.values())
+            assert list(found) == list(counts)[: len(found)] and len(found) >= 5, line
+            assert "other" in found or not counts["other"], (line, counts)
             for letter, number in found.items():
-                part = sum(at(parts, letter.lower(), place) for place in places)
-                assert abs(float(number) - 100 * part / bases) <= 0.0501, (line, letter, part, bases)
+                assert abs(float(number) - 100 * counts[letter] / bases) <= 0.0501, (line, letter, counts, bases)
 
 
 def check_lengths(page, report, side):
@@ -162,10 +207,11 @@ def check_histogram(page, report, side, across, name, field):
     told = page.figures[f"{side}: reads by {across}"]
     found = {}
     for line in told:
-        number, *counts = re.fullmatch(name.replace("{}", r"(\d+)") + r": before ([0-9,]+) reads, after ([0-9,]+)", line).groups()
+        number, *counts = re.fullmatch(name.replace("{}", r"(\d+)") + r": before ([0-9,]+), after ([0-9,]+)", line).groups()
         found[int(number)] = [int(count.replace(",", "")) for count in counts]
     occur = {number for part in before + left for number, _ in part[field]}
     assert occur <= set(found), (occur, found)
+    assert field != "gc_percents" or max(found) <= 100, "more than 100 %"
     for number, counts in found.items():
         assert counts == [reads_with(parts, field, number) for parts in (before, left)], (number, counts)
 
@@ -179,6 +225,52 @@ def check_removed(page, report, side):
         for part, place in zip(parts, ("front", "behind")):
             lost = sum(n for bases, n in report["reads"][side][f"removed_{place}"] if bases >= int(number.replace(",", "")))
             near(part, lost, reads)
+
+
+SHARES = {
+    "bases with Q20 or more": ("q20_bases", "bases"),
+    "bases with Q30 or more": ("q30_bases", "bases"),
+    "G and C": ("gc_bases", "bases"),
+    "N": ("n_bases", "bases"),
+}
+MEANS = {"mean length": ("bases", "reads"), "mean score": ("score_sum", "bases")}
+
+
+def check_cell(name, cell, parts):
+    """A cell of the table of a side: the counts of one set of reads, or of two."""
+    total = {field: sum(part[field] for part in parts) for field in ("reads", "bases", "score_sum", *(field for field, _ in SHARES.values()))}
+    if name in ("reads", "bases"):
+        assert cell == f"{total[name]:,}", (name, cell)
+    elif name in SHARES:
+        near(cell, *(total[field] for field in SHARES[name]))
+    elif name in MEANS:
+        part, whole = (total[field] for field in MEANS[name])
+        assert re.fullmatch(r"–|\d{1,3}(,\d{3})*\.\d", cell) and (cell == "–") == (whole == 0), (name, cell)
+        assert not whole or abs(float(cell.replace(",", "")) - part / whole) <= 0.0501, (name, cell)
+    else:
+        assert name == "shortest to longest", name
+        some = [part for part in parts if part["reads"]]
+        ends = (min(part["shortest"] for part in some), max(part["longest"] for part in some)) if some else None
+        assert cell == (f"{ends[0]:,} to {ends[1]:,}" if ends else "–"), (name, cell)
+
+
+def check_tables(page, report):
+    """The tables of the sides, and those of the steps."""
+    for side in SIDES:
+        sides, steps = (table for table in page.tables if table.caption == side.capitalize())
+        assert sides.rows[0] == ["", "before", "after"] and len(sides.rows) == 10, sides.rows
+        for name, *cells in sides.rows[1:]:
+            for cell, parts in zip(cells, ([report["reads"][side]["before"]], after(report, side))):
+                check_cell(name, cell, parts)
+        assert steps.rows[0] == ["step", "shortened", "dropped"]
+        assert len(steps.rows) == 1 + len(report["steps"])
+        for place, (step, row) in enumerate(zip(report["steps"], steps.rows[1:]), 1):
+            assert row[0].split() == [f"{place}.", *step["step"].split()] or not step["step"].isprintable(), row
+            for cell, did in zip(row[1:], ("shortened", "dropped")):
+                count, *share = cell.split(" ", 1)
+                assert count == f"{step[side][did]:,}", (row, step)
+                if step[side][did]:
+                    near(share[0], step[side][did], report["reads"][side]["before"]["reads"])
 
 
 def check_numbers(page, report):
@@ -206,6 +298,7 @@ def check_page(report_path, page_path):
     page = parsed(content)
     assert "http" not in content and "<script" not in content
     check_numbers(page, report)
+    check_tables(page, report)
     reads = report["reads"]["forward"]["before"]
     known = {
         "mean score by position": "positions" in reads,
@@ -220,9 +313,9 @@ def check_page(report_path, page_path):
             check_scores(page, report, side)
             check_letters(page, report, side)
         if "mean_scores" in reads:
-            check_histogram(page, report, side, "mean score", "mean score {}", "mean_scores")
+            check_histogram(page, report, side, "mean score", "reads with mean score {}", "mean_scores")
         if "gc_percents" in reads:
-            check_histogram(page, report, side, "% G and C", "{} % G and C", "gc_percents")
+            check_histogram(page, report, side, "% G and C", "reads with {} % G and C", "gc_percents")
         if "removed_front" in report["reads"][side]:
             check_removed(page, report, side)
     high = any(report["reads"][side]["before"]["score_sum"] > 50 * report["reads"][side]["before"]["bases"] for side in SIDES)

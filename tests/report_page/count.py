@@ -3,8 +3,10 @@
     count.py KIND FILE
 
 writes the report of such a run into FILE, with all fields that the page draws. KIND is `plain`
-(500 pairs of 150 bases), `long` (a pair of 10,250 and 12,000 bases among 50 pairs), `small` (20
-pairs of 40 bases) or `none` (no pair).
+(500 pairs of 150 bases), `long` (a pair of 10,250 and 12,000 bases among 50 pairs), `longest` (12
+pairs of 12,345 and 23,456 bases), `small` (20 pairs of 40 bases), `one` (20 pairs of one base),
+`alike` (20 pairs of 40 times C with the score 35), `other` (20 pairs of 40 bases, of which some are
+R or Y) or `none` (no pair).
 """
 
 import collections
@@ -31,9 +33,9 @@ def drawn(bases, fall):
     return "".join(letters).replace("T", "t", 1), scores
 
 
-def trimmed(read):
-    """What LEADING:3, TRAILING:6 and MINLEN:36 leave: the first place, the place after the last
-    one, and what each step did."""
+def trimmed(read, least):
+    """What LEADING:3, TRAILING:6 and MINLEN:`least` leave: the first place, the place after the
+    last one, and what each step did."""
     letters, scores = read
     first, last, did = 0, len(scores), []
     while first < last and scores[first] < 3:
@@ -43,8 +45,8 @@ def trimmed(read):
     while first < last and scores[last - 1] < 6:
         last -= 1
     did.append((last - first < size, size > 0 and first == last))
-    did.append((False, 0 < last - first < 36))
-    if last - first < 36:
+    did.append((False, 0 < last - first < least))
+    if last - first < least:
         last = first
     return first, last, did
 
@@ -64,7 +66,8 @@ class Reads:
             self.places["bases"][place] += 1
             self.places["score_sum"][place] += score
             self.places["q30_bases"][place] += score >= 30
-            self.places[letter][place] += 1
+            if letter in self.places:
+                self.places[letter][place] += 1
             self.q20 += score >= 20
         if letters:
             gc = sum(letter in "GCgc" for letter in letters)
@@ -127,16 +130,16 @@ class Side:
         return fields
 
 
-def report(pairs):
+def report(pairs, least):
     sides = {side: Side() for side in SIDES}
     kept = collections.Counter()
     for pair in pairs:
-        left = [trimmed(read) for read in pair]
+        left = [trimmed(read, least) for read in pair]
         alive = [first < last for first, last, _ in left]
         kept[tuple(alive)] += 1
         for number, side in enumerate(SIDES):
             sides[side].add(pair[number], left[number], alive[1 - number])
-    steps = ("LEADING:3", "TRAILING:6", "MINLEN:36")
+    steps = ("LEADING:3", "TRAILING:6", f"MINLEN:{least}")
     return {
         "program": "fq_prog",
         "version": "1.1.0",
@@ -172,18 +175,25 @@ def pairs_of(kind):
     random.seed(34)
     if kind == "none":
         return []
-    if kind == "long":
-        lengths = [(100, 90)] * 49 + [(10_250, 12_000)]
-    elif kind == "small":
-        lengths = [(40, 38)] * 20
-    else:
-        lengths = [(150, 150)] * 500
-    return [(drawn(forward, 12), drawn(reverse, 22)) for forward, reverse in lengths]
+    if kind == "one":
+        return [(("ACGTN"[place % 5], [30 + place % 9]), ("C", [38])) for place in range(20)]
+    if kind == "alike":
+        return [((40 * "C", 40 * [35]), (40 * "C", 40 * [35]))] * 20
+    if kind == "other":
+        return [((19 * "A" + "RY" + 19 * "C", 40 * [33]), (20 * "GT", 40 * [36]))] * 20
+    lengths = {
+        "plain": [(150, 150)] * 500,
+        "small": [(40, 38)] * 20,
+        "long": [(100, 90)] * 49 + [(10_250, 12_000)],
+        "longest": [(12_345, 23_456)] * 12,
+    }
+    return [(drawn(forward, 12), drawn(reverse, 22)) for forward, reverse in lengths[kind]]
 
 
 def main(kind, path):
     with open(path, "w", encoding="utf-8") as file:
-        json.dump(report(pairs_of(kind)), file, sort_keys=True, separators=(",", ":"))
+        least = 1 if kind == "one" else 36
+        json.dump(report(pairs_of(kind), least), file, sort_keys=True, separators=(",", ":"))
         file.write("\n")
 
 
