@@ -96,15 +96,36 @@ pack_tarball() {
     -C "$work" -cf - "$release" | gzip -9n > "$folder/$release.tar.gz"
 }
 
-# Debian's control file. Built-Using names the sources of what was linked in. The maintainer's
-# address is that of DEBFULLNAME and DEBEMAIL, as for Debian's own tools, else that of the machine's
-# administrator.
+# The maintainer's address is that of DEBFULLNAME and DEBEMAIL, as for Debian's own tools, else that
+# of the machine's administrator.
+maintainer="${DEBFULLNAME:-Tibzharuk maintainers} <${DEBEMAIL:-root@localhost}>"
+
+# Debian's control file. Built-Using names the sources of what was linked in.
 control() {
   # shellcheck disable=SC2016  # the fields are dpkg-query's
   local using
   using=$(dpkg-query -W -f '${source:Package} (= ${source:Version}), ' libc6-dev "libgcc-$(cc -dumpversion)-dev")
   sed -e "s/@VERSION@/$version/" -e "s/@SIZE@/$(du -k -s --apparent-size "$1/usr" | cut -f 1)/" \
-    -e "s/@USING@/${using%, }/" -e "s/@MAINTAINER@/${DEBFULLNAME:-Tibzharuk maintainers} <${DEBEMAIL:-root@localhost}>/" packaging/control.in
+    -e "s/@USING@/${using%, }/" -e "s/@MAINTAINER@/$maintainer/" packaging/control.in
+}
+
+# Debian's changelog: an entry for each version of CHANGELOG.md, which has the changes.
+changelog() {
+  local number day
+  while read -r number day; do
+    printf 'tibzharuk (%s) unstable; urgency=medium\n\n' "$number"
+    printf '  * See CHANGELOG.md beside this file.\n\n'
+    printf ' -- %s  %s\n\n' "$maintainer" "$(date -R -d "$day")"
+  done < <(sed -n 's/^## \([0-9.]*\) (\([0-9-]*\))$/\1 \2/p' CHANGELOG.md)
+}
+
+# What lintian says that isn't a fault of the package, with the reason.
+overrides() {
+  cat packaging/lintian-overrides
+  if [ -z "${DEBEMAIL-}" ]; then
+    echo '# The owner has given no public address yet (docs/DECISIONS.md).'
+    printf 'tibzharuk binary: %s\n' 'bogus-mail-host Maintainer *' 'root-in-contact Maintainer *' 'bogus-mail-host-in-debian-changelog *'
+  fi
 }
 
 # compress_pages DIRECTORY: the manual pages there, and the links to them
@@ -129,11 +150,14 @@ pack_package() {
   mv "$root/usr/share/zsh/site-functions" "$root/usr/share/zsh/vendor-completions"
   put_documents "$documents"
   put 644 packaging/copyright "$documents/copyright"
+  changelog | gzip -9n > "$documents/changelog.gz"
+  mkdir -p "$root/usr/share/lintian/overrides"
+  overrides > "$root/usr/share/lintian/overrides/tibzharuk"
   put_workflow "$root/usr/share/tibzharuk"
   # The documents and the workflow lead to each other.
   ln -s ../../tibzharuk/workflow "$documents/workflow"
   ln -s ../doc/tibzharuk/docs "$root/usr/share/tibzharuk/docs"
-  put_objects "$root/usr/share/tibzharuk/relink"
+  put_objects "$root/usr/lib/tibzharuk/relink"
   mkdir "$root/DEBIAN"
   control "$root" > "$root/DEBIAN/control"
   (cd "$root" && find usr -type f -printf '%p\n' | sort | xargs -d '\n' md5sum > DEBIAN/md5sums)

@@ -1,7 +1,7 @@
 #!/usr/bin/env bash
 # The files of a release. The tarball and the Debian package of `make dist` run without anything
-# else installed, and contain what they say. `make uninstall` removes what `make install` has
-# installed. Each has every command under both of its names, with its manual page and its
+# else installed, and contain what they say. lintian finds no error in the package and has no
+# warning. `make uninstall` removes what `make install` has installed. Each has every command under both of its names, with its manual page and its
 # completion. A part that lacks a Debian package prints 'skipped' and the package's name. If nothing
 # can be packed, the status is 77.
 set -uo pipefail
@@ -147,15 +147,34 @@ check_package() {
   run_example 'the program of the package' env -i "$root/usr/bin/fq_prog"
   check_links "$root"
   for file in $(installed_files | sed 's|\(share/man/.*\)|\1.gz|; s|zsh/site-functions|zsh/vendor-completions|') \
-    share/doc/tibzharuk/{copyright,README.md,SECURITY.md,CITATION.cff,CHANGELOG.md,NOTICES.md,licences/LGPL-2.1} \
-    share/tibzharuk/{contrib/trim_gz,workflow/cwl/trim_gz.cwl,profiles/slurm-v8/config.yaml}; do
+    share/doc/tibzharuk/{copyright,README.md,SECURITY.md,CITATION.cff,CHANGELOG.md,changelog.gz,NOTICES.md,licences/LGPL-2.1} \
+    share/tibzharuk/{contrib/trim_gz,workflow/cwl/trim_gz.cwl,profiles/slurm-v8/config.yaml} lib/tibzharuk/relink/fq_prog.o; do
     [ -s "$root/usr/$file" ] || fail "the package lacks $file"
   done
+  [[ $(dpkg-deb -f "$package" Recommends) == *tabix* && $(dpkg-deb -f "$package" Suggests) == *cutadapt* ]] || fail 'the package does not name tabix and cutadapt'
   check_commands "$root/usr"
   bash tests/completion.sh "$root/usr/share" > "$work/log" 2>&1 || fail "the completion of the package: $(cat "$work/log")"
   (cd "$root" && md5sum --quiet -c var/lib/dpkg/info/tibzharuk.md5sums) || fail 'the sums of the package are not those of its files'
   dpkg --root="$root" --log=/dev/null --purge tibzharuk > "$work/log" 2>&1 || fail "dpkg does not remove the package: $(cat "$work/log")"
   if find "$root" -path "$root/var/lib/dpkg" -prune -o ! -type d -print | grep .; then fail 'the removed package leaves files'; fi
+}
+
+# lintian has no error and no warning, also if a maintainer is named.
+check_lintian() {
+  local each
+  if ! command -v lintian > /dev/null; then
+    echo 'dist: what lintian says: skipped: needs lintian'
+    return
+  fi
+  mkdir "$work/named"
+  cp -r dist/fq_prog dist/objects "$work/named"
+  DEBFULLNAME='A Maintainer' DEBEMAIL=maintainer@debian.org bash packaging/pack.sh "$version" "$work/named" > /dev/null || fail 'nothing is packed for a maintainer'
+  for each in "$package" "$work/named/${package##*/}"; do
+    # (Its messages are left out: it can't read readelf's lines of functions whose names have blanks.)
+    lintian --fail-on error,warning "$each" > "$work/log" 2> /dev/null || fail "lintian finds faults in $each: $(cat "$work/log")"
+  done
+  ! dpkg-deb --fsys-tarfile "$work/named/${package##*/}" | tar -xO ./usr/share/lintian/overrides/tibzharuk | grep -q root-in-contact ||
+    fail 'the maintainer is excused in another package too'
 }
 
 # Packing again, in another directory and with other settings of the shell, makes the same bytes.
@@ -215,6 +234,7 @@ check_version
 check_alone
 check_same_bytes
 check_package
+check_lintian
 check_again
 check_processors
 check_scripts
