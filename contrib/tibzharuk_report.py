@@ -8,7 +8,7 @@ alone.
 
 import itertools
 import json
-from typing import Any, Callable, Dict, List, Mapping, Optional
+from typing import Any, Callable, Dict, Iterable, List, Mapping, Optional
 
 Report = Dict[str, Any]
 Reads = Dict[str, Any]  # what a report counts of one set of reads
@@ -170,6 +170,20 @@ REPORT = fields(
 )
 
 
+def add_up(parts: Iterable[int], whole: int, place: str) -> None:
+    """A sum that is larger than a count can be is written as the largest count."""
+    need(min(sum(parts), MOST_COUNT) == whole, place, "don't add up")
+
+
+def reads_add_up(reads: Reads, place: str) -> None:
+    add_up((row[1] for row in reads["lengths"]), reads["reads"], f"{place}.lengths")
+    if "positions" in reads:
+        add_up(reads["positions"]["bases"], reads["bases"], f"{place}.positions")
+    for name in ("mean_scores", "gc_percents"):
+        some = sum(row[1] for row in reads.get(name, []))
+        need(some <= reads["reads"], f"{place}.{name}", "have more reads than there are")
+
+
 def check(report: Any) -> None:
     """Raises Refused, with the place and what is wrong there, unless this is a report."""
     schema: Any = report.get("schema") if isinstance(report, dict) else None
@@ -179,6 +193,10 @@ def check(report: Any) -> None:
             f"{NEWEST_SCHEMA} and older)"
         )
     REPORT(report, "")
+    add_up((report["pairs"][name] for name in PAIRS), report["pairs"]["input"], "pairs")
+    for side in SIDES:
+        for part in ("before", "paired", "unpaired"):
+            reads_add_up(report["reads"][side][part], f"reads.{side}.{part}")
 
 
 def read_report(path: str) -> Report:

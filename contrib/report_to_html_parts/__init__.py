@@ -4,6 +4,7 @@
     graph       a graph of lines, drawn as SVG
     drawings    the sections with graphs
     sections    the other sections
+    lanes       the table of lanes
     page        the whole page
     style.css   how it looks
 

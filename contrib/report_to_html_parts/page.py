@@ -5,6 +5,7 @@ import os
 from tibzharuk_report import SIDES, Report, both
 
 from .drawings import drawings
+from .lanes import Lanes, lane_table
 from .sections import cards, pair_bar, run, side_table, step_table, warnings
 from .texts import shown
 
@@ -16,8 +17,9 @@ def style() -> str:
         return file.read()
 
 
-def page(report: Report, sample: str, cutadapt: str = "") -> str:
-    """The page of a checked report, with its title, and what was said of cutadapt."""
+def page(report: Report, sample: str, cutadapt: str = "", lanes: Lanes = ()) -> str:
+    """The page of a checked report, with its title, what was said of cutadapt, and the lanes whose
+    sum the report is."""
     before = {side: report["reads"][side]["before"] for side in SIDES}
     after = {
         side: both(report["reads"][side]["paired"], report["reads"][side]["unpaired"])
@@ -32,6 +34,7 @@ def page(report: Report, sample: str, cutadapt: str = "") -> str:
         warnings(report, before),
         cards(report["pairs"], before, after),
         pair_bar(report["pairs"]),
+        lane_table(lanes),
         side_table(before, after, cutadapt),
         step_table(report["steps"], before),
         *drawings(report, before, after),
