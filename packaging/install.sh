@@ -1,7 +1,7 @@
 #!/usr/bin/env bash
-# Puts the program, the scripts that have a command, their manual pages and their completion below a
-# directory such as /usr/local, or removes them. `make install`, the tarball and the Debian package
-# have all of them by this list.
+# Puts the program, the scripts that have a command, their manual pages, their completion and the
+# plugin of MultiQC below a directory such as /usr/local, or removes them. `make install`, the
+# tarball and the Debian package have all of them by this list.
 set -euo pipefail
 umask 022
 export LC_ALL=C
@@ -11,7 +11,8 @@ usage() {
        packaging/install.sh --remove DIRECTORY
 Installs PROGRAM as fq_prog and tibzharuk below DIRECTORY, with trim_gz (tibzharuk-gz) and
 report_to_html (tibzharuk-report). The scripts go to DIRECTORY/SCRIPTS (default:
-share/tibzharuk/contrib). --remove removes all of these files."
+share/tibzharuk/contrib). MultiQC finds its plugin by DIRECTORY/lib/python3/dist-packages, which is
+on Python's path on Debian if DIRECTORY is /usr. --remove removes all of these files."
 }
 
 case ${1-} in
@@ -64,6 +65,10 @@ entries() {
   echo 'program - bin/fq_prog'
   command_files fq_prog tibzharuk
   for file in $(files_of contrib); do echo "file $file $scripts/${file#contrib/}"; done
+  # MultiQC finds its plugin by these two.
+  for file in tibzharuk_multiqc tibzharuk_multiqc.egg-info; do
+    echo "link ../../../$scripts/$file lib/python3/dist-packages/$file"
+  done
   for script in trim_gz:tibzharuk-gz report_to_html:tibzharuk-report; do
     file=${script%:*}
     [ -e "contrib/$file" ] || continue

@@ -160,6 +160,7 @@ pack_package() {
   put_objects "$root/usr/lib/tibzharuk/relink"
   mkdir "$root/DEBIAN"
   control "$root" > "$root/DEBIAN/control"
+  put 755 packaging/prerm.sh "$root/DEBIAN/prerm"
   (cd "$root" && find usr -type f -printf '%p\n' | sort | xargs -d '\n' md5sum > DEBIAN/md5sums)
   find "$root" -exec touch -h -d "@$SOURCE_DATE_EPOCH" {} +
   dpkg-deb --root-owner-group -Zxz --build "$root" "$folder/$package.deb" > /dev/null

@@ -42,9 +42,10 @@ check_links() {
 }
 
 # installed_files: what is installed for each command, below the directory of the installation; for
-# the scripts, those in share/tibzharuk too
+# the scripts, those in share/tibzharuk too; and the plugin of MultiQC
 installed_files() {
   local command name second file
+  printf 'lib/python3/dist-packages/%s\n' tibzharuk_multiqc tibzharuk_multiqc.egg-info
   for command in "${commands[@]}"; do
     name=${command%:*} second=${command#*:}
     printf '%s\n' "bin/$name" "bin/$second" "share/man/man1/$name.1" "share/man/man1/$second.1"
@@ -96,6 +97,7 @@ check_version() {
   [ "$(sed -n 's/^## \([0-9.]*\) .*/\1/p' CHANGELOG.md | head -n 1)" = "$version" ] || fail "CHANGELOG.md begins with another version than $version"
   [ "$(dpkg-deb -f "$package" Version)" = "$version" ] || fail "the package has another version than $version"
   grep -qF "\"Tibzharuk $version\"" man/fq_prog.1 || fail "the manual page has another version than $version"
+  grep -qx "Version: $version" contrib/tibzharuk_multiqc.egg-info/PKG-INFO || fail "the plugin of MultiQC has another version than $version"
   grep -qx "version: $version" CITATION.cff || fail "CITATION.cff has another version than $version"
   grep -qx "## $version ($(sed -n 's/^date-released: //p' CITATION.cff))" CHANGELOG.md || fail 'CITATION.cff has another day than CHANGELOG.md'
   [ "$(dpkg-deb -f "$package" Maintainer)" = "${DEBFULLNAME:-Tibzharuk maintainers} <${DEBEMAIL:-root@localhost}>" ] || fail 'the package names another maintainer'
@@ -143,7 +145,7 @@ check_package() {
     return
   fi
   touch "$root/var/lib/dpkg/status" "$root/var/lib/dpkg/available"
-  dpkg --root="$root" --log=/dev/null --install "$package" > "$work/log" 2>&1 || fail "dpkg does not install the package: $(cat "$work/log")"
+  dpkg --root="$root" --force-script-chrootless --log=/dev/null --install "$package" > "$work/log" 2>&1 || fail "dpkg does not install the package: $(cat "$work/log")"
   run_example 'the program of the package' env -i "$root/usr/bin/fq_prog"
   check_links "$root"
   for file in $(installed_files | sed 's|\(share/man/.*\)|\1.gz|; s|zsh/site-functions|zsh/vendor-completions|') \
@@ -155,7 +157,10 @@ check_package() {
   check_commands "$root/usr"
   bash tests/completion.sh "$root/usr/share" > "$work/log" 2>&1 || fail "the completion of the package: $(cat "$work/log")"
   (cd "$root" && md5sum --quiet -c var/lib/dpkg/info/tibzharuk.md5sums) || fail 'the sums of the package are not those of its files'
-  dpkg --root="$root" --log=/dev/null --purge tibzharuk > "$work/log" 2>&1 || fail "dpkg does not remove the package: $(cat "$work/log")"
+  # (what Python keeps beside a module that it has loaded)
+  mkdir "$root/usr/share/tibzharuk/contrib/tibzharuk_multiqc/__pycache__"
+  touch "$root/usr/share/tibzharuk/contrib/tibzharuk_multiqc/__pycache__/counts.pyc"
+  dpkg --root="$root" --force-script-chrootless --log=/dev/null --purge tibzharuk > "$work/log" 2>&1 || fail "dpkg does not remove the package: $(cat "$work/log")"
   if find "$root" -path "$root/var/lib/dpkg" -prune -o ! -type d -print | grep .; then fail 'the removed package leaves files'; fi
 }
 
