@@ -4,8 +4,7 @@
 # and those of a slow count: with no read, with one base, with 150 bases and with more than 10,000,
 # with reads that are all alike, and with other letters than A, C, G, T and N. No text of a report
 # becomes markup. Faults, and scores that are too high, are at the top. A file that is not a report
-# is refused in one line. contrib/report_to_mqc draws mean scores by position and reads by mean
-# score for the same reports.
+# is refused in one line.
 #
 # Chromium shows each page in windows of 1280 and of 400 pixels, light and dark: nothing is cut,
 # wider than the window, too small or too pale, nothing is printed on the console, and nothing is
@@ -183,15 +182,4 @@ if command -v chromium > /dev/null; then
 else
   echo 'report_page: the pages in a browser: skipped: needs chromium'
 fi
-
-row='report_to_mqc'
-"$tree/contrib/report_to_mqc" --out page_parts plain.json long.json none.json small.json two.json older.json || fail "status $?"
-for name in plain two; do
-  check mqc "$name.json" "page_parts/$name" || fail "$name: mean scores by position, or reads by mean score, differ"
-done
-check mqc none.json page_parts/none || fail 'a report without reads differs'
-[ -e page_parts/two_lengths_after_mqc.json ] || fail 'there is no graph of lengths'
-[ -e page_parts/two_means_after_mqc.json ] || fail 'there is no graph of mean scores'
-if [ -e page_parts/older_scores_before_mqc.json ] || [ -e page_parts/older_means_after_mqc.json ]; then fail 'it draws what a report lacks'; fi
-for file in "$PWD"/page_parts/long_scores_*; do [ "$(wc -c < "$file")" -lt 40000 ] || fail "$file is too large"; done
 finish ok

@@ -1,7 +1,9 @@
 #!/usr/bin/env bash
 # Runs the workflow for many samples with the real Snakemake and MultiQC, on this machine and on a
 # Slurm that it starts for itself: four samples, one of two lanes and one damaged. Compares each
-# output with direct calls of the program, and reads the page's data.
+# output with direct calls of the program, and reads the page's data, and its table in a browser. The
+# lanes are trimmed in one job and in a job each, of which one fails. The workflow is also imported
+# by another one, and reads tables that samples_of and nf-core make.
 #
 # FQ_PROG is the program, crates/fq_prog/out/fq_prog if not set. Status 77, and 'skipped', if a
 # package is missing.
@@ -20,29 +22,13 @@ export TIBZHARUK_TEST=$work
 export XDG_CACHE_HOME=$work/cache MPLCONFIGDIR=$work/cache PYTHONDONTWRITEBYTECODE=1 LC_ALL=C.UTF-8
 unset SNAKEMAKE_PROFILE SLURM_CONF SBATCH_PARTITION SBATCH_ACCOUNT
 steps=(LEADING:3 TRAILING:3 SLIDINGWINDOW:4:15 MINLEN:36)
-slurm_pids=()
+. tests/workflow/slurm.bash
 
 # left: the ids of the processes that this test started and that still run, except those that look
 # for them
 left() {
   # shellcheck disable=SC2016
   env -u TIBZHARUK_TEST bash -c 'grep -lzxF "TIBZHARUK_TEST=$1" /proc/[0-9]*/environ | cut -d/ -f3' left "$work" 2> /dev/null
-}
-
-# stop_slurm: cancels its jobs, waits until they are gone, and stops its daemons by their ids
-stop_slurm() {
-  local id
-  [ "${#slurm_pids[@]}" -gt 0 ] || return 0
-  timeout 10 scancel --user="$(id -un)" 2> /dev/null
-  for _ in $(seq 20); do
-    [ -n "$(timeout 10 squeue --noheader 2> /dev/null)" ] || break
-    sleep 0.5
-  done
-  for id in "${slurm_pids[@]}"; do
-    kill "$id" 2> /dev/null
-    wait "$id" 2> /dev/null
-  done
-  slurm_pids=()
 }
 
 # shellcheck disable=SC2317
@@ -91,17 +77,17 @@ with open(whole + ".whole", "rb") as file, open(whole, "wb") as half:
 END
 }
 
-# trim_directly SAMPLE LANES..: what the program makes of the plain texts, in the directory
+# trim_directly NAME LANES..: what the program makes of the plain texts of lanes, in the directory
 # $work/direct
 trim_directly() {
-  local sample=$1 to=$work/direct/$1 side lane
+  local to=$work/direct/$1 side lane
   shift
   mkdir -p "$work/direct"
   for side in 1 2; do
-    for lane in "$@"; do gzip -dc "$work/reads/${sample}_${lane}_R$side.fq.gz"; done > "$to.in$side"
+    for lane in "$@"; do gzip -dc "$work/reads/${lane}_R$side.fq.gz"; done > "$to.in$side"
   done
   "$program" PE --trimlog "$to.log" --report "$to.json" "$to.in1" "$to.in2" "$to.r1.paired" "$to.r1.unpaired" "$to.r2.paired" "$to.r2.unpaired" \
-    "${steps[@]}" > "$to.summary" || fail "the program on $sample"
+    "${steps[@]}" > "$to.summary" || fail "the program on $to"
 }
 
 # new_lab NAME: a directory with the workflow as a user has it, its table and its settings; the
@@ -136,11 +122,16 @@ call() {
   fi
 }
 
-# ran NUMBER: that many samples were trimmed
+# ran NUMBER [LANES [JOINED]]: that many samples were trimmed in one job, that many lanes in a job
+# each, and the lanes of that many samples joined
 ran() {
-  local got
-  got=$(grep -c '^rule trim:' said)
-  [ "$got" -eq "$1" ] || fail "$got samples were trimmed, not $1"
+  local rule wanted got
+  for rule in trim trim_lane join_lanes; do
+    wanted=${1:-0}
+    [ $# -eq 0 ] || shift
+    got=$(grep -cE "^rule (tibzharuk_)?$rule:" said)
+    [ "$got" -eq "$wanted" ] || fail "$rule ran $got times, not $wanted"
+  done
 }
 
 # same_as_direct SAMPLES..: all their files hold what direct calls made
@@ -169,7 +160,8 @@ same_logs() {
 # page_tells SAMPLES..: the page's data are those of the direct calls, for these samples and no
 # others
 page_tells() {
-  local data=results/report_data sample text
+  local data=results/report_data sample text reports=("${@/#/$work/direct/}")
+  reports=("${reports[@]/%/.json}")
   for sample in "$@"; do
     sed 's/.*: //' "$work/direct/$sample.summary" | paste -sd' ' | awk -v s="$sample" '{ print s, $2, $3, $4, $5 }'
   done | cmp - <(sed 1d $data/multiqc_tibzharuk_pairs_plot.txt | awk '{ print $1, $2 + 0, $3 + 0, $4 + 0, $5 + 0 }') ||
@@ -178,7 +170,15 @@ page_tells() {
   for text in "$("$program" --version)" "${steps[*]}"; do
     grep -qF "$text" results/report.html || fail "the page lacks $text"
   done
+  if command -v chromium > /dev/null; then
+    timeout 100 chromium --headless --no-sandbox --disable-gpu --user-data-dir="$work/profile" --dump-dom "file://$PWD/results/report.html" > "$work/dom" 2> "$work/browser" ||
+      fail "the browser: $(tail -n 3 "$work/browser")"
+    python3 "$tree/tests/multiqc/check.py" page "$work/dom" "${reports[@]}" || fail 'the table in the browser differs'
+  fi
 }
+
+# above_table: what the page shows above its tables
+above_table() { sed '/<table/,$d' results/report.html; }
 
 # sample_pages SAMPLES..: each has a page of its own, which is linked; samples of which less than
 # half of the pairs are kept are marked
@@ -221,7 +221,7 @@ a_whole_life() {
   sample_pages s1 s2 s3
   removed_bases s1 s2 s3
   [ "$(grep '^failed:' said)" = "$(shown_failure)" ] || fail "workflow/README.md shows '$(shown_failure)', but '$(grep '^failed:' said)' was said"
-  grep -q '<strong>s4</strong>: <samp>[^<]*reads/s4_L001_R2.fq.gz' results/report.html || fail 'the page does not name s4 and its file'
+  above_table | grep -q '<strong>s4</strong>: <samp>[^<]*reads/s4_L001_R2.fq.gz' || fail 'the page does not name s4 and its file above its tables'
   [ -z "$(find results -name 's4*')" ] || fail "of s4 there is $(find results -name 's4*' | paste -sd' ')"
   made > before
   row="$1: a second call"
@@ -239,6 +239,98 @@ a_whole_life() {
   removed_bases s1 s2 s3 s4
   ! grep -q 'Failed' results/report.html || fail 'the page still names a failed sample'
   made | grep -v /s4 | cmp - before || fail 'a sample that was trimmed was touched again'
+}
+
+# lanes_apart: the lanes of s1 were trimmed by themselves. Their reports stay, and the page of s1
+# shows them; their reads are gone
+lanes_apart() {
+  local lane
+  for lane in s1_L001 s1_L002; do
+    cmp <(counted "results/lanes/s1/$lane.json") <(counted "$work/direct/$lane.json") || fail "$lane: the report differs"
+  done
+  python3 "$tree/tests/workflow/page_tells.py" "$work/direct" results/reports/s1.html --lanes s1_L001 s1_L002 || fail 'the table of lanes differs'
+  [ -z "$(find results/lanes -name '*.gz')" ] || fail "of the lanes there is $(find results/lanes -name '*.gz' | paste -sd' ')"
+  [ "$(find results/lanes -type d | paste -sd' ')" = 'results/lanes results/lanes/s1' ] || fail 'a sample of one lane was trimmed by lanes'
+}
+
+# by_lane PROFILE: a job for each lane, of which one fails; then only that lane is trimmed again
+by_lane() {
+  sed -i 's/^scatter:.*/scatter: lanes/' config/config.yaml
+  cp reads/s4_L001_R2.fq.gz.whole reads/s4_L001_R2.fq.gz
+  head -c 3000 "$work/reads/s1_L002_R2.fq.gz" > reads/s1_L002_R2.fq.gz
+  row="$1: a damaged lane"
+  call 1 --profile "profiles/$1"
+  ran 3 2 0
+  same_as_direct s2 s3 s4
+  page_tells s2 s3 s4
+  grep -qx 'failed: s1: lane L002: trim_gz: cannot read reads/s1_L002_R2.fq.gz: unexpected end of file' said || fail "the lane is not named: $(grep '^failed' said)"
+  above_table | grep -q '<strong>s1</strong>: <samp>lane L002: [^<]*reads/s1_L002_R2.fq.gz' || fail 'the page does not name s1 and its lane above its tables'
+  [ -z "$(find results -name 's1*' ! -path 'results/lanes/*')" ] || fail 'there are outputs of s1'
+  made > before
+  row="$1: only that lane again"
+  cp "$work/reads/s1_L002_R2.fq.gz" reads/
+  call 0 --profile "profiles/$1"
+  ran 0 1 1
+  same_as_direct s1 s2 s3 s4
+  same_logs s1 s2 s3 s4
+  page_tells s1 s2 s3 s4
+  sample_pages s1 s2 s3 s4
+  removed_bases s1 s2 s3 s4
+  lanes_apart
+  made | grep -v /s1 | cmp - before || fail 'a sample that was trimmed was touched again'
+  if above_table | grep -qi failed; then fail 'the page still names a failed sample'; fi
+}
+
+# as_module: another workflow imports this one, and uses its reads. Both make what they should, with
+# the page of all samples
+as_module() {
+  cp reads/s4_L001_R2.fq.gz.whole reads/s4_L001_R2.fq.gz
+  { echo 'trimming:' && sed 's/^/  /; s/scatter: none/scatter: lanes/' config/config.yaml; } > lab.yaml
+  rm config/config.yaml
+  mkdir importer
+  mv workflow contrib profiles importer
+  cat > Snakefile << 'SNAKEFILE'
+configfile: "lab.yaml"
+
+
+module trimming:
+    snakefile: "importer/workflow/Snakefile"
+    config: config["trimming"]
+
+
+use rule * from trimming as tibzharuk_*
+
+
+rule counted:
+    default_target: True
+    input:
+        rules.tibzharuk_all.input,
+    output:
+        "counted",
+    shell:
+        "gzip -dc results/trimmed/*.r1.paired.fastq.gz | wc -l > {output}"
+SNAKEFILE
+  call 0 --profile importer/profiles/local
+  ran 3 2 1
+  same_as_direct s1 s2 s3 s4
+  same_logs s1 s2 s3 s4
+  page_tells s1 s2 s3 s4
+  sample_pages s1 s2 s3 s4
+  lanes_apart
+  [ "$(cat counted)" -eq "$(cat "$work"/direct/s?.r1.paired | wc -l)" ] || fail 'the importing workflow counts other reads'
+  row='a module whose sample fails'
+  head -c 3000 "$work/reads/s1_L002_R2.fq.gz" > reads/s2_L001_R2.fq.gz
+  call 1 --profile importer/profiles/local
+  above_table | grep -q '<strong>s2</strong>: <samp>[^<]*reads/s2_L001_R2.fq.gz' || fail 'the page does not name s2'
+}
+
+# lint: the linter of Snakemake has no finding but the one that the Snakefile answers
+lint() {
+  local answered
+  answered=$(sed -n "s/^# .*'\(Specify a conda.*\)$/\1/p" workflow/Snakefile)
+  snakemake --lint > linted 2>&1
+  grep '^    \* ' linted | grep -vF "${answered:-none}" && fail 'Snakemake finds something else'
+  [ -n "$answered" ] || fail 'the Snakefile answers nothing'
 }
 
 # no_cutadapt: the page has nothing of cutadapt
@@ -331,6 +423,90 @@ bad_tables() {
   refused "settings: trim_logs: 'perhaps' is not of type 'boolean'"
 }
 
+# nf_core ROWS: the table is one of nf-core, with these rows
+nf_core() {
+  # shellcheck disable=SC2059
+  printf "sample,fastq_1,fastq_2,strandedness\n$1" > config/samples.tsv
+}
+
+bad_nf_core() {
+  local one='reads/s1_L001_R1.fq.gz' two='reads/s1_L001_R2.fq.gz'
+  row='a table of nf-core with single reads'
+  nf_core "s1,$one,,auto\n"
+  refused "config/samples.tsv, line 2: column fastq_2: there is no file of reverse reads, and single reads aren't trimmed"
+  row='a table of nf-core that lacks a cell'
+  nf_core "s1,$one,$two\n"
+  refused 'config/samples.tsv, line 2: 3 columns, not 4 with commas between them'
+  row='a table of nf-core with a file twice'
+  nf_core "s1,$one,$two,auto\ns1,reads/s2_L001_R1.fq.gz,\"$two\",auto\n"
+  refused "config/samples.tsv, line 3: column r2: $two is already in config/samples.tsv, line 2, column r2"
+}
+
+# touched NAMES..: a directory names/ with these empty files
+touched() {
+  rm -rf names
+  mkdir -p names/run2
+  (cd names && touch -- "$@")
+}
+
+# listed ROWS: samples_of makes a table with these rows of names/, as printf prints them
+listed() {
+  # shellcheck disable=SC2059
+  printf "sample\tlane\tr1\tr2\n$1" > wanted
+  contrib/samples_of names > got 2> told || fail "status $?: $(cat told)"
+  diff wanted got || fail 'the table is another'
+}
+
+# unlisted LINE..: samples_of refuses names/ with these lines
+unlisted() {
+  contrib/samples_of names > got 2> told
+  [ $? -eq 1 ] || fail 'the status is not 1'
+  [ ! -s got ] || fail 'a table is printed'
+  printf 'samples_of: %s\n' "$@" | diff - told || fail 'other lines'
+}
+
+names_of_files() {
+  row='names of Illumina'
+  touched a_S1_L00{1,2}_R{1,2}_001.fastq.gz a_S1_L001_I1_001.fastq.gz run2/b_c_S12_L001_R{1,2}_001.fastq.gz list.csv
+  listed 'a\tL001\tnames/a_S1_L001_R1_001.fastq.gz\tnames/a_S1_L001_R2_001.fastq.gz
+a\tL002\tnames/a_S1_L002_R1_001.fastq.gz\tnames/a_S1_L002_R2_001.fastq.gz
+b_c\tL001\tnames/run2/b_c_S12_L001_R1_001.fastq.gz\tnames/run2/b_c_S12_L001_R2_001.fastq.gz\n'
+  row='names without numbers of samples, without lanes, of parts'
+  touched a_L001_R{1,2}_00{1,2}.fastq.gz b_S1_R{1,2}_001.fq.gz c_R{1,2}.fastq
+  listed 'a\tL001\tnames/a_L001_R1_001.fastq.gz\tnames/a_L001_R2_001.fastq.gz
+a\tL001_002\tnames/a_L001_R1_002.fastq.gz\tnames/a_L001_R2_002.fastq.gz
+b\t1\tnames/b_S1_R1_001.fq.gz\tnames/b_S1_R2_001.fq.gz
+c\t1\tnames/c_R1.fastq\tnames/c_R2.fastq\n'
+  row='names of the SRA'
+  touched SRR1_{1,2}.fastq.gz x_S1_{1,2}.fq x_S2_{1,2}.fq
+  listed 'SRR1\t1\tnames/SRR1_1.fastq.gz\tnames/SRR1_2.fastq.gz
+x_S1\t1\tnames/x_S1_1.fq\tnames/x_S1_2.fq
+x_S2\t1\tnames/x_S2_1.fq\tnames/x_S2_2.fq\n'
+  row='files that do not pair up'
+  touched a_R{1,2}.fastq.gz run2/a_R1.fastq b_L001_R2.fq c.fastq.gz '{d}_1.fq' "it's_1.fq"
+  unlisted "names/c.fastq.gz: not named as one of a pair (samples_of --help)" \
+    "names/it's_1.fq: not named as one of a pair (samples_of --help)" \
+    "names/{d}_1.fq: it has a character that the workflow doesn't take" \
+    'names/run2/a_R1.fastq: sample a, lane 1 is already in names/a_R1.fastq.gz' \
+    'names/b_L001_R2.fq: there is no file of its forward mates'
+  row='no files'
+  touched notes.txt
+  unlisted 'names: there are no FASTQ files'
+}
+
+# same_from_tables: samples_of makes the table of this lab's reads, and the samples of an nf-core
+# table are trimmed as those of ours
+same_from_tables() {
+  mv "reads/it's s3.fq.gz" reads/s3_L001_R1.fq.gz
+  sed -i "s|it's s3|s3_L001_R1|" config/samples.tsv
+  contrib/samples_of reads | diff - config/samples.tsv || fail 'samples_of makes another table'
+  {
+    echo 'sample,fastq_1,fastq_2,strandedness'
+    sed '1d; s/\t/,/g; s/,L00.,/,/; s/$/,auto/' config/samples.tsv
+  } > config/samples.csv
+  sed -i 's/samples.tsv$/samples.csv/' config/config.yaml
+}
+
 # An option that the program doesn't know fails each sample, and is reported.
 bad_option() {
   row='an option that the program does not know'
@@ -338,160 +514,24 @@ bad_option() {
   grep -q '^failed: s1: trim_gz: --frob is not an option' said || fail "it is not named, but: $(grep '^failed:' said)"
 }
 
-# refuses SCRIPT FILE: the script ends with status 1 and one line, and writes nothing
-refuses() {
-  "$tree/contrib/$1" --sample x --out "$work/none" "$2" 2> "$work/err"
-  [ $? -eq 1 ] || fail "$1 takes $2"
-  [ "$(wc -l < "$work/err")" -eq 1 ] || fail "$1 says more or less than one line of $2"
-  [ ! -e "$work/none" ] || fail "$1 wrote something of $2"
-}
-
-bad_files() {
-  local log=$work/direct/s2.log summary=$work/direct/s2.summary report=$work/direct/s2.json file
-  row='files that are not a summary, log or report'
-  sed '$d' "$summary" > "$work/short"
-  sed 's/^Dropped: /&1/' "$summary" > "$work/sum"
-  { cat "$summary" && echo more; } > "$work/long"
-  for file in "$log" "$work/short" "$work/sum" "$work/long" "$program" /dev/zero /dev/null "$work" "$work/not there"; do
-    refuses summary_to_mqc "$file"
-  done
-  sed '$d' "$log" > "$work/odd"
-  head -c -3 "$log" > "$work/torn"
-  sed '7s/\([0-9]*\)$/x\1/' "$log" > "$work/letter"
-  gzip -c "$log" | head -c -30 > "$work/cut.gz"
-  for file in "$summary" "$work/odd" "$work/torn" "$work/letter" "$work/cut.gz" "$program" /dev/zero "$work" "$work/not there"; do
-    refuses log_to_mqc "$file"
-  done
-  head -c -3 "$report" > "$work/torn.json"
-  sed 's/"q30_bases":[0-9]*,//' "$report" > "$work/less.json"
-  sed 's/"input":/&-/' "$report" > "$work/below.json"
-  sed 's/"input":/&1/' "$report" > "$work/sum.json"
-  sed 's/"bases":\([0-9]*\)/"bases":"\1"/' "$report" > "$work/text.json"
-  sed 's/"lengths":\[\[/"lengths":[[1,1],[/' "$report" > "$work/lengths.json"
-  sed 's/"outcome":"finished"/"outcome":"fault"/; s/"fault":null/"fault":"input: record 1: NamesDiffer"/' "$report" > "$work/fault.json"
-  sed 's/^/[/; s/$/]/' "$report" > "$work/list.json"
-  for file in "$log" "$summary" "$work"/{torn,less,below,sum,text,lengths,fault,list}.json "$program" /dev/zero /dev/null "$work" "$work/not there"; do
-    refuses report_to_mqc "$file"
-  done
-}
-
-# free_ports: two ports of 127.0.0.1 that nobody uses
-free_ports() {
-  python3 -c '
-import socket
-taken = [socket.socket() for _ in range(2)]
-for each in taken:
-    each.bind(("127.0.0.1", 0))
-print(*(each.getsockname()[1] for each in taken))'
-}
-
-# slurm_settings DIRECTORY HOST PORT PORT: settings of a cluster of one node, of this user, without
-# accounting
-slurm_settings() {
-  cat << END
-ClusterName=test
-SlurmctldHost=$2(127.0.0.1)
-SlurmctldPort=$3
-SlurmdPort=$4
-CommunicationParameters=NoInAddrAny,NoCtldInAddrAny
-SlurmUser=$(id -un)
-SlurmdUser=$(id -un)
-AuthType=auth/munge
-AuthInfo=socket=$1/munge/socket
-CredType=cred/munge
-StateSaveLocation=$1/state
-SlurmdSpoolDir=$1/spool
-SlurmctldPidFile=$1/slurmctld.pid
-SlurmdPidFile=$1/slurmd.pid
-ProctrackType=proctrack/linuxproc
-TaskPlugin=task/none
-JobAcctGatherType=jobacct_gather/none
-AccountingStorageType=accounting_storage/none
-SelectType=select/cons_tres
-SelectTypeParameters=CR_CPU_Memory
-SlurmdParameters=config_overrides
-MpiDefault=none
-MailProg=/bin/true
-ReturnToService=2
-NodeName=$2 NodeAddr=127.0.0.1 CPUs=4 RealMemory=2000 State=UNKNOWN
-PartitionName=main Nodes=$2 Default=YES MaxTime=60 State=UP
-END
-}
-
-# start_slurm: munged, slurmctld and slurmd in a directory of their own; returns 1 if no node comes
-# up
-start_slurm() {
-  local folder=$work/slurm host ports
-  host=$(uname -n)
-  host=${host%%.*}
-  mkdir -p "$folder/state" "$folder/spool" "$folder/munge"
-  chmod 755 "$work" "$folder" "$folder/munge"
-  (umask 077 && head -c 128 /dev/urandom > "$folder/munge/key")
-  read -r -a ports < <(free_ports)
-  slurm_settings "$folder" "$host" "${ports[@]}" > "$folder/slurm.conf"
-  export SLURM_CONF=$folder/slurm.conf
-  munged --foreground --force --key-file="$folder/munge/key" --socket="$folder/munge/socket" --pid-file="$folder/munge/pid" \
-    --log-file="$folder/munge/log" --seed-file="$folder/munge/seed" > "$folder/munged.out" 2>&1 &
-  slurm_pids=("$!")
-  for _ in $(seq 50); do
-    [ ! -S "$folder/munge/socket" ] || break
-    sleep 0.1
-  done
-  slurmctld -D > "$folder/slurmctld.out" 2>&1 &
-  slurm_pids=("$!" "${slurm_pids[@]}")
-  slurmd -D > "$folder/slurmd.out" 2>&1 &
-  slurm_pids=("$!" "${slurm_pids[@]}")
-  for _ in $(seq 60); do
-    [ "$(timeout 10 sinfo --noheader --format %T 2> /dev/null)" = idle ] && return 0
-    sleep 0.5
-  done
-  tail -n 20 "$folder"/*.out
-  return 1
-}
-
-# status_of JOB WANTED: the profile's script reports this status for a job, within some seconds
-status_of() {
-  local got=''
-  for _ in $(seq 20); do
-    got=$(profiles/slurm/cluster_status "$1" 2> /dev/null)
-    [ "$got" != "$2" ] || return 0
-    sleep 0.5
-  done
-  fail "job $1 is '$got', not $2"
-}
-
-# cluster_scripts: the profile's two scripts on jobs that end, fail, are cancelled, wait forever,
-# and are unknown
-cluster_scripts() {
-  local ends fails stays waits
-  row='the scripts of the profile'
-  ends=$(sbatch --parsable --output=/dev/null --time=5 --mem=10 --wrap true)
-  fails=$(sbatch --parsable --output=/dev/null --time=5 --mem=10 --wrap false)
-  stays=$(sbatch --parsable --output=/dev/null --time=5 --mem=10 --wrap 'sleep 100')
-  waits=$(sbatch --parsable --output=/dev/null --time=500 --mem=10 --wrap true)
-  status_of "$ends" success
-  status_of "$fails" failed
-  status_of "$stays;test" running
-  profiles/slurm/cluster_cancel "$stays" "$ends"
-  status_of "$stays" failed
-  status_of "$waits" failed
-  status_of 4000000 failed
-  [ -z "$(squeue --noheader)" ] || fail 'a job is still there'
-}
-
 draw_reads
-trim_directly s1 L001 L002
-trim_directly s2 L001
-trim_directly s3 L001
+trim_directly s1 s1_L001 s1_L002
+trim_directly s1_L001 s1_L001
+trim_directly s1_L002 s1_L002
+trim_directly s2 s2_L001
+trim_directly s3 s3_L001
 mv "$work/reads/s4_L001_R2.fq.gz" "$work/half"
 cp "$work/reads/s4_L001_R2.fq.gz.whole" "$work/reads/s4_L001_R2.fq.gz"
-trim_directly s4 L001
+trim_directly s4 s4_L001
 mv "$work/half" "$work/reads/s4_L001_R2.fq.gz"
 
-bad_files
 new_lab tables
+names_of_files
 bad_tables
+table 's1\tL1\treads/s1_L001_R1.fq.gz\treads/s1_L001_R2.fq.gz\n'
 bad_option
+new_lab nf_core
+bad_nf_core
 new_lab local
 a_whole_life local
 row='nothing to do'
@@ -504,8 +544,22 @@ ran 0
 page_tells s1 s2 s3 s4
 removed_bases s1 s2 s3 s4
 
+new_lab lanes
+row='the linter'
+lint
+by_lane local
+row='nothing to do by lanes'
+call 0 --profile profiles/local
+ran 0
+grep -q 'Nothing to be done' said || fail 'something was done'
+
+new_lab module
+row='a module of another workflow'
+as_module
+
 new_lab plain
-row='no trim logs from the start'
+row='no trim logs from the start, and a table of nf-core'
+same_from_tables
 cp reads/s4_L001_R2.fq.gz.whole reads/s4_L001_R2.fq.gz
 call 0 --profile profiles/local --config trim_logs=False
 ran 4
@@ -546,10 +600,15 @@ elif start_slurm; then
   jobs=$(find logs/slurm -name 'trim.s4.*.log' | wc -l)
   [ "$jobs" -eq 3 ] || fail "$jobs jobs of Slurm for s4, not 3"
   cluster_scripts
+  new_lab cluster_lanes
+  by_lane "$profile"
+  jobs=$(find logs/slurm -name 'trim_lane.s1.*.log' | wc -l)
+  [ "$jobs" -eq 3 ] || fail "$jobs jobs of Slurm for the lanes of s1, not 3"
   stop_slurm
 else
   fail 'it does not start'
 fi
+command -v chromium > /dev/null || echo 'workflow: the page in a browser: skipped: needs chromium'
 row='the end'
 for _ in $(seq 20); do
   ids=$(left)

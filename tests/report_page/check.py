@@ -3,8 +3,6 @@
     check.py page REPORT PAGE   the page has the numbers of its report, and loads and runs nothing
     check.py hostile SCRIPT REPORT   no text of a report becomes markup
     check.py changed SCRIPT REPORT   each change at one place gives a page or a refusal
-    check.py mqc REPORT START   the files of report_to_mqc, whose names begin with START, have the
-                                numbers of the report
 """
 
 import copy
@@ -332,31 +330,6 @@ def check_page(report_path, page_path):
             assert name is None or name in page.text() or not name.isprintable(), name
 
 
-def check_mqc(report, start):
-    for when, parts in ("before", ["before"]), ("after", ["paired", "unpaired"]):
-        scores, shares = (json.load(open(f"{start}_{kind}_{when}_mqc.json", encoding="utf-8")) for kind in ("scores", "means"))
-        for side in SIDES:
-            reads = [report["reads"][side][part] for part in parts]
-            name = f"{start.split('/')[-1]} {side}"
-            longest = max(len(part["positions"]["bases"]) for part in reads)
-            sums = [[at(reads, field, place) for field in ("score_sum", "bases")] for place in range(longest)]
-            wanted = {str(place): round(total / bases, 4) for place, (total, bases) in enumerate(sums, 1)}
-            assert scores["data"][name] == (wanted or {"1": 0, "2": 0}), (side, when)
-            whole = sum(reads for part in reads for _, reads in part["mean_scores"])
-            found = {number: count for number, count in shares["data"][name].items() if count}
-            numbers = {number for part in reads for number, _ in part["mean_scores"]}
-            wanted = {str(n): round(100 * reads_with(reads, "mean_scores", n) / whole, 4) for n in numbers}
-            assert found == wanted, (side, when, found, wanted)
-    for end in ("front", "behind"):
-        with open(f"{start}_{end}_mqc.json", encoding="utf-8") as file:
-            drawn = json.load(file)["data"]
-        for side in SIDES:
-            rows = report["reads"][side][f"removed_{end}"]
-            whole = sum(reads for _, reads in rows)
-            found = {number: count for number, count in drawn[f"{start.split('/')[-1]} {side}"].items() if count}
-            assert found == {str(bases): round(100 * reads / whole, 4) for bases, reads in rows if bases}, (side, end)
-
-
 # Reports that are changed.
 
 
@@ -437,11 +410,8 @@ def main(what, *paths):
     if what == "page":
         check_page(*paths)
         return
-    with open(paths[0 if what == "mqc" else 1], encoding="utf-8") as file:
+    with open(paths[1], encoding="utf-8") as file:
         report = json.load(file)
-    if what == "mqc":
-        check_mqc(report, paths[1])
-        return
     {"hostile": check_hostile, "changed": check_changed}[what](paths[0], report)
 
 

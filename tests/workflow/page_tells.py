@@ -2,6 +2,7 @@
 
     page_tells.py DIRECT DATA SAMPLE..            the table, the dropped reads, and the lengths before and after
     page_tells.py DIRECT DATA --removed SAMPLE..  the lines of removed bases
+    page_tells.py DIRECT PAGE --lanes LANE..      the table of lanes on a page of a sample
 
 DIRECT has the texts that were read and written, the logs and the reports of the direct calls. DATA
 is the directory of the page's data.
@@ -9,6 +10,7 @@ is the directory of the page's data.
 
 import collections
 import json
+import re
 import sys
 
 SIDES = {"forward": 1, "reverse": 2}
@@ -97,10 +99,33 @@ def check_removed(page):
             check_line(drawn[f"{sample} {side}"], [line[field] for line in kept if line[field]], len(kept), (graph, sample, side))
 
 
+def check_lanes(page):
+    """The rows of the table of lanes: pairs, their share of all, the share that was kept, and for each side the mean score, the
+    bases with a score of at least 30 and G and C before trimming, and the mean length after it."""
+    with open(page.data, encoding="utf-8") as file:
+        section = file.read().split("<h2>Lanes</h2>")[1].split("</section>")[0]
+    rows = [re.findall(r"<td[^>]*>(?:<b>)?([^<]*)", row) for row in section.split("<tr>")[3:]]
+    pairs = {lane: len(page.before(lane, "forward")) for lane in page.samples}
+    assert len(rows) == len(pairs), rows
+    for lane, row in zip(page.samples, rows):
+        kept = len(page.reads(lane, "r1.paired"))
+        wanted = [lane.split("_")[1], f"{pairs[lane]:,}"]
+        wanted += [f"{100 * part / whole:.1f} %" for part, whole in ((pairs[lane], sum(pairs.values())), (kept, pairs[lane]))]
+        for side in SIDES:
+            reads, left = page.before(lane, side), [len(bases) for bases, _ in page.after(lane, side)]
+            bases, scores = ("".join(read[part] for read in reads) for part in (0, 1))
+            wanted.append(f"{sum(ord(score) - 33 for score in scores) / len(scores):.1f}")
+            wanted.append(f"{100 * sum(score >= '?' for score in scores) / len(scores):.1f} %")
+            wanted.append(f"{100 * sum(base in 'GC' for base in bases) / len(bases):.1f} %")
+            wanted.append(f"{sum(left) / len(left):.1f}")
+        assert row == wanted, (row, wanted)
+
+
 def main(direct, data, *samples):
-    if samples[0] == "--removed":
-        check_removed(Page(direct, data, list(samples[1:])))
-        return
+    for option, check in (("--removed", check_removed), ("--lanes", check_lanes)):
+        if samples[0] == option:
+            check(Page(direct, data, list(samples[1:])))
+            return
     page = Page(direct, data, list(samples))
     check_table(page)
     check_dropped(page)

@@ -1,16 +1,23 @@
 # The settings, the samples, and the names of what is made of them.
+import re
 import shlex
+import subprocess
 import sys
 from pathlib import Path
+from types import SimpleNamespace
 
 from snakemake.exceptions import WorkflowError
 
-HERE = Path(workflow.basedir)
+# Seen from this file, since `workflow.basedir` is that of a workflow which imports this one.
+HERE = Path(str(workflow.current_basedir)).parent
 sys.path.insert(0, str(HERE / "scripts"))
 from tables import Refused, check_adapters, check_settings, read_samples
 
 # `adapters:` with nothing after it, or no such line, is the same as "".
 config["adapters"] = config.get("adapters") or ""
+
+# No such line, an empty one, `off` and `none` are the same: one job trims all lanes of a sample.
+config["scatter"] = config.get("scatter") or "none"
 
 # Settings of 1.0.0 still work. `line_graphs: true` kept the trim logs. `graphs` was for jobs that no longer exist, and is ignored.
 config.setdefault("trim_logs", config.get("line_graphs", False))
@@ -25,10 +32,25 @@ except Refused as why:
 except ValueError as why:
     raise WorkflowError(f"settings: options: {why}")
 
+# The samples whose lanes are trimmed by a job each, with the names of the lanes.
+SCATTERED = {
+    sample: [lane["lane"] for lane in lanes] for sample, lanes in SAMPLES.items() if config["scatter"] == "lanes" and len(lanes) > 1
+}
+
 ADAPTERS = config["adapters"]
-TRIM_GZ = str(HERE.parent / "contrib" / "trim_gz")
-REPORT_TO_HTML = str(HERE.parent / "contrib" / "report_to_html")
+CONTRIB = HERE.parent / "contrib"
+# What rules use and what doesn't change the trimmed reads. Snakemake runs a job again if one of its parameters changes, but
+# it compares only texts, numbers and lists. So a rule that has this object as a parameter isn't run again if it changes.
+SETUP = SimpleNamespace(
+    program=config["program"],
+    adapters=ADAPTERS,
+    trim_logs=config["trim_logs"],
+    trim_gz=str(CONTRIB / "trim_gz"),
+    report_sum=str(CONTRIB / "report_sum"),
+    report_to_html=str(CONTRIB / "report_to_html"),
+)
 RESULTS = config["results"]
+READS = [(read, kind) for read in ("r1", "r2") for kind in ("paired", "unpaired")]
 TRIMMED = f"{RESULTS}/trimmed/{{sample}}.{{read}}.{{kind}}.fastq.gz"
 SUMMARY = f"{RESULTS}/summaries/{{sample}}.summary"
 REPORT = f"{RESULTS}/reports/{{sample}}.json"
@@ -36,10 +58,18 @@ SAMPLE_PAGE = f"{RESULTS}/reports/{{sample}}.html"
 SETTINGS = f"{RESULTS}/summaries/{{sample}}.settings"
 CUTADAPT = f"{RESULTS}/cutadapt/{{sample}}"
 TRIM_LOG = f"{RESULTS}/trim_logs/{{sample}}.log.gz"
+# How the names of what is made of a lane begin. The sample is there twice, so that no two lanes have the same name.
+LANE = f"{RESULTS}/lanes/{{sample}}/{{sample}}_{{lane}}"
+
+
+def one_of(names):
+    """What a wildcard may be: one of these names."""
+    return "|".join(map(re.escape, names)) or "(?!)"
 
 
 wildcard_constraints:
     sample="[A-Za-z0-9][A-Za-z0-9_.-]*",
+    lane="[A-Za-z0-9][A-Za-z0-9_.-]*",
     read="r1|r2",
     kind="paired|unpaired",
 
@@ -54,6 +84,28 @@ def lanes(column):
     return lambda wildcards: [lane[column] for lane in SAMPLES[wildcards.sample]]
 
 
+def lane(column):
+    """A function that returns the file of one side of a lane, in a list."""
+    return lambda wildcards: [row[column] for row in SAMPLES[wildcards.sample] if row["lane"] == wildcards.lane]
+
+
+def parts(ending):
+    """A function that returns what is made of each lane of a sample, in their order."""
+    return lambda wildcards: [f"{LANE}{ending}".format(sample=wildcards.sample, lane=name) for name in SCATTERED.get(wildcards.sample, [])]
+
+
 def inputs_as_options(wildcards, input):
     """The lanes as trim_gz takes them: -1 FILE for each forward file, -2 FILE for each reverse one."""
     return quoted(word for flag, files in (("-1", input.r1), ("-2", input.r2)) for name in files for word in (flag, name))
+
+
+def lanes_as_options(wildcards, input):
+    """The lanes as report_to_html takes them: --lane NAME REPORT for each."""
+    return quoted(word for name, report in zip(SCATTERED.get(wildcards.sample, []), input.lanes) for word in ("--lane", name, report))
+
+
+def make_page():
+    """Makes the page of all samples. Returns whether it is made."""
+    command = [sys.executable, str(HERE / "scripts" / "page.py"), "--results", RESULTS, "--logs", "logs"]
+    names = "".join("\t".join([sample, *SCATTERED.get(sample, [])]) + "\n" for sample in SAMPLES)
+    return subprocess.run(command, input=names, text=True).returncode == 0

@@ -1,12 +1,5 @@
 # The page of all samples. No rule makes it: a rule that needs every sample isn't run if one sample fails. So each run ends
 # by making it, whether all went well or not, and the page names the samples that are there and those that aren't.
-import subprocess
-
-
-def make_page():
-    command = [sys.executable, str(HERE / "scripts" / "page.py"), "--results", RESULTS, "--logs", "logs"]
-    done = subprocess.run(command, input="".join(f"{sample}\n" for sample in SAMPLES), text=True)
-    return done.returncode == 0
 
 
 onsuccess:

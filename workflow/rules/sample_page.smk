@@ -7,13 +7,16 @@ localrules:
 
 rule sample_page:
     input:
-        REPORT,
+        report=REPORT,
+        lanes=parts(".json"),
     output:
         SAMPLE_PAGE,
     log:
         "logs/pages/{sample}.log",
     params:
         cutadapt=quoted([f"--cutadapt={ADAPTERS}"]) if ADAPTERS else "",
+        lanes=lanes_as_options,
+        setup=SETUP,
     threads: 1
     shell:
-        "{REPORT_TO_HTML:q} --sample {wildcards.sample:q} {params.cutadapt} {input:q} > {output:q} 2> {log:q}"
+        "{params.setup.report_to_html:q} --sample {wildcards.sample:q} {params.cutadapt} {params.lanes} {input.report:q} > {output:q} 2> {log:q}"

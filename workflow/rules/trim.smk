@@ -1,4 +1,18 @@
-# Trims one sample: all its lanes, in one call of trim_gz, which removes adapters too if there are any in the settings.
+# Trims samples: all lanes of one in one call of trim_gz, which removes adapters too if there are any in the settings.
+
+# What a job does, for a sample or for a lane. Snakemake trims again if this text changes, so it is the same for all settings.
+TRIM = """
+    {{ {params.setup.program:q} --version && printf '%s\\n' {params.steps:q} {params.options:q} {params.setup.adapters:q}; }} \\
+        > {output.settings:q} 2> {log:q}
+    more=({params.adapters})
+    if [ "${{#more[@]}}" -gt 0 ]; then more+=(--cutadapt-report {params.cutadapt:q}.json --cutadapt-log {params.cutadapt:q}.log); fi
+    if [ {params.setup.trim_logs} = True ]; then more+=(--trimlog {params.trimlog:q}); fi
+    {params.setup.trim_gz:q} {params.inputs} \\
+        --paired1 {output.paired1:q} --unpaired1 {output.unpaired1:q} \\
+        --paired2 {output.paired2:q} --unpaired2 {output.unpaired2:q} \\
+        --summary {output.summary:q} --report {output.report:q} "${{more[@]}}" --program {params.setup.program:q} \\
+        --threads {threads} {params.options} -- {params.steps} > /dev/null 2>> {log:q}
+    """
 
 
 rule trim:
@@ -7,39 +21,27 @@ rule trim:
         r2=lanes("r2"),
         adapters=[ADAPTER_FILE] if ADAPTER_FILE else [],
     output:
-        paired1=TRIMMED.format(sample="{sample}", read="r1", kind="paired"),
-        unpaired1=TRIMMED.format(sample="{sample}", read="r1", kind="unpaired"),
-        paired2=TRIMMED.format(sample="{sample}", read="r2", kind="paired"),
-        unpaired2=TRIMMED.format(sample="{sample}", read="r2", kind="unpaired"),
+        **{f"{kind}{read[1]}": TRIMMED.format(sample="{sample}", read=read, kind=kind) for read, kind in READS},
         summary=SUMMARY,
         report=REPORT,
         settings=SETTINGS,
-        **({"cutadapt": CUTADAPT + ".json", "cutadapt_log": CUTADAPT + ".log"} if ADAPTERS else {}),
+        **({"cutadapt": f"{CUTADAPT}.json", "cutadapt_log": f"{CUTADAPT}.log"} if ADAPTERS else {}),
         **({"trimlog": TRIM_LOG} if config["trim_logs"] else {}),
     log:
         "logs/trim/{sample}.log",
-    # Only what changes the trimmed reads is a parameter: Snakemake trims again if one of these changes.
+    wildcard_constraints:
+        sample=one_of(sample for sample in SAMPLES if sample not in SCATTERED),
     params:
         inputs=inputs_as_options,
         adapters=quoted(["--adapters", ADAPTERS]) if ADAPTERS else "",
         options=quoted(OPTIONS),
         steps=quoted(config["steps"].split()),
+        cutadapt=CUTADAPT,
+        trimlog=TRIM_LOG,
+        setup=SETUP,
     threads: config["trim"]["threads"]
     resources:
         mem_mb=config["trim"]["memory_mb"],
         runtime=config["trim"]["minutes"],
     shell:
-        """
-        {{ {config[program]:q} --version && printf '%s\\n' {params.steps:q} {params.options:q} {ADAPTERS:q}; }} \\
-            > {output.settings:q} 2> {log:q}
-        more=({params.adapters})
-        if [ "${{#more[@]}}" -gt 0 ]; then
-            more+=(--cutadapt-report {RESULTS:q}/cutadapt/{wildcards.sample}.json --cutadapt-log {RESULTS:q}/cutadapt/{wildcards.sample}.log)
-        fi
-        if [ {config[trim_logs]} = True ]; then more+=(--trimlog {RESULTS:q}/trim_logs/{wildcards.sample}.log.gz); fi
-        {TRIM_GZ:q} {params.inputs} \\
-            --paired1 {output.paired1:q} --unpaired1 {output.unpaired1:q} \\
-            --paired2 {output.paired2:q} --unpaired2 {output.unpaired2:q} \\
-            --summary {output.summary:q} --report {output.report:q} "${{more[@]}}" --program {config[program]:q} \\
-            --threads {threads} {params.options} -- {params.steps} > /dev/null 2>> {log:q}
-        """
+        TRIM

@@ -1,12 +1,15 @@
 #!/usr/bin/env python3
 """Makes one page of the samples that are trimmed, with MultiQC, and names the others on it.
 
-Reads the names of all samples from standard input, one a line. RESULTS/report.html and the
-directory RESULTS/report_data are replaced when the new ones are complete.
+Reads the samples from standard input, one a line: its name, and behind tabs the names of its lanes
+if each was trimmed by a job of its own. RESULTS/report.html and the directory RESULTS/report_data
+are replaced when the new ones are complete.
 """
 
 import argparse
 import html
+import json
+import os
 import re
 import shutil
 import subprocess
@@ -15,21 +18,19 @@ import tempfile
 from pathlib import Path
 
 HERE = Path(__file__).resolve().parent
-REPORT_TO_MQC = HERE.parent.parent / "contrib" / "report_to_mqc"
+CONTRIB = HERE.parent.parent / "contrib"  # which has the module that MultiQC loads
+sys.dont_write_bytecode = True
+sys.path.insert(0, str(CONTRIB))
+
+from tibzharuk_report import Refused, read_report  # noqa: E402
+
 SECTION = """<!--
 id: 'tibzharuk_run'
-parent_id: 'tibzharuk'
-parent_name: 'Tibzharuk'
-parent_description: 'trims paired-end reads before they are mapped.'
 section_name: 'This run'
 description: ''
 plot_type: 'html'
 -->
 """
-
-
-class Refused(Exception):
-    """Says in one line why there is no page."""
 
 
 def telling_line(path):
@@ -49,10 +50,24 @@ def telling_line(path):
     return telling
 
 
-def why_failed(logs, sample):
-    """Why a sample failed, as far as its log says; None if it has no log, because it was not started."""
-    said = telling_line(logs / "trim" / f"{sample}.log")
+def why_stopped(log):
+    """Why a job failed, as far as its log says; None if it has no log, because it was not started."""
+    said = telling_line(log)
     return "stopped without a message; on Slurm see logs/slurm/" if said == "" else said
+
+
+def why_failed(results, logs, sample, lanes):
+    """Why a sample failed, with the names of its failed lanes; None if it was not started."""
+    if not lanes:
+        return why_stopped(logs / "trim" / f"{sample}.log")
+    reasons = []
+    for lane in lanes:
+        why = why_stopped(logs / "trim" / sample / f"{sample}_{lane}.log")
+        if why is not None and not (results / "lanes" / sample / f"{sample}_{lane}.json").is_file():
+            reasons.append(f"lane {lane}: {why}")
+    if not reasons:
+        reasons = [why_stopped(logs / "trim" / sample / "join.log")]
+    return None if reasons == [None] else "; ".join(reasons)
 
 
 def settings_of(results, samples):
@@ -66,7 +81,7 @@ def settings_of(results, samples):
 
 
 def missing_samples(failed, not_started):
-    """The samples that the page lacks, and why."""
+    """The samples that the page lacks, and why, for the top of the page."""
     parts = []
     if failed:
         parts.append(f'<div class="alert alert-danger"><strong>Failed: {len(failed)}.</strong> No reads of these were kept:<ul>')
@@ -77,15 +92,10 @@ def missing_samples(failed, not_started):
     return parts
 
 
-def few_kept(results, samples):
+def few_kept(reports):
     """The samples that kept less than half of their pairs, each with the number of its pairs and of the kept ones."""
-    found = {}
-    for sample in samples:
-        lines = (results / "summaries" / f"{sample}.summary").read_text(encoding="utf-8").split("\n")
-        pairs, kept = (int(line.split(": ")[1]) for line in lines[:2])
-        if 2 * kept < pairs:
-            found[sample] = pairs, kept
-    return found
+    pairs = {sample: (report["pairs"]["input"], report["pairs"]["both_surviving"]) for sample, report in reports.items()}
+    return {sample: (read, kept) for sample, (read, kept) in pairs.items() if 2 * kept < read}
 
 
 def link(results, sample):
@@ -97,17 +107,17 @@ def link(results, sample):
     return name
 
 
-def sample_pages(results, trimmed):
+def sample_pages(results, reports):
     """The samples that kept less than half of their pairs, and the links to the pages of all."""
     parts = []
-    few = few_kept(results, trimmed)
+    few = few_kept(reports)
     if few:
         parts.append(f'<div class="alert alert-danger"><strong>Less than half of the pairs kept: {len(few)}.</strong><ul>')
         for sample, (pairs, kept) in few.items():
             parts.append(f"<li><strong>{link(results, sample)}</strong>: {kept:,} of {pairs:,} pairs</li>")
         parts.append("</ul></div>")
-    if trimmed:
-        parts.append(f"<p>Pages of the samples: {', '.join(link(results, sample) for sample in trimmed)}.</p>")
+    if reports:
+        parts.append(f"<p>Pages of the samples: {', '.join(link(results, sample) for sample in reports)}.</p>")
     return parts
 
 
@@ -128,10 +138,12 @@ def how_trimmed(results, trimmed):
     return parts
 
 
-def call(command):
+def call(command, environment):
     """Returns what a command prints. If it fails, prints that and refuses."""
     try:
-        done = subprocess.run(command, stdout=subprocess.PIPE, stderr=subprocess.STDOUT, text=True, errors="replace")
+        done = subprocess.run(
+            command, env=environment, stdout=subprocess.PIPE, stderr=subprocess.STDOUT, text=True, errors="replace"
+        )
     except OSError as error:
         raise Refused(f"cannot run {command[0]}: {error.strerror}") from error
     if done.returncode != 0:
@@ -140,25 +152,51 @@ def call(command):
     return done.stdout
 
 
+def cutadapt_logs(results, sample, lanes):
+    """The logs of cutadapt for a sample or for its lanes, by the names that the page shows."""
+    if lanes:
+        return {f"{sample}_{lane}": results / "lanes" / sample / f"{sample}_{lane}.cutadapt.log" for lane in lanes}
+    return {sample: results / "cutadapt" / f"{sample}.log"}
+
+
 def put_cutadapt(results, trimmed, folder):
     """Copies cutadapt's logs into the directory, if there are any.
 
     MultiQC takes the last word of cutadapt's command as the sample's name.
     """
-    for sample in trimmed:
-        log = results / "cutadapt" / f"{sample}.log"
-        if log.is_file() and log.stat().st_mtime >= (results / "summaries" / f"{sample}.settings").stat().st_mtime:
-            text = log.read_text(encoding="utf-8", errors="replace")
-            text = re.sub("^Command line parameters: .*$", f"Command line parameters: {sample}", text, count=1, flags=re.MULTILINE)
-            (folder / f"{sample}_cutadapt.txt").write_text(text, encoding="utf-8")
+    for sample, lanes in trimmed.items():
+        settings = results / "summaries" / f"{sample}.settings"
+        for name, log in cutadapt_logs(results, sample, lanes).items():
+            if lanes:
+                settings = log.with_name(f"{name}.settings")
+            if log.is_file() and log.stat().st_mtime >= settings.stat().st_mtime:
+                text = log.read_text(encoding="utf-8", errors="replace")
+                text = re.sub("^Command line parameters: .*$", f"Command line parameters: {name}", text, count=1, flags=re.MULTILINE)
+                (folder / f"{name}_cutadapt.txt").write_text(text, encoding="utf-8")
 
 
 def gather(results, trimmed, folder):
-    """Writes what MultiQC reads into a directory."""
-    reports = [str(results / "reports" / f"{sample}.json") for sample in trimmed]
-    for first in range(0, len(reports), 500):
-        call([str(REPORT_TO_MQC), "--out", str(folder), *reports[first : first + 500]])
+    """Copies what MultiQC reads into a directory. Returns the reports."""
+    reports = {}
+    for sample in trimmed:
+        report = results / "reports" / f"{sample}.json"
+        reports[sample] = read_report(str(report))
+        shutil.copyfile(report, folder / f"{sample}.json")
     put_cutadapt(results, trimmed, folder)
+    return reports
+
+
+def run_multiqc(room, top):
+    """Has MultiQC make the page of what is in `room`/read in `room`/written, with this text above its tables."""
+    config = room / "top.json"  # JSON is YAML, too
+    config.write_text(json.dumps({"report_comment": top}), encoding="utf-8")
+    paths = [str(CONTRIB), os.environ.get("PYTHONPATH", "")]
+    environment = dict(os.environ, PYTHONPATH=os.pathsep.join(filter(None, paths)), PYTHONDONTWRITEBYTECODE="1")
+    settings = ["--config", str(HERE.parent / "multiqc.yaml"), "--config", str(config)]
+    said = call(["multiqc", "--force", *settings, "--filename", "report.html", "--outdir", str(room / "written"), str(room / "read")], environment)
+    if not (room / "written" / "report.html").is_file():
+        print(said, file=sys.stderr, end="")
+        raise Refused("multiqc made no page")
 
 
 def make_page(results, trimmed, failed, not_started):
@@ -166,21 +204,16 @@ def make_page(results, trimmed, failed, not_started):
     samples = len(trimmed) + len(failed) + len(not_started)
     parts = [SECTION, f"<p><strong>{len(trimmed)} of {samples} samples</strong> are on this page.</p>"]
     results.mkdir(parents=True, exist_ok=True)
-    with tempfile.TemporaryDirectory(prefix=".report.", dir=results) as room:
-        read, written = Path(room) / "read", Path(room) / "written"
-        read.mkdir()
-        gather(results, trimmed, read)
-        parts += missing_samples(failed, not_started)
-        parts += sample_pages(results, trimmed) + how_trimmed(results, trimmed)
-        (read / "run_mqc.html").write_text("\n".join(parts) + "\n", encoding="utf-8")
-        config = str(HERE.parent / "multiqc.yaml")
-        said = call(["multiqc", "--force", "--config", config, "--filename", "report.html", "--outdir", str(written), str(read)])
-        if not (written / "report.html").is_file():
-            print(said, file=sys.stderr, end="")
-            raise Refused("multiqc made no page")
+    with tempfile.TemporaryDirectory(prefix=".report.", dir=results) as name:
+        room = Path(name)
+        (room / "read").mkdir()
+        reports = gather(results, trimmed, room / "read")
+        parts += sample_pages(results, reports) + how_trimmed(results, trimmed)
+        (room / "read" / "run_mqc.html").write_text("\n".join(parts) + "\n", encoding="utf-8")
+        run_multiqc(room, "\n".join(missing_samples(failed, not_started)))
         shutil.rmtree(results / "report_data", ignore_errors=True)
         for name in ("report_data", "report.html"):
-            (written / name).replace(results / name)
+            (room / "written" / name).replace(results / name)
 
 
 def main():
@@ -188,10 +221,10 @@ def main():
     parser.add_argument("--results", type=Path, required=True, help="the directory of the workflow's results")
     parser.add_argument("--logs", type=Path, required=True, help="the directory of the workflow's logs")
     words = parser.parse_args()
-    samples = sys.stdin.read().split("\n")[:-1]
+    samples = {name: lanes for name, *lanes in (line.split("\t") for line in sys.stdin.read().split("\n")[:-1])}
     parts = ("summaries/{}.summary", "summaries/{}.settings", "reports/{}.json")
-    trimmed = [name for name in samples if all((words.results / part.format(name)).is_file() for part in parts)]
-    reasons = {name: why_failed(words.logs, name) for name in samples if name not in trimmed}
+    trimmed = {name: lanes for name, lanes in samples.items() if all((words.results / part.format(name)).is_file() for part in parts)}
+    reasons = {name: why_failed(words.results, words.logs, name, lanes) for name, lanes in samples.items() if name not in trimmed}
     failed = {name: why for name, why in reasons.items() if why is not None}
     not_started = [name for name, why in reasons.items() if why is None]
     try:

@@ -1,5 +1,6 @@
 """Reads the settings and the table of the samples, and refuses bad ones with one line."""
 
+import csv
 import os
 import re
 
@@ -7,6 +8,8 @@ import jsonschema
 import yaml
 
 COLUMNS = ["sample", "lane", "r1", "r2"]
+# The columns of nf-core's tables that are read, by ours. Without `lane`, lanes are numbered.
+NF_CORE = {"sample": "sample", "r1": "fastq_1", "r2": "fastq_2"}
 
 
 class Refused(Exception):
@@ -44,18 +47,65 @@ def check_adapters(adapters):
     return None
 
 
-def rows_of(path):
-    """The rows of a table with their numbers; empty lines and those that begin with # are skipped."""
+def lines_of(path):
+    """The lines of a table with their numbers; empty lines and those that begin with # are skipped."""
     try:
         with open(path, encoding="utf-8-sig") as lines:
             for number, line in enumerate(lines, 1):
-                cells = [cell.strip() for cell in line.rstrip("\r\n").split("\t")]
-                if any(cells) and not cells[0].startswith("#"):
-                    yield number, cells
+                line = line.rstrip("\r\n")
+                if line.strip("\t ,") and not line.lstrip().startswith("#"):
+                    yield number, line
     except OSError as error:
         raise Refused(f"{path}: {error.strerror}") from error
     except UnicodeDecodeError as error:
         raise Refused(f"{path}: not UTF-8 text") from error
+
+
+def cells_of(line, delimiter):
+    """The cells of a line. Only cells between commas may be in quotes."""
+    cells = line.split("\t") if delimiter == "\t" else next(csv.reader([line]))
+    return [cell.strip() for cell in cells]
+
+
+def our_rows(path, lines):
+    """The rows below a header of ours."""
+    for number, line in lines:
+        where, cells = f"{path}, line {number}", cells_of(line, "\t")
+        if len(cells) != len(COLUMNS):
+            raise Refused(f"{where}: {len(cells)} columns, not {len(COLUMNS)} with tabs between them")
+        yield where, dict(zip(COLUMNS, cells))
+
+
+def nf_core_rows(path, lines, header):
+    """The rows below a header of nf-core. Its other columns are ignored."""
+    lanes = {}
+    for number, line in lines:
+        where, cells = f"{path}, line {number}", cells_of(line, ",")
+        if len(cells) != len(header):
+            raise Refused(f"{where}: {len(cells)} columns, not {len(header)} with commas between them")
+        named = dict(zip(header, cells))
+        row = {ours: named[theirs] for ours, theirs in NF_CORE.items()}
+        lanes[row["sample"]] = lanes.get(row["sample"], 0) + 1
+        row["lane"] = named.get("lane", str(lanes[row["sample"]]))
+        if not row["r2"]:
+            raise Refused(f"{where}: column fastq_2: there is no file of reverse reads, and single reads aren't trimmed")
+        yield where, row
+
+
+def rows_of(path):
+    """The rows of a table, each with its place."""
+    lines = lines_of(path)
+    header = next(lines, (1, ""))[1]
+    if cells_of(header, "\t") == COLUMNS:
+        return our_rows(path, lines)
+    names = cells_of(header, ",")
+    if set(NF_CORE.values()) <= set(names):
+        return nf_core_rows(path, lines, names)
+    found = " ".join(cells_of(header, "\t"))
+    raise Refused(
+        f"{path}: the first line must be '{' '.join(COLUMNS)}' with tabs between them, not '{found}'; a table of nf-core has "
+        f"the columns {', '.join(NF_CORE.values())} with commas between them"
+    )
 
 
 def check_row(where, row, lanes, files, schema_path):
@@ -77,16 +127,8 @@ def check_row(where, row, lanes, files, schema_path):
 
 def read_samples(path, schema_path):
     """The samples in their order, each with its rows in their order."""
-    rows = rows_of(path)
-    header = next(rows, (1, []))[1]
-    if header != COLUMNS:
-        raise Refused(f"{path}: the first line must be '{' '.join(COLUMNS)}' with tabs between them, not '{' '.join(header)}'")
     samples, files = {}, {}
-    for number, cells in rows:
-        where = f"{path}, line {number}"
-        if len(cells) != len(COLUMNS):
-            raise Refused(f"{where}: {len(cells)} columns, not {len(COLUMNS)} with tabs between them")
-        row = dict(zip(COLUMNS, cells))
+    for where, row in rows_of(path):
         lanes = samples.setdefault(row["sample"], [])
         check_row(where, row, [lane["lane"] for lane in lanes], files, schema_path)
         lanes.append(row)
