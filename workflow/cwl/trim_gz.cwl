@@ -6,9 +6,19 @@ doc: |
   Trims the pairs of compressed or plain FASTQ files by a list of steps, such as LEADING:3 TRAILING:3 SLIDINGWINDOW:4:15 MINLEN:36.
   Either all outputs are made, or none. A sample of several lanes has a file for each lane, in the same order on both sides.
 
+$namespaces:
+  edam: http://edamontology.org/
+  s: https://schema.org/
+# Sequence trimming.
+edam:has_function: http://edamontology.org/operation_3192
+s:license: [https://spdx.org/licenses/MIT, https://spdx.org/licenses/Apache-2.0]
+
 baseCommand: trim_gz
 
 hints:
+  # The image of `make image`, after it was loaded. It is in no registry.
+  DockerRequirement:
+    dockerImageId: tibzharuk:1.1.0
   SoftwareRequirement:
     packages:
       tibzharuk:
@@ -17,6 +27,7 @@ hints:
     coresMin: $(inputs.threads)
     ramMin: 1000
 
+# The inputs are FASTQ (edam:format_1930), too. They have no `format` here, since engines then refuse files that name none.
 inputs:
   sample:
     type: string
@@ -67,22 +78,23 @@ inputs:
     type: string[]
     inputBinding: {position: 101}
 
+# With ./ before it, a name may begin with a dash.
 arguments:
-  - {prefix: --paired1, valueFrom: $(inputs.sample).r1.paired.fastq.gz, position: 3}
-  - {prefix: --unpaired1, valueFrom: $(inputs.sample).r1.unpaired.fastq.gz, position: 3}
-  - {prefix: --paired2, valueFrom: $(inputs.sample).r2.paired.fastq.gz, position: 3}
-  - {prefix: --unpaired2, valueFrom: $(inputs.sample).r2.unpaired.fastq.gz, position: 3}
-  - {prefix: --report, valueFrom: $(inputs.sample).json, position: 3}
+  - {prefix: --paired1, valueFrom: ./$(inputs.sample).r1.paired.fastq.gz, position: 3}
+  - {prefix: --unpaired1, valueFrom: ./$(inputs.sample).r1.unpaired.fastq.gz, position: 3}
+  - {prefix: --paired2, valueFrom: ./$(inputs.sample).r2.paired.fastq.gz, position: 3}
+  - {prefix: --unpaired2, valueFrom: ./$(inputs.sample).r2.unpaired.fastq.gz, position: 3}
+  - {prefix: --report, valueFrom: ./$(inputs.sample).json, position: 3}
   - {valueFrom: "--", position: 100}
 
 stdout: $(inputs.sample).summary
 
 outputs:
-  forward_paired: {type: File, outputBinding: {glob: $(inputs.sample).r1.paired.fastq.gz}}
-  forward_unpaired: {type: File, outputBinding: {glob: $(inputs.sample).r1.unpaired.fastq.gz}}
-  reverse_paired: {type: File, outputBinding: {glob: $(inputs.sample).r2.paired.fastq.gz}}
-  reverse_unpaired: {type: File, outputBinding: {glob: $(inputs.sample).r2.unpaired.fastq.gz}}
-  report: {type: File, outputBinding: {glob: $(inputs.sample).json}}
+  forward_paired: {type: File, format: edam:format_1930, outputBinding: {glob: $(inputs.sample).r1.paired.fastq.gz}}
+  forward_unpaired: {type: File, format: edam:format_1930, outputBinding: {glob: $(inputs.sample).r1.unpaired.fastq.gz}}
+  reverse_paired: {type: File, format: edam:format_1930, outputBinding: {glob: $(inputs.sample).r2.paired.fastq.gz}}
+  reverse_unpaired: {type: File, format: edam:format_1930, outputBinding: {glob: $(inputs.sample).r2.unpaired.fastq.gz}}
+  report: {type: File, format: edam:format_3464, outputBinding: {glob: $(inputs.sample).json}}
   summary: stdout
 
 # What a second try can't mend: arguments, settings, and the inputs themselves. A full disk or a lack of memory may pass.
