@@ -1,7 +1,8 @@
 #!/usr/bin/env bash
-# Each shell script of the repository has no fault that shellcheck finds, and the layout of shfmt. A
-# shell script is a file whose first line names sh or bash. Status 77, and 'skipped', if shellcheck
-# is missing.
+# Each shell script of the repository has no fault that shellcheck finds, and the layout of shfmt.
+# Each Python program has no fault that pyflakes finds. A shell script is a file whose first line
+# names sh or bash; a Python program is one whose first line names python, or whose name ends in .py.
+# Status 77, and 'skipped', if shellcheck is missing.
 set -uo pipefail
 . "$(dirname "$0")/common.bash"
 need shellcheck
@@ -11,9 +12,11 @@ files() {
 }
 
 scripts=()
+programs=()
 while IFS= read -r file; do
   [ -f "$file" ] || continue
   IFS= read -r first < "$file"
+  if [[ $first =~ ^'#!'.*[/\ ]python3( |$) || $file = *.py ]]; then programs+=("$file"); fi
   if [[ $first =~ ^'#!'.*[/\ ](ba)?sh( |$) || $first = '# shellcheck shell=bash'* ]]; then scripts+=("$file"); fi
 done < <(files)
 [ "${#scripts[@]}" -gt 0 ] || fail 'there are none'
@@ -22,5 +25,11 @@ if command -v shfmt > /dev/null; then
   shfmt -d -- "${scripts[@]}" || fail 'shfmt lays them out in another way'
 else
   echo 'scripts: the layout: skipped: needs shfmt'
+fi
+[ "${#programs[@]}" -gt 0 ] || fail 'there is no Python program'
+if command -v pyflakes3 > /dev/null; then
+  pyflakes3 "${programs[@]}" || fail 'pyflakes finds faults'
+else
+  echo 'scripts: Python: skipped: needs pyflakes3'
 fi
 finish ok
