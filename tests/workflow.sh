@@ -167,6 +167,7 @@ page_tells() {
   done | cmp - <(sed 1d $data/multiqc_tibzharuk_pairs_plot.txt | awk '{ print $1, $2 + 0, $3 + 0, $4 + 0, $5 + 0 }') ||
     fail 'the bars differ'
   python3 "$tree/tests/workflow/page_tells.py" "$work/direct" $data "$@" || fail 'the table, the dropped reads or the lengths differ'
+  [ "$(grep -oE '>(This run|Tibzharuk)<' results/report.html | head -n 1)" = '>This run<' ] || fail 'the page does not begin with what is said of the run'
   for text in "$("$program" --version)" "${steps[*]}"; do
     grep -qF "$text" results/report.html || fail "the page lacks $text"
   done

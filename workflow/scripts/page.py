@@ -84,7 +84,7 @@ def missing_samples(failed, not_started):
     """The samples that the page lacks, and why, for the top of the page."""
     parts = []
     if failed:
-        parts.append(f'<div class="alert alert-danger"><strong>Failed: {len(failed)}.</strong> No reads of these were kept:<ul>')
+        parts.append(f'<div class="alert alert-danger"><strong>Failed: {len(failed)}.</strong> There are no trimmed reads of:<ul>')
         parts += [f"<li><strong>{html.escape(name)}</strong>: <samp>{html.escape(why)}</samp></li>" for name, why in failed.items()]
         parts.append("</ul></div>")
     if not_started:
