@@ -127,6 +127,21 @@ json.dump(report, open("older.json", "w", encoding="utf-8"))
 END
 drawn older
 
+row='the page of a sum of lanes'
+"$tree/contrib/report_sum" plain.json small.json > lanes.json || fail "status $?"
+"$script" --lane L001 plain.json --lane 'L<2' small.json lanes.json > lanes.html || fail "status $?"
+check page lanes.json lanes.html || fail 'it is not that of the sum'
+grep -qF '<th scope="row">L&lt;2</th><td>20</td>' lanes.html || fail 'it lacks a lane'
+row='reports that do not belong together'
+# apart LINE WORDS..: these words end with status 1 and that line alone
+apart() {
+  "${@:2}" > page 2> told
+  if [ $? -ne 1 ] || [ -s page ] || ! grep -qx "$1" told; then fail "$(cat told)"; fi
+}
+apart "report_to_html: the lanes don't add up to the report" "$script" --lane L001 plain.json lanes.json
+apart 'report_sum: two.json: its steps are .*, not LEADING:3 TRAILING:6 MINLEN:36' "$tree/contrib/report_sum" plain.json two.json
+apart 'report_sum: fault.json: its run stopped at a fault: input: .*' "$tree/contrib/report_sum" fault.json fault.json
+
 row='the title of a page'
 "$script" --sample 'liver & 1' two.json | grep -qF '<h1>liver &amp; 1</h1>' || fail 'it is not the name that was given'
 grep -qF '<h1>two</h1>' two.html || fail 'it is not the name of the file'

@@ -4,7 +4,7 @@
     graph       a graph of lines, drawn as SVG
     drawings    the sections with graphs
     sections    the other sections
-    lanes       the table of lanes
+    lanes       the tables of lanes
     page        the whole page
     style.css   how it looks
 

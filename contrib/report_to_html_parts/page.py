@@ -5,7 +5,7 @@ import os
 from tibzharuk_report import SIDES, Report, both
 
 from .drawings import drawings
-from .lanes import Lanes, lane_table
+from .lanes import Lanes, lane_tables
 from .sections import cards, pair_bar, run, side_table, step_table, warnings
 from .texts import shown
 
@@ -34,7 +34,7 @@ def page(report: Report, sample: str, cutadapt: str = "", lanes: Lanes = ()) -> 
         warnings(report, before),
         cards(report["pairs"], before, after),
         pair_bar(report["pairs"]),
-        lane_table(lanes),
+        lane_tables(lanes),
         side_table(before, after, cutadapt),
         step_table(report["steps"], before),
         *drawings(report, before, after),

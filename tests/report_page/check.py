@@ -255,7 +255,8 @@ def check_cell(name, cell, parts):
 def check_tables(page, report):
     """The tables of the sides, and those of the steps."""
     for side in SIDES:
-        sides, steps = (table for table in page.tables if table.caption == side.capitalize())
+        # A page of lanes has a table of them first.
+        *_, sides, steps = (table for table in page.tables if table.caption == side.capitalize())
         assert sides.rows[0] == ["", "before", "after"] and len(sides.rows) == 10, sides.rows
         for name, *cells in sides.rows[1:]:
             for cell, parts in zip(cells, ([report["reads"][side]["before"]], after(report, side))):

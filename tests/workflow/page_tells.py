@@ -100,25 +100,25 @@ def check_removed(page):
 
 
 def check_lanes(page):
-    """The rows of the table of lanes: pairs, their share of all, the share that was kept, and for each side the mean score, the
-    bases with a score of at least 30 and G and C before trimming, and the mean length after it."""
+    """The tables of lanes: pairs, their share of all and the share that was kept; and for each side the mean score, the bases with
+    a score of at least 30 and G and C before trimming, and the mean length after it."""
     with open(page.data, encoding="utf-8") as file:
         section = file.read().split("<h2>Lanes</h2>")[1].split("</section>")[0]
-    rows = [re.findall(r"<td[^>]*>(?:<b>)?([^<]*)", row) for row in section.split("<tr>")[3:]]
+    rows = [re.findall(r">([^<]+)<", row) for row in section.split("<tr>") if 'scope="row"' in row]
     pairs = {lane: len(page.before(lane, "forward")) for lane in page.samples}
-    assert len(rows) == len(pairs), rows
-    for lane, row in zip(page.samples, rows):
-        kept = len(page.reads(lane, "r1.paired"))
-        wanted = [lane.split("_")[1], f"{pairs[lane]:,}"]
-        wanted += [f"{100 * part / whole:.1f} %" for part, whole in ((pairs[lane], sum(pairs.values())), (kept, pairs[lane]))]
-        for side in SIDES:
+    wanted = []
+    for lane, read in pairs.items():
+        shares = (read, sum(pairs.values())), (len(page.reads(lane, "r1.paired")), read)
+        wanted.append([lane.split("_")[1], f"{read:,}", *(f"{100 * part / whole:.1f} %" for part, whole in shares)])
+    for side in SIDES:
+        for lane in page.samples:
             reads, left = page.before(lane, side), [len(bases) for bases, _ in page.after(lane, side)]
             bases, scores = ("".join(read[part] for read in reads) for part in (0, 1))
-            wanted.append(f"{sum(ord(score) - 33 for score in scores) / len(scores):.1f}")
-            wanted.append(f"{100 * sum(score >= '?' for score in scores) / len(scores):.1f} %")
-            wanted.append(f"{100 * sum(base in 'GC' for base in bases) / len(bases):.1f} %")
-            wanted.append(f"{sum(left) / len(left):.1f}")
-        assert row == wanted, (row, wanted)
+            high, gc = sum(score >= "?" for score in scores), sum(base in "GC" for base in bases)
+            cells = [f"{sum(ord(score) - 33 for score in scores) / len(scores):.1f}"]
+            cells += [f"{100 * part / len(bases):.1f} %" for part in (high, gc)]
+            wanted.append([lane.split("_")[1], *cells, f"{sum(left) / len(left):.1f}"])
+    assert rows == wanted, (rows, wanted)
 
 
 def main(direct, data, *samples):
