@@ -220,7 +220,7 @@ class MultiqcModule(BaseMultiqcModule):
             "The reads that each step dropped, in the order of the steps. "
             "Other reads are not shown.",
             dropped,
-            lambda names: bargraph.plot(dropped, steps, dict(names, ylab="Reads")),
+            lambda names: bargraph.plot(dropped, steps, dict(names, ylab="Reads", cpswitch=False)),
         )
 
     def add_line_graph(self, graph: str, title: str, said: str, rows: Rows, kind: str) -> None:
