@@ -6,6 +6,7 @@
 #   runs.
 # - docs/ARCHITECTURE.md lists the crates and what they depend on as crates.txt does, and each name
 #   in docs/PROVED.md is in the code.
+# - The version and its day are those of CHANGELOG.md everywhere (packaging/version.sh).
 # - Each file, and each heading, that a document links to exists.
 # - Every line of a document, outside tables and code, is at most 100 columns wide (DOCUMENTS_WIDTH
 #   sets another width, 0 none), and so are comments, clauses and definitions in crates/. No sentence
@@ -262,6 +263,7 @@ measure_sentences() {
   fi
 }
 
+bash packaging/version.sh --check || fail 'places name another version than CHANGELOG.md (packaging/version.sh sets it)'
 compare_names
 compare_statuses
 first_run

@@ -3,6 +3,7 @@
 set -uo pipefail
 . "$(dirname "$0")/common.bash"
 find_program
+version=$(bash packaging/version.sh --print)
 work=$(mktemp -d)
 trap 'rm -rf "$work"' EXIT
 cd "$work" || exit 1
@@ -150,7 +151,7 @@ run 0 '' PE /dev/null /dev/null fp fu rp ru LEADING:3
 row='the version'
 two_pairs
 run 0 '' --version
-same out 'fq_prog 1.1.0\n'
+same out "fq_prog $version\n"
 
 row='a directory that is not there'
 two_pairs
@@ -173,7 +174,7 @@ two_pairs
 printf '%10000s' 'old text' > report
 run 0 '' PE --report report f r fp fu rp ru LEADING:3
 expect_two_pairs
-grep -q '^{"command":"PE",.*"forward_only_surviving":1,"input":2,.*"version":"1.1.0"}$' report || fail "it is not as expected"
+grep -q '^{"command":"PE",.*"forward_only_surviving":1,"input":2,.*"version":"'"$version"'"}$' report || fail "it is not as expected"
 [ "$(wc -l < report)" -eq 1 ] || fail "it is not one line"
 
 row='a report that is an input or another output'
