@@ -1,4 +1,24 @@
-# Completion of fq_prog and tibzharuk for fish: commands, options, encodings, file names, and after the files the steps.
+# Completion of fq_prog and tibzharuk for fish: commands, options, encodings, file names, and after
+# the files the steps.
+
+# made by packaging/made.py: words-for-fish
+# The options that take a value.
+function __fq_prog_valued
+    printf '%s\n' --threads --block --depth --chunk --encoding --trimlog --report
+end
+
+# The number of files that a command takes.
+function __fq_prog_files
+    switch $argv[1]
+        case PE
+            echo 6
+        case IL
+            echo 5
+        case '*'
+            return 1
+    end
+end
+# end of words-for-fish
 
 # Whether the word at the cursor may be a command, a file or a step, as the argument says.
 function __fq_prog_wants
@@ -9,32 +29,22 @@ function __fq_prog_wants
     for word in $words[2..-1]
         if test $skip = yes
             set skip no
+        else if contains -- $word (__fq_prog_valued)
+            set skip yes
+        else if string match -q -- '-*' $word
             continue
-        end
-        switch $word
-            case --threads --block --depth --chunk --encoding --trimlog --report
-                set skip yes
-            case '-*'
-            case '*'
-                if test -z "$command"
-                    set command $word
-                else
-                    set place (math $place + 1)
-                end
+        else if test -z "$command"
+            set command $word
+        else
+            set place (math $place + 1)
         end
     end
-    set -l files 0
-    switch "$command"
-        case PE
-            set files 6
-        case IL
-            set files 5
-        case ''
-            test $argv[1] = command
-            return
-        case '*'
-            return 1
+    if test -z "$command"
+        test $argv[1] = command
+        return
     end
+    set -l files (__fq_prog_files $command)
+    or return 1
     if test $place -lt $files
         contains -- $argv[1] file trimming
     else
@@ -44,20 +54,22 @@ end
 
 for name in fq_prog tibzharuk
     complete -c $name -f
-    complete -c $name -n '__fq_prog_wants command' -a PE -d 'trim the pairs of two files'
-    complete -c $name -n '__fq_prog_wants command' -a IL -d 'trim the pairs of one interleaved file'
-    complete -c $name -n '__fq_prog_wants command' -a EXAMPLE -d 'show a small run'
-    complete -c $name -n '__fq_prog_wants command' -s V -l version -d 'print the version'
-    complete -c $name -s h -l help -d 'print help'
-    complete -c $name -n '__fq_prog_wants file' -F
+    # made by packaging/made.py: offers-for-fish
+    complete -c $name -n '__fq_prog_wants command' -a PE -d 'trims the pairs of two FASTQ files, and prints a summary'
+    complete -c $name -n '__fq_prog_wants command' -a IL -d 'trims the pairs of one interleaved FASTQ file, and prints a summary'
+    complete -c $name -n '__fq_prog_wants command' -a EXAMPLE -d 'prints what becomes of two built-in pairs under LEADING'
     complete -c $name -n '__fq_prog_wants step' -a 'LEADING: TRAILING: SLIDINGWINDOW: CROP: HEADCROP: AVGQUAL: MINLEN: TOPHRED33'
     complete -c $name -n '__fq_prog_wants trimming' -l threads -x -d 'threads that trim, 1 to 64'
     complete -c $name -n '__fq_prog_wants trimming' -l block -x -d 'pairs trimmed and written at a time, 1 to 65536'
     complete -c $name -n '__fq_prog_wants trimming' -l depth -x -d 'blocks that may wait for each thread, 1 to 64'
     complete -c $name -n '__fq_prog_wants trimming' -l chunk -x -d 'bytes read at a time, 1 to 1048576'
-    complete -c $name -n '__fq_prog_wants trimming' -l encoding -x -a 'sanger illumina13 solexa' -d 'what quality bytes are'
-    complete -c $name -n '__fq_prog_wants trimming' -l trimlog -rF -d 'write a line for each read to a file'
-    complete -c $name -n '__fq_prog_wants trimming' -l report -rF -d 'write counts of pairs, reads, bases and steps to a file, as JSON'
-    complete -c $name -n '__fq_prog_wants trimming' -l no-name-check -d 'pair mates whatever their names'
-    complete -c $name -n '__fq_prog_wants trimming' -l sync -d 'wait until the outputs are on disk'
+    complete -c $name -n '__fq_prog_wants trimming' -l encoding -x -a 'sanger illumina13 solexa' -d 'what a quality byte is'
+    complete -c $name -n '__fq_prog_wants trimming' -l trimlog -rF -d 'writes a line for each read'
+    complete -c $name -n '__fq_prog_wants trimming' -l no-name-check -d 'pairs mates whatever their names'
+    complete -c $name -n '__fq_prog_wants trimming' -l sync -d 'waits until the outputs are on disk'
+    complete -c $name -n '__fq_prog_wants trimming' -l report -rF -d 'writes counts of pairs, reads, bases and steps as JSON'
+    # end of offers-for-fish
+    complete -c $name -n '__fq_prog_wants command' -s V -l version -d 'print the version'
+    complete -c $name -s h -l help -d 'print help'
+    complete -c $name -n '__fq_prog_wants file' -F
 end

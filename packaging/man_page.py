@@ -135,4 +135,5 @@ def main():
     print(ENDING, end='')
 
 
-main()
+if __name__ == '__main__':
+    main()

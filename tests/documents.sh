@@ -6,6 +6,7 @@
 #   runs.
 # - docs/ARCHITECTURE.md lists the crates and what they depend on as crates.txt does, and each name
 #   in docs/PROVED.md is in the code.
+# - What is made of the help and of the schema of a report is as packaging/made.py makes it.
 # - The version and its day are those of CHANGELOG.md everywhere (packaging/version.sh).
 # - Each file, and each heading, that a document links to exists.
 # - Every line of a document, outside tables and code, is at most 100 columns wide (DOCUMENTS_WIDTH
@@ -87,6 +88,16 @@ compare_statuses() {
 # shown FILE WHAT: a block of code of README.md holds the lines of FILE, one after the other
 shown() {
   awk -v RS='\f\n' -v want="$(cat "$1")" 'index("\n" $0, "\n" want "\n") { found = 1 } END { exit !found }' "$work/code" || fail "README.md doesn't show $2: $(cat "$1")"
+}
+
+# The parts of the manual page, the completions, the description for CWL and docs/FORMAT.md that
+# packaging/made.py makes.
+compare_made() {
+  if ! command -v python3 > /dev/null; then
+    echo 'documents: the parts that are made: skipped: needs python3'
+  elif ! python3 packaging/made.py --check "$program"; then
+    fail "parts differ; make them by: packaging/made.py $program"
+  fi
 }
 
 # Runs the block of README.md that makes r1.fq and r2.fq and trims them.
@@ -266,6 +277,7 @@ measure_sentences() {
 bash packaging/version.sh --check || fail 'places name another version than CHANGELOG.md (packaging/version.sh sets it)'
 compare_names
 compare_statuses
+compare_made
 first_run
 compare_crates
 compare_proved

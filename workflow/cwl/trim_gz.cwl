@@ -54,7 +54,10 @@ inputs:
     doc: what quality bytes are (sanger)
     type:
       - "null"
-      - {type: enum, symbols: [sanger, illumina13, solexa]}
+      - type: enum
+        # made by packaging/made.py: encodings
+        symbols: [sanger, illumina13, solexa]
+        # end of encodings
     inputBinding: {prefix: --encoding, position: 4}
   no_name_check:
     doc: takes mates with different names as pairs

@@ -1,0 +1,353 @@
+#!/usr/bin/env python3
+"""usage: packaging/made.py [--check] PROGRAM
+
+Makes the parts of files that follow from what PROGRAM (fq_prog) prints with --help and from
+docs/report.schema.json: of the manual page, the completions, the description for CWL, and the
+tables of docs/FORMAT.md. A part lies between the lines 'made by packaging/made.py: NAME' and
+'end of NAME', which are comments of the file. --check changes nothing, prints each part that
+differs, and ends with status 1 if one does."""
+
+import difflib
+import json
+import re
+import subprocess
+import sys
+from pathlib import Path
+from typing import Any, Callable, Dict, Iterator, List, NamedTuple, Tuple
+
+from man_page import plain, sentences
+
+TREE = Path(__file__).resolve().parent.parent
+FILES = ['man/fq_prog.1', 'completions/fq_prog.bash', 'completions/fq_prog.fish',
+         'completions/_fq_prog', 'workflow/cwl/trim_gz.cwl', 'docs/FORMAT.md']
+PART = re.compile(r'(?ms)^([^\n]*made by packaging/made\.py: ([a-z-]+)[^\n]*\n)'
+                  r'.*?^([^\n]*end of \2\b[^\n]*)$')
+
+
+class Option(NamedTuple):
+    """An option of the help. `value` is empty if it takes none."""
+    short: str
+    name: str
+    value: str
+    text: str
+    default: str
+
+
+class Help(NamedTuple):
+    """What the help of a trimming command names: terms with their texts, and options."""
+    inputs: List[Tuple[str, str]]
+    outputs: List[Tuple[str, str]]
+    options: List[Option]
+    before_steps: str
+    steps: List[Tuple[str, str]]
+    after_steps: str
+    statuses: List[Tuple[str, str]]
+
+
+Makers = Dict[str, Callable[[], List[str]]]
+
+
+# ---- The help
+
+def items(lines: List[str]) -> List[Tuple[str, str]]:
+    """The terms of a list with their texts, which may go on in lines that are indented further."""
+    found: List[Tuple[str, str]] = []
+    for line in lines:
+        begun = re.match(r'(?: {2}| {6})(\S.*?)(?: {2,}(\S.*))?$', line)
+        if begun:
+            found.append((begun[1], begun[2] or ''))
+        elif found and line.strip():
+            found[-1] = (found[-1][0], f'{found[-1][1]} {line.strip()}'.strip())
+    return found
+
+
+def section(text: str, heading: str) -> List[str]:
+    """The lines after the one with this heading, up to an empty line."""
+    found = re.search(rf'(?ms)^{heading}:\n(.*?)(?:\n\n|\Z)', text)
+    if not found:
+        raise SystemExit(f'made: the help has no {heading}')
+    return found[1].split('\n')
+
+
+def option_of(term: str, text: str) -> Option:
+    """An option by its line of help, such as `-h, --help` or `--threads <N>`."""
+    parts = re.fullmatch(r'(?:(-\w), )?(--[a-z-]+)(?: <(\w+)>)?', term)
+    if not parts:
+        raise SystemExit(f'made: not an option: {term}')
+    about = re.fullmatch(r'(.*?)\s*(?:\[default: ([^]]*)\])?', text, re.S)
+    assert about
+    return Option(parts[1] or '', parts[2], parts[3] or '', about[1], about[2] or '')
+
+
+def help_of(text: str) -> Help:
+    """The parts of the help of PE or IL."""
+    arguments = [(term.strip('<>[].'), about) for term, about in items(section(text, 'Arguments'))]
+    files = [(term, about) for term, about in arguments if term != 'STEPS']
+    steps = re.search(r'(?ms)^(Steps run .*?:\n)((?: {2}[^\n]*\n)+)(.*?)\n\n', text)
+    statuses = re.search(r'(?s)Exit status: (.*?)\.\s*\Z', text)
+    if not steps or not statuses:
+        raise SystemExit('made: the help has no steps or no exit status')
+    numbered = re.split(r'; (?=\d )', ' '.join(statuses[1].split()))
+    return Help(
+        inputs=[file for file in files if not file[1].startswith('Output: ')],
+        outputs=[(term, about[len('Output: '):]) for term, about in files
+                 if about.startswith('Output: ')],
+        options=[option_of(*item) for item in items(section(text, 'Options'))],
+        before_steps=' '.join(steps[1].split()),
+        steps=items(steps[2].split('\n')),
+        after_steps=' '.join(steps[3].split()),
+        statuses=[(each.split(' ', 1)[0], each.split(' ', 1)[1]) for each in numbered])
+
+
+def encodings(options: List[Option]) -> List[str]:
+    """The names that the help of --encoding explains, as `sanger (score + 33)`."""
+    text = next(option.text for option in options if option.name == '--encoding')
+    return re.findall(r'\b([a-z][a-z0-9]*) \((?=[^)]*score)', text)
+
+
+def lower(text: str) -> str:
+    return text[:1].lower() + text[1:]
+
+
+def brief(text: str) -> str:
+    """The first part of a help text, as completions show it."""
+    return lower(re.split(r'[:;]| \(FASTQ\)|\. ', text)[0])
+
+
+# ---- The manual page
+
+def italic(text: str) -> str:
+    """A line of the page, with the letters of the steps' numbers in italics."""
+    return re.sub(r"(?<![\w'])([tmw])(?![\w'])", r'\\fI\1\\fR', text)
+
+
+def upper(text: str) -> str:
+    return text[:1].upper() + text[1:] + ('' if text.endswith('.') else '.')
+
+
+def man_options(options: List[Option]) -> Iterator[str]:
+    for option in options:
+        yield '.TP'
+        name = plain(option.name)
+        if option.value:
+            yield f'.BI {name} " {option.value}"'
+        elif option.short:
+            yield f'.BR {plain(option.short)} ", " {name}'
+        else:
+            yield f'.B {name}'
+        yield from sentences([upper(option.text)])
+        if option.default:
+            yield f'Default: {plain(option.default)}.'
+
+
+def man_steps(found: Help) -> Iterator[str]:
+    yield from map(italic, sentences([re.sub(r':$', '.', found.before_steps)]))
+    for term, text in found.steps:
+        parts = term.split(':')
+        yield '.TP'
+        yield f'.BI {parts[0]}: {" : ".join(parts[1:])}' if parts[1:] else f'.B {parts[0]}'
+        yield from map(italic, sentences([upper(text)]))
+    yield '.PP'
+    yield from sentences([found.after_steps])
+
+
+def man_files(pairs: Help, interleaved: Help) -> Iterator[str]:
+    inputs = dict(pairs.inputs + interleaved.inputs)
+    outputs = [(term, f'Written: {text}') for term, text in pairs.outputs]
+    for term, text in [*inputs.items(), *outputs]:
+        yield '.TP'
+        yield f'.I {term}'
+        yield from sentences([upper(text)])
+
+
+def man_statuses(found: Help) -> Iterator[str]:
+    for number, text in found.statuses:
+        yield from ['.TP', f'.B {number}', *sentences([upper(text)])]
+
+
+# ---- Completions
+
+def names(options: List[Option], values: Callable[[str], bool]) -> List[str]:
+    return [option.name for option in options if values(option.value)]
+
+
+def step_words(found: Help) -> List[str]:
+    """The steps as they are offered: one that takes a number ends in a colon."""
+    return [term.split(':')[0] + ':' * (':' in term) for term, _ in found.steps]
+
+
+def bash_lines(commands: List[Tuple[str, str]], pairs: Help, interleaved: Help) -> List[str]:
+    lists = {
+        'commands': [name for name, _ in commands],
+        'with_file': names(pairs.options, lambda value: value == 'FILE'),
+        'with_value': names(pairs.options, lambda value: value not in ('', 'FILE')),
+        'flags': names(pairs.options, lambda value: not value),
+        'encodings': encodings(pairs.options),
+        'steps': step_words(pairs),
+    }
+    counts = {'PE': pairs, 'IL': interleaved}
+    return [*(f"  {name}='{' '.join(words)}'" for name, words in lists.items()),
+            '  case $command in',
+            *(f'    {name}) files={len(each.inputs + each.outputs)} ;;'
+              for name, each in counts.items()),
+            '  esac']
+
+
+def fish_lists(pairs: Help, interleaved: Help) -> List[str]:
+    lines = ['# The options that take a value.', 'function __fq_prog_valued',
+             f"    printf '%s\\n' {' '.join(names(pairs.options, bool))}", 'end', '',
+             '# The number of files that a command takes.', 'function __fq_prog_files',
+             '    switch $argv[1]']
+    for name, each in (('PE', pairs), ('IL', interleaved)):
+        lines += [f'        case {name}', f'            echo {len(each.inputs + each.outputs)}']
+    return [*lines, "        case '*'", '            return 1', '    end', 'end']
+
+
+def fish_lines(commands: List[Tuple[str, str]], pairs: Help) -> Iterator[str]:
+    def quoted(text: str) -> str:
+        return "'" + text.replace('\\', '\\\\').replace("'", "\\'") + "'"
+    start = '    complete -c $name -n'
+    for name, text in commands:
+        yield f"{start} '__fq_prog_wants command' -a {name} -d {quoted(brief(text))}"
+    yield f"{start} '__fq_prog_wants step' -a {quoted(' '.join(step_words(pairs)))}"
+    for option in pairs.options:
+        if option.name == '--help':
+            continue
+        takes = {'': '', 'FILE': ' -rF'}.get(option.value, ' -x')
+        if option.name == '--encoding':
+            takes += f" -a {quoted(' '.join(encodings(pairs.options)))}"
+        yield (f"{start} '__fq_prog_wants trimming' -l {option.name[2:]}{takes}"
+               f' -d {quoted(brief(option.text))}')
+
+
+def zsh_text(text: str) -> str:
+    """Text in single quotes, where brackets and colons have a meaning."""
+    return re.sub(r'([\[\]:\\])', r'\\\1', brief(text)).replace("'", "'\\''")
+
+
+def zsh_options(options: List[Option]) -> Iterator[str]:
+    for option in options:
+        about = f'[{zsh_text(option.text)}]'
+        if option.short:
+            yield f"    '({option.short} {option.name})'{{{option.short},{option.name}}}'{about}'"
+        elif not option.value:
+            yield f"    '{option.name}{about}'"
+        elif option.value == 'FILE':
+            yield f"    '{option.name}={about}:file:_files'"
+        elif option.name == '--encoding':
+            yield f"    '{option.name}={about}:encoding:({' '.join(encodings(options))})'"
+        else:
+            yield f"    '{option.name}={about}:number: '"
+
+
+def zsh_files(files: List[Tuple[str, str]]) -> Iterator[str]:
+    for _, text in files:
+        yield f"    ':{zsh_text(text)}:_files'"
+
+
+def zsh_steps(found: Help) -> List[str]:
+    words = step_words(found)
+    return ["  compadd -S '' -- " + ' '.join(word for word in words if word.endswith(':')),
+            '  compadd -- ' + ' '.join(word for word in words if not word.endswith(':'))]
+
+
+def zsh_commands(commands: List[Tuple[str, str]]) -> List[str]:
+    named = ' '.join(f'{name}\\:"{zsh_text(text)}"' for name, text in commands)
+    return [f"  local commands='(({named}))'"]
+
+
+# ---- Tables
+
+def option_table(options: List[Option]) -> Iterator[str]:
+    yield from ['', '| Option | Default | What it does |', '|---|---|---|']
+    for option in options:
+        term = f'`{option.name} {option.value}`' if option.value else f'`{option.name}`'
+        if option.short:
+            term = f'`{option.short}`, {term}'
+        yield f'| {term} | {option.default} | {lower(option.text)} |'
+    yield ''
+
+
+def rows(properties: Dict[str, Any], prefix: str = '') -> Iterator[Tuple[str, str]]:
+    """The fields of an object of the schema, with those of the objects in it that it writes out."""
+    for name, field in properties.items():
+        yield prefix + name, field.get('description', '')
+        inner = field.get('items', field)
+        yield from rows(inner.get('properties', {}) if not name == 'reads' else {},
+                        f'{prefix}{name}[].' if 'items' in field else f'{prefix}{name}.')
+
+
+def field_table(properties: Dict[str, Any]) -> Iterator[str]:
+    yield from ['', '| Field | What it is |', '|---|---|']
+    for name, text in rows(properties):
+        yield f'| `{name}` | {lower(text).rstrip(".")} |'
+    yield ''
+
+
+# ---- All parts
+
+def makers(program: str) -> Makers:
+    def printed(*words: str) -> str:
+        return subprocess.run([program, *words], check=True, stdout=subprocess.PIPE,
+                              universal_newlines=True).stdout
+    commands = [item for item in items(section(printed('--help'), 'Commands')) if item[0] != 'help']
+    pairs, interleaved = (help_of(printed(name, '--help')) for name in ('PE', 'IL'))
+    schema = json.loads((TREE / 'docs/report.schema.json').read_text())
+    inner = schema['$defs']
+    return {
+        'files-of-the-page': lambda: list(man_files(pairs, interleaved)),
+        'options-of-the-page': lambda: list(man_options(pairs.options)),
+        'steps-of-the-page': lambda: list(man_steps(pairs)),
+        'statuses-of-the-page': lambda: list(man_statuses(pairs)),
+        'words-for-bash': lambda: bash_lines(commands, pairs, interleaved),
+        'words-for-fish': lambda: fish_lists(pairs, interleaved),
+        'offers-for-fish': lambda: list(fish_lines(commands, pairs)),
+        'steps-for-zsh': lambda: zsh_steps(pairs),
+        'options-for-zsh': lambda: list(zsh_options(pairs.options)),
+        'inputs-of-pe-for-zsh': lambda: list(zsh_files(pairs.inputs)),
+        'inputs-of-il-for-zsh': lambda: list(zsh_files(interleaved.inputs)),
+        'outputs-for-zsh': lambda: list(zsh_files(pairs.outputs)),
+        'commands-for-zsh': lambda: zsh_commands(commands),
+        'encodings': lambda: [f'        symbols: [{", ".join(encodings(pairs.options))}]'],
+        'options': lambda: list(option_table(pairs.options)),
+        'fields': lambda: list(field_table(schema['properties'])),
+        'fields-of-a-side': lambda: list(field_table(inner['side']['properties'])),
+        'fields-of-reads': lambda: list(field_table(inner['reads']['properties'])),
+        'lists-of-positions': lambda: list(field_table(inner['positions']['properties'])),
+    }
+
+
+def remade(text: str, made: Makers) -> str:
+    """The text of a file with each of its parts made anew."""
+    def part(found: 're.Match[str]') -> str:
+        return found[1] + ''.join(line + '\n' for line in made[found[2]]()) + found[3]
+    return PART.sub(part, text)
+
+
+def main() -> int:
+    words = sys.argv[1:]
+    check = words[:1] == ['--check']
+    words = words[check:]
+    if len(words) != 1 or words[0].startswith('-'):
+        print(__doc__)
+        return int(words != ['--help'])
+    made = makers(str(Path(words[0]).resolve()))
+    used, different = set(), 0
+    for name in FILES:
+        path = TREE / name
+        text = path.read_text()
+        used |= {found[2] for found in PART.finditer(text)}
+        new = remade(text, made)
+        if new != text and check:
+            sys.stdout.writelines(difflib.unified_diff(
+                text.splitlines(True), new.splitlines(True), name, f'{name}, made', n=0))
+            different = 1
+        elif new != text:
+            path.write_text(new)
+    for name in sorted(made.keys() - used):
+        print(f'made: no file has the part {name}')
+        different = 1
+    return different
+
+
+sys.exit(main())
