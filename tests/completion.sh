@@ -12,9 +12,12 @@ find_program
 work=$(mktemp -d)
 trap 'rm -rf "$work"' EXIT
 share=${1:-$work/share}
-steps='AVGQUAL: CROP: HEADCROP: LEADING: MINLEN: SLIDINGWINDOW: TOPHRED33 TRAILING:'
 encodings='illumina13 sanger solexa'
 files='one.fq two.fq'
+
+# The steps that the help names. One that takes a number is offered with its colon.
+steps=$("$program" PE --help | sed -nE 's/^  ([A-Z0-9]+)(:[a-z])* {2,}.*/\1\2/p' | sed 's/:.*/:/' | sort | paste -sd ' ')
+[ "$(wc -w <<< "$steps")" -ge 8 ] || fail 'help lists no steps'
 
 # lay_out NAME SECOND: the three files of a command, and the name by which it is also called
 lay_out() {
