@@ -1,12 +1,10 @@
 #!/usr/bin/env python3
-"""usage: packaging/made.py [--check] PROGRAM
-
-Makes the parts of files that follow from what PROGRAM (fq_prog) prints with --help and from
+"""Makes the parts of files that follow from what fq_prog prints with --help and from
 docs/report.schema.json: of the manual page, the completions, the description for CWL, and the
 tables of docs/FORMAT.md. A part lies between the lines 'made by packaging/made.py: NAME' and
-'end of NAME', which are comments of the file. --check changes nothing, prints each part that
-differs, and ends with status 1 if one does."""
+'end of NAME', which are comments of the file."""
 
+import argparse
 import difflib
 import json
 import re
@@ -325,20 +323,19 @@ def remade(text: str, made: Makers) -> str:
 
 
 def main() -> int:
-    words = sys.argv[1:]
-    check = words[:1] == ['--check']
-    words = words[check:]
-    if len(words) != 1 or words[0].startswith('-'):
-        print(__doc__)
-        return int(words != ['--help'])
-    made = makers(str(Path(words[0]).resolve()))
+    parser = argparse.ArgumentParser(description=__doc__)
+    parser.add_argument('program', type=Path, help='fq_prog, whose help is asked for')
+    parser.add_argument('--check', action='store_true', help='change nothing, print each part that '
+                        'differs, and end with status 1 if one does')
+    arguments = parser.parse_args()
+    made = makers(str(arguments.program.resolve()))
     used, different = set(), 0
     for name in FILES:
         path = TREE / name
         text = path.read_text()
         used |= {found[2] for found in PART.finditer(text)}
         new = remade(text, made)
-        if new != text and check:
+        if new != text and arguments.check:
             sys.stdout.writelines(difflib.unified_diff(
                 text.splitlines(True), new.splitlines(True), name, f'{name}, made', n=0))
             different = 1
