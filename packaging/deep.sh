@@ -7,8 +7,8 @@ cd "$(dirname "$0")/.."
 if [ "${1-}" = --help ]; then
   echo "usage: packaging/deep.sh [CRATE..]
 Copies the crates, moves crates/CRATE/wrong-bodies/*.edit into crates/CRATE/must-fail/ of the copy,
-and runs 'rt ci CRATE..' there. Without CRATE it tries the edits of every crate. The last line is
-'N wrong bodies refused, M not'.
+and runs 'rt ci CRATE..' there. Without CRATE it tries the edits of every crate, and the recipes of
+CONTRIBUTING.md (tests/rehearsal.sh --try). The last line is 'N wrong bodies refused, M not'.
 From kit 13f on, 'rt ci' doesn't prove again what it proved before in any checkout on this machine.
 So after a gate only the edits take time, about 24 processor seconds each. Each refused edit is kept
 at once, so after an interruption the next run tries only the others. The 'rt ci' of an older kit
@@ -28,6 +28,7 @@ ci_takes_crates() {
 room=$(mktemp -d)
 trap 'rm -rf "$room"' EXIT
 
+crates_given=$#
 if [ $# -gt 0 ]; then
   try=(rt must-fail "$@")
 else
@@ -73,6 +74,9 @@ for edit in "${wanted[@]}"; do
 done
 if [ "$status" -ne 0 ]; then
   echo "deep: '${try[*]}' ended with status $status"
+fi
+if [ "$crates_given" -eq 0 ]; then
+  bash tests/rehearsal.sh --try || status=1
 fi
 echo "$refused wrong bodies refused, $((${#wanted[@]} - refused)) not"
 [ "$status" -eq 0 ] && [ "$refused" -eq "${#wanted[@]}" ]
