@@ -582,7 +582,7 @@ if has cutadapt cutadapt; then
   for each in a2 b2; do with_adapters $each "${adapters#*,}" > "x$each"; done
   cat xa1 xb1 > xf
   cat xa2 xb2 > xr
-  paste -d '\n' <(paste - - - - < xf) <(paste - - - - < xr) | tr '\t' '\n' > xi
+  in_turn xf xr > xi
   for each in xa1 xb1 xa2 xb2 xi; do gzip -1 < $each > $each.gz; done
   printf '>one\n%s\n>two\n%s\n' "${adapters%,*}" "${adapters#*,}" > adapters.fa
   plain=$work/cut
@@ -611,6 +611,10 @@ END
   row='adapters, an interleaved file'
   made -i data/xi.gz "${outputs[@]}" --adapters "$adapters" --threads 1 "${last[@]}"
   as_plain p1.fq u1.fq p2.fq u2.fq
+  row='adapters, and both mates in turn'
+  in_turn "$plain/p1.fq" "$plain/p2.fq" > "$plain/il.fq"
+  made "${lanes[@]}" --interleaved out/il.fq.gz --no-unpaired --adapters "$adapters" "${last[@]}"
+  as_plain il.fq
   row='adapters of a file, and options'
   cut_plainly -a file:adapters.fa -A file:adapters.fa -e 0.2 -O 5 -m 30
   made "${lanes[@]}" "${outputs[@]}" --adapters data/adapters.fa --cutadapt '-e 0.2 -O 5 -m 30' "${last[@]}"

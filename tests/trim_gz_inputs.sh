@@ -66,7 +66,7 @@ numbered 2 r > n2.gz
 numbered 3 r > n3.gz
 numbered 1 r > n4.gz
 gzip -dc n1.gz > n1
-paste -d '\n' <(gzip -dc n2.gz | paste - - - -) <(gzip -dc n1.gz | paste - - - -) | tr '\t' '\n' > n21
+in_turn <(gzip -dc n2.gz) n1 > n21
 exchanged() { echo "trim_gz: the sides seem to be exchanged: the first read numbers are $1 and 1: $2 (--no-name-check passes them)"; }
 refused 3 "$(exchanged 2 'data/n2.gz, data/n1.gz')" -1 data/n2.gz -2 data/n1.gz "${rest[@]}"
 refused 3 "$(exchanged 3 'data/n3.gz, data/n1')" -1 data/n3.gz -2 data/n1 "${rest[@]}"

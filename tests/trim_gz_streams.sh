@@ -8,8 +8,6 @@ set -uo pipefail
 find_program
 . tests/trim_gz/common.bash
 
-# in_turn FILE FILE: both mates of each pair in turn
-in_turn() { paste -d '\n' <(paste - - - - < "$1") <(paste - - - - < "$2") | tr '\t' '\n'; }
 in_turn "$plain/p1.fq" "$plain/p2.fq" > "$plain/il.fq"
 row='mates in turn, as seqtk has them'
 if has seqtk seqtk; then

@@ -99,6 +99,9 @@ as_plain() {
   cmp -s "$work/printed" "$plain/summary" || fail 'the summary is not as over plain files'
 }
 
+# in_turn FILE FILE: both mates of each pair in turn
+in_turn() { paste -d '\n' <(paste - - - - < "$1") <(paste - - - - < "$2") | tr '\t' '\n'; }
+
 # same_report FILE: it is that of the program on plain files, except for the names of the files
 same_report() {
   diff <(nameless "$1") <(nameless "$work/plain/report") > /dev/null || fail 'the report is not as over plain files'
@@ -113,7 +116,7 @@ draw 1501 4000 1 > b1
 draw 1501 4000 2 > b2
 cat a1 b1 > f
 cat a2 b2 > r
-paste -d '\n' <(paste - - - - < f) <(paste - - - - < r) | tr '\t' '\n' > i
+in_turn f r > i
 for name in a1 a2 b1 b2 f r i; do gzip -1 < "$name" > "$name.gz"; done
 "$program" PE --trimlog "$work/plain/log" --report "$work/plain/report" f r "$work/plain/p1.fq" "$work/plain/u1.fq" "$work/plain/p2.fq" "$work/plain/u2.fq" \
   "${steps[@]}" > "$work/plain/summary"
