@@ -423,6 +423,11 @@ stopped() {
   victim=$pid
   [ "${#around[@]}" -eq 0 ] || victim=$(pgrep -P "$pid")
   kill -s "$1" -- "$3$victim"
+  for _ in {1..400}; do
+    kill -0 "$pid" 2> /dev/null || break
+    sleep 0.05
+  done
+  kill -KILL "$victim" "$pid" 2> /dev/null && fail "SIG$1 does not end it"
   wait "$pid" 2> /dev/null
   got=$?
   kill "$fed"
