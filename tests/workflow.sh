@@ -366,6 +366,12 @@ with_adapters() {
   call 0 --profile profiles/local --config trim_logs=False adapters=adapters.fa
   ran 4
   same_after_cutadapt s1
+  row='adapters by lanes'
+  call 0 --profile profiles/local --config trim_logs=False adapters=adapters.fa scatter=lanes
+  ran 0 2 1
+  same_after_cutadapt s1
+  [ "$(sed 1d results/report_data/multiqc_cutadapt.txt | cut -f 1 | paste -sd' ')" = 's1_L001 s1_L002 s2 s3 s4' ] || fail 'the page has no part of cutadapt for each lane'
+  row='a file of adapters that changes'
   printf '>two\nGGGGGGGGGGGGGGG\n' >> adapters.fa
   call 0 --profile profiles/local --config trim_logs=False adapters=adapters.fa
   ran 4
