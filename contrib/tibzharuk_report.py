@@ -8,10 +8,11 @@ alone.
 
 import itertools
 import json
-from typing import Any, Callable, Dict, Iterable, List, Mapping, Optional
+from typing import Any, Callable, Dict, Iterable, List, Mapping, Optional, Sequence, Tuple
 
 Report = Dict[str, Any]
 Reads = Dict[str, Any]  # what a report counts of one set of reads
+Rows = Sequence[Tuple[int, int]]  # a number, and how many reads have it
 Form = Callable[[Any, str], None]  # takes a value and the name of its place, and may refuse it
 
 SIDES = ("forward", "reverse")
@@ -224,6 +225,14 @@ def sums(a: List[int], b: List[int]) -> List[int]:
     return [x + y for x, y in itertools.zip_longest(a, b, fillvalue=0)]
 
 
+def added_rows(a: Rows, b: Rows) -> Rows:
+    """The rows [number, reads] of two sets of reads as those of one set, in rising order."""
+    found = dict(a)
+    for number, reads in b:
+        found[number] = found.get(number, 0) + reads
+    return sorted(found.items())
+
+
 def both(a: Reads, b: Reads) -> Reads:
     """The counts of two sets of reads as those of one set.
 
@@ -234,10 +243,7 @@ def both(a: Reads, b: Reads) -> Reads:
         whole[name] = pick(known) if known else None
     for name in ROWS:
         if name in a and name in b:
-            found = dict(a[name])
-            for number, reads in b[name]:
-                found[number] = found.get(number, 0) + reads
-            whole[name] = sorted(found.items())
+            whole[name] = added_rows(a[name], b[name])
     if "positions" in a and "positions" in b:
         whole["positions"] = {
             name: sums(a["positions"][name], b["positions"][name]) for name in POSITIONS

@@ -132,6 +132,10 @@ row='the page of a sum of lanes'
 "$script" --lane L001 plain.json --lane 'L<2' small.json lanes.json > lanes.html || fail "status $?"
 check page lanes.json lanes.html || fail 'it is not that of the sum'
 grep -qF '<th scope="row">L&lt;2</th><td>20</td>' lanes.html || fail 'it lacks a lane'
+row='a sum that is larger than a count can be'
+sed 's/"score_sum":[0-9]*,/"score_sum":18446744073709551615,/' plain.json > most.json
+"$tree/contrib/report_sum" most.json small.json > sum.json || fail "status $?"
+python3 -c 'import json; assert json.load(open("sum.json"))["reads"]["forward"]["before"]["score_sum"] == 2**64 - 1' || fail 'it is another number'
 row='reports that do not belong together'
 # apart LINE WORDS..: these words end with status 1 and that line alone
 apart() {
