@@ -34,7 +34,9 @@ docs/LAB.md | tibzharuk- | -oci\.tar
 docs/LAB.md | Tibzharuk \(fq_prog\) | , with the steps
 packaging/Containerfile | VERSION= | -t tibz
 packaging/Containerfile | -t tibzharuk: | dist
+docs/LAB.md | `tibzharuk: | `
 workflow/cwl/trim_gz.cwl | ^ *version: \[" | "\]$
+workflow/cwl/trim_gz.cwl | ^ *dockerImageId: tibzharuk: | $
 CITATION.cff | ^version: | $
 contrib/tibzharuk_multiqc.egg-info/PKG-INFO | ^Version: | $
 END
