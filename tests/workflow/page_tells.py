@@ -104,7 +104,7 @@ def check_lanes(page):
     a score of at least 30 and G and C before trimming, and the mean length after it."""
     with open(page.data, encoding="utf-8") as file:
         section = file.read().split("<h2>Lanes</h2>")[1].split("</section>")[0]
-    rows = [re.findall(r">([^<]+)<", row) for row in section.split("<tr>") if 'scope="row"' in row]
+    rows = [re.findall(r">([^<]+)<", row.split("</tr>")[0]) for row in section.split("<tr>") if 'scope="row"' in row]
     pairs = {lane: len(page.before(lane, "forward")) for lane in page.samples}
     wanted = []
     for lane, read in pairs.items():
