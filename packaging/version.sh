@@ -37,6 +37,7 @@ packaging/Containerfile | -t tibzharuk: | dist
 docs/LAB.md | `tibzharuk: | `
 workflow/cwl/trim_gz.cwl | ^ *version: \[" | "\]$
 workflow/cwl/trim_gz.cwl | ^ *dockerImageId: tibzharuk: | $
+tests/rehearsal/report_field.patch | "version": ?" | "\}$
 CITATION.cff | ^version: | $
 contrib/tibzharuk_multiqc.egg-info/PKG-INFO | ^Version: | $
 END
