@@ -1,0 +1,5 @@
+pub mod FrontLemmas
+pub mod TwoTextLemmas
+pub mod InterleavedLemmas
+pub mod PartLemmas
+pub mod WorkedExamples
