@@ -7,3 +7,4 @@ pub mod RunLemmas
 pub mod FileLemmas
 pub mod ReportLemmas
 pub mod WorkedExamples
+pub mod EverythingLemmas

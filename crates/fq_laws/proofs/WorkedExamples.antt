@@ -1,6 +1,6 @@
 -- Two worked pairs under LEADING:3, and what the laws say about them, computed from the definitions
 -- alone. Then the two kinds of reads that can't be read again.
-use Rattle.std.proofs.Common.{◌≡◌, ℕ, true, Some, None, List, [], ◌∷◌, codes, length, filter, map, refl}
+use Rattle.std.proofs.Common.{◌≡◌, ℕ, true, Some, None, List, [], ◌∷◌, codes, length, take, filter, map, refl}
 use Rattle.std.specs.List.{All}
 use Rattle.std.proofs.lemmas.List.Elements.{All-nil, All-cons}
 use Rattle.fq_text.specs.declared.encoding.Encoding.TheVariants.{Sanger, Illumina13}
@@ -9,13 +9,17 @@ use Rattle.fq_text.specs.Grammar.{Read}
 use Rattle.fq_text.specs.Records.{records}
 use Rattle.fq_trim.specs.declared.step.Step.{Step}
 use Rattle.fq_trim.specs.declared.step.Step.TheVariants.{Leading, HeadCrop, ToPhred33}
+use Rattle.fq_pair.specs.declared.side.Side.TheVariants.{Reverse}
+use Rattle.fq_pair.specs.declared.fault.InputFault.TheVariants.{MateMissing}
 use Rattle.fq_pair.specs.Mates.{Mates}
+use Rattle.fq_pair.specs.Interleaved.{interleaved_pairs}
 use Rattle.fq_pair.specs.Pairing.{pairs, fault_following}
 use Rattle.fq_pair.specs.Outputs.{texts_of, counts_of, record_text, kept_places, log_numbers, both_survive, forward_alone}
 use Rattle.fq_tally.specs.Courses.{alone}
 use Rattle.fq_tally.specs.Tallies.{tally_of}
 use Rattle.fq_laws.specs.Pieces.{IsPlain, trimmed}
 use Rattle.fq_laws.specs.InStep.{forward_reads, reverse_reads}
+use Rattle.fq_laws.specs.Everything.{alternating}
 use Rattle.fq_laws.specs.Reports.{dropped_by}
 
 abbrev steps : List Step
@@ -32,6 +36,9 @@ forward = codes "@p1/1\nACGT\n+\n#!II\n@p2/1\nGGCC\n+\nIIII\n"
 abbrev reverse : List ℕ
 reverse = codes "@p1/2\nTTTT\n+\nIIII\n@p2/2\nAAAA\n+\n!!!\"\n"
 
+abbrev mixed : List ℕ
+mixed = codes "@p1/1\nACGT\n+\n#!II\n@p1/2\nTTTT\n+\nIIII\n@p2/1\nGGCC\n+\nIIII\n@p2/2\nAAAA\n+\n!!!\"\n"
+
 abbrev both : List Mates
 both = record { forward = read (codes "p1/1") (codes "ACGT") (codes "#!II"); reverse = read (codes "p1/2") (codes "TTTT") (codes "IIII") }
     ∷ record { forward = read (codes "p2/1") (codes "GGCC") (codes "IIII"); reverse = read (codes "p2/2") (codes "AAAA") (codes "!!!\"") }
@@ -39,6 +46,25 @@ both = record { forward = read (codes "p1/1") (codes "ACGT") (codes "#!II"); rev
 
 two_pairs : pairs true Sanger 0 forward reverse ≡ record { mates = both; fault = None }
 two_pairs = refl
+
+-- Nothing is lost: the mates of these pairs are all records of their texts. Without the second
+-- reverse record there is one pair, and its mates are the first records.
+
+all_forward : records Sanger forward ≡ record { reads = forward_reads both; fault = None }
+all_forward = refl
+
+all_reverse : records Sanger reverse ≡ record { reads = reverse_reads both; fault = None }
+all_reverse = refl
+
+all_mixed : records Sanger mixed ≡ record { reads = alternating both; fault = None }
+all_mixed = refl
+
+mixed_pairs : interleaved_pairs true Sanger 0 mixed ≡ record { mates = both; fault = None }
+mixed_pairs = refl
+
+one_pair : pairs true Sanger 0 forward (codes "@p1/2\nTTTT\n+\nIIII\n")
+    ≡ record { mates = take 1 both; fault = Some (MateMissing Reverse 2) }
+one_pair = refl
 
 -- The outputs.
 

@@ -3,3 +3,4 @@ pub mod InStep
 pub mod Runs
 pub mod Files
 pub mod Reports
+pub mod Everything

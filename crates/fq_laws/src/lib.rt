@@ -13,12 +13,14 @@
 //!   known, and the files that are made have different names.
 #![tactic(auto)]
 
+mod everything;
 mod files;
 mod outputs;
 mod reads;
 mod reports;
 mod runs;
 
+pub use everything::nothing_is_lost;
 pub use files::{files_left_are_in_step, whole_files_are_in_step};
 pub use outputs::{inputs_give_pairs, mates_stay_in_step, pairs_go_one_way, texts_are_joined};
 pub use reads::{letters_are_plain, reads_stay_in_one_piece};
