@@ -6,8 +6,10 @@
 #![tactic(auto)]
 
 mod help;
+mod laws;
 mod request;
 mod words;
 
+pub use laws::usual_command_lines;
 pub use request::{Inputs, Request, encoding_of, report_is_input, same_name};
 pub use words::{Asked, VERSION, read_words};
