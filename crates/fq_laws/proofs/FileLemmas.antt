@@ -1,15 +1,42 @@
 -- What the program leaves in files is in step.
-use Rattle.std.proofs.Common.{List, ℕ, sym, subst, ⊎_elim, inl, inr}
+use Rattle.std.proofs.Common.{◌≡◌, ◌∙◌, Option, Some, None, List, ℕ, ap, sym, subst, refl, arith, ⊎_elim, inl, inr}
+use Rattle.fq_text.specs.declared.fault.TextFault.TheVariants as text
 use Rattle.fq_pair.specs.declared.out.Out.{Out}
 use Rattle.fq_pair.specs.declared.counts.Counts.{Counts}
+use Rattle.fq_pair.specs.declared.fault.InputFault.{InputFault}
+use Rattle.fq_pair.specs.declared.fault.InputFault.TheVariants.{Text, MateMissing, NamesDiffer}
 use Rattle.fq_pair.specs.Outputs.{texts_of, text_of}
 use Rattle.fq_serial.specs.Fates.{block_begun}
+use Rattle.fq_serial.specs.declared.outcome.Outcome.TheVariants.{Input}
+use Rattle.fq_serial.specs.Endings.{trimmed_outcome}
+use Rattle.fq_job.specs.Faults.{outcome_status}
 use Rattle.fq_job.specs.Trimming.{pairs_of}
 use Rattle.fq_laws.specs.InStep.{IsPairIn, AreInStep}
 use Rattle.fq_laws.specs.Files.{WholeFilesAreInStep, FilesLeftAreInStep}
 use Rattle.fq_laws.proofs.TextLemmas.{inputs_give_pairs}
 use Rattle.fq_laws.proofs.InStepLemmas.{texts_are_in_step}
 use Rattle.fq_laws.proofs.RunLemmas.{still_first, first_are_pairs}
+
+-- a run that ended at a fault doesn't have status 0
+faulty : (fault : InputFault) → outcome_status (Input fault) ≡ 0 → ⊥
+faulty (Text side (text.NoTitle k)) e = absurd (omega (arith, e))
+faulty (Text side (text.BadSequence k)) e = absurd (omega (arith, e))
+faulty (Text side (text.NoPlus k)) e = absurd (omega (arith, e))
+faulty (Text side (text.PlusDiffers k)) e = absurd (omega (arith, e))
+faulty (Text side (text.BadQuality k)) e = absurd (omega (arith, e))
+faulty (Text side (text.QualityLong k)) e = absurd (omega (arith, e))
+faulty (Text side (text.QualityShort k)) e = absurd (omega (arith, e))
+faulty (Text side (text.TooLong k)) e = absurd (omega (arith, e))
+faulty (Text side text.Read) e = absurd (omega (arith, e))
+faulty (Text side text.Endless) e = absurd (omega (arith, e))
+faulty (Text side text.OutOfMemory) e = absurd (omega (arith, e))
+faulty (MateMissing side k) e = absurd (omega (arith, e))
+faulty (NamesDiffer k) e = absurd (omega (arith, e))
+
+complete : (fault : Option InputFault) → outcome_status (trimmed_outcome fault) ≡ 0 →
+    fault ≡ None
+complete None done = refl
+complete (Some fault) done = absurd (faulty fault done)
 
 pub whole_files : WholeFilesAreInStep
 whole_files a told old new out err status answered whole tells distinct =
@@ -27,6 +54,8 @@ whole_files a told old new out err status answered whole tells distinct =
       settings = trims.settings;
       forward_is = trims.forward_is;
       reverse_is = trims.reverse_is;
+      complete = λ done. complete (pairs_of c a.inputs.form trims.forward trims.reverse).fault
+          (ap outcome_status (sym trims.outcome_is) ∙ ends.status_is ∙ done);
       printed = ends.printed;
       held = trims.texts;
       in_step = subst (λ (counts : Counts). AreInStep c.check_names c.steps c.encoding ms counts texts) (sym trims.counts_are)

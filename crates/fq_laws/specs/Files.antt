@@ -1,5 +1,5 @@
 -- What the program leaves in files, read again as FASTQ.
-use Rattle.std.specs.Prelude.{◌≡◌, ◌≢◌, ◌⊎◌, ℕ, Bool, IsTrue, Some, Ok, List, ◌++◌}
+use Rattle.std.specs.Prelude.{◌≡◌, ◌≢◌, ◌⊎◌, ℕ, Bool, IsTrue, Some, None, Ok, List, ◌++◌}
 use Rattle.fq_files.specs.Holding.{Holding}
 use Rattle.fq_pair.specs.declared.out.Out.{Out}
 use Rattle.fq_pair.specs.declared.counts.Counts.{Counts}
@@ -24,8 +24,10 @@ HoldTexts a files texts = (out : Out) (name : List ℕ) →
 -- At status 0 and 3.
 
 -- The files hold the outputs of all pairs of the inputs, in step with each other and with the
--- summary that was printed.
-pub record FilesAreInStep (a : Asking) (old new : Holding) (out : Device) : Type 0 where
+-- summary that was printed. At status 0 no fault ends the pairs, so they are made of all records
+-- of the inputs (`NothingIsLost`).
+pub record FilesAreInStep (a : Asking)
+    (old new : Holding) (out : Device) (status : ℕ) : Type 0 where
   pub choices : Choices
   pub forward : List ℕ
   pub reverse : List ℕ
@@ -34,6 +36,7 @@ pub record FilesAreInStep (a : Asking) (old new : Holding) (out : Device) : Type
   pub settings : settings_of a ≡ Ok choices
   pub forward_is : old a.inputs.forward ≡ Some forward
   pub reverse_is : old a.inputs.reverse ≡ Some reverse
+  pub complete : status ≡ 0 → (pairs_of choices a.inputs.form forward reverse).fault ≡ None
   pub printed : TookPart out (summary_of counts)
   pub held : HoldTexts a new texts
   pub in_step : AreInStep choices.check_names choices.steps
@@ -44,7 +47,8 @@ abbrev pub WholeFilesAreInStep : Type 0
 WholeFilesAreInStep =
     (a : Asking) (told : Bool) (old new : Holding) (out err : Device) (status : ℕ) →
     PairsAnswered a told old new out err status →
-    (status ≡ 0) ⊎ (status ≡ 3) → IsTrue told → HasDistinctFiles a → FilesAreInStep a old new out
+    (status ≡ 0) ⊎ (status ≡ 3) → IsTrue told → HasDistinctFiles a →
+    FilesAreInStep a old new out status
 
 -- At every status except 6.
 

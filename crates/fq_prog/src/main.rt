@@ -4,8 +4,9 @@
 
 ghost use Rattle.std.specs.Prelude.{◌≡◌};
 
-use fq_command::{out_of_memory, program};
+use fq_command::out_of_memory;
 use fq_files::SystemFiles;
+use fq_laws::program_in_step;
 use fq_text::{FromWrite, Outlet, send};
 use std::alloc::{AllocError, Global};
 use std::env::Env;
@@ -37,7 +38,7 @@ fn main(rt: HostRuntime) -> ExitCode {
         return ExitCode::from(out_of_memory(&mut err));
     }
     let mut out = FromWrite::new(io::writer(&rt));
-    ExitCode::from(program(rt.alloc(), &rt, &words, &mut files, &mut out, &mut err))
+    ExitCode::from(program_in_step(rt.alloc(), &rt, &words, &mut files, &mut out, &mut err))
 }
 
 // Returns the arguments of the command line. The first is the program's name.
