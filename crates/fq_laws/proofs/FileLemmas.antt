@@ -11,10 +11,10 @@ use Rattle.fq_serial.specs.declared.outcome.Outcome.TheVariants.{Input}
 use Rattle.fq_serial.specs.Endings.{trimmed_outcome}
 use Rattle.fq_job.specs.Faults.{outcome_status}
 use Rattle.fq_job.specs.Trimming.{pairs_of}
-use Rattle.fq_laws.specs.InStep.{IsPairIn, AreInStep}
+use Rattle.fq_in_step.specs.InStep.{IsPairIn, AreInStep}
 use Rattle.fq_laws.specs.Files.{WholeFilesAreInStep, FilesLeftAreInStep}
-use Rattle.fq_laws.proofs.TextLemmas.{inputs_give_pairs}
-use Rattle.fq_laws.proofs.InStepLemmas.{texts_are_in_step}
+use Rattle.fq_in_step.proofs.TextLemmas.{inputs_give_pairs}
+use Rattle.fq_in_step.proofs.InStepLemmas.{texts_are_in_step}
 use Rattle.fq_laws.proofs.RunLemmas.{still_first, first_are_pairs}
 
 -- a run that ended at a fault doesn't have status 0

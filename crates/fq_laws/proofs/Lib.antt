@@ -1,10 +1,2 @@
-pub mod ReadLemmas
-pub mod PieceLemmas
-pub mod TextLemmas
-pub mod CountLemmas
-pub mod InStepLemmas
 pub mod RunLemmas
 pub mod FileLemmas
-pub mod ReportLemmas
-pub mod WorkedExamples
-pub mod EverythingLemmas

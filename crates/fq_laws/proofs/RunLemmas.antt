@@ -12,10 +12,10 @@ use Rattle.fq_serial.specs.Endings.{AreFirst, all_pairs}
 use Rattle.fq_serial.specs.Fates.{Fate, Unbroken, FlushFailed, WriteFailed, failed_outlet, block_begun, part_begun}
 use Rattle.fq_serial.specs.Outcomes.{rank}
 use Rattle.fq_job.specs.Trimming.{IsEmptyOutlet, AreEmpty}
-use Rattle.fq_laws.specs.InStep.{IsPairIn, AreInStep}
+use Rattle.fq_in_step.specs.InStep.{IsPairIn, AreInStep}
 use Rattle.fq_laws.specs.Runs.{HaveTaken, WholeRunsAreInStep, EndingsAreInStep}
-use Rattle.fq_laws.proofs.TextLemmas.{inputs_give_pairs}
-use Rattle.fq_laws.proofs.InStepLemmas.{texts_are_in_step}
+use Rattle.fq_in_step.proofs.TextLemmas.{inputs_give_pairs}
+use Rattle.fq_in_step.proofs.InStepLemmas.{texts_are_in_step}
 
 -- an outlet that began empty has taken its text
 has_taken : (old new : Option OutletState) (text : List ℕ) (failed : ℕ) → Took old new text failed →

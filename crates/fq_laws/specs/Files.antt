@@ -14,7 +14,7 @@ use Rattle.fq_job.specs.Judging.{settings_of}
 use Rattle.fq_job.specs.Trimming.{HasDistinctFiles, pairs_of}
 use Rattle.fq_job.specs.Leaving.{AreUntrimmed}
 use Rattle.fq_command.specs.Answers.{Device, TookPart, PairsAnswered}
-use Rattle.fq_laws.specs.InStep.{AreInStep}
+use Rattle.fq_in_step.specs.InStep.{AreInStep}
 
 -- the files of the outputs hold these texts
 abbrev pub HoldTexts : Asking → Holding → (Out → List ℕ) → Type 0

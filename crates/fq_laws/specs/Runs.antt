@@ -9,7 +9,7 @@ use Rattle.fq_serial.specs.Endings.{Run, IsTrimmed, EveryEnding, AreTold, AreFir
 use Rattle.fq_serial.specs.Fates.{Fate, Unbroken, part_begun}
 use Rattle.fq_serial.specs.Outcomes.{rank}
 use Rattle.fq_job.specs.Trimming.{AreEmpty}
-use Rattle.fq_laws.specs.InStep.{AreInStep}
+use Rattle.fq_in_step.specs.InStep.{AreInStep}
 
 -- the outlets have taken these texts
 abbrev pub HaveTaken : OutletStates → (Out → List ℕ) → Type 0

@@ -1,0 +1,8 @@
+pub mod ReadLemmas
+pub mod PieceLemmas
+pub mod TextLemmas
+pub mod CountLemmas
+pub mod InStepLemmas
+pub mod ReportLemmas
+pub mod EverythingLemmas
+pub mod WorkedExamples

@@ -1,0 +1,5 @@
+use Rattle.fq_in_step.proofs.TextLemmas.{inputs_give_pairs}
+use Rattle.fq_in_step.proofs.outputs.inputs_give_pairs.Goals as goal
+
+pub returns : goal.returns
+returns c = inputs_give_pairs

@@ -1,0 +1,5 @@
+use Rattle.fq_in_step.proofs.CountLemmas.{one_way}
+use Rattle.fq_in_step.proofs.outputs.pairs_go_one_way.Goals as goal
+
+pub returns : goal.returns
+returns c = one_way

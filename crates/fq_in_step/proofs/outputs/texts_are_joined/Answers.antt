@@ -1,0 +1,8 @@
+use Rattle.fq_pair.proofs.OutputLaws.{texts_of-append, joined_assoc}
+use Rattle.fq_in_step.proofs.outputs.texts_are_joined.Goals as goal
+
+pub returns-clause-texts : goal.returns-clause-texts
+returns-clause-texts c = texts_of-append
+
+pub returns-clause-groups : goal.returns-clause-groups
+returns-clause-groups c = joined_assoc

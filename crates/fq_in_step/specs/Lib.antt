@@ -1,0 +1,4 @@
+pub mod Pieces
+pub mod InStep
+pub mod Everything
+pub mod Reports

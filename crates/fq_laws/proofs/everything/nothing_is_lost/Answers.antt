@@ -1,8 +1,0 @@
-use Rattle.fq_laws.proofs.EverythingLemmas.{nothing_is_lost, nothing_is_lost_of_one}
-use Rattle.fq_laws.proofs.everything.nothing_is_lost.Goals as goal
-
-pub returns-clause-two_texts : goal.returns-clause-two_texts
-returns-clause-two_texts c = nothing_is_lost
-
-pub returns-clause-interleaved : goal.returns-clause-interleaved
-returns-clause-interleaved c = nothing_is_lost_of_one

@@ -1,5 +1,0 @@
-use Rattle.fq_laws.proofs.InStepLemmas.{texts_are_in_step}
-use Rattle.fq_laws.proofs.outputs.mates_stay_in_step.Goals as goal
-
-pub returns : goal.returns
-returns c = texts_are_in_step

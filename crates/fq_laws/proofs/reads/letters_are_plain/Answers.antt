@@ -1,5 +1,0 @@
-use Rattle.fq_laws.proofs.ReadLemmas.{letters_are_plain}
-use Rattle.fq_laws.proofs.reads.letters_are_plain.Goals as goal
-
-pub returns : goal.returns
-returns c = letters_are_plain

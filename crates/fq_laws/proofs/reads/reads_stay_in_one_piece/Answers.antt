@@ -1,5 +1,0 @@
-use Rattle.fq_laws.proofs.PieceLemmas.{one_piece}
-use Rattle.fq_laws.proofs.reads.reads_stay_in_one_piece.Goals as goal
-
-pub returns : goal.returns
-returns c = one_piece
