@@ -22,7 +22,8 @@ module _ (check : Bool) where
   abbrev taken : List Read → List Read → List Mates
   taken fs rs = take_while (belong check) (mates_of fs rs)
 
-  forward_split : (fs rs : List Read) → fs ≡ forward_reads (taken fs rs) ++ drop (length (taken fs rs)) fs
+  forward_split : (fs rs : List Read) → fs ≡ forward_reads (taken fs rs) ++ drop
+      (length (taken fs rs)) fs
   forward_split [] rs = refl
   forward_split (f ∷ fs) [] = refl
   forward_split (f ∷ fs) (r ∷ rs) =
@@ -30,12 +31,15 @@ module _ (check : Bool) where
       let ms = mates_of fs rs in
       let P : List Mates → Type 0 = λ xs. f ∷ fs ≡ forward_reads xs ++ drop (length xs) (f ∷ fs) in
       ⊎_elim
-      (λ is. subst P (sym (take_while-cons (belong check) m ms ∙ cond-true (belong check m) (m ∷ take_while (belong check) ms) [] is))
+      (λ is. subst P (sym (take_while-cons (belong check) m ms
+      ∙ cond-true (belong check m) (m ∷ take_while (belong check) ms) [] is))
       (ap (λ (xs : List Read). f ∷ xs) (forward_split fs rs)))
-      (λ is. subst P (sym (take_while-cons (belong check) m ms ∙ cond-false (belong check m) (m ∷ take_while (belong check) ms) [] is)) refl)
+      (λ is. subst P (sym (take_while-cons (belong check) m ms
+      ∙ cond-false (belong check m) (m ∷ take_while (belong check) ms) [] is)) refl)
       (cases_Bool (belong check m))
 
-  reverse_split : (fs rs : List Read) → rs ≡ reverse_reads (taken fs rs) ++ drop (length (taken fs rs)) rs
+  reverse_split : (fs rs : List Read) → rs ≡ reverse_reads (taken fs rs) ++ drop
+      (length (taken fs rs)) rs
   reverse_split [] rs = refl
   reverse_split (f ∷ fs) [] = refl
   reverse_split (f ∷ fs) (r ∷ rs) =
@@ -43,9 +47,11 @@ module _ (check : Bool) where
       let ms = mates_of fs rs in
       let P : List Mates → Type 0 = λ xs. r ∷ rs ≡ reverse_reads xs ++ drop (length xs) (r ∷ rs) in
       ⊎_elim
-      (λ is. subst P (sym (take_while-cons (belong check) m ms ∙ cond-true (belong check m) (m ∷ take_while (belong check) ms) [] is))
+      (λ is. subst P (sym (take_while-cons (belong check) m ms
+      ∙ cond-true (belong check m) (m ∷ take_while (belong check) ms) [] is))
       (ap (λ (xs : List Read). r ∷ xs) (reverse_split fs rs)))
-      (λ is. subst P (sym (take_while-cons (belong check) m ms ∙ cond-false (belong check m) (m ∷ take_while (belong check) ms) [] is)) refl)
+      (λ is. subst P (sym (take_while-cons (belong check) m ms
+      ∙ cond-false (belong check m) (m ∷ take_while (belong check) ms) [] is)) refl)
       (cases_Bool (belong check m))
 
 -- if a text has no next record and there is no fault, the text has none
@@ -61,7 +67,8 @@ pub record IsOver (xs ys : List Read) (f r : Records) : Type 0 where
   pub forward_fault : f.fault ≡ None
   pub reverse_fault : r.fault ≡ None
 
-over : (n : ℕ) (xs ys : List Read) (f r : Records) → fault_at n (record f { reads = xs }) (record r { reads = ys }) ≡ None → IsOver xs ys f r
+over : (n : ℕ) (xs ys : List Read) (f r : Records) →
+    fault_at n (record f { reads = xs }) (record r { reads = ys }) ≡ None → IsOver xs ys f r
 over n [] [] f r is =
     let a = ends Forward (λ fault. numbered fault n) f.fault _ is in
     let b = ends Reverse (λ fault. numbered fault n) r.fault _ a.1 in
@@ -73,8 +80,10 @@ over n (x ∷ xs) (y ∷ ys) f r is = absurd (cc is)
 no_more : (xs ys : List Read) → ys ≡ [] → (zs : List Read) → zs ≡ xs ++ ys → zs ≡ xs
 no_more xs ys none zs split = split ∙ ap (λ (more : List Read). xs ++ more) none ∙ append-nil xs
 
-same_text : (text : Records) (reads : List Read) → text.reads ≡ reads → text.fault ≡ None → text ≡ record { reads = reads; fault = None }
-same_text text reads a b = ap (λ (xs : List Read). record text { reads = xs }) a ∙ ap (λ fault. record { reads = reads; fault = fault }) b
+same_text : (text : Records) (reads : List Read) → text.reads ≡ reads → text.fault ≡ None →
+    text ≡ record { reads = reads; fault = None }
+same_text text reads a b = ap (λ (xs : List Read). record text { reads = xs }) a
+    ∙ ap (λ fault. record { reads = reads; fault = fault }) b
 
 pub nothing_is_lost : NothingIsLost
 nothing_is_lost check e forward reverse =
@@ -87,12 +96,14 @@ nothing_is_lost check e forward reverse =
       record {
         first = (drop k f.reads, a);
         whole = λ none. let o = over (suc (0 + k)) (drop k f.reads) (drop k r.reads) f r none in
-            same_text f (forward_reads ms) (no_more (forward_reads ms) (drop k f.reads) o.forward f.reads a) o.forward_fault;
+            same_text f (forward_reads ms) (no_more (forward_reads ms) (drop k f.reads) o.forward
+            f.reads a) o.forward_fault;
       },
       record {
         first = (drop k r.reads, b);
         whole = λ none. let o = over (suc (0 + k)) (drop k f.reads) (drop k r.reads) f r none in
-            same_text r (reverse_reads ms) (no_more (reverse_reads ms) (drop k r.reads) o.reverse r.reads b) o.reverse_fault;
+            same_text r (reverse_reads ms) (no_more (reverse_reads ms) (drop k r.reads) o.reverse
+            r.reads b) o.reverse_fault;
       },
     )
 
@@ -108,23 +119,33 @@ module _ (check : Bool) where
   split (f ∷ r ∷ xs) =
       let m = mates_in f r in
       let ms = interleaved_mates xs in
-      let P : List Mates → Type 0 = λ ys. f ∷ r ∷ xs ≡ alternating ys ++ drop (2 * length ys) (f ∷ r ∷ xs) in
+      let P : List Mates → Type 0 = λ ys. f ∷ r ∷ xs ≡ alternating ys ++ drop (2 * length ys)
+      (f ∷ r ∷ xs) in
       let n = length (taken_of xs) in
       let two : suc (suc (2 * n)) ≡ 2 * suc n = omega arith in
       ⊎_elim
-      (λ is. subst P (sym (take_while-cons (belong check) m ms ∙ cond-true (belong check m) (m ∷ take_while (belong check) ms) [] is))
+      (λ is. subst P (sym (take_while-cons (belong check) m ms
+      ∙ cond-true (belong check m) (m ∷ take_while (belong check) ms) [] is))
       (ap (λ (ys : List Read). f ∷ r ∷ ys) (split xs)
       ∙ ap (λ (j : ℕ). f ∷ r ∷ (alternating (taken_of xs) ++ drop j (f ∷ r ∷ xs))) two))
-      (λ is. subst P (sym (take_while-cons (belong check) m ms ∙ cond-false (belong check m) (m ∷ take_while (belong check) ms) [] is)) refl)
+      (λ is. subst P (sym (take_while-cons (belong check) m ms
+      ∙ cond-false (belong check m) (m ∷ take_while (belong check) ms) [] is)) refl)
       (cases_Bool (belong check m))
 
 pub record IsOverOne (xs : List Read) (t : Records) : Type 0 where
   pub reads : xs ≡ []
   pub fault : t.fault ≡ None
 
-over_one : (n : ℕ) (xs : List Read) (t : Records) → interleaved_fault_at n (record t { reads = xs }) ≡ None → IsOverOne xs t
-over_one n [] t is = record { reads = refl; fault = (ends Forward (λ fault. numbered fault (2 * n - 1)) t.fault _ is).0 }
-over_one n (x ∷ []) t is = absurd (cc (ends Reverse (λ fault. numbered fault (2 * n)) t.fault _ is).1)
+over_one : (n : ℕ) (xs : List Read) (t : Records) →
+    interleaved_fault_at n (record t { reads = xs }) ≡ None → IsOverOne xs t
+over_one n [] t is =
+    record {
+      reads = refl;
+      fault =
+          (ends Forward (λ fault. numbered fault (2 * n - 1)) t.fault _ is).0;
+    }
+over_one n (x ∷ []) t is =
+    absurd (cc (ends Reverse (λ fault. numbered fault (2 * n)) t.fault _ is).1)
 over_one n (x ∷ y ∷ xs) t is = absurd (cc is)
 
 pub nothing_is_lost_of_one : NothingIsLostOfOne
@@ -136,5 +157,6 @@ nothing_is_lost_of_one check e text =
     record {
       first = (drop (2 * k) t.reads, a);
       whole = λ none. let o = over_one (suc (0 + k)) (drop (2 * k) t.reads) t none in
-          same_text t (alternating ms) (no_more (alternating ms) (drop (2 * k) t.reads) o.reads t.reads a) o.fault;
+          same_text t (alternating ms) (no_more (alternating ms) (drop (2 * k) t.reads) o.reads
+          t.reads a) o.fault;
     }

@@ -4,5 +4,8 @@ pub mod TextLemmas
 pub mod CountLemmas
 pub mod InStepLemmas
 pub mod ReportLemmas
+pub mod ListSums
+pub mod ReportListLemmas
+pub mod RemovedLemmas
 pub mod EverythingLemmas
 pub mod WorkedExamples

@@ -15,12 +15,14 @@ use Rattle.fq_pair.specs.Mates.{Mates}
 use Rattle.fq_pair.specs.Interleaved.{interleaved_pairs}
 use Rattle.fq_pair.specs.Pairing.{pairs, fault_following}
 use Rattle.fq_pair.specs.Outputs.{texts_of, counts_of, record_text, kept_places, log_numbers, both_survive, forward_alone}
+use Rattle.fq_tally.specs.declared.side.SideTally.{SideTally}
 use Rattle.fq_tally.specs.Courses.{alone}
 use Rattle.fq_tally.specs.Tallies.{tally_of}
 use Rattle.fq_in_step.specs.Pieces.{IsPlain, trimmed}
 use Rattle.fq_in_step.specs.InStep.{forward_reads, reverse_reads}
 use Rattle.fq_in_step.specs.Everything.{alternating}
 use Rattle.fq_in_step.specs.Reports.{dropped_by}
+use Rattle.fq_in_step.specs.ReportLists.{logged}
 
 abbrev steps : List Step
 steps = Leading 3 ∷ []
@@ -133,6 +135,36 @@ paired = refl
 
 before : (tally_of (alone steps) both).reverse.before.reads ≡ 2
 before = refl
+
+-- The lists of both forward reads: of one of them two bases were removed at its start, and the
+-- lists by position have four items each.
+
+abbrev forward_side : SideTally
+forward_side = (tally_of (alone steps) both).forward
+
+lengths : forward_side.before.lengths ≡ 0 ∷ 0 ∷ 0 ∷ 0 ∷ 2 ∷ []
+lengths = refl
+
+bases : forward_side.positions.before.bases ≡ 2 ∷ 2 ∷ 2 ∷ 2 ∷ []
+bases = refl
+
+all_bases : forward_side.before.bases.bases ≡ 8
+all_bases = refl
+
+paired_bases : forward_side.positions.paired.bases ≡ 1 ∷ 1 ∷ []
+paired_bases = refl
+
+second_numbers : logged 1 steps (forward_reads both) ≡ 2 ∷ 0 ∷ []
+second_numbers = refl
+
+removed_front : forward_side.removed_front ≡ 1 ∷ 0 ∷ 1 ∷ []
+removed_front = refl
+
+fourth_numbers : logged 3 steps (forward_reads both) ≡ 0 ∷ 0 ∷ []
+fourth_numbers = refl
+
+removed_behind : forward_side.removed_behind ≡ 2 ∷ []
+removed_behind = refl
 
 -- Reads that can't be read again.
 

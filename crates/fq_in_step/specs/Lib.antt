@@ -2,3 +2,4 @@ pub mod Pieces
 pub mod InStep
 pub mod Everything
 pub mod Reports
+pub mod ReportLists

@@ -1,5 +1,6 @@
 //! Laws of the sums in a report.
 
+ghost use Rattle.fq_in_step.specs.ReportLists.{BasesAreRemovedAsLogged, ReportListsAddUp, ReportListsAreAsLong};
 ghost use Rattle.fq_in_step.specs.Reports.{ReadsAreDroppedOnce, ReportsAddUp};
 
 /// On each side of a report, the reads that the steps dropped and those of `paired` and `unpaired`
@@ -12,4 +13,21 @@ ghost use Rattle.fq_in_step.specs.Reports.{ReadsAreDroppedOnce, ReportsAddUp};
 pub fn reports_add_up()
     ensures once { ReadsAreDroppedOnce }
     ensures sums { ReportsAddUp }
+{}
+
+/// The lists of each side of a report, before trimming and of what is paired and unpaired.
+///
+/// `lengths` adds up to `reads`. Each list of `positions` adds up to its total (`c` and `g`
+/// together to `gc_bases`), if that total is below the largest number of 64 bits, at which sums
+/// stop. Each list has as many items as the longest read has bases, but at most 10,001. The pairs
+/// must come from inputs.
+pub fn report_lists_add_up()
+    ensures sums { ReportListsAddUp }
+    ensures sizes { ReportListsAreAsLong }
+{}
+
+/// `removed_front` and `removed_behind` of a side count the second and the fourth number of the log
+/// lines of its reads that survive. The pairs must come from inputs.
+pub fn removed_bases_are_logged()
+    ensures { BasesAreRemovedAsLogged }
 {}

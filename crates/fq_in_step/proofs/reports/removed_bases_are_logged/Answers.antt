@@ -1,0 +1,5 @@
+use Rattle.fq_in_step.proofs.RemovedLemmas.{removed_as_logged}
+use Rattle.fq_in_step.proofs.reports.removed_bases_are_logged.Goals as goal
+
+pub returns : goal.returns
+returns c = removed_as_logged
