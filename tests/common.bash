@@ -46,7 +46,7 @@ find_program() {
 # need_proved PROGRAM..: ends the script as skipped unless these programs, which only a gate leaves,
 # exist and are up to date. In a gate (GATE=1) their lack is a failure.
 need_proved() {
-  make -q "$@" 2> /dev/null && return
+  make -q "$@" > /dev/null 2>&1 && return
   if [ -z "${GATE-}" ]; then skip "needs $(printf '%s ' "${@##*/}")as a gate leaves it: make gate"; fi
   fail "the gate didn't leave $(printf '%s ' "${@##*/}")"
   exit 1
