@@ -423,13 +423,15 @@ stopped() {
   victim=$pid
   [ "${#around[@]}" -eq 0 ] || victim=$(pgrep -P "$pid")
   kill -s "$1" -- "$3$victim"
-  for _ in {1..400}; do
-    kill -0 "$pid" 2> /dev/null || break
-    sleep 0.05
-  done
-  kill -KILL "$victim" "$pid" 2> /dev/null && fail "SIG$1 does not end it"
-  wait "$pid" 2> /dev/null
-  got=$?
+  {
+    for _ in {1..400}; do
+      kill -0 "$pid" || break
+      sleep 0.05
+    done
+    kill -KILL "$victim" "$pid" && fail "SIG$1 does not end it"
+    wait "$pid"
+    got=$?
+  } 2> /dev/null
   kill "$fed"
   [ "$got" -eq "$2" ] || fail "status $got, not $2"
   [ "$(cat "$work/told")" = "trim_gz: stopped by SIG$1, no output was made" ] || fail "it says $(cat "$work/told")"
