@@ -141,6 +141,7 @@ def report(pairs, least):
             sides[side].add(pair[number], left[number], alive[1 - number])
     steps = ("LEADING:3", "TRAILING:6", f"MINLEN:{least}")
     return {
+        "schema": 2,
         "program": "fq_prog",
         "version": "1.1.0",
         "command": "PE",
