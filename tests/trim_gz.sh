@@ -576,6 +576,10 @@ if has script bsdutils; then
   wiped=$'\r\033[K'
   [[ $(cat "$work/printed") == *"${wiped}trim_gz: "*" %, "*"$wiped"'trim_gz: input: reverse record 1501: MateMissing (data/a2.gz)'* ]] ||
     fail "it says $(cat -v "$work/printed")"
+  row='gzip alone, on a terminal'
+  (cd "$work" && rm -rf out && mkdir out && PATH=$work/bin "$(command -v script)" -qec "'$script' --program '$program' ${both[*]} ${rest[*]}" /dev/null < /dev/null) \
+    > "$work/printed" 2>&1
+  [[ $(cat "$work/printed") == *"trim_gz: bgzip isn't installed, so this takes several times as long (Debian: tabix)"* ]] || fail "it says $(cat -v "$work/printed")"
 fi
 
 # Adapters in every fifth read, which cutadapt removes first.

@@ -57,6 +57,8 @@ class Run:
         self.look_at_files()
         inputs = [each for side in self.sides for each in side.inputs]
         self.progress = Progress(self.arguments.progress, inputs)
+        if self.progress.is_terminal and self.tools.is_slow and self.has_gz_outputs():
+            say("bgzip isn't installed, so this takes several times as long (Debian: tabix)")
         self.family = Family(self.tick, 0.5 if self.progress.is_on or self.cutadapt else 5)
         try:
             self.start_all()
@@ -77,6 +79,9 @@ class Run:
             self.cutadapt.watch(child)
 
     # Before the start.
+
+    def has_gz_outputs(self) -> bool:
+        return any(output.is_compressed for output in self.outputs.values())
 
     def look_at_files(self) -> None:
         """Refuses inputs and outputs that can't be those of a run, and warns of what may be

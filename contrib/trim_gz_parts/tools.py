@@ -52,6 +52,8 @@ class Tools:
 
     def __init__(self, arguments: "Arguments") -> None:
         self.compressor = self.choose_compressor(arguments.compressor)
+        # No faster compressor than gzip is installed.
+        self.is_slow = arguments.compressor == "auto" and self.compressor == "gzip"
         self.decompressor = self.choose_decompressor(arguments.decompressor)
         self.level = arguments.level or self.usual_level(arguments.uses_cutadapt())
         self.threads = len(os.sched_getaffinity(0))
