@@ -143,7 +143,9 @@ apart() {
   if [ $? -ne 1 ] || [ -s page ] || ! grep -qx "$1" told; then fail "$(cat told)"; fi
 }
 apart "report_to_html: the lanes don't add up to the report" "$script" --lane L001 plain.json lanes.json
-apart 'report_sum: two.json: its steps are .*, not LEADING:3 TRAILING:6 MINLEN:36' "$tree/contrib/report_sum" plain.json two.json
+sed 's/MINLEN:36/MINLEN:37/' plain.json > steps.json
+apart 'report_sum: steps.json: its steps are LEADING:3 TRAILING:6 MINLEN:37, not LEADING:3 TRAILING:6 MINLEN:36' "$tree/contrib/report_sum" plain.json steps.json
+apart 'report_sum: two.json: schema is 2, not missing' "$tree/contrib/report_sum" plain.json two.json
 apart 'report_sum: fault.json: its run stopped at a fault: input: .*' "$tree/contrib/report_sum" fault.json fault.json
 
 row='the title of a page'
