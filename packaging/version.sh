@@ -34,12 +34,12 @@ docs/LAB.md | tibzharuk- | -oci\.tar
 docs/LAB.md | Tibzharuk \(fq_prog\) | , with the steps
 packaging/Containerfile | VERSION= | -t tibz
 packaging/Containerfile | -t tibzharuk: | dist
-docs/LAB.md | `tibzharuk: | `
 workflow/cwl/trim_gz.cwl | ^ *version: \[" | "\]$
 workflow/cwl/trim_gz.cwl | ^ *dockerImageId: tibzharuk: | $
+docs/LAB.md | `tibzharuk: | `
+contrib/tibzharuk_multiqc.egg-info/PKG-INFO | ^Version: | $
 tests/rehearsal/report_field.patch | "version": ?" | "\}$
 CITATION.cff | ^version: | $
-contrib/tibzharuk_multiqc.egg-info/PKG-INFO | ^Version: | $
 END
   while IFS= read -r file; do
     printf '%s\t^ *version = codes "\t";$\n' "$file"
