@@ -45,7 +45,7 @@ report_inputs names = inputs_in names.form names.forward names.reverse
 abbrev pub run_facts : Asking → Encoding → Outcome → Counts → Tally → facts.Facts
 run_facts a encoding outcome counts tally = record {
   program = codes "fq_prog";
-  version = codes "1.1.0";
+  version = codes "1.2.0";
   inputs = report_inputs a.inputs;
   forward_paired = a.forward_paired;
   forward_unpaired = a.forward_unpaired;

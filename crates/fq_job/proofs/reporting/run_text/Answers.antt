@@ -16,7 +16,7 @@ returns c =
     let P : List ℕ → Type 0 = λ t. IfOk c.report_text.result (λ text. string_bytes text ≡ t) in
     subst P (λ i. text_of (record {
       program = codes "fq_prog";
-      version = codes "1.1.0";
+      version = codes "1.2.0";
       inputs = c.named_inputs.ensures i;
       forward_paired = a.forward_paired;
       forward_unpaired = a.forward_unpaired;
