@@ -1,7 +1,7 @@
 //! Files by name.
 
-ghost use Rattle.std.specs.Prelude.{◌≡◌, ◌<◌, ◌⊎◌, ℕ, Bool, List, false, Some, None, Err, [], IsTrue, IsSome, IfOk, OnOk, OnErr};
-ghost use Rattle.fq_files.specs.Holding.{Holding, IsUnchanged, KeepsOthers, KeepsNames};
+ghost use Rattle.std.specs.Prelude.{◌≡◌, ◌≢◌, ◌<◌, ◌⊎◌, ℕ, Bool, List, false, Some, None, Err, [], IsTrue, IsSome, IfOk, OnOk, OnErr};
+ghost use Rattle.fq_files.specs.Holding.{Holding, Names, IsUnchanged, KeepsOthers, KeepsNames, MayRefuse};
 
 use fq_text::{Feed, OutOfMemory, Outlet};
 use thiserror::Error;
@@ -36,9 +36,9 @@ impl From<OutOfMemory> for FileFault {
 /// ([`SystemFiles`](crate::SystemFiles)). The contracts speak of bytes, and of names that are held,
 /// only if the bytes are known. No call changes another name's bytes, or removes a name.
 ///
-/// The contracts also say which names may be refused as outputs, for which names a device has
-/// failed, and for which a target was not flushed. A device is a feed or an outlet; its failures
-/// are known once it is handed back, by [`source_done`](Files::source_done) or
+/// The contracts also say which names may be refused, which lead to an input, for which names a
+/// device has failed, and for which a target was not flushed. A device is a feed or an outlet; its
+/// failures are known once it is handed back, by [`source_done`](Files::source_done) or
 /// [`done`](Files::done).
 pub trait Files {
     /// The feed that a file is read from.
@@ -53,20 +53,25 @@ pub trait Files {
     /// The bytes of each name that is held.
     ghost bytes_of: { Self → Holding };
 
-    /// Whether this name may be refused as an output for another reason than memory. This never
-    /// changes.
-    ghost refuses: { Self → List ℕ → Bool };
+    /// Whether this name may be refused as an output for another reason than memory, or may lead
+    /// to the file of another name, as a link does. This never changes.
+    ghost refuses: { Self → Names };
+
+    /// Whether this name leads to a file that was opened as an input. Each name that was opened
+    /// does, and never stops doing so; another name does only if it may lead to the file of another
+    /// name.
+    ghost is_open: { Self → Names };
 
     /// Whether a device of this name has failed. A failure may count for other names too; without a
     /// failure nothing counts.
-    ghost has_failed: { Self → List ℕ → Bool };
+    ghost has_failed: { Self → Names };
 
     /// Whether a target of this name was handed back that was not flushed after its last write. It
     /// may count for other names too; without such a target nothing counts.
-    ghost is_unflushed: { Self → List ℕ → Bool };
+    ghost is_unflushed: { Self → Names };
 
     /// Opens a feed of the file's bytes, which has not failed. No file changes. If the bytes are
-    /// known to the proof, only a name that is not held is refused.
+    /// known to the proof, only a name that is not held or that leads to an input is refused.
     fn source(&mut self, name: &str) -> Result<Self::In, FileFault>
         ensures fresh { IfOk result (λ feed. (Self.In.state feed).failures ≡ 0) }
         ensures telling { IfOk result (λ feed. IsTrue (tells_bytes self.old)
@@ -74,11 +79,18 @@ pub trait Files {
         ensures given { IfOk result (λ feed. IsTrue (tells_bytes self.old)
             → bytes_of self.old name.now ≡ Some (Self.In.state feed).to_come) }
         ensures refused { IsTrue (tells_bytes self.old)
-            → result ≡ Err FileFault.Refused → bytes_of self.old name.now ≡ None }
+            → result ≡ Err FileFault.Refused
+            → (bytes_of self.old name.now ≡ None) ⊎ IsTrue (is_open self.old name.now) }
         ensures unchanged { IsTrue (tells_bytes self.old)
             → IsUnchanged (bytes_of self.old) (bytes_of self.new) }
         ensures told { tells_bytes self.new ≡ tells_bytes self.old }
         ensures refusing { refuses self.new ≡ refuses self.old }
+        ensures opened { OnOk result (IsTrue (is_open self.new name.now)) }
+        ensures unopened { OnErr result (is_open self.new ≡ is_open self.old) }
+        ensures remains { (other : List ℕ) → IsTrue (is_open self.old other)
+            → IsTrue (is_open self.new other) }
+        ensures linked { (other : List ℕ) → other ≢ name.now → IsTrue (is_open self.new other)
+            → MayRefuse (refuses self.old) (is_open self.old) other }
         ensures failed { has_failed self.new ≡ has_failed self.old }
         ensures flushed { is_unflushed self.new ≡ is_unflushed self.old };
 
@@ -90,6 +102,7 @@ pub trait Files {
             → IsUnchanged (bytes_of self.old) (bytes_of self.new) }
         ensures told { tells_bytes self.new ≡ tells_bytes self.old }
         ensures refusing { refuses self.new ≡ refuses self.old }
+        ensures opened { is_open self.new ≡ is_open self.old }
         ensures failed { 0 < (Self.In.state feed).failures → IsTrue (has_failed self.new name.now) }
         ensures sound { (Self.In.state feed).failures ≡ 0
             → has_failed self.new ≡ has_failed self.old }
@@ -97,18 +110,14 @@ pub trait Files {
             → IsTrue (has_failed self.new other) }
         ensures flushed { is_unflushed self.new ≡ is_unflushed self.old };
 
-    /// Whether this name leads to a file that was opened as an input, even under another name (such
+    /// Whether this name leads to a file that was opened as an input, also under another name (such
     /// as a link). Nothing changes.
     ///
     /// Ask for each name before the first [`target`](Files::target), which empties what it opens.
-    /// If the bytes are known to the proof, no name leads to another name's bytes. A name that may
-    /// not be refused as an output leads to no input.
-    fn leads_to_input(&self, _name: &str) -> bool
-        ensures no_other { IsTrue (tells_bytes self.now) → result ≡ false }
-        ensures refused { IsTrue result → IsTrue (refuses self.now _name.now) }
-    {
-        false
-    }
+    fn leads_to_input(&self, name: &str) -> bool
+        ensures no_other { IsTrue result → IsTrue (is_open self.now name.now) }
+        ensures found { IsTrue (tells_bytes self.now) → IsTrue (is_open self.now name.now)
+            → IsTrue result };
 
     /// From now on a flush of each new target waits until its bytes are on stable storage. Files
     /// without a disk, such as those in memory, have nothing to wait for. No file changes.
@@ -120,13 +129,14 @@ pub trait Files {
             → IsUnchanged (bytes_of self.old) (bytes_of self.new) }
         ensures told { tells_bytes self.new ≡ tells_bytes self.old }
         ensures refusing { refuses self.new ≡ refuses self.old }
+        ensures opened { is_open self.new ≡ is_open self.old }
         ensures failed { has_failed self.new ≡ has_failed self.old }
         ensures flushed { is_unflushed self.new ≡ is_unflushed self.old }
     {}
 
     /// Opens an outlet to the file, which is created, or emptied if it exists. The outlet has taken
     /// nothing, and has not failed. If the file is refused, it holds what it held before, or
-    /// nothing. Only a name that may be refused is refused.
+    /// nothing. Only a name that may be refused, or leads to an input, is refused.
     fn target(&mut self, name: &str) -> Result<Self::Target, FileFault>
         ensures fresh { IfOk result (λ target. (Self.Target.state target).failures ≡ 0) }
         ensures telling { IfOk result (λ target. IsTrue (tells_bytes self.old)
@@ -143,8 +153,10 @@ pub trait Files {
         ensures others { IsTrue (tells_bytes self.old)
             → KeepsOthers (bytes_of self.old) (bytes_of self.new) name.now }
         ensures told { tells_bytes self.new ≡ tells_bytes self.old }
-        ensures rightly { result ≡ Err FileFault.Refused → IsTrue (refuses self.old name.now) }
+        ensures rightly { result ≡ Err FileFault.Refused
+            → MayRefuse (refuses self.old) (is_open self.old) name.now }
         ensures refusing { refuses self.new ≡ refuses self.old }
+        ensures opened { is_open self.new ≡ is_open self.old }
         ensures failed { has_failed self.new ≡ has_failed self.old }
         ensures flushed { is_unflushed self.new ≡ is_unflushed self.old };
 
@@ -161,6 +173,7 @@ pub trait Files {
             → KeepsOthers (bytes_of self.old) (bytes_of self.new) name.now }
         ensures told { tells_bytes self.new ≡ tells_bytes self.old }
         ensures refusing { refuses self.new ≡ refuses self.old }
+        ensures opened { is_open self.new ≡ is_open self.old }
         ensures failed { 0 < (Self.Target.state target).failures
             → IsTrue (has_failed self.new name.now) }
         ensures sound { (Self.Target.state target).failures ≡ 0

@@ -3,16 +3,19 @@
 use crate::files::{FileFault, Files};
 use fq_text::{Feed, OutOfMemory, Outlet, OutletFailed, ScriptFeed};
 use std::alloc::Global;
-use std::collections::BTreeMap;
+use std::collections::{BTreeMap, BTreeSet};
 
 /// Files in memory. Their bytes are known to the proof.
 ///
-/// A name that isn't held is refused as an input, and created as an output. No name is refused as
-/// an output unless memory is refused. No read call is cut short. A failure counts for every name,
-/// and so does a target that was not flushed.
+/// A name that isn't held is refused as an input, and created as an output. A name that was opened
+/// as an input is refused as a second input and as an output, as on the system; no other is refused
+/// as an output unless memory is refused. No read call is cut short. A failure counts for every
+/// name, and so does a target that was not flushed.
 #[derive(Drop)]
 pub struct MemoryFiles {
     held: BTreeMap<String, Vec<u8>>,
+    // The names that were opened as inputs.
+    inputs: BTreeSet<String>,
     // Whether a device that was handed back has failed.
     has_failed: bool,
     // Whether a target was handed back that was not flushed.
@@ -21,19 +24,21 @@ pub struct MemoryFiles {
 }
 
 impl MemoryFiles {
-    ghost use Rattle.std.specs.Prelude.{◌≡◌, ℕ, false, Some, None, List, OnOk, OnErr};
+    ghost use Rattle.std.specs.Prelude.{◌≡◌, ◌≢◌, ℕ, true, false, Some, None, List, IsTrue, OnOk, OnErr};
     ghost use Rattle.std.specs.Option.{option_map};
     ghost use Rattle.fq_files.specs.Holding.{KeepsOthers, KeepsNames, IsUnchanged};
-    ghost use Rattle.fq_files.specs.Memory.{bytes_in, failed_in, unflushed_in};
+    ghost use Rattle.fq_files.specs.Memory.{bytes_in, opened_in, failed_in, unflushed_in};
 
     /// Files that hold no name.
     pub fn new(alloc: Global) -> MemoryFiles
         ensures nothing { (name : List ℕ) → bytes_in result name ≡ None }
+        ensures unopened { (name : List ℕ) → opened_in result name ≡ false }
         ensures sound { (name : List ℕ) → failed_in result name ≡ false }
         ensures flushed { (name : List ℕ) → unflushed_in result name ≡ false }
     {
         MemoryFiles {
             held: BTreeMap::new(alloc),
+            inputs: BTreeSet::new(alloc),
             has_failed: false,
             has_unflushed: false,
             alloc,
@@ -46,6 +51,7 @@ impl MemoryFiles {
         ensures held { KeepsNames (bytes_in self.old) (bytes_in self.new) }
         ensures others { KeepsOthers (bytes_in self.old) (bytes_in self.new) name.now }
         ensures err { OnErr result (IsUnchanged (bytes_in self.old) (bytes_in self.new)) }
+        ensures opened { opened_in self.new ≡ opened_in self.old }
         ensures failed { failed_in self.new ≡ failed_in self.old }
         ensures flushed { unflushed_in self.new ≡ unflushed_in self.old }
     {
@@ -61,12 +67,29 @@ impl MemoryFiles {
     {
         self.held.get(name).map(|bytes| bytes.as_slice())
     }
+
+    // Notes that a name was opened as an input. If memory is refused, nothing changes.
+    fn note_input(&mut self, name: &str) -> Result<(), OutOfMemory>
+        ensures noted { OnOk result (opened_in self.new name.now ≡ true) }
+        ensures others { (other : List ℕ) → other ≢ name.now
+            → opened_in self.new other ≡ opened_in self.old other }
+        ensures remains { (other : List ℕ) → IsTrue (opened_in self.old other)
+            → IsTrue (opened_in self.new other) }
+        ensures err { OnErr result (opened_in self.new ≡ opened_in self.old) }
+        ensures held { IsUnchanged (bytes_in self.old) (bytes_in self.new) }
+        ensures failed { failed_in self.new ≡ failed_in self.old }
+        ensures flushed { unflushed_in self.new ≡ unflushed_in self.old }
+    {
+        let key = String::from_str(self.alloc, name)?;
+        self.inputs.insert(key)?;
+        Ok(())
+    }
 }
 
 impl Files for MemoryFiles {
-    ghost use Rattle.std.specs.Prelude.{◌≡◌, true, false, Some, None, Err, IfOk};
-    ghost use Rattle.fq_files.specs.Holding.{IsUnchanged};
-    ghost use Rattle.fq_files.specs.Memory.{bytes_in, failed_in, unflushed_in};
+    ghost use Rattle.std.specs.Prelude.{◌≡◌, ◌≢◌, ◌⊎◌, ℕ, true, false, Some, None, Err, List, IsTrue, IfOk, OnOk, OnErr};
+    ghost use Rattle.fq_files.specs.Holding.{IsUnchanged, MayRefuse};
+    ghost use Rattle.fq_files.specs.Memory.{bytes_in, opened_in, failed_in, unflushed_in};
 
     type In = ScriptFeed;
 
@@ -77,6 +100,8 @@ impl Files for MemoryFiles {
     ghost bytes_of = { bytes_in };
 
     ghost refuses = { λ _ _. false };
+
+    ghost is_open = { opened_in };
 
     ghost has_failed = { failed_in };
 
@@ -89,13 +114,25 @@ impl Files for MemoryFiles {
             ≡ record { bytes = feed.bytes; cut = usize.MAX; fails_in = 0; failures = 0 }) }
 
         // As for all files whose bytes are known to the proof.
-        ensures refused { result ≡ Err FileFault.Refused → bytes_in self.old name.now ≡ None }
+        ensures refused { result ≡ Err FileFault.Refused
+            → (bytes_in self.old name.now ≡ None) ⊎ IsTrue (opened_in self.old name.now) }
         ensures unchanged { IsUnchanged (bytes_in self.old) (bytes_in self.new) }
+        ensures opened { OnOk result (IsTrue (opened_in self.new name.now)) }
+        ensures unopened { OnErr result (opened_in self.new ≡ opened_in self.old) }
+        ensures remains { (other : List ℕ) → IsTrue (opened_in self.old other)
+            → IsTrue (opened_in self.new other) }
+        ensures linked { (other : List ℕ) → other ≢ name.now → IsTrue (opened_in self.new other)
+            → MayRefuse (λ _. false) (opened_in self.old) other }
         ensures failed { failed_in self.new ≡ failed_in self.old }
         ensures flushed { unflushed_in self.new ≡ unflushed_in self.old }
     {
+        if self.leads_to_input(name) {
+            return Err(FileFault::Refused);
+        }
         let bytes = self.held.get(name).ok_or(FileFault::Refused)?;
-        Ok(ScriptFeed::new(self.alloc, bytes, usize::MAX, 0)?)
+        let feed = ScriptFeed::new(self.alloc, bytes, usize::MAX, 0)?;
+        self.note_input(name)?;
+        Ok(feed)
     }
 
     fn source_done(&mut self, _name: &str, feed: ScriptFeed) {
@@ -104,7 +141,16 @@ impl Files for MemoryFiles {
         }
     }
 
+    fn leads_to_input(&self, name: &str) -> bool
+        ensures { result ≡ opened_in self.now name.now }
+    {
+        self.inputs.contains(name)
+    }
+
     fn target(&mut self, name: &str) -> Result<MemoryTarget, FileFault> {
+        if self.leads_to_input(name) {
+            return Err(FileFault::Refused);
+        }
         self.put(name, &[])?;
         Ok(MemoryTarget::new(self.alloc))
     }

@@ -29,8 +29,8 @@ impl Identity {
 ///
 /// A file that was opened as an input is refused as an output, under any name, and is left
 /// unchanged. A regular file that is already an input is refused as another input, and one that is
-/// already an output is refused as another output. Every name may be refused. A failure counts for
-/// every name, and so does a target that was not flushed.
+/// already an output is refused as another output. Every name may be refused, and every name may
+/// lead to an input. A failure counts for every name, and so does a target that was not flushed.
 #[derive(Drop)]
 pub struct SystemFiles<'a, R: rt::Files<File = File>> {
     runtime: &'a R,
@@ -98,6 +98,8 @@ impl<'a, R: rt::Files<File = File>> Files for SystemFiles<'a, R> {
     ghost bytes_of = { λ _ _. None };
 
     ghost refuses = { λ _ _. true };
+
+    ghost is_open = { λ _ _. true };
 
     ghost has_failed = { λ files _. files.has_failed };
 
