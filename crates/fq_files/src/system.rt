@@ -4,7 +4,7 @@ use crate::device::major_of;
 use crate::files::{FileFault, Files};
 use fq_text::{Feed, FromRead, OutOfMemory, Outlet, OutletFailed};
 use std::alloc::Global;
-use std::fs::{self, File, Metadata, OpenOptions};
+use std::fs::{self, File, Metadata, OpenFile, OpenOptions};
 use std::io::Write;
 use std::os::unix::fs::MetadataExt;
 use std::rt;
@@ -91,7 +91,7 @@ impl<'a, R: rt::Files<File = File>> Files for SystemFiles<'a, R> {
 
     type In = FromRead<File>;
 
-    type Target = SystemTarget;
+    type Target = SystemTarget<File>;
 
     ghost tells_bytes = { λ _. false };
 
@@ -132,7 +132,7 @@ impl<'a, R: rt::Files<File = File>> Files for SystemFiles<'a, R> {
         found.is_ok_and(|metadata| self.is_input(Identity::of(&metadata)))
     }
 
-    fn target(&mut self, name: &str) -> Result<SystemTarget, FileFault> {
+    fn target(&mut self, name: &str) -> Result<SystemTarget<File>, FileFault> {
         // The file is opened with its bytes, and emptied only once it is known to be neither an
         // input nor another output.
         let mut options = OpenOptions::new();
@@ -168,7 +168,7 @@ impl<'a, R: rt::Files<File = File>> Files for SystemFiles<'a, R> {
         self.syncs_always = true;
     }
 
-    fn done(&mut self, _name: &str, target: SystemTarget) {
+    fn done(&mut self, _name: &str, target: SystemTarget<File>) {
         if target.failed_calls > 0 {
             self.has_failed = true;
         }
@@ -178,7 +178,8 @@ impl<'a, R: rt::Files<File = File>> Files for SystemFiles<'a, R> {
     }
 }
 
-/// The outlet that a file of the system is written to. Its bytes are not known to the proof.
+/// The outlet that a file of the system is written to. Its bytes are not known to the proof; those
+/// of another writer, which may be in its place, may be.
 ///
 /// It is written without a buffer, so write large pieces.
 ///
@@ -188,8 +189,8 @@ impl<'a, R: rt::Files<File = File>> Files for SystemFiles<'a, R> {
 /// others, and on every device after [`sync_always`](Files::sync_always). Elsewhere a write that
 /// succeeds has its place on the disk, and a flush does nothing.
 #[derive(Drop)]
-pub struct SystemTarget {
-    file: File,
+pub struct SystemTarget<W> {
+    file: W,
     // Whether a flush waits. Pipes and terminals have no disk to wait for.
     syncs: bool,
     failed_calls: u64,
@@ -197,22 +198,22 @@ pub struct SystemTarget {
     is_flushed: bool,
 }
 
-impl SystemTarget {
+impl<W> SystemTarget<W> {
     ghost use Rattle.std.specs.Prelude.{◌≡◌, ◌<◌, ◌+◌};
 
     // Counts one more failure.
     fn fail(&mut self) -> OutletFailed
         requires { self.old.failed_calls < u64.MAX }
-        ensures count { self.new.failed_calls ≡ self.old.failed_calls + 1 }
-        ensures kept { self.new.is_flushed ≡ self.old.is_flushed }
+        ensures { self.new ≡ record self.old { failed_calls = self.old.failed_calls + 1 } }
     {
         self.failed_calls += 1;
         OutletFailed
     }
 }
 
-impl Outlet for SystemTarget {
-    ghost use Rattle.std.specs.Prelude.{false, []};
+impl<W: Write + OpenFile> Outlet for SystemTarget<W> {
+    ghost use Rattle.std.specs.Prelude.{◌≡◌, ◌<◌, ◌≤◌, ◌+◌, false, [], length, IfOk, is_ok, if◌then◌else◌};
+    ghost use Rattle.std.specs.Io.KnownBytes.{WriteAppends};
 
     ghost state = { λ t. record {
       tells = false;
@@ -221,7 +222,17 @@ impl Outlet for SystemTarget {
       is_flushed = t.is_flushed;
     } };
 
-    fn write(&mut self, bytes: &[u8]) -> Result<usize, OutletFailed> {
+    fn write(&mut self, bytes: &[u8]) -> Result<usize, OutletFailed>
+        requires { self.old.failed_calls < u64.MAX }
+        ensures within { IfOk result (λ n. n ≤ length bytes.now) }
+        ensures some { IfOk result (λ n. 0 < length bytes.now → 0 < n) }
+        ensures failures { self.new.failed_calls
+            ≡ self.old.failed_calls + (if is_ok result then 0 else 1) }
+        ensures unflushed { self.new.is_flushed ≡ false }
+        // If the bytes of the writer are known, they grow as a write makes them grow.
+        ensures writer { WriteAppends (W.contents self.old.file)
+            (W.contents self.new.file) result bytes.now }
+    {
         self.is_flushed = false;
         match self.file.write(bytes) {
             Ok(0) if !bytes.is_empty() => Err(self.fail()),
@@ -230,7 +241,13 @@ impl Outlet for SystemTarget {
         }
     }
 
-    fn flush(&mut self) -> Result<(), OutletFailed> {
+    fn flush(&mut self) -> Result<(), OutletFailed>
+        requires { self.old.failed_calls < u64.MAX }
+        ensures failures { self.new.failed_calls
+            ≡ self.old.failed_calls + (if is_ok result then 0 else 1) }
+        ensures flushed { self.new.is_flushed ≡ is_ok result }
+        ensures writer { self.new.file ≡ self.old.file }
+    {
         self.is_flushed = false;
         if self.syncs && self.file.sync_data().is_err() {
             return Err(self.fail());
