@@ -1,7 +1,7 @@
 -- What the files of the outputs hold if the program does not end whole.
 use Rattle.std.proofs.Common.{◌≡◌, ◌≢◌, ℕ, IsTrue, IsSome, Option, Some, None, List, [], ◌++◌, refl, sym, ap, subst, ◌∙◌, inl, inr, ◌⊎◌, ⊎_elim}
 use Rattle.std.proofs.lemmas.List.{append-nil}
-use Rattle.fq_files.specs.Holding.{Holding, IsUnchanged}
+use Rattle.fq_files.specs.Holding.{Holding, Names, IsUnchanged}
 use Rattle.fq_pair.specs.declared.counts.Counts.{Counts}
 use Rattle.fq_pair.specs.declared.fault.InputFault.{InputFault}
 use Rattle.fq_pair.specs.declared.out.Out.{Out}
@@ -59,18 +59,30 @@ leaves_unchanged a why.SameReport old new early same = same
 leaves_unchanged a why.Report old new early same = absurd (cc early)
 leaves_unchanged a why.Memory old new early same = λ out name named. inl (same name)
 
+-- an output or the report that leads to an input is refused, and the files are unchanged
+pub spares_all : (a : Asking) (refusal : Refusal) (old new : Holding) → IsTrue (is_late refusal) → IsUnchanged old new → RefusalLeaves a refusal old new
+spares_all a (why.Target out) old new late same = inr same
+spares_all a why.Report old new late same = inr same
+spares_all a why.Memory old new late same = λ out name named. inl (same name)
+spares_all a why.Encoding old new late same = absurd (cc late)
+spares_all a (why.Step fault) old new late same = absurd (cc late)
+spares_all a (why.Setting bad) old new late same = absurd (cc late)
+spares_all a (why.SameName out) old new late same = absurd (cc late)
+spares_all a (why.Source side) old new late same = absurd (cc late)
+spares_all a why.SameReport old new late same = absurd (cc late)
+
 -- a refusal after the inputs are opened says only that both inputs exist
-pub tells_late : (inputs : InputNames) (refusal : Refusal) (old : Holding) (forward reverse : List ℕ) → IsTrue (is_late refusal)
-    → old inputs.forward ≡ Some forward → old inputs.reverse ≡ Some reverse → TellsInputs inputs refusal old
-tells_late inputs (why.Target out) old forward reverse late first second = (subst IsSome (sym first) refl, subst IsSome (sym second) refl)
-tells_late inputs why.Report old forward reverse late first second = (subst IsSome (sym first) refl, subst IsSome (sym second) refl)
-tells_late inputs why.Memory old forward reverse late first second = tt
-tells_late inputs why.Encoding old forward reverse late first second = absurd (cc late)
-tells_late inputs (why.Step fault) old forward reverse late first second = absurd (cc late)
-tells_late inputs (why.Setting bad) old forward reverse late first second = absurd (cc late)
-tells_late inputs (why.SameName out) old forward reverse late first second = absurd (cc late)
-tells_late inputs (why.Source side) old forward reverse late first second = absurd (cc late)
-tells_late inputs why.SameReport old forward reverse late first second = absurd (cc late)
+pub tells_late : (inputs : InputNames) (refusal : Refusal) (old : Holding) (refuses opened : Names) (forward reverse : List ℕ) → IsTrue (is_late refusal)
+    → old inputs.forward ≡ Some forward → old inputs.reverse ≡ Some reverse → TellsInputs inputs refusal old refuses opened
+tells_late inputs (why.Target out) old refuses opened forward reverse late first second = (subst IsSome (sym first) refl, subst IsSome (sym second) refl)
+tells_late inputs why.Report old refuses opened forward reverse late first second = (subst IsSome (sym first) refl, subst IsSome (sym second) refl)
+tells_late inputs why.Memory old refuses opened forward reverse late first second = tt
+tells_late inputs why.Encoding old refuses opened forward reverse late first second = absurd (cc late)
+tells_late inputs (why.Step fault) old refuses opened forward reverse late first second = absurd (cc late)
+tells_late inputs (why.Setting bad) old refuses opened forward reverse late first second = absurd (cc late)
+tells_late inputs (why.SameName out) old refuses opened forward reverse late first second = absurd (cc late)
+tells_late inputs (why.Source side) old refuses opened forward reverse late first second = absurd (cc late)
+tells_late inputs why.SameReport old refuses opened forward reverse late first second = absurd (cc late)
 
 -- if something was refused, nothing was trimmed
 pub refusal_untrimmed : (a : Asking) (refusal : Refusal) (old new : Holding) → RefusalLeaves a refusal old new → AreUntrimmed a old new
@@ -79,9 +91,9 @@ refusal_untrimmed a (why.Step fault) old new left = λ out name named. inl (left
 refusal_untrimmed a (why.Setting bad) old new left = λ out name named. inl (left name)
 refusal_untrimmed a (why.SameName out) old new left = λ o name named. inl (left name)
 refusal_untrimmed a (why.Source side) old new left = λ out name named. inl (left name)
-refusal_untrimmed a (why.Target out) old new left = stops_untrimmed a out old new left
+refusal_untrimmed a (why.Target out) old new left = ⊎_elim (λ stops. stops_untrimmed a out old new stops) (λ same out name named. inl (same name)) left
 refusal_untrimmed a why.SameReport old new left = λ out name named. inl (left name)
-refusal_untrimmed a why.Report old new left = λ out name named. inr (left out name named)
+refusal_untrimmed a why.Report old new left = ⊎_elim (λ empty out name named. inr (empty out name named)) (λ same out name named. inl (same name)) left
 refusal_untrimmed a why.Memory old new left = left
 
 -- what a refusal left, after calls that changed nothing
@@ -95,13 +107,15 @@ leaves_since a (why.Step fault) old mid new same left = λ name. left name ∙ s
 leaves_since a (why.Setting bad) old mid new same left = λ name. left name ∙ same name
 leaves_since a (why.SameName out) old mid new same left = λ name. left name ∙ same name
 leaves_since a (why.Source side) old mid new same left = λ name. left name ∙ same name
-leaves_since a (why.Target out) old mid new same left = record {
-  before = left.before;
-  there = λ name named. unchanged_or_nothing (old name) (mid name) (new name) (same name) (left.there name named);
-  behind = λ other name named behind. left.behind other name named behind ∙ same name;
-}
+leaves_since a (why.Target out) old mid new same left = ⊎_elim
+    (λ stops. inl (record {
+      before = stops.before;
+      there = λ name named. unchanged_or_nothing (old name) (mid name) (new name) (same name) (stops.there name named);
+      behind = λ other name named behind. stops.behind other name named behind ∙ same name;
+    }))
+    (λ kept. inr (λ name. kept name ∙ same name)) left
 leaves_since a why.SameReport old mid new same left = λ name. left name ∙ same name
-leaves_since a why.Report old mid new same left = left
+leaves_since a why.Report old mid new same left = ⊎_elim (λ empty. inl empty) (λ kept. inr (λ name. kept name ∙ same name)) left
 leaves_since a why.Memory old mid new same left = λ out name named. unchanged_or_nothing (old name) (mid name) (new name) (same name) (left out name named)
 
 -- ---- whole runs

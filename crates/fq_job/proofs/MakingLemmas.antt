@@ -112,7 +112,7 @@ leaves_made : (a : Asking) (start old new : Holding) (this : Out) (refusal : Ref
 leaves_made a start old new this refusal distinct first unmade is =
     let stops = stops_at a start old new this distinct first unmade in
     let P : Refusal → Type 0 = λ r. RefusalLeaves a r start new in
-    ⊎_elim (λ target. subst P (sym target) stops) (λ memory. subst P (sym memory) (stops_untrimmed a this start new stops)) is
+    ⊎_elim (λ target. subst P (sym target) (inl stops)) (λ memory. subst P (sym memory) (stops_untrimmed a this start new stops)) is
 
 -- A call for one more output: the output is made, or it is refused.
 module _ (a : Asking) (start : Holding) (this : Out) (name : List ℕ) (named : output_name a this ≡ Some name)
@@ -163,4 +163,4 @@ pub report_unmade : (a : Asking) (refusal : Refusal) (old new : Holding) → (re
     → ((out : Out) (name : List ℕ) → output_name a out ≡ Some name → new name ≡ Some []) → RefusalLeaves a refusal old new
 report_unmade a refusal old new is empty =
     let P : Refusal → Type 0 = λ r. RefusalLeaves a r old new in
-    ⊎_elim (λ report. subst P (sym report) empty) (λ memory. subst P (sym memory) (λ out name named. inr (empty out name named))) is
+    ⊎_elim (λ report. subst P (sym report) (inl empty)) (λ memory. subst P (sym memory) (λ out name named. inr (empty out name named))) is

@@ -1,6 +1,6 @@
 -- What the files of the outputs hold if the program does not end whole.
-use Rattle.std.specs.Prelude.{◌≡◌, ◌<◌, ◌≤◌, ◌⊎◌, ℕ, Bool, true, false, Option, Some, None, IsSome, Ok, List, [], ◌++◌}
-use Rattle.fq_files.specs.Holding.{Holding, IsUnchanged}
+use Rattle.std.specs.Prelude.{◌≡◌, ◌<◌, ◌≤◌, ◌⊎◌, ℕ, Bool, true, false, Option, Some, None, IsSome, IsTrue, Ok, List, [], ◌++◌}
+use Rattle.fq_files.specs.Holding.{Holding, Names, IsUnchanged, MayRefuse}
 use Rattle.fq_pair.specs.declared.out.Out.{Out}
 use Rattle.fq_pair.specs.declared.side.Side.TheVariants as side
 use Rattle.fq_pair.specs.Mates.{Mates}
@@ -63,11 +63,15 @@ pub record StopsAt (a : Asking) (out : Out) (old new : Holding) : Type 0 where
   pub behind : (other : Out) (name : List ℕ) →
       output_name a other ≡ Some name → place out < place other → new name ≡ old name
 
--- what a refusal leaves in the outputs; if the report could not be made, they are empty
+-- the outputs are empty
+abbrev pub AreEmptied : Asking → Holding → Type 0
+AreEmptied a new = (out : Out) (name : List ℕ) → output_name a out ≡ Some name → new name ≡ Some []
+
+-- What a refusal leaves in the outputs. If the report could not be made, they are empty. If the
+-- output or the report leads to an input, nothing has changed.
 abbrev pub RefusalLeaves : Asking → Refusal → Holding → Holding → Type 0
-RefusalLeaves a (why.Target out) old new = StopsAt a out old new
-RefusalLeaves a why.Report old new = (out : Out) (name : List ℕ) →
-    output_name a out ≡ Some name → new name ≡ Some []
+RefusalLeaves a (why.Target out) old new = StopsAt a out old new ⊎ IsUnchanged old new
+RefusalLeaves a why.Report old new = AreEmptied a new ⊎ IsUnchanged old new
 RefusalLeaves a why.Memory old new = AreUntrimmed a old new
 RefusalLeaves a _ old new = IsUnchanged old new
 
@@ -84,15 +88,18 @@ ReportLeft _ old new = new ≡ old
 abbrev pub AreThere : InputNames → Holding → Type 0
 AreThere inputs old = IsSome (old inputs.forward) × IsSome (old inputs.reverse)
 
--- The input that is named does not exist; the forward one is opened first. An output or the report
--- is refused only if both inputs exist.
-abbrev pub TellsInputs : InputNames → Refusal → Holding → Type 0
-TellsInputs inputs (why.Source side.Forward) old = old inputs.forward ≡ None
-TellsInputs inputs (why.Source side.Reverse) old =
-    IsSome (old inputs.forward) × (old inputs.reverse ≡ None)
-TellsInputs inputs (why.Target out) old = AreThere inputs old
-TellsInputs inputs why.Report old = AreThere inputs old
-TellsInputs inputs _ old = Unit {0}
+-- The input that is named does not exist, or is an input already: before the call, or, after the
+-- forward one was opened, as the same file. An output or the report is refused only if both inputs
+-- exist. Given are the names that may be refused, and those that led to an input before the call.
+abbrev pub TellsInputs : InputNames → Refusal → Holding → Names → Names → Type 0
+TellsInputs inputs (why.Source side.Forward) old refuses opened =
+    (old inputs.forward ≡ None) ⊎ IsTrue (opened inputs.forward)
+TellsInputs inputs (why.Source side.Reverse) old refuses opened =
+    IsSome (old inputs.forward) × ((old inputs.reverse ≡ None)
+    ⊎ ((inputs.reverse ≡ inputs.forward) ⊎ MayRefuse refuses opened inputs.reverse))
+TellsInputs inputs (why.Target out) old refuses opened = AreThere inputs old
+TellsInputs inputs why.Report old refuses opened = AreThere inputs old
+TellsInputs inputs _ old refuses opened = Unit {0}
 
 -- a refusal that can come before the first output is made
 abbrev pub is_early : Refusal → Bool

@@ -1,10 +1,11 @@
 -- Inputs that are opened, and outputs that are made, before a pair is read.
-use Rattle.std.specs.Prelude.{◌≡◌, ◌≢◌, ℕ, Bool, IsTrue, IsSome, IfSome, is_some, Option, Some, None, List}
-use Rattle.fq_files.specs.Holding.{Holding, IsUnchanged}
+use Rattle.std.specs.Prelude.{◌≡◌, ◌≢◌, ◌⊎◌, ℕ, Bool, false, IsTrue, IsSome, IfSome, is_some, Option, Some, None, List}
+use Rattle.fq_files.specs.Holding.{Holding, Names, IsUnchanged, MayRefuse}
+use Rattle.fq_pair.specs.declared.out.Out.{Out}
 use Rattle.fq_text.specs.Devices.{OutletState}
 use Rattle.fq_pair.specs.declared.side.Side.{Side}
 use Rattle.fq_serial.specs.Devices.{OutletStates, AreHealthy}
-use Rattle.fq_words.specs.Requests.{Asking, input_name, output_name}
+use Rattle.fq_words.specs.Requests.{Asking, InputNames, input_name, is_input, output_name}
 use Rattle.fq_job.specs.declared.refusal.Refusal.{Refusal}
 use Rattle.fq_job.specs.declared.refusal.Refusal.TheVariants as why
 use Rattle.fq_job.specs.Refusals.{status_of}
@@ -34,28 +35,47 @@ pub record AreOpened (a : Asking) (tells : Bool) (old new : Holding)
   pub fed : IsTrue tells → AreFed inputs a.inputs old
   pub rest : IsTrue tells → KeepsUnnamed a old new
 
--- an output or the report is refused only under a name that may be refused
-abbrev pub IsRefusable : Asking → (List ℕ → Bool) → Refusal → Type 0
-IsRefusable a refuses (why.Target out) =
-    (name : List ℕ) × (output_name a out ≡ Some name) × IsTrue (refuses name)
-IsRefusable a refuses why.Report = (name : List ℕ) × (a.report ≡ Some name) × IsTrue (refuses name)
-IsRefusable a refuses _ = Unit {0}
+-- an output or the report is refused only under a name of which this holds
+abbrev pub IsRefusable : Asking → (List ℕ → Type 0) → Refusal → Type 0
+IsRefusable a P (why.Target out) = (name : List ℕ) × (output_name a out ≡ Some name) × P name
+IsRefusable a P why.Report = (name : List ℕ) × (a.report ≡ Some name) × P name
+IsRefusable a P _ = Unit {0}
+
+-- A name that leads to an input once these inputs are opened: it is the name of one, it led to an
+-- input before, or it may lead to the file of another name.
+abbrev pub MayLead : InputNames → Names → Names → List ℕ → Type 0
+MayLead inputs refuses opened name =
+    IsTrue (is_input inputs name) ⊎ MayRefuse refuses opened name
+
+-- this is the name of an output or of the report
+abbrev pub IsMade : Asking → List ℕ → Type 0
+IsMade a name = ((out : Out) × (output_name a out ≡ Some name)) ⊎ (a.report ≡ Some name)
+
+-- if an output or the report leads to an input, this holds, and no file has changed
+abbrev pub SparesInputs : Asking → Names → Type 0 → Holding → Holding → Type 0
+SparesInputs a opened P old new = (name : List ℕ) → IsMade a name →
+    IsTrue (opened name) → P × IsUnchanged old new
+
+-- no output leads to an input
+abbrev pub AreApart : Asking → Names → Type 0
+AreApart a opened = (out : Out) (name : List ℕ) → output_name a out ≡ Some name →
+    opened name ≡ false
 
 -- A call was refused for this reason: what the reason says, and what the call leaves in the files.
 pub record IsRefused (a : Asking) (why : Refusal)
-    (tells : Bool) (refuses : List ℕ → Bool) (old new : Holding) : Type 0 where
-  pub refused : IsRefusable a refuses why
-  pub inputs : IsTrue tells → TellsInputs a.inputs why old
+    (tells : Bool) (refuses opened : Names) (old new : Holding) : Type 0 where
+  pub refused : IsRefusable a (MayRefuse refuses opened) why
+  pub inputs : IsTrue tells → TellsInputs a.inputs why old refuses opened
   pub left : IsTrue tells → HasDistinctFiles a → RefusalLeaves a why old new
   pub report_left : IsTrue tells → HasDistinctFiles a →
       (name : List ℕ) → a.report ≡ Some name → ReportLeft why (old name) (new name)
 
 -- A file or memory was refused after the request was checked.
 pub record IsUnopened (a : Asking) (why : Refusal)
-    (tells : Bool) (refuses : List ℕ → Bool) (old new : Holding) : Type 0 where
+    (tells : Bool) (refuses opened : Names) (old new : Holding) : Type 0 where
   pub late : status_of why ≢ 2
-  pub refused : IsRefusable a refuses why
-  pub inputs : IsTrue tells → TellsInputs a.inputs why old
+  pub refused : IsRefusable a (MayLead a.inputs refuses opened) why
+  pub inputs : IsTrue tells → TellsInputs a.inputs why old refuses opened
   pub left : IsTrue tells → HasDistinctFiles a → RefusalLeaves a why old new
   pub report_left : IsTrue tells → HasDistinctFiles a →
       (name : List ℕ) → a.report ≡ Some name → ReportLeft why (old name) (new name)

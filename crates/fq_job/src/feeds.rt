@@ -1,12 +1,13 @@
 //! Opens the inputs, and hands their feeds back after the run.
 
-ghost use Rattle.std.specs.Prelude.{◌≡◌, ◌≢◌, ◌⊎◌, None, IsTrue, IfOk, IfErr};
+ghost use Rattle.std.specs.Prelude.{◌≡◌, ◌≢◌, ◌⊎◌, ℕ, List, None, IsTrue, IfOk, IfErr};
 ghost use Rattle.std.specs.Option.{option_map};
-ghost use Rattle.fq_files.specs.Holding.{IsUnchanged};
+ghost use Rattle.fq_files.specs.Holding.{IsUnchanged, MayRefuse};
 ghost use Rattle.fq_words.specs.Requests.{asking_of, input_name};
 ghost use Rattle.fq_job.specs.Refusals.{status_of};
 ghost use Rattle.fq_job.specs.Trimming.{IsFed, opened_of, left_of, form_of, AreFresh, AreFed};
 ghost use Rattle.fq_job.specs.Leaving.{AreThere, TellsInputs, is_early};
+ghost use Rattle.fq_job.specs.Opening.{MayLead};
 ghost use Rattle.fq_job.specs.Completing.{IsFeedCounted, AreFeedsCounted};
 
 use crate::refusal::{Refusal, file_refused};
@@ -42,8 +43,12 @@ pub(crate) fn inputs<T: Files>(
     ensures refusing { T.refuses files.new ≡ T.refuses files.old }
     ensures failed { T.has_failed files.new ≡ T.has_failed files.old }
     ensures flushed { T.is_unflushed files.new ≡ T.is_unflushed files.old }
+    ensures linked { (name : List ℕ) → IsTrue (T.is_open files.new name)
+        → MayLead (asking_of request.now).inputs
+        (T.refuses files.old) (T.is_open files.old) name }
     ensures inputs { IfErr result (λ why. IsTrue (T.tells_bytes files.old)
-        → TellsInputs (asking_of request.now).inputs why (T.bytes_of files.old)) }
+        → TellsInputs (asking_of request.now).inputs why
+        (T.bytes_of files.old) (T.refuses files.old) (T.is_open files.old)) }
     ensures early { IfErr result (λ why. IsTrue (is_early why)) }
     ensures late { IfErr result (λ why. status_of why ≢ 2) }
 {
@@ -73,9 +78,13 @@ fn input<T: Files>(request: &Request<'_>, files: &mut T, side: Side) -> Result<T
     ensures refusing { T.refuses files.new ≡ T.refuses files.old }
     ensures failed { T.has_failed files.new ≡ T.has_failed files.old }
     ensures flushed { T.is_unflushed files.new ≡ T.is_unflushed files.old }
+    ensures linked { (other : List ℕ) → other ≢ input_name (asking_of request.now).inputs side
+        → IsTrue (T.is_open files.new other)
+        → MayRefuse (T.refuses files.old) (T.is_open files.old) other }
     ensures missing { IfErr result (λ why. (why ≡ Refusal.Memory)
         ⊎ ((why ≡ Refusal.Source side) × (IsTrue (T.tells_bytes files.old)
-        → T.bytes_of files.old (input_name (asking_of request.now).inputs side) ≡ None))) }
+        → (T.bytes_of files.old (input_name (asking_of request.now).inputs side) ≡ None)
+        ⊎ IsTrue (T.is_open files.old (input_name (asking_of request.now).inputs side))))) }
     ensures early { IfErr result (λ why. IsTrue (is_early why)) }
     ensures late { IfErr result (λ why. status_of why ≢ 2) }
 {
@@ -93,6 +102,7 @@ pub fn inputs_done<T: Files>(request: &Request<'_>, files: &mut T, feeds: Feeds<
     ensures unchanged { IsTrue (T.tells_bytes files.old)
         → IsUnchanged (T.bytes_of files.old) (T.bytes_of files.new) }
     ensures told { T.tells_bytes files.new ≡ T.tells_bytes files.old }
+    ensures leading { T.is_open files.new ≡ T.is_open files.old }
     ensures counted { AreFeedsCounted (asking_of request.now).inputs
         (left_of T.In.state feeds) (T.has_failed files.old) (T.has_failed files.new) }
     ensures flushed { T.is_unflushed files.new ≡ T.is_unflushed files.old }
@@ -113,6 +123,7 @@ fn input_done<T: Files>(request: &Request<'_>, files: &mut T, side: Side, feed: 
     ensures unchanged { IsTrue (T.tells_bytes files.old)
         → IsUnchanged (T.bytes_of files.old) (T.bytes_of files.new) }
     ensures told { T.tells_bytes files.new ≡ T.tells_bytes files.old }
+    ensures leading { T.is_open files.new ≡ T.is_open files.old }
     ensures counted { IsFeedCounted (input_name (asking_of request.now).inputs side)
         (option_map T.In.state feed) (T.has_failed files.old) (T.has_failed files.new) }
     ensures flushed { T.is_unflushed files.new ≡ T.is_unflushed files.old }

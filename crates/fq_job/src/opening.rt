@@ -1,11 +1,11 @@
 //! Opens the files of a run.
 
-ghost use Rattle.std.specs.Prelude.{◌≡◌, false, Some, None, IsTrue, IfSome, IfOk, IfErr};
+ghost use Rattle.std.specs.Prelude.{◌≡◌, ℕ, List, false, Some, None, IsTrue, IsErr, IfSome, IfOk, IfErr};
 ghost use Rattle.std.specs.Option.{option_map};
 ghost use Rattle.fq_serial.specs.Devices.{outlet_states};
 ghost use Rattle.fq_words.specs.Requests.{asking_of};
 ghost use Rattle.fq_job.specs.Trimming.{opened_of};
-ghost use Rattle.fq_job.specs.Opening.{AreOpened, IsRefusable, IsUnopened};
+ghost use Rattle.fq_job.specs.Opening.{AreApart, AreOpened, IsRefusable, IsUnopened, SparesInputs};
 
 use crate::feeds::{Feeds, inputs};
 use crate::outputs::outputs;
@@ -24,7 +24,8 @@ pub struct Devices<F, O> {
     pub report: Option<O>,
 }
 
-/// Opens the inputs, then makes the outputs, and last the report.
+/// Opens the inputs, then makes the outputs, and last the report. An output or report that leads to
+/// an input is refused before any is made.
 pub fn open<T: Files>(
     request: &Request<'_>,
     files: &mut T,
@@ -34,8 +35,12 @@ pub fn open<T: Files>(
         (opened_of T.In.state devices.feeds)
         (outlet_states T.Target.state devices.outlets) (option_map T.Target.state devices.report)) }
     ensures unopened { IfErr result (λ why.
-        IsUnopened (asking_of request.now) why (T.tells_bytes files.old) (T.refuses files.old)
+        IsUnopened (asking_of request.now) why
+        (T.tells_bytes files.old) (T.refuses files.old) (T.is_open files.old)
         (T.bytes_of files.old) (T.bytes_of files.new)) }
+    ensures spared { IsTrue (T.tells_bytes files.old)
+        → SparesInputs (asking_of request.now) (T.is_open files.new)
+        (IsErr result) (T.bytes_of files.old) (T.bytes_of files.new) }
     ensures told { T.tells_bytes files.new ≡ T.tells_bytes files.old }
     ensures failed { T.has_failed files.new ≡ T.has_failed files.old }
     ensures flushed { T.is_unflushed files.new ≡ T.is_unflushed files.old }
@@ -56,11 +61,12 @@ pub fn open<T: Files>(
     })
 }
 
-// Returns the first output that is an input under another name.
+// Returns the first output that leads to an input.
 fn input_among_outputs<T: Files>(request: &Request<'_>, files: &T) -> Option<Out>
-    ensures none { IsTrue (T.tells_bytes files.now) → result ≡ None }
-    ensures refused { IfSome result (λ out.
-        IsRefusable (asking_of request.now) (T.refuses files.now) (Refusal.Target out)) }
+    ensures none { result ≡ None → IsTrue (T.tells_bytes files.now)
+        → AreApart (asking_of request.now) (T.is_open files.now) }
+    ensures refused { IfSome result (λ out. IsRefusable (asking_of request.now)
+        (λ name. IsTrue (T.is_open files.now name)) (Refusal.Target out)) }
 {
     if files.leads_to_input(request.forward_paired) {
         return Some(Out::ForwardPaired);
@@ -80,11 +86,12 @@ fn input_among_outputs<T: Files>(request: &Request<'_>, files: &T) -> Option<Out
     }
 }
 
-// Whether the report is an input under another name.
+// Whether the report leads to an input.
 fn input_as_report<T: Files>(request: &Request<'_>, files: &T) -> bool
-    ensures none { IsTrue (T.tells_bytes files.now) → result ≡ false }
-    ensures refused { IsTrue result
-        → IsRefusable (asking_of request.now) (T.refuses files.now) Refusal.Report }
+    ensures none { result ≡ false → IsTrue (T.tells_bytes files.now) → (name : List ℕ)
+        → (asking_of request.now).report ≡ Some name → T.is_open files.now name ≡ false }
+    ensures refused { IsTrue result → IsRefusable (asking_of request.now)
+        (λ name. IsTrue (T.is_open files.now name)) Refusal.Report }
 {
     request
         .report

@@ -1,7 +1,7 @@
 //! Makes the files of the outputs, and hands their outlets back after the run.
 
 ghost use Rattle.std.specs.Prelude.{◌≡◌, ◌≢◌, ◌⊎◌, [], suc, IsTrue, IsSome, IfOk, IfErr, OnOk, is_some};
-ghost use Rattle.fq_files.specs.Holding.{Holding, KeepsNames};
+ghost use Rattle.fq_files.specs.Holding.{Holding, KeepsNames, MayRefuse};
 ghost use Rattle.fq_serial.specs.Devices.{OutletStates, outlet_at, outlet_states, place, AreHealthy, AreFlushed};
 ghost use Rattle.fq_words.specs.Requests.{asking_of, output_name};
 ghost use Rattle.fq_job.specs.declared.refusal.Refusal.{Refusal as Refused};
@@ -36,9 +36,10 @@ pub(crate) fn outputs<T: Files>(
     ensures told { T.tells_bytes files.new ≡ T.tells_bytes files.old }
     ensures names { IsTrue (T.tells_bytes files.old)
         → KeepsNames (T.bytes_of files.old) (T.bytes_of files.new) }
-    ensures refused { IfErr result (λ why.
-        IsRefusable (asking_of request.now) (T.refuses files.old) why) }
+    ensures refused { IfErr result (λ why. IsRefusable (asking_of request.now)
+        (MayRefuse (T.refuses files.old) (T.is_open files.old)) why) }
     ensures refusing { T.refuses files.new ≡ T.refuses files.old }
+    ensures leading { T.is_open files.new ≡ T.is_open files.old }
     ensures failed { T.has_failed files.new ≡ T.has_failed files.old }
     ensures flushed { T.is_unflushed files.new ≡ T.is_unflushed files.old }
     ensures opened { IfErr result (λ why. IsTrue (is_late why)) }
@@ -82,9 +83,10 @@ fn output<T: Files>(request: &Request<'_>, files: &mut T, out: Out) -> Result<T:
     ensures told { T.tells_bytes files.new ≡ T.tells_bytes files.old }
     ensures names { IsTrue (T.tells_bytes files.old)
         → KeepsNames (T.bytes_of files.old) (T.bytes_of files.new) }
-    ensures refused { IfErr result (λ why.
-        IsRefusable (asking_of request.now) (T.refuses files.old) why) }
+    ensures refused { IfErr result (λ why. IsRefusable (asking_of request.now)
+        (MayRefuse (T.refuses files.old) (T.is_open files.old)) why) }
     ensures refusing { T.refuses files.new ≡ T.refuses files.old }
+    ensures leading { T.is_open files.new ≡ T.is_open files.old }
     ensures failed { T.has_failed files.new ≡ T.has_failed files.old }
     ensures flushed { T.is_unflushed files.new ≡ T.is_unflushed files.old }
 {
@@ -106,6 +108,7 @@ pub fn store<T: Files>(request: &Request<'_>, files: &mut T, outlets: Outlets<T:
     ensures names { IsTrue (T.tells_bytes files.old)
         → KeepsNames (T.bytes_of files.old) (T.bytes_of files.new) }
     ensures told { T.tells_bytes files.new ≡ T.tells_bytes files.old }
+    ensures leading { T.is_open files.new ≡ T.is_open files.old }
     ensures counted { AreCounted (asking_of request.now)
         (outlet_states T.Target.state outlets) 5 (T.has_failed files.old) (T.has_failed files.new) }
     ensures flushed { AreFlushed (outlet_states T.Target.state outlets)
@@ -143,6 +146,7 @@ fn store_one<T: Files>(request: &Request<'_>, files: &mut T, out: Out, outlet: T
     ensures names { IsTrue (T.tells_bytes files.old)
         → KeepsNames (T.bytes_of files.old) (T.bytes_of files.new) }
     ensures told { T.tells_bytes files.new ≡ T.tells_bytes files.old }
+    ensures leading { T.is_open files.new ≡ T.is_open files.old }
     ensures counted { (start : Failed) (states : OutletStates)
         → outlet_at out states ≡ Some (T.Target.state outlet)
         → AreCounted (asking_of request.now) states (place out) start (T.has_failed files.old)

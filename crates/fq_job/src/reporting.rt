@@ -2,7 +2,7 @@
 
 ghost use Rattle.std.specs.Prelude.{◌≡◌, ◌≢◌, ◌⊎◌, ◌++◌, ℕ, List, true, false, Some, None, [], take, is_some, option_map, IsTrue, IsSome, IfOk, IfSome, OnOk, OnErr, IfErr};
 ghost use Rattle.std.specs.String.{string_bytes};
-ghost use Rattle.fq_files.specs.Holding.{KeepsOthers, KeepsNames};
+ghost use Rattle.fq_files.specs.Holding.{KeepsOthers, KeepsNames, MayRefuse};
 ghost use Rattle.fq_text.specs.Written.{line};
 ghost use Rattle.fq_report.specs.Facts.{names_of as named};
 ghost use Rattle.fq_report.specs.Reports.{text_of};
@@ -63,9 +63,10 @@ pub(crate) fn report_target<T: Files>(
         → (name : List ℕ) → (asking_of request.now).report ≢ Some name
         → T.bytes_of files.new name ≡ T.bytes_of files.old name }
     ensures told { T.tells_bytes files.new ≡ T.tells_bytes files.old }
-    ensures refused { IfErr result (λ why.
-        IsRefusable (asking_of request.now) (T.refuses files.old) why) }
+    ensures refused { IfErr result (λ why. IsRefusable (asking_of request.now)
+        (MayRefuse (T.refuses files.old) (T.is_open files.old)) why) }
     ensures refusing { T.refuses files.new ≡ T.refuses files.old }
+    ensures leading { T.is_open files.new ≡ T.is_open files.old }
     ensures failed { T.has_failed files.new ≡ T.has_failed files.old }
     ensures flushed { T.is_unflushed files.new ≡ T.is_unflushed files.old }
 {
@@ -106,6 +107,7 @@ pub fn store_report<T: Files>(
         → (name : List ℕ) → (asking_of request.now).report ≢ Some name
         → T.bytes_of files.new name ≡ T.bytes_of files.old name }
     ensures told { T.tells_bytes files.new ≡ T.tells_bytes files.old }
+    ensures leading { T.is_open files.new ≡ T.is_open files.old }
     ensures failed { result ≡ Reported.Failed
         → ReportFailed (asking_of request.now) (T.has_failed files.new) }
     ensures sound { result ≢ Reported.Failed → T.has_failed files.new ≡ T.has_failed files.old }

@@ -1,10 +1,11 @@
-use Rattle.std.proofs.Common.{◌∙◌, IsSome, Option, List, ℕ, sym, subst}
+use Rattle.std.proofs.Common.{◌∙◌, IsSome, IsTrue, Option, List, ℕ, sym, subst}
 use Rattle.std.proofs.lemmas.Result.{err_from_is_err_and}
+use Rattle.fq_files.specs.Holding.{Names}
 use Rattle.fq_words.specs.Requests.{asking_of}
 use Rattle.fq_job.specs.Trimming.{opened_of}
 use Rattle.fq_job.proofs.LeavingLemmas.{leaves_since, report_behind, report_refused, unchanged_or_nothing}
 use Rattle.fq_job.proofs.MakingLemmas.{along, five_empty, five_held, report_unmade}
-use Rattle.fq_job.proofs.OpeningLemmas.{empty_map, fresh_map, is_some_map, late_status, refusable_since, refused_late, report_late, still_there}
+use Rattle.fq_job.proofs.OpeningLemmas.{leads_nowhere, empty_map, fresh_map, is_some_map, late_status, refusable_since, refused_late, report_late, still_there}
 use Rattle.fq_job.proofs.opening.open.Goals as goal
 
 pub returns-in_err-outlets-clause-unopened : goal.returns-in_err-outlets-clause-unopened
@@ -13,8 +14,8 @@ returns-in_err-outlets-clause-unopened g c =
     let a = asking_of c.args.request.now in
     let inputs = c.in_ok-feeds.ensures in
     let outputs = c.in_err-outlets.ensures in
-    rw (p.1, p.2) (refused_late a _ _ _ _ _ (opened_of g.T.In.Feed.state c.in_ok-feeds.feeds) outputs.opened outputs.late
-    (refusable_since a _ _ _ inputs.refusing outputs.refused) inputs.fed
+    rw (p.1, p.2) (refused_late a _ _ _ _ _ _ (opened_of g.T.In.Feed.state c.in_ok-feeds.feeds) outputs.opened outputs.late
+    (refusable_since a _ _ _ _ _ inputs.refusing inputs.linked outputs.refused) inputs.fed
     (λ told distinct. leaves_since a _ _ _ _ (inputs.unchanged told) ((outputs.unmade (along _ _ outputs.told (along _ _ inputs.told told))).leaves distinct.outputs))
     (λ told distinct name named. report_behind _ _ _
     ((outputs.unmade (along _ _ outputs.told (along _ _ inputs.told told))).rest name (λ out is. distinct.report out name is named) ∙ inputs.unchanged told name))
@@ -28,8 +29,8 @@ returns-in_err-report-clause-unopened g c =
     let outputs = c.in_ok-outlets.ensures in
     let report = c.in_err-report.ensures in
     let behind = report_late _ report.why in
-    rw (p.1, p.2) (refused_late a _ _ _ _ _ (opened_of g.T.In.Feed.state c.in_ok-feeds.feeds) behind (late_status _ behind)
-    (refusable_since a _ _ _ (outputs.refusing ∙ inputs.refusing) report.refused) inputs.fed
+    rw (p.1, p.2) (refused_late a _ _ _ _ _ _ (opened_of g.T.In.Feed.state c.in_ok-feeds.feeds) behind (late_status _ behind)
+    (refusable_since a _ _ _ _ _ (outputs.refusing ∙ inputs.refusing) (λ name leads. inputs.linked name (subst (λ (r : Names). IsTrue (r name)) outputs.leading leads)) report.refused) inputs.fed
     (λ told distinct.
     let told_2 = along _ _ outputs.told (along _ _ inputs.told told) in
     report_unmade a _ _ _ report.why (λ out name named.
@@ -41,6 +42,24 @@ returns-in_err-report-clause-unopened g c =
     (λ told name free other.
     let told_2 = along _ _ outputs.told (along _ _ inputs.told told) in
     report.others told_2 name other ∙ ((outputs.made told_2).rest name free ∙ inputs.unchanged told name)))
+
+pub returns-in_err-outlets-clause-spared : goal.returns-in_err-outlets-clause-spared
+returns-in_err-outlets-clause-spared g c = λ told name made leads.
+    let told_1 = along _ _ c.in_ok-feeds.ensures.told told in
+    absurd (leads_nowhere (asking_of c.args.request.now) _ _ c.in_err-outlets.ensures.leading (c.input_among_outputs.ensures.none c.in_default.is told_1)
+    (c.input_as_report.ensures.none c.if-input_as_report.false told_1) name made leads)
+
+pub returns-in_err-report-clause-spared : goal.returns-in_err-report-clause-spared
+returns-in_err-report-clause-spared g c = λ told name made leads.
+    let told_1 = along _ _ c.in_ok-feeds.ensures.told told in
+    absurd (leads_nowhere (asking_of c.args.request.now) _ _ (c.in_err-report.ensures.leading ∙ c.in_ok-outlets.ensures.leading) (c.input_among_outputs.ensures.none c.in_default.is told_1)
+    (c.input_as_report.ensures.none c.if-input_as_report.false told_1) name made leads)
+
+pub returns-clause-spared : goal.returns-clause-spared
+returns-clause-spared g c = λ told name made leads.
+    let told_1 = along _ _ c.in_ok-feeds.ensures.told told in
+    absurd (leads_nowhere (asking_of c.args.request.now) _ _ (c.in_ok-report.ensures.leading ∙ c.in_ok-outlets.ensures.leading) (c.input_among_outputs.ensures.none c.in_default.is told_1)
+    (c.input_as_report.ensures.none c.if-input_as_report.false told_1) name made leads)
 
 pub returns-clause-opened : goal.returns-clause-opened
 returns-clause-opened g c =
