@@ -2,7 +2,7 @@
 use Rattle.std.proofs.Common.{◌≡◌, ◌≢◌, ◌⊎◌, ◌∙◌, ℕ, suc, Bool, IsTrue, IsSome, Option, Some, None, [], ◌∷◌, List, length, inl, inr, ⊎_elim, refl, sym, ap, subst, arith}
 use Rattle.std.proofs.lemmas.List.{take_all}
 use Rattle.std.specs.List.{All}
-use Rattle.fq_files.specs.Holding.{Holding, IsUnchanged}
+use Rattle.fq_files.specs.Holding.{Holding, Names, IsUnchanged, MayRefuse}
 use Rattle.fq_pair.specs.declared.counts.Counts.{Counts}
 use Rattle.fq_pair.specs.declared.side.Side.{Side}
 use Rattle.clap.specs.Kinds.{IsAmong, Kinds}
@@ -18,7 +18,7 @@ use Rattle.fq_job.specs.Leaving.{RefusalLeaves, ReportLeft, HoldFirstPairs, AreL
 use Rattle.fq_job.proofs.EndingLemmas.{done_is_whole, ends_so}
 use Rattle.fq_job.proofs.LeavingLemmas.{left_or_nothing, refusal_untrimmed, whole_first}
 use Rattle.fq_job.specs.Refusals.{status_of, line_of}
-use Rattle.fq_command.specs.Answers.{Device, EndsWhole, IsRefusal, IsEnding, IsUnprinted, IsUntold, IsUnreported, IsReportLeft, LacksMemory, NamesRefused, NamesDevice, PairsAnswered, Refuses, Tells, TookLine, memory_line, print_line, report_line}
+use Rattle.fq_command.specs.Answers.{Device, EndsWhole, IsRefusal, IsEnding, IsUnprinted, IsUntold, IsUnreported, IsReportLeft, IsReportUncut, LacksMemory, NamesRefused, NamesDevice, PairsAnswered, Refuses, Tells, TookLine, memory_line, print_line, report_line}
 use Rattle.fq_job.specs.declared.refusal.Refusal.{Refusal}
 use Rattle.fq_job.specs.declared.reporting.Reported.{Reported}
 use Rattle.fq_job.specs.declared.reporting.Reported.TheVariants as report
@@ -39,18 +39,32 @@ refusal_fails why.SameReport = ((λ e. absurd (omega (arith, e))), (λ e. absurd
 refusal_fails why.Report = ((λ e. absurd (omega (arith, e))), (λ e. absurd (omega (arith, e))), (λ e. absurd (omega (arith, e))))
 refusal_fails why.Memory = ((λ e. absurd (omega (arith, e))), (λ e. absurd (omega (arith, e))), (λ e. absurd (omega (arith, e))))
 
+-- nor is the status at which a refusal is reported
+pub refuses_fails : (a : Asking) (refusal : Refusal) (err : Device) (status : ℕ) → Refuses a refusal err status → (status ≢ 0) × (status ≢ 3)
+refuses_fails a refusal err status (inl told) =
+    let own = refusal_fails refusal in ((λ zero. own.0 (sym told.0 ∙ zero)), (λ three. own.2 (sym told.0 ∙ three)))
+refuses_fails a refusal err status (inr lacks) =
+    let five = lacks.status_is in ((λ zero. absurd (omega (arith, zero, five))), (λ three. absurd (omega (arith, three, five))))
+
 -- refused memory has its line
 lacks_line : (a : Asking) (told : Bool) (old new : Holding) (out err : Device) (status : ℕ) → LacksMemory err status → (IsTrue told → HasDistinctFiles a → AreLeft a old new)
-    → TookLine a told old new out err status
-lacks_line a told old new out err status lacks left = record {
+    → (IsTrue told → HasDistinctFiles a → (name : List ℕ) → a.report ≡ Some name → IsReportUncut a old new name) → TookLine a told old new out err status
+lacks_line a told old new out err status lacks left report_left = record {
   text = memory_line;
-  fits = inr (inr (inl (record { status_is = lacks.status_is; text_is = refl; left = left })));
+  fits = inr (inr (inl (record { status_is = lacks.status_is; text_is = refl; left = left; report_left = report_left })));
   took = lacks.told;
 }
 
+-- a whole report is a first part of itself
+whole_begins : (a : Asking) (old new : Holding) (name : List ℕ) → HoldsReport a old new name → IsReportLeft a old new name
+whole_begins a old new name holds = inr (record { text = holds.text; count = length holds.text; is = holds.is; held = holds.held ∙ ap Some (sym (take_all (length holds.text) holds.text (omega arith))) })
+
+uncut_left : (a : Asking) (old new : Holding) (name : List ℕ) → IsReportUncut a old new name → IsReportLeft a old new name
+uncut_left a old new name uncut = ⊎_elim (λ kept. inl kept) (λ holds. whole_begins a old new name holds) uncut
+
 -- a request that ends because memory was refused
 pub lacks_answer : (a : Asking) (told : Bool) (old new : Holding) (out err : Device) (status : ℕ) → LacksMemory err status → (IsTrue told → HasDistinctFiles a → AreLeft a old new)
-    → (IsTrue told → HasDistinctFiles a → (name : List ℕ) → a.report ≡ Some name → IsReportLeft a old new name)
+    → (IsTrue told → HasDistinctFiles a → (name : List ℕ) → a.report ≡ Some name → IsReportUncut a old new name)
     → (IsTrue told → (side : Side) → old (input_name a.inputs side) ≡ None → IsUnchanged old new) → PairsAnswered a told old new out err status
 lacks_answer a told old new out err status lacks left report_left unopened =
     let five = lacks.status_is in
@@ -58,11 +72,11 @@ lacks_answer a told old new out err status lacks left report_left unopened =
       whole = λ ends. absurd (⊎_elim (λ zero. omega (arith, zero, five)) (λ three. omega (arith, three, five)) ends);
       wrong = λ refusal is. inr lacks;
       right = λ two. absurd (omega (arith, two, five));
-      line = λ other. lacks_line a told old new out err status lacks left;
+      line = λ other. lacks_line a told old new out err status lacks left report_left;
       known = λ one. absurd (omega (arith, one, five));
       left = λ other. left;
       reported = λ ends. absurd (⊎_elim (λ zero. omega (arith, zero, five)) (λ three. omega (arith, three, five)) ends);
-      report_left = report_left;
+      report_left = λ tells distinct name named. uncut_left a old new name (report_left tells distinct name named);
       unopened = unopened;
     }
 
@@ -73,24 +87,24 @@ there_is (Some x) none = refl
 -- a request that is refused
 pub refused_answer : (a : Asking) (told : Bool) (old new : Holding) (out err : Device) (status : ℕ) (refusal : Refusal) → Refuses a refusal err status
     → ((other : Refusal) → wrong_with a ≡ Some other → refusal ≡ other) → (wrong_with a ≡ None → status_of refusal ≢ 2)
-    → (IsTrue told → TellsInputs a.inputs refusal old) → (IsTrue told → HasDistinctFiles a → RefusalLeaves a refusal old new)
+    → (IsTrue told → HasDistinctFiles a → RefusalLeaves a refusal old new)
     → (IsTrue told → HasDistinctFiles a → (name : List ℕ) → a.report ≡ Some name → ReportLeft refusal (old name) (new name))
     → (IsTrue told → (side : Side) → old (input_name a.inputs side) ≡ None → IsUnchanged old new) → PairsAnswered a told old new out err status
-refused_answer a told old new out err status refusal (inl refuses) first late inputs left report_left unopened =
+refused_answer a told old new out err status refusal (inl refuses) first late left report_left unopened =
     let own = refusal_fails refusal in
     let is = refuses.0 in
     record {
       whole = λ ends. absurd (⊎_elim (λ zero. own.0 (sym is ∙ zero)) (λ three. own.2 (sym is ∙ three)) ends);
       wrong = λ other named. let P : Refusal → Type 0 = λ r. Refuses a r err status in subst P (first other named) (inl refuses);
       right = λ two. there_is (wrong_with a) (λ none. late none (sym is ∙ two));
-      line = λ other. record { text = line_of a refusal; fits = inl (inl (record { why = refusal; status_is = sym is; text_is = refl; inputs = inputs; left = left; report_left = report_left })); took = refuses.1 };
+      line = λ other. record { text = line_of a refusal; fits = inl (inl (record { why = refusal; status_is = sym is; text_is = refl; left = left; report_left = report_left })); took = refuses.1 };
       known = λ one. own.1 (sym is ∙ one);
       left = λ other tells distinct. inl (refusal_untrimmed a refusal old new (left tells distinct));
       reported = λ ends. absurd (⊎_elim (λ zero. own.0 (sym is ∙ zero)) (λ three. own.2 (sym is ∙ three)) ends);
       report_left = λ tells distinct name named. inl (left_or_nothing refusal (old name) (new name) (report_left tells distinct name named));
       unopened = unopened;
     }
-refused_answer a told old new out err status refusal (inr lacks) first late inputs left report_left unopened =
+refused_answer a told old new out err status refusal (inr lacks) first late left report_left unopened =
     lacks_answer a told old new out err status lacks (λ tells distinct. inl (refusal_untrimmed a refusal old new (left tells distinct)))
     (λ tells distinct name named. inl (left_or_nothing refusal (old name) (new name) (report_left tells distinct name named))) unopened
 
@@ -134,6 +148,11 @@ module _ (a : Asking) (told : Bool) (old new : Holding) (outcome : Outcome) (cou
   is_empty (inr written) tells some other name named =
       absurd (⊎_elim some other (due_as report.Written written (λ e. absurd (cc e))))
 
+  -- a report that was written or not due is whole or empty
+  is_uncut : (reported ≡ report.NotDue) ⊎ (reported ≡ report.Written) → IsTrue told → (name : List ℕ) → a.report ≡ Some name → IsReportUncut a old new name
+  is_uncut (inl none) tells name named = inl (inr (held_as report.NotDue none tells name named))
+  is_uncut (inr written) tells name named = inr (held_as report.Written written tells name named)
+
   -- the line of a run that was made
   pub told_line : (out err : Device) (status : ℕ) → Tells outcome reported out err status → TookLine a told old new out err status
   told_line out err status (inl (which, inl ending)) = record {
@@ -153,7 +172,7 @@ module _ (a : Asking) (told : Bool) (old new : Holding) (outcome : Outcome) (cou
     took = unprinted.1.2;
   }
   told_line out err status (inl (which, inr (inr untold))) =
-      lacks_line a told old new out err status untold.1 (λ tells distinct. inr (outcome, run.ended tells distinct untold.0))
+      lacks_line a told old new out err status untold.1 (λ tells distinct. inr (outcome, run.ended tells distinct untold.0)) (λ tells distinct. is_uncut which tells)
   told_line out err status (inr (inl failed)) =
       let due = due_as report.Failed failed.0 (λ e. absurd (cc e)) in record {
         text = report_line;
@@ -168,6 +187,7 @@ module _ (a : Asking) (told : Bool) (old new : Holding) (outcome : Outcome) (cou
   told_line out err status (inr (inr lacks)) =
       let due = due_as report.OutOfMemory lacks.0 (λ e. absurd (cc e)) in
       lacks_line a told old new out err status lacks.1 (λ tells distinct. inr (outcome, run.ended tells distinct (not_lane outcome due)))
+      (λ tells distinct name named. inl (inr (held_as report.OutOfMemory lacks.0 tells name named)))
 
 -- ---- the device that is named
 
@@ -175,29 +195,29 @@ four_not_five : (n : ℕ) → n ≡ 4 → n ≡ 5 → ⊥
 four_not_five n four five = absurd (omega (arith, four, five))
 
 -- what was refused
-pub refused_device : (a : Asking) (tells : Bool) (old : Holding) (refuses : List ℕ → Bool) (err : Device) (status : ℕ) (refusal : Refusal) → Refuses a refusal err status
-    → (IsTrue tells → TellsInputs a.inputs refusal old) → IsRefusable a refuses refusal → status ≡ 4 → NamesRefused a tells old refuses err
-refused_device a tells old refuses err status refusal (inl refuses_so) inputs refused four =
+pub refused_device : (a : Asking) (tells : Bool) (old : Holding) (refuses opened : Names) (err : Device) (status : ℕ) (refusal : Refusal) → Refuses a refusal err status
+    → (IsTrue tells → TellsInputs a.inputs refusal old refuses opened) → IsRefusable a (MayRefuse refuses opened) refusal → status ≡ 4 → NamesRefused a tells old refuses opened err
+refused_device a tells old refuses opened err status refusal (inl refuses_so) inputs refused four =
     record { why = refusal; status_is = sym refuses_so.0 ∙ four; told = refuses_so.1; inputs = inputs; refused = refused }
-refused_device a tells old refuses err status refusal (inr lacks) inputs refused four = absurd (four_not_five status four lacks.status_is)
+refused_device a tells old refuses opened err status refusal (inr lacks) inputs refused four = absurd (four_not_five status four lacks.status_is)
 
 four_not_lane : (outcome : Outcome) → outcome_status outcome ≡ 4 → outcome ≢ Lane
 four_not_lane outcome four lane = let six : outcome_status outcome ≡ 6 = ap outcome_status lane in absurd (omega (arith, four, six))
 
 -- what has failed
-pub failed_device : (a : Asking) (tells : Bool) (old : Holding) (refuses : List ℕ → Bool) (failed : Failed) (out err : Device) (status : ℕ) (outcome : Outcome) (reported : Reported)
+pub failed_device : (a : Asking) (tells : Bool) (old : Holding) (refuses opened : Names) (failed : Failed) (out err : Device) (status : ℕ) (outcome : Outcome) (reported : Reported)
     → (outcome ≢ Lane → HasFailed a tells old failed outcome) → (IsTrue tells → settled outcome ≡ outcome) → (reported ≡ report.Failed → ReportFailed a failed)
-    → Tells outcome reported out err status → status ≡ 4 → NamesDevice a tells old refuses failed out err
-failed_device a tells old refuses failed out err status outcome reported fails as_it_is report_fails (inl (which, inl ending)) four =
+    → Tells outcome reported out err status → status ≡ 4 → NamesDevice a tells old refuses opened failed out err
+failed_device a tells old refuses opened failed out err status outcome reported fails as_it_is report_fails (inl (which, inl ending)) four =
     let is = sym ending.0 ∙ four in
     inr (inl (record { outcome = outcome; status_is = is; told = ending.1; has_failed = fails (four_not_lane outcome is); as_it_is = as_it_is }))
-failed_device a tells old refuses failed out err status outcome reported fails as_it_is report_fails (inl (which, inr (inl unprinted))) four =
+failed_device a tells old refuses opened failed out err status outcome reported fails as_it_is report_fails (inl (which, inr (inl unprinted))) four =
     inr (inr (inl (unprinted.1.0, unprinted.1.2)))
-failed_device a tells old refuses failed out err status outcome reported fails as_it_is report_fails (inl (which, inr (inr untold))) four =
+failed_device a tells old refuses opened failed out err status outcome reported fails as_it_is report_fails (inl (which, inr (inr untold))) four =
     absurd (four_not_five status four untold.1.status_is)
-failed_device a tells old refuses failed out err status outcome reported fails as_it_is report_fails (inr (inl unwritten)) four =
+failed_device a tells old refuses opened failed out err status outcome reported fails as_it_is report_fails (inr (inl unwritten)) four =
     inr (inr (inr (report_fails unwritten.0, unwritten.2)))
-failed_device a tells old refuses failed out err status outcome reported fails as_it_is report_fails (inr (inr lacks)) four =
+failed_device a tells old refuses opened failed out err status outcome reported fails as_it_is report_fails (inr (inr lacks)) four =
     absurd (four_not_five status four lacks.1.status_is)
 
 -- a report that was written or not due has not failed
@@ -205,10 +225,10 @@ pub not_failed : (reported : Reported) → (reported ≡ report.NotDue) ⊎ (rep
 not_failed reported (inl none) failed = let bad : report.NotDue ≡ report.Failed = sym none ∙ failed in absurd (cc bad)
 not_failed reported (inr written) failed = let bad : report.Written ≡ report.Failed = sym written ∙ failed in absurd (cc bad)
 
--- a whole report is a first part of itself
+-- what a run leaves in the file of the report
 pub is_left : (a : Asking) (old new : Holding) (name : List ℕ) (reported : Reported) → ReportHeld reported a old new name → IsReportLeft a old new name
 is_left a old new name report.NotDue empty = inl (inr empty)
-is_left a old new name report.Written holds = inr (record { text = holds.text; count = length holds.text; is = holds.is; held = holds.held ∙ ap Some (sym (take_all (length holds.text) holds.text (omega arith))) })
+is_left a old new name report.Written holds = whole_begins a old new name holds
 is_left a old new name report.Failed begins = inr begins
 is_left a old new name report.OutOfMemory empty = inl (inr empty)
 

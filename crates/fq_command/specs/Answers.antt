@@ -3,7 +3,7 @@ use Rattle.std.specs.Prelude.{◌≡◌, ◌≢◌, ◌⊎◌, ℕ, ◌<◌, Boo
 use Rattle.std.specs.List.{All}
 use Rattle.fq_text.specs.Devices.{OutletState}
 use Rattle.fq_text.specs.Written.{line}
-use Rattle.fq_files.specs.Holding.{Holding, IsUnchanged}
+use Rattle.fq_files.specs.Holding.{Holding, Names, IsUnchanged, MayRefuse}
 use Rattle.fq_pair.specs.declared.counts.Counts.{Counts}
 use Rattle.fq_pair.specs.declared.side.Side.{Side}
 use Rattle.fq_pair.specs.Summaries.{summary_of}
@@ -84,7 +84,6 @@ pub record IsRefusal (a : Asking) (tells : Bool)
   pub why : Refusal
   pub status_is : status_of why ≡ status
   pub text_is : line_of a why ≡ text
-  pub inputs : IsTrue tells → TellsInputs a.inputs why old
   pub left : IsTrue tells → HasDistinctFiles a → RefusalLeaves a why old new
   pub report_left : IsTrue tells → HasDistinctFiles a →
       (name : List ℕ) → a.report ≡ Some name → ReportLeft why (old name) (new name)
@@ -121,12 +120,19 @@ pub record IsUnreported (a : Asking) (tells : Bool)
       (outcome : Outcome) × (counts : Counts) × TrimsFiles a old new outcome counts
   pub begun : IsTrue tells → (name : List ℕ) → a.report ≡ Some name → BeginsReport a old new name
 
+-- the file of the report holds what it held before, or nothing, or the whole report
+abbrev pub IsReportUncut : Asking → Holding → Holding → List ℕ → Type 0
+IsReportUncut a old new name = ((new name ≡ old name) ⊎ (new name ≡ Some []))
+    ⊎ HoldsReport a old new name
+
 -- memory for the line or the summary was refused
 pub record IsUntold (a : Asking) (tells : Bool)
     (old new : Holding) (status : ℕ) (text : List ℕ) : Type 0 where
   pub status_is : status ≡ 5
   pub text_is : text ≡ memory_line
   pub left : IsTrue tells → HasDistinctFiles a → AreLeft a old new
+  pub report_left : IsTrue tells → HasDistinctFiles a →
+      (name : List ℕ) → a.report ≡ Some name → IsReportUncut a old new name
 
 -- standard error took the line of one of these, which has this status, and nothing else
 pub record TookLine (a : Asking) (tells : Bool)
@@ -164,15 +170,15 @@ Refuses a why err status = ((status ≡ status_of why) × TookText err (line_of 
 
 -- At status 4 standard error names what was refused or has failed.
 
--- a file was refused: an input that does not exist, or an output or a report under a name that may
--- be refused
+-- a file was refused: an input that does not exist or is an input already, or an output or a report
+-- under a name that may be refused or led to an input before the call
 pub record NamesRefused (a : Asking) (tells : Bool)
-    (old : Holding) (refuses : List ℕ → Bool) (err : Device) : Type 0 where
+    (old : Holding) (refuses opened : Names) (err : Device) : Type 0 where
   pub why : Refusal
   pub status_is : status_of why ≡ 4
   pub told : TookText err (line_of a why)
-  pub inputs : IsTrue tells → TellsInputs a.inputs why old
-  pub refused : IsRefusable a refuses why
+  pub inputs : IsTrue tells → TellsInputs a.inputs why old refuses opened
+  pub refused : IsRefusable a (MayRefuse refuses opened) why
 
 -- a device of that name has failed, or the input of that side is endless
 pub record NamesFailed (a : Asking) (tells : Bool)
@@ -186,9 +192,9 @@ pub record NamesFailed (a : Asking) (tells : Bool)
 -- the line names a refused file, a failed device or an endless input; or standard output or the
 -- report's device has failed
 abbrev pub NamesDevice : Asking → Bool → Holding →
-    (List ℕ → Bool) → Failed → Device → Device → Type 0
-NamesDevice a tells old refuses failed out err =
-    NamesRefused a tells old refuses err
+    Names → Names → Failed → Device → Device → Type 0
+NamesDevice a tells old refuses opened failed out err =
+    NamesRefused a tells old refuses opened err
     ⊎ (NamesFailed a tells old failed err
     ⊎ (((out.failures ≢ 0) × TookText err print_line)
     ⊎ (ReportFailed a failed × TookText err report_line)))

@@ -4,6 +4,7 @@ ghost use Rattle.std.specs.Prelude.{◌≡◌, ◌≢◌, ◌⊎◌, ◌++◌, S
 ghost use Rattle.fq_words.specs.Requests.{Asking, asking_of};
 ghost use Rattle.fq_job.specs.Judging.{wrong_with};
 ghost use Rattle.fq_job.specs.Trimming.{KeepsUnnamed};
+ghost use Rattle.fq_job.specs.Opening.{SparesInputs};
 ghost use Rattle.fq_words.specs.Words.{AskedFor, words_fault};
 ghost use Rattle.fq_command.specs.Answers.{device_of, TookText, TookPart, LacksMemory, LacksPrint, IsUnshown, Refuses, Tells, NamesDevice, PairsAnswered, AreRefused, IsCall, AreCalls, print_line};
 ghost use Rattle.fq_command.specs.Example.{example_text};
@@ -69,8 +70,8 @@ pub fn program<'a, R: Threads + Wait + Copy + Send + 'static, T: Files, O: Outle
     // their last write.
     ensures device { (a : Asking) → AskedFor (map (λ word. word.now) words.entry.now) (Some a)
         → result ≡ 4
-        → NamesDevice a (T.tells_bytes files.old)
-        (T.bytes_of files.old) (T.refuses files.old) (T.has_failed files.new)
+        → NamesDevice a (T.tells_bytes files.old) (T.bytes_of files.old)
+        (T.refuses files.old) (T.is_open files.old) (T.has_failed files.new)
         (device_of O.state out.old out.new) (device_of E.state err.old err.new) }
     ensures sound { (result ≡ 0) ⊎ (result ≡ 3) → T.has_failed files.new ≡ T.has_failed files.old }
     ensures flushed { (result ≡ 0) ⊎ (result ≡ 3)
@@ -80,6 +81,13 @@ pub fn program<'a, R: Threads + Wait + Copy + Send + 'static, T: Files, O: Outle
     ensures rest { (a : Asking) → AskedFor (map (λ word. word.now) words.entry.now) (Some a)
         → IsTrue (T.tells_bytes files.old)
         → KeepsUnnamed a (T.bytes_of files.old) (T.bytes_of files.new) }
+
+    // If an output or the report leads to an input, no file changes, and the status is neither 0
+    // nor 3.
+    ensures spared { (a : Asking) → AskedFor (map (λ word. word.now) words.entry.now) (Some a)
+        → IsTrue (T.tells_bytes files.old)
+        → SparesInputs a (T.is_open files.new) ((result ≢ 0) × (result ≢ 3))
+        (T.bytes_of files.old) (T.bytes_of files.new) }
 
     // Other arguments touch no file. `EXAMPLE` is printed unless `out`, memory or a thread fails.
     // Arguments that don't parse are refused; help and the version are printed.
@@ -135,7 +143,7 @@ fn trim_pairs<R: Threads + Wait + Copy + Send + 'static, T: Files, O: Outlet, E:
         (device_of O.state out.old out.new) (device_of E.state err.old err.new) result }
     ensures device { result ≡ 4 → NamesDevice (asking_of request.now)
         (T.tells_bytes files.old) (T.bytes_of files.old) (T.refuses files.old)
-        (T.has_failed files.new) (device_of O.state out.old out.new)
+        (T.is_open files.old) (T.has_failed files.new) (device_of O.state out.old out.new)
         (device_of E.state err.old err.new) }
     ensures sound { (result ≡ 0) ⊎ (result ≡ 3) → T.has_failed files.new ≡ T.has_failed files.old }
     ensures flushed { (result ≡ 0) ⊎ (result ≡ 3)
@@ -143,6 +151,9 @@ fn trim_pairs<R: Threads + Wait + Copy + Send + 'static, T: Files, O: Outlet, E:
     ensures wrong { IsSome (wrong_with (asking_of request.now)) → files.new ≡ files.old }
     ensures rest { IsTrue (T.tells_bytes files.old)
         → KeepsUnnamed (asking_of request.now) (T.bytes_of files.old) (T.bytes_of files.new) }
+    ensures spared { IsTrue (T.tells_bytes files.old)
+        → SparesInputs (asking_of request.now) (T.is_open files.new)
+        ((result ≢ 0) × (result ≢ 3)) (T.bytes_of files.old) (T.bytes_of files.new) }
     ensures finished { result ≡ 0 → ((O.state out.new).failures ≡ 0) × (err.new ≡ err.old) }
     ensures quiet { result ≢ 0 → result ≢ 3 → (O.state out.new).failures ≡ 0 → out.new ≡ out.old }
     ensures failed { (O.state out.new).failures ≢ 0

@@ -1,6 +1,6 @@
 //! Trims pairs from input files into output files.
 
-ghost use Rattle.std.specs.Prelude.{◌≡◌, ◌≢◌, Some, None, Ok, Err, IsTrue, IfOk, IfErr, OnErr};
+ghost use Rattle.std.specs.Prelude.{◌≡◌, ◌≢◌, Some, None, Ok, Err, IsTrue, IsErr, IfOk, IfErr, OnErr};
 ghost use Rattle.std.specs.Option.{option_map};
 ghost use Rattle.fq_run.specs.Devices.{outlet_states, AreHealthy};
 ghost use Rattle.fq_run.specs.Endings.{ends_whole, AreTold, IsTrimmed, EveryEnding};
@@ -9,7 +9,7 @@ ghost use Rattle.fq_job.specs.Refusals.{status_of};
 ghost use Rattle.fq_words.specs.Requests.{asking_of, input_name};
 ghost use Rattle.fq_job.specs.Judging.{settings_of, wrong_with};
 ghost use Rattle.fq_job.specs.Trimming.{KeepsUnnamed, opened_of, left_of, form_of, run_in, AreFresh};
-ghost use Rattle.fq_job.specs.Opening.{AreReady, AreOpened, IsRefused};
+ghost use Rattle.fq_job.specs.Opening.{AreReady, AreOpened, IsRefused, SparesInputs};
 ghost use Rattle.fq_job.specs.Completing.{IsCompleted};
 ghost use Rattle.fq_files.specs.Holding.{Holding, IsUnchanged};
 
@@ -53,13 +53,19 @@ pub fn trim_files<R: Threads + Wait + Copy + Send + 'static, T: Files>(
         (T.is_unflushed files.old) (T.is_unflushed files.new)
         completed.account.outcome completed.account.counts completed.reported) }
     ensures refused { IfErr result (λ why.
-        IsRefused (asking_of request.now) why (T.tells_bytes files.old) (T.refuses files.old)
+        IsRefused (asking_of request.now) why
+        (T.tells_bytes files.old) (T.refuses files.old) (T.is_open files.old)
         (T.bytes_of files.old) (T.bytes_of files.new)) }
     ensures unfailed { OnErr result (T.has_failed files.new ≡ T.has_failed files.old) }
     ensures flushed { OnErr result (T.is_unflushed files.new ≡ T.is_unflushed files.old) }
 
     ensures rest { IsTrue (T.tells_bytes files.old)
         → KeepsUnnamed (asking_of request.now) (T.bytes_of files.old) (T.bytes_of files.new) }
+
+    // If an output or the report leads to an input, no file changes.
+    ensures spared { IsTrue (T.tells_bytes files.old)
+        → SparesInputs (asking_of request.now) (T.is_open files.new)
+        (IsErr result) (T.bytes_of files.old) (T.bytes_of files.new) }
 
     // If the request is wrong, no file is opened.
     ensures wrong { (why : Refused) → wrong_with (asking_of request.now) ≡ Some why
@@ -104,6 +110,7 @@ fn complete<R: Threads + Wait + Copy + Send + 'static, T: Files>(
         (T.has_failed files.old) (T.has_failed files.new)
         (T.is_unflushed files.old) (T.is_unflushed files.new)
         result.account.outcome result.account.counts result.reported }
+    ensures leading { T.is_open files.new ≡ T.is_open files.old }
 {
     let Devices {
         feeds,

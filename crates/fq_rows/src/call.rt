@@ -67,6 +67,8 @@ impl Files for TroubledFiles<'_> {
 
     ghost refuses = { λ _ _. true };
 
+    ghost is_open = { λ _ _. true };
+
     ghost has_failed = { λ _ _. true };
 
     ghost is_unflushed = { λ _ _. true };

@@ -4,6 +4,7 @@ use Rattle.clap.specs.Kinds.{Kinds}
 use Rattle.clap.specs.declared.error.kind.ErrorKind.TheVariants.{DisplayHelp, DisplayVersion, OutOfMemory}
 use Rattle.fq_command.specs.Answers.{device_of, IsCall, NamesDevice}
 use Rattle.fq_words.specs.Requests.{Asking, asking_of}
+use Rattle.fq_job.specs.Opening.{SparesInputs}
 use Rattle.fq_words.specs.Words.{asked_pairs, pairs_asked, words_fault}
 use Rattle.fq_command.proofs.AnswerLemmas.{among_all, lacks_answer}
 use Rattle.fq_command.proofs.answering.program.Goals as goal
@@ -15,9 +16,20 @@ returns-in-Ok-Pairs-clause-device g c = λ a asked four.
     let given : pairs_asked (map (λ word. word.now) c.args.words.now) ≡ Some a = asked.ask in
     let some : Some (asking_of c.in-Ok-Pairs.request) ≡ Some a = sym own ∙ given in
     let same : asking_of c.in-Ok-Pairs.request ≡ a = cc in
-    let P : Asking → Type 0 = λ x. NamesDevice x (g.T.Files.tells_bytes c.args.files.now) (g.T.Files.bytes_of c.args.files.now) (g.T.Files.refuses c.args.files.now)
+    let P : Asking → Type 0 = λ x. NamesDevice x (g.T.Files.tells_bytes c.args.files.now) (g.T.Files.bytes_of c.args.files.now) (g.T.Files.refuses c.args.files.now) (g.T.Files.is_open c.args.files.now)
     (g.T.Files.has_failed c.trim_pairs.new.files) (device_of g.O.Outlet.state c.args.out.now c.trim_pairs.new.out) (device_of g.E.Outlet.state c.args.err.now c.trim_pairs.new.err) in
     subst P same (c.trim_pairs.ensures.device four)
+
+pub returns-in-Ok-Pairs-clause-spared : goal.returns-in-Ok-Pairs-clause-spared
+returns-in-Ok-Pairs-clause-spared g c = λ a asked told.
+    let shape : asked_pairs c.in-Ok-Pairs.field-0 ≡ Some (asking_of c.in-Ok-Pairs.request) = rw c.in-Ok-Pairs.field-0-is refl in
+    let own : pairs_asked (map (λ word. word.now) c.args.words.now) ≡ Some (asking_of c.in-Ok-Pairs.request) = c.in-Ok-Pairs.ensures.ok.ask ∙ shape in
+    let given : pairs_asked (map (λ word. word.now) c.args.words.now) ≡ Some a = asked.ask in
+    let some : Some (asking_of c.in-Ok-Pairs.request) ≡ Some a = sym own ∙ given in
+    let same : asking_of c.in-Ok-Pairs.request ≡ a = cc in
+    let P : Asking → Type 0 = λ x. SparesInputs x (g.T.Files.is_open c.trim_pairs.new.files) ((c.trim_pairs.result ≢ 0) × (c.trim_pairs.result ≢ 3))
+    (g.T.Files.bytes_of c.args.files.now) (g.T.Files.bytes_of c.trim_pairs.new.files) in
+    subst P same (c.trim_pairs.ensures.spared told)
 
 pub returns-in-Err-clause-pairs : goal.returns-in-Err-clause-pairs
 returns-in-Err-clause-pairs g c = λ a asked.

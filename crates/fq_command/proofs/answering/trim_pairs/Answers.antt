@@ -5,7 +5,7 @@ use Rattle.fq_job.specs.Trimming.{HasDistinctFiles}
 use Rattle.fq_words.specs.Requests.{asking_of}
 use Rattle.fq_job.specs.Judging.{wrong_with}
 use Rattle.fq_job.proofs.EndingLemmas.{ends_so}
-use Rattle.fq_command.proofs.AnswerLemmas.{IsRun, failed_device, is_held, is_left, left_so, not_failed, refused_answer, refused_device, some_in, told_line}
+use Rattle.fq_command.proofs.AnswerLemmas.{IsRun, failed_device, is_held, is_left, left_so, not_failed, refused_answer, refused_device, refuses_fails, some_in, told_line}
 use Rattle.fq_command.proofs.answering.trim_pairs.Goals as goal
 
 pub returns-in-Ok-clause-pairs : goal.returns-in-Ok-clause-pairs
@@ -50,7 +50,7 @@ returns-in-Ok-clause-pairs g c =
 pub returns-in-Ok-clause-device : goal.returns-in-Ok-clause-device
 returns-in-Ok-clause-device g c = λ four.
     let completed = c.in-Ok.ensures.completed in
-    failed_device (asking_of c.args.request.now) _ _ _ _ (device_of g.O.Outlet.state c.args.out.now c.tell.new.out) _ _ c.in-Ok.completed.account.outcome c.in-Ok.completed.reported
+    failed_device (asking_of c.args.request.now) _ _ _ _ _ (device_of g.O.Outlet.state c.args.out.now c.tell.new.out) _ _ c.in-Ok.completed.account.outcome c.in-Ok.completed.reported
     completed.failed completed.as_it_is completed.report_failed (c.tell.ensures.line (λ zero. absurd (omega (arith, four, zero)))) four
 
 pub returns-in-Ok-clause-sound : goal.returns-in-Ok-clause-sound
@@ -70,11 +70,15 @@ returns-in-Ok-clause-wrong g c = λ wrong.
 pub returns-in-Err-clause-pairs : goal.returns-in-Err-clause-pairs
 returns-in-Err-clause-pairs g c = refused_answer _ _ _ _ _ _ _ c.in-Err.refusal c.refuse.ensures
     (λ why is. let same = (c.in-Err.ensures.wrong why is).0 in cc same) (λ none. c.in-Err.ensures.right none)
-    c.in-Err.ensures.refused.inputs c.in-Err.ensures.refused.left c.in-Err.ensures.refused.report_left c.in-Err.ensures.unopened
+    c.in-Err.ensures.refused.left c.in-Err.ensures.refused.report_left c.in-Err.ensures.unopened
 
 pub returns-in-Err-clause-device : goal.returns-in-Err-clause-device
-returns-in-Err-clause-device g c = λ four. inl (refused_device (asking_of c.args.request.now) _ _ _ _ _ c.in-Err.refusal c.refuse.ensures
+returns-in-Err-clause-device g c = λ four. inl (refused_device (asking_of c.args.request.now) _ _ _ _ _ _ c.in-Err.refusal c.refuse.ensures
     c.in-Err.ensures.refused.inputs c.in-Err.ensures.refused.refused four)
+
+pub returns-in-Err-clause-spared : goal.returns-in-Err-clause-spared
+returns-in-Err-clause-spared g c = λ told name made leads.
+    (refuses_fails (asking_of c.args.request.now) c.in-Err.refusal _ _ c.refuse.ensures, (c.in-Err.ensures.spared told name made leads).1)
 
 pub returns-in-Err-clause-sound : goal.returns-in-Err-clause-sound
 returns-in-Err-clause-sound g c = λ ends. c.in-Err.ensures.unfailed

@@ -2,20 +2,24 @@ use Rattle.std.proofs.Common.{sym}
 use Rattle.std.proofs.lemmas.Result.{err_from_is_err_and}
 use Rattle.fq_words.specs.Requests.{asking_of}
 use Rattle.fq_job.proofs.MakingLemmas.{along}
-use Rattle.fq_job.proofs.OpeningLemmas.{wrong_refused}
+use Rattle.fq_job.proofs.OpeningLemmas.{refusable_right, wrong_refused}
 use Rattle.fq_job.proofs.CompletingLemmas.{opened_as}
 use Rattle.fq_command.proofs.trimming.trim_files.Goals as goal
 
 pub returns-in_err-settings-clause-refused : goal.returns-in_err-settings-clause-refused
 returns-in_err-settings-clause-refused g c =
     let p = err_from_is_err_and c.from_residual.result c.from_residual.ensures.1 in
-    rw (p.1, p.2) (wrong_refused (asking_of c.args.request.now) _ _ _ _ c.in_err-settings.ensures.wrong)
+    rw (p.1, p.2) (wrong_refused (asking_of c.args.request.now) _ _ _ _ _ c.in_err-settings.ensures.wrong)
 
 pub returns-in_err-devices-clause-refused : goal.returns-in_err-devices-clause-refused
 returns-in_err-devices-clause-refused g c =
     let p = err_from_is_err_and c.from_residual-in_err-devices.result c.from_residual-in_err-devices.ensures.1 in
     let unopened = c.in_err-devices.ensures.unopened in
-    rw (p.1, p.2) (record { refused = unopened.refused; inputs = unopened.inputs; left = unopened.left; report_left = unopened.report_left })
+    rw (p.1, p.2) (record { refused = refusable_right (asking_of c.args.request.now) _ _ _ c.in_ok-settings.ensures.right unopened.refused; inputs = unopened.inputs; left = unopened.left; report_left = unopened.report_left })
+
+pub returns-in_err-devices-clause-spared : goal.returns-in_err-devices-clause-spared
+returns-in_err-devices-clause-spared g c = λ told name made leads.
+    (c.from_residual-in_err-devices.ensures.0, (c.in_err-devices.ensures.spared told name made leads).1)
 
 pub returns-clause-rest : goal.returns-clause-rest
 returns-clause-rest g c = λ told.
