@@ -1,11 +1,11 @@
 //! The program, with the laws of files as its own clauses.
 
-ghost use Rattle.std.specs.Prelude.{◌≡◌, ◌≢◌, ◌⊎◌, Some, IsTrue, map};
+ghost use Rattle.std.specs.Prelude.{◌≡◌, ◌≢◌, ◌⊎◌, Some, [], IsTrue, map};
 ghost use Rattle.fq_words.specs.Requests.{Asking};
-ghost use Rattle.fq_words.specs.Words.{AskedFor};
+ghost use Rattle.fq_words.specs.Words.{AskedFor, words_fault};
 ghost use Rattle.fq_job.specs.Trimming.{HasDistinctFiles};
 ghost use Rattle.fq_job.specs.Leaving.{AreUntrimmed};
-ghost use Rattle.fq_command.specs.Answers.{device_of};
+ghost use Rattle.fq_command.specs.Answers.{device_of, AreRefused};
 ghost use Rattle.fq_laws.specs.Files.{FilesAreInStep, FilesAreInStepUpTo};
 
 use fq_command::program;
@@ -39,6 +39,14 @@ pub fn program_in_step<
         → result ≢ 6 → IsTrue (T.tells_bytes files.old) → HasDistinctFiles a
         → AreUntrimmed a (T.bytes_of files.old) (T.bytes_of files.new)
         ⊎ FilesAreInStepUpTo a (T.bytes_of files.old) (T.bytes_of files.new) }
+
+    // As `program` promises.
+    ensures usage { AreRefused (words_fault (map (λ word. word.now) words.entry.now))
+        → (result ≡ 1) ⊎ (result ≡ 5) }
+    ensures usage_only { result ≡ 1 → (words_fault (map (λ word. word.now) words.entry.now) ≢ [])
+        × (out.new ≡ out.old) }
+    ensures finished { result ≡ 0 → ((O.state out.new).failures ≡ 0) × (err.new ≡ err.old) }
+    ensures quiet { result ≢ 0 → result ≢ 3 → (O.state out.new).failures ≡ 0 → out.new ≡ out.old }
 {
     program(alloc, rt, words, files, out, err)
 }

@@ -2,7 +2,11 @@
 //! shows what becomes of two built-in pairs.
 #![tactic(auto)]
 
-ghost use Rattle.std.specs.Prelude.{◌≡◌};
+ghost use Rattle.std.specs.Prelude.{◌≡◌, ◌≢◌, ◌⊎◌, [], map, IfOk};
+ghost use Rattle.std.specs.Process.{exit_status};
+ghost use Rattle.std.specs.String.{string_bytes};
+ghost use Rattle.fq_words.specs.Words.{words_fault};
+ghost use Rattle.fq_command.specs.Answers.{AreRefused};
 
 use fq_command::out_of_memory;
 use fq_files::SystemFiles;
@@ -10,7 +14,12 @@ use fq_laws::program_in_step;
 use fq_text::{FromWrite, Outlet, send};
 use std::alloc::{AllocError, Global};
 use std::env::Env;
+use std::fs::File;
+use std::io::{Print, Printer, Stderr};
 use std::process::ExitCode;
+use std::rt::Files;
+use std::sync::Wait;
+use std::thread::Threads;
 use std::{env, io, str};
 
 // Linux passes no argument that is longer than 128 KiB.
@@ -19,26 +28,51 @@ const LONGEST_WORD: usize = 1 << 17;
 // The last lines of an error about the arguments, as `clap` prints them.
 const MORE: &str = "\nFor more information, try '--help'.\n";
 
+// Standard output and standard error. Each has a type of its own, so no call can exchange them.
+type Output<'a, R> = FromWrite<Printer<'a, R>>;
+type Errors<'a> = FromWrite<Printer<'a, Stderr>>;
+
 fn main(rt: HostRuntime) -> ExitCode {
     let errors = rt.stderr();
+    let mut out = FromWrite::new(io::writer(&rt));
     let mut err = FromWrite::new(io::writer(&errors));
-    let args = match texts_of(&rt) {
-        Ok(args) => args,
+    match texts_of(&rt) {
+        Ok(texts) => run(rt.alloc(), &rt, &texts, &mut out, &mut err),
         Err(error) if error.kind() == io::ErrorKind::InvalidData => {
-            return ExitCode::from(refuse_bytes(&rt, &mut err));
+            ExitCode::from(refuse_bytes(&rt, &mut err))
         }
-        Err(_) => return ExitCode::from(out_of_memory(&mut err)),
+        Err(_) => ExitCode::from(out_of_memory(&mut err)),
+    }
+}
+
+// Runs the program on these arguments, over the files of the system. The clauses are those of
+// `program_in_step` which speak of the arguments, the outlets and the status.
+fn run<R: Threads + Wait + Files<File = File> + Print + Copy + Send + 'static>(
+    alloc: Global,
+    rt: &R,
+    texts: &[String],
+    out: &mut Output<'_, R>,
+    err: &mut Errors<'_>,
+) -> ExitCode
+    requires out { out.old.failures ≡ 0 }
+    requires err { err.old.failures ≡ 0 }
+    ensures usage { AreRefused (words_fault (map string_bytes texts.now))
+        → (exit_status result ≡ 1) ⊎ (exit_status result ≡ 5) }
+    ensures usage_only { exit_status result ≡ 1
+        → (words_fault (map string_bytes texts.now) ≢ []) × (out.new ≡ out.old) }
+    ensures finished { exit_status result ≡ 0 → (out.new.failures ≡ 0) × (err.new ≡ err.old) }
+    ensures quiet { exit_status result ≢ 0 → exit_status result ≢ 3
+        → out.new.failures ≡ 0 → out.new ≡ out.old }
+{
+    let Ok(words) = words_of(alloc, texts) else {
+        return ExitCode::from(out_of_memory(err));
     };
-    let Ok(words) = words_of(rt.alloc(), &args) else {
-        return ExitCode::from(out_of_memory(&mut err));
-    };
-    let mut files = SystemFiles::new(rt.alloc(), &rt);
+    let mut files = SystemFiles::new(alloc, rt);
     // An output that is the same regular file as standard output or standard error is refused.
     if files.keep("/dev/stdout").is_err() || files.keep("/dev/stderr").is_err() {
-        return ExitCode::from(out_of_memory(&mut err));
+        return ExitCode::from(out_of_memory(err));
     }
-    let mut out = FromWrite::new(io::writer(&rt));
-    ExitCode::from(program_in_step(rt.alloc(), &rt, &words, &mut files, &mut out, &mut err))
+    ExitCode::from(program_in_step(alloc, rt, &words, &mut files, out, err))
 }
 
 // Returns the arguments of the command line. The first is the program's name.
@@ -48,7 +82,10 @@ fn texts_of(rt: &HostRuntime) -> io::Result<Vec<String>> {
 }
 
 // Borrows the arguments as `&str`.
-fn words_of<'a>(alloc: Global, texts: &'a [String]) -> Result<Vec<&'a str>, AllocError> {
+fn words_of<'a>(alloc: Global, texts: &'a [String]) -> Result<Vec<&'a str>, AllocError>
+    ensures { IfOk result (λ words. map (λ word. word.now) words.items
+        ≡ map string_bytes texts.now) }
+{
     let mut words = Vec::with_capacity(alloc, texts.len())?;
     for text in texts {
         words.push(text.as_str())?;
