@@ -30,6 +30,7 @@ const MORE: &str = "\nFor more information, try '--help'.\n";
 
 // Standard output and standard error. Each has a type of its own, so no call can exchange them.
 type Output<'a, R> = FromWrite<Printer<'a, R>>;
+
 type Errors<'a> = FromWrite<Printer<'a, Stderr>>;
 
 fn main(rt: HostRuntime) -> ExitCode {

@@ -14,4 +14,8 @@ returns g c = record {
       (device_of g.O.Outlet.state c.args.out.now c.program.new.out)
       (device_of g.E.Outlet.state c.args.err.now c.program.new.err)
       c.program.result (c.program.ensures.pairs a asked) joined tells distinct;
+  usage = c.program.ensures.usage;
+  usage_only = c.program.ensures.usage_only;
+  finished = c.program.ensures.finished;
+  quiet = c.program.ensures.quiet;
 }
