@@ -116,15 +116,15 @@ shifted_at_most (suc at) most ys small (suc k) = shifted_at_most at most ys smal
 length-shifted : (at : ℕ) (ys : List ℕ) → length (replicate at 0 ++ ys) ≡ at + length ys
 length-shifted at ys = length-append (replicate at 0) ys ∙ ap (λ n. n + length ys) (length-replicate {A = ℕ} at 0)
 
-row_more : (len len' most more most' at n : ℕ) (xs ys : List ℕ) → IsFew len most xs → AtMost more ys → length ys ≡ n → len ≤ len' → at + n ≤ len' → len' ≤ 10032 →
-    most + more ≤ most' → IsFew len' most' (rows_plus xs (replicate at 0 ++ ys))
-row_more len len' most more most' at n xs ys few small long order within room bound =
+row_more : (rows len len' most more most' at n : ℕ) (xs ys : List ℕ) → IsFew rows len most xs → AtMost more ys → length ys ≡ n → len ≤ len' → at + n ≤ len' → at + n ≤ rows →
+    most + more ≤ most' → IsFew rows len' most' (rows_plus xs (replicate at 0 ++ ys))
+row_more rows len len' most more most' at n xs ys few small long order within room bound =
     let zs : List ℕ = replicate at 0 ++ ys in
     let size = few.size in
     let long_zs = length-shifted at ys in
     let sum = λ (k : ℕ). plus_at_most xs zs k in
     record {
-      size = length-rows_plus xs zs ∙ omega arith;
+      size = omega (arith, length-rows_plus xs zs);
       behind = λ k from.
           let left = few.behind k (omega arith) in
           let right = get_or_past zs k 0 (omega arith) in
@@ -153,9 +153,9 @@ cut_plus (x ∷ xs) (z ∷ zs) zero (suc len') behind small is room =
 cut_plus (x ∷ xs) (z ∷ zs) (suc len) (suc len') behind small is room =
     ap (λ ns. capped_sum x z ∷ ns) (cut_plus xs zs len len' (λ k from. behind (suc k) (omega arith)) (λ k. small (suc k)) (omega arith) (omega arith))
 
-row_cut : (len len' most more at n : ℕ) (xs ys : List ℕ) → IsFew len most xs → AtMost more ys → length ys ≡ n → more ≤ 255 → len' ≡ max len (at + n) → len' ≤ 10032 →
+row_cut : (rows len len' most more at n : ℕ) (xs ys : List ℕ) → IsFew rows len most xs → AtMost more ys → length ys ≡ n → more ≤ 255 → len' ≡ max len (at + n) → len' ≤ rows →
     take len' (rows_plus xs (replicate at 0 ++ ys)) ≡ rows_plus (take len xs) (replicate at 0 ++ ys)
-row_cut len len' most more at n xs ys few small long bound is room =
+row_cut rows len len' most more at n xs ys few small long bound is room =
     let zs : List ℕ = replicate at 0 ++ ys in
     let size = few.size in
     let long_zs = length-shifted at ys in
@@ -231,30 +231,30 @@ lanes_moved at k e s q =
     (letters is_a refl) (letters is_c refl) (letters is_g refl) (letters is_t refl) (letters is_n refl)
 
 -- and one that ends with zeros
-row_behind : (f : ℕ → ℕ) → f 0 ≡ 0 → (len most at k : ℕ) (xs ys : List ℕ) → IsFew len most xs → most ≤ 65535 → at + (length ys + k) ≤ 10032 →
+row_behind : (f : ℕ → ℕ) → f 0 ≡ 0 → (rows len most at k : ℕ) (xs ys : List ℕ) → IsFew rows len most xs → most ≤ 65535 → at + (length ys + k) ≤ rows →
     rows_plus xs (replicate at 0 ++ map f (ys ++ replicate k 0)) ≡ rows_plus xs (replicate at 0 ++ map f ys)
-row_behind f none len most at k xs ys few bound room =
+row_behind f none rows len most at k xs ys few bound room =
     let size = few.size in
     let small : Small xs = λ j. let one = few.small j in omega arith in
     ap (λ ns. rows_plus xs (replicate at 0 ++ ns)) (map-append f ys (replicate k 0) ∙ ap (λ ns. map f ys ++ ns) (zeros_mapped f none k))
     ∙ ap (rows_plus xs) (sym (append_assoc (replicate at 0) (map f ys) (replicate k 0)))
     ∙ plus_zeros_behind xs (replicate at 0 ++ map f ys) k small (omega (arith, length-shifted at (map f ys), length-map ys f))
 
-pub lanes_behind : (x : Columns) (len reads at k : ℕ) (e : Encoding) (s q : List ℕ) → AreFew len reads x → reads ≤ 254 → length q ≡ length s → at + (length s + k) ≤ 10032 →
+pub lanes_behind : (x : Columns) (rows len reads at k : ℕ) (e : Encoding) (s q : List ℕ) → AreFew rows len reads x → reads ≤ 254 → length q ≡ length s → at + (length s + k) ≤ rows →
     columns_plus x (lanes_at at e (s ++ replicate k 0) (q ++ replicate k 0)) ≡ columns_plus x (lanes_at at e s q)
-lanes_behind x len reads at k e s q few bound same room =
-    let wide : at + (length q + k) ≤ 10032 = omega arith in
-    let scored : at + (length (map (lane_score e) q) + k) ≤ 10032 = omega (arith, length-map q (lane_score e)) in
+lanes_behind x rows len reads at k e s q few bound same room =
+    let wide : at + (length q + k) ≤ rows = omega arith in
+    let scored : at + (length (map (lane_score e) q) + k) ≤ rows = omega (arith, length-map q (lane_score e)) in
     let first = map-append (lane_score e) q (replicate k 0) ∙ ap (λ ns. map (lane_score e) q ++ ns) (zeros_mapped (lane_score e) refl k) in
     columns_same (columns_plus x (lanes_at at e (s ++ replicate k 0) (q ++ replicate k 0))) (columns_plus x (lanes_at at e s q))
-    (row_behind (one_if (nat_le 1)) refl len reads at k x.bases q few.bases (omega arith) wide)
-    (row_behind (lane_score e) refl len (93 * reads) at k x.score_sum q few.score_sum (omega arith) wide)
-    (ap (λ ns. rows_plus x.q30_bases (replicate at 0 ++ map (one_if (nat_le 30)) ns)) first ∙ row_behind (one_if (nat_le 30)) refl len reads at k x.q30_bases (map (lane_score e) q) few.q30_bases (omega arith) scored)
-    (row_behind (one_if is_a) refl len reads at k x.a s few.a (omega arith) room)
-    (row_behind (one_if is_c) refl len reads at k x.c s few.c (omega arith) room)
-    (row_behind (one_if is_g) refl len reads at k x.g s few.g (omega arith) room)
-    (row_behind (one_if is_t) refl len reads at k x.t s few.t (omega arith) room)
-    (row_behind (one_if is_n) refl len reads at k x.n s few.n (omega arith) room)
+    (row_behind (one_if (nat_le 1)) refl rows len reads at k x.bases q few.bases (omega arith) wide)
+    (row_behind (lane_score e) refl rows len (93 * reads) at k x.score_sum q few.score_sum (omega arith) wide)
+    (ap (λ ns. rows_plus x.q30_bases (replicate at 0 ++ map (one_if (nat_le 30)) ns)) first ∙ row_behind (one_if (nat_le 30)) refl rows len reads at k x.q30_bases (map (lane_score e) q) few.q30_bases (omega arith) scored)
+    (row_behind (one_if is_a) refl rows len reads at k x.a s few.a (omega arith) room)
+    (row_behind (one_if is_c) refl rows len reads at k x.c s few.c (omega arith) room)
+    (row_behind (one_if is_g) refl rows len reads at k x.g s few.g (omega arith) room)
+    (row_behind (one_if is_t) refl rows len reads at k x.t s few.t (omega arith) room)
+    (row_behind (one_if is_n) refl rows len reads at k x.n s few.n (omega arith) room)
 
 mapped_at_most : (f : ℕ → ℕ) (most : ℕ) → ((x : ℕ) → f x ≤ most) → (xs : List ℕ) → AtMost most (map f xs)
 mapped_at_most f most small [] k = let least : 0 ≤ most = omega arith in least
@@ -271,20 +271,20 @@ scores_at_most e (b ∷ bs) all zero =
 scores_at_most e (b ∷ bs) all (suc k) = scores_at_most e bs (and_parts (is_scored e b) (list_all (is_scored e) bs) all).1 k
 
 -- One more read among a few.
-module _ (x : Columns) (len len' reads at : ℕ) (e : Encoding) (s q : List ℕ) (few : AreFew len reads x) (all : list_all (is_scored e) q ≡ true) (same : length q ≡ length s) where
+module _ (x : Columns) (rows len len' reads at : ℕ) (e : Encoding) (s q : List ℕ) (few : AreFew rows len reads x) (all : list_all (is_scored e) q ≡ true) (same : length q ≡ length s) where
   ones : (p : ℕ → Bool) (xs : List ℕ) → AtMost 1 (map (one_if p) xs)
   ones p xs = mapped_at_most (one_if p) 1 (one_if_small p) xs
 
   size_q : length (map (lane_score e) q) ≡ length s
   size_q = length-map q (lane_score e) ∙ same
 
-  pub lanes_more : len ≤ len' → at + length s ≤ len' → len' ≤ 10032 → AreFew len' (reads + 1) (columns_plus x (lanes_at at e s q))
+  pub lanes_more : len ≤ len' → at + length s ≤ len' → at + length s ≤ rows → AreFew rows len' (reads + 1) (columns_plus x (lanes_at at e s q))
   lanes_more order within room =
-      let letter = λ (p : ℕ → Bool) (xs : List ℕ) (old : IsFew len reads xs). row_more len len' reads 1 (reads + 1) at (length s) xs (map (one_if p) s) old (ones p s) (length-map s (one_if p)) order within room (omega arith) in
+      let letter = λ (p : ℕ → Bool) (xs : List ℕ) (old : IsFew rows len reads xs). row_more rows len len' reads 1 (reads + 1) at (length s) xs (map (one_if p) s) old (ones p s) (length-map s (one_if p)) order within room (omega arith) in
       record {
-        bases = row_more len len' reads 1 (reads + 1) at (length s) x.bases (map (one_if (nat_le 1)) q) few.bases (ones (nat_le 1) q) (length-map q (one_if (nat_le 1)) ∙ same) order within room (omega arith);
-        score_sum = row_more len len' (93 * reads) 93 (93 * (reads + 1)) at (length s) x.score_sum (map (lane_score e) q) few.score_sum (scores_at_most e q all) size_q order within room (omega arith);
-        q30_bases = row_more len len' reads 1 (reads + 1) at (length s) x.q30_bases (map (one_if (nat_le 30)) (map (lane_score e) q)) few.q30_bases (ones (nat_le 30) (map (lane_score e) q)) (length-map (map (lane_score e) q) (one_if (nat_le 30)) ∙ size_q) order within room (omega arith);
+        bases = row_more rows len len' reads 1 (reads + 1) at (length s) x.bases (map (one_if (nat_le 1)) q) few.bases (ones (nat_le 1) q) (length-map q (one_if (nat_le 1)) ∙ same) order within room (omega arith);
+        score_sum = row_more rows len len' (93 * reads) 93 (93 * (reads + 1)) at (length s) x.score_sum (map (lane_score e) q) few.score_sum (scores_at_most e q all) size_q order within room (omega arith);
+        q30_bases = row_more rows len len' reads 1 (reads + 1) at (length s) x.q30_bases (map (one_if (nat_le 30)) (map (lane_score e) q)) few.q30_bases (ones (nat_le 30) (map (lane_score e) q)) (length-map (map (lane_score e) q) (one_if (nat_le 30)) ∙ size_q) order within room (omega arith);
         a = letter is_a x.a few.a;
         c = letter is_c x.c few.c;
         g = letter is_g x.g few.g;
@@ -292,11 +292,11 @@ module _ (x : Columns) (len len' reads at : ℕ) (e : Encoding) (s q : List ℕ)
         n = letter is_n x.n few.n;
       }
 
-  pub lanes_cut : len' ≡ max len (at + length s) → len' ≤ 10032 → first_rows len' (columns_plus x (lanes_at at e s q)) ≡ columns_plus (first_rows len x) (lanes_at at e s q)
+  pub lanes_cut : len' ≡ max len (at + length s) → len' ≤ rows → first_rows len' (columns_plus x (lanes_at at e s q)) ≡ columns_plus (first_rows len x) (lanes_at at e s q)
   lanes_cut is room =
-      let letter = λ (p : ℕ → Bool) (xs : List ℕ) (old : IsFew len reads xs). row_cut len len' reads 1 at (length s) xs (map (one_if p) s) old (ones p s) (length-map s (one_if p)) (omega arith) is room in
+      let letter = λ (p : ℕ → Bool) (xs : List ℕ) (old : IsFew rows len reads xs). row_cut rows len len' reads 1 at (length s) xs (map (one_if p) s) old (ones p s) (length-map s (one_if p)) (omega arith) is room in
       columns_same (first_rows len' (columns_plus x (lanes_at at e s q))) (columns_plus (first_rows len x) (lanes_at at e s q))
-      (row_cut len len' reads 1 at (length s) x.bases (map (one_if (nat_le 1)) q) few.bases (ones (nat_le 1) q) (length-map q (one_if (nat_le 1)) ∙ same) (omega arith) is room)
-      (row_cut len len' (93 * reads) 93 at (length s) x.score_sum (map (lane_score e) q) few.score_sum (scores_at_most e q all) size_q (omega arith) is room)
-      (row_cut len len' reads 1 at (length s) x.q30_bases (map (one_if (nat_le 30)) (map (lane_score e) q)) few.q30_bases (ones (nat_le 30) (map (lane_score e) q)) (length-map (map (lane_score e) q) (one_if (nat_le 30)) ∙ size_q) (omega arith) is room)
+      (row_cut rows len len' reads 1 at (length s) x.bases (map (one_if (nat_le 1)) q) few.bases (ones (nat_le 1) q) (length-map q (one_if (nat_le 1)) ∙ same) (omega arith) is room)
+      (row_cut rows len len' (93 * reads) 93 at (length s) x.score_sum (map (lane_score e) q) few.score_sum (scores_at_most e q all) size_q (omega arith) is room)
+      (row_cut rows len len' reads 1 at (length s) x.q30_bases (map (one_if (nat_le 30)) (map (lane_score e) q)) few.q30_bases (ones (nat_le 30) (map (lane_score e) q)) (length-map (map (lane_score e) q) (one_if (nat_le 30)) ∙ size_q) (omega arith) is room)
       (letter is_a x.a few.a) (letter is_c x.c few.c) (letter is_g x.g few.g) (letter is_t x.t few.t) (letter is_n x.n few.n)

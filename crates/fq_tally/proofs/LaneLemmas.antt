@@ -40,43 +40,43 @@ pub lanes_then_none : (e : Encoding) (k : ℕ) (q : List ℕ) → list_all (is_s
 lanes_then_none e k q all = list_all-append (is_lane e) q (replicate k 0) ∙ and_from _ _ (scored_lanes e q all) (no_lanes e k)
 
 -- Facts of a few reads that say less.
-row_weaker : (len len' most most' : ℕ) (xs : List ℕ) → IsFew len most xs → len ≤ len' → most ≤ most' → IsFew len' most' xs
-row_weaker len len' most most' xs few order bound = record {
-  size = few.size;
+row_weaker : (rows rows' len len' most most' : ℕ) (xs : List ℕ) → IsFew rows len most xs → rows' ≤ rows → len ≤ len' → most ≤ most' → IsFew rows' len' most' xs
+row_weaker rows rows' len len' most most' xs few less order bound = record {
+  size = let size = few.size in omega arith;
   behind = λ k from. few.behind k (omega arith);
   small = λ k. let one = few.small k in omega arith;
 }
 
-pub few_weaker : (x : Columns) (len len' reads reads' : ℕ) → AreFew len reads x → len ≤ len' → reads ≤ reads' → AreFew len' reads' x
-few_weaker x len len' reads reads' few order bound = record {
-  bases = row_weaker len len' reads reads' x.bases few.bases order bound;
-  score_sum = row_weaker len len' (93 * reads) (93 * reads') x.score_sum few.score_sum order (omega arith);
-  q30_bases = row_weaker len len' reads reads' x.q30_bases few.q30_bases order bound;
-  a = row_weaker len len' reads reads' x.a few.a order bound;
-  c = row_weaker len len' reads reads' x.c few.c order bound;
-  g = row_weaker len len' reads reads' x.g few.g order bound;
-  t = row_weaker len len' reads reads' x.t few.t order bound;
-  n = row_weaker len len' reads reads' x.n few.n order bound;
+pub few_weaker : (x : Columns) (rows rows' len len' reads reads' : ℕ) → AreFew rows len reads x → rows' ≤ rows → len ≤ len' → reads ≤ reads' → AreFew rows' len' reads' x
+few_weaker x rows rows' len len' reads reads' few less order bound = record {
+  bases = row_weaker rows rows' len len' reads reads' x.bases few.bases less order bound;
+  score_sum = row_weaker rows rows' len len' (93 * reads) (93 * reads') x.score_sum few.score_sum less order (omega arith);
+  q30_bases = row_weaker rows rows' len len' reads reads' x.q30_bases few.q30_bases less order bound;
+  a = row_weaker rows rows' len len' reads reads' x.a few.a less order bound;
+  c = row_weaker rows rows' len len' reads reads' x.c few.c less order bound;
+  g = row_weaker rows rows' len len' reads reads' x.g few.g less order bound;
+  t = row_weaker rows rows' len len' reads reads' x.t few.t less order bound;
+  n = row_weaker rows rows' len len' reads reads' x.n few.n less order bound;
 }
 
 -- nothing is counted
-row_nothing : (len most at : ℕ) (xs : List ℕ) → IsFew len most xs → most ≤ 65535 → at ≤ 10032 → xs ≡ rows_plus xs (replicate at 0 ++ [])
-row_nothing len most at xs few bound within =
+row_nothing : (rows len most at : ℕ) (xs : List ℕ) → IsFew rows len most xs → most ≤ 65535 → at ≤ rows → xs ≡ rows_plus xs (replicate at 0 ++ [])
+row_nothing rows len most at xs few bound within =
     let size = few.size in
     let small : Small xs = λ k. let one = few.small k in omega arith in
     grown_within xs at small (omega arith) ∙ ap (rows_plus xs) (sym (append-nil (replicate at 0)))
 
-lanes_nothing : (x : Columns) (len reads at : ℕ) (e : Encoding) → AreFew len reads x → reads ≤ 254 → at ≤ 10032 → x ≡ columns_plus x (lanes_at at e [] [])
-lanes_nothing x len reads at e few bound within =
+lanes_nothing : (x : Columns) (rows len reads at : ℕ) (e : Encoding) → AreFew rows len reads x → reads ≤ 254 → at ≤ rows → x ≡ columns_plus x (lanes_at at e [] [])
+lanes_nothing x rows len reads at e few bound within =
     columns_same x (columns_plus x (lanes_at at e [] []))
-    (row_nothing len reads at x.bases few.bases (omega arith) within) (row_nothing len (93 * reads) at x.score_sum few.score_sum (omega arith) within)
-    (row_nothing len reads at x.q30_bases few.q30_bases (omega arith) within) (row_nothing len reads at x.a few.a (omega arith) within)
-    (row_nothing len reads at x.c few.c (omega arith) within) (row_nothing len reads at x.g few.g (omega arith) within)
-    (row_nothing len reads at x.t few.t (omega arith) within) (row_nothing len reads at x.n few.n (omega arith) within)
+    (row_nothing rows len reads at x.bases few.bases (omega arith) within) (row_nothing rows len (93 * reads) at x.score_sum few.score_sum (omega arith) within)
+    (row_nothing rows len reads at x.q30_bases few.q30_bases (omega arith) within) (row_nothing rows len reads at x.a few.a (omega arith) within)
+    (row_nothing rows len reads at x.c few.c (omega arith) within) (row_nothing rows len reads at x.g few.g (omega arith) within)
+    (row_nothing rows len reads at x.t few.t (omega arith) within) (row_nothing rows len reads at x.n few.n (omega arith) within)
 
-pub nothing_counted : (x : Columns) (len reads at : ℕ) (e : Encoding) → AreFew len reads x → reads ≤ 254 → at ≤ 10000 → x ≡ columns_plus x (columns_from at e [] [])
-nothing_counted x len reads at e few bound within =
-    lanes_nothing x len reads at e few bound (omega arith) ∙ ap (columns_plus x) (lanes_are_columns at e [] [] refl refl (omega arith))
+pub nothing_counted : (x : Columns) (rows len reads at : ℕ) (e : Encoding) → AreFew rows len reads x → reads ≤ 254 → at ≤ 10000 → at ≤ rows → x ≡ columns_plus x (columns_from at e [] [])
+nothing_counted x rows len reads at e few bound near within =
+    lanes_nothing x rows len reads at e few bound within ∙ ap (columns_plus x) (lanes_are_columns at e [] [] refl refl (omega arith))
 
 -- What is counted of one read.
 module _ (start now : Columns) (at from : ℕ) (e : Encoding) (seq qual : List ℕ) (so_far : now ≡ columns_plus start (columns_from at e (take from seq) (take from qual)))
@@ -122,12 +122,12 @@ module _ (start now : Columns) (at from : ℕ) (e : Encoding) (seq qual : List �
   pub all_counted : length seq ≤ from → now ≡ columns_plus start (columns_from at e seq qual)
   all_counted done = so_far ∙ ap₂ (λ x y. columns_plus start (columns_from at e x y)) (take_all from seq done) (take_all from qual (omega arith))
 
-  pub still_few : AreFew 10032 253 start → AreFew 10032 254 now
-  still_few few =
+  pub still_few : (rows : ℕ) → at + length qual ≤ rows → AreFew rows 10032 253 start → AreFew rows 10032 254 now
+  still_few rows room few =
       let fs = front_s in
       let fq = front_q in
-      let more = lanes_more start 10032 10032 253 at e (take from seq) (take from qual) few front_scored (omega arith) (omega arith) (omega arith) (omega arith) in
-      subst (λ x. AreFew 10032 254 x) (ap (columns_plus start) (lanes_are_columns at e (take from seq) (take from qual) front_scored (omega arith) (omega arith)) ∙ sym so_far) more
+      let more = lanes_more start rows 10032 10032 253 at e (take from seq) (take from qual) few front_scored (omega arith) (omega arith) (omega arith) (omega arith) in
+      subst (λ x. AreFew rows 10032 254 x) (ap (columns_plus start) (lanes_are_columns at e (take from seq) (take from qual) front_scored (omega arith) (omega arith)) ∙ sym so_far) more
 
 -- The last bases of a read, in the last lanes of a vector and in the first.
 pub rest_in_last : (old new : Columns) (at from start k : ℕ) (e : Encoding) (seq qual bases bytes : List ℕ) → start + k ≡ from →
@@ -144,37 +144,37 @@ rest_in_last old new at from start k e seq qual bases bytes place s q same near 
     ∙ ap (λ n. columns_plus old (lanes_at n e (drop from seq) (drop from qual))) (omega arith)
     ∙ ap (columns_plus old) (lanes_are_columns (at + from) e (drop from seq) (drop from qual) (all_dropped (is_scored e) qual from scored) (omega arith) (omega arith))
 
-pub rest_in_first : (old new : Columns) (at from k m : ℕ) (e : Encoding) (seq qual bases bytes : List ℕ) →
+pub rest_in_first : (old new : Columns) (rows at from k m : ℕ) (e : Encoding) (seq qual bases bytes : List ℕ) →
     bases ≡ drop from seq ++ replicate k 0 → bytes ≡ drop from qual ++ replicate m 0 → k ≡ 32 - length (drop from seq) → m ≡ 32 - length (drop from qual) →
-    length qual ≡ length seq → at + length qual ≤ 10000 → from ≤ length seq → length seq ≤ from + 32 → list_all (is_scored e) qual ≡ true → AreFew 10032 254 old →
+    length qual ≡ length seq → at + length qual ≤ 10000 → from ≤ length seq → length seq ≤ from + 32 → list_all (is_scored e) qual ≡ true → at + (from + 32) ≤ rows → AreFew rows 10032 254 old →
     new ≡ columns_plus old (lanes_at (at + from) e bases bytes) → new ≡ columns_plus old (columns_from (at + from) e (drop from seq) (drop from qual))
-rest_in_first old new at from k m e seq qual bases bytes s q k_is m_is same near within less scored few here =
+rest_in_first old new rows at from k m e seq qual bases bytes s q k_is m_is same near within less scored room few here =
     let ls = length-drop from seq in
     let lq = length-drop from qual in
     let equal : m ≡ k = omega arith in
     here
     ∙ ap₂ (λ x y. columns_plus old (lanes_at (at + from) e x y)) s (q ∙ ap (λ n. drop from qual ++ replicate n 0) equal)
-    ∙ lanes_behind old 10032 254 (at + from) k e (drop from seq) (drop from qual) few (omega arith) (omega arith) (omega arith)
+    ∙ lanes_behind old rows 10032 254 (at + from) k e (drop from seq) (drop from qual) few (omega arith) (omega arith) (omega arith)
     ∙ ap (columns_plus old) (lanes_are_columns (at + from) e (drop from seq) (drop from qual) (all_dropped (is_scored e) qual from scored) (omega arith) (omega arith))
 
 -- One more read among a few.
-pub read_added : (totals x y : Columns) (reached reads at end : ℕ) (e : Encoding) (seq qual : List ℕ) → AreFew reached reads x → reached ≤ 10000 →
+pub read_added : (totals x y : Columns) (rows reached reads at end : ℕ) (e : Encoding) (seq qual : List ℕ) → AreFew rows reached reads x → reached ≤ rows → end ≤ rows →
     y ≡ columns_plus x (columns_from at e seq qual) → length qual ≡ length seq → end ≡ at + length seq → end ≤ 10000 → list_all (is_scored e) qual ≡ true →
     columns_plus totals (first_rows (max reached end) y) ≡ columns_plus (columns_plus totals (first_rows reached x)) (columns_from at e seq qual)
-read_added totals x y reached reads at end e seq qual few near here same end_is within scored =
+read_added totals x y rows reached reads at end e seq qual few near room here same end_is within scored =
     let as_lanes = lanes_are_columns at e seq qual scored same (omega arith) in
     ap (λ z. columns_plus totals (first_rows (max reached end) z)) (here ∙ ap (columns_plus x) (sym as_lanes))
-    ∙ ap (columns_plus totals) (lanes_cut x reached (max reached end) reads at e seq qual few scored same (omega arith) (omega arith))
+    ∙ ap (columns_plus totals) (lanes_cut x rows reached (max reached end) reads at e seq qual few scored same (omega arith) (omega arith))
     ∙ ap (λ z. columns_plus totals (columns_plus (first_rows reached x) z)) as_lanes
     ∙ sym (columns_assoc totals (first_rows reached x) (columns_from at e seq qual))
 
-pub read_few : (x y : Columns) (reached reads at end : ℕ) (e : Encoding) (seq qual : List ℕ) → AreFew reached reads x → reached ≤ 10000 →
+pub read_few : (x y : Columns) (rows reached reads at end : ℕ) (e : Encoding) (seq qual : List ℕ) → AreFew rows reached reads x → end ≤ rows →
     y ≡ columns_plus x (columns_from at e seq qual) → length qual ≡ length seq → end ≡ at + length seq → end ≤ 10000 → list_all (is_scored e) qual ≡ true →
-    AreFew (max reached end) (reads + 1) y
-read_few x y reached reads at end e seq qual few near here same end_is within scored =
+    AreFew rows (max reached end) (reads + 1) y
+read_few x y rows reached reads at end e seq qual few room here same end_is within scored =
     let as_lanes = lanes_are_columns at e seq qual scored same (omega arith) in
-    subst (λ z. AreFew (max reached end) (reads + 1) z) (ap (columns_plus x) as_lanes ∙ sym here)
-    (lanes_more x reached (max reached end) reads at e seq qual few scored same (omega arith) (omega arith) (omega arith))
+    subst (λ z. AreFew rows (max reached end) (reads + 1) z) (ap (columns_plus x) as_lanes ∙ sym here)
+    (lanes_more x rows reached (max reached end) reads at e seq qual few scored same (omega arith) (omega arith) (omega arith))
 
 -- One more byte is converted.
 pub converted_next : (f : ℕ → ℕ) (bytes scores : List ℕ) (i r : ℕ) → scores ≡ map f (take i bytes) ++ drop i bytes → i < length bytes → r ≡ f (get_or scores i 0) →

@@ -1,5 +1,5 @@
 -- How bases are counted by their positions.
-use Rattle.std.specs.Prelude.{◌≡◌, ◌≤◌, ◌<◌, ◌*◌, ℕ, Bool, nat_le, ◌==◌, ◌||◌, if◌then◌else◌}
+use Rattle.std.specs.Prelude.{◌≡◌, ◌≤◌, ◌<◌, ◌+◌, ◌*◌, ℕ, Bool, nat_le, ◌==◌, ◌||◌, if◌then◌else◌}
 use Rattle.std.specs.Prelude.{List, [], ◌∷◌, ◌++◌, length, get_or, take, map, replicate}
 use Rattle.fq_text.specs.declared.encoding.Encoding.{Encoding}
 use Rattle.fq_text.specs.Scores.{is_scored, value_of}
@@ -84,7 +84,7 @@ largest_word = 65535
 abbrev pub word_before_byte : ℕ
 word_before_byte = 65280
 
--- how many rows there are: one for each position up to 10,000, and a vector's 32 after them
+-- the most rows that count anything: one for each position up to 10,000, and a vector's 32 more
 abbrev pub few_rows : ℕ
 few_rows = 10032
 
@@ -92,26 +92,28 @@ few_rows = 10032
 abbrev pub AtMost : ℕ → List ℕ → Type 0
 AtMost most xs = (k : ℕ) → get_or xs k 0 ≤ most
 
--- All rows that a few reads can have: those from `len` on count 0, and none counts more than this.
-pub record IsFew (len most : ℕ) (counts : List ℕ) : Type 0 where
-  pub size : length counts ≡ few_rows
+-- Rows that a few reads can have, of which there are at least so many: those from `len` on count 0,
+-- and none counts more than this.
+pub record IsFew (rows len most : ℕ) (counts : List ℕ) : Type 0 where
+  pub size : rows ≤ length counts
   pub behind : (k : ℕ) → len ≤ k → get_or counts k 0 ≡ 0
   pub small : AtMost most counts
 
 -- All columns have the rows that this many reads can give. The highest score is 93.
-pub record AreFew (len reads : ℕ) (x : Columns) : Type 0 where
-  pub bases : IsFew len reads x.bases
-  pub score_sum : IsFew len (93 * reads) x.score_sum
-  pub q30_bases : IsFew len reads x.q30_bases
-  pub a : IsFew len reads x.a
-  pub c : IsFew len reads x.c
-  pub g : IsFew len reads x.g
-  pub t : IsFew len reads x.t
-  pub n : IsFew len reads x.n
+pub record AreFew (rows len reads : ℕ) (x : Columns) : Type 0 where
+  pub bases : IsFew rows len reads x.bases
+  pub score_sum : IsFew rows len (93 * reads) x.score_sum
+  pub q30_bases : IsFew rows len reads x.q30_bases
+  pub a : IsFew rows len reads x.a
+  pub c : IsFew rows len reads x.c
+  pub g : IsFew rows len reads x.g
+  pub t : IsFew rows len reads x.t
+  pub n : IsFew rows len reads x.n
 
--- What a counter holds of reads that are not among its totals yet. With one more of them there is
--- still room.
-pub record HoldsFew (reached reads : ℕ) (x : Columns) : Type 0 where
-  pub few : AreFew reached reads x
-  pub near : reached ≤ last_position
+-- What a counter holds of reads that are not among its totals yet. There is a row for each position
+-- up to the last, and room for a vector after them. With one more read there is still room.
+pub record HoldsFew (last reached reads : ℕ) (x : Columns) : Type 0 where
+  pub few : AreFew (last + 32) reached reads x
+  pub within : reached ≤ last
+  pub near : last ≤ last_position
   pub room : reads < most_reads

@@ -1,6 +1,6 @@
 //! Counts of the bases of a few reads by their positions, by vectors (SIMD).
 
-ghost use Rattle.std.specs.Prelude.{◌≡◌, ◌+◌, ◌-◌, ◌≤◌, ◌<◌, true, length, drop, map, IfOk};
+ghost use Rattle.std.specs.Prelude.{◌≡◌, ◌+◌, ◌-◌, ◌≤◌, ◌<◌, ℕ, true, length, drop, map, IfOk};
 ghost use Rattle.std.specs.List.{list_all};
 ghost use Rattle.fq_text.specs.Scores.{is_scored};
 ghost use Rattle.fq_text.specs.declared.encoding.Encoding.TheVariants.{Solexa};
@@ -47,18 +47,18 @@ impl Model for FewColumns {
 }
 
 impl FewColumns {
-    // No bases.
-    pub(crate) fn new(alloc: Global) -> Result<FewColumns, OutOfMemory>
-        ensures { IfOk result (λ few. AreFew 0 0 few) }
+    // No bases, and so many rows in each column.
+    pub(crate) fn new(alloc: Global, rows: usize) -> Result<FewColumns, OutOfMemory>
+        ensures { IfOk result (λ few. AreFew rows 0 0 few) }
     {
-        let bases = ByteRows::new(alloc)?;
-        let score_sum = WordRows::new(alloc)?;
-        let q30_bases = ByteRows::new(alloc)?;
-        let a = ByteRows::new(alloc)?;
-        let c = ByteRows::new(alloc)?;
-        let g = ByteRows::new(alloc)?;
-        let t = ByteRows::new(alloc)?;
-        let n = ByteRows::new(alloc)?;
+        let bases = ByteRows::new(alloc, rows)?;
+        let score_sum = WordRows::new(alloc, rows)?;
+        let q30_bases = ByteRows::new(alloc, rows)?;
+        let a = ByteRows::new(alloc, rows)?;
+        let c = ByteRows::new(alloc, rows)?;
+        let g = ByteRows::new(alloc, rows)?;
+        let t = ByteRows::new(alloc, rows)?;
+        let n = ByteRows::new(alloc, rows)?;
         Ok(FewColumns {
             bases,
             score_sum,
@@ -76,7 +76,7 @@ impl FewColumns {
         requires near { at + length qual.now ≤ last_position }
         requires scored { list_all (is_scored encoding) qual.now ≡ true }
         requires same { length qual.now ≡ length seq.now }
-        requires few { AreFew few_rows (most_reads - 1) self.old }
+        requires few { AreFew (at + length qual.now + 32) few_rows (most_reads - 1) self.old }
         ensures { self.new ≡ columns_plus self.old (columns_from at encoding seq.now qual.now) }
     {
         let mut from = 0;
@@ -98,7 +98,7 @@ impl FewColumns {
         requires same { length qual.now ≡ length seq.now }
         requires some { from ≤ length seq.now }
         requires less { length seq.now < from + 32 }
-        requires few { AreFew few_rows most_reads self.old }
+        requires few { AreFew (at + length qual.now + 32) few_rows most_reads self.old }
         ensures { self.new ≡ columns_plus self.old
             (columns_from (at + from) encoding (drop from seq.now) (drop from qual.now)) }
     {
@@ -118,9 +118,8 @@ impl FewColumns {
     // Counts the bases in a vector. A quality byte 0 means that there is no base.
     #[inline(always)]
     fn add_vector(&mut self, encoding: Encoding, bases: u8x32, bytes: u8x32, at: usize)
-        requires at { at ≤ last_position }
         requires lanes { list_all (is_lane encoding) bytes ≡ true }
-        requires few { AreFew few_rows most_reads self.old }
+        requires few { AreFew (at + 32) few_rows most_reads self.old }
         ensures { self.new ≡ columns_plus self.old (lanes_at at encoding bases bytes) }
     {
         let scores = scores_in(encoding, bytes);
@@ -135,35 +134,34 @@ impl FewColumns {
     }
 
     // Adds the first rows to columns.
-    pub(crate) fn add_to(&self, columns: &mut Columns, length: usize)
-        requires few { AreFew few_rows most_reads self.now }
-        requires within { length ≤ last_position }
-        ensures { columns.new ≡ columns_plus columns.old (first_rows length self.now) }
+    pub(crate) fn add_to(&self, columns: &mut Columns, count: usize)
+        requires few { AreFew count few_rows most_reads self.now }
+        requires near { count ≤ last_position }
+        ensures { columns.new ≡ columns_plus columns.old (first_rows count self.now) }
     {
-        self.bases.add_to(&mut columns.bases, length);
-        self.score_sum.add_to(&mut columns.score_sum, length);
-        self.q30_bases.add_to(&mut columns.q30_bases, length);
-        self.a.add_to(&mut columns.a, length);
-        self.c.add_to(&mut columns.c, length);
-        self.g.add_to(&mut columns.g, length);
-        self.t.add_to(&mut columns.t, length);
-        self.n.add_to(&mut columns.n, length);
+        self.bases.add_to(&mut columns.bases, count);
+        self.score_sum.add_to(&mut columns.score_sum, count);
+        self.q30_bases.add_to(&mut columns.q30_bases, count);
+        self.a.add_to(&mut columns.a, count);
+        self.c.add_to(&mut columns.c, count);
+        self.g.add_to(&mut columns.g, count);
+        self.t.add_to(&mut columns.t, count);
+        self.n.add_to(&mut columns.n, count);
     }
 
-    // Sets all rows to 0. Those from `length` on are 0 already.
-    pub(crate) fn clear(&mut self, length: usize)
-        requires few { AreFew length most_reads self.old }
-        requires within { length ≤ last_position }
-        ensures { AreFew 0 0 self.new }
+    // Sets all rows to 0. Those from `count` on are 0 already.
+    pub(crate) fn clear(&mut self, count: usize)
+        requires few { AreFew count count most_reads self.old }
+        ensures { (rows : ℕ) → AreFew rows count most_reads self.old → AreFew rows 0 0 self.new }
     {
-        self.bases.clear(length);
-        self.score_sum.clear(length);
-        self.q30_bases.clear(length);
-        self.a.clear(length);
-        self.c.clear(length);
-        self.g.clear(length);
-        self.t.clear(length);
-        self.n.clear(length);
+        self.bases.clear(count);
+        self.score_sum.clear(count);
+        self.q30_bases.clear(count);
+        self.a.clear(count);
+        self.c.clear(count);
+        self.g.clear(count);
+        self.t.clear(count);
+        self.n.clear(count);
     }
 }
 

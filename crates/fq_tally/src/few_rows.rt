@@ -6,48 +6,40 @@ ghost use Rattle.fq_tally.specs.Columns.{last_position};
 ghost use Rattle.fq_tally.specs.Counting.{most_reads, largest_word, word_before_byte};
 ghost use Rattle.fq_tally.specs.Counting.{AtMost, IsFew};
 
-use crate::columns::LAST_POSITION;
 use crate::rows::Rows;
-use crate::vectors::WIDTH;
 use fq_text::OutOfMemory;
 use std::alloc::Global;
 use std::marker::Model;
 use std::simd::prelude::*;
 
-// A row for each position up to `LAST_POSITION`, and room for a vector after them.
-const ROWS: usize = LAST_POSITION + WIDTH;
-
-// `ROWS` counts of 8 bits. Unlike `Rows`, they never become more.
+// Counts of 8 bits. Unlike `Rows`, they never become more.
 #[derive(Drop)]
 pub(crate) struct ByteRows {
     counts: Vec<u8>,
 }
 
 impl Model for ByteRows {
-    ghost use Rattle.std.specs.Prelude.{List, ◌≡◌, ℕ, length};
-    ghost use Rattle.fq_tally.specs.Counting.{few_rows};
+    ghost use Rattle.std.specs.Prelude.{List, ℕ};
 
     ghost Value = { List ℕ };
 
     ghost view = { λ r. r.counts.items };
-
-    ghost invariant = { λ r. length r.counts.items ≡ few_rows };
 }
 
 impl ByteRows {
-    // Rows that count 0.
-    pub(crate) fn new(alloc: Global) -> Result<ByteRows, OutOfMemory>
-        ensures { IfOk result (λ rows. IsFew 0 0 rows) }
+    // So many rows that count 0.
+    pub(crate) fn new(alloc: Global, rows: usize) -> Result<ByteRows, OutOfMemory>
+        ensures { IfOk result (λ made. IsFew rows 0 0 made) }
     {
-        let mut counts = Vec::with_capacity(alloc, ROWS)?;
-        counts.resize(ROWS, 0).unwrap();
+        let mut counts = Vec::with_capacity(alloc, rows)?;
+        counts.resize(rows, 0).unwrap();
         Ok(ByteRows { counts })
     }
 
     // Adds a vector to the rows from `at` on.
     #[inline(always)]
     pub(crate) fn add(&mut self, at: usize, more: u8x32)
-        requires at { at ≤ last_position }
+        requires room { at + 32 ≤ length self.old }
         requires few { AtMost most_reads self.old }
         requires ones { AtMost 1 more }
         ensures { self.new ≡ rows_plus self.old (replicate at 0 ++ more) }
@@ -56,59 +48,57 @@ impl ByteRows {
     }
 
     // Adds the first rows to others.
-    pub(crate) fn add_to(&self, rows: &mut Rows, length: usize)
+    pub(crate) fn add_to(&self, rows: &mut Rows, count: usize)
         requires few { AtMost largest_word self.now }
-        requires within { length ≤ last_position }
-        ensures { rows.new ≡ rows_plus rows.old (take length self.now) }
+        requires within { count ≤ length self.now }
+        requires near { count ≤ last_position }
+        ensures { rows.new ≡ rows_plus rows.old (take count self.now) }
     {
-        for i in 0..length {
+        for i in 0..count {
             rows.add_to(i, u64::from(self.counts[i]));
         }
     }
 
     // Sets the first rows to 0. The rows after them count 0.
-    pub(crate) fn clear(&mut self, length: usize)
-        requires within { length ≤ last_position }
-        requires after { (k : ℕ) → length ≤ k → get_or self.old k 0 ≡ 0 }
-        ensures { IsFew 0 0 self.new }
+    pub(crate) fn clear(&mut self, count: usize)
+        requires within { count ≤ length self.old }
+        requires after { (k : ℕ) → count ≤ k → get_or self.old k 0 ≡ 0 }
+        ensures { (rows : ℕ) → rows ≤ length self.old → IsFew rows 0 0 self.new }
     {
-        for i in 0..length {
+        for i in 0..count {
             self.counts[i] = 0;
         }
     }
 }
 
-// `ROWS` counts of 16 bits. Unlike `Rows`, they never become more.
+// Counts of 16 bits. Unlike `Rows`, they never become more.
 #[derive(Drop)]
 pub(crate) struct WordRows {
     counts: Vec<u16>,
 }
 
 impl Model for WordRows {
-    ghost use Rattle.std.specs.Prelude.{List, ◌≡◌, ℕ, length};
-    ghost use Rattle.fq_tally.specs.Counting.{few_rows};
+    ghost use Rattle.std.specs.Prelude.{List, ℕ};
 
     ghost Value = { List ℕ };
 
     ghost view = { λ r. r.counts.items };
-
-    ghost invariant = { λ r. length r.counts.items ≡ few_rows };
 }
 
 impl WordRows {
-    // Rows that count 0.
-    pub(crate) fn new(alloc: Global) -> Result<WordRows, OutOfMemory>
-        ensures { IfOk result (λ rows. IsFew 0 0 rows) }
+    // So many rows that count 0.
+    pub(crate) fn new(alloc: Global, rows: usize) -> Result<WordRows, OutOfMemory>
+        ensures { IfOk result (λ made. IsFew rows 0 0 made) }
     {
-        let mut counts = Vec::with_capacity(alloc, ROWS)?;
-        counts.resize(ROWS, 0).unwrap();
+        let mut counts = Vec::with_capacity(alloc, rows)?;
+        counts.resize(rows, 0).unwrap();
         Ok(WordRows { counts })
     }
 
     // Adds a vector to the rows from `at` on.
     #[inline(always)]
     pub(crate) fn add(&mut self, at: usize, more: u8x32)
-        requires at { at ≤ last_position }
+        requires room { at + 32 ≤ length self.old }
         requires few { AtMost word_before_byte self.old }
         ensures { self.new ≡ rows_plus self.old (replicate at 0 ++ more) }
     {
@@ -116,23 +106,24 @@ impl WordRows {
     }
 
     // Adds the first rows to others.
-    pub(crate) fn add_to(&self, rows: &mut Rows, length: usize)
+    pub(crate) fn add_to(&self, rows: &mut Rows, count: usize)
         requires few { AtMost largest_word self.now }
-        requires within { length ≤ last_position }
-        ensures { rows.new ≡ rows_plus rows.old (take length self.now) }
+        requires within { count ≤ length self.now }
+        requires near { count ≤ last_position }
+        ensures { rows.new ≡ rows_plus rows.old (take count self.now) }
     {
-        for i in 0..length {
+        for i in 0..count {
             rows.add_to(i, u64::from(self.counts[i]));
         }
     }
 
     // Sets the first rows to 0. The rows after them count 0.
-    pub(crate) fn clear(&mut self, length: usize)
-        requires within { length ≤ last_position }
-        requires after { (k : ℕ) → length ≤ k → get_or self.old k 0 ≡ 0 }
-        ensures { IsFew 0 0 self.new }
+    pub(crate) fn clear(&mut self, count: usize)
+        requires within { count ≤ length self.old }
+        requires after { (k : ℕ) → count ≤ k → get_or self.old k 0 ≡ 0 }
+        ensures { (rows : ℕ) → rows ≤ length self.old → IsFew rows 0 0 self.new }
     {
-        for i in 0..length {
+        for i in 0..count {
             self.counts[i] = 0;
         }
     }

@@ -1,6 +1,6 @@
 //! Counts of bases by their positions in reads, as they are counted.
 
-ghost use Rattle.std.specs.Prelude.{◌≡◌, ◌+◌, ◌≤◌, true, length, IfOk};
+ghost use Rattle.std.specs.Prelude.{◌≡◌, ◌+◌, ◌≤◌, ℕ, true, length, IfOk};
 ghost use Rattle.std.specs.List.{list_all};
 ghost use Rattle.fq_text.specs.Grammar.{limit};
 ghost use Rattle.fq_text.specs.Scores.{is_scored};
@@ -9,6 +9,7 @@ ghost use Rattle.fq_tally.specs.Counting.{first_rows, most_reads, AreFew};
 
 use crate::columns::{Columns, LAST_POSITION};
 use crate::few::FewColumns;
+use crate::vectors::WIDTH;
 use fq_text::{Encoding, OutOfMemory};
 use std::alloc::Global;
 use std::marker::Model;
@@ -17,12 +18,19 @@ use std::marker::Model;
 // counts overflows.
 const MOST_READS: usize = 254;
 
+// `few` gets rows for so many positions at a time.
+const MORE_POSITIONS: usize = 256;
+
 // A counter of bases by their positions. Reads that end at position 10,000 or before are counted
-// in `few`, which is added to `totals` from time to time. Longer reads go to `totals` at once.
+// in `few`, which is added to `totals` from time to time. Longer reads go to `totals` at once, and
+// so do all reads that `few` has no memory for.
 #[derive(Drop)]
 pub(crate) struct Positions {
+    alloc: Global,
     totals: Columns,
     few: FewColumns,
+    // The last position that has a row in `few`. A vector has room after it.
+    last: usize,
     // The rows of `few` that were reached.
     reached: usize,
     // The reads in `few`.
@@ -38,25 +46,27 @@ impl Model for Positions {
 
     ghost view = { λ p. columns_plus p.totals (first_rows p.reached p.few) };
 
-    ghost invariant = { λ p. HoldsFew p.reached p.reads p.few };
+    ghost invariant = { λ p. HoldsFew p.last p.reached p.reads p.few };
 }
 
 impl Positions {
-    // No bases. Takes the memory for all counts, which may be refused.
+    // No bases. Takes the memory for the totals, which may be refused.
     pub(crate) fn new(alloc: Global) -> Result<Positions, OutOfMemory>
         ensures { IfOk result (λ p. p ≡ no_columns) }
     {
         let totals = Columns::new(alloc)?;
-        let few = FewColumns::new(alloc)?;
+        let few = FewColumns::new(alloc, WIDTH)?;
         Ok(Positions {
+            alloc,
             totals,
             few,
+            last: 0,
             reached: 0,
             reads: 0,
         })
     }
 
-    // Counts bases. The first is at index `at` of its read. Takes no memory.
+    // Counts bases. The first is at index `at` of its read. `few` gets longer if memory is given.
     pub(crate) fn add(&mut self, encoding: Encoding, seq: &[u8], qual: &[u8], at: usize)
         requires few { at + length qual.now ≤ limit }
         requires scored { list_all (is_scored encoding) qual.now ≡ true }
@@ -64,7 +74,21 @@ impl Positions {
         ensures { self.new ≡ columns_plus self.old (columns_from at encoding seq.now qual.now) }
     {
         let end = at + seq.len();
-        if end > LAST_POSITION {
+        if end > self.last {
+            self.reach(end);
+        }
+        self.count(encoding, seq, qual, at);
+    }
+
+    // Counts bases, in `few` if it reaches so far. Takes no memory.
+    fn count(&mut self, encoding: Encoding, seq: &[u8], qual: &[u8], at: usize)
+        requires few { at + length qual.now ≤ limit }
+        requires scored { list_all (is_scored encoding) qual.now ≡ true }
+        requires same { length qual.now ≡ length seq.now }
+        ensures { self.new ≡ columns_plus self.old (columns_from at encoding seq.now qual.now) }
+    {
+        let end = at + seq.len();
+        if end > self.last {
             self.totals.count(encoding, seq, qual, at);
             return;
         }
@@ -73,6 +97,24 @@ impl Positions {
         self.reads += 1;
         if self.reads == MOST_READS {
             empty(&mut self.few, &mut self.totals, self.reached);
+            self.reached = 0;
+            self.reads = 0;
+        }
+    }
+
+    // Gives `few` a row for each position up to this one, if it may have one and memory is given.
+    #[inline(never)]
+    fn reach(&mut self, end: usize)
+        ensures { self.new ≡ self.old }
+    {
+        if end > LAST_POSITION {
+            return;
+        }
+        let last = (end + MORE_POSITIONS - end % MORE_POSITIONS).min(LAST_POSITION);
+        if let Ok(few) = FewColumns::new(self.alloc, last + WIDTH) {
+            self.few.add_to(&mut self.totals, self.reached);
+            self.few = few;
+            self.last = last;
             self.reached = 0;
             self.reads = 0;
         }
@@ -107,10 +149,10 @@ impl Positions {
 
 // Moves counts of a few reads to the totals.
 fn empty(few: &mut FewColumns, totals: &mut Columns, reached: usize)
-    requires few { AreFew reached most_reads few.old }
+    requires few { AreFew reached reached most_reads few.old }
     requires near { reached ≤ last_position }
     ensures moved { totals.new ≡ columns_plus totals.old (first_rows reached few.old) }
-    ensures none { AreFew 0 0 few.new }
+    ensures none { (rows : ℕ) → AreFew rows reached most_reads few.old → AreFew rows 0 0 few.new }
 {
     few.add_to(totals, reached);
     few.clear(reached);

@@ -24,7 +24,8 @@ impl Tally {
     ghost use Rattle.fq_tally.specs.Courses.{alone, passage};
     ghost use Rattle.fq_tally.specs.Tallies.{no_tally, with_pair, tally_of, plus};
 
-    /// The counts of no pairs. Takes the memory for all counts, which may be refused.
+    /// The counts of no pairs. Takes the memory that counting can't do without, which may be
+    /// refused.
     pub fn new(alloc: Global) -> Result<Tally, OutOfMemory>
         ensures { IfOk result (λ t. t ≡ no_tally) }
     {
@@ -34,7 +35,8 @@ impl Tally {
     }
 
     /// Counts one pair before and after trimming. The steps are taken in turn, each on what the
-    /// step before left. It takes no memory.
+    /// step before left. A pair that has a longer read than those before may take memory, and is
+    /// counted without it too.
     pub fn add(&mut self, pair: PairView<'_>, steps: &Steps)
         ensures { self.new ≡ with_pair (alone steps.now) self.old
             (mates_in pair.entry.forward pair.entry.reverse) }
@@ -44,8 +46,7 @@ impl Tally {
         self.add_trimmed(pair, steps, &forward, &reverse);
     }
 
-    /// Counts one pair as [`add`](Tally::add) does, given what the steps do to each mate. It takes
-    /// no memory.
+    /// Counts one pair as [`add`](Tally::add) does, given what the steps do to each mate.
     pub fn add_trimmed(
         &mut self,
         pair: PairView<'_>,

@@ -1,4 +1,4 @@
-use Rattle.std.proofs.Common.{◌-◌, List, ℕ, ◌++◌, length, drop, replicate, refl, ap, ◌∙◌, arith}
+use Rattle.std.proofs.Common.{◌+◌, ◌-◌, List, ℕ, ◌++◌, length, drop, replicate, refl, ap, ◌∙◌, arith}
 use Rattle.std.specs.List.{list_all}
 use Rattle.std.proofs.lemmas.List.{take_rest}
 use Rattle.fq_text.specs.Scores.{is_scored}
@@ -48,8 +48,9 @@ returns-else-seq-ge-WIDTH c =
     let from = c.args.from in
     let some = c.requires.some in
     let less = c.requires.less in
+    let same = c.requires.same in
     let filled = λ (xs : List ℕ). xs ++ replicate (32 - length xs) 0 in
-    rest_in_first c.args.self.now c.add_vector-else-seq-ge-WIDTH.new.self c.args.at from (32 - length (drop from seq)) (32 - length (drop from qual)) c.args.encoding seq qual c.all_of-bases.result c.all_of-bytes.result
+    rest_in_first c.args.self.now c.add_vector-else-seq-ge-WIDTH.new.self (c.args.at + length qual + 32) c.args.at from (32 - length (drop from seq)) (32 - length (drop from qual)) c.args.encoding seq qual c.all_of-bases.result c.all_of-bytes.result
     (c.all_of-bases.ensures.lanes ∙ ap filled (take_rest seq from))
     (c.all_of-bytes.ensures.lanes ∙ ap filled (take_rest qual from))
-    refl refl c.requires.same c.requires.near some (omega arith) c.requires.scored c.requires.few c.add_vector-else-seq-ge-WIDTH.ensures
+    refl refl c.requires.same c.requires.near some (omega arith) c.requires.scored (omega arith) c.requires.few c.add_vector-else-seq-ge-WIDTH.ensures

@@ -13,7 +13,6 @@ loop-i-preserved c =
     let i = c.loop-i.i in
     let here = c.add_to.ensures ∙ ap (λ n. rows_plus c.loop-i.rows (replicate i 0 ++ (n ∷ []))) c.from.ensures in
     let view = c.self.view_is in
-    let size = c.self.invariant in
     let within = c.requires.within in
     let below = c.loop-i-test.true in
     let long : i < length xs = omega (arith, ap length view) in
