@@ -113,7 +113,7 @@ new_lab() {
 call() {
   local wanted=$1 got
   shift
-  timeout -k 5 100 snakemake "$@" > said 2>&1 &
+  timeout -k 5 300 snakemake "$@" > said 2>&1 &
   wait "$!"
   got=$?
   if [ "$wanted" -eq 0 ] && [ "$got" -ne 0 ] || [ "$wanted" -ne 0 ] && [ "$got" -eq 0 ] || [ "$got" -ge 124 ]; then
