@@ -152,6 +152,17 @@ SIDE = fields(
     {"removed_front": rows(LAST), "removed_behind": rows(LAST)},
 )
 DONE = fields({"shortened": count, "dropped": count})
+ADAPTERS_SIDE = fields({"pairs_with_adapter": or_null(count), "bases_removed": count})
+ADAPTERS = fields(
+    {
+        "program": text,
+        "version": text,
+        "options": each(text),
+        "pairs_read": count,
+        "pairs_removed": count,
+        **{side: ADAPTERS_SIDE for side in SIDES},
+    }
+)
 REPORT = fields(
     {
         "program": text,
@@ -167,7 +178,7 @@ REPORT = fields(
         "reads": fields({side: SIDE for side in SIDES}),
         "steps": each(fields({"step": text, "forward": DONE, "reverse": DONE})),
     },
-    {"schema": count},
+    {"schema": count, "adapters": or_null(ADAPTERS)},
 )
 
 

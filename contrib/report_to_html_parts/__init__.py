@@ -4,6 +4,7 @@
     graph       a graph of lines, drawn as SVG
     drawings    the sections with graphs
     sections    the other sections
+    adapters    the section on adapters
     lanes       the tables of lanes
     page        the whole page
     style.css   how it looks

@@ -4,6 +4,7 @@ import os
 
 from tibzharuk_report import SIDES, Report, both
 
+from .adapters import adapter_table, how_removed
 from .drawings import drawings
 from .lanes import Lanes, lane_tables
 from .sections import cards, pair_bar, run, side_table, step_table, warnings
@@ -20,6 +21,7 @@ def style() -> str:
 def page(report: Report, sample: str, cutadapt: str = "", lanes: Lanes = ()) -> str:
     """The page of a checked report, with its title, what was said of cutadapt, and the lanes whose
     sum the report is."""
+    adapters = how_removed(report, cutadapt)
     before = {side: report["reads"][side]["before"] for side in SIDES}
     after = {
         side: both(report["reads"][side]["paired"], report["reads"][side]["unpaired"])
@@ -35,10 +37,11 @@ def page(report: Report, sample: str, cutadapt: str = "", lanes: Lanes = ()) -> 
         cards(report["pairs"], before, after),
         pair_bar(report["pairs"]),
         lane_tables(lanes),
-        side_table(before, after, cutadapt),
+        adapter_table(report, before),
+        side_table(before, after, adapters),
         step_table(report["steps"], before),
         *drawings(report, before, after),
-        run(report, cutadapt),
+        run(report, adapters),
         "<footer>Made by report_to_html from a report of fq_prog, "
         "which has all numbers of this page.</footer>",
     ]

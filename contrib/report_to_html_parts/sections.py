@@ -139,11 +139,11 @@ SIDE_ROWS: Dict[str, Callable[[Reads], str]] = {
 }
 
 
-def side_table(before: Sides, after: Sides, cutadapt: str) -> str:
+def side_table(before: Sides, after: Sides, adapters: str) -> str:
     columns = [reads[side] for side in SIDES for reads in (before, after)]
     body = [(name, [cell(column) for column in columns]) for name, cell in SIDE_ROWS.items()]
     said = "After: what is left of the reads that survive, with or without their mate."
-    if cutadapt:
+    if adapters:
         said = "Before: the reads without their adapters, which cutadapt removed. " + said
     return section("Both sides before and after", said, table(("", "before", "after"), body))
 
@@ -173,23 +173,23 @@ def step_table(steps: List[Report], before: Sides) -> str:
     return section("What each step did", said, table(("step", "shortened", "dropped"), body))
 
 
-def methods(report: Report, cutadapt: str) -> str:
+def methods(report: Report, adapters: str) -> str:
     """What a methods section can say about the run."""
     steps = " ".join(step["step"] for step in report["steps"])
     quality = QUALITIES.get(report["encoding"], report["encoding"])
     checked = "were checked" if report["name_check"] else "were not checked"
     kept, pairs = report["pairs"]["both_surviving"], report["pairs"]["input"]
-    adapters = f"Adapters were removed with cutadapt ({cutadapt}). " if cutadapt else ""
+    removed = f"Adapters were removed with {adapters}. " if adapters else ""
     program = f"{report['program']} {report['version']}"
     return (
-        f"{adapters}Read pairs were trimmed with Tibzharuk ({program}) with the steps {steps}. "
+        f"{removed}Read pairs were trimmed with Tibzharuk ({program}) with the steps {steps}. "
         f"Qualities were read as {quality} (--encoding {report['encoding']}), "
         f"and names of mates {checked}. "
         f"Both mates survived in {kept:,} of {pairs:,} pairs ({share(kept, pairs)})."
     )
 
 
-def run_entries(report: Report, cutadapt: str) -> List[Entry]:
+def run_entries(report: Report, adapters: str) -> List[Entry]:
     """What the page says about the run, and its files."""
     entries = [
         ("command", [f"{report['program']} {report['command']}"]),
@@ -197,8 +197,8 @@ def run_entries(report: Report, cutadapt: str) -> List[Entry]:
         ("encoding", [report["encoding"]]),
         ("names of mates", ["checked" if report["name_check"] else "not checked"]),
     ]
-    if cutadapt:
-        entries.append(("cutadapt", [cutadapt]))
+    if adapters:
+        entries.append(("adapters", [adapters]))
     for part in "inputs", "outputs":
         for name, value in report[part].items():
             files = value if isinstance(value, list) else [value] if value is not None else []
@@ -207,15 +207,15 @@ def run_entries(report: Report, cutadapt: str) -> List[Entry]:
     return entries
 
 
-def run(report: Report, cutadapt: str) -> str:
+def run(report: Report, adapters: str) -> str:
     """The text for the methods section, and the files."""
     parts = []
-    for name, values in run_entries(report, cutadapt):
+    for name, values in run_entries(report, adapters):
         codes = "".join(f"<code>{shown(value)}</code>" for value in values)
         parts.append(f"<dt>{shown(name)}</dt><dd>{codes}</dd>")
     files = f"<dl>{''.join(parts)}</dl>"
     if report["outcome"] != "finished":
         said = "The run stopped at a fault, so there is no text for the methods section."
         return section("The run", said, files)
-    quote = f'<p class="quote">{shown(methods(report, cutadapt))}</p>'
+    quote = f'<p class="quote">{shown(methods(report, adapters))}</p>'
     return section("The run", "For the methods section:", quote, files)

@@ -11,6 +11,7 @@ import importlib
 import json
 import os
 import re
+import shlex
 import sys
 
 SIDES = ("forward", "reverse")
@@ -255,8 +256,9 @@ def check_cell(name, cell, parts):
 def check_tables(page, report):
     """The tables of the sides, and those of the steps."""
     for side in SIDES:
-        # A page of lanes has a table of them first.
-        *_, sides, steps = (table for table in page.tables if table.caption == side.capitalize())
+        # A page of adapters or of lanes has tables of them first.
+        *more, sides, steps = (table for table in page.tables if table.caption == side.capitalize())
+        assert more or report.get("adapters") is None
         assert sides.rows[0] == ["", "before", "after"] and len(sides.rows) == 10, sides.rows
         for name, *cells in sides.rows[1:]:
             for cell, parts in zip(cells, ([report["reads"][side]["before"]], after(report, side))):
@@ -289,6 +291,29 @@ def check_numbers(page, report):
         assert step["step"] in text, step
 
 
+def check_adapters(page, report):
+    adapters, text = report.get("adapters"), page.text()
+    assert ("adapter" in text) == (adapters is not None), "adapters"
+    if adapters is None:
+        return
+    how = f"cutadapt {adapters['version']} ({shlex.join(adapters['options'])})"
+    if adapters["pairs_removed"]:
+        how += f", which removed {adapters['pairs_removed']:,} of {adapters['pairs_read']:,} pairs"
+    assert f"For the methods section: Adapters were removed with {how}. Read pairs were" in text, how
+    assert f"adapters {how}" in text, how
+    for side, table in zip(SIDES, page.tables):
+        found, removed = adapters[side]["pairs_with_adapter"], adapters[side]["bases_removed"]
+        head, (name, *cells), (other, bases, share) = table.rows
+        assert (table.caption, head, name, other) == (side.capitalize(), ["", "number", "share"], "reads with an adapter", "bases removed")
+        if found is None:
+            assert cells == ["–", "not looked for"], cells
+        else:
+            assert cells[0] == f"{found:,}", cells
+            near(cells[1], found, adapters["pairs_read"])
+        assert bases == f"{removed:,}", bases
+        near(share, removed, removed + report["reads"][side]["before"]["bases"])
+
+
 def check_page(report_path, page_path):
     with open(report_path, encoding="utf-8") as file:
         report = json.load(file)
@@ -298,6 +323,7 @@ def check_page(report_path, page_path):
     assert "http" not in content and "<script" not in content
     check_numbers(page, report)
     check_tables(page, report)
+    check_adapters(page, report)
     reads = report["reads"]["forward"]["before"]
     known = {
         "mean score by position": "positions" in reads,

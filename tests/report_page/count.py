@@ -6,7 +6,7 @@ writes the report of such a run into FILE, with all fields that the page draws. 
 (500 pairs of 150 bases), `long` (a pair of 10,250 and 12,000 bases among 50 pairs), `longest` (12
 pairs of 12,345 and 23,456 bases), `small` (20 pairs of 40 bases), `one` (20 pairs of one base),
 `alike` (20 pairs of 40 times C with the score 35), `other` (20 pairs of 40 bases, of which some are
-R or Y) or `none` (no pair).
+R or Y) or `none` (no pair). cutadapt removed adapters before `plain` and `small`.
 """
 
 import collections
@@ -191,10 +191,32 @@ def pairs_of(kind):
     return [(drawn(forward, 12), drawn(reverse, 22)) for forward, reverse in lengths[kind]]
 
 
+def adapters(kind, pairs):
+    """What trim_gz says of cutadapt in its report."""
+    forward = {"bases_removed": 1234, "pairs_with_adapter": 17}
+    if kind == "plain":
+        options, removed, reverse = ["-a", "ACGT", "-A", "A{10}", "-m", "20"], 25, {"bases_removed": 1, "pairs_with_adapter": 0}
+    else:
+        options, removed, reverse = ["-a", "ACGT"], 0, {"bases_removed": 0, "pairs_with_adapter": None}
+    return {
+        "program": "cutadapt",
+        "version": "4.2",
+        "options": options,
+        "pairs_read": pairs + removed,
+        "pairs_removed": removed,
+        "forward": forward,
+        "reverse": reverse,
+    }
+
+
 def main(kind, path):
+    made = report(pairs_of(kind), 1 if kind == "one" else 36)
+    if kind in ("plain", "small"):
+        made["adapters"] = adapters(kind, made["pairs"]["input"])
+    elif kind == "none":
+        made["adapters"] = None
     with open(path, "w", encoding="utf-8") as file:
-        least = 1 if kind == "one" else 36
-        json.dump(report(pairs_of(kind), least), file, sort_keys=True, separators=(",", ":"))
+        json.dump(made, file, sort_keys=True, separators=(",", ":"))
         file.write("\n")
 
 
