@@ -17,8 +17,12 @@ _trim_gz() {
   # These take several files.
   if [[ $option = -[12i] && $word != -* ]]; then previous=$option; fi
   case $previous in
-    -1 | -2 | -i | --out | --paired1 | --unpaired1 | --paired2 | --unpaired2 | --interleaved | --summary | --trimlog | --report | --html | --adapters | --cutadapt-report | --cutadapt-log | --program)
+    -1 | -2 | -i | --out | --paired1 | --unpaired1 | --paired2 | --unpaired2 | --interleaved | --summary | --trimlog | --report | --html | --cutadapt-report | --cutadapt-log | --program)
       compopt -o default
+      ;;
+    --adapters)
+      compopt -o filenames
+      mapfile -t COMPREPLY < <(compgen -W 'truseq nextera smallrna' -- "$word"; compgen -f -- "$word")
       ;;
     --encoding) mapfile -t COMPREPLY < <(compgen -W 'sanger illumina13 solexa' -- "$word") ;;
     --compressor) mapfile -t COMPREPLY < <(compgen -W 'bgzip pigz gzip igzip' -- "$word") ;;

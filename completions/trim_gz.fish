@@ -30,7 +30,7 @@ for name in trim_gz tibzharuk-gz
     complete -c $name -n 'not __trim_gz_steps' -l trimlog -rF -d 'a line for each read'
     complete -c $name -n 'not __trim_gz_steps' -l report -rF -d 'what was counted, as JSON'
     complete -c $name -n 'not __trim_gz_steps' -l html -rF -d 'the report as a page for the browser'
-    complete -c $name -n 'not __trim_gz_steps' -l adapters -rF -d '3\' adapters: a FASTA file, or sequences'
+    complete -c $name -n 'not __trim_gz_steps' -l adapters -rF -a 'truseq nextera smallrna' -d '3\' adapters: a name, a FASTA file or sequences'
     complete -c $name -n 'not __trim_gz_steps' -l poly-g -d 'trim G at the ends, for machines of two colours'
     complete -c $name -n 'not __trim_gz_steps' -l cutadapt -x -d 'more options for cutadapt'
     complete -c $name -n 'not __trim_gz_steps' -l cutadapt-report -rF -d 'what cutadapt counted, as JSON'

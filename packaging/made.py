@@ -309,6 +309,7 @@ def makers(program: str) -> Makers:
         'encodings': lambda: [f'        symbols: [{", ".join(encodings(pairs.options))}]'],
         'options': lambda: list(option_table(pairs.options)),
         'fields': lambda: list(field_table(schema['properties'])),
+        'fields-of-adapters': lambda: list(field_table(inner['adapters']['properties'])),
         'fields-of-a-side': lambda: list(field_table(inner['side']['properties'])),
         'fields-of-reads': lambda: list(field_table(inner['reads']['properties'])),
         'lists-of-positions': lambda: list(field_table(inner['positions']['properties'])),

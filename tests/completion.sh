@@ -47,6 +47,7 @@ want() { printf '%s\t%s\n' "$2" "$1" >> "$work/wanted"; }
 words_for() {
   case $1,$2 in
     --encoding,*) echo "$encodings" ;;
+    --adapters,*) echo "$files nextera smallrna truseq" ;;
     --compressor,*) echo 'bgzip gzip igzip pigz' ;;
     --decompressor,*) echo 'bgzip gzip' ;;
     *,FILE | *,OUT | *,PATH | *,PREFIX | *,WHAT) echo "$files" ;;

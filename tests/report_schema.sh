@@ -3,7 +3,8 @@
 # true: runs on two files and on an interleaved one, that finish or end at a fault, on empty inputs,
 # in each encoding, with names that JSON must escape. Each of these runs prints, reports, writes and
 # ends as it does without a report. The schema itself is valid, and refuses reports that were
-# changed. The example of docs/FORMAT.md is what the program makes of its inputs.
+# changed. The example of docs/FORMAT.md is what the program makes of its inputs. The reports of
+# contrib/trim_gz conform too, with what cutadapt counted and without.
 #
 # FQ_PROG is the program, crates/fq_prog/out/fq_prog if not set. Status 77, and 'skipped', if a
 # package is missing.
@@ -147,9 +148,22 @@ mv inputs/shown1.fq inputs/r1.fq
 mv inputs/shown2.fq inputs/r2.fq
 run 0 PE --trimlog trim.log r1.fq r2.fq "${outputs[@]}" "${steps[@]}"
 
+# What trim_gz makes of the program's reports.
+row='a report of trim_gz'
+outputs=(--paired1 fp.fq --unpaired1 fu.fq --paired2 rp.fq --unpaired2 ru.fq)
+"$tree/contrib/trim_gz" --program "$program" -1 inputs/r1.fq -2 inputs/r2.fq "${outputs[@]}" --report plain.json -- MINLEN:3 > told 2>&1 ||
+  fail "$(cat told)"
+row='a report of trim_gz with adapters'
+if command -v cutadapt > /dev/null; then
+  "$tree/contrib/trim_gz" --program "$program" -1 inputs/r1.fq -2 inputs/r2.fq "${outputs[@]}" --adapters ACGTACGT,TTTT \
+    --report adapters.json -- MINLEN:3 > told 2>&1 || fail "$(cat told)"
+else
+  echo "report_schema: skipped: $row: cutadapt isn't installed (apt-get install cutadapt)"
+fi
+
 row='the reports'
 python3 - "$schema" "$("$program" --version)" "$number" << 'END' || failed=1
-import copy, glob, json, sys
+import copy, glob, json, os, sys
 
 import jsonschema
 
@@ -271,12 +285,23 @@ if reports[f"reports/{example}"] != json.load(open("shown", encoding="utf-8")):
 several = copy.deepcopy(reports["reports/2"])
 for part in "inputs", "outputs":
     several[part] = {name: [value, f"more {value}"] for name, value in several[part].items()}
+sides = {"forward": {"bases_removed": 9, "pairs_with_adapter": 1}, "reverse": {"bases_removed": 0, "pairs_with_adapter": None}}
+several["adapters"] = {"program": "cutadapt", "version": "4.2", "options": ["-a", "A"], "pairs_read": 5, "pairs_removed": 1, **sides}
 for fault in lawful.iter_errors(several):
     wrong.append(f"a report of several files: {fault.json_path}: {fault.message}")
+for path, has_adapters in ("plain.json", False), ("adapters.json", True):
+    if os.path.exists(path):
+        report = json.load(open(path, encoding="utf-8"))
+        for fault in lawful.iter_errors(report):
+            wrong.append(f"{path}: {fault.json_path}: {fault.message}")
+        if (report["adapters"] is not None) != has_adapters:
+            wrong.append(f"{path}: adapters is {report['adapters']}")
 one_fault = sorted(path for path in paths if reports[path]["fault"])[0]
 refused = 0
 for report in reports["reports/2"], reports["reports/4"], reports[one_fault], several:
     for one, what in changed(report):
+        if set(report) - set(one) == {"adapters"}:
+            continue  # a report of fq_prog
         refused += 1
         if lawful.is_valid(one):
             wrong.append(f"the schema takes a report that was changed: {what}")

@@ -618,7 +618,7 @@ for each in "read_counts", "basepair_counts", "adapters_read1", "adapters_read2"
     assert ours[each] == plain[each], each
 END
   [ "$(sed '1,/=== Summary/d' "$work/out/text")" = "$(sed '1,/=== Summary/d' "$plain/text")" ] || fail 'the log of cutadapt is another one'
-  grep -q '^Command line parameters: .* data/xa1.gz data/xb1.gz data/xa2.gz data/xb2.gz$' "$work/out/text" || fail 'the log of cutadapt names other files'
+  grep -q '^Command line parameters: .* data/xa1.gz data/xb1.gz data/xa2.gz data/xb2.gz # report$' "$work/out/text" || fail 'the log of cutadapt names other files'
   row='adapters, an interleaved file'
   made -i data/xi.gz "${outputs[@]}" --adapters "$adapters" --threads 1 "${last[@]}"
   as_plain p1.fq u1.fq p2.fq u2.fq
@@ -640,7 +640,6 @@ END
   as_plain p1.fq u1.fq p2.fq u2.fq
   plain=$work/plain
   row='adapters that are refused'
-  refused 4 'trim_gz: cannot read data/none.fa' "${lanes[@]}" --adapters data/none.fa "${rest[@]}"
   refused 1 "trim_gz: --cutadapt: --info-file=x can't be given here" "${lanes[@]}" --cutadapt '-a A --info-file=x' "${rest[@]}"
   refused 2 'trim_gz: cutadapt: unrecognized arguments: --frob' "${lanes[@]}" --adapters A --cutadapt '--frob' "${rest[@]}"
   row='a file of adapters as an output'
@@ -656,8 +655,13 @@ END
   damaged data/f.cut.gz 'unexpected end of file' -1 data/f.cut.gz -2 data/r.gz --adapters "$adapters" "${rest[@]}"
   damaged data/i.between.gz 'unexpected end of file' -i data/i.between.gz --adapters "$adapters" "${rest[@]}"
   row='adapters, and files that are not mates'
-  refused 3 "trim_gz: cutadapt: Error in sequence file at unknown line: Reads are improperly paired. Read name 'r1/1 lane' in file 1 does not match 'r1501/2 lane' in file 2." \
-    -1 data/f.gz -2 data/b2.gz --adapters "$adapters" "${rest[@]}"
+  earlier
+  (cd "$work" && trimmed -1 data/f.gz -2 data/b2.gz --adapters "$adapters" "${rest[@]}") > "$work/printed" 2> "$work/told"
+  [ $? -eq 3 ] || fail 'the status is not 3'
+  # cutadapt names the reads or their number, as it depends on how many bytes it read at once.
+  [[ $(cat "$work/told") == 'trim_gz: cutadapt: Error in sequence file at unknown line: Reads are improperly paired. '*' (data/f.gz, data/b2.gz)' ]] ||
+    fail "it says $(cat "$work/told")"
+  untouched
   row='kill -9, with cutadapt'
   killed xf -2 data/xr --paired1 out/p1.fq "${outputs[@]:2}" --adapters "$adapters" --threads 2 "${last[@]}"
   row='a process of cutadapt that is killed'

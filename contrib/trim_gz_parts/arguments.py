@@ -227,6 +227,7 @@ class Arguments:
         self.asks_version: bool = found.asks_version
         self.needs_end = bool(found.needs_end)
         self.checks_names = not found.no_name_check
+        self.encoding: Optional[str] = found.encoding
         self.block: Optional[str] = found.block
         self.passed = options_of_program(found)
         self.outputs = names_of_outputs(found)  # by their roles

@@ -5,31 +5,24 @@ import os
 import re
 import shutil
 import time
-from typing import Dict, List, Optional, Sequence
+from typing import Any, Dict, List, Match, Optional, Sequence
 
+from .adapters import adapter_options
 from .arguments import Arguments
 from .children import Child, Family, make_pipe
 from .faults import Fault, signal_name
 from .files import Side, readable
 
-SEQUENCES = "[ACGTUNRYSWKMBDHVI]+(,[ACGTUNRYSWKMBDHVI]+)?$"
 SECONDS_TO_NOTICE = 3
 # Otherwise the C library returns cutadapt's buffers of some MB to the system after each use, and
 # gets new ones, which the system clears page by page.
 KEEPS_BUFFERS = {"MALLOC_MMAP_THRESHOLD_": "33554432", "MALLOC_TRIM_THRESHOLD_": "268435456"}
+# Sequencers with two colours call G where there is no light, with good scores.
 POLY_G = ["--nextseq-trim=20"]
-
-
-def adapter_options(adapters: str) -> List[str]:
-    """The adapters of one --adapters, as options of cutadapt."""
-    if os.path.exists(adapters):
-        if os.path.isdir(adapters) or not os.access(adapters, os.R_OK):
-            raise Fault(4, f"cannot read {adapters}")
-        return ["-a", f"file:{adapters}", "-A", f"file:{adapters}"]
-    if not re.match(SEQUENCES, adapters, re.I):
-        raise Fault(4, f"cannot read {adapters}")
-    forward, _, reverse = adapters.partition(",")
-    return ["-a", forward, "-A", reverse or forward]
+# What to do about a text that the program takes but cutadapt doesn't, by what cutadapt prints.
+FOUR_LINES = "cutadapt needs records of four lines, without empty lines between them"
+SAME_NAMES = ("cutadapt compares names even with --no-name-check; "
+              "seqtk rename gives both mates the same ones")
 
 
 def killed_below(pid: int) -> int:
@@ -49,14 +42,19 @@ def killed_below(pid: int) -> int:
 class Cutadapt:
     """cutadapt, between the decompressors and the program."""
 
-    def __init__(self, arguments: Arguments, threads: int) -> None:
-        self.options = [word for each in arguments.adapters for word in adapter_options(each)]
+    def __init__(self, arguments: Arguments, threads: int, sample: str) -> None:
+        self.options = adapter_options(arguments.adapters)
         self.options += POLY_G if arguments.poly_g else []
+        if arguments.encoding in ("illumina13", "solexa"):
+            self.options.append("--quality-base=64")
         self.options += arguments.cutadapt or []
+        self.checks_names = arguments.checks_names
         self.threads = threads
+        self.sample = sample
         if not shutil.which("cutadapt"):
             raise Fault(1, "no program cutadapt (--adapters, --cutadapt)")
         self.names: Dict[str, str] = {}     # the user's files, by the names of their pipes
+        self.files: List[str] = []          # those of each side
         self.counts = self.printed = bytearray()
         self.trimmed = -1                   # the writing end of the pipe to the program
         self.lost_since: Optional[float] = None
@@ -69,7 +67,8 @@ class Cutadapt:
         reading, self.trimmed = make_pipe()
         family.lent.append(reading)
         pipes = [f"/dev/fd/{fd}" for fd in sources]
-        self.names = {pipe: side.files() for pipe, side in zip(pipes, sides)}
+        self.files = [side.files() for side in sides]
+        self.names = dict(zip(pipes, self.files))
         self.names.update({f"/dev/fd/{fd}": "-" for fd in (counts, self.trimmed)})
         words = ["cutadapt"] + self.options + ["-j", str(self.threads), "--interleaved"]
         words += ["--json", f"/dev/fd/{counts}", "-o", f"/dev/fd/{self.trimmed}"] + pipes
@@ -107,28 +106,45 @@ class Cutadapt:
             return
         if child.status < 0:
             raise Fault(4, f"cutadapt was ended by {signal_name(-child.status)}")
-        raise Fault(2 if child.status == 2 else 3, f"cutadapt: {self.complaint(child)}")
+        if child.status == 2:
+            raise Fault(2, f"cutadapt: {self.complaint(child)}")
+        raise Fault(3, f"cutadapt: {self.with_remedy(self.complaint(child))}")
 
     def complaint(self, child: Child) -> str:
         """The last line that it printed, without the usual beginning of its error messages."""
-        text = self.printed.decode("utf-8", "replace") + child.text()
-        lines = [line for line in text.splitlines() if line]
+        printed = self.printed.decode("utf-8", "replace") + child.text()
+        lines = [line for line in printed.splitlines() if line]
         line = lines[-1] if lines else f"status {child.status}"
         for start in ("cutadapt: error: ", "ERROR: "):
             line = line[len(start):] if line.startswith(start) else line
         return self.with_names(line)
 
+    def with_remedy(self, line: str) -> str:
+        """The line, with the files that it is about, and what to do."""
+        named = f"{line} ({', '.join(self.files)})"
+        if "Error in FASTQ file" in line:
+            return f"{named}: {FOUR_LINES}"
+        if "Read name" in line and not self.checks_names:
+            return f"{named}: {SAME_NAMES}"
+        return named
+
     def check_counts(self, child: Optional[Child], taken: int) -> None:
         """Ends the run unless the program read as many pairs as cutadapt passed on."""
         if child is None or child.status != 0:
             raise Fault(4, "cutadapt was ended")
-        try:
-            passed = json.loads(self.counts.decode())["read_counts"]["output"]
-        except (ValueError, KeyError):
-            raise Fault(4, "cutadapt: no report")
+        passed = self.counted()["read_counts"]["output"]
         if passed != taken:
             raise Fault(
                 4, f"cutadapt passed on {passed} pairs, but fq_prog read another number")
+
+    def counted(self) -> Dict[str, Any]:
+        """What it counted."""
+        try:
+            counted: Dict[str, Any] = json.loads(self.counts.decode())
+            return {name: counted[name]
+                    for name in ("cutadapt_version", "read_counts", "basepair_counts")}
+        except (ValueError, KeyError, TypeError):
+            raise Fault(4, "cutadapt: no report")
 
     def report(self) -> bytes:
         """What it counted, as JSON, with the names of the user's files."""
@@ -137,11 +153,39 @@ class Cutadapt:
             text = text.replace(json.dumps(pipe), json.dumps(readable(name)))
         return text.encode()
 
+    def summary(self) -> Dict[str, Any]:
+        """What the report of a run says of it."""
+        counted = self.counted()
+        pairs = counted["read_counts"]
+        return {
+            "forward": side_of(counted, 1),
+            "options": [readable(word) for word in self.options],
+            "pairs_read": pairs["input"],
+            "pairs_removed": pairs["input"] - pairs["output"],
+            "program": "cutadapt",
+            "reverse": side_of(counted, 2),
+            "version": counted["cutadapt_version"],
+        }
+
     def log(self) -> bytes:
-        """What it printed, with the names of the user's files."""
-        return self.with_names(self.printed.decode("utf-8", "replace")).encode()
+        """What it printed, with the names of the user's files. The name of the sample is added to
+        the line of its options, of which MultiQC reads the last word."""
+        text = self.with_names(self.printed.decode("utf-8", "replace"))
+        sample = re.sub(r"\s+", "_", self.sample)
+        line = re.compile("^Command line parameters: .*", re.MULTILINE)
+        return line.sub(lambda found: f"{found.group()} # {sample}", text, 1).encode()
 
     def with_names(self, text: str) -> str:
-        return re.sub(
-            r"/dev/fd/\d+\b",
-            lambda found: readable(self.names.get(found.group(), found.group())), text)
+        """The text, with the names of the user's files in the place of their pipes."""
+        def real(found: Match[str]) -> str:
+            return readable(self.names.get(found.group(), found.group()))
+        return re.sub(r"/dev/fd/\d+\b", real, text)
+
+
+def side_of(counted: Dict[str, Any], number: int) -> Dict[str, Optional[int]]:
+    """What it counted of a side. No pairs, if it looked for no adapter there."""
+    bases = counted["basepair_counts"]
+    return {
+        "bases_removed": bases[f"input_read{number}"] - bases[f"output_read{number}"],
+        "pairs_with_adapter": counted["read_counts"][f"read{number}_with_adapter"],
+    }

@@ -7,6 +7,7 @@ import io
 import os
 import secrets
 import stat
+import sys
 from typing import Iterable, List, Optional, Sequence
 
 from .checks import lacks_end, other_format
@@ -17,6 +18,9 @@ FROM_PIPE = ["sh", "-c", 'exec "$@" < "$0"']
 # Between two lanes: the line feed ends a last line that has none. Otherwise it is an empty line
 # between two records, which the program skips.
 AFTER_LINE_FEED = ["sh", "-c", 'echo; exec "$@"', "sh"]
+# cutadapt takes no empty line, and no last line without a line feed.
+WHOLE_LINES = [sys.executable or "python3", "-BES",
+               os.path.join(os.path.dirname(os.path.abspath(__file__)), "whole_lines.py")]
 STDOUT_NAMES = ("-", "/dev/stdout", "/dev/fd/1", "/proc/self/fd/1")
 STDERR_NAMES = ("/dev/stderr", "/dev/fd/2", "/proc/self/fd/2")
 # Under these names a reader expects a format that isn't written.
@@ -143,10 +147,12 @@ class Side:
     def current(self) -> Input:
         return self.inputs[self.place]
 
-    def command(self, decompressor: str, has_line_feeds: bool) -> List[str]:
+    def command(self, decompressor: str, for_cutadapt: bool) -> List[str]:
         """The command that writes the text of the current lane."""
         words = self.current().open(decompressor)
-        return AFTER_LINE_FEED + words if self.place and has_line_feeds else words
+        if for_cutadapt:
+            return WHOLE_LINES + words
+        return AFTER_LINE_FEED + words if self.place else words
 
     def files(self) -> str:
         return " ".join(self.names)

@@ -3,11 +3,10 @@
 import json
 import os
 import shutil
-from typing import List, Optional, Sequence, Union
+from typing import Any, Dict, List, Optional, Sequence, Union
 
 from .arguments import Arguments
 from .children import Family, feed
-from .cutadapt import Cutadapt
 from .faults import Fault
 from .files import readable
 
@@ -18,6 +17,12 @@ OUTPUTS = {
     "reverse_unpaired": "unpaired2",
     "trim_log": "trimlog",
 }
+# The outputs that name the sample, and the usual endings of their names.
+NAMING = {
+    "report": (".json",),
+    "html": (".html", ".htm"),
+    "cutadapt-log": (".log", ".txt"),
+}
 
 
 def one_or_all(names: Sequence[str]) -> Union[str, List[str]]:
@@ -26,11 +31,11 @@ def one_or_all(names: Sequence[str]) -> Union[str, List[str]]:
     return names[0] if len(names) == 1 else names
 
 
-def with_real_names(data: bytes, arguments: Arguments) -> bytes:
-    """The report with the names that the user gave: the program has read and written pipes and
-    hidden files."""
+def of_call(data: bytes, arguments: Arguments, adapters: Optional[Dict[str, Any]]) -> bytes:
+    """The program's report as that of the user's call, with what cutadapt removed before: the
+    program has read and written pipes and hidden files."""
     try:
-        report = json.loads(data.decode())
+        report: Dict[str, Any] = {"adapters": adapters, **json.loads(data.decode())}
     except ValueError:
         raise Fault(4, "no report")
     if arguments.both:
@@ -48,14 +53,31 @@ def with_real_names(data: bytes, arguments: Arguments) -> bytes:
     return (json.dumps(report, ensure_ascii=False, separators=(",", ":")) + "\n").encode()
 
 
+def stem(name: str, endings: Sequence[str]) -> str:
+    """A name without the first of these endings that it has."""
+    for ending in endings:
+        if name.endswith(ending) and len(name) > len(ending):
+            return name[:-len(ending)]
+    return name
+
+
+def sample_name(outputs: Dict[str, str]) -> str:
+    """The name of the sample, which its report, its page and the log of cutadapt share: that of the
+    first of them whose name has its usual ending, or else of the first."""
+    stems = []
+    for role, endings in NAMING.items():
+        if role in outputs:
+            name = stem(readable(os.path.basename(outputs[role])), [".gz"])
+            stems.append((name, stem(name, endings)))
+    usual = [short for name, short in stems if short != name]
+    return (usual or [name for name, _ in stems] or [""])[0]
+
+
 class Page:
     """The program that makes a page of a report."""
 
-    def __init__(self, name: str, folder: str, cutadapt: Optional[Cutadapt]) -> None:
-        self.name = name
-        self.options: List[str] = []
-        if cutadapt:
-            self.options = ["--cutadapt=" + readable(" ".join(cutadapt.options))]
+    def __init__(self, sample: str, folder: str) -> None:
+        self.sample = sample
         beside = os.path.join(folder, "report_to_html")
         program = beside if os.access(beside, os.X_OK) else shutil.which("tibzharuk-report")
         if not program:
@@ -63,19 +85,11 @@ class Page:
         self.program = program
         self.text = bytearray()
 
-    def title(self) -> str:
-        """The name of the page's file, without its ending."""
-        name = readable(os.path.basename(self.name))
-        for ending in (".gz", ".html", ".htm"):
-            if name.endswith(ending) and len(name) > len(ending):
-                name = name[:-len(ending)]
-        return name
-
     def start(self, family: Family, report: bytes) -> None:
         """It reads the report and prints the page."""
         self.text, theirs = family.gather()
         reading, writing = family.pipe()
-        words = [self.program, f"--sample={self.title()}", "/dev/stdin"] + self.options
+        words = [self.program, f"--sample={self.sample}", "/dev/stdin"]
         family.start("html", words, reading, theirs)
         family.keep(writing)
         family.let_go()

@@ -14,8 +14,9 @@ from .children import Child, Family, make_pipe
 from .cutadapt import Cutadapt
 from .faults import Fault, Stopped, reason, say, signal_name, warn, write_all
 from .files import Output, Side, check_inputs, give_names, take_names_back
+from .known_adapters import word_on_adapters
 from .progress import Progress
-from .report import Page, with_real_names
+from .report import Page, of_call, sample_name
 from .tools import Tools
 
 WRITTEN = {
@@ -38,12 +39,13 @@ class Run:
     def __init__(self, arguments: Arguments, folder: str) -> None:
         self.arguments = arguments
         self.tools = Tools(arguments)
+        sample = sample_name(arguments.outputs)
         self.cutadapt: Optional[Cutadapt] = None
         if arguments.uses_cutadapt():
-            self.cutadapt = Cutadapt(arguments, self.tools.threads)
+            self.cutadapt = Cutadapt(arguments, self.tools.threads, sample)
         self.page: Optional[Page] = None
         if "html" in arguments.outputs:
-            self.page = Page(arguments.outputs["html"], folder, self.cutadapt)
+            self.page = Page(sample, folder)
         self.sides: List[Side] = []
         self.outputs: Dict[str, Output] = {}    # by their roles
         # Children that have ended, by their names, without decompressors and compressors.
@@ -62,6 +64,7 @@ class Run:
         self.family = Family(self.tick, 0.5 if self.progress.is_on or self.cutadapt else 5)
         try:
             self.start_all()
+            self.look_for_adapters()
             self.follow()
             self.judge()
             self.finish()
@@ -126,6 +129,14 @@ class Run:
         self.start_program(sources)
         self.family.let_go()
 
+    def look_for_adapters(self) -> None:
+        """Says if the first pairs hold known adapters, but none are named. The children work
+        meanwhile."""
+        if not self.arguments.adapters and not self.arguments.cutadapt:
+            word = word_on_adapters([side.names[0] for side in self.sides])
+            if word:
+                warn(word)
+
     def start_compressor(self, output: Output) -> None:
         reading = self.pipe_to(output)
         words = self.tools.compress(output.role)
@@ -155,9 +166,8 @@ class Run:
         self.family.start(output.role, words, source, output.fd)
 
     def start_lane(self, side: Side) -> None:
-        """Starts the decompressor of the current lane. cutadapt takes no empty line between two
-        lanes."""
-        words = side.command(self.tools.decompressor, not self.cutadapt)
+        """Starts the decompressor of the current lane."""
+        words = side.command(self.tools.decompressor, self.cutadapt is not None)
         self.family.start(side.name, words, side.current().fd, side.pipe)
 
     def start_program(self, sources: Sequence[int]) -> None:
@@ -352,7 +362,8 @@ class Run:
         """What this process writes, by its role."""
         texts = {"summary": bytes(self.printed)}
         if self.counted is not None:
-            texts["report"] = with_real_names(self.counted, self.arguments)
+            adapters = self.cutadapt.summary() if self.cutadapt else None
+            texts["report"] = of_call(self.counted, self.arguments, adapters)
         if self.page:
             texts["html"] = self.make_page(self.page, texts["report"])
         if self.cutadapt:

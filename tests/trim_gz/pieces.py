@@ -195,15 +195,6 @@ class ToolsTest(Pieces):
 
 
 class CutadaptTest(Pieces):
-    def test_adapters(self):
-        self.assertEqual(cutadapt.adapter_options("ACGT"), ["-a", "ACGT", "-A", "ACGT"])
-        self.assertEqual(cutadapt.adapter_options("ACGT,tt"), ["-a", "ACGT", "-A", "tt"])
-        self.assertEqual(cutadapt.adapter_options("/dev/null"),
-                         ["-a", "file:/dev/null", "-A", "file:/dev/null"])
-        for name in "none.fa", "ACGT,", "/":
-            got = self.refused(cutadapt.adapter_options, name)
-            self.assertEqual(got, (4, f"cannot read {name}"))
-
     def test_nobody_was_killed(self):
         self.assertEqual((cutadapt.killed_below(os.getpid()), cutadapt.killed_below(0)), (0, 0))
 
@@ -258,7 +249,7 @@ class ReportTest(Pieces):
         outputs = {field: f"/dev/fd/{number}" for number, field in enumerate(report.OUTPUTS)}
         inputs = {"interleaved": "/dev/fd/5"}
         said = {"command": "IL", "inputs": inputs, "outputs": outputs, "pairs": 1}
-        text = report.with_real_names(json.dumps(said).encode(), arguments.Arguments(words))
+        text = report.of_call(json.dumps(said).encode(), arguments.Arguments(words), None)
         return json.loads(text.decode())
 
     def test_names(self):
@@ -269,17 +260,12 @@ class ReportTest(Pieces):
         self.assertEqual(got["inputs"], {"forward": ["a", "b"], "reverse": ["c", "d"]})
         wanted = dict(zip(report.OUTPUTS, ("p1", "u1", "p2", "u2", None)))
         self.assertEqual(got["outputs"], wanted)
-        self.assertEqual(list(got), ["command", "inputs", "outputs", "pairs"])
+        self.assertEqual(list(got), ["adapters", "command", "inputs", "outputs", "pairs"])
+        self.assertIsNone(got["adapters"])
         got = self.names(["-i", "\udcff.gz", "--trimlog", "log", "--interleaved", "-"] + unpaired)
         self.assertEqual((got["command"], got["inputs"]), ("IL", {"interleaved": "\ufffd.gz"}))
         wanted = dict(zip(report.OUTPUTS, ("-", "u1", "-", "u2", "log")))
         self.assertEqual(got["outputs"], wanted)
-
-    def test_title(self):
-        page = report.Page.__new__(report.Page)
-        for page.name, title in (
-                ("out/s1.html", "s1"), ("s1.html.gz", "s1"), (".html", ".html"), ("s1", "s1")):
-            self.assertEqual(page.title(), title)
 
 
 class FilesTest(Pieces):
@@ -313,10 +299,10 @@ class FilesTest(Pieces):
     def test_lanes(self):
         name = self.put("f", b"@r")
         side = files.Side("forward", [name, name])
-        self.assertEqual(side.command("bgzip", True), ["cat"])
-        side.place = 1
-        self.assertEqual(side.command("bgzip", True)[2:], ['echo; exec "$@"', "sh", "cat"])
         self.assertEqual(side.command("bgzip", False), ["cat"])
+        side.place = 1
+        self.assertEqual(side.command("bgzip", False)[2:], ['echo; exec "$@"', "sh", "cat"])
+        self.assertEqual(side.command("bgzip", True), files.WHOLE_LINES + ["cat"])
 
     def test_same_files(self):
         a, b = self.put("a"), os.path.join(self.folder, "b")
