@@ -385,7 +385,7 @@ with_adapters() {
   row='adapters that are not there'
   rm -r results
   sed -i 's/^adapters:.*/adapters: none.fa/' config/config.yaml
-  refused "settings: adapters: 'none.fa' is neither a file nor a sequence"
+  refused "settings: adapters: 'none.fa' is neither a file nor a sequence nor truseq, nextera or smallrna"
 }
 
 # refused LINE: the present settings or table are refused with that line, and nothing is made

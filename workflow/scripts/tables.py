@@ -3,9 +3,14 @@
 import csv
 import os
 import re
+import sys
+from pathlib import Path
 
 import jsonschema
 import yaml
+
+sys.path.insert(0, str(Path(__file__).resolve().parents[2] / "contrib"))
+from trim_gz_parts.known_adapters import known_adapters, names_of_known
 
 COLUMNS = ["sample", "lane", "r1", "r2"]
 # The columns of nf-core's tables that are read, by ours. Without `lane`, lanes are numbered.
@@ -39,11 +44,13 @@ def check_settings(settings, schema_path):
 
 
 def check_adapters(adapters):
-    """Refuses adapters that are neither a file nor a sequence. Returns the file, or None."""
+    """Refuses adapters that are neither a file nor a sequence nor known. Returns the file, or None."""
+    if adapters.lower() in known_adapters():
+        return None
     if os.path.isfile(adapters):
         return adapters
     if adapters and not re.fullmatch("[ACGTUNRYSWKMBDHVI]+(,[ACGTUNRYSWKMBDHVI]+)?", adapters, re.IGNORECASE):
-        raise Refused(f"settings: adapters: {adapters!r} is neither a file nor a sequence")
+        raise Refused(f"settings: adapters: {adapters!r} is neither a file nor a sequence nor {names_of_known()}")
     return None
 
 
