@@ -14,7 +14,7 @@ trap 'exit 130' INT
 trap 'exit 143' TERM HUP
 
 # Scripts that need no program.
-early=(must_not_compile scripts trim_gz_pieces pages wrong_bodies)
+early=(must_not_compile scripts trim_gz_pieces pages wrong_bodies rehearsal)
 # Scripts that take long begin first.
 first=(workflow)
 # Scripts that use the same directories of this tree, so each waits for the one before.
@@ -68,6 +68,11 @@ JOBS=$(((processors + 1) / 2)) unit_tests &
 printf '%s\n' "${early[@]}" | nice xargs -d '\n' -I NAMES bash -c 'run NAMES' &
 built=0
 make --no-print-directory build || built=1
+# dist.sh links the program's object. A gate may leave none, and then the program is built again: now,
+# and not beside scripts that run it.
+if [ "$built" -eq 0 ] && [ ! -s crates/fq_prog/out/fq_prog.o ]; then
+  bash packaging/objects.sh "$logs/objects" || built=1
+fi
 if [ "$built" -eq 0 ]; then
   printf '%s\n' "${later[0]}" "${in_turn[*]}" "${later[@]:1}" | side_by_side
 fi

@@ -2,8 +2,8 @@
 # The documents say what the program and the code say.
 # - Help, README.md, docs/FORMAT.md and the manual page name the same steps, options and statuses.
 #   No line of help is over 80 columns.
-# - The first run of README.md prints and writes what it shows, and the program of docs/LIBRARY.md
-#   runs.
+# - The first command of README.md runs, the first run of docs/GUIDE.md prints and writes what it
+#   shows, and the program of docs/LIBRARY.md runs.
 # - docs/ARCHITECTURE.md lists the crates and what they depend on as crates.txt does, and each name
 #   in docs/PROVED.md is in the code.
 # - What is made of the help and of the schema of a report is as packaging/made.py makes it.
@@ -66,8 +66,8 @@ compare_names() {
   done
   options < "$work/page" > "$work/named"
   alike 'help and the manual page name other options' "$work/options" "$work/named"
-  cells Option README.md | options > "$work/named"
-  alike 'help and the table of README.md name other options' "$work/options" "$work/named"
+  cells Option docs/FORMAT.md | options > "$work/named"
+  alike 'help and the table of docs/FORMAT.md name other options' "$work/options" "$work/named"
 }
 
 compare_statuses() {
@@ -85,9 +85,9 @@ compare_statuses() {
   alike 'help and the manual page list other statuses' "$work/statuses" "$work/named"
 }
 
-# shown FILE WHAT: a block of code of README.md holds the lines of FILE, one after the other
+# shown FILE WHAT: a block of code of docs/GUIDE.md holds the lines of FILE, one after the other
 shown() {
-  awk -v RS='\f\n' -v want="$(cat "$1")" 'index("\n" $0, "\n" want "\n") { found = 1 } END { exit !found }' "$work/code" || fail "README.md doesn't show $2: $(cat "$1")"
+  awk -v RS='\f\n' -v want="$(cat "$1")" 'index("\n" $0, "\n" want "\n") { found = 1 } END { exit !found }' "$work/code" || fail "docs/GUIDE.md doesn't show $2: $(cat "$1")"
 }
 
 # The parts of the manual page, the completions, the description for CWL and docs/FORMAT.md that
@@ -100,18 +100,37 @@ compare_made() {
   fi
 }
 
-# Runs the block of README.md that makes r1.fq and r2.fq and trims them.
+# Runs the first command of README.md over the reads in examples/, as if they were those of two lanes.
+first_command() {
+  local room=$work/first lane side name
+  if ! command -v cutadapt > /dev/null; then
+    echo 'documents: the first command of README.md: skipped: needs cutadapt'
+    return
+  fi
+  mkdir "$room"
+  for lane in 1 2; do
+    for side in 1 2; do cp "examples/reads_$side.fq.gz" "$room/s_L00${lane}_R$side.fq.gz"; done
+  done
+  parts code README.md | awk -v RS='\f\n' '/^trim_gz -1/ && !found { found = 1; print }' > "$room/command"
+  (cd "$room" && PATH=$tree/contrib:${program%/*}:$PATH bash -euo pipefail command) > "$room/said" 2>&1 || fail "the first command of README.md fails: $(cat "$room/said")"
+  grep -qx 'Input Read Pairs: 2000' "$room/said" || fail "the first command of README.md prints: $(cat "$room/said")"
+  for name in r1.paired.fastq.gz r1.unpaired.fastq.gz r2.paired.fastq.gz r2.unpaired.fastq.gz json html; do
+    [ -s "$room/s.$name" ] || fail "the first command of README.md makes no s.$name"
+  done
+}
+
+# Runs the block of docs/GUIDE.md that makes r1.fq and r2.fq and trims them.
 first_run() {
-  parts code README.md > "$work/code"
+  parts code docs/GUIDE.md > "$work/code"
   awk -v RS='\f\n' '/printf/ && /> *r1\.fq/ && /fq_prog PE/ && !found { found = 1; print }' "$work/code" |
     grep -E '^(\$ )?(printf|fq_prog|cat|  )' | sed 's/^\$ //' > "$work/commands"
   [ -s "$work/commands" ] || {
-    fail 'README.md has no first run'
+    fail 'docs/GUIDE.md has no first run'
     return
   }
   mkdir "$work/run" "$work/bin"
   ln -s "$program" "$work/bin/fq_prog"
-  (cd "$work/run" && PATH=$work/bin:$PATH bash -euo pipefail "$work/commands") > "$work/printed" || fail 'the first run of README.md fails'
+  (cd "$work/run" && PATH=$work/bin:$PATH bash -euo pipefail "$work/commands") > "$work/printed" || fail 'the first run of docs/GUIDE.md fails'
   shown "$work/printed" 'what its first run prints'
   [ -s "$work/run/trim.log" ] && shown "$work/run/trim.log" 'the log of its first run'
 }
@@ -278,6 +297,7 @@ bash packaging/version.sh --check || fail 'places name another version than CHAN
 compare_names
 compare_statuses
 compare_made
+first_command
 first_run
 compare_crates
 compare_proved
