@@ -10,6 +10,13 @@ import sys
 from pathlib import Path
 
 VERBATIM = ('SYNOPSIS', 'EXAMPLE', 'EXAMPLES')
+SEE_ALSO = r'''.SH SEE ALSO
+.BR fq_prog (1)
+and the project's
+.IR docs/GUIDE.md ,
+which with the Debian package is in
+.IR /usr/share/doc/tibzharuk .
+'''
 ENDING = r'''.SH AUTHORS
 The Tibzharuk maintainers.
 .SH COPYRIGHT
@@ -130,8 +137,7 @@ def main():
             print('\n'.join(['.nf', *(plain(line) for line in '\n'.join(lines).strip('\n').split('\n')), '.fi']))
         else:
             print('\n'.join(body(lines)))
-    print('.SH SEE ALSO')
-    print('.BR fq_prog (1)')
+    print(SEE_ALSO, end='')
     print(ENDING, end='')
 
 

@@ -30,13 +30,13 @@ crates/fq_words/src/words.rt | ^pub const VERSION: &str = " | ";$
 crates/fq_rows/data/words.rows | ^= text: fq_prog | \\n$
 crates/fq_rows/data/command.rows | ^let two reported [0-9]+: "version":" | "\}$
 docs/FORMAT.md | ^ *"version": " | "\}$
-docs/LAB.md | tibzharuk- | -oci\.tar
-docs/LAB.md | Tibzharuk \(fq_prog\) | , with the steps
+docs/GUIDE.md | tibzharuk- | -oci\.tar
+docs/GUIDE.md | Tibzharuk \(fq_prog\) | , with the steps
 packaging/Containerfile | VERSION= | -t tibz
 packaging/Containerfile | -t tibzharuk: | dist
 workflow/cwl/trim_gz.cwl | ^ *version: \[" | "\]$
 workflow/cwl/trim_gz.cwl | ^ *dockerImageId: tibzharuk: | $
-docs/LAB.md | `tibzharuk: | `
+docs/GUIDE.md | `tibzharuk: | `
 contrib/tibzharuk_multiqc.egg-info/PKG-INFO | ^Version: | $
 tests/rehearsal/report_field.patch | "version": ?" | "\}$
 CITATION.cff | ^version: | $

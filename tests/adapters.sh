@@ -93,8 +93,8 @@ polyg|--poly-g|--nextseq-trim=20
 polyg|--poly-g --cutadapt --nextseq-trim=35|--nextseq-trim=35
 truseq|--poly-g --adapters truseq|--nextseq-trim=20 -a ${truseq[0]} -A ${truseq[1]}
 END
-row='the options that docs/LAB.md names'
-mapfile -t named < <(grep -o -- "--cutadapt '[^']*'" "$tree/docs/LAB.md" | sort -u)
+row='the options that docs/GUIDE.md names'
+mapfile -t named < <(grep -o -- "--cutadapt '[^']*'" "$tree/docs/GUIDE.md" | sort -u)
 [ "${#named[@]}" -ge 8 ] || fail "only ${#named[@]}"
 for words in "${named[@]}"; do
   given=${words#*\'}
