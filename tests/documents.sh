@@ -1,6 +1,7 @@
 #!/usr/bin/env bash
 # The documents say what the program and the code say.
-# - Help, README.md, docs/FORMAT.md and the manual page name the same steps, options and statuses.
+# - Help, README.md, docs/FORMAT.md and the manual page name the same steps, and help and the manual
+#   page the same options and statuses.
 #   No line of help is over 80 columns.
 # - The first command of README.md runs, the first run of docs/GUIDE.md prints and writes what it
 #   shows, and the program of docs/LIBRARY.md runs.
@@ -66,8 +67,6 @@ compare_names() {
   done
   options < "$work/page" > "$work/named"
   alike 'help and the manual page name other options' "$work/options" "$work/named"
-  cells Option docs/FORMAT.md | options > "$work/named"
-  alike 'help and the table of docs/FORMAT.md name other options' "$work/options" "$work/named"
 }
 
 compare_statuses() {
