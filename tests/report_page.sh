@@ -128,13 +128,14 @@ END
 drawn older
 
 row='the page of a sum of lanes'
-"$tree/contrib/report_sum" plain.json small.json > lanes.json || fail "status $?"
-"$script" --lane L001 plain.json --lane 'L<2' small.json lanes.json > lanes.html || fail "status $?"
+python3 "$tree/tests/report_page/count.py" lane lane.json || exit 1
+"$tree/contrib/report_sum" plain.json lane.json > lanes.json || fail "status $?"
+"$script" --lane L001 plain.json --lane 'L<2' lane.json lanes.json > lanes.html || fail "status $?"
 check page lanes.json lanes.html || fail 'it is not that of the sum'
 grep -qF '<th scope="row">L&lt;2</th><td>20</td>' lanes.html || fail 'it lacks a lane'
 row='a sum that is larger than a count can be'
 sed 's/"score_sum":[0-9]*,/"score_sum":18446744073709551615,/' plain.json > most.json
-"$tree/contrib/report_sum" most.json small.json > sum.json || fail "status $?"
+"$tree/contrib/report_sum" most.json lane.json > sum.json || fail "status $?"
 python3 -c 'import json; assert json.load(open("sum.json"))["reads"]["forward"]["before"]["score_sum"] == 2**64 - 1' || fail 'it is another number'
 row='reports that do not belong together'
 # apart LINE WORDS..: these words end with status 1 and that line alone
@@ -145,7 +146,8 @@ apart() {
 apart "report_to_html: the lanes don't add up to the report" "$script" --lane L001 plain.json lanes.json
 sed 's/MINLEN:36/MINLEN:37/' plain.json > steps.json
 apart 'report_sum: steps.json: its steps are LEADING:3 TRAILING:6 MINLEN:37, not LEADING:3 TRAILING:6 MINLEN:36' "$tree/contrib/report_sum" plain.json steps.json
-apart 'report_sum: two.json: schema is 2, not missing' "$tree/contrib/report_sum" plain.json two.json
+apart 'report_sum: older.json: schema is missing, not 2' "$tree/contrib/report_sum" two.json older.json
+apart 'report_sum: small.json: its adapters were removed in another way' "$tree/contrib/report_sum" plain.json small.json
 apart 'report_sum: fault.json: its run stopped at a fault: input: .*' "$tree/contrib/report_sum" fault.json fault.json
 
 row='the title of a page'

@@ -301,7 +301,9 @@ def check_adapters(page, report):
         how += f", which removed {adapters['pairs_removed']:,} of {adapters['pairs_read']:,} pairs"
     assert f"For the methods section: Adapters were removed with {how}. Read pairs were" in text, how
     assert f"adapters {how}" in text, how
-    for side, table in zip(SIDES, page.tables):
+    tables = [each for each in page.tables if each.rows[1:] and each.rows[1][0] == "reads with an adapter"]
+    assert len(tables) == len(SIDES), tables
+    for side, table in zip(SIDES, tables):
         found, removed = adapters[side]["pairs_with_adapter"], adapters[side]["bases_removed"]
         head, (name, *cells), (other, bases, share) = table.rows
         assert (table.caption, head, name, other) == (side.capitalize(), ["", "number", "share"], "reads with an adapter", "bases removed")

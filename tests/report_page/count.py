@@ -4,9 +4,10 @@
 
 writes the report of such a run into FILE, with all fields that the page draws. KIND is `plain`
 (500 pairs of 150 bases), `long` (a pair of 10,250 and 12,000 bases among 50 pairs), `longest` (12
-pairs of 12,345 and 23,456 bases), `small` (20 pairs of 40 bases), `one` (20 pairs of one base),
-`alike` (20 pairs of 40 times C with the score 35), `other` (20 pairs of 40 bases, of which some are
-R or Y) or `none` (no pair). cutadapt removed adapters before `plain` and `small`.
+pairs of 12,345 and 23,456 bases), `small` (20 pairs of 40 bases), `lane` (the same pairs), `one` (20
+pairs of one base), `alike` (20 pairs of 40 times C with the score 35), `other` (20 pairs of 40
+bases, of which some are R or Y) or `none` (no pair). cutadapt removed adapters before `plain`,
+`lane` and `small`, in another way before `small`.
 """
 
 import collections
@@ -185,6 +186,7 @@ def pairs_of(kind):
     lengths = {
         "plain": [(150, 150)] * 500,
         "small": [(40, 38)] * 20,
+        "lane": [(40, 38)] * 20,
         "long": [(100, 90)] * 49 + [(10_250, 12_000)],
         "longest": [(12_345, 23_456)] * 12,
     }
@@ -194,7 +196,7 @@ def pairs_of(kind):
 def adapters(kind, pairs):
     """What trim_gz says of cutadapt in its report."""
     forward = {"bases_removed": 1234, "pairs_with_adapter": 17}
-    if kind == "plain":
+    if kind in ("plain", "lane"):
         options, removed, reverse = ["-a", "ACGT", "-A", "A{10}", "-m", "20"], 25, {"bases_removed": 1, "pairs_with_adapter": 0}
     else:
         options, removed, reverse = ["-a", "ACGT"], 0, {"bases_removed": 0, "pairs_with_adapter": None}
@@ -211,7 +213,7 @@ def adapters(kind, pairs):
 
 def main(kind, path):
     made = report(pairs_of(kind), 1 if kind == "one" else 36)
-    if kind in ("plain", "small"):
+    if kind in ("plain", "lane", "small"):
         made["adapters"] = adapters(kind, made["pairs"]["input"])
     elif kind == "none":
         made["adapters"] = None
