@@ -5,7 +5,6 @@ import errno
 import gzip
 import io
 import os
-import secrets
 import stat
 import sys
 from typing import Iterable, List, Optional, Sequence
@@ -222,7 +221,7 @@ class Output:
         if self.is_device:
             return
         folder, name = os.path.split(self.target)
-        ending = f".trim_gz.{secrets.token_hex(4)}"
+        ending = f".trim_gz.{os.urandom(4).hex()}"
         try:
             most = os.pathconf(folder, "PC_NAME_MAX") - len(ending) - len(OLD)
             start = os.fsencode(f".{name}")[:most].decode("utf-8", "ignore")

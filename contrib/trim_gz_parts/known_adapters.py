@@ -15,6 +15,7 @@ MOST_PERCENT = 1
 # So many bases of an adapter are looked for. By chance they are in one of 100,000 reads of 150.
 BASES = 12
 PIECE = 1 << 16
+Pairs = List[Tuple[bytes, bytes]]     # the bases of both mates
 
 
 class KnownAdapter(NamedTuple):
@@ -76,7 +77,7 @@ def first_reads(name: str, most: int, until: float) -> List[bytes]:
     return lines[1:4 * reads:4]
 
 
-def first_pairs(files: List[str]) -> List[Tuple[bytes, bytes]]:
+def first_pairs(files: List[str]) -> Pairs:
     """The bases of the first pairs, of one interleaved file or of two files."""
     begun = time.monotonic()
     if len(files) == 1:
@@ -86,18 +87,30 @@ def first_pairs(files: List[str]) -> List[Tuple[bytes, bytes]]:
     return list(zip(forward, first_reads(files[1], MOST_PAIRS, begun + SECONDS)))
 
 
+def is_many(count: int, pairs: Pairs) -> bool:
+    return 100 * count > MOST_PERCENT * len(pairs)
+
+
+def pairs_with(known: KnownAdapter, pairs: Pairs) -> int:
+    """How many pairs hold an adapter, or, if these are few, how often the adapter is found. That is
+    counted in a tenth of the time."""
+    forward, reverse = (known[place][:BASES].encode() for place in (1, 2))
+    found = sum(b"\n".join(reads).count(sequence)
+                for reads, sequence in zip(zip(*pairs), (forward, reverse)))
+    if not is_many(found, pairs):
+        return found
+    return sum(forward in one or reverse in other for one, other in pairs)
+
+
 def word_on_adapters(files: List[str]) -> Optional[str]:
     """A line if many of the first pairs hold a known adapter. `files` are the first of each
     side."""
     if not all(os.path.isfile(name) for name in files):
         return None
     pairs = first_pairs(files)
-    counts = {}
-    for known in known_adapters().values():
-        forward, reverse = (known[place][:BASES].encode() for place in (1, 2))
-        counts[known.name] = sum(forward in one or reverse in other for one, other in pairs)
+    counts = {known.name: pairs_with(known, pairs) for known in known_adapters().values()}
     name = max(counts, key=lambda each: counts[each])
-    if 100 * counts[name] <= MOST_PERCENT * len(pairs):
+    if not is_many(counts[name], pairs):
         return None
     percent = 100 * counts[name] / len(pairs)
     share = f"{percent:.0f}" if percent >= 10 else f"{percent:.1f}"
