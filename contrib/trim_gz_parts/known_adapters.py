@@ -92,8 +92,8 @@ def is_many(count: int, pairs: Pairs) -> bool:
 
 
 def pairs_with(known: KnownAdapter, pairs: Pairs) -> int:
-    """How many pairs hold an adapter, or, if these are few, how often the adapter is found. That is
-    counted in a tenth of the time."""
+    """How many pairs hold an adapter, or, if these are few, how often the adapter is found, which
+    is counted in half of the time."""
     forward, reverse = (known[place][:BASES].encode() for place in (1, 2))
     found = sum(b"\n".join(reads).count(sequence)
                 for reads, sequence in zip(zip(*pairs), (forward, reverse)))
