@@ -16,7 +16,7 @@ trap 'exit 143' TERM HUP
 # Scripts that need no program.
 early=(must_not_compile scripts trim_gz_pieces pages wrong_bodies rehearsal)
 # Scripts that take long begin first.
-first=(workflow)
+first=(workflow_slurm workflow workflow_lanes)
 # Scripts that use the same directories of this tree, so each waits for the one before.
 in_turn=(dist container examples cwl)
 # Scripts that wait for a thread to sleep or for a disk: without others beside them.
@@ -74,7 +74,7 @@ if [ "$built" -eq 0 ] && [ ! -s crates/fq_prog/out/fq_prog.o ]; then
   bash packaging/objects.sh "$logs/objects" || built=1
 fi
 if [ "$built" -eq 0 ]; then
-  printf '%s\n' "${later[0]}" "${in_turn[*]}" "${later[@]:1}" | side_by_side
+  printf '%s\n' "${first[@]}" "${in_turn[*]}" "${later[@]:${#first[@]}}" | side_by_side
 fi
 wait
 if [ "$built" -eq 0 ]; then

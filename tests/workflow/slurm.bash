@@ -1,5 +1,5 @@
 # shellcheck shell=bash disable=SC2034,SC2154  # work and row are those of the script
-# A Slurm of one node that tests/workflow.sh starts for itself below $work, and what it asks of it.
+# A Slurm of one node that tests/workflow_slurm.sh starts for itself below $work, and what it asks of it.
 slurm_pids=()
 
 # stop_slurm: cancels its jobs, waits until they are gone, and stops its daemons by their ids
