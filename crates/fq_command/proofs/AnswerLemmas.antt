@@ -13,10 +13,10 @@ use Rattle.fq_run.specs.Endings.{ends_whole}
 use Rattle.fq_job.specs.Faults.{settled, outcome_status, outcome_line}
 use Rattle.fq_words.specs.Requests.{Asking, input_name}
 use Rattle.fq_job.specs.Judging.{wrong_with}
-use Rattle.fq_job.specs.Trimming.{HasDistinctFiles, TrimsFiles}
+use Rattle.fq_job.specs.Trimming.{IsNoOutput, TrimsFiles}
 use Rattle.fq_job.specs.Leaving.{RefusalLeaves, ReportLeft, HoldFirstPairs, AreLeft, TellsInputs}
 use Rattle.fq_job.proofs.EndingLemmas.{done_is_whole, ends_so}
-use Rattle.fq_job.proofs.LeavingLemmas.{left_or_nothing, refusal_untrimmed, whole_first}
+use Rattle.fq_job.proofs.LeavingLemmas.{refusal_untrimmed, report_untrimmed, whole_first}
 use Rattle.fq_job.specs.Refusals.{status_of, line_of}
 use Rattle.fq_command.specs.Answers.{Device, EndsWhole, IsRefusal, IsEnding, IsUnprinted, IsUntold, IsUnreported, IsReportLeft, IsReportUncut, LacksMemory, NamesRefused, NamesDevice, PairsAnswered, Refuses, Tells, TookLine, memory_line, print_line, report_line}
 use Rattle.fq_job.specs.declared.refusal.Refusal.{Refusal}
@@ -47,8 +47,8 @@ refuses_fails a refusal err status (inr lacks) =
     let five = lacks.status_is in ((λ zero. absurd (omega (arith, zero, five))), (λ three. absurd (omega (arith, three, five))))
 
 -- refused memory has its line
-lacks_line : (a : Asking) (told : Bool) (old new : Holding) (out err : Device) (status : ℕ) → LacksMemory err status → (IsTrue told → HasDistinctFiles a → AreLeft a old new)
-    → (IsTrue told → HasDistinctFiles a → (name : List ℕ) → a.report ≡ Some name → IsReportUncut a old new name) → TookLine a told old new out err status
+lacks_line : (a : Asking) (told : Bool) (old new : Holding) (out err : Device) (status : ℕ) → LacksMemory err status → (IsTrue told → AreLeft a old new)
+    → (IsTrue told → (name : List ℕ) → a.report ≡ Some name → IsReportUncut a old new name) → TookLine a told old new out err status
 lacks_line a told old new out err status lacks left report_left = record {
   text = memory_line;
   fits = inr (inr (inl (record { status_is = lacks.status_is; text_is = refl; left = left; report_left = report_left })));
@@ -63,8 +63,8 @@ uncut_left : (a : Asking) (old new : Holding) (name : List ℕ) → IsReportUncu
 uncut_left a old new name uncut = ⊎_elim (λ kept. inl kept) (λ holds. whole_begins a old new name holds) uncut
 
 -- a request that ends because memory was refused
-pub lacks_answer : (a : Asking) (told : Bool) (old new : Holding) (out err : Device) (status : ℕ) → LacksMemory err status → (IsTrue told → HasDistinctFiles a → AreLeft a old new)
-    → (IsTrue told → HasDistinctFiles a → (name : List ℕ) → a.report ≡ Some name → IsReportUncut a old new name)
+pub lacks_answer : (a : Asking) (told : Bool) (old new : Holding) (out err : Device) (status : ℕ) → LacksMemory err status → (IsTrue told → AreLeft a old new)
+    → (IsTrue told → (name : List ℕ) → a.report ≡ Some name → IsReportUncut a old new name)
     → (IsTrue told → (side : Side) → old (input_name a.inputs side) ≡ None → IsUnchanged old new) → PairsAnswered a told old new out err status
 lacks_answer a told old new out err status lacks left report_left unopened =
     let five = lacks.status_is in
@@ -76,7 +76,7 @@ lacks_answer a told old new out err status lacks left report_left unopened =
       known = λ one. absurd (omega (arith, one, five));
       left = λ other. left;
       reported = λ ends. absurd (⊎_elim (λ zero. omega (arith, zero, five)) (λ three. omega (arith, three, five)) ends);
-      report_left = λ tells distinct name named. uncut_left a old new name (report_left tells distinct name named);
+      report_left = λ tells name named. uncut_left a old new name (report_left tells name named);
       unopened = unopened;
     }
 
@@ -87,8 +87,8 @@ there_is (Some x) none = refl
 -- a request that is refused
 pub refused_answer : (a : Asking) (told : Bool) (old new : Holding) (out err : Device) (status : ℕ) (refusal : Refusal) → Refuses a refusal err status
     → ((other : Refusal) → wrong_with a ≡ Some other → refusal ≡ other) → (wrong_with a ≡ None → status_of refusal ≢ 2)
-    → (IsTrue told → HasDistinctFiles a → RefusalLeaves a refusal old new)
-    → (IsTrue told → HasDistinctFiles a → (name : List ℕ) → a.report ≡ Some name → ReportLeft refusal (old name) (new name))
+    → (IsTrue told → RefusalLeaves a refusal old new)
+    → (IsTrue told → (name : List ℕ) → a.report ≡ Some name → IsNoOutput a name → ReportLeft refusal (old name) (new name))
     → (IsTrue told → (side : Side) → old (input_name a.inputs side) ≡ None → IsUnchanged old new) → PairsAnswered a told old new out err status
 refused_answer a told old new out err status refusal (inl refuses) first late left report_left unopened =
     let own = refusal_fails refusal in
@@ -99,20 +99,20 @@ refused_answer a told old new out err status refusal (inl refuses) first late le
       right = λ two. there_is (wrong_with a) (λ none. late none (sym is ∙ two));
       line = λ other. record { text = line_of a refusal; fits = inl (inl (record { why = refusal; status_is = sym is; text_is = refl; left = left; report_left = report_left })); took = refuses.1 };
       known = λ one. own.1 (sym is ∙ one);
-      left = λ other tells distinct. inl (refusal_untrimmed a refusal old new (left tells distinct));
+      left = λ other tells. inl (refusal_untrimmed a refusal old new (left tells));
       reported = λ ends. absurd (⊎_elim (λ zero. own.0 (sym is ∙ zero)) (λ three. own.2 (sym is ∙ three)) ends);
-      report_left = λ tells distinct name named. inl (left_or_nothing refusal (old name) (new name) (report_left tells distinct name named));
+      report_left = λ tells name named. inl (report_untrimmed a refusal old new (left tells) (report_left tells) name named);
       unopened = unopened;
     }
 refused_answer a told old new out err status refusal (inr lacks) first late left report_left unopened =
-    lacks_answer a told old new out err status lacks (λ tells distinct. inl (refusal_untrimmed a refusal old new (left tells distinct)))
-    (λ tells distinct name named. inl (left_or_nothing refusal (old name) (new name) (report_left tells distinct name named))) unopened
+    lacks_answer a told old new out err status lacks (λ tells. inl (refusal_untrimmed a refusal old new (left tells)))
+    (λ tells name named. inl (report_untrimmed a refusal old new (left tells) (report_left tells) name named)) unopened
 
 -- What is known of a run that was made: what its outputs hold, whether its report was due, and what
 -- the report holds.
 pub record IsRun (a : Asking) (told : Bool) (old new : Holding) (outcome : Outcome) (counts : Counts) (reported : Reported) : Type 0 where
-  pub trims : IsTrue told → HasDistinctFiles a → IsTrue (ends_whole outcome) → TrimsFiles a old new outcome counts
-  pub ended : IsTrue told → HasDistinctFiles a → outcome ≢ Lane → HoldFirstPairs a old new outcome
+  pub trims : IsTrue told → IsTrue (ends_whole outcome) → TrimsFiles a old new outcome counts
+  pub ended : IsTrue told → outcome ≢ Lane → HoldFirstPairs a old new outcome
   pub due : reported ≢ report.NotDue → (outcome_status outcome ≡ 0) ⊎ (outcome_status outcome ≡ 3)
   pub not_due : reported ≡ report.NotDue → IsSome a.report → (outcome_status outcome ≢ 0) × (outcome_status outcome ≢ 3)
   pub held : IsTrue told → (name : List ℕ) → a.report ≡ Some name → ReportHeld reported a old new name
@@ -166,28 +166,28 @@ module _ (a : Asking) (told : Bool) (old new : Holding) (outcome : Outcome) (cou
       status_is = unprinted.1.1;
       failed = unprinted.1.0;
       text_is = refl;
-      left = λ tells distinct. (outcome, counts, unprinted.0, run.trims tells distinct (done_is_whole outcome unprinted.0));
+      left = λ tells. (outcome, counts, unprinted.0, run.trims tells (done_is_whole outcome unprinted.0));
       reported = is_held which (inl unprinted.0);
     }));
     took = unprinted.1.2;
   }
   told_line out err status (inl (which, inr (inr untold))) =
-      lacks_line a told old new out err status untold.1 (λ tells distinct. inr (outcome, run.ended tells distinct untold.0)) (λ tells distinct. is_uncut which tells)
+      lacks_line a told old new out err status untold.1 (λ tells. inr (outcome, run.ended tells untold.0)) (λ tells. is_uncut which tells)
   told_line out err status (inr (inl failed)) =
       let due = due_as report.Failed failed.0 (λ e. absurd (cc e)) in record {
         text = report_line;
         fits = inr (inr (inr (record {
           status_is = failed.1;
           text_is = refl;
-          left = λ tells distinct. (outcome, counts, run.trims tells distinct (ends_so outcome (outcome_status outcome) refl due));
+          left = λ tells. (outcome, counts, run.trims tells (ends_so outcome (outcome_status outcome) refl due));
           begun = held_as report.Failed failed.0;
         })));
         took = failed.2;
       }
   told_line out err status (inr (inr lacks)) =
       let due = due_as report.OutOfMemory lacks.0 (λ e. absurd (cc e)) in
-      lacks_line a told old new out err status lacks.1 (λ tells distinct. inr (outcome, run.ended tells distinct (not_lane outcome due)))
-      (λ tells distinct name named. inl (inr (held_as report.OutOfMemory lacks.0 tells name named)))
+      lacks_line a told old new out err status lacks.1 (λ tells. inr (outcome, run.ended tells (not_lane outcome due)))
+      (λ tells name named. inl (inr (held_as report.OutOfMemory lacks.0 tells name named)))
 
 -- ---- the device that is named
 
@@ -234,26 +234,26 @@ is_left a old new name report.OutOfMemory empty = inl (inr empty)
 
 -- what the line of a run says about the files
 fits_left : (a : Asking) (told : Bool) (old new : Holding) (out : Device) (status : ℕ) (text : List ℕ) → (IsRefusal a told old new status text ⊎ IsEnding a told old new status text)
-    ⊎ (IsUnprinted a told old new out status text ⊎ (IsUntold a told old new status text ⊎ IsUnreported a told old new status text)) → status ≢ 6 → IsTrue told → HasDistinctFiles a → AreLeft a old new
-fits_left a told old new out status text (inl (inl refusal)) other tells distinct = inl (refusal_untrimmed a refusal.why old new (refusal.left tells distinct))
-fits_left a told old new out status text (inl (inr ending)) other tells distinct =
-    inr (ending.outcome, ending.left tells distinct (λ lane. other (sym ending.status_is ∙ ap outcome_status lane)))
-fits_left a told old new out status text (inr (inl unprinted)) other tells distinct =
-    let all = unprinted.left tells distinct in inr (all.0, whole_first a old new all.0 all.1 all.3)
-fits_left a told old new out status text (inr (inr (inl untold))) other tells distinct = untold.left tells distinct
-fits_left a told old new out status text (inr (inr (inr unreported))) other tells distinct =
-    let all = unreported.left tells distinct in inr (all.0, whole_first a old new all.0 all.1 all.2)
+    ⊎ (IsUnprinted a told old new out status text ⊎ (IsUntold a told old new status text ⊎ IsUnreported a told old new status text)) → status ≢ 6 → IsTrue told → AreLeft a old new
+fits_left a told old new out status text (inl (inl refusal)) other tells = inl (refusal_untrimmed a refusal.why old new (refusal.left tells))
+fits_left a told old new out status text (inl (inr ending)) other tells =
+    inr (ending.outcome, ending.left tells (λ lane. other (sym ending.status_is ∙ ap outcome_status lane)))
+fits_left a told old new out status text (inr (inl unprinted)) other tells =
+    let all = unprinted.left tells in inr (all.0, whole_first a old new all.0 all.1 all.3)
+fits_left a told old new out status text (inr (inr (inl untold))) other tells = untold.left tells
+fits_left a told old new out status text (inr (inr (inr unreported))) other tells =
+    let all = unreported.left tells in inr (all.0, whole_first a old new all.0 all.1 all.2)
 
 zero_or : (n : ℕ) → (n ≡ 0) ⊎ (n ≢ 0)
 zero_or n = grind arith
 
 -- what a call leaves in the files, at every status except that of an unconfirmed lane
 pub left_so : (a : Asking) (told : Bool) (old new : Holding) (out err : Device) (status : ℕ)
-    → ((status ≡ 0) ⊎ (status ≡ 3) → IsTrue told → HasDistinctFiles a → EndsWhole a old new out err status) → (status ≢ 0 → TookLine a told old new out err status)
-    → status ≢ 6 → IsTrue told → HasDistinctFiles a → AreLeft a old new
-left_so a told old new out err status whole line other tells distinct = ⊎_elim
-    (λ zero. let ends = whole (inl zero) tells distinct in inr (ends.outcome, whole_first a old new ends.outcome ends.counts ends.trims))
-    (λ some. let took = line some in fits_left a told old new out status took.text took.fits other tells distinct)
+    → ((status ≡ 0) ⊎ (status ≡ 3) → IsTrue told → EndsWhole a old new out err status) → (status ≢ 0 → TookLine a told old new out err status)
+    → status ≢ 6 → IsTrue told → AreLeft a old new
+left_so a told old new out err status whole line other tells = ⊎_elim
+    (λ zero. let ends = whole (inl zero) tells in inr (ends.outcome, whole_first a old new ends.outcome ends.counts ends.trims))
+    (λ some. let took = line some in fits_left a told old new out status took.text took.fits other tells)
     (zero_or status)
 
 -- an option that is not `None` holds a value

@@ -17,7 +17,7 @@ use Rattle.fq_words.specs.Requests.{Asking, input_name}
 use Rattle.fq_job.specs.Judging.{wrong_with}
 use Rattle.fq_job.specs.Refusals.{status_of, line_of}
 use Rattle.fq_job.specs.Faults.{memory_words, settled, outcome_status, outcome_line}
-use Rattle.fq_job.specs.Trimming.{HasDistinctFiles, TrimsFiles}
+use Rattle.fq_job.specs.Trimming.{IsNoOutput, TrimsFiles}
 use Rattle.fq_job.specs.Leaving.{RefusalLeaves, ReportLeft, HoldFirstPairs, AreLeft, TellsInputs}
 use Rattle.fq_job.specs.Opening.{IsRefusable}
 use Rattle.fq_job.specs.Completing.{Failed, HasFailed, ReportFailed}
@@ -84,9 +84,9 @@ pub record IsRefusal (a : Asking) (tells : Bool)
   pub why : Refusal
   pub status_is : status_of why ≡ status
   pub text_is : line_of a why ≡ text
-  pub left : IsTrue tells → HasDistinctFiles a → RefusalLeaves a why old new
-  pub report_left : IsTrue tells → HasDistinctFiles a →
-      (name : List ℕ) → a.report ≡ Some name → ReportLeft why (old name) (new name)
+  pub left : IsTrue tells → RefusalLeaves a why old new
+  pub report_left : IsTrue tells → (name : List ℕ) →
+      a.report ≡ Some name → IsNoOutput a name → ReportLeft why (old name) (new name)
 
 -- an outcome of the run has this status and this line
 pub record IsEnding (a : Asking) (tells : Bool)
@@ -94,7 +94,7 @@ pub record IsEnding (a : Asking) (tells : Bool)
   pub outcome : Outcome
   pub status_is : outcome_status outcome ≡ status
   pub text_is : outcome_line outcome ≡ text
-  pub left : IsTrue tells → HasDistinctFiles a → outcome ≢ Lane → HoldFirstPairs a old new outcome
+  pub left : IsTrue tells → outcome ≢ Lane → HoldFirstPairs a old new outcome
   pub unreported : IsTrue tells → outcome_status outcome ≢ 0 →
       outcome_status outcome ≢ 3 → (name : List ℕ) → a.report ≡ Some name →
       new name ≡ Some []
@@ -105,7 +105,7 @@ pub record IsUnprinted (a : Asking) (tells : Bool)
   pub status_is : status ≡ 4
   pub failed : out.failures ≢ 0
   pub text_is : text ≡ print_line
-  pub left : IsTrue tells → HasDistinctFiles a →
+  pub left : IsTrue tells →
       (outcome : Outcome) × (counts : Counts)
       × (outcome_status outcome ≡ 0) × TrimsFiles a old new outcome counts
   pub reported : IsTrue tells → (name : List ℕ) → a.report ≡ Some name → HoldsReport a old new name
@@ -116,7 +116,7 @@ pub record IsUnreported (a : Asking) (tells : Bool)
     (old new : Holding) (status : ℕ) (text : List ℕ) : Type 0 where
   pub status_is : status ≡ 4
   pub text_is : text ≡ report_line
-  pub left : IsTrue tells → HasDistinctFiles a →
+  pub left : IsTrue tells →
       (outcome : Outcome) × (counts : Counts) × TrimsFiles a old new outcome counts
   pub begun : IsTrue tells → (name : List ℕ) → a.report ≡ Some name → BeginsReport a old new name
 
@@ -130,8 +130,8 @@ pub record IsUntold (a : Asking) (tells : Bool)
     (old new : Holding) (status : ℕ) (text : List ℕ) : Type 0 where
   pub status_is : status ≡ 5
   pub text_is : text ≡ memory_line
-  pub left : IsTrue tells → HasDistinctFiles a → AreLeft a old new
-  pub report_left : IsTrue tells → HasDistinctFiles a →
+  pub left : IsTrue tells → AreLeft a old new
+  pub report_left : IsTrue tells →
       (name : List ℕ) → a.report ≡ Some name → IsReportUncut a old new name
 
 -- standard error took the line of one of these, which has this status, and nothing else
@@ -209,15 +209,15 @@ IsReportLeft a old new name = ((new name ≡ old name) ⊎ (new name ≡ Some []
 pub record PairsAnswered (a : Asking) (told : Bool)
     (old new : Holding) (out err : Device) (status : ℕ) : Type 0 where
   pub whole : (status ≡ 0) ⊎ (status ≡ 3) → IsTrue told →
-      HasDistinctFiles a → EndsWhole a old new out err status
+      EndsWhole a old new out err status
   pub wrong : (why : Refusal) → wrong_with a ≡ Some why → Refuses a why err status
   pub right : status ≡ 2 → IsSome (wrong_with a)
   pub line : status ≢ 0 → TookLine a told old new out err status
   pub known : status ≢ 1
-  pub left : status ≢ 6 → IsTrue told → HasDistinctFiles a → AreLeft a old new
+  pub left : status ≢ 6 → IsTrue told → AreLeft a old new
   pub reported : (status ≡ 0) ⊎ (status ≡ 3) →
       IsTrue told → (name : List ℕ) → a.report ≡ Some name → HoldsReport a old new name
-  pub report_left : IsTrue told → HasDistinctFiles a →
+  pub report_left : IsTrue told →
       (name : List ℕ) → a.report ≡ Some name → IsReportLeft a old new name
   pub unopened : IsTrue told → (side : Side) →
       old (input_name a.inputs side) ≡ None → IsUnchanged old new

@@ -17,9 +17,9 @@ use Rattle.fq_serial.specs.Fates.{Fate, Unbroken, failed_outlet, block_begun, pa
 use Rattle.fq_job.specs.declared.refusal.Refusal.{Refusal}
 use Rattle.fq_job.specs.declared.refusal.Refusal.TheVariants as why
 use Rattle.fq_words.specs.Requests.{Asking, InputNames}
-use Rattle.fq_job.specs.Trimming.{TrimsFiles, pairs_of}
+use Rattle.fq_job.specs.Trimming.{IsNoOutput, TrimsFiles, pairs_of}
 use Rattle.fq_job.specs.Leaving.{AreUntrimmed, RefusalLeaves, ReportLeft, TellsInputs, is_early, is_late, IsTold, HoldFirstPairs}
-use Rattle.fq_job.proofs.MakingLemmas.{stops_untrimmed}
+use Rattle.fq_job.proofs.MakingLemmas.{output_or_none, stops_untrimmed}
 
 -- The outlets took the texts of the first pairs, whose block was written whole. If a write failed
 -- in the block after them, the outlets before the failed one took their texts of that block, the
@@ -111,7 +111,7 @@ leaves_since a (why.Target out) old mid new same left = ⊎_elim
     (λ stops. inl (record {
       before = stops.before;
       there = λ name named. unchanged_or_nothing (old name) (mid name) (new name) (same name) (stops.there name named);
-      behind = λ other name named behind. stops.behind other name named behind ∙ same name;
+      behind = λ name behind. stops.behind name behind ∙ same name;
     }))
     (λ kept. inr (λ name. kept name ∙ same name)) left
 leaves_since a why.SameReport old mid new same left = λ name. left name ∙ same name
@@ -141,7 +141,7 @@ whole_first a old new outcome counts trims =
       settings = trims.settings;
       forward_is = trims.forward_is;
       reverse_is = trims.reverse_is;
-      texts = λ out name named. trims.texts out name named ∙ ap Some (sym (append-nil (text_of out (texts_of trims.choices.steps all.mates))));
+      texts = λ out name own. trims.texts out name own ∙ ap Some (sym (append-nil (text_of out (texts_of trims.choices.steps all.mates))));
       cut_short = tt;
       first = ([], sym (append-nil (all.mates ++ []) ∙ append-nil all.mates));
       told = record {
@@ -172,7 +172,7 @@ report_refused refusal old new is left =
     ⊎_elim (λ report. subst P (sym report) left) (λ memory. subst P (sym memory) left) is
 
 -- what each refusal leaves in the file of the report
-pub left_or_nothing : (refusal : Refusal) (old new : Option (List ℕ)) → ReportLeft refusal old new → (new ≡ old) ⊎ (new ≡ Some [])
+left_or_nothing : (refusal : Refusal) (old new : Option (List ℕ)) → ReportLeft refusal old new → (new ≡ old) ⊎ (new ≡ Some [])
 left_or_nothing why.Encoding old new left = inl left
 left_or_nothing (why.Step fault) old new left = inl left
 left_or_nothing (why.Setting bad) old new left = inl left
@@ -182,3 +182,11 @@ left_or_nothing (why.Target out) old new left = inl left
 left_or_nothing why.SameReport old new left = inl left
 left_or_nothing why.Report old new left = left
 left_or_nothing why.Memory old new left = left
+
+-- a refusal leaves in the file of the report what it held before, or nothing
+pub report_untrimmed : (a : Asking) (refusal : Refusal) (old new : Holding) → RefusalLeaves a refusal old new → ((name : List ℕ) → a.report ≡ Some name → IsNoOutput a name → ReportLeft refusal (old name) (new name))
+    → (name : List ℕ) → a.report ≡ Some name → (new name ≡ old name) ⊎ (new name ≡ Some [])
+report_untrimmed a refusal old new left report_left name named = ⊎_elim
+    (λ output. refusal_untrimmed a refusal old new left output.0 name output.1)
+    (λ free. left_or_nothing refusal (old name) (new name) (report_left name named free))
+    (output_or_none a name)

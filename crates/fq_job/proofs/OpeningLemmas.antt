@@ -18,7 +18,7 @@ use Rattle.fq_job.specs.declared.refusal.Refusal.{Refusal}
 use Rattle.fq_job.specs.declared.refusal.Refusal.TheVariants as why
 use Rattle.fq_job.specs.Refusals.{status_of}
 use Rattle.fq_job.specs.Judging.{choices_of, judged, with_steps, with_encoding, settings_of, wrong_among, wrong_with}
-use Rattle.fq_job.specs.Trimming.{Opened, HasDistinctFiles, KeepsUnnamed, AreFed, IsEmptyOutlet}
+use Rattle.fq_job.specs.Trimming.{Opened, IsNoOutput, KeepsUnnamed, AreFed, IsEmptyOutlet}
 use Rattle.fq_job.specs.Leaving.{AreThere, RefusalLeaves, ReportLeft, is_late}
 use Rattle.fq_job.specs.Opening.{AreApart, IsMade, IsRefusable, IsRefused, IsUnopened, MayLead}
 use Rattle.fq_job.proofs.LeavingLemmas.{tells_late}
@@ -39,8 +39,8 @@ still_there inputs names old new fed keeps = (keeps names.forward (some_there _ 
 
 -- an output was refused, or the report
 pub refused_late : (a : Asking) (refusal : Refusal) (tells : Bool) (refuses opened : Names) (old new : Holding) (inputs : Opened) → IsTrue (is_late refusal) → status_of refusal ≢ 2 → IsRefusable a (MayLead a.inputs refuses opened) refusal
-    → (IsTrue tells → AreFed inputs a.inputs old) → (IsTrue tells → HasDistinctFiles a → RefusalLeaves a refusal old new)
-    → (IsTrue tells → HasDistinctFiles a → (name : List ℕ) → a.report ≡ Some name → ReportLeft refusal (old name) (new name)) → (IsTrue tells → KeepsUnnamed a old new) → IsUnopened a refusal tells refuses opened old new
+    → (IsTrue tells → AreFed inputs a.inputs old) → (IsTrue tells → RefusalLeaves a refusal old new)
+    → (IsTrue tells → (name : List ℕ) → a.report ≡ Some name → IsNoOutput a name → ReportLeft refusal (old name) (new name)) → (IsTrue tells → KeepsUnnamed a old new) → IsUnopened a refusal tells refuses opened old new
 refused_late a refusal tells refuses opened old new inputs behind late refused fed left report_left rest = record {
   late = late;
   refused = refused;
@@ -100,15 +100,15 @@ wrong_first a (Ok c) None false refusal is e = absurd (cc e)
 
 first_refused : (a : Asking) (refusal : Refusal) (tells : Bool) (refuses opened : Names) (files : Holding) → IsTrue (is_first refusal) → IsRefused a refusal tells refuses opened files files
 unfolding is_first
-first_refused a why.Encoding tells refuses opened files first = record { refused = tt; inputs = λ told. tt; left = λ told distinct name. refl; report_left = λ told distinct name named. refl }
-first_refused a (why.Step fault) tells refuses opened files first = record { refused = tt; inputs = λ told. tt; left = λ told distinct name. refl; report_left = λ told distinct name named. refl }
-first_refused a (why.Setting bad) tells refuses opened files first = record { refused = tt; inputs = λ told. tt; left = λ told distinct name. refl; report_left = λ told distinct name named. refl }
-first_refused a (why.SameName out) tells refuses opened files first = record { refused = tt; inputs = λ told. tt; left = λ told distinct name. refl; report_left = λ told distinct name named. refl }
+first_refused a why.Encoding tells refuses opened files first = record { refused = tt; inputs = λ told. tt; left = λ told name. refl; report_left = λ told name named free. refl }
+first_refused a (why.Step fault) tells refuses opened files first = record { refused = tt; inputs = λ told. tt; left = λ told name. refl; report_left = λ told name named free. refl }
+first_refused a (why.Setting bad) tells refuses opened files first = record { refused = tt; inputs = λ told. tt; left = λ told name. refl; report_left = λ told name named free. refl }
+first_refused a (why.SameName out) tells refuses opened files first = record { refused = tt; inputs = λ told. tt; left = λ told name. refl; report_left = λ told name named free. refl }
 first_refused a (why.Source side) tells refuses opened files first = absurd (cc first)
 first_refused a (why.Target out) tells refuses opened files first = absurd (cc first)
-first_refused a why.SameReport tells refuses opened files first = record { refused = tt; inputs = λ told. tt; left = λ told distinct name. refl; report_left = λ told distinct name named. refl }
+first_refused a why.SameReport tells refuses opened files first = record { refused = tt; inputs = λ told. tt; left = λ told name. refl; report_left = λ told name named free. refl }
 first_refused a why.Report tells refuses opened files first = absurd (cc first)
-first_refused a why.Memory tells refuses opened files first = record { refused = tt; inputs = λ told. tt; left = λ told distinct out name named. inl refl; report_left = λ told distinct name named. inl refl }
+first_refused a why.Memory tells refuses opened files first = record { refused = tt; inputs = λ told. tt; left = λ told out name named. inl refl; report_left = λ told name named free. inl refl }
 
 -- the request was wrong
 pub wrong_refused : (a : Asking) (refusal : Refusal) (tells : Bool) (refuses opened : Names) (files : Holding) → wrong_with a ≡ Some refusal → IsRefused a refusal tells refuses opened files files

@@ -6,14 +6,15 @@ use Rattle.fq_files.specs.Holding.{Holding, KeepsOthers}
 use Rattle.fq_text.specs.Devices.{OutletState}
 use Rattle.fq_serial.specs.Devices.{OutletStates, outlet_at, place}
 use Rattle.fq_words.specs.Requests.{Asking, output_name}
-use Rattle.fq_job.specs.Trimming.{HasDistinctOutputs}
+use Rattle.fq_job.specs.Trimming.{HasOwnName}
 use Rattle.fq_job.specs.Making.{HoldFirst, Stored}
 use Rattle.fq_job.proofs.RestLemmas.{rest_of, then_rest}
 
--- the file of each output holds what its outlet has taken, if the outlet's bytes are known
+-- the file of each output that has a name of its own holds what its outlet has taken, if the
+-- outlet's bytes are known
 abbrev pub HoldTaken : Asking → OutletStates → Holding → Type 0
 HoldTaken a outlets files = (out : Out) (name : List ℕ) (outlet : OutletState) →
-    output_name a out ≡ Some name → outlet_at out outlets ≡ Some outlet →
+    HasOwnName a out name → outlet_at out outlets ≡ Some outlet →
     IsTrue outlet.tells → files name ≡ Some outlet.taken
 
 -- the output at a place
@@ -42,17 +43,17 @@ pub below_next : (m n : ℕ) → m < suc n → (m < n) ⊎ (m ≡ n)
 below_next m n h = grind arith
 
 pub none_stored : (a : Asking) (states : OutletStates) (files : Holding) (tells : Bool) → Stored a files states 0 tells files
-none_stored a states files tells told = record { rest = λ name free. refl; hold = λ distinct out name outlet h. absurd (omega arith) }
+none_stored a states files tells told = record { rest = λ name free. refl; hold = λ out name outlet h. absurd (omega arith) }
 
-module _ (a : Asking) (distinct : HasDistinctOutputs a) (states : OutletStates) (old new : Holding) where
+module _ (a : Asking) (states : OutletStates) (old new : Holding) where
   -- one more outlet has been handed back
   next_first : (this : Out) (name : List ℕ) (outlet : OutletState) → output_name a this ≡ Some name → outlet_at this states ≡ Some outlet →
       HoldFirst (place this) a states old → (IsTrue outlet.tells → new name ≡ Some outlet.taken) → KeepsOthers old new name → HoldFirst (suc (place this)) a states new
-  next_first this name outlet named at first stored others = λ out n o below out_named out_at_is tells. ⊎_elim
-      (λ before. others n (λ same. let is : out ≡ this = distinct out this n out_named (named ∙ ap Some (sym same)) in
-      let equal : place out ≡ place this = ap place is in absurd (omega arith)) ∙ first out n o before out_named out_at_is tells)
+  next_first this name outlet named at first stored others = λ out n o below own out_at_is tells. ⊎_elim
+      (λ before. others n (λ same. let is : this ≡ out = own.outputs this (named ∙ ap Some (sym same)) in
+      let equal : place this ≡ place out = ap place is in absurd (omega arith)) ∙ first out n o before own out_at_is tells)
       (λ equal. let is : out ≡ this = same_place out this equal in
-      let same_name : Some n ≡ Some name = sym out_named ∙ (ap (output_name a) is ∙ named) in
+      let same_name : Some n ≡ Some name = sym own.named ∙ (ap (output_name a) is ∙ named) in
       let same_outlet : Some o ≡ Some outlet = sym out_at_is ∙ (ap (λ (x : Out). outlet_at x states) is ∙ at) in
       let n_is : n ≡ name = cc in
       let o_is : o ≡ outlet = cc in
@@ -68,20 +69,20 @@ one_stored a start states this name outlet old new told_old told_new named at to
     let before = subst IsTrue told_is told in
     record {
       rest = then_rest a start old new (first before).rest (rest_of a this name old new named (others before));
-      hold = λ distinct. next_first a distinct states old new this name outlet named at ((first before).hold distinct) (kept before) (others before);
+      hold = next_first a states old new this name outlet named at (first before).hold (kept before) (others before);
     }
 
 -- without a log, all outlets are handed back after the fourth
 pub no_log_stored : (a : Asking) (start : Holding) (states : OutletStates) (files : Holding) (tells : Bool)
     → ((name : List ℕ) (outlet : OutletState) → output_name a Log ≡ Some name → outlet_at Log states ≡ Some outlet → ⊥) → Stored a start states 4 tells files → Stored a start states 5 tells files
-no_log_stored a start states files tells none stored told = record { rest = (stored told).rest; hold = λ distinct. five ((stored told).hold distinct) }
+no_log_stored a start states files tells none stored told = record { rest = (stored told).rest; hold = five (stored told).hold }
   where
     five : HoldFirst 4 a states files → HoldFirst 5 a states files
     five first ForwardPaired name outlet below = first ForwardPaired name outlet (omega arith)
     five first ForwardUnpaired name outlet below = first ForwardUnpaired name outlet (omega arith)
     five first ReversePaired name outlet below = first ReversePaired name outlet (omega arith)
     five first ReverseUnpaired name outlet below = first ReverseUnpaired name outlet (omega arith)
-    five first Log name outlet below = λ named at told. absurd (none name outlet named at)
+    five first Log name outlet below = λ own at told. absurd (none name outlet own.named at)
 
 -- all five outlets have been handed back
 pub all_hold : (a : Asking) (states : OutletStates) (files : Holding) → HoldFirst 5 a states files → HoldTaken a states files

@@ -5,8 +5,8 @@ use Rattle.fq_pair.specs.declared.out.Out.TheVariants.{ForwardPaired, ForwardUnp
 use Rattle.fq_files.specs.Holding.{Holding}
 use Rattle.fq_text.specs.Devices.{OutletState}
 use Rattle.fq_serial.specs.Devices.{OutletStates, TookText, Took, OutletsTook, failures_at}
-use Rattle.fq_words.specs.Requests.{Asking, output_name}
-use Rattle.fq_job.specs.Trimming.{AreEmpty, IsEmptyOutlet}
+use Rattle.fq_words.specs.Requests.{Asking}
+use Rattle.fq_job.specs.Trimming.{AreEmpty, HasOwnName, IsEmptyOutlet}
 use Rattle.fq_job.proofs.StoreLemmas.{HoldTaken}
 
 -- an outlet that has taken this text and nothing else
@@ -32,19 +32,19 @@ there_is l name e = ap is_some e
 
 module _ (a : Asking) (old new : OutletStates) (texts : Out → List ℕ) (failed : Option Out) (files : Holding) where
   pub texts_held : is_some old.log ≡ is_some a.log → AreEmpty old → OutletsTook old new texts failed → HoldTaken a new files →
-      (out : Out) (name : List ℕ) → output_name a out ≡ Some name → files name ≡ Some (texts out)
-  texts_held log empty took holds ForwardPaired name named =
+      (out : Out) (name : List ℕ) → HasOwnName a out name → files name ≡ Some (texts out)
+  texts_held log empty took holds ForwardPaired name own =
       let t = text_in old.forward_paired new.forward_paired (texts ForwardPaired) (failures_at failed ForwardPaired) (empty ForwardPaired old.forward_paired refl) (took ForwardPaired) in
-      holds ForwardPaired name new.forward_paired named refl t.tells ∙ ap Some t.taken
-  texts_held log empty took holds ForwardUnpaired name named =
+      holds ForwardPaired name new.forward_paired own refl t.tells ∙ ap Some t.taken
+  texts_held log empty took holds ForwardUnpaired name own =
       let t = text_in old.forward_unpaired new.forward_unpaired (texts ForwardUnpaired) (failures_at failed ForwardUnpaired) (empty ForwardUnpaired old.forward_unpaired refl) (took ForwardUnpaired) in
-      holds ForwardUnpaired name new.forward_unpaired named refl t.tells ∙ ap Some t.taken
-  texts_held log empty took holds ReversePaired name named =
+      holds ForwardUnpaired name new.forward_unpaired own refl t.tells ∙ ap Some t.taken
+  texts_held log empty took holds ReversePaired name own =
       let t = text_in old.reverse_paired new.reverse_paired (texts ReversePaired) (failures_at failed ReversePaired) (empty ReversePaired old.reverse_paired refl) (took ReversePaired) in
-      holds ReversePaired name new.reverse_paired named refl t.tells ∙ ap Some t.taken
-  texts_held log empty took holds ReverseUnpaired name named =
+      holds ReversePaired name new.reverse_paired own refl t.tells ∙ ap Some t.taken
+  texts_held log empty took holds ReverseUnpaired name own =
       let t = text_in old.reverse_unpaired new.reverse_unpaired (texts ReverseUnpaired) (failures_at failed ReverseUnpaired) (empty ReverseUnpaired old.reverse_unpaired refl) (took ReverseUnpaired) in
-      holds ReverseUnpaired name new.reverse_unpaired named refl t.tells ∙ ap Some t.taken
-  texts_held log empty took holds Log name named =
-      let t = found_in old.log new.log (texts Log) (failures_at failed Log) (empty Log) (log ∙ there_is a.log name named) (took Log) in
-      holds Log name t.0 named t.1 t.2.tells ∙ ap Some t.2.taken
+      holds ReverseUnpaired name new.reverse_unpaired own refl t.tells ∙ ap Some t.taken
+  texts_held log empty took holds Log name own =
+      let t = found_in old.log new.log (texts Log) (failures_at failed Log) (empty Log) (log ∙ there_is a.log name own.named) (took Log) in
+      holds Log name t.0 own t.1 t.2.tells ∙ ap Some t.2.taken

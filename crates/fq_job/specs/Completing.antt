@@ -14,7 +14,7 @@ use Rattle.fq_serial.specs.Endings.{ends_whole, failures_in}
 use Rattle.fq_words.specs.Requests.{Asking, InputNames, input_name, output_name}
 use Rattle.fq_job.specs.Faults.{settled, outcome_status}
 use Rattle.fq_job.specs.Judging.{settings_of}
-use Rattle.fq_job.specs.Trimming.{HasDistinctFiles, KeepsUnnamed, TrimsFiles}
+use Rattle.fq_job.specs.Trimming.{KeepsUnnamed, TrimsFiles}
 use Rattle.fq_job.specs.Leaving.{HoldFirstPairs}
 use Rattle.fq_job.specs.Reporting.{ReportHeld}
 use Rattle.fq_job.specs.declared.reporting.Reported.{Reported}
@@ -72,11 +72,11 @@ pub record IsCompleted (a : Asking) (tells : Bool)
     (old new : Holding) (failed_old failed_new unflushed_old unflushed_new : Failed)
     (outcome : Outcome) (counts : Counts) (reported : Reported) : Type 0 where
   -- If it ended whole, all pairs were trimmed.
-  pub trims : IsTrue tells → HasDistinctFiles a →
+  pub trims : IsTrue tells →
       IsTrue (ends_whole outcome) → TrimsFiles a old new outcome counts
   -- At every ending except an unconfirmed lane, the files of the outputs hold the texts of the
   -- first pairs.
-  pub ended : IsTrue tells → HasDistinctFiles a → outcome ≢ Lane → HoldFirstPairs a old new outcome
+  pub ended : IsTrue tells → outcome ≢ Lane → HoldFirstPairs a old new outcome
   pub rest : IsTrue tells → KeepsUnnamed a old new
   -- If the run ended whole, the report covers the pairs of the inputs; at other endings its file is
   -- empty.

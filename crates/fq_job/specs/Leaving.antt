@@ -16,7 +16,7 @@ use Rattle.fq_job.specs.declared.refusal.Refusal.{Refusal}
 use Rattle.fq_job.specs.declared.refusal.Refusal.TheVariants as why
 use Rattle.fq_words.specs.Requests.{Asking, InputNames, output_name}
 use Rattle.fq_job.specs.Judging.{settings_of}
-use Rattle.fq_job.specs.Trimming.{pairs_of}
+use Rattle.fq_job.specs.Trimming.{HasOwnName, pairs_of}
 
 -- If trimming had begun.
 
@@ -27,9 +27,9 @@ pub record IsTold (whole : List Mates) (fate : Fate) (ended : Outcome) : Type 0 
   pub write : (out : Out) → ended ≡ outcome.Write out → failed_outlet fate ≡ Some out
   pub outlet_failed : (out : Out) → failed_outlet fate ≡ Some out → rank ended ≤ 5
 
--- Each file of the outputs holds a first part of the text that is defined for the bytes of the
--- inputs and for the settings. All hold the same pairs, except in the block in which a write
--- failed.
+-- The file of each output that has a name of its own holds a first part of the text that is defined
+-- for the bytes of the inputs and for the settings. All hold the same pairs, except in the block in
+-- which a write failed.
 pub record HoldFirstPairs (a : Asking) (old new : Holding) (ended : Outcome) : Type 0 where
   pub choices : Choices
   pub forward : List ℕ
@@ -39,7 +39,7 @@ pub record HoldFirstPairs (a : Asking) (old new : Holding) (ended : Outcome) : T
   pub settings : settings_of a ≡ Ok choices
   pub forward_is : old a.inputs.forward ≡ Some forward
   pub reverse_is : old a.inputs.reverse ≡ Some reverse
-  pub texts : (out : Out) (name : List ℕ) → output_name a out ≡ Some name →
+  pub texts : (out : Out) (name : List ℕ) → HasOwnName a out name →
       new name ≡ Some (text_of out (texts_of choices.steps whole)
       ++ part_begun choices.steps fate out)
   pub cut_short : IsCutShort choices.block_pairs choices.steps fate
@@ -54,14 +54,15 @@ abbrev pub AreUntrimmed : Asking → Holding → Holding → Type 0
 AreUntrimmed a old new = (out : Out) (name : List ℕ) →
     output_name a out ≡ Some name → (new name ≡ old name) ⊎ (new name ≡ Some [])
 
--- an output could not be made: those before it are empty, and those after it hold what they held
+-- an output could not be made: those before it are empty, and a name that only those after it have,
+-- or none, holds what it held
 pub record StopsAt (a : Asking) (out : Out) (old new : Holding) : Type 0 where
   pub before : (other : Out) (name : List ℕ) →
       output_name a other ≡ Some name → place other < place out → new name ≡ Some []
   pub there : (name : List ℕ) → output_name a out ≡ Some name →
       (new name ≡ old name) ⊎ (new name ≡ Some [])
-  pub behind : (other : Out) (name : List ℕ) →
-      output_name a other ≡ Some name → place out < place other → new name ≡ old name
+  pub behind : (name : List ℕ) → ((other : Out) →
+      output_name a other ≡ Some name → place out < place other) → new name ≡ old name
 
 -- the outputs are empty
 abbrev pub AreEmptied : Asking → Holding → Type 0

@@ -9,7 +9,7 @@ use Rattle.fq_words.specs.Requests.{Asking, InputNames, input_name, is_input, ou
 use Rattle.fq_job.specs.declared.refusal.Refusal.{Refusal}
 use Rattle.fq_job.specs.declared.refusal.Refusal.TheVariants as why
 use Rattle.fq_job.specs.Refusals.{status_of}
-use Rattle.fq_job.specs.Trimming.{Opened, HasDistinctFiles, KeepsUnnamed, AreFresh, AreFed, AreEmpty, IsEmptyOutlet, AreHeld}
+use Rattle.fq_job.specs.Trimming.{Opened, IsNoOutput, KeepsUnnamed, AreFresh, AreFed, AreEmpty, IsEmptyOutlet, AreHeld}
 use Rattle.fq_job.specs.Leaving.{AreThere, TellsInputs, RefusalLeaves, ReportLeft}
 
 -- Everything that a run needs is open: no device has failed and the names exist. If the bytes of
@@ -66,9 +66,9 @@ pub record IsRefused (a : Asking) (why : Refusal)
     (tells : Bool) (refuses opened : Names) (old new : Holding) : Type 0 where
   pub refused : IsRefusable a (MayRefuse refuses opened) why
   pub inputs : IsTrue tells → TellsInputs a.inputs why old refuses opened
-  pub left : IsTrue tells → HasDistinctFiles a → RefusalLeaves a why old new
-  pub report_left : IsTrue tells → HasDistinctFiles a →
-      (name : List ℕ) → a.report ≡ Some name → ReportLeft why (old name) (new name)
+  pub left : IsTrue tells → RefusalLeaves a why old new
+  pub report_left : IsTrue tells → (name : List ℕ) →
+      a.report ≡ Some name → IsNoOutput a name → ReportLeft why (old name) (new name)
 
 -- A file or memory was refused after the request was checked.
 pub record IsUnopened (a : Asking) (why : Refusal)
@@ -76,9 +76,9 @@ pub record IsUnopened (a : Asking) (why : Refusal)
   pub late : status_of why ≢ 2
   pub refused : IsRefusable a (MayLead a.inputs refuses opened) why
   pub inputs : IsTrue tells → TellsInputs a.inputs why old refuses opened
-  pub left : IsTrue tells → HasDistinctFiles a → RefusalLeaves a why old new
-  pub report_left : IsTrue tells → HasDistinctFiles a →
-      (name : List ℕ) → a.report ≡ Some name → ReportLeft why (old name) (new name)
+  pub left : IsTrue tells → RefusalLeaves a why old new
+  pub report_left : IsTrue tells → (name : List ℕ) →
+      a.report ≡ Some name → IsNoOutput a name → ReportLeft why (old name) (new name)
   pub rest : IsTrue tells → KeepsUnnamed a old new
   pub unopened : IsTrue tells → (side : Side) →
       old (input_name a.inputs side) ≡ None → IsUnchanged old new

@@ -20,24 +20,24 @@ use Rattle.fq_job.specs.declared.account.Account.{Account}
 use Rattle.fq_job.specs.declared.feeds.Feeds.{Feeds}
 use Rattle.fq_job.specs.declared.feeds.Feeds.TheVariants.{Apart, Interleaved}
 
--- no two outputs have one name
-abbrev pub HasDistinctOutputs : Asking → Type 0
-HasDistinctOutputs a = (one other : Out) (name : List ℕ) →
-    output_name a one ≡ Some name → output_name a other ≡ Some name → one ≡ other
+-- this is the name of this output, and of no other file that is made: neither of another output nor
+-- of the report
+pub record HasOwnName (a : Asking) (out : Out) (name : List ℕ) : Type 0 where
+  pub named : output_name a out ≡ Some name
+  pub outputs : (other : Out) → output_name a other ≡ Some name → other ≡ out
+  pub report : a.report ≢ Some name
 
--- no two files that are made (outputs, report) have one name
-pub record HasDistinctFiles (a : Asking) : Type 0 where
-  pub outputs : HasDistinctOutputs a
-  pub report : (out : Out) (name : List ℕ) → output_name a out ≡ Some name → a.report ≢ Some name
+-- no output has this name
+abbrev pub IsNoOutput : Asking → List ℕ → Type 0
+IsNoOutput a name = (out : Out) → output_name a out ≢ Some name
 
 -- each name that is not an output's holds what it held before
 abbrev pub KeepsRest : Asking → Holding → Holding → Type 0
-KeepsRest a old new = (name : List ℕ) → ((out : Out) → output_name a out ≢ Some name) →
-    new name ≡ old name
+KeepsRest a old new = (name : List ℕ) → IsNoOutput a name → new name ≡ old name
 
 -- each name that is neither an output's nor the report's holds what it held before
 abbrev pub KeepsUnnamed : Asking → Holding → Holding → Type 0
-KeepsUnnamed a old new = (name : List ℕ) → ((out : Out) → output_name a out ≢ Some name) →
+KeepsUnnamed a old new = (name : List ℕ) → IsNoOutput a name →
     a.report ≢ Some name → new name ≡ old name
 
 -- the file of each output exists
@@ -118,9 +118,9 @@ pub record TrimsPairs (c : Choices) (all : Pairs)
   pub counts_are : counts ≡ counts_of c.steps all.mates
   pub outcome_is : outcome ≡ trimmed_outcome all.fault
 
--- The pairs of the inputs were trimmed one after the other. The files of the outputs hold the texts
--- that are defined for the bytes of the inputs and for the settings, and the counts and the outcome
--- are the defined ones.
+-- The pairs of the inputs were trimmed one after the other. The file of each output that has a name
+-- of its own holds the text that is defined for the bytes of the inputs and for the settings, and
+-- the counts and the outcome are the defined ones.
 pub record TrimsFiles (a : Asking) (old new : Holding)
     (outcome : Outcome) (counts : Counts) : Type 0 where
   pub choices : Choices
@@ -129,7 +129,7 @@ pub record TrimsFiles (a : Asking) (old new : Holding)
   pub settings : settings_of a ≡ Ok choices
   pub forward_is : old a.inputs.forward ≡ Some forward
   pub reverse_is : old a.inputs.reverse ≡ Some reverse
-  pub texts : (out : Out) (name : List ℕ) → output_name a out ≡ Some name →
+  pub texts : (out : Out) (name : List ℕ) → HasOwnName a out name →
       new name ≡ Some (text_of out
       (texts_of choices.steps (pairs_of choices a.inputs.form forward reverse).mates))
   pub counts_are : counts ≡ counts_of choices.steps

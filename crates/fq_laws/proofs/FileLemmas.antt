@@ -39,8 +39,8 @@ complete None done = refl
 complete (Some fault) done = absurd (faulty fault done)
 
 pub whole_files : WholeFilesAreInStep
-whole_files a told old new out err status answered whole tells distinct =
-    let ends = answered.whole whole tells distinct in
+whole_files a told old new out err status answered whole tells =
+    let ends = answered.whole whole tells in
     let trims = ends.trims in
     let c = trims.choices in
     let ms = (pairs_of c a.inputs.form trims.forward trims.reverse).mates in
@@ -63,7 +63,7 @@ whole_files a told old new out err status answered whole tells distinct =
     }
 
 pub files_left : FilesLeftAreInStep
-files_left a told old new out err status answered threads tells distinct = ⊎_elim
+files_left a told old new out err status answered threads tells = ⊎_elim
     (λ untrimmed. inl untrimmed)
     (λ ended.
     let held = ended.1 in
@@ -86,4 +86,4 @@ files_left a told old new out err status answered threads tells distinct = ⊎_e
       held = held.texts;
       in_step = texts_are_in_step c.check_names c.steps c.encoding held.whole (first_are_pairs (IsPairIn c.check_names c.encoding) held.whole all first are);
     }))
-    (answered.left threads tells distinct)
+    (answered.left threads tells)

@@ -9,17 +9,17 @@ use Rattle.fq_pair.specs.Summaries.{summary_of}
 use Rattle.fq_serial.specs.Choices.{Choices}
 use Rattle.fq_serial.specs.Endings.{AreFirst}
 use Rattle.fq_serial.specs.Fates.{Fate, part_begun}
-use Rattle.fq_words.specs.Requests.{Asking, output_name}
+use Rattle.fq_words.specs.Requests.{Asking}
 use Rattle.fq_job.specs.Judging.{settings_of}
-use Rattle.fq_job.specs.Trimming.{HasDistinctFiles, pairs_of}
+use Rattle.fq_job.specs.Trimming.{HasOwnName, pairs_of}
 use Rattle.fq_job.specs.Leaving.{AreUntrimmed}
 use Rattle.fq_command.specs.Answers.{Device, TookPart, PairsAnswered}
 use Rattle.fq_in_step.specs.InStep.{AreInStep}
 
--- the files of the outputs hold these texts
+-- the files of the outputs that have a name of their own hold these texts
 abbrev pub HoldTexts : Asking → Holding → (Out → List ℕ) → Type 0
 HoldTexts a files texts = (out : Out) (name : List ℕ) →
-    output_name a out ≡ Some name → files name ≡ Some (texts out)
+    HasOwnName a out name → files name ≡ Some (texts out)
 
 -- At status 0 and 3.
 
@@ -42,12 +42,12 @@ pub record FilesAreInStep (a : Asking)
   pub in_step : AreInStep choices.check_names choices.steps
       choices.encoding (pairs_of choices a.inputs.form forward reverse).mates counts texts
 
--- the files are in step, if their bytes are known and those that are made have different names
+-- the files are in step, if their bytes are known
 abbrev pub WholeFilesAreInStep : Type 0
 WholeFilesAreInStep =
     (a : Asking) (told : Bool) (old new : Holding) (out err : Device) (status : ℕ) →
     PairsAnswered a told old new out err status →
-    (status ≡ 0) ⊎ (status ≡ 3) → IsTrue told → HasDistinctFiles a →
+    (status ≡ 0) ⊎ (status ≡ 3) → IsTrue told →
     FilesAreInStep a old new out status
 
 -- At every status except 6.
@@ -75,4 +75,4 @@ abbrev pub FilesLeftAreInStep : Type 0
 FilesLeftAreInStep =
     (a : Asking) (told : Bool) (old new : Holding) (out err : Device) (status : ℕ) →
     PairsAnswered a told old new out err status → status ≢ 6 →
-    IsTrue told → HasDistinctFiles a → AreUntrimmed a old new ⊎ FilesAreInStepUpTo a old new
+    IsTrue told → AreUntrimmed a old new ⊎ FilesAreInStepUpTo a old new

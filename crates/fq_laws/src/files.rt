@@ -1,5 +1,5 @@
 //! Laws of the files that the program leaves. They hold for files whose bytes are known to the
-//! proof, if the files that are made have different names.
+//! proof, and speak of each output that no other file of the run has the name of.
 
 ghost use Rattle.fq_laws.specs.Files.{WholeFilesAreInStep, FilesLeftAreInStep};
 

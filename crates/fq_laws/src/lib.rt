@@ -3,12 +3,12 @@
 //!
 //! Each function of this crate except [`program_in_step`] has no parameters and does nothing. Its
 //! contract is a law about the definitions that the contracts of the other crates use, so it holds
-//! for every run. [`program_in_step`] is the whole program, with the laws of files as its own
-//! clauses. The laws have only these premises, beside those of `fq_in_step`:
+//! for every run. [`program_in_step`] is the whole program, with all its clauses and the laws of
+//! files. The laws have only these premises, beside those of `fq_in_step`:
 //!
 //! - The bytes of outlets are known to the proof, as those of memory are, and outlets begin empty.
 //!   For endings that aren't whole, the bytes of feeds are known, too. The bytes of files are
-//!   known, and the files that are made have different names.
+//!   known, and an output's file has a name of its own.
 #![tactic(auto)]
 
 mod files;

@@ -37,7 +37,7 @@ returns-in-Err-clause-pairs g c = λ a asked.
     let memory : kind_of c.in-Err.error ≡ OutOfMemory = ⊎_elim (λ e. e) (λ none. absurd none) (subst P asked.parse c.in-Err.ensures.err) in
     let five = c.refuse_words.ensures.no_memory memory in
     lacks_answer a _ _ _ _ _ _ (c.refuse_words.ensures.memory five).1
-    (λ told distinct. inl (λ out name named. inl refl)) (λ told distinct name named. inl (inl refl)) (λ told side none name. refl)
+    (λ told. inl (λ out name named. inl refl)) (λ told name named. inl (inl refl)) (λ told side none name. refl)
 
 pub returns-in-Err-clause-usage : goal.returns-in-Err-clause-usage
 returns-in-Err-clause-usage g c = λ refused. ⊎_elim (λ memory. inr (c.refuse_words.ensures.no_memory memory))

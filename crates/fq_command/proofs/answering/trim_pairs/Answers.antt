@@ -1,7 +1,6 @@
 use Rattle.std.proofs.Common.{◌≡◌, ◌≢◌, ◌⊎◌, IsTrue, inl, subst, sym, arith}
 use Rattle.fq_job.specs.Faults.{outcome_status}
 use Rattle.fq_command.specs.Answers.{device_of, TookLine, EndsWhole}
-use Rattle.fq_job.specs.Trimming.{HasDistinctFiles}
 use Rattle.fq_words.specs.Requests.{asking_of}
 use Rattle.fq_job.specs.Judging.{wrong_with}
 use Rattle.fq_job.proofs.EndingLemmas.{ends_so}
@@ -22,13 +21,13 @@ returns-in-Ok-clause-pairs g c =
     } in
     let line : c.tell.result ≢ 0 → TookLine a _ _ _ _ _ c.tell.result =
     λ some. told_line a _ _ _ account.outcome account.counts reported run _ _ _ (c.tell.ensures.line some) in
-    let whole : (c.tell.result ≡ 0) ⊎ (c.tell.result ≡ 3) → IsTrue (g.T.Files.tells_bytes c.args.files.now) → HasDistinctFiles a → EndsWhole a _ _ _ _ c.tell.result =
-    λ ends told distinct.
+    let whole : (c.tell.result ≡ 0) ⊎ (c.tell.result ≡ 3) → IsTrue (g.T.Files.tells_bytes c.args.files.now) → EndsWhole a _ _ _ _ c.tell.result =
+    λ ends told.
     let status = c.tell.ensures.whole ends in
     record {
       outcome = account.outcome;
       counts = account.counts;
-      trims = c.in-Ok.ensures.completed.trims told distinct (ends_so account.outcome c.tell.result status ends);
+      trims = c.in-Ok.ensures.completed.trims told (ends_so account.outcome c.tell.result status ends);
       status_is = status;
       printed = c.tell.ensures.printed ends;
       told = c.tell.ensures.told ends;
@@ -43,7 +42,7 @@ returns-in-Ok-clause-pairs g c =
       reported = λ ends told name named.
           let is : (outcome_status account.outcome ≡ 0) ⊎ (outcome_status account.outcome ≡ 3) = subst (λ n. (n ≡ 0) ⊎ (n ≡ 3)) (sym (c.tell.ensures.whole ends)) ends in
           is_held a _ _ _ account.outcome account.counts reported run (c.tell.ensures.reported ends) is told name named;
-      report_left = λ told distinct name named. is_left a _ _ name reported (c.in-Ok.ensures.completed.report told name named);
+      report_left = λ told name named. is_left a _ _ name reported (c.in-Ok.ensures.completed.report told name named);
       unopened = c.in-Ok.ensures.unopened;
     }
 

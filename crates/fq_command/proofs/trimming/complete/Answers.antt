@@ -3,7 +3,7 @@ use Rattle.fq_pair.specs.declared.side.Side.TheVariants.{Forward, Reverse}
 use Rattle.fq_run.specs.Devices.{outlet_states}
 use Rattle.fq_run.specs.Endings.{AreTold}
 use Rattle.fq_words.specs.Requests.{asking_of}
-use Rattle.fq_job.specs.Trimming.{HasDistinctFiles, opened_of, left_of, run_in}
+use Rattle.fq_job.specs.Trimming.{opened_of, left_of, run_in}
 use Rattle.fq_job.proofs.MakingLemmas.{along}
 use Rattle.fq_job.proofs.StoreLemmas.{all_hold}
 use Rattle.fq_job.proofs.EndingLemmas.{ends_so}
@@ -36,7 +36,7 @@ returns g c = record {
       let stored = c.store.ensures in
       let reported = c.store_report-reported.ensures in
       let are_told : IsTrue told_0 → AreTold run = λ told. record { forward = (opened.fed told).forward.told; reverse = (opened.fed told).reverse.told } in
-      let held : IsTrue told_0 → HasDistinctFiles a → IsHeld a choices start (g.T.Files.bytes_of c.store_report-reported.new.files) run = λ told distinct.
+      let held : IsTrue told_0 → IsHeld a choices start (g.T.Files.bytes_of c.store_report-reported.new.files) run = λ told.
       let told_2 = along _ _ stored.told (along _ _ done.told told) in
       record {
         settings = settings;
@@ -46,12 +46,12 @@ returns g c = record {
         reverse_is = (opened.fed told).reverse.bytes_are;
         log = opened.ready.log;
         empty = opened.ready.empty told;
-        hold = λ out name outlet named at tells. reported.others told_2 name (distinct.report out name named)
-            ∙ all_hold a after _ ((stored.stored told_2).hold distinct.outputs) out name outlet named at tells;
+        hold = λ out name outlet own at tells. reported.others told_2 name own.report
+            ∙ all_hold a after _ (stored.stored told_2).hold out name outlet own at tells;
       } in
       record {
-        trims = λ told distinct whole. trims_files a choices _ _ run (held told distinct) (c.run-account.ensures.whole whole (are_told told));
-        ended = λ told distinct other. first_pairs a choices _ _ run (held told distinct) (c.run-account.ensures.every other);
+        trims = λ told whole. trims_files a choices _ _ run (held told) (c.run-account.ensures.whole whole (are_told told));
+        ended = λ told other. first_pairs a choices _ _ run (held told) (c.run-account.ensures.every other);
         rest = λ told name free other.
             let told_2 = along _ _ stored.told (along _ _ done.told told) in
             reported.others told_2 name other ∙ ((stored.stored told_2).rest name free ∙ (done.unchanged told name ∙ opened.rest told name free other));

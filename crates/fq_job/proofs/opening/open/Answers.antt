@@ -4,7 +4,7 @@ use Rattle.fq_files.specs.Holding.{Names}
 use Rattle.fq_words.specs.Requests.{asking_of}
 use Rattle.fq_job.specs.Trimming.{opened_of}
 use Rattle.fq_job.proofs.LeavingLemmas.{leaves_since, report_behind, report_refused, unchanged_or_nothing}
-use Rattle.fq_job.proofs.MakingLemmas.{along, five_empty, five_held, report_unmade}
+use Rattle.fq_job.proofs.MakingLemmas.{along, five_empty, five_held, report_unmade, rest_made, still_empty}
 use Rattle.fq_job.proofs.OpeningLemmas.{leads_nowhere, empty_map, fresh_map, is_some_map, late_status, refusable_since, refused_late, report_late, still_there}
 use Rattle.fq_job.proofs.opening.open.Goals as goal
 
@@ -16,9 +16,9 @@ returns-in_err-outlets-clause-unopened g c =
     let outputs = c.in_err-outlets.ensures in
     rw (p.1, p.2) (refused_late a _ _ _ _ _ _ (opened_of g.T.In.Feed.state c.in_ok-feeds.feeds) outputs.opened outputs.late
     (refusable_since a _ _ _ _ _ inputs.refusing inputs.linked outputs.refused) inputs.fed
-    (λ told distinct. leaves_since a _ _ _ _ (inputs.unchanged told) ((outputs.unmade (along _ _ outputs.told (along _ _ inputs.told told))).leaves distinct.outputs))
-    (λ told distinct name named. report_behind _ _ _
-    ((outputs.unmade (along _ _ outputs.told (along _ _ inputs.told told))).rest name (λ out is. distinct.report out name is named) ∙ inputs.unchanged told name))
+    (λ told. leaves_since a _ _ _ _ (inputs.unchanged told) ((outputs.unmade (along _ _ outputs.told (along _ _ inputs.told told))).leaves))
+    (λ told name named free. report_behind _ _ _
+    ((outputs.unmade (along _ _ outputs.told (along _ _ inputs.told told))).rest name free ∙ inputs.unchanged told name))
     (λ told name free other. (outputs.unmade (along _ _ outputs.told (along _ _ inputs.told told))).rest name free ∙ inputs.unchanged told name))
 
 pub returns-in_err-report-clause-unopened : goal.returns-in_err-report-clause-unopened
@@ -31,17 +31,16 @@ returns-in_err-report-clause-unopened g c =
     let behind = report_late _ report.why in
     rw (p.1, p.2) (refused_late a _ _ _ _ _ _ (opened_of g.T.In.Feed.state c.in_ok-feeds.feeds) behind (late_status _ behind)
     (refusable_since a _ _ _ _ _ (outputs.refusing ∙ inputs.refusing) (λ name leads. inputs.linked name (subst (λ (r : Names). IsTrue (r name)) outputs.leading leads)) report.refused) inputs.fed
-    (λ told distinct.
+    (λ told.
     let told_2 = along _ _ outputs.told (along _ _ inputs.told told) in
-    report_unmade a _ _ _ report.why (λ out name named.
-    report.others told_2 name (distinct.report out name named) ∙ five_empty _ _ _ distinct.outputs (outputs.made told_2) out name named))
-    (λ told distinct name named.
+    report_unmade a _ _ _ report.why (still_empty a _ _ (five_empty _ _ _ (outputs.made told_2)) (report.left told_2) (report.others told_2)))
+    (λ told name named free.
     let told_2 = along _ _ outputs.told (along _ _ inputs.told told) in
-    let kept = (outputs.made told_2).rest name (λ out is. distinct.report out name is named) ∙ inputs.unchanged told name in
+    let kept = rest_made _ _ _ _ (outputs.made told_2) name free ∙ inputs.unchanged told name in
     report_refused _ _ _ report.why (unchanged_or_nothing _ _ _ kept (report.left told_2 name named)))
     (λ told name free other.
     let told_2 = along _ _ outputs.told (along _ _ inputs.told told) in
-    report.others told_2 name other ∙ ((outputs.made told_2).rest name free ∙ inputs.unchanged told name)))
+    report.others told_2 name other ∙ (rest_made _ _ _ _ (outputs.made told_2) name free ∙ inputs.unchanged told name)))
 
 pub returns-in_err-outlets-clause-spared : goal.returns-in_err-outlets-clause-spared
 returns-in_err-outlets-clause-spared g c = λ told name made leads.
@@ -91,5 +90,5 @@ returns-clause-opened g c =
       fed = inputs.fed;
       rest = λ told name free other.
           let told_2 = along _ _ outputs.told (along _ _ inputs.told told) in
-          report.others told_2 name other ∙ ((outputs.made told_2).rest name free ∙ inputs.unchanged told name);
+          report.others told_2 name other ∙ (rest_made _ _ _ _ (outputs.made told_2) name free ∙ inputs.unchanged told name);
     }

@@ -10,7 +10,7 @@ returns-clause-made g c =
     let named = sym c.output_name.ensures ∙ ap (option_map (λ name. name.now)) c.in-Some.is in
     cases_mapped c.target.result c.map_err.result _ _ _ c.map_err.ensures.cases
     (λ target made start first. one_made (asking_of c.args.request.now) start c.args.out _ named
-    _ _ _ _ c.target.ensures.told first c.target.ensures.others (rw made at c.target.ensures.emptied) c.target.ensures.held)
+    _ _ _ _ c.target.ensures.told first c.target.ensures.others (rw made at c.target.ensures.emptied))
     (λ fault why failed gave. tt)
 
 pub returns-clause-unmade : goal.returns-clause-unmade
