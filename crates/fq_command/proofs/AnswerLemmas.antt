@@ -6,12 +6,15 @@ use Rattle.fq_files.specs.Holding.{Holding, Names, IsUnchanged, MayRefuse}
 use Rattle.fq_pair.specs.declared.counts.Counts.{Counts}
 use Rattle.fq_pair.specs.declared.side.Side.{Side}
 use Rattle.clap.specs.Kinds.{IsAmong, Kinds}
+use Rattle.clap.specs.Words.{Text}
 use Rattle.clap.specs.declared.error.kind.ErrorKind.{ErrorKind}
 use Rattle.fq_run.specs.Outcome.{Outcome}
 use Rattle.fq_run.specs.Outcome.TheVariants.{Lane}
 use Rattle.fq_run.specs.Endings.{ends_whole}
 use Rattle.fq_job.specs.Faults.{settled, outcome_status, outcome_line}
 use Rattle.fq_words.specs.Requests.{Asking, input_name}
+use Rattle.fq_words.specs.Words.{AskedFor, asked_pairs, pairs_asked}
+use Rattle.fq_words.specs.declared.words.Asked.{Asked}
 use Rattle.fq_job.specs.Judging.{wrong_with}
 use Rattle.fq_job.specs.Trimming.{IsNoOutput, TrimsFiles}
 use Rattle.fq_job.specs.Leaving.{RefusalLeaves, ReportLeft, HoldFirstPairs, AreLeft, TellsInputs}
@@ -26,6 +29,10 @@ use Rattle.fq_job.specs.Opening.{IsRefusable}
 use Rattle.fq_job.specs.Completing.{Failed, HasFailed, ReportFailed}
 use Rattle.fq_job.specs.Reporting.{HoldsReport, ReportHeld}
 use Rattle.fq_job.specs.declared.refusal.Refusal.TheVariants as why
+
+-- what was read of the arguments is what they ask for
+pub asks_this : (words : List Text) (read : Asked) (own a : Asking) → pairs_asked words ≡ asked_pairs read → asked_pairs read ≡ Some own → AskedFor words (Some a) → own ≡ a
+asks_this words read own a is pairs asked = let some : Some own ≡ Some a = sym pairs ∙ sym is ∙ asked.ask in cc
 
 -- the status of a refusal is neither 0 nor 1
 pub refusal_fails : (refusal : Refusal) → (status_of refusal ≢ 0) × (status_of refusal ≢ 1) × (status_of refusal ≢ 3)

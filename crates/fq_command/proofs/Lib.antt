@@ -1,2 +1,3 @@
 mod AnswerLemmas
 mod ExampleLemmas
+pub mod FileLemmas

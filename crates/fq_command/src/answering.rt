@@ -4,10 +4,12 @@ ghost use Rattle.std.specs.Prelude.{◌≡◌, ◌≢◌, ◌⊎◌, ◌++◌, S
 ghost use Rattle.fq_words.specs.Requests.{Asking, asking_of};
 ghost use Rattle.fq_job.specs.Judging.{wrong_with};
 ghost use Rattle.fq_job.specs.Trimming.{KeepsUnnamed};
+ghost use Rattle.fq_job.specs.Leaving.{AreUntrimmed};
 ghost use Rattle.fq_job.specs.Opening.{SparesInputs};
 ghost use Rattle.fq_words.specs.Words.{AskedFor, words_fault};
 ghost use Rattle.fq_command.specs.Answers.{device_of, TookText, TookPart, LacksMemory, LacksPrint, IsUnshown, Refuses, Tells, NamesDevice, PairsAnswered, AreRefused, IsCall, AreCalls, print_line};
 ghost use Rattle.fq_command.specs.Example.{example_text};
+ghost use Rattle.fq_command.specs.FilesInStep.{FilesAreInStep, FilesAreInStepUpTo};
 ghost use Rattle.fq_job.specs.Faults.{outcome_status, outcome_line};
 ghost use Rattle.fq_pair.specs.Summaries.{summary_of};
 ghost use Rattle.clap.specs.Words.{kind_of};
@@ -64,6 +66,20 @@ pub fn program<'a, R: Threads + Wait + Copy + Send + 'static, T: Files, O: Outle
         (device_of O.state out.old out.new) (device_of E.state err.old err.new) result }
     ensures wrong { (a : Asking) → AskedFor (map (λ word. word.now) words.entry.now) (Some a)
         → IsSome (wrong_with a) → files.new ≡ files.old }
+
+    // At status 0 and 3 the files of the outputs that have a name of their own are in step with
+    // each other and with the summary that was printed, and at status 0 no fault ended the pairs.
+    // At every status except 6 each file of an output holds what it held before, or nothing, or
+    // these files are in step for the first pairs, up to the block in which a write failed.
+    ensures in_step { (a : Asking) → AskedFor (map (λ word. word.now) words.entry.now) (Some a)
+        → (result ≡ 0) ⊎ (result ≡ 3) → IsTrue (T.tells_bytes files.old)
+        → FilesAreInStep a (T.bytes_of files.old) (T.bytes_of files.new)
+        (device_of O.state out.old out.new) result }
+    ensures left_in_step { (a : Asking)
+        → AskedFor (map (λ word. word.now) words.entry.now) (Some a)
+        → result ≢ 6 → IsTrue (T.tells_bytes files.old)
+        → AreUntrimmed a (T.bytes_of files.old) (T.bytes_of files.new)
+        ⊎ FilesAreInStepUpTo a (T.bytes_of files.old) (T.bytes_of files.new) }
 
     // At status 4 the line names a file or device that was indeed refused or has failed. At 0 and 3
     // no device of the files has failed, and each output, the log and the report were flushed after

@@ -1,14 +1,11 @@
 -- What a run leaves in its outlets is in step.
-use Rattle.std.proofs.Common.{◌≡◌, ◌<◌, ◌≤◌, ℕ, Some, None, Option, List, [], ◌∷◌, ◌++◌, append_assoc, refl, ap, sym, subst, ◌∙◌, arith}
-use Rattle.std.specs.List.{All}
-use Rattle.std.proofs.lemmas.List.Elements.{All-nil, All-cons, All-head, All-tail}
+use Rattle.std.proofs.Common.{◌≡◌, ◌<◌, ◌≤◌, ℕ, Some, None, Option, List, ◌++◌, refl, ap, sym, subst, ◌∙◌, arith}
 use Rattle.fq_text.specs.Devices.{OutletState}
 use Rattle.fq_pair.specs.declared.out.Out.{Out}
 use Rattle.fq_pair.specs.declared.counts.Counts.{Counts}
-use Rattle.fq_pair.specs.Mates.{Mates}
 use Rattle.fq_pair.specs.Outputs.{texts_of, text_of}
 use Rattle.fq_serial.specs.Devices.{OutletStates, Took, OutletsTook, outlet_at}
-use Rattle.fq_serial.specs.Endings.{AreFirst, all_pairs}
+use Rattle.fq_serial.specs.Endings.{all_pairs}
 use Rattle.fq_serial.specs.Fates.{Fate, Unbroken, FlushFailed, WriteFailed, failed_outlet, block_begun, part_begun}
 use Rattle.fq_serial.specs.Outcomes.{rank}
 use Rattle.fq_job.specs.Trimming.{IsEmptyOutlet, AreEmpty}
@@ -16,6 +13,7 @@ use Rattle.fq_in_step.specs.InStep.{IsPairIn, AreInStep}
 use Rattle.fq_laws.specs.Runs.{HaveTaken, WholeRunsAreInStep, EndingsAreInStep}
 use Rattle.fq_in_step.proofs.TextLemmas.{inputs_give_pairs}
 use Rattle.fq_in_step.proofs.InStepLemmas.{texts_are_in_step}
+use Rattle.fq_command.proofs.FileLemmas.{still_first, first_are_pairs}
 
 -- an outlet that began empty has taken its text
 has_taken : (old new : Option OutletState) (text : List ℕ) (failed : ℕ) → Took old new text failed →
@@ -44,17 +42,6 @@ whole_runs c run trimmed empty =
     }
 
 -- Other endings.
-
-pub all_first : {X : Type 0} (P : X → Type 0) (xs ys : List X) → All P (xs ++ ys) → All P xs
-all_first P [] ys all = All-nil P
-all_first P (x ∷ xs) ys all = All-cons P x xs (All-head P x (xs ++ ys) all) (all_first P xs ys (All-tail P x (xs ++ ys) all))
-
--- the first of the first pairs are first pairs
-pub still_first : (ms ns all : List Mates) → AreFirst (ms ++ ns) all → AreFirst ms all
-still_first ms ns all first = (ns ++ first.0, first.1 ∙ append_assoc ms ns first.0)
-
-pub first_are_pairs : (P : Mates → Type 0) (ms all : List Mates) → AreFirst ms all → All P all → All P ms
-first_are_pairs P ms all first are = all_first P ms first.0 (subst (All P) first.1 are)
 
 nothing_failed : (fate : Fate) (n : ℕ) → ((out : Out) → failed_outlet fate ≡ Some out → n ≤ 5) → 5 < n → fate ≡ Unbroken
 nothing_failed Unbroken n few many = refl

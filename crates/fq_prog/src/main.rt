@@ -8,9 +8,8 @@ ghost use Rattle.std.specs.String.{string_bytes};
 ghost use Rattle.fq_words.specs.Words.{words_fault};
 ghost use Rattle.fq_command.specs.Answers.{AreRefused};
 
-use fq_command::out_of_memory;
+use fq_command::{out_of_memory, program};
 use fq_files::SystemFiles;
-use fq_laws::program_in_step;
 use fq_text::{FromWrite, Outlet, send};
 use std::alloc::{AllocError, Global};
 use std::env::Env;
@@ -47,7 +46,7 @@ fn main(rt: HostRuntime) -> ExitCode {
 }
 
 // Runs the program on these arguments, over the files of the system. The clauses are those of
-// `program_in_step` which speak of the arguments, the outlets and the status.
+// `program` which speak of the arguments, the outlets and the status.
 fn run<R: Threads + Wait + Files<File = File> + Print + Copy + Send + 'static>(
     alloc: Global,
     rt: &R,
@@ -73,7 +72,7 @@ fn run<R: Threads + Wait + Files<File = File> + Print + Copy + Send + 'static>(
     if files.keep("/dev/stdout").is_err() || files.keep("/dev/stderr").is_err() {
         return ExitCode::from(out_of_memory(err));
     }
-    ExitCode::from(program_in_step(alloc, rt, &words, &mut files, out, err))
+    ExitCode::from(program(alloc, rt, &words, &mut files, out, err))
 }
 
 // Returns the arguments of the command line. The first is the program's name.

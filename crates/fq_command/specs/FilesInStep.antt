@@ -1,5 +1,5 @@
--- What the program leaves in files, read again as FASTQ.
-use Rattle.std.specs.Prelude.{◌≡◌, ◌≢◌, ◌⊎◌, ℕ, Bool, IsTrue, Some, None, Ok, List, ◌++◌}
+-- What the program leaves in files, read again as FASTQ: the outputs are in step.
+use Rattle.std.specs.Prelude.{◌≡◌, ℕ, Some, None, Ok, List, ◌++◌}
 use Rattle.fq_files.specs.Holding.{Holding}
 use Rattle.fq_pair.specs.declared.out.Out.{Out}
 use Rattle.fq_pair.specs.declared.counts.Counts.{Counts}
@@ -12,8 +12,7 @@ use Rattle.fq_serial.specs.Fates.{Fate, part_begun}
 use Rattle.fq_words.specs.Requests.{Asking}
 use Rattle.fq_job.specs.Judging.{settings_of}
 use Rattle.fq_job.specs.Trimming.{HasOwnName, pairs_of}
-use Rattle.fq_job.specs.Leaving.{AreUntrimmed}
-use Rattle.fq_command.specs.Answers.{Device, TookPart, PairsAnswered}
+use Rattle.fq_command.specs.Answers.{Device, TookPart}
 use Rattle.fq_in_step.specs.InStep.{AreInStep}
 
 -- the files of the outputs that have a name of their own hold these texts
@@ -42,14 +41,6 @@ pub record FilesAreInStep (a : Asking)
   pub in_step : AreInStep choices.check_names choices.steps
       choices.encoding (pairs_of choices a.inputs.form forward reverse).mates counts texts
 
--- the files are in step, if their bytes are known
-abbrev pub WholeFilesAreInStep : Type 0
-WholeFilesAreInStep =
-    (a : Asking) (told : Bool) (old new : Holding) (out err : Device) (status : ℕ) →
-    PairsAnswered a told old new out err status →
-    (status ≡ 0) ⊎ (status ≡ 3) → IsTrue told →
-    FilesAreInStep a old new out status
-
 -- At every status except 6.
 
 -- The files hold the outputs of the first pairs of the inputs, in step with each other. After these
@@ -68,11 +59,3 @@ pub record FilesAreInStepUpTo (a : Asking) (old new : Holding) : Type 0 where
   pub held : HoldTexts a new (λ out. texts out ++ part_begun choices.steps fate out)
   pub in_step : AreInStep choices.check_names
       choices.steps choices.encoding whole (counts_of choices.steps whole) texts
-
--- the files are in step for the first pairs, or each file of an output holds what it held before,
--- or nothing
-abbrev pub FilesLeftAreInStep : Type 0
-FilesLeftAreInStep =
-    (a : Asking) (told : Bool) (old new : Holding) (out err : Device) (status : ℕ) →
-    PairsAnswered a told old new out err status → status ≢ 6 →
-    IsTrue told → AreUntrimmed a old new ⊎ FilesAreInStepUpTo a old new

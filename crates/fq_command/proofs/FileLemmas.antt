@@ -1,21 +1,38 @@
 -- What the program leaves in files is in step.
-use Rattle.std.proofs.Common.{◌≡◌, ◌∙◌, Option, Some, None, List, ℕ, ap, sym, subst, refl, arith, ⊎_elim, inl, inr}
+use Rattle.std.proofs.Common.{◌≡◌, ◌⊎◌, ◌∙◌, Option, Some, None, List, [], ◌∷◌, ◌++◌, append_assoc, ℕ, ap, sym, subst, refl, arith, ⊎_elim, inl, inr}
+use Rattle.std.specs.List.{All}
+use Rattle.std.proofs.lemmas.List.Elements.{All-nil, All-cons, All-head, All-tail}
 use Rattle.fq_text.specs.declared.fault.TextFault.TheVariants as text
 use Rattle.fq_pair.specs.declared.out.Out.{Out}
 use Rattle.fq_pair.specs.declared.counts.Counts.{Counts}
 use Rattle.fq_pair.specs.declared.fault.InputFault.{InputFault}
 use Rattle.fq_pair.specs.declared.fault.InputFault.TheVariants.{Text, MateMissing, NamesDiffer}
+use Rattle.fq_pair.specs.Mates.{Mates}
 use Rattle.fq_pair.specs.Outputs.{texts_of, text_of}
 use Rattle.fq_serial.specs.Fates.{block_begun}
 use Rattle.fq_serial.specs.declared.outcome.Outcome.TheVariants.{Input}
-use Rattle.fq_serial.specs.Endings.{trimmed_outcome}
+use Rattle.fq_serial.specs.Endings.{AreFirst, trimmed_outcome}
 use Rattle.fq_job.specs.Faults.{outcome_status}
-use Rattle.fq_job.specs.Trimming.{pairs_of}
 use Rattle.fq_in_step.specs.InStep.{IsPairIn, AreInStep}
-use Rattle.fq_laws.specs.Files.{WholeFilesAreInStep, FilesLeftAreInStep}
+use Rattle.fq_job.specs.Trimming.{pairs_of}
+use Rattle.fq_job.specs.Leaving.{AreLeft, AreUntrimmed}
+use Rattle.fq_files.specs.Holding.{Holding}
+use Rattle.fq_words.specs.Requests.{Asking}
+use Rattle.fq_command.specs.Answers.{Device, EndsWhole}
+use Rattle.fq_command.specs.FilesInStep.{FilesAreInStep, FilesAreInStepUpTo}
 use Rattle.fq_in_step.proofs.TextLemmas.{inputs_give_pairs}
 use Rattle.fq_in_step.proofs.InStepLemmas.{texts_are_in_step}
-use Rattle.fq_laws.proofs.RunLemmas.{still_first, first_are_pairs}
+
+pub all_first : {X : Type 0} (P : X → Type 0) (xs ys : List X) → All P (xs ++ ys) → All P xs
+all_first P [] ys all = All-nil P
+all_first P (x ∷ xs) ys all = All-cons P x xs (All-head P x (xs ++ ys) all) (all_first P xs ys (All-tail P x (xs ++ ys) all))
+
+-- the first of the first pairs are first pairs
+pub still_first : (ms ns all : List Mates) → AreFirst (ms ++ ns) all → AreFirst ms all
+still_first ms ns all first = (ns ++ first.0, first.1 ∙ append_assoc ms ns first.0)
+
+pub first_are_pairs : (P : Mates → Type 0) (ms all : List Mates) → AreFirst ms all → All P all → All P ms
+first_are_pairs P ms all first are = all_first P ms first.0 (subst (All P) first.1 are)
 
 -- a run that ended at a fault doesn't have status 0
 faulty : (fault : InputFault) → outcome_status (Input fault) ≡ 0 → ⊥
@@ -38,9 +55,9 @@ complete : (fault : Option InputFault) → outcome_status (trimmed_outcome fault
 complete None done = refl
 complete (Some fault) done = absurd (faulty fault done)
 
-pub whole_files : WholeFilesAreInStep
-whole_files a told old new out err status answered whole tells =
-    let ends = answered.whole whole tells in
+-- the files that a whole run has left are in step
+pub whole_files : (a : Asking) (old new : Holding) (out err : Device) (status : ℕ) → EndsWhole a old new out err status → FilesAreInStep a old new out status
+whole_files a old new out err status ends =
     let trims = ends.trims in
     let c = trims.choices in
     let ms = (pairs_of c a.inputs.form trims.forward trims.reverse).mates in
@@ -62,8 +79,9 @@ whole_files a told old new out err status answered whole tells =
           (texts_are_in_step c.check_names c.steps c.encoding ms (inputs_give_pairs a.inputs.form c.check_names c.encoding trims.forward trims.reverse));
     }
 
-pub files_left : FilesLeftAreInStep
-files_left a told old new out err status answered threads tells = ⊎_elim
+-- so are those that any other run has left, for the first pairs
+pub files_left : (a : Asking) (old new : Holding) → AreLeft a old new → AreUntrimmed a old new ⊎ FilesAreInStepUpTo a old new
+files_left a old new left = ⊎_elim
     (λ untrimmed. inl untrimmed)
     (λ ended.
     let held = ended.1 in
@@ -86,4 +104,4 @@ files_left a told old new out err status answered threads tells = ⊎_elim
       held = held.texts;
       in_step = texts_are_in_step c.check_names c.steps c.encoding held.whole (first_are_pairs (IsPairIn c.check_names c.encoding) held.whole all first are);
     }))
-    (answered.left threads tells)
+    left
