@@ -3,8 +3,9 @@
 # that a recipe is about. It applies to a copy of this tree, and all wrong bodies still apply after
 # it. Its files are those that the numbered list of the recipe names, below crates/ without that
 # directory; a name that ends in / stands for a new file in that directory.
-# With --try the crates that the patch names are also tried in the copy, unproved. This needs the
-# kit, and takes some minutes.
+# With --try the crates that the patch names as 'Try: CRATE..' are also tried in the copy, unproved,
+# and the scripts that it names as 'Run: tests/NAME.sh..' are run there, with the program of this
+# tree or FQ_PROG. This needs the kit, and takes some minutes.
 # Status 77 if patch or python3 is missing.
 set -uo pipefail
 . "$(dirname "$0")/common.bash"
@@ -56,7 +57,7 @@ files_of_tree() {
 
 # rehearse NAME: applies the patch to a copy
 rehearse() {
-  local room=$work/$1 crates
+  local room=$work/$1 crates scripts script
   mkdir "$room"
   files_of_tree | while IFS= read -r file; do if [ -f "$file" ]; then printf '%s\0' "$file"; fi; done | xargs -0 cp --parents -t "$room"
   if ! patch -d "$room" -p1 -s --no-backup-if-mismatch < "tests/rehearsal/$1.patch" > "$work/log" 2>&1; then
@@ -66,7 +67,15 @@ rehearse() {
   (cd "$room" && bash tests/wrong_bodies.sh) > "$work/log" 2>&1 || fail "wrong bodies no longer apply: $(cat "$work/log")"
   if [ "$try" -eq 1 ]; then
     read -ra crates < <(sed -n 's/^Try: //p;/^diff/q' "tests/rehearsal/$1.patch")
-    (cd "$room" && JOBS=${JOBS:-2} bash packaging/try.sh "${crates[@]}") || fail 'the changed crates fail'
+    if [ ${#crates[@]} -gt 0 ]; then
+      (cd "$room" && JOBS=${JOBS:-2} bash packaging/try.sh "${crates[@]}") || fail 'the changed crates fail'
+    fi
+    read -ra scripts < <(sed -n 's/^Run: //p;/^diff/q' "tests/rehearsal/$1.patch")
+    [ ${#scripts[@]} -eq 0 ] || find_program
+    for script in "${scripts[@]}"; do
+      (cd "$room" && FQ_PROG=$program bash "$script")
+      case $? in 0 | 77) ;; *) fail "$script fails" ;; esac
+    done
   fi
   rm -rf "$room"
 }
