@@ -142,11 +142,11 @@ impl Collector {
                 self.phase = Phase::Stopped;
             }
             Some(Reply::Done(done)) => {
-                if let Err(out) = outlets.write(&done.texts) {
+                if let Err(out) = outlets.write(done.texts()) {
                     self.phase = Phase::WriteFailed(out);
                     return;
                 }
-                self.total.add(&done);
+                self.total.add_packed(&done);
                 // Without room in the lane the texts are dropped.
                 let _ = ends.back.offer(done);
                 self.turn = next_turn(self.turn, lanes);

@@ -1,7 +1,7 @@
 //! What a run counts.
 
 use fq_pair::Counts;
-use fq_tally::{Done, Tally};
+use fq_tally::{Done, PackedDone, Tally};
 use fq_text::OutOfMemory;
 use std::alloc::Global;
 
@@ -58,6 +58,16 @@ impl Total {
             if let Some(more) = &done.tally {
                 tally.add_all(more);
             }
+        }
+    }
+
+    /// Does what [`add`](Total::add) does, with a block that is packed.
+    pub fn add_packed(&mut self, done: &PackedDone)
+        ensures { self.new ≡ total_plus self.old done.now }
+    {
+        self.counts = self.counts.plus(done.texts().counts());
+        if let Some(tally) = &mut self.tally {
+            done.add_tally_to(tally);
         }
     }
 }

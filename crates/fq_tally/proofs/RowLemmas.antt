@@ -1,5 +1,5 @@
 -- Rows and their sums.
-use Rattle.std.proofs.Common.{◌≡◌, ℕ, zero, suc, ◌+◌, ◌-◌, ◌<◌, ◌≤◌, List, [], ◌∷◌, ◌++◌, length, take, drop, set, get_or, replicate, min, max, refl, ap, sym, ◌∙◌, arith, add-one}
+use Rattle.std.proofs.Common.{◌≡◌, ℕ, zero, suc, ◌+◌, ◌-◌, ◌<◌, ◌≤◌, List, [], ◌∷◌, ◌++◌, length, take, drop, set, get_or, replicate, min, max, refl, ap, ap₂, sym, ◌∙◌, arith, add-one}
 use Rattle.std.proofs.lemmas.List.{append-nil, take_all, get_or_read, length-append, length-replicate}
 use Rattle.fq_pair.specs.Summaries.{capped_sum}
 use Rattle.fq_tally.specs.Rows.{with_one, counted, rows_plus}
@@ -89,3 +89,31 @@ plus_joined xs ys zero is = joined xs ys is
 plus_joined [] ys (suc n) is = absurd (omega arith)
 plus_joined (x ∷ xs) [] (suc n) is = absurd (omega arith)
 plus_joined (x ∷ xs) (y ∷ ys) (suc n) is = ap (λ ns. capped_sum x y ∷ ns) (plus_joined xs ys n (omega arith))
+
+-- Rows are added to rows that are at least as many.
+pub grown_long : (xs ys zs : List ℕ) (i : ℕ) → zs ≡ rows_plus (rows_plus xs (replicate (length ys) 0)) (take i ys) → i < length ys → i < length zs
+grown_long xs ys zs i is below =
+    let n = length ys in
+    omega (arith, ap length is, length-rows_plus (rows_plus xs (replicate n 0)) (take i ys), length-rows_plus xs (replicate n 0), length-replicate {A = ℕ} n 0)
+
+pub grown_next : (xs ys zs : List ℕ) (i x w : ℕ) → i < length ys → zs ≡ rows_plus (rows_plus xs (replicate (length ys) 0)) (take i ys) → x ≡ get_or zs i x →
+    w ≡ min (x + get_or ys i 0) 18446744073709551615 → set zs i w ≡ rows_plus (rows_plus xs (replicate (length ys) 0)) (take (i + 1) ys)
+grown_next xs ys zs i x w below so_far read sum =
+    let n = length ys in
+    let grown = rows_plus xs (replicate n 0) in
+    let size : n ≤ length grown = omega (arith, length-rows_plus xs (replicate n 0), length-replicate {A = ℕ} n 0) in
+    let a = get_or_read zs i x (grown_long xs ys zs i so_far below) read 0 in
+    ap (set zs i) (sum ∙ ap (λ m. capped_sum m (get_or ys i 0)) a)
+    ∙ ap (λ ns. set ns i (capped_sum (get_or ns i 0) (get_or ys i 0))) so_far
+    ∙ sym (plus_more grown ys i (omega arith) below) ∙ ap (λ m. rows_plus grown (take m ys)) (sym (add-one i))
+
+pub grown_plus : (xs ys : List ℕ) → ((k : ℕ) → get_or ys k 0 ≤ 18446744073709551615) → rows_plus (rows_plus xs (replicate (length ys) 0)) (take (length ys) ys) ≡ rows_plus xs ys
+grown_plus [] [] small = refl
+grown_plus (x ∷ xs) [] small = refl
+grown_plus [] (y ∷ ys) small =
+    let fits : y ≤ 18446744073709551615 = small 0 in
+    let same : capped_sum 0 y ≡ y = omega arith in
+    ap₂ (λ n ns. n ∷ ns) same (grown_plus [] ys (λ k. small (suc k)))
+grown_plus (x ∷ xs) (y ∷ ys) small =
+    let same : capped_sum (capped_sum x 0) y ≡ capped_sum x y = omega arith in
+    ap₂ (λ n ns. n ∷ ns) same (grown_plus xs ys (λ k. small (suc k)))

@@ -9,3 +9,6 @@ pub mod Tallies
 pub mod Laws
 pub mod Parts
 pub mod Results
+pub mod Packing
+pub mod Packed
+pub mod Unreads

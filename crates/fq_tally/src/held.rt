@@ -1,11 +1,13 @@
 //! Counts of the reads of one side, on the heap.
 
-ghost use Rattle.std.specs.Prelude.{◌≡◌, IfOk};
+ghost use Rattle.std.specs.Prelude.{◌≡◌, ◌++◌, IfOk, OnOk};
 ghost use Rattle.fq_text.specs.Grammar.{IsLawful};
 ghost use Rattle.fq_tally.specs.Courses.{alone, course, passage};
 
 use crate::side::SideTally;
+use crate::tables::Tables;
 use crate::trimmed::Trimmed;
+use crate::unread::Unread;
 use fq_text::{OutOfMemory, ReadView};
 use fq_trim::Steps;
 use std::alloc::Global;
@@ -28,6 +30,7 @@ impl Model for Side {
 
 impl Side {
     ghost use Rattle.fq_tally.specs.Tallies.{no_side, with_read, side_plus};
+    ghost use Rattle.fq_tally.specs.Packing.{side_tables, side_in, later};
 
     // No reads.
     pub(crate) fn new(alloc: Global) -> Result<Side, OutOfMemory>
@@ -66,6 +69,21 @@ impl Side {
         ensures { self.new ≡ side_plus self.old other.now }
     {
         self.inside.add_all(&other.inside);
+    }
+
+    // Packs the counts as the next tables. Nothing is said of what is left.
+    pub(crate) fn pack(&mut self, tables: &mut Tables) -> Result<(), OutOfMemory>
+        ensures { OnOk result (tables.new ≡ tables.old ++ side_tables self.old) }
+    {
+        self.inside.pack(tables)
+    }
+
+    // Adds the counts of the next tables.
+    pub(crate) fn add_unread(&mut self, unread: &mut Unread<'_>)
+        ensures added { self.new ≡ side_plus self.old (side_in unread.old) }
+        ensures rest { unread.new ≡ later 66 unread.old }
+    {
+        self.inside.add_unread(unread);
     }
 
     // Sets all counts to those of no reads.

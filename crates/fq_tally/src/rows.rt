@@ -2,6 +2,8 @@
 
 ghost use Rattle.std.specs.Prelude.{◌≡◌, ◌≤◌, ℕ, length, get_or};
 
+use crate::tables::Tables;
+use crate::unread::Table;
 use fq_text::OutOfMemory;
 use std::alloc::Global;
 use std::marker::Model;
@@ -36,7 +38,8 @@ impl Model for Rows {
 }
 
 impl Rows {
-    ghost use Rattle.std.specs.Prelude.{◌≡◌, ◌≤◌, [], ◌∷◌, ◌++◌, replicate, IfOk};
+    ghost use Rattle.std.specs.Prelude.{◌≡◌, ◌≤◌, [], ◌∷◌, ◌++◌, length, replicate, IfOk, OnOk};
+    ghost use Rattle.fq_tally.specs.Unreads.{counts_of};
     ghost use Rattle.fq_tally.specs.Rows.{last_row, most_rows, counted, rows_plus};
 
     // No rows.
@@ -97,6 +100,58 @@ impl Rows {
         self.counts
             .extend_from_slice(&other.counts[shared..])
             .unwrap();
+    }
+
+    // Packs the rows as the next table.
+    pub(crate) fn pack(&self, tables: &mut Tables) -> Result<(), OutOfMemory>
+        ensures { OnOk result (tables.new ≡ tables.old ++ (self.now ∷ [])) }
+    {
+        tables.push(&self.counts)
+    }
+
+    // Adds the counts of a packed table.
+    pub(crate) fn add_table(&mut self, table: Table<'_>)
+        requires { length (counts_of table) ≤ most_rows }
+        ensures { self.new ≡ rows_plus self.old (counts_of table.entry) }
+    {
+        match table {
+            Table::Bytes(counts) => self.add_bytes(counts),
+            Table::Words(counts) => self.add_words(counts),
+            Table::Longs(counts) => self.add_longs(counts),
+        }
+    }
+
+    // Adds counts of 8 bits.
+    fn add_bytes(&mut self, more: &[u8])
+        requires { length more.now ≤ most_rows }
+        ensures { self.new ≡ rows_plus self.old more.now }
+    {
+        self.grow(more.len());
+        for i in 0..more.len() {
+            self.counts[i] = self.counts[i].saturating_add(u64::from(more[i]));
+        }
+    }
+
+    // Adds counts of 16 bits.
+    fn add_words(&mut self, more: &[u16])
+        requires { length more.now ≤ most_rows }
+        ensures { self.new ≡ rows_plus self.old more.now }
+    {
+        self.grow(more.len());
+        for i in 0..more.len() {
+            self.counts[i] = self.counts[i].saturating_add(u64::from(more[i]));
+        }
+    }
+
+    // Adds counts of 64 bits.
+    fn add_longs(&mut self, more: &[u64])
+        requires { length more.now ≤ most_rows }
+        ensures { self.new ≡ rows_plus self.old more.now }
+    {
+        self.grow(more.len());
+        for i in 0..more.len() {
+            self.counts[i] = self.counts[i].saturating_add(more[i]);
+        }
     }
 
     // Removes all rows and keeps their memory.

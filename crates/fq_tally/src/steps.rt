@@ -1,10 +1,13 @@
 //! Counts of what the steps did to reads.
 
-ghost use Rattle.std.specs.Prelude.{◌≡◌, IfOk};
+ghost use Rattle.std.specs.Prelude.{◌≡◌, ◌++◌, IfOk, OnOk};
 ghost use Rattle.fq_tally.specs.Rows.{counted_all};
+ghost use Rattle.fq_tally.specs.Packing.{steps_tables, steps_in, later};
 
 use crate::rows::Rows;
+use crate::tables::Tables;
 use crate::trimmed::Trimmed;
+use crate::unread::Unread;
 use fq_text::OutOfMemory;
 use std::alloc::Global;
 
@@ -51,6 +54,24 @@ impl StepsTally {
     {
         self.shortened.add_all(&other.shortened);
         self.dropped.add_all(&other.dropped);
+    }
+
+    // Packs the counts as the next tables.
+    pub(crate) fn pack(&self, tables: &mut Tables) -> Result<(), OutOfMemory>
+        ensures { OnOk result (tables.new ≡ tables.old ++ steps_tables self.now) }
+    {
+        self.shortened.pack(tables)?;
+        self.dropped.pack(tables)?;
+        Ok(())
+    }
+
+    // Adds the counts of the next tables.
+    pub(crate) fn add_unread(&mut self, unread: &mut Unread<'_>)
+        ensures added { self.new ≡ steps_plus self.old (steps_in unread.old) }
+        ensures rest { unread.new ≡ later 2 unread.old }
+    {
+        unread.add_next(&mut self.shortened);
+        unread.add_next(&mut self.dropped);
     }
 
     // Sets all counts to 0.

@@ -3,7 +3,7 @@
 use crate::reply::{Cause, Reply};
 use fq_block::Block;
 use fq_lane::{End, NotEnded, Rx, Tx};
-use fq_tally::Done;
+use fq_tally::PackedDone;
 
 /// The worker's ends of its four lanes.
 ///
@@ -19,7 +19,7 @@ pub struct WorkEnds {
     /// Used blocks, back to the dealer.
     pub blocks_back: Tx<Block>,
     /// Written texts with their tally, back from the collector.
-    pub texts_back: Rx<Done>,
+    pub texts_back: Rx<PackedDone>,
 }
 
 /// What is left of a worker: what is needed to confirm both its lanes, and why it stopped.

@@ -4,7 +4,7 @@
 //! [`work_block`] trims the pairs of one block, and counts them for a report if a tally is asked
 //! for. [`work`] and [`work_tallied`] do so block by block, ask a [`Gate`] before each, and stop if
 //! memory is refused or the gate does not let a block pass. Their contract says what was sent for
-//! what was taken: one [`Done`] for each block, in order, or for the first of them, and then one
+//! what was taken: one [`Done`], packed, for each block, in order, or for the first of them, and then one
 //! [`Reply::Stop`].
 #![tactic(auto)]
 
@@ -15,7 +15,7 @@ mod trimming;
 mod worker;
 
 pub use ends::{WorkEnds, Worked};
-pub use fq_tally::Done;
+pub use fq_tally::{Done, PackedDone};
 pub use gate::{Gate, OpenGate};
 pub use reply::{Cause, Reply};
 pub use trimming::work_block;

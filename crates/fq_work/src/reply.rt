@@ -1,6 +1,6 @@
 //! What a worker replies.
 
-use fq_tally::Done;
+use fq_tally::PackedDone;
 
 /// Why a worker stopped.
 #[derive(Clone, Copy, Debug, PartialEq, Eq)]
@@ -15,7 +15,7 @@ pub enum Cause {
 #[derive(Drop)]
 pub enum Reply {
     /// All pairs of the block were trimmed.
-    Done(Done),
+    Done(PackedDone),
     /// They were not, and no later block gets a reply.
     Stop(Cause),
 }

@@ -1,6 +1,6 @@
 //! The worker of a threaded run.
 
-ghost use Rattle.std.specs.Prelude.{◌≡◌, true, false, IfOk};
+ghost use Rattle.std.specs.Prelude.{◌≡◌, true, false, IfOk, OnOk};
 ghost use Rattle.fq_lane.specs.History.{with_item};
 ghost use Rattle.fq_work.specs.Replies.{done_of, reply_to};
 ghost use Rattle.fq_work.specs.Work.{IsWork, HasAnswered, HasDrained};
@@ -11,7 +11,8 @@ use crate::reply::{Cause, Reply};
 use crate::trimming::work_block;
 use fq_block::Block;
 use fq_lane::{Rx, Taken, Tx};
-use fq_tally::Done;
+use fq_tally::{Done, PackedDone};
+use fq_text::OutOfMemory;
 use fq_trim::Steps;
 use std::alloc::Global;
 use std::sync::{Arc, Wait};
@@ -98,11 +99,13 @@ fn answer_blocks<R: Wait, G: Gate>(
     ensures { HasAnswered making.now.tallied making.now.steps result
         ends.old.rx ends.new.rx ends.old.tx ends.new.tx }
 {
+    // The counts of one block at a time are made here, and packed for the lane.
+    let mut done = Done::new(alloc, 0);
     for _ in rt.forever() {
         let Some(block) = ends.rx.take_wait(rt) else {
             return None;
         };
-        if let Some(cause) = answer(alloc, rt, ends, block, making, gate) {
+        if let Some(cause) = answer(alloc, rt, ends, block, making, gate, &mut done) {
             return Some(cause);
         }
     }
@@ -117,12 +120,13 @@ fn answer<R: Wait, G: Gate>(
     block: Block,
     making: &Making,
     gate: &G,
+    done: &mut Done,
 ) -> Option<Cause>
     ensures sent { ends.new.tx
         ≡ with_item ends.old.tx (reply_to making.now.tallied making.now.steps block result) }
     ensures blocks { ends.new.rx ≡ ends.old.rx }
 {
-    let worked = work_on(alloc, &block, making, gate, &mut ends.texts_back);
+    let worked = work_on(alloc, &block, making, gate, done, &mut ends.texts_back);
     give_back(&mut ends.blocks_back, block);
     match worked {
         Ok(done) => {
@@ -156,19 +160,36 @@ fn work_on<G: Gate>(
     block: &Block,
     making: &Making,
     gate: &G,
-    texts_back: &mut Rx<Done>,
-) -> Result<Done, Cause>
-    ensures { IfOk result (λ done. done ≡ done_of making.now.tallied making.now.steps block.now) }
+    done: &mut Done,
+    texts_back: &mut Rx<PackedDone>,
+) -> Result<PackedDone, Cause>
+    ensures { IfOk result (λ packed.
+        packed ≡ done_of making.now.tallied making.now.steps block.now) }
 {
     if !passes(gate, block.number(), making.gate_turns) {
         return Err(Cause::Gate);
     }
-    let mut done = used_texts(alloc, block.number(), texts_back);
-    if done.ask(alloc, making.tallied).is_err() {
-        return Err(Cause::Memory);
-    }
-    work_block(block, &making.steps, &mut done).map_err(|_| Cause::Memory)?;
-    Ok(done)
+    let mut packed = used_texts(alloc, texts_back);
+    make(alloc, block, making, done, &mut packed).map_err(|_| Cause::Memory)?;
+    Ok(packed)
+}
+
+// Trims a block into the texts of `packed`, and packs its tally. `done` is the room for what is
+// made. It has the texts of `packed` for so long, and keeps its tally for the next block.
+fn make(
+    alloc: Global,
+    block: &Block,
+    making: &Making,
+    done: &mut Done,
+    packed: &mut PackedDone,
+) -> Result<(), OutOfMemory>
+    ensures { OnOk result
+        (packed.new ≡ done_of making.now.tallied making.now.steps block.now) }
+{
+    packed.exchange_texts(done);
+    done.ask(alloc, making.tallied)?;
+    work_block(block, &making.steps, done)?;
+    packed.take(alloc, done)
 }
 
 // Asks the gate until it lets the block pass, at most `gate_turns` times.
@@ -182,10 +203,10 @@ fn passes<G: Gate>(gate: &G, number: u64, gate_turns: u64) -> bool {
 }
 
 // Returns used texts that came back, which are not emptied yet, or new ones.
-fn used_texts(alloc: Global, number: u64, texts_back: &mut Rx<Done>) -> Done {
+fn used_texts(alloc: Global, texts_back: &mut Rx<PackedDone>) -> PackedDone {
     match texts_back.take() {
-        Taken::Item(done) => done,
-        Taken::Empty | Taken::Closed => Done::new(alloc, number),
+        Taken::Item(packed) => packed,
+        Taken::Empty | Taken::Closed => PackedDone::new(alloc),
     }
 }
 

@@ -85,7 +85,7 @@ fn assert_works<R: Abort + Wait>(
     rt: &R,
     alloc: Global,
     case: &Case<'_>,
-    texts_back: Rx<Done>,
+    texts_back: Rx<PackedDone>,
 ) -> Result<(), Fail> {
     let gate = Arc::new(alloc, OpenGate)?;
     assert_work(rt, alloc, case, texts_back, gate)
@@ -96,13 +96,26 @@ fn two_blocks_are_answered_in_order(rt: HostRuntime) -> Result<(), Fail> {
     assert_works(&rt, rt.alloc(), &TWO_BLOCKS, no_texts(rt.alloc())?)
 }
 
+// A packed `Done` with nothing made yet.
+fn nothing_packed(alloc: Global) -> Result<Box<PackedDone>, Fail> {
+    Ok(Box::new(alloc, PackedDone::new(alloc))?)
+}
+
+// Packs what was made.
+fn pack(alloc: Global, done: &mut Done) -> Result<Box<PackedDone>, Fail> {
+    let mut packed = nothing_packed(alloc)?;
+    packed.take(alloc, done)?;
+    Ok(packed)
+}
+
 // What was made of the second pair.
-fn used_texts(rt: &impl Abort, alloc: Global) -> Result<Box<Done>, Fail> {
+fn used_texts(rt: &impl Abort, alloc: Global) -> Result<Box<PackedDone>, Fail> {
     let steps = Steps::parse(TWO_STEPS)?;
     let block = block_of(rt, alloc, 7, SECOND.forward, SECOND.reverse)?;
     let mut done = nothing_done(alloc)?;
+    ask(alloc, true, &mut done)?;
     make(&block, &steps, &mut done)?;
-    Ok(done)
+    pack(alloc, &mut done)
 }
 
 // Whether the lane has room for the item. Generic, since a proof about texts and tallies would be
@@ -112,14 +125,14 @@ fn offers<T: Drop>(lane: &mut Tx<T>, item: Box<T>) -> bool {
 }
 
 // Asserts that there is room for used texts, and then for no others.
-fn fill(rt: &impl Abort, alloc: Global, texts: &mut Tx<Done>) -> Result<(), Fail> {
+fn fill(rt: &impl Abort, alloc: Global, texts: &mut Tx<PackedDone>) -> Result<(), Fail> {
     assert!(rt; offers(texts, used_texts(rt, alloc)?));
-    assert!(rt; !offers(texts, nothing_done(alloc)?));
+    assert!(rt; !offers(texts, nothing_packed(alloc)?));
     Ok(())
 }
 
-fn assert_room(rt: &impl Abort, alloc: Global, texts: &mut Tx<Done>) -> Result<(), Fail> {
-    assert!(rt; offers(texts, nothing_done(alloc)?));
+fn assert_room(rt: &impl Abort, alloc: Global, texts: &mut Tx<PackedDone>) -> Result<(), Fail> {
+    assert!(rt; offers(texts, nothing_packed(alloc)?));
     Ok(())
 }
 
@@ -223,12 +236,22 @@ fn assert_no_tally(
 
 fn assert_tally(
     rt: &impl Abort,
+    alloc: Global,
     block: &Block,
     steps: &Steps,
     done: &mut Done,
 ) -> Result<(), Fail> {
     make(block, steps, done)?;
     assert_two_tallied(rt, done.tally.as_ref().ok_or("a tally")?);
+    assert_packed(rt, alloc, done)
+}
+
+// Asserts that the packed tally, added to an empty one, is that of the two pairs.
+fn assert_packed(rt: &impl Abort, alloc: Global, done: &mut Done) -> Result<(), Fail> {
+    let packed = pack(alloc, done)?;
+    let mut tally = Tally::new(alloc)?;
+    packed.add_tally_to(&mut tally);
+    assert_two_tallied(rt, &tally);
     Ok(())
 }
 
@@ -248,8 +271,8 @@ fn assert_asked(
 ) -> Result<(), Fail> {
     assert_no_tally(rt, block, steps, done)?;
     ask(alloc, true, done)?;
-    assert_tally(rt, block, steps, done)?;
-    assert_tally(rt, block, steps, done)?;
+    assert_tally(rt, alloc, block, steps, done)?;
+    assert_tally(rt, alloc, block, steps, done)?;
     ask(alloc, false, done)?;
     assert_no_tally(rt, block, steps, done)
 }

@@ -8,8 +8,9 @@ use fq_samples::{
     TWO_STEPS, Written, source_of,
 };
 use fq_text::{Encoding, ScriptFeed};
+use fq_tally::Tally;
 use fq_trim::Steps;
-use fq_work::{Cause, Done, Gate, Reply, WorkEnds, Worked, work, work_tallied};
+use fq_work::{Cause, Gate, PackedDone, Reply, WorkEnds, Worked, work, work_tallied};
 use std::alloc::Global;
 use std::process::Abort;
 use std::sync::{Arc, Wait};
@@ -128,12 +129,12 @@ pub(super) fn block_of(
 }
 
 // A lane with room for the texts of one block.
-pub(super) fn text_lane(alloc: Global) -> Result<(Tx<Done>, Rx<Done>), Fail> {
+pub(super) fn text_lane(alloc: Global) -> Result<(Tx<PackedDone>, Rx<PackedDone>), Fail> {
     Ok(lane(alloc, 1)?)
 }
 
 // A return lane from which no texts come.
-pub(super) fn no_texts(alloc: Global) -> Result<Rx<Done>, Fail> {
+pub(super) fn no_texts(alloc: Global) -> Result<Rx<PackedDone>, Fail> {
     let (_texts, texts_back) = text_lane(alloc)?;
     Ok(texts_back)
 }
@@ -174,7 +175,7 @@ pub(super) fn assert_work<R: Abort + Wait, G: Gate>(
     rt: &R,
     alloc: Global,
     case: &Case<'_>,
-    texts_back: Rx<Done>,
+    texts_back: Rx<PackedDone>,
     gate: Arc<G>,
 ) -> Result<(), Fail> {
     let Lanes {
@@ -288,8 +289,7 @@ fn assert_answered(
     ensures { replies.new.name ≡ replies.old.name }
 {
     let reply = take(alloc, replies)?;
-    assert_done(rt, &reply, number, pair, tallied);
-    Ok(())
+    assert_done(rt, alloc, &reply, number, pair, tallied)
 }
 
 // Asserts that the next reply is a stop for this cause.
@@ -346,24 +346,40 @@ fn take_mark<T: Drop>(alloc: Global, lane: &mut Rx<T>) -> Result<(), Fail>
     Ok(())
 }
 
-// How many forward reads were tallied, if any tally was made.
-fn reads_tallied(done: &Done) -> Option<u64> {
-    let tally = done.tally.as_ref()?;
-    Some(tally.forward.counts().before.reads)
+// How many forward reads were tallied.
+fn reads_tallied(alloc: Global, done: &PackedDone) -> Result<u64, Fail> {
+    let mut tally = Tally::new(alloc)?;
+    done.add_tally_to(&mut tally);
+    Ok(tally.forward.counts().before.reads)
 }
 
-fn assert_done(rt: &impl Abort, reply: &Reply, number: u64, pair: &Sample, tallied: bool) {
+fn assert_done(
+    rt: &impl Abort,
+    alloc: Global,
+    reply: &Reply,
+    number: u64,
+    pair: &Sample,
+    tallied: bool,
+) -> Result<(), Fail> {
     match reply {
-        Reply::Done(done) => assert_made(rt, done, number, pair, tallied),
+        Reply::Done(done) => assert_made(rt, alloc, done, number, pair, tallied),
         Reply::Stop(cause) => panic!(rt; "stopped by {cause:?}"),
     }
 }
 
 // Asserts what was made of the block of one pair that has this number.
-fn assert_made(rt: &impl Abort, done: &Done, number: u64, pair: &Sample, tallied: bool) {
-    assert_eq!(rt; done.number, number);
-    assert_written(rt, &done.texts, &pair.written, pair.counts);
-    assert_eq!(rt; reads_tallied(done), tallied.then_some(1));
+fn assert_made(
+    rt: &impl Abort,
+    alloc: Global,
+    done: &PackedDone,
+    number: u64,
+    pair: &Sample,
+    tallied: bool,
+) -> Result<(), Fail> {
+    assert_eq!(rt; done.number(), number);
+    assert_written(rt, done.texts(), &pair.written, pair.counts);
+    assert_eq!(rt; reads_tallied(alloc, done)?, u64::from(tallied));
+    Ok(())
 }
 
 fn assert_text(rt: &impl Abort, texts: &Texts, out: Out, text: &[u8]) {

@@ -1,7 +1,7 @@
 //! The collector's ends of lanes.
 
 use fq_lane::{Rx, Tx};
-use fq_work::{Done, Reply};
+use fq_work::{PackedDone, Reply};
 use std::marker::Model;
 
 /// The collector's ends of the lanes of one worker. Contracts see the lane of replies alone.
@@ -10,7 +10,7 @@ pub(crate) struct CollectorEnds {
     /// The replies of the worker.
     pub(crate) replies: Rx<Reply>,
     /// Written texts with their tally, back to the worker.
-    pub(crate) back: Tx<Done>,
+    pub(crate) back: Tx<PackedDone>,
 }
 
 impl Model for CollectorEnds {

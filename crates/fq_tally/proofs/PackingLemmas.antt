@@ -1,0 +1,62 @@
+-- Tables behind others, and what they are read as.
+use Rattle.std.proofs.Common.{◌≡◌, ℕ, List, [], ◌∷◌, ◌++◌, refl, ap, ap₂, ◌∙◌}
+use Rattle.fq_tally.specs.declared.bases.BaseTally.{BaseTally}
+use Rattle.fq_tally.specs.declared.columns.Columns.{Columns}
+use Rattle.fq_tally.specs.declared.reads.ReadsTally.{ReadsTally}
+use Rattle.fq_tally.specs.declared.side.SideTally.{SideTally}
+use Rattle.fq_tally.specs.declared.tally.Tally.{Tally}
+use Rattle.fq_tally.specs.SideColumns.{SideColumns}
+use Rattle.fq_tally.specs.Packing.{bases_tables, reads_tables, columns_tables, side_columns_tables, steps_tables, side_tables, tally_tables, later, side_in, tally_in}
+
+-- What is packed piece by piece is packed in one.
+
+pub bases_packed : (ts : List (List ℕ)) (t : BaseTally) →
+    ts ++ ((t.bases ∷ []) ∷ []) ++ ((t.at_least_20 ∷ []) ∷ []) ++ ((t.at_least_30 ∷ []) ∷ []) ++ ((t.score_sum ∷ []) ∷ []) ++ ((t.gc ∷ []) ∷ []) ++ ((t.n ∷ []) ∷ []) ≡ ts ++ bases_tables t
+bases_packed [] t = refl
+bases_packed (u ∷ ts) t = ap (λ us. u ∷ us) (bases_packed ts t)
+
+pub columns_packed : (ts : List (List ℕ)) (t : Columns) →
+    ts ++ (t.bases ∷ []) ++ (t.score_sum ∷ []) ++ (t.q30_bases ∷ []) ++ (t.a ∷ []) ++ (t.c ∷ []) ++ (t.g ∷ []) ++ (t.t ∷ []) ++ (t.n ∷ []) ≡ ts ++ columns_tables t
+columns_packed [] t = refl
+columns_packed (u ∷ ts) t = ap (λ us. u ∷ us) (columns_packed ts t)
+
+pub reads_packed : (ts : List (List ℕ)) (t : ReadsTally) →
+    ts ++ ((t.reads ∷ []) ∷ []) ++ bases_tables t.bases ++ ((t.shortest ∷ []) ∷ []) ++ ((t.longest ∷ []) ∷ []) ++ (t.lengths ∷ []) ++ (t.mean_scores ∷ []) ++ (t.gc_percents ∷ []) ≡ ts ++ reads_tables t
+reads_packed [] t = refl
+reads_packed (u ∷ ts) t = ap (λ us. u ∷ us) (reads_packed ts t)
+
+pub side_columns_packed : (ts : List (List ℕ)) (t : SideColumns) →
+    ts ++ columns_tables t.before ++ columns_tables t.paired ++ columns_tables t.unpaired ≡ ts ++ side_columns_tables t
+side_columns_packed [] t = refl
+side_columns_packed (u ∷ ts) t = ap (λ us. u ∷ us) (side_columns_packed ts t)
+
+pub three_packed : (ts ts₁ ts₂ ts₃ : List (List ℕ)) (x y z : Columns) (t : SideColumns) → ts₁ ≡ ts ++ columns_tables x → ts₂ ≡ ts₁ ++ columns_tables y → ts₃ ≡ ts₂ ++ columns_tables z →
+    x ≡ t.before → y ≡ t.paired → z ≡ t.unpaired → ts₃ ≡ ts ++ side_columns_tables t
+three_packed ts ts₁ ts₂ ts₃ x y z t first second third before paired unpaired =
+    third ∙ ap (λ us. us ++ columns_tables z) (second ∙ ap (λ us. us ++ columns_tables y) first)
+    ∙ ap (λ (c : Columns). ts ++ columns_tables c ++ columns_tables y ++ columns_tables z) before
+    ∙ ap (λ (c : Columns). ts ++ columns_tables t.before ++ columns_tables c ++ columns_tables z) paired
+    ∙ ap (λ (c : Columns). ts ++ columns_tables t.before ++ columns_tables t.paired ++ columns_tables c) unpaired
+    ∙ side_columns_packed ts t
+
+pub side_packed : (ts : List (List ℕ)) (t : SideTally) →
+    ts ++ reads_tables t.before ++ reads_tables t.paired ++ reads_tables t.unpaired ++ ((t.front ∷ []) ∷ []) ++ ((t.behind ∷ []) ∷ []) ++ (t.removed_front ∷ []) ++ (t.removed_behind ∷ [])
+    ++ side_columns_tables t.positions ++ steps_tables t.steps ≡ ts ++ side_tables t
+side_packed [] t = refl
+side_packed (u ∷ ts) t = ap (λ us. u ∷ us) (side_packed ts t)
+
+-- A tally that was packed is read again.
+
+side_read : (t : SideTally) (ts : List (List ℕ)) → side_in (side_tables t ++ ts) ≡ t
+side_read t ts = refl
+
+side_alone : (t : SideTally) → side_in (side_tables t) ≡ t
+side_alone t = refl
+
+left_read : (t : SideTally) (ts : List (List ℕ)) → later 66 (side_tables t ++ ts) ≡ ts
+left_read t ts = refl
+
+pub tally_read : (t : Tally) → tally_in (tally_tables t) ≡ t
+tally_read t =
+    let two : SideTally → SideTally → Tally = λ f r. record { forward = f; reverse = r } in
+    ap₂ two (side_read t.forward (side_tables t.reverse)) (ap side_in (left_read t.forward (side_tables t.reverse)) ∙ side_alone t.reverse)

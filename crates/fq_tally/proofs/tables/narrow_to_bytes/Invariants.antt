@@ -1,0 +1,5 @@
+use Rattle.std.proofs.Common.{◌≡◌, ◌++◌, take, drop}
+use Rattle.fq_tally.proofs.tables.narrow_to_bytes.Given as goal
+
+abbrev pub invariant-loop-i : goal.invariant-loop-i
+invariant-loop-i l = record { written : l.bytes ≡ take l.i l.counts ++ drop l.i l.fn.bytes }
