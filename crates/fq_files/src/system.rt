@@ -2,7 +2,7 @@
 
 use crate::device::major_of;
 use crate::files::{FileFault, Files};
-use fq_text::{Feed, FromRead, OutOfMemory, Outlet, OutletFailed};
+use fq_text::{Feed, FromRead, OutOfMemory, Outlet, OutletFailed, write_to};
 use std::alloc::Global;
 use std::fs::{self, File, Metadata, OpenFile, OpenOptions};
 use std::io::Write;
@@ -234,10 +234,9 @@ impl<W: Write + OpenFile> Outlet for SystemTarget<W> {
             (W.contents self.new.file) result bytes.now }
     {
         self.is_flushed = false;
-        match self.file.write(bytes) {
-            Ok(0) if !bytes.is_empty() => Err(self.fail()),
+        match write_to(&mut self.file, bytes) {
             Ok(n) => Ok(n),
-            Err(_) => Err(self.fail()),
+            Err(OutletFailed) => Err(self.fail()),
         }
     }
 

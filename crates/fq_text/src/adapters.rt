@@ -76,6 +76,22 @@ impl<R: Read> Feed for FromRead<R> {
     }
 }
 
+/// Writes the first n of these bytes by one call of the writer, and returns n. A write that takes
+/// none of the bytes that it is given is a failure.
+pub fn write_to<W: Write>(writer: &mut W, bytes: &[u8]) -> Result<usize, OutletFailed>
+    ensures within { IfOk result (λ n. n ≤ length bytes.now) }
+    ensures some { IfOk result (λ n. 0 < length bytes.now → 0 < n) }
+    // If the bytes of the writer are known, they grow as a write makes them grow.
+    ensures appends { WriteAppends (W.contents writer.old)
+        (W.contents writer.new) result bytes.now }
+{
+    match writer.write(bytes) {
+        Ok(0) if !bytes.is_empty() => Err(OutletFailed),
+        Ok(n) => Ok(n),
+        Err(_) => Err(OutletFailed),
+    }
+}
+
 /// A writer as an outlet, such as a file that is written.
 ///
 /// The bytes of the outlet are not known to the proof. Each error counts as a failure, also one
@@ -151,10 +167,9 @@ impl<W: Write> Outlet for FromWrite<W> {
             (W.contents self.new.inner) result bytes.now }
     {
         self.is_flushed = false;
-        match self.writer.write(bytes) {
-            Ok(0) if !bytes.is_empty() => Err(self.fail()),
+        match write_to(&mut self.writer, bytes) {
             Ok(n) => Ok(n),
-            Err(_) => Err(self.fail()),
+            Err(OutletFailed) => Err(self.fail()),
         }
     }
 

@@ -19,7 +19,7 @@ mod vectors;
 mod view;
 mod writing;
 
-pub use adapters::{FromRead, FromWrite};
+pub use adapters::{FromRead, FromWrite, write_to};
 pub use encoding::{Encoding, from_score33};
 pub use fault::TextFault;
 pub use feed::{Feed, FeedFailed, ScriptFeed};
