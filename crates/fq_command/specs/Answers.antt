@@ -45,6 +45,10 @@ device_of state old new = record {
 abbrev pub TookText : Device → List ℕ → Type 0
 TookText d text = IsTrue d.tells → d.failures ≡ 0 → d.after ≡ d.before ++ text
 
+-- if it has not failed, it took a line or more, and nothing else
+abbrev pub TookLines : Device → Type 0
+TookLines d = (words : List ℕ) × TookText d (line words)
+
 -- it took this text, or, if it has failed, a first part of it that is not the whole
 pub record TookPart (d : Device) (text : List ℕ) : Type 0 where
   pub whole : TookText d text

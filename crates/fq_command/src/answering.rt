@@ -7,7 +7,7 @@ ghost use Rattle.fq_job.specs.Trimming.{KeepsUnnamed};
 ghost use Rattle.fq_job.specs.Leaving.{AreUntrimmed};
 ghost use Rattle.fq_job.specs.Opening.{SparesInputs};
 ghost use Rattle.fq_words.specs.Words.{AskedFor, words_fault};
-ghost use Rattle.fq_command.specs.Answers.{device_of, TookText, TookPart, LacksMemory, LacksPrint, IsUnshown, Refuses, Tells, NamesDevice, PairsAnswered, AreRefused, IsCall, AreCalls, print_line};
+ghost use Rattle.fq_command.specs.Answers.{device_of, TookText, TookPart, TookLines, LacksMemory, LacksPrint, IsUnshown, Refuses, Tells, NamesDevice, PairsAnswered, AreRefused, IsCall, AreCalls, print_line};
 ghost use Rattle.fq_command.specs.Example.{example_text};
 ghost use Rattle.fq_command.specs.FilesInStep.{FilesAreInStep, FilesAreInStepUpTo};
 ghost use Rattle.fq_job.specs.Faults.{outcome_status, outcome_line};
@@ -16,7 +16,7 @@ ghost use Rattle.clap.specs.Words.{kind_of};
 ghost use Rattle.clap.specs.declared.error.kind.ErrorKind.TheVariants.{DisplayHelp, DisplayVersion, OutOfMemory};
 
 use crate::example::example;
-use crate::refusal_line::{refusal_line, refusal_status};
+use crate::refusal_line::{error_lines, refusal_line, refusal_status};
 use crate::telling::{cannot_print, cannot_report, out_of_memory, tell_account};
 use crate::trimming::{Completed, trim_files};
 use crate::unshown::Unshown;
@@ -122,6 +122,9 @@ pub fn program<'a, R: Threads + Wait + Copy + Send + 'static, T: Files, O: Outle
     ensures called { AreCalls (words_fault (map (λ word. word.now) words.entry.now)) → result ≢ 1 }
     ensures usage_only { result ≡ 1 → (words_fault (map (λ word. word.now) words.entry.now) ≢ [])
         × (out.new ≡ out.old) }
+    ensures help { words_fault (map (λ word. word.now) words.entry.now) ≢ [] → result ≡ 0
+        → TookLines (device_of O.state out.old out.new) }
+    ensures usage_lines { result ≡ 1 → TookLines (device_of E.state err.old err.new) }
     ensures unprinted { words_fault (map (λ word. word.now) words.entry.now) ≢ [] → result ≡ 4
         → LacksPrint (device_of O.state out.old out.new)
         (device_of E.state err.old err.new) result }
@@ -268,6 +271,8 @@ fn refuse_words<O: Outlet, E: Outlet>(alloc: Global, error: &Error, out: &mut O,
         → kind_of error.now ≢ DisplayVersion → (result ≡ 1) ⊎ (result ≡ 5) }
     ensures called { IsCall (kind_of error.now) → result ≢ 1 }
     ensures usage_only { result ≡ 1 → (out.new ≡ out.old) × (kind_of error.now ≢ OutOfMemory) }
+    ensures help { result ≡ 0 → TookLines (device_of O.state out.old out.new) }
+    ensures usage_lines { result ≡ 1 → TookLines (device_of E.state err.old err.new) }
     ensures finished { result ≡ 0 → ((O.state out.new).failures ≡ 0) × (err.new ≡ err.old) }
     ensures failed { result ≡ 4 → ((O.state out.new).failures ≡ 1)
         × TookText (device_of E.state err.old err.new) print_line }
@@ -277,7 +282,7 @@ fn refuse_words<O: Outlet, E: Outlet>(alloc: Global, error: &Error, out: &mut O,
     if error.kind() == ErrorKind::OutOfMemory {
         return out_of_memory(err);
     }
-    let Ok(text) = format!(in alloc; "{error}") else {
+    let Ok(text) = error_lines(alloc, error) else {
         return out_of_memory(err);
     };
     if error.use_stderr() {

@@ -1,11 +1,12 @@
 //! The exit status and the line on standard error for each refusal.
 
-ghost use Rattle.std.specs.Prelude.{◌≡◌, ◌++◌, [], IfOk, codes, decimal, unwrap_or};
+ghost use Rattle.std.specs.Prelude.{◌≡◌, ◌++◌, ℕ, List, [], IfOk, codes, decimal, unwrap_or};
 ghost use Rattle.fq_text.specs.Written.{line};
 ghost use Rattle.std.specs.String.{string_bytes};
 ghost use Rattle.fq_words.specs.Requests.{asking_of, output_name};
 ghost use Rattle.fq_job.specs.Refusals.{status_of, line_of, step_fault_name, setting_name};
 
+use clap::Error;
 use fq_job::{MEMORY_LINE, Refusal};
 use fq_pair::Out;
 use fq_run::BadSetting;
@@ -57,6 +58,16 @@ pub(crate) fn refusal_line(
         Refusal::Report => unwritten_line(alloc, report_name(request)),
         Refusal::Memory => String::from_str(alloc, MEMORY_LINE),
     }
+}
+
+/// Returns the help, the version, or what is wrong with the arguments, in `clap`'s words: one line
+/// or more, whatever these are.
+pub(crate) fn error_lines(alloc: Global, error: &Error) -> Result<String, OutOfMemory>
+    ensures { IfOk result (λ text. (words : List ℕ) × (string_bytes text ≡ line words)) }
+{
+    let text = format!(in alloc; "{error}")?;
+    let words = text.strip_suffix('\n').unwrap_or(text.as_str());
+    format!(in alloc; "{words}\n")
 }
 
 // The name of an output. It is empty for a log that is not written, which is never refused.
