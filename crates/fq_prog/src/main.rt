@@ -6,7 +6,7 @@ ghost use Rattle.std.specs.Prelude.{◌≡◌, ◌≢◌, ◌⊎◌, [], map, If
 ghost use Rattle.std.specs.Process.{exit_status};
 ghost use Rattle.std.specs.String.{string_bytes};
 ghost use Rattle.fq_words.specs.Words.{words_fault};
-ghost use Rattle.fq_command.specs.Answers.{AreRefused};
+ghost use Rattle.fq_command.specs.Answers.{AreRefused, AreCalls};
 
 use fq_command::{out_of_memory, program};
 use fq_files::SystemFiles;
@@ -58,11 +58,15 @@ fn run<R: Threads + Wait + Files<File = File> + Print + Copy + Send + 'static>(
     requires err { err.old.failures ≡ 0 }
     ensures usage { AreRefused (words_fault (map string_bytes texts.now))
         → (exit_status result ≡ 1) ⊎ (exit_status result ≡ 5) }
+    ensures called { AreCalls (words_fault (map string_bytes texts.now)) → exit_status result ≢ 1 }
     ensures usage_only { exit_status result ≡ 1
         → (words_fault (map string_bytes texts.now) ≢ []) × (out.new ≡ out.old) }
     ensures finished { exit_status result ≡ 0 → (out.new.failures ≡ 0) × (err.new ≡ err.old) }
     ensures quiet { exit_status result ≢ 0 → exit_status result ≢ 3
         → out.new.failures ≡ 0 → out.new ≡ out.old }
+    ensures failed { out.new.failures ≢ 0
+        → (exit_status result ≡ 3) ⊎ (exit_status result ≡ 4) }
+    ensures memory { exit_status result ≡ 5 → out.new ≡ out.old }
 {
     let Ok(words) = words_of(alloc, texts) else {
         return ExitCode::from(out_of_memory(err));
