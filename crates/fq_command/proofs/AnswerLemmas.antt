@@ -11,7 +11,8 @@ use Rattle.clap.specs.declared.error.kind.ErrorKind.{ErrorKind}
 use Rattle.fq_run.specs.Outcome.{Outcome}
 use Rattle.fq_run.specs.Outcome.TheVariants.{Lane}
 use Rattle.fq_run.specs.Endings.{ends_whole}
-use Rattle.fq_job.specs.Faults.{settled, outcome_status, outcome_line}
+use Rattle.fq_job.specs.Faults.{settled, outcome_status}
+use Rattle.fq_reasons.specs.Lines.{line_of, ending_line}
 use Rattle.fq_words.specs.Requests.{Asking, input_name}
 use Rattle.fq_words.specs.Words.{AskedFor, asked_pairs, pairs_asked}
 use Rattle.fq_words.specs.declared.words.Asked.{Asked}
@@ -20,7 +21,7 @@ use Rattle.fq_job.specs.Trimming.{IsNoOutput, TrimsFiles}
 use Rattle.fq_job.specs.Leaving.{RefusalLeaves, ReportLeft, HoldFirstPairs, AreLeft, TellsInputs}
 use Rattle.fq_job.proofs.EndingLemmas.{done_is_whole, ends_so}
 use Rattle.fq_job.proofs.LeavingLemmas.{refusal_untrimmed, report_untrimmed, whole_first}
-use Rattle.fq_job.specs.Refusals.{status_of, line_of}
+use Rattle.fq_job.specs.Refusals.{status_of}
 use Rattle.fq_command.specs.Answers.{Device, EndsWhole, IsRefusal, IsEnding, IsUnprinted, IsUntold, IsUnreported, IsReportLeft, IsReportUncut, LacksMemory, NamesRefused, NamesDevice, PairsAnswered, Refuses, Tells, TookLine, memory_line, print_line, report_line}
 use Rattle.fq_job.specs.declared.refusal.Refusal.{Refusal}
 use Rattle.fq_job.specs.declared.reporting.Reported.{Reported}
@@ -161,9 +162,9 @@ module _ (a : Asking) (told : Bool) (old new : Holding) (outcome : Outcome) (cou
   is_uncut (inr written) tells name named = inr (held_as report.Written written tells name named)
 
   -- the line of a run that was made
-  pub told_line : (out err : Device) (status : ℕ) → Tells outcome reported out err status → TookLine a told old new out err status
+  pub told_line : (out err : Device) (status : ℕ) → Tells a outcome reported out err status → TookLine a told old new out err status
   told_line out err status (inl (which, inl ending)) = record {
-    text = outcome_line outcome;
+    text = ending_line a outcome;
     fits = inl (inr (record { outcome = outcome; status_is = sym ending.0; text_is = refl; left = run.ended; unreported = is_empty which }));
     took = ending.1;
   }
@@ -214,7 +215,7 @@ four_not_lane outcome four lane = let six : outcome_status outcome ≡ 6 = ap ou
 -- what has failed
 pub failed_device : (a : Asking) (tells : Bool) (old : Holding) (refuses opened : Names) (failed : Failed) (out err : Device) (status : ℕ) (outcome : Outcome) (reported : Reported)
     → (outcome ≢ Lane → HasFailed a tells old failed outcome) → (IsTrue tells → settled outcome ≡ outcome) → (reported ≡ report.Failed → ReportFailed a failed)
-    → Tells outcome reported out err status → status ≡ 4 → NamesDevice a tells old refuses opened failed out err
+    → Tells a outcome reported out err status → status ≡ 4 → NamesDevice a tells old refuses opened failed out err
 failed_device a tells old refuses opened failed out err status outcome reported fails as_it_is report_fails (inl (which, inl ending)) four =
     let is = sym ending.0 ∙ four in
     inr (inl (record { outcome = outcome; status_is = is; told = ending.1; has_failed = fails (four_not_lane outcome is); as_it_is = as_it_is }))

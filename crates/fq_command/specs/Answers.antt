@@ -15,8 +15,9 @@ use Rattle.clap.specs.declared.error.kind.ErrorKind.TheVariants.{DisplayHelp, Di
 use Rattle.fq_job.specs.declared.refusal.Refusal.{Refusal}
 use Rattle.fq_words.specs.Requests.{Asking, input_name}
 use Rattle.fq_job.specs.Judging.{wrong_with}
-use Rattle.fq_job.specs.Refusals.{status_of, line_of}
+use Rattle.fq_job.specs.Refusals.{status_of}
 use Rattle.fq_job.specs.Faults.{memory_words, settled, outcome_status, outcome_line}
+use Rattle.fq_reasons.specs.Lines.{line_of, ending_line}
 use Rattle.fq_job.specs.Trimming.{IsNoOutput, TrimsFiles}
 use Rattle.fq_job.specs.Leaving.{RefusalLeaves, ReportLeft, HoldFirstPairs, AreLeft, TellsInputs}
 use Rattle.fq_job.specs.Opening.{IsRefusable}
@@ -64,7 +65,7 @@ pub record EndsWhole (a : Asking) (old new : Holding) (out err : Device) (status
   pub trims : TrimsFiles a old new outcome counts
   pub status_is : outcome_status outcome ≡ status
   pub printed : TookPart out (summary_of counts)
-  pub told : TookText err (outcome_line outcome)
+  pub told : TookText err (ending_line a outcome)
 
 abbrev pub memory_line : List ℕ
 memory_line = line memory_words
@@ -97,7 +98,7 @@ pub record IsEnding (a : Asking) (tells : Bool)
     (old new : Holding) (status : ℕ) (text : List ℕ) : Type 0 where
   pub outcome : Outcome
   pub status_is : outcome_status outcome ≡ status
-  pub text_is : outcome_line outcome ≡ text
+  pub text_is : ending_line a outcome ≡ text
   pub left : IsTrue tells → outcome ≢ Lane → HoldFirstPairs a old new outcome
   pub unreported : IsTrue tells → outcome_status outcome ≢ 0 →
       outcome_status outcome ≢ 3 → (name : List ℕ) → a.report ≡ Some name →
@@ -151,19 +152,20 @@ pub record TookLine (a : Asking) (tells : Bool)
 abbrev pub LacksPrint : Device → Device → ℕ → Type 0
 LacksPrint out err status = (out.failures ≢ 0) × (status ≡ 4) × TookText err print_line
 
--- standard error took the line of the outcome; or all pairs were trimmed, and it took the line for
--- a summary that was not printed; or memory was refused for either
-abbrev pub Reports : Outcome → Device → Device → ℕ → Type 0
-Reports outcome out err status =
-    ((status ≡ outcome_status outcome) × TookText err (outcome_line outcome))
+-- standard error took the line of the outcome, which is given; or all pairs were trimmed, and it
+-- took the line for a summary that was not printed; or memory was refused for either
+abbrev pub Reports : List ℕ → Outcome → Device → Device → ℕ → Type 0
+Reports text outcome out err status =
+    ((status ≡ outcome_status outcome) × TookText err text)
     ⊎ (((outcome_status outcome ≡ 0) × LacksPrint out err status)
     ⊎ ((outcome ≢ Lane) × LacksMemory err status))
 
 -- `Reports` holds if the report was written or none was due; otherwise standard error took the line
 -- for a report that was not written or for which memory was refused
-abbrev pub Tells : Outcome → Reported → Device → Device → ℕ → Type 0
-Tells outcome reported out err status =
-    (((reported ≡ report.NotDue) ⊎ (reported ≡ report.Written)) × Reports outcome out err status)
+abbrev pub Tells : Asking → Outcome → Reported → Device → Device → ℕ → Type 0
+Tells a outcome reported out err status =
+    (((reported ≡ report.NotDue) ⊎ (reported ≡ report.Written))
+    × Reports (ending_line a outcome) outcome out err status)
     ⊎ (((reported ≡ report.Failed) × (status ≡ 4) × TookText err report_line)
     ⊎ ((reported ≡ report.OutOfMemory) × LacksMemory err status))
 
@@ -189,7 +191,7 @@ pub record NamesFailed (a : Asking) (tells : Bool)
     (old : Holding) (failed : Failed) (err : Device) : Type 0 where
   pub outcome : Outcome
   pub status_is : outcome_status outcome ≡ 4
-  pub told : TookText err (outcome_line outcome)
+  pub told : TookText err (ending_line a outcome)
   pub has_failed : HasFailed a tells old failed outcome
   pub as_it_is : IsTrue tells → settled outcome ≡ outcome
 

@@ -10,16 +10,18 @@ ghost use Rattle.fq_words.specs.Words.{AskedFor, words_fault};
 ghost use Rattle.fq_command.specs.Answers.{device_of, TookText, TookPart, TookLines, LacksMemory, LacksPrint, IsUnshown, Refuses, Tells, NamesDevice, PairsAnswered, AreRefused, IsCall, AreCalls, print_line};
 ghost use Rattle.fq_command.specs.Example.{example_text};
 ghost use Rattle.fq_command.specs.FilesInStep.{FilesAreInStep, FilesAreInStepUpTo};
-ghost use Rattle.fq_job.specs.Faults.{outcome_status, outcome_line};
+ghost use Rattle.fq_job.specs.Faults.{outcome_status};
+ghost use Rattle.fq_reasons.specs.Lines.{ending_line};
 ghost use Rattle.fq_pair.specs.Summaries.{summary_of};
 ghost use Rattle.clap.specs.Words.{kind_of};
 ghost use Rattle.clap.specs.declared.error.kind.ErrorKind.TheVariants.{DisplayHelp, DisplayVersion, OutOfMemory};
 
 use crate::example::example;
-use crate::refusal_line::{error_lines, refusal_line, refusal_status};
+use crate::refusal_line::{refusal_line, refusal_status};
 use crate::telling::{cannot_print, cannot_report, out_of_memory, tell_account};
 use crate::trimming::{Completed, trim_files};
 use crate::unshown::Unshown;
+use crate::usage::usage_lines;
 use clap::Error;
 use clap::error::ErrorKind;
 use fq_files::Files;
@@ -142,7 +144,7 @@ pub fn program<'a, R: Threads + Wait + Copy + Send + 'static, T: Files, O: Outle
     match read_words(alloc, words) {
         Ok(Asked::Example) => print_example(alloc, rt, out, err),
         Ok(Asked::Pairs(request)) => trim_pairs(alloc, rt, &request, files, out, err),
-        Err(error) => refuse_words(alloc, &error, out, err),
+        Err(error) => refuse_words(alloc, &error, words, out, err),
     }
 }
 
@@ -181,13 +183,19 @@ fn trim_pairs<R: Threads + Wait + Copy + Send + 'static, T: Files, O: Outlet, E:
         × LacksMemory (device_of E.state err.old err.new) result }
 {
     match trim_files(alloc, rt, request, files) {
-        Ok(completed) => tell(alloc, &completed, out, err),
+        Ok(completed) => tell(alloc, request, &completed, out, err),
         Err(refusal) => refuse(alloc, request, refusal, err),
     }
 }
 
 // Reports how a run ended, or that its report was not written. Returns the exit status.
-fn tell<O: Outlet, E: Outlet>(alloc: Global, completed: &Completed, out: &mut O, err: &mut E) -> u8
+fn tell<O: Outlet, E: Outlet>(
+    alloc: Global,
+    request: &Request<'_>,
+    completed: &Completed,
+    out: &mut O,
+    err: &mut E,
+) -> u8
     requires out { (O.state out.old).failures ≡ 0 }
     requires err { (E.state err.old).failures ≡ 0 }
     ensures whole { (result ≡ 0) ⊎ (result ≡ 3)
@@ -198,8 +206,9 @@ fn tell<O: Outlet, E: Outlet>(alloc: Global, completed: &Completed, out: &mut O,
         → TookPart (device_of O.state out.old out.new) (summary_of completed.now.account.counts) }
     ensures finished { result ≡ 0 → ((O.state out.new).failures ≡ 0) × (err.new ≡ err.old) }
     ensures told { (result ≡ 0) ⊎ (result ≡ 3) → TookText (device_of E.state err.old err.new)
-        (outcome_line completed.now.account.outcome) }
-    ensures line { result ≢ 0 → Tells completed.now.account.outcome completed.now.reported
+        (ending_line (asking_of request.now) completed.now.account.outcome) }
+    ensures line { result ≢ 0 → Tells (asking_of request.now)
+        completed.now.account.outcome completed.now.reported
         (device_of O.state out.old out.new) (device_of E.state err.old err.new) result }
     ensures memory { result ≡ 5 → (out.new ≡ out.old)
         × LacksMemory (device_of E.state err.old err.new) result }
@@ -209,7 +218,9 @@ fn tell<O: Outlet, E: Outlet>(alloc: Global, completed: &Completed, out: &mut O,
     ensures known { (result ≢ 1) × (result ≢ 2) }
 {
     match completed.reported {
-        Reported::NotDue | Reported::Written => tell_account(alloc, &completed.account, out, err),
+        Reported::NotDue | Reported::Written => {
+            tell_account(alloc, Some(request), &completed.account, out, err)
+        }
         Reported::Failed => cannot_report(err),
         Reported::OutOfMemory => out_of_memory(err),
     }
@@ -256,13 +267,19 @@ fn print_example<R: Threads + Wait + Copy + Send + 'static, O: Outlet, E: Outlet
             Ok(()) => 0,
             Err(_) => cannot_print(err),
         },
-        Err(Unshown::Unrun(account)) => tell_account(alloc, &account, out, err),
+        Err(Unshown::Unrun(account)) => tell_account(alloc, None, &account, out, err),
         Err(Unshown::Memory) => out_of_memory(err),
     }
 }
 
 // Prints the help or the version, or what is wrong with the arguments. Returns the exit status.
-fn refuse_words<O: Outlet, E: Outlet>(alloc: Global, error: &Error, out: &mut O, err: &mut E) -> u8
+fn refuse_words<O: Outlet, E: Outlet>(
+    alloc: Global,
+    error: &Error,
+    words: &[&str],
+    out: &mut O,
+    err: &mut E,
+) -> u8
     requires out { (O.state out.old).failures ≡ 0 }
     requires err { (E.state err.old).failures ≡ 0 }
     ensures status { (result ≡ 0) ⊎ ((result ≡ 1) ⊎ ((result ≡ 4) ⊎ (result ≡ 5))) }
@@ -282,7 +299,7 @@ fn refuse_words<O: Outlet, E: Outlet>(alloc: Global, error: &Error, out: &mut O,
     if error.kind() == ErrorKind::OutOfMemory {
         return out_of_memory(err);
     }
-    let Ok(text) = error_lines(alloc, error) else {
+    let Ok(text) = usage_lines(alloc, error, words) else {
         return out_of_memory(err);
     };
     if error.use_stderr() {

@@ -11,6 +11,7 @@ mod refusal_line;
 mod telling;
 mod trimming;
 mod unshown;
+mod usage;
 
 pub use answering::program;
 pub use telling::out_of_memory;

@@ -1,14 +1,15 @@
 //! The exit status and the line on standard error for each refusal.
 
-ghost use Rattle.std.specs.Prelude.{◌≡◌, ◌++◌, ℕ, List, [], IfOk, codes, decimal, unwrap_or};
+ghost use Rattle.std.specs.Prelude.{◌≡◌, ◌++◌, [], IfOk, codes, decimal, unwrap_or};
 ghost use Rattle.fq_text.specs.Written.{line};
 ghost use Rattle.std.specs.String.{string_bytes};
 ghost use Rattle.fq_words.specs.Requests.{asking_of, output_name};
-ghost use Rattle.fq_job.specs.Refusals.{status_of, line_of, step_fault_name, setting_name};
+ghost use Rattle.fq_job.specs.Refusals.{status_of, words_of, step_fault_name, setting_name};
+ghost use Rattle.fq_reasons.specs.Lines.{line_of};
 
-use clap::Error;
 use fq_job::{MEMORY_LINE, Refusal};
 use fq_pair::Out;
+use fq_reasons::explained_refusal;
 use fq_run::BadSetting;
 use fq_text::OutOfMemory;
 use fq_trim::StepFaultKind;
@@ -30,13 +31,27 @@ pub(crate) fn refusal_status(refusal: Refusal) -> u8
     }
 }
 
-/// Returns the line of a refusal of this request, with its line end.
+/// Returns the line of a refusal of this request, with its line end and, if it is asked for and
+/// known, the reason.
 pub(crate) fn refusal_line(
     alloc: Global,
     request: &Request<'_>,
     refusal: Refusal,
 ) -> Result<String, OutOfMemory>
     ensures { IfOk result (λ text. string_bytes text ≡ line_of (asking_of request.now) refusal) }
+{
+    let line = plain_line(alloc, request, refusal)?;
+    explained_refusal(alloc, request, refusal, line)
+}
+
+// The line of a refusal without a reason.
+fn plain_line(
+    alloc: Global,
+    request: &Request<'_>,
+    refusal: Refusal,
+) -> Result<String, OutOfMemory>
+    ensures { IfOk result (λ text. string_bytes text
+        ≡ line (words_of (asking_of request.now) refusal)) }
 {
     match refusal {
         Refusal::Encoding => {
@@ -58,16 +73,6 @@ pub(crate) fn refusal_line(
         Refusal::Report => unwritten_line(alloc, report_name(request)),
         Refusal::Memory => String::from_str(alloc, MEMORY_LINE),
     }
-}
-
-/// Returns the help, the version, or what is wrong with the arguments, in `clap`'s words: one line
-/// or more, whatever these are.
-pub(crate) fn error_lines(alloc: Global, error: &Error) -> Result<String, OutOfMemory>
-    ensures { IfOk result (λ text. (words : List ℕ) × (string_bytes text ≡ line words)) }
-{
-    let text = format!(in alloc; "{error}")?;
-    let words = text.strip_suffix('\n').unwrap_or(text.as_str());
-    format!(in alloc; "{words}\n")
 }
 
 // The name of an output. It is empty for a log that is not written, which is never refused.

@@ -1,20 +1,27 @@
 //! What the program reports at its end.
 
 ghost use Rattle.std.specs.Prelude.{◌≡◌, ◌≢◌, ◌⊎◌, true, false, IfOk, OnErr};
+ghost use Rattle.std.specs.Option.{option_map};
+ghost use Rattle.std.specs.String.{string_bytes};
 ghost use Rattle.fq_pair.specs.Summaries.{summary_of};
 ghost use Rattle.fq_command.specs.Answers.{device_of, TookText, TookPart, Reports, LacksMemory, memory_line, print_line, report_line};
-ghost use Rattle.fq_job.specs.Faults.{outcome_status, outcome_line};
+ghost use Rattle.fq_job.specs.Faults.{outcome_status};
+ghost use Rattle.fq_words.specs.Requests.{asking_of};
+ghost use Rattle.fq_reasons.specs.Lines.{line_for};
 
 use fq_job::{Account, LANE_LINE, MEMORY_LINE, fault_line, status_of};
 use fq_pair::{Counts, summary};
+use fq_reasons::ending_line;
 use fq_run::Outcome;
 use fq_text::{OutOfMemory, Outlet, send};
+use fq_words::Request;
 use std::alloc::Global;
 
-/// Prints the summary to `out` if the run ended whole, and the line of a fault to `err`. Returns
-/// the exit status.
+/// Prints the summary to `out` if the run ended whole, and the line of a fault to `err`. The run is
+/// that of a request, or that of the example. Returns the exit status.
 pub(crate) fn tell_account<O: Outlet, E: Outlet>(
     alloc: Global,
+    request: Option<&Request<'_>>,
     account: &Account,
     out: &mut O,
     err: &mut E,
@@ -33,8 +40,11 @@ pub(crate) fn tell_account<O: Outlet, E: Outlet>(
 
     // The line of the outcome went to `err`.
     ensures told { (result ≡ 0) ⊎ (result ≡ 3)
-        → TookText (device_of E.state err.old err.new) (outcome_line account.now.outcome) }
-    ensures line { result ≢ 0 → Reports account.now.outcome
+        → TookText (device_of E.state err.old err.new)
+        (line_for (option_map (λ r. asking_of r.now) request.entry) account.now.outcome) }
+    ensures line { result ≢ 0 → Reports
+        (line_for (option_map (λ r. asking_of r.now) request.entry) account.now.outcome)
+        account.now.outcome
         (device_of O.state out.old out.new) (device_of E.state err.old err.new) result }
     ensures memory { result ≡ 5 → (out.new ≡ out.old)
         × LacksMemory (device_of E.state err.old err.new) result }
@@ -52,10 +62,9 @@ pub(crate) fn tell_account<O: Outlet, E: Outlet>(
         let _ = send(err, LANE_LINE.as_bytes());
         return 6;
     }
-    let mut line = String::new(alloc);
-    if fault_line(alloc, &mut line, account.outcome).is_err() {
+    let Ok(line) = told_line(alloc, request, account.outcome) else {
         return out_of_memory(err);
-    }
+    };
     let status = status_of(account.outcome);
     if status == 0 || status == 3 {
         let Ok(printed) = print_summary(alloc, &account.counts, out) else {
@@ -68,6 +77,23 @@ pub(crate) fn tell_account<O: Outlet, E: Outlet>(
     // A failed write to `err` has nowhere to be reported.
     let _ = send(err, line.as_bytes());
     status
+}
+
+// The line of an outcome, with the reason if the request asks for it.
+fn told_line(
+    alloc: Global,
+    request: Option<&Request<'_>>,
+    outcome: Outcome,
+) -> Result<String, OutOfMemory>
+    ensures { IfOk result (λ text. string_bytes text
+        ≡ line_for (option_map (λ r. asking_of r.now) request.entry) outcome) }
+{
+    let Some(request) = request else {
+        let mut line = String::new(alloc);
+        fault_line(alloc, &mut line, outcome)?;
+        return Ok(line);
+    };
+    ending_line(alloc, request, outcome)
 }
 
 // Prints the summary. Returns whether `out` took all of it.

@@ -67,17 +67,22 @@ input_words (NamesDiffer k) = codes "input: record " ++ decimal k ++ codes ": Na
 abbrev pub memory_words : List ℕ
 memory_words = codes "out of memory"
 
+-- the words of the line of an outcome; none if the run finished
+abbrev pub outcome_words : Outcome → List ℕ
+outcome_words Spawn = codes "cannot start a thread"
+outcome_words Lane = codes "lane not confirmed"
+outcome_words Gate = codes "gate closed"
+outcome_words Memory = memory_words
+outcome_words (Write out) = codes "write failed: " ++ out_name out
+outcome_words (Read side) = codes "read failed: " ++ side_name side
+outcome_words (Endless side) = codes "endless input: " ++ side_name side
+outcome_words (Input fault) = input_words fault
+outcome_words Finished = []
+
 -- The line of an outcome with its line end; empty if the run finished.
 abbrev pub line_when : Outcome → List ℕ
-line_when Spawn = line (codes "cannot start a thread")
-line_when Lane = line (codes "lane not confirmed")
-line_when Gate = line (codes "gate closed")
-line_when Memory = line memory_words
-line_when (Write out) = line (codes "write failed: " ++ out_name out)
-line_when (Read side) = line (codes "read failed: " ++ side_name side)
-line_when (Endless side) = line (codes "endless input: " ++ side_name side)
-line_when (Input fault) = line (input_words fault)
 line_when Finished = []
+line_when outcome = line (outcome_words outcome)
 
 abbrev pub outcome_line : Outcome → List ℕ
 outcome_line outcome = line_when (settled outcome)

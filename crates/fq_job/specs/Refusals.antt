@@ -1,6 +1,5 @@
 -- The exit status and the line on standard error for each refusal.
 use Rattle.std.specs.Prelude.{ℕ, List, [], ◌++◌, codes, decimal, unwrap_or}
-use Rattle.fq_text.specs.Written.{line}
 use Rattle.fq_trim.specs.declared.fault.StepFaultKind.{StepFaultKind}
 use Rattle.fq_trim.specs.declared.fault.StepFaultKind.TheVariants as step
 use Rattle.fq_serial.specs.declared.settings.BadSetting.{BadSetting}
@@ -38,7 +37,7 @@ setting_name setting.Chunk = codes "chunk"
 setting_name setting.MaxReads = codes "reads"
 setting_name setting.GateTurns = codes "gate"
 
--- the line on standard error, for this request
+-- the words of the line on standard error, for this request
 abbrev pub words_of : Asking → Refusal → List ℕ
 words_of a Encoding = codes "bad encoding: " ++ a.encoding
 words_of a (Step fault) =
@@ -50,6 +49,3 @@ words_of a (Target out) = codes "cannot write " ++ unwrap_or (output_name a out)
 words_of a SameReport = codes "same name: " ++ unwrap_or a.report []
 words_of a Report = codes "cannot write " ++ unwrap_or a.report []
 words_of a Memory = memory_words
-
-abbrev pub line_of : Asking → Refusal → List ℕ
-line_of a refusal = line (words_of a refusal)

@@ -16,9 +16,9 @@ pub const MEMORY_LINE: &str = "out of memory\n";
 /// The line for a lane that was not confirmed, with its line end.
 pub const LANE_LINE: &str = "lane not confirmed\n";
 
-// The outcome to report: a text that could not be read to its end is a failed read, an endless
-// input or memory that was refused, and not a fault of the text.
-fn settled(outcome: Outcome) -> Outcome
+/// The outcome to report: a text that could not be read to its end is a failed read, an endless
+/// input or memory that was refused, and not a fault of the text.
+pub fn settled(outcome: Outcome) -> Outcome
     ensures { result ≡ settled outcome }
 {
     match outcome {

@@ -222,8 +222,8 @@ fn run_text<'a>(
     )
 }
 
-// Removes the line end. Returns `None` if there is no line.
-fn without_end(text: &str) -> Option<&str>
+/// Removes the line end. Returns `None` if there is no line.
+pub fn without_end(text: &str) -> Option<&str>
     ensures some { (words : List ℕ) → text.now ≡ line words
         → option_map (λ stripped. stripped.now) result ≡ Some words }
     ensures none { text.now ≡ [] → result ≡ None }

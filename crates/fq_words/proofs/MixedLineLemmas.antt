@@ -1,12 +1,12 @@
 -- What `IL I FP FU RP RU STEPS..` asks for.
-use Rattle.std.proofs.Common.{◌≡◌, ◌≤◌, ℕ, false, Option, Some, None, List, [], ◌∷◌, ◌++◌, length, fold, codes, refl, ap, ap₂, sym, ◌∙◌, append-nil, append_assoc, inl}
+use Rattle.std.proofs.Common.{◌≡◌, ◌≤◌, ℕ, Bool, false, Option, Some, None, List, [], ◌∷◌, ◌++◌, length, fold, codes, refl, ap, ap₂, sym, ◌∙◌, append-nil, append_assoc, inl}
 use Rattle.std.specs.List.{All}
 use Rattle.clap.specs.Kinds.{or_else}
 use Rattle.clap.specs.Walk.{Text, Row, Walk, value, settled, walk_from, walk, nothing_held, finished, is_pending}
 use Rattle.clap.specs.Faults.{settle_fault, step_fault, walk_fault, defaults_fault, check_fault, level_fault}
 use Rattle.clap.proofs.OnLiterals.{clap_on_literals}
 use Rattle.fq_words.specs.Requests.{interleaved_file}
-use Rattle.fq_words.specs.Words.{most, asked_in, asking_in, pairs_asked}
+use Rattle.fq_words.specs.Words.{most, is_own_name, asked_in, asking_in, pairs_asked}
 use Rattle.fq_words.specs.CommandLines.{IsPlain, FitsIfGiven, Options, OutputNames, option_words, asking_with, ArePlain, MixedPairsAreAskedFor}
 use Rattle.fq_words.proofs.DecimalLemmas.{decimal_read}
 use Rattle.fq_words.proofs.PlainWordLemmas.{IsOpen, value_walk, value_faults, values_walked, value_faults_are}
@@ -211,7 +211,7 @@ module _ (f fp fu rp ru step : Text) where
   mixed_end_sound steps (Some x) (Some y) (Some z) None = refl
   mixed_end_sound steps (Some x) (Some y) (Some z) (Some n) = refl
 
-  mixed_found : (steps : List Text) (a b c : Option Text) (d : Option ℕ) → FitsIfGiven d →
+  mixed_found : (own : Bool) (steps : List Text) (a b c : Option Text) (d : Option ℕ) → FitsIfGiven d →
       let o : Options = record { log = a; report = b; encoding = c; threads = d } in
       let names : OutputNames = record {
         forward_paired = fp;
@@ -220,16 +220,16 @@ module _ (f fp fu rp ru step : Text) where
         reverse_paired = rp;
         reverse_unpaired = ru;
       } in
-      asked_in (Some (
+      asked_in own (Some (
         codes "IL",
         finished mixed_leaf.rules
             (stepping 6 (mixed_rows o) 0 (step ∷ steps)).held,
       ))
-      ≡ Some (asking_with o (interleaved_file f) names (step ∷ steps))
+      ≡ Some (asking_with own o (interleaved_file f) names (step ∷ steps))
   unfolding clap_on_literals asking_in
-  mixed_found steps None None None None fits = refl
-  mixed_found steps None None None (Some n) fits =
-      ap (λ (t : ℕ). Some (asking_with (record {
+  mixed_found own steps None None None None fits = refl
+  mixed_found own steps None None None (Some n) fits =
+      ap (λ (t : ℕ). Some (asking_with own (record {
         log = None;
         report = None;
         encoding =
@@ -243,9 +243,9 @@ module _ (f fp fu rp ru step : Text) where
         reverse_unpaired = ru;
       }) (step ∷ steps)))
       (decimal_read n fits)
-  mixed_found steps None None (Some z) None fits = refl
-  mixed_found steps None None (Some z) (Some n) fits =
-      ap (λ (t : ℕ). Some (asking_with (record {
+  mixed_found own steps None None (Some z) None fits = refl
+  mixed_found own steps None None (Some z) (Some n) fits =
+      ap (λ (t : ℕ). Some (asking_with own (record {
         log = None;
         report = None;
         encoding =
@@ -259,9 +259,9 @@ module _ (f fp fu rp ru step : Text) where
         reverse_unpaired = ru;
       }) (step ∷ steps)))
       (decimal_read n fits)
-  mixed_found steps None (Some y) None None fits = refl
-  mixed_found steps None (Some y) None (Some n) fits =
-      ap (λ (t : ℕ). Some (asking_with (record {
+  mixed_found own steps None (Some y) None None fits = refl
+  mixed_found own steps None (Some y) None (Some n) fits =
+      ap (λ (t : ℕ). Some (asking_with own (record {
         log = None;
         report = Some y;
         encoding =
@@ -275,9 +275,9 @@ module _ (f fp fu rp ru step : Text) where
         reverse_unpaired = ru;
       }) (step ∷ steps)))
       (decimal_read n fits)
-  mixed_found steps None (Some y) (Some z) None fits = refl
-  mixed_found steps None (Some y) (Some z) (Some n) fits =
-      ap (λ (t : ℕ). Some (asking_with (record {
+  mixed_found own steps None (Some y) (Some z) None fits = refl
+  mixed_found own steps None (Some y) (Some z) (Some n) fits =
+      ap (λ (t : ℕ). Some (asking_with own (record {
         log = None;
         report = Some y;
         encoding =
@@ -291,9 +291,9 @@ module _ (f fp fu rp ru step : Text) where
         reverse_unpaired = ru;
       }) (step ∷ steps)))
       (decimal_read n fits)
-  mixed_found steps (Some x) None None None fits = refl
-  mixed_found steps (Some x) None None (Some n) fits =
-      ap (λ (t : ℕ). Some (asking_with (record {
+  mixed_found own steps (Some x) None None None fits = refl
+  mixed_found own steps (Some x) None None (Some n) fits =
+      ap (λ (t : ℕ). Some (asking_with own (record {
         log = Some x;
         report = None;
         encoding =
@@ -307,9 +307,9 @@ module _ (f fp fu rp ru step : Text) where
         reverse_unpaired = ru;
       }) (step ∷ steps)))
       (decimal_read n fits)
-  mixed_found steps (Some x) None (Some z) None fits = refl
-  mixed_found steps (Some x) None (Some z) (Some n) fits =
-      ap (λ (t : ℕ). Some (asking_with (record {
+  mixed_found own steps (Some x) None (Some z) None fits = refl
+  mixed_found own steps (Some x) None (Some z) (Some n) fits =
+      ap (λ (t : ℕ). Some (asking_with own (record {
         log = Some x;
         report = None;
         encoding =
@@ -323,9 +323,9 @@ module _ (f fp fu rp ru step : Text) where
         reverse_unpaired = ru;
       }) (step ∷ steps)))
       (decimal_read n fits)
-  mixed_found steps (Some x) (Some y) None None fits = refl
-  mixed_found steps (Some x) (Some y) None (Some n) fits =
-      ap (λ (t : ℕ). Some (asking_with (record {
+  mixed_found own steps (Some x) (Some y) None None fits = refl
+  mixed_found own steps (Some x) (Some y) None (Some n) fits =
+      ap (λ (t : ℕ). Some (asking_with own (record {
         log = Some x;
         report = Some y;
         encoding =
@@ -339,9 +339,9 @@ module _ (f fp fu rp ru step : Text) where
         reverse_unpaired = ru;
       }) (step ∷ steps)))
       (decimal_read n fits)
-  mixed_found steps (Some x) (Some y) (Some z) None fits = refl
-  mixed_found steps (Some x) (Some y) (Some z) (Some n) fits =
-      ap (λ (t : ℕ). Some (asking_with (record {
+  mixed_found own steps (Some x) (Some y) (Some z) None fits = refl
+  mixed_found own steps (Some x) (Some y) (Some z) (Some n) fits =
+      ap (λ (t : ℕ). Some (asking_with own (record {
         log = Some x;
         report = Some y;
         encoding =
@@ -405,7 +405,7 @@ module _ (f fp fu rp ru : Text) (o : Options) (plain : ArePlain o) (step : Text)
 
   mixed_ask : (program : Text) →
       pairs_asked (program ∷ codes "IL" ∷ (option_words o ++ mixed_words))
-      ≡ Some (asking_with o (interleaved_file f) (record {
+      ≡ Some (asking_with (is_own_name program) o (interleaved_file f) (record {
         forward_paired = fp;
         forward_unpaired =
             fu;
@@ -414,9 +414,9 @@ module _ (f fp fu rp ru : Text) (o : Options) (plain : ArePlain o) (step : Text)
       }) (step ∷ steps))
   unfolding pairs_asked
   mixed_ask program =
-      ap asked_in (mixed_entered program (option_words o ++ mixed_words))
-      ∙ ap (λ (w : Walk). asked_in (Some (codes "IL", finished mixed_leaf.rules w.held))) mixed_walk
-      ∙ mixed_found f fp fu rp ru step steps o.log o.report o.encoding o.threads plain.threads
+      ap (asked_in (is_own_name program)) (mixed_entered program (option_words o ++ mixed_words))
+      ∙ ap (λ (w : Walk). asked_in (is_own_name program) (Some (codes "IL", finished mixed_leaf.rules w.held))) mixed_walk
+      ∙ mixed_found f fp fu rp ru step (is_own_name program) steps o.log o.report o.encoding o.threads plain.threads
 
 pub mixed_pairs_are_asked_for : MixedPairsAreAskedFor
 mixed_pairs_are_asked_for program f o names [] plain are all = absurd (are.some refl)

@@ -38,6 +38,7 @@ pub record Asking : Type 0 where
   pub chunk : ℕ
   pub check_names : Bool
   pub sync : Bool
+  pub explain : Bool
   pub inputs : InputNames
   pub forward_paired : List ℕ
   pub forward_unpaired : List ℕ
@@ -56,6 +57,7 @@ asking_of r = record {
   chunk = r.chunk;
   check_names = r.check_names;
   sync = r.sync;
+  explain = r.explain;
   inputs = names_of r.inputs;
   forward_paired = r.forward_paired.now;
   forward_unpaired = r.forward_unpaired.now;

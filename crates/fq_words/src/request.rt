@@ -34,6 +34,9 @@ pub struct Request<'a> {
     /// Whether the run waits at its end until the outputs are on their disk, whatever disk that is
     /// (`--sync`).
     pub sync: bool,
+    /// Whether a line on standard error says why (`--explain`). If the program is called
+    /// `tibzharuk` it does, unless `--no-explain` is given.
+    pub explain: bool,
     /// The input files.
     pub inputs: Inputs<'a>,
     /// The name of the output for forward reads whose mate also survives.

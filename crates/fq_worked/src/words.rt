@@ -1,8 +1,8 @@
 //! `do: words` reads the arguments `words`, the first of which is the program's name. Answers:
 //! `kind` and `text` of `clap`'s error if the arguments are refused, and otherwise what they ask
 //! for: `threads`, `block`, `depth`, `chunk`, `encoding`, `names` (whether they are compared),
-//! `sync`, `log`, `report`, `steps`, `same name` (the output that has the name of an input) and
-//! `report is input`.
+//! `sync`, `explain`, `log`, `report`, `steps`, `same name` (the output that has the name of an
+//! input) and `report is input`.
 
 use crate::answers::Answers;
 use crate::row::Given;
@@ -23,6 +23,7 @@ fn put_request(alloc: Global, answers: &mut Answers, request: &Request<'_>) -> R
     answers.put("encoding", request.encoding.as_bytes())?;
     answers.put_yes("names", request.check_names)?;
     answers.put_yes("sync", request.sync)?;
+    answers.put_yes("explain", request.explain)?;
     answers.put("log", request.log.unwrap_or("none").as_bytes())?;
     answers.put("report", request.report.unwrap_or("none").as_bytes())?;
     let steps = request.steps.as_slice();

@@ -5,7 +5,7 @@ use Rattle.fq_words.specs.Words.{asking_in}
 use Rattle.fq_words.proofs.words.asked_of.Goals as goal
 
 pub returns-in_ok-request-in-Some : goal.returns-in_ok-request-in-Some
-returns-in_ok-request-in-Some c = ap (option_map (λ (i : InputNames). asking_in i (rows_of (found_of c.args.found.now)))) (sym c.in-Some.ensures) ∙ ap Some (sym c.in_ok-request-in-Some.ensures)
+returns-in_ok-request-in-Some c = ap (option_map (λ (i : InputNames). asking_in c.args.own i (rows_of (found_of c.args.found.now)))) (sym c.in-Some.ensures) ∙ ap Some (sym c.in_ok-request-in-Some.ensures)
 
 pub returns-in-None : goal.returns-in-None
-returns-in-None c = ap (option_map (λ (i : InputNames). asking_in i (rows_of (found_of c.args.found.now)))) (sym c.in-None.ensures)
+returns-in-None c = ap (option_map (λ (i : InputNames). asking_in c.args.own i (rows_of (found_of c.args.found.now)))) (sym c.in-None.ensures)

@@ -19,6 +19,7 @@ returns c =
       chunk = c.number_of-chunk.ensures i;
       check_names = checked i;
       sync = c.flag_of-sync.ensures i;
+      explain = c.explains-explain.ensures i;
       inputs = names_of c.args.inputs;
       forward_paired = c.text_of-forward_paired.ensures i;
       forward_unpaired = c.text_of-forward_unpaired.ensures i;

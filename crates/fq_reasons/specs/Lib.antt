@@ -1,0 +1,3 @@
+pub mod Refused
+pub mod Ended
+pub mod Lines

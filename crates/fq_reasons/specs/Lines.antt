@@ -1,0 +1,35 @@
+-- The lines on standard error, with a reason if one is asked for and known.
+use Rattle.std.specs.Prelude.{ℕ, Bool, true, false, Option, Some, None, List, [], ◌++◌, codes}
+use Rattle.fq_text.specs.Written.{line}
+use Rattle.fq_serial.specs.declared.outcome.Outcome.{Outcome}
+use Rattle.fq_serial.specs.declared.outcome.Outcome.TheVariants.{Finished}
+use Rattle.fq_words.specs.Requests.{Asking}
+use Rattle.fq_job.specs.Faults.{settled, outcome_words, outcome_line}
+use Rattle.fq_job.specs.Refusals.{words_of}
+use Rattle.fq_job.specs.declared.refusal.Refusal.{Refusal}
+use Rattle.fq_reasons.specs.Refused.{refusal_reason}
+use Rattle.fq_reasons.specs.Ended.{ending_reason}
+
+-- the words of a line, and the reason after them if lines are to say why
+abbrev pub explained : Bool → List ℕ → Option (List ℕ) → List ℕ
+explained true words (Some reason) = words ++ codes ": " ++ reason
+explained true words None = words
+explained false words reason = words
+
+-- the line of a refusal of this request
+abbrev pub line_of : Asking → Refusal → List ℕ
+line_of a why = line (explained a.explain (words_of a why) (refusal_reason a why))
+
+abbrev pub ending_line_when : Asking → Outcome → List ℕ
+ending_line_when a Finished = []
+ending_line_when a outcome =
+    line (explained a.explain (outcome_words outcome) (ending_reason a outcome))
+
+-- the line of an outcome of this request; empty if the run finished
+abbrev pub ending_line : Asking → Outcome → List ℕ
+ending_line a outcome = ending_line_when a (settled outcome)
+
+-- the same, also of a run that nobody asked for, as that of the example
+abbrev pub line_for : Option Asking → Outcome → List ℕ
+line_for (Some a) outcome = ending_line a outcome
+line_for None outcome = outcome_line outcome

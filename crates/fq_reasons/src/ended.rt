@@ -1,0 +1,157 @@
+//! Why a run ended before all pairs were trimmed.
+
+ghost use Rattle.std.specs.Prelude.{◌≡◌, ◌++◌, IfOk, codes, unwrap_or};
+ghost use Rattle.std.specs.Option.{option_map};
+ghost use Rattle.std.specs.String.{string_bytes};
+ghost use Rattle.fq_words.specs.Requests.{asking_of, names_of};
+ghost use Rattle.fq_reasons.specs.Ended.{record_reason, missing_reason, names_reason, other_side, input_reason, ending_reason};
+
+use fq_pair::{InputFault, Side};
+use fq_serial::Outcome;
+use fq_text::{OutOfMemory, TextFault};
+use fq_words::{Inputs, Request};
+use std::alloc::Global;
+
+/// Why the run ended so, as far as the outcome and the arguments show.
+pub(crate) fn ending_reason(
+    alloc: Global,
+    request: &Request<'_>,
+    outcome: Outcome,
+) -> Result<Option<String>, OutOfMemory>
+    ensures { IfOk result (λ reason. option_map string_bytes reason
+        ≡ ending_reason (asking_of request.now) outcome) }
+{
+    let reason = match outcome {
+        Outcome::Write(out) => {
+            unwritten_reason(alloc, request.output_name(out).unwrap_or(""))?
+        }
+        Outcome::Read(side) => {
+            file_reason(alloc, request.input_name(side), "it could not be read to its end")?
+        }
+        Outcome::Endless(side) => {
+            let words = "it has not ended after 1099511627776 read calls";
+            file_reason(alloc, request.input_name(side), words)?
+        }
+        Outcome::Input(fault) => input_reason(alloc, request, fault)?,
+        Outcome::Spawn | Outcome::Lane | Outcome::Gate | Outcome::Memory | Outcome::Finished => {
+            return Ok(None);
+        }
+    };
+    Ok(Some(reason))
+}
+
+// What became of an output that could not be written.
+fn unwritten_reason(alloc: Global, name: &str) -> Result<String, OutOfMemory>
+    ensures { IfOk result (λ text. string_bytes text
+        ≡ name.now ++ codes ": not all of it could be written. Is the disk full?") }
+{
+    format!(in alloc; "{name}: not all of it could be written. Is the disk full?")
+}
+
+// What is wrong with a file.
+fn file_reason(alloc: Global, name: &str, words: &str) -> Result<String, OutOfMemory>
+    ensures { IfOk result (λ text. string_bytes text ≡ name.now ++ codes ": " ++ words.now) }
+{
+    format!(in alloc; "{name}: {words}")
+}
+
+// What is wrong with the inputs.
+fn input_reason(
+    alloc: Global,
+    request: &Request<'_>,
+    fault: InputFault,
+) -> Result<String, OutOfMemory>
+    ensures { IfOk result (λ text. string_bytes text
+        ≡ input_reason (asking_of request.now) fault) }
+{
+    match fault {
+        InputFault::Text(side, fault) => {
+            let words = record_reason(alloc, request.encoding, fault)?;
+            file_reason(alloc, request.input_name(side), words.as_str())
+        }
+        InputFault::MateMissing(side, _) => missing_reason(alloc, request.inputs, side),
+        InputFault::NamesDiffer(_) => names_reason(alloc, request.inputs),
+    }
+}
+
+// What is wrong with a record of a FASTQ file whose qualities have this encoding.
+fn record_reason(alloc: Global, encoding: &str, fault: TextFault) -> Result<String, OutOfMemory>
+    ensures { IfOk result (λ text. string_bytes text ≡ record_reason encoding.now fault) }
+{
+    let words = match fault {
+        TextFault::BadQuality(_) => return quality_reason(alloc, encoding),
+        TextFault::NoTitle(_) => "the record does not begin with @",
+        TextFault::BadSequence(_) => {
+            "a sequence line begins with @, or holds a space or an unprintable byte"
+        }
+        TextFault::NoPlus(_) => "the file ends before the line that begins with +",
+        TextFault::PlusDiffers(_) => "the line that begins with + holds another title",
+        TextFault::QualityLong(_) => "the quality is longer than the sequence",
+        TextFault::QualityShort(_) => {
+            "the file ends before the quality is as long as the sequence"
+        }
+        TextFault::TooLong(_) => "a line or the sequence has more than 1048576 bytes",
+        TextFault::Read => "it could not be read to its end",
+        TextFault::Endless => "it does not end",
+        TextFault::OutOfMemory => "memory was refused",
+    };
+    String::from_str(alloc, words)
+}
+
+// What is wrong with a quality byte.
+fn quality_reason(alloc: Global, encoding: &str) -> Result<String, OutOfMemory>
+    ensures { IfOk result (λ text. string_bytes text
+        ≡ codes "a quality byte has no score in the encoding " ++ encoding.now
+        ++ codes " (see --encoding)") }
+{
+    format!(in alloc; "a quality byte has no score in the encoding {encoding} (see --encoding)")
+}
+
+// Which file ends too early.
+fn missing_reason(alloc: Global, inputs: Inputs<'_>, side: Side) -> Result<String, OutOfMemory>
+    ensures { IfOk result (λ text. string_bytes text
+        ≡ missing_reason (names_of inputs.entry) (names_of inputs.entry).form side) }
+{
+    match (inputs, side) {
+        (Inputs::Apart { forward, reverse }, Side::Forward) => ends_first(alloc, forward, reverse),
+        (Inputs::Apart { forward, reverse }, Side::Reverse) => ends_first(alloc, reverse, forward),
+        (Inputs::Interleaved(both), _) => {
+            file_reason(alloc, both, "the file ends after a forward read")
+        }
+    }
+}
+
+// That one file ends before another.
+fn ends_first(alloc: Global, short: &str, long: &str) -> Result<String, OutOfMemory>
+    ensures { IfOk result (λ text. string_bytes text ≡ short.now
+        ++ codes ": the file ends before this record, and " ++ long.now ++ codes " has it") }
+{
+    format!(in alloc; "{short}: the file ends before this record, and {long} has it")
+}
+
+// Which files don't belong to each other.
+fn names_reason(alloc: Global, inputs: Inputs<'_>) -> Result<String, OutOfMemory>
+    ensures { IfOk result (λ text. string_bytes text
+        ≡ names_reason (names_of inputs.entry) (names_of inputs.entry).form) }
+{
+    match inputs {
+        Inputs::Apart { forward, reverse } => names_differ(alloc, forward, reverse),
+        Inputs::Interleaved(both) => file_reason(
+            alloc,
+            both,
+            "the reads of the pair have different names (see --no-name-check)",
+        ),
+    }
+}
+
+// That the reads of two files don't belong to each other.
+fn names_differ(alloc: Global, forward: &str, reverse: &str) -> Result<String, OutOfMemory>
+    ensures { IfOk result (λ text. string_bytes text
+        ≡ codes "the reads of " ++ forward.now ++ codes " and " ++ reverse.now
+        ++ codes " have different names (see --no-name-check)") }
+{
+    format!(
+        in alloc;
+        "the reads of {forward} and {reverse} have different names (see --no-name-check)"
+    )
+}

@@ -1,0 +1,13 @@
+//! Why a request was refused, and why a run ended early, in words that say what to change. The
+//! option `--explain` asks for these reasons.
+//!
+//! This is an inner layer of the program `fq_prog`, between `fq_job`, which knows what was refused
+//! or went wrong, and `fq_command`, which reports it. A reason is made of the fault and the
+//! arguments alone.
+#![tactic(auto)]
+
+mod ended;
+mod lines;
+mod refused;
+
+pub use lines::{ending_line, explained_refusal};
