@@ -32,11 +32,12 @@ lay_out() {
 # value.
 options_of_program() { "$program" "$1" --help | sed -nE 's/^ *(-[a-zA-Z], )?(--[a-z][a-z-]*)( <([A-Z]+)>)?( .*)?$/\2 \4/p' | sort -u; }
 
-# The options of trim_gz: its own, and those that it passes to the program.
+# The options of trim_gz: its own, and those that it passes to the program. It gives reasons of its
+# own, and doesn't take --explain.
 options_of_script() {
   {
     "$tree/contrib/trim_gz" --help | sed -nE "s/^    (-[-0-9a-zV]+( [A-Z.']+)?(, -[-0-9a-z]+( [A-Z.']+)?)*)  .*/\1/p" | sed "s/, /\n/g; s/[.']//g"
-    options_of_program PE
+    options_of_program PE | grep -v -- '-explain '
   } | awk '!seen[$1]++ { print $1, $2 }'
 }
 

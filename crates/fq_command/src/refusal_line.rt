@@ -45,11 +45,7 @@ pub(crate) fn refusal_line(
 }
 
 // The line of a refusal without a reason.
-fn plain_line(
-    alloc: Global,
-    request: &Request<'_>,
-    refusal: Refusal,
-) -> Result<String, OutOfMemory>
+fn plain_line(alloc: Global, request: &Request<'_>, refusal: Refusal) -> Result<String, OutOfMemory>
     ensures { IfOk result (λ text. string_bytes text
         ≡ line (words_of (asking_of request.now) refusal)) }
 {

@@ -50,8 +50,7 @@ fn usage_text(
 
 // That the word is no option, and what is meant by it.
 fn meant_text(alloc: Global, word: &str, meant: &str) -> Result<String, AllocError> {
-    format!(
-        in alloc;
+    format!(in alloc;
         "error: '{word}' is not an option; use '{meant}'\n\nFor more information, try '--help'.\n"
     )
 }

@@ -41,7 +41,8 @@ pub fn ending_line(
     request: &Request<'_>,
     outcome: Outcome,
 ) -> Result<String, OutOfMemory>
-    ensures { IfOk result (λ text. string_bytes text ≡ ending_line (asking_of request.now) outcome) }
+    ensures { IfOk result (λ text. string_bytes text
+        ≡ ending_line (asking_of request.now) outcome) }
 {
     let mut line = String::new(alloc);
     fault_line(alloc, &mut line, outcome)?;

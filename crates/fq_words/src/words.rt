@@ -184,7 +184,17 @@ fn options<'a>(alloc: Global) -> Result<Vec<Arg<'a>>, AllocError>
     let explain = explain(alloc);
     let unexplained = unexplained(alloc);
     Ok(vec![in alloc;
-        threads, block, depth, chunk, encoding, log, unchecked, sync, report, explain, unexplained,
+        threads,
+        block,
+        depth,
+        chunk,
+        encoding,
+        log,
+        unchecked,
+        sync,
+        report,
+        explain,
+        unexplained,
     ]?)
 }
 
