@@ -30,11 +30,7 @@ pub(crate) fn usage_lines(
 
 // The text of an error about these arguments. A long option with one hyphen, as Trimmomatic and
 // others write it, is answered with the option that is meant.
-fn usage_text(
-    alloc: Global,
-    error: &Error,
-    words: &[&str],
-) -> Result<String, AllocError> {
+fn usage_text(alloc: Global, error: &Error, words: &[&str]) -> Result<String, AllocError> {
     if error.kind() == ErrorKind::UnknownArgument {
         for word in words {
             if let Some(meant) = meant_by(word) {

@@ -22,11 +22,13 @@ pub(crate) fn ending_reason(
         ≡ ending_reason (asking_of request.now) outcome) }
 {
     let reason = match outcome {
-        Outcome::Write(out) => {
-            unwritten_reason(alloc, request.output_name(out).unwrap_or(""))?
-        }
+        Outcome::Write(out) => { unwritten_reason(alloc, request.output_name(out).unwrap_or(""))? }
         Outcome::Read(side) => {
-            file_reason(alloc, request.input_name(side), "it could not be read to its end")?
+            file_reason(
+                alloc,
+                request.input_name(side),
+                "it could not be read to its end",
+            )?
         }
         Outcome::Endless(side) => {
             let words = "it has not ended after 1099511627776 read calls";
@@ -150,8 +152,7 @@ fn names_differ(alloc: Global, forward: &str, reverse: &str) -> Result<String, O
         ≡ codes "the reads of " ++ forward.now ++ codes " and " ++ reverse.now
         ++ codes " have different names (see --no-name-check)") }
 {
-    format!(
-        in alloc;
+    format!(in alloc;
         "the reads of {forward} and {reverse} have different names (see --no-name-check)"
     )
 }

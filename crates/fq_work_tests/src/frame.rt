@@ -7,8 +7,8 @@ use fq_samples::{
     FIRST_FORWARD, FIRST_REVERSE, FIRST_WRITTEN, SECOND_FORWARD, SECOND_REVERSE, SECOND_WRITTEN,
     TWO_STEPS, Written, source_of,
 };
-use fq_text::{Encoding, ScriptFeed};
 use fq_tally::Tally;
+use fq_text::{Encoding, ScriptFeed};
 use fq_trim::Steps;
 use fq_work::{Cause, Gate, PackedDone, Reply, WorkEnds, Worked, work, work_tallied};
 use std::alloc::Global;
