@@ -11,6 +11,10 @@ use Rattle.fq_serial.specs.declared.outcome.Outcome.{Outcome}
 use Rattle.fq_serial.specs.declared.outcome.Outcome.TheVariants.{Write, Read, Endless, Input}
 use Rattle.fq_words.specs.Requests.{Asking, InputNames, input_name, output_name}
 
+-- what is wrong with a file
+abbrev pub file_reason : List ℕ → List ℕ → List ℕ
+file_reason name words = name ++ codes ": " ++ words
+
 -- what is wrong with a record of a FASTQ file whose qualities have this encoding
 abbrev pub record_reason : List ℕ → TextFault → List ℕ
 record_reason encoding (text.NoTitle k) = codes "the record does not begin with @"
@@ -42,28 +46,28 @@ missing_reason inputs TwoTexts side = input_name inputs side
     ++ codes ": the file ends before this record, and " ++ input_name inputs (other_side side)
     ++ codes " has it"
 missing_reason inputs InterleavedText side =
-    input_name inputs side ++ codes ": the file ends after a forward read"
+    file_reason (input_name inputs side) (codes "the file ends after a forward read")
 
 -- the mates don't belong to each other
 abbrev pub names_reason : InputNames → Form → List ℕ
 names_reason inputs TwoTexts = codes "the reads of " ++ inputs.forward ++ codes " and "
     ++ inputs.reverse ++ codes " have different names (see --no-name-check)"
-names_reason inputs InterleavedText =
-    inputs.forward ++ codes ": the reads of the pair have different names (see --no-name-check)"
+names_reason inputs InterleavedText = file_reason inputs.forward
+    (codes "the reads of the pair have different names (see --no-name-check)")
 
 abbrev pub input_reason : Asking → InputFault → List ℕ
 input_reason a (Text side fault) =
-    input_name a.inputs side ++ codes ": " ++ record_reason a.encoding fault
+    file_reason (input_name a.inputs side) (record_reason a.encoding fault)
 input_reason a (MateMissing side k) = missing_reason a.inputs a.inputs.form side
 input_reason a (NamesDiffer k) = names_reason a.inputs a.inputs.form
 
 -- why the run ended so, as far as the outcome and the arguments show
 abbrev pub ending_reason : Asking → Outcome → Option (List ℕ)
-ending_reason a (Write out) = Some (unwrap_or (output_name a out) []
-    ++ codes ": not all of it could be written. Is the disk full?")
+ending_reason a (Write out) = Some (file_reason (unwrap_or (output_name a out) [])
+    (codes "not all of it could be written. Is the disk full?"))
 ending_reason a (Read side) =
-    Some (input_name a.inputs side ++ codes ": it could not be read to its end")
-ending_reason a (Endless side) = Some (input_name a.inputs side
-    ++ codes ": it has not ended after 1099511627776 read calls")
+    Some (file_reason (input_name a.inputs side) (codes "it could not be read to its end"))
+ending_reason a (Endless side) = Some (file_reason (input_name a.inputs side)
+    (codes "it has not ended after 1099511627776 read calls"))
 ending_reason a (Input fault) = Some (input_reason a fault)
 ending_reason a _ = None

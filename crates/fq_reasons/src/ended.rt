@@ -4,7 +4,7 @@ ghost use Rattle.std.specs.Prelude.{◌≡◌, ◌++◌, IfOk, codes, unwrap_or}
 ghost use Rattle.std.specs.Option.{option_map};
 ghost use Rattle.std.specs.String.{string_bytes};
 ghost use Rattle.fq_words.specs.Requests.{asking_of, names_of};
-ghost use Rattle.fq_reasons.specs.Ended.{record_reason, missing_reason, names_reason, other_side, input_reason, ending_reason};
+ghost use Rattle.fq_reasons.specs.Ended.{file_reason, record_reason, missing_reason, names_reason, other_side, input_reason, ending_reason};
 
 use fq_pair::{InputFault, Side};
 use fq_serial::Outcome;
@@ -21,38 +21,30 @@ pub(crate) fn ending_reason(
     ensures { IfOk result (λ reason. option_map string_bytes reason
         ≡ ending_reason (asking_of request.now) outcome) }
 {
-    let reason = match outcome {
-        Outcome::Write(out) => { unwritten_reason(alloc, request.output_name(out).unwrap_or(""))? }
+    match outcome {
+        Outcome::Write(out) => {
+            let name = request.output_name(out).unwrap_or("");
+            let words = "not all of it could be written. Is the disk full?";
+            Ok(Some(file_reason(alloc, name, words)?))
+        }
         Outcome::Read(side) => {
-            file_reason(
-                alloc,
-                request.input_name(side),
-                "it could not be read to its end",
-            )?
+            let words = "it could not be read to its end";
+            Ok(Some(file_reason(alloc, request.input_name(side), words)?))
         }
         Outcome::Endless(side) => {
             let words = "it has not ended after 1099511627776 read calls";
-            file_reason(alloc, request.input_name(side), words)?
+            Ok(Some(file_reason(alloc, request.input_name(side), words)?))
         }
-        Outcome::Input(fault) => input_reason(alloc, request, fault)?,
+        Outcome::Input(fault) => Ok(Some(input_reason(alloc, request, fault)?)),
         Outcome::Spawn | Outcome::Lane | Outcome::Gate | Outcome::Memory | Outcome::Finished => {
-            return Ok(None);
+            Ok(None)
         }
-    };
-    Ok(Some(reason))
-}
-
-// What became of an output that could not be written.
-fn unwritten_reason(alloc: Global, name: &str) -> Result<String, OutOfMemory>
-    ensures { IfOk result (λ text. string_bytes text
-        ≡ name.now ++ codes ": not all of it could be written. Is the disk full?") }
-{
-    format!(in alloc; "{name}: not all of it could be written. Is the disk full?")
+    }
 }
 
 // What is wrong with a file.
 fn file_reason(alloc: Global, name: &str, words: &str) -> Result<String, OutOfMemory>
-    ensures { IfOk result (λ text. string_bytes text ≡ name.now ++ codes ": " ++ words.now) }
+    ensures { IfOk result (λ text. string_bytes text ≡ file_reason name.now words.now) }
 {
     format!(in alloc; "{name}: {words}")
 }

@@ -20,17 +20,17 @@ pub fn explained_refusal(
     alloc: Global,
     request: &Request<'_>,
     refusal: Refusal,
-    line: String,
+    plain: String,
 ) -> Result<String, OutOfMemory>
-    requires { string_bytes line.entry ≡ line (words_of (asking_of request.now) refusal) }
+    requires { string_bytes plain ≡ line (words_of (asking_of request.now) refusal) }
     ensures { IfOk result (λ text. string_bytes text ≡ line_of (asking_of request.now) refusal) }
 {
     if !request.explain {
-        return Ok(line);
+        return Ok(plain);
     }
     match refusal_reason(alloc, request, refusal)? {
-        Some(reason) => with_reason(alloc, line.as_str(), reason.as_str()),
-        None => Ok(line),
+        Some(reason) => with_reason(alloc, plain.as_str(), reason.as_str()),
+        None => Ok(plain),
     }
 }
 

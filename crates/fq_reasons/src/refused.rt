@@ -1,6 +1,6 @@
 //! Why a request was refused.
 
-ghost use Rattle.std.specs.Prelude.{◌≡◌, ◌++◌, IfOk, codes, decimal, unwrap_or};
+ghost use Rattle.std.specs.Prelude.{◌≡◌, ◌++◌, [], IfOk, codes, decimal, unwrap_or};
 ghost use Rattle.std.specs.Option.{option_map};
 ghost use Rattle.std.specs.String.{string_bytes};
 ghost use Rattle.fq_words.specs.Requests.{asking_of, output_name};
@@ -215,20 +215,41 @@ fn unknown_words(alloc: Global, word: &str) -> Result<String, OutOfMemory>
         ++ codes "' is no step (" ++ step_names ++ codes ")"
         ++ too_many_files (is_like_file word.now)) }
 {
-    let names = STEP_NAMES;
-    let more = if is_like_file(word) {
+    no_step(alloc, word, STEP_NAMES, question(word))
+}
+
+// That a word is none of these names, and a question about it.
+fn no_step(alloc: Global, word: &str, names: &str, more: &str) -> Result<String, OutOfMemory>
+    ensures { IfOk result (λ text. string_bytes text ≡ codes "'" ++ word.now
+        ++ codes "' is no step (" ++ names.now ++ codes ")" ++ more.now) }
+{
+    format!(in alloc; "'{word}' is no step ({names}){more}")
+}
+
+// What to ask about an argument that names no step.
+fn question(word: &str) -> &'static str
+    ensures { result.now ≡ too_many_files (is_like_file word.now) }
+{
+    if is_like_file(word) {
         ". Is there one file name too many?"
     } else {
         ""
-    };
-    format!(in alloc; "'{word}' is no step ({names}){more}")
+    }
 }
 
 // What the argument must have, with an example of its step.
 fn must_have(alloc: Global, word: &str, what: &str) -> Result<String, OutOfMemory>
     ensures { IfOk result (λ text. string_bytes text ≡ must_have word.now what.now) }
 {
-    let example = example_of(step_name(word));
+    let name = step_name(word);
+    as_example(alloc, word, what, example_of(name))
+}
+
+// What a word must have, with an example.
+fn as_example(alloc: Global, word: &str, what: &str, example: &str) -> Result<String, OutOfMemory>
+    ensures { IfOk result (λ text. string_bytes text ≡ codes "'" ++ word.now
+        ++ codes "' must have " ++ what.now ++ codes ", as " ++ example.now) }
+{
     format!(in alloc; "'{word}' must have {what}, as {example}")
 }
 
