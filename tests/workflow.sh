@@ -138,12 +138,6 @@ bad_option() {
   grep -q '^failed: s1: trim_gz: --frob is not an option' said || fail "it is not named, but: $(grep '^failed:' said)"
 }
 
-# no_cutadapt: the page has nothing of cutadapt
-no_cutadapt() {
-  [ ! -e results/report_data/multiqc_cutadapt.txt ] || fail 'the page has a part of cutadapt'
-  if grep -qi cutadapt results/report.html; then fail 'the page names cutadapt'; fi
-}
-
 new_lab tables
 names_of_files
 bad_tables

@@ -279,6 +279,12 @@ refused() {
   [ ! -e results ] || fail 'something was made'
 }
 
+# no_cutadapt: the page has nothing of cutadapt
+no_cutadapt() {
+  [ ! -e results/report_data/multiqc_cutadapt.txt ] || fail 'the page has a part of cutadapt'
+  if grep -qi cutadapt results/report.html; then fail 'the page names cutadapt'; fi
+}
+
 # nothing_is_done: all is made already
 nothing_is_done() {
   call 0 --profile profiles/local
