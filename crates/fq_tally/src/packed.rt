@@ -53,8 +53,8 @@ impl PackedTally {
     }
 }
 
-/// A [`Done`] whose tally takes little memory, so that many can wait in a lane. Its memory is reused
-/// for other blocks. Contracts see the `Done`.
+/// A [`Done`] whose tally takes little memory, so that many can wait in a lane. Its memory is
+/// reused for other blocks. Contracts see the `Done`.
 #[derive(Drop)]
 pub struct PackedDone {
     number: u64,

@@ -4,8 +4,8 @@
 //! [`work_block`] trims the pairs of one block, and counts them for a report if a tally is asked
 //! for. [`work`] and [`work_tallied`] do so block by block, ask a [`Gate`] before each, and stop if
 //! memory is refused or the gate does not let a block pass. Their contract says what was sent for
-//! what was taken: one [`Done`], packed, for each block, in order, or for the first of them, and then one
-//! [`Reply::Stop`].
+//! what was taken: one [`Done`], packed, for each block, in order, or for the first of them, and
+//! then one [`Reply::Stop`].
 #![tactic(auto)]
 
 mod ends;
