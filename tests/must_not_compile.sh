@@ -1,5 +1,5 @@
 #!/usr/bin/env bash
-# What a lane's types rule out must not compile.
+# What the types of a lane, and of the witness of refused memory, rule out must not compile.
 #
 # In its callers: an offer after the lane was closed, and one end that confirms twice. Each must be
 # refused by exactly one error, the borrow error E0382: a use of a value that was moved (the check
@@ -10,6 +10,10 @@
 # condition, or was woken before. Each must be refused by exactly one error: the witness of the move
 # is dropped (error[linear-value-let-go]), or is forgotten without being `Drop`
 # (error[unsatisfied-bound]). The unchanged lane must have no error.
+#
+# Of the witness: one that is made of nothing. It must be refused by exactly one error
+# (error[private-field]), and one that is made of the error of std by none. That error itself is
+# written as a value only in the files that are named below, where something else stands for it.
 #
 # It works in a directory of its own, outside the tree, and needs rt on the path.
 set -uo pipefail
@@ -162,4 +166,55 @@ try_in_lane "a witness that is forgotten" unsatisfied-bound rx.rt \
   'freed.wake_sender(&self.parkers);' \
   'std::mem::forget(freed);'
 
-finish 'ok, 9 misuses refused and 2 uses accepted'
+# The witness is tried in a crate that has its file alone.
+mkdir -p "$room/crates/witness/src"
+cp "$tree/crates/fq_text/src/memory.rt" "$room/crates/witness/src/"
+cat > "$room/crates/witness/src/lib.rt" << 'RT'
+//! The witness of refused memory.
+#![tactic(auto)]
+
+mod memory;
+
+pub use memory::{MemoryRefused, OutOfMemory};
+RT
+printf 'witness:\nmisuse: witness\n' > "$room/crates.txt"
+
+try "a witness that is made of an error" none << 'RT'
+//! Refused memory that is reported.
+#![tactic(auto)]
+
+use std::alloc::Global;
+use witness::MemoryRefused;
+
+pub fn eight_zeros(alloc: Global) -> Result<Vec<u8>, MemoryRefused> {
+    let zeros = vec![in alloc; 0; 8]?;
+    Ok(zeros)
+}
+RT
+
+try "a witness that is made of nothing" private-field << 'RT'
+//! Refused memory that is reported though none was asked for.
+#![tactic(auto)]
+
+use witness::MemoryRefused;
+
+pub fn no_zeros() -> Result<Vec<u8>, MemoryRefused> {
+    Err(MemoryRefused {
+        made_of_an_error: (),
+    })
+}
+RT
+
+# Where the program's crates write an error of std as a value: once in each of these files.
+error='(AllocError|OutOfMemory)'
+written=$(grep -rcE "\\($error\\)|= $error;|$error\\.into" --include='*.rt' crates/*/src |
+  grep -vE ':0$|^crates/([a-z_]+_tests|fq_(rows|worked|samples))/' | sort)
+wanted='crates/fq_command/src/answering.rt:1
+crates/fq_command/src/example.rt:1
+crates/fq_job/src/refusal.rt:1
+crates/fq_job/src/reporting.rt:1
+crates/fq_prog/src/main.rt:1
+crates/fq_serial/src/occurred.rt:1'
+[ "$written" = "$wanted" ] || fail "errors of std are written as values in: $written"
+
+finish 'ok, 10 misuses refused and 3 uses accepted'

@@ -45,7 +45,7 @@ refusal_fails (why.Source side) = ((λ e. absurd (omega (arith, e))), (λ e. abs
 refusal_fails (why.Target out) = ((λ e. absurd (omega (arith, e))), (λ e. absurd (omega (arith, e))), (λ e. absurd (omega (arith, e))))
 refusal_fails why.SameReport = ((λ e. absurd (omega (arith, e))), (λ e. absurd (omega (arith, e))), (λ e. absurd (omega (arith, e))))
 refusal_fails why.Report = ((λ e. absurd (omega (arith, e))), (λ e. absurd (omega (arith, e))), (λ e. absurd (omega (arith, e))))
-refusal_fails why.Memory = ((λ e. absurd (omega (arith, e))), (λ e. absurd (omega (arith, e))), (λ e. absurd (omega (arith, e))))
+refusal_fails (why.Memory lacked) = ((λ e. absurd (omega (arith, e))), (λ e. absurd (omega (arith, e))), (λ e. absurd (omega (arith, e))))
 
 -- nor is the status at which a refusal is reported
 pub refuses_fails : (a : Asking) (refusal : Refusal) (err : Device) (status : ℕ) → Refuses a refusal err status → (status ≢ 0) × (status ≢ 3)
@@ -193,9 +193,9 @@ module _ (a : Asking) (told : Bool) (old new : Holding) (outcome : Outcome) (cou
         took = failed.2;
       }
   told_line out err status (inr (inr lacks)) =
-      let due = due_as report.OutOfMemory lacks.0 (λ e. absurd (cc e)) in
+      let due = due_as (report.OutOfMemory lacks.0.0) lacks.0.1 (λ e. absurd (cc e)) in
       lacks_line a told old new out err status lacks.1 (λ tells. inr (outcome, run.ended tells (not_lane outcome due)))
-      (λ tells name named. inl (inr (held_as report.OutOfMemory lacks.0 tells name named)))
+      (λ tells name named. inl (inr (held_as (report.OutOfMemory lacks.0.0) lacks.0.1 tells name named)))
 
 -- ---- the device that is named
 
@@ -238,7 +238,7 @@ pub is_left : (a : Asking) (old new : Holding) (name : List ℕ) (reported : Rep
 is_left a old new name report.NotDue empty = inl (inr empty)
 is_left a old new name report.Written holds = whole_begins a old new name holds
 is_left a old new name report.Failed begins = inr begins
-is_left a old new name report.OutOfMemory empty = inl (inr empty)
+is_left a old new name (report.OutOfMemory lacked) empty = inl (inr empty)
 
 -- what the line of a run says about the files
 fits_left : (a : Asking) (told : Bool) (old new : Holding) (out : Device) (status : ℕ) (text : List ℕ) → (IsRefusal a told old new status text ⊎ IsEnding a told old new status text)

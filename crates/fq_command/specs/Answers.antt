@@ -3,6 +3,7 @@ use Rattle.std.specs.Prelude.{◌≡◌, ◌≢◌, ◌⊎◌, ℕ, ◌<◌, Boo
 use Rattle.std.specs.List.{All}
 use Rattle.fq_text.specs.Devices.{OutletState}
 use Rattle.fq_text.specs.Written.{line}
+use Rattle.fq_text.specs.declared.memory.MemoryRefused.{MemoryRefused}
 use Rattle.fq_files.specs.Holding.{Holding, Names, IsUnchanged, MayRefuse}
 use Rattle.fq_pair.specs.declared.counts.Counts.{Counts}
 use Rattle.fq_pair.specs.declared.side.Side.{Side}
@@ -167,7 +168,8 @@ Tells a outcome reported out err status =
     (((reported ≡ report.NotDue) ⊎ (reported ≡ report.Written))
     × Reports (ending_line a outcome) outcome out err status)
     ⊎ (((reported ≡ report.Failed) × (status ≡ 4) × TookText err report_line)
-    ⊎ ((reported ≡ report.OutOfMemory) × LacksMemory err status))
+    ⊎ (((refused : MemoryRefused) × (reported ≡ report.OutOfMemory refused))
+    × LacksMemory err status))
 
 -- standard error took the line of the refusal, or memory was refused for that line
 abbrev pub Refuses : Asking → Refusal → Device → ℕ → Type 0

@@ -26,9 +26,9 @@ use clap::Error;
 use clap::error::ErrorKind;
 use fq_files::Files;
 use fq_job::{Refusal, Reported};
-use fq_text::{Outlet, send};
+use fq_text::{MemoryRefused, Outlet, send};
 use fq_words::{Asked, Request, read_words};
-use std::alloc::Global;
+use std::alloc::{AllocError, Global};
 use std::sync::Wait;
 use std::thread::Threads;
 
@@ -222,7 +222,7 @@ fn tell<O: Outlet, E: Outlet>(
             tell_account(alloc, Some(request), &completed.account, out, err)
         }
         Reported::Failed => cannot_report(err),
-        Reported::OutOfMemory => out_of_memory(err),
+        Reported::OutOfMemory(refused) => out_of_memory(err, refused),
     }
 }
 
@@ -237,7 +237,7 @@ fn refuse<E: Outlet>(alloc: Global, request: &Request<'_>, refusal: Refusal, err
             let _ = send(err, line.as_bytes());
             refusal_status(refusal)
         }
-        Err(_) => out_of_memory(err),
+        Err(e) => out_of_memory(err, MemoryRefused::from(e)),
     }
 }
 
@@ -268,7 +268,7 @@ fn print_example<R: Threads + Wait + Copy + Send + 'static, O: Outlet, E: Outlet
             Err(_) => cannot_print(err),
         },
         Err(Unshown::Unrun(account)) => tell_account(alloc, None, &account, out, err),
-        Err(Unshown::Memory) => out_of_memory(err),
+        Err(Unshown::Memory(refused)) => out_of_memory(err, refused),
     }
 }
 
@@ -297,10 +297,12 @@ fn refuse_words<O: Outlet, E: Outlet>(
         × LacksMemory (device_of E.state err.old err.new) result }
 {
     if error.kind() == ErrorKind::OutOfMemory {
-        return out_of_memory(err);
+        // The kind stands for the error of std.
+        return out_of_memory(err, MemoryRefused::from(AllocError));
     }
-    let Ok(text) = usage_lines(alloc, error, words) else {
-        return out_of_memory(err);
+    let text = match usage_lines(alloc, error, words) {
+        Ok(text) => text,
+        Err(e) => return out_of_memory(err, MemoryRefused::from(e)),
     };
     if error.use_stderr() {
         // A failed write to `err` has nowhere to be reported.

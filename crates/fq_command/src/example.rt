@@ -16,7 +16,7 @@ use crate::unshown::Unshown;
 use fq_job::{Account, CALL_LIMIT};
 use fq_pair::{Counts, summary};
 use fq_run::{Ending, Outcome, Outlets, Settings, run_threads};
-use fq_text::{Encoding, Feed, OutOfMemory, Outlet, ScriptFeed, ScriptOutlet};
+use fq_text::{Encoding, Feed, MemoryRefused, OutOfMemory, Outlet, ScriptFeed, ScriptOutlet};
 use fq_trim::Steps;
 use fq_work::OpenGate;
 use std::alloc::Global;
@@ -83,17 +83,18 @@ enum Why {
     // its pairs.
     Unrun(Outcome, Counts),
     // Memory was refused.
-    Memory,
+    Memory(MemoryRefused),
 }
 
 impl From<OutOfMemory> for Why {
     ghost use Rattle.std.specs.Prelude.{◌≡◌};
+    ghost use Rattle.fq_text.specs.declared.memory.MemoryRefused.{MemoryRefused};
     ghost use Rattle.fq_command.specs.declared.example.Why.TheVariants.{Memory};
 
-    ghost from_gives = { λ _ e. e ≡ Memory };
+    ghost from_gives = { λ _ e. (refused : MemoryRefused) × (e ≡ Memory refused) };
 
-    fn from(_e: OutOfMemory) -> Why {
-        Why::Memory
+    fn from(e: OutOfMemory) -> Why {
+        Why::Memory(MemoryRefused::from(e))
     }
 }
 
@@ -114,8 +115,10 @@ pub(crate) fn example<R: Threads + Wait + Copy + Send + 'static>(
             outcome,
             counts,
             tally: None,
+            unended: None,
+            refused: None,
         })),
-        Err(Why::Memory) => Err(Unshown::Memory),
+        Err(Why::Memory(refused)) => Err(Unshown::Memory(refused)),
     }
 }
 
@@ -141,8 +144,9 @@ fn text_over<R: Threads + Wait + Copy + Send + 'static>(
     ensures unrun { IfErr result (λ why. (outcome : Outcome)
         → (counts : Counts) → why ≡ Why.Unrun outcome counts → outcome_status outcome ≡ 6) }
 {
-    let Ok(gate) = Arc::new(alloc, OpenGate) else {
-        return Err(Why::Memory);
+    let gate = match Arc::new(alloc, OpenGate) {
+        Ok(gate) => gate,
+        Err(e) => return Err(Why::from(OutOfMemory::from(e))),
     };
     let forward = ScriptFeed::new(alloc, FORWARD, CUT, 0)?;
     let reverse = ScriptFeed::new(alloc, REVERSE, CUT, 0)?;
@@ -168,8 +172,8 @@ fn shown(
     match (outcome, &outlets.log) {
         (Outcome::Finished, Some(log)) => Ok(labelled(alloc, outlets, log.bytes(), counts)?),
         (Outcome::Spawn | Outcome::Lane, _) => Err(Why::Unrun(outcome, *counts)),
-        // Outlets in memory fail only if memory is refused.
-        _ => Err(Why::Memory),
+        // Outlets in memory fail only if memory is refused: they stand for the error of std.
+        _ => Err(Why::from(OutOfMemory)),
     }
 }
 

@@ -27,7 +27,7 @@ pub(crate) fn refusal_status(refusal: Refusal) -> u8
         | Refusal::SameName(_)
         | Refusal::SameReport => 2,
         Refusal::Source(_) | Refusal::Target(_) | Refusal::Report => 4,
-        Refusal::Memory => 5,
+        Refusal::Memory(_) => 5,
     }
 }
 
@@ -67,7 +67,7 @@ fn plain_line(alloc: Global, request: &Request<'_>, refusal: Refusal) -> Result<
         Refusal::Target(out) => unwritten_line(alloc, output_name(request, out)),
         Refusal::SameReport => same_name_line(alloc, report_name(request)),
         Refusal::Report => unwritten_line(alloc, report_name(request)),
-        Refusal::Memory => String::from_str(alloc, MEMORY_LINE),
+        Refusal::Memory(_) => String::from_str(alloc, MEMORY_LINE),
     }
 }
 

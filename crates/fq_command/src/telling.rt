@@ -13,7 +13,7 @@ use fq_job::{Account, LANE_LINE, MEMORY_LINE, fault_line, status_of};
 use fq_pair::{Counts, summary};
 use fq_reasons::ending_line;
 use fq_run::Outcome;
-use fq_text::{OutOfMemory, Outlet, send};
+use fq_text::{MemoryRefused, OutOfMemory, Outlet, send};
 use fq_words::Request;
 use std::alloc::Global;
 
@@ -62,13 +62,15 @@ pub(crate) fn tell_account<O: Outlet, E: Outlet>(
         let _ = send(err, LANE_LINE.as_bytes());
         return 6;
     }
-    let Ok(line) = told_line(alloc, request, account.outcome) else {
-        return out_of_memory(err);
+    let line = match told_line(alloc, request, account.outcome) {
+        Ok(line) => line,
+        Err(e) => return out_of_memory(err, MemoryRefused::from(e)),
     };
     let status = status_of(account.outcome);
     if status == 0 || status == 3 {
-        let Ok(printed) = print_summary(alloc, &account.counts, out) else {
-            return out_of_memory(err);
+        let printed = match print_summary(alloc, &account.counts, out) {
+            Ok(printed) => printed,
+            Err(e) => return out_of_memory(err, MemoryRefused::from(e)),
         };
         if !printed && status == 0 {
             return cannot_print(err);
@@ -113,9 +115,9 @@ fn print_summary<O: Outlet>(
     Ok(send(out, text.as_bytes()).is_ok())
 }
 
-/// Reports on `err`, by the line `out of memory`, that memory was refused. Returns the exit status,
-/// 5.
-pub fn out_of_memory<E: Outlet>(err: &mut E) -> u8
+/// Reports on `err`, by the line `out of memory`, that memory was refused, for which there must be
+/// a witness. Returns the exit status, 5.
+pub fn out_of_memory<E: Outlet>(err: &mut E, _refused: MemoryRefused) -> u8
     requires { (E.state err.old).failures ≡ 0 }
     ensures { LacksMemory (device_of E.state err.old err.new) result }
 {

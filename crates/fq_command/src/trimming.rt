@@ -10,7 +10,7 @@ ghost use Rattle.fq_words.specs.Requests.{asking_of, input_name};
 ghost use Rattle.fq_job.specs.Judging.{settings_of, wrong_with};
 ghost use Rattle.fq_job.specs.Trimming.{KeepsUnnamed, opened_of, left_of, form_of, run_in, AreFresh};
 ghost use Rattle.fq_job.specs.Opening.{AreReady, AreOpened, IsRefused, SparesInputs};
-ghost use Rattle.fq_job.specs.Completing.{IsCompleted};
+ghost use Rattle.fq_job.specs.Completing.{IsCompleted, IsWitnessed};
 ghost use Rattle.fq_files.specs.Holding.{Holding, IsUnchanged};
 
 use fq_files::Files;
@@ -19,7 +19,7 @@ use fq_job::{
 };
 use fq_pair::Side;
 use fq_run::{Outcome, Outlets, Settings, run_threads, run_threads_mixed};
-use fq_text::{Feed, Outlet};
+use fq_text::{Feed, MemoryRefused, OutOfMemory, Outlet};
 use fq_words::Request;
 use fq_work::OpenGate;
 use std::alloc::Global;
@@ -62,6 +62,9 @@ pub fn trim_files<R: Threads + Wait + Copy + Send + 'static, T: Files>(
     ensures rest { IsTrue (T.tells_bytes files.old)
         → KeepsUnnamed (asking_of request.now) (T.bytes_of files.old) (T.bytes_of files.new) }
 
+    // Refused memory and an unconfirmed lane have a witness.
+    ensures witnessed { IfOk result (λ completed. IsWitnessed completed.account) }
+
     // If an output or the report leads to an input, no file changes.
     ensures spared { IsTrue (T.tells_bytes files.old)
         → SparesInputs (asking_of request.now) (T.is_open files.new)
@@ -79,8 +82,9 @@ pub fn trim_files<R: Threads + Wait + Copy + Send + 'static, T: Files>(
         → IsUnchanged (T.bytes_of files.old) (T.bytes_of files.new) }
 {
     let settings = judge(request)?;
-    let Ok(gate) = Arc::new(alloc, OpenGate) else {
-        return Err(Refusal::Memory);
+    let gate = match Arc::new(alloc, OpenGate) {
+        Ok(gate) => gate,
+        Err(e) => return Err(Refusal::Memory(MemoryRefused::from(OutOfMemory::from(e)))),
     };
     let devices = open(request, files)?;
     Ok(complete(alloc, rt, request, &settings, gate, files, devices))
@@ -111,6 +115,7 @@ fn complete<R: Threads + Wait + Copy + Send + 'static, T: Files>(
         (T.is_unflushed files.old) (T.is_unflushed files.new)
         result.account.outcome result.account.counts result.reported }
     ensures leading { T.is_open files.new ≡ T.is_open files.old }
+    ensures witnessed { IsWitnessed result.account }
 {
     let Devices {
         feeds,
@@ -151,6 +156,7 @@ fn run<R: Threads + Wait + Copy + Send + 'static, F: Feed + Drop + Send + 'stati
         (left_of F.state result.feeds) result.account in
         run.outcome ≢ Outcome.Lane → EveryEnding settings.now run }
     ensures form { form_of result.feeds ≡ (opened_of F.state feeds).form }
+    ensures witnessed { IsWitnessed result.account }
 {
     match feeds {
         Feeds::Apart { forward, reverse } => {
@@ -160,6 +166,8 @@ fn run<R: Threads + Wait + Copy + Send + 'static, F: Feed + Drop + Send + 'stati
                     outcome: ending.outcome,
                     counts: ending.counts,
                     tally: ending.tally,
+                    unended: ending.unended,
+                    refused: ending.refused,
                 },
                 feeds: Feeds::Apart {
                     forward: ending.forward,
@@ -174,6 +182,8 @@ fn run<R: Threads + Wait + Copy + Send + 'static, F: Feed + Drop + Send + 'stati
                     outcome: ending.outcome,
                     counts: ending.counts,
                     tally: ending.tally,
+                    unended: ending.unended,
+                    refused: ending.refused,
                 },
                 feeds: Feeds::Interleaved(ending.feed),
             }

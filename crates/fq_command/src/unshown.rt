@@ -1,6 +1,7 @@
 //! Why the example is not shown.
 
 use fq_job::Account;
+use fq_text::MemoryRefused;
 
 /// Why the example is not shown.
 #[derive(Drop)]
@@ -8,5 +9,5 @@ pub(crate) enum Unshown {
     /// A thread was refused, or a lane could not be confirmed.
     Unrun(Account),
     /// Memory was refused.
-    Memory,
+    Memory(MemoryRefused),
 }

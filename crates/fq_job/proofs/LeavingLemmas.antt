@@ -14,6 +14,7 @@ use Rattle.fq_serial.specs.declared.outcome.Outcome.TheVariants.{Spawn, Write}
 use Rattle.fq_serial.specs.Devices.{OutletStates, OutletsTook}
 use Rattle.fq_serial.specs.Endings.{Run, AreFirst, AreTold, EveryEnding, all_pairs, trimmed_outcome}
 use Rattle.fq_serial.specs.Fates.{Fate, Unbroken, failed_outlet, block_begun, part_begun, IsCutShort}
+use Rattle.fq_job.specs.Refusals.{IsMemory}
 use Rattle.fq_job.specs.declared.refusal.Refusal.{Refusal}
 use Rattle.fq_job.specs.declared.refusal.Refusal.TheVariants as why
 use Rattle.fq_words.specs.Requests.{Asking, InputNames}
@@ -57,13 +58,13 @@ leaves_unchanged a (why.Source side) old new early same = same
 leaves_unchanged a (why.Target out) old new early same = absurd (cc early)
 leaves_unchanged a why.SameReport old new early same = same
 leaves_unchanged a why.Report old new early same = absurd (cc early)
-leaves_unchanged a why.Memory old new early same = λ out name named. inl (same name)
+leaves_unchanged a (why.Memory lacked) old new early same = λ out name named. inl (same name)
 
 -- an output or the report that leads to an input is refused, and the files are unchanged
 pub spares_all : (a : Asking) (refusal : Refusal) (old new : Holding) → IsTrue (is_late refusal) → IsUnchanged old new → RefusalLeaves a refusal old new
 spares_all a (why.Target out) old new late same = inr same
 spares_all a why.Report old new late same = inr same
-spares_all a why.Memory old new late same = λ out name named. inl (same name)
+spares_all a (why.Memory lacked) old new late same = λ out name named. inl (same name)
 spares_all a why.Encoding old new late same = absurd (cc late)
 spares_all a (why.Step fault) old new late same = absurd (cc late)
 spares_all a (why.Setting bad) old new late same = absurd (cc late)
@@ -76,7 +77,7 @@ pub tells_late : (inputs : InputNames) (refusal : Refusal) (old : Holding) (refu
     → old inputs.forward ≡ Some forward → old inputs.reverse ≡ Some reverse → TellsInputs inputs refusal old refuses opened
 tells_late inputs (why.Target out) old refuses opened forward reverse late first second = (subst IsSome (sym first) refl, subst IsSome (sym second) refl)
 tells_late inputs why.Report old refuses opened forward reverse late first second = (subst IsSome (sym first) refl, subst IsSome (sym second) refl)
-tells_late inputs why.Memory old refuses opened forward reverse late first second = tt
+tells_late inputs (why.Memory lacked) old refuses opened forward reverse late first second = tt
 tells_late inputs why.Encoding old refuses opened forward reverse late first second = absurd (cc late)
 tells_late inputs (why.Step fault) old refuses opened forward reverse late first second = absurd (cc late)
 tells_late inputs (why.Setting bad) old refuses opened forward reverse late first second = absurd (cc late)
@@ -94,7 +95,7 @@ refusal_untrimmed a (why.Source side) old new left = λ out name named. inl (lef
 refusal_untrimmed a (why.Target out) old new left = ⊎_elim (λ stops. stops_untrimmed a out old new stops) (λ same out name named. inl (same name)) left
 refusal_untrimmed a why.SameReport old new left = λ out name named. inl (left name)
 refusal_untrimmed a why.Report old new left = ⊎_elim (λ empty out name named. inr (empty out name named)) (λ same out name named. inl (same name)) left
-refusal_untrimmed a why.Memory old new left = left
+refusal_untrimmed a (why.Memory lacked) old new left = left
 
 -- what a refusal left, after calls that changed nothing
 pub unchanged_or_nothing : (old mid new : Option (List ℕ)) → mid ≡ old → (new ≡ mid) ⊎ (new ≡ Some []) → (new ≡ old) ⊎ (new ≡ Some [])
@@ -116,7 +117,7 @@ leaves_since a (why.Target out) old mid new same left = ⊎_elim
     (λ kept. inr (λ name. kept name ∙ same name)) left
 leaves_since a why.SameReport old mid new same left = λ name. left name ∙ same name
 leaves_since a why.Report old mid new same left = ⊎_elim (λ empty. inl empty) (λ kept. inr (λ name. kept name ∙ same name)) left
-leaves_since a why.Memory old mid new same left = λ out name named. unchanged_or_nothing (old name) (mid name) (new name) (same name) (left out name named)
+leaves_since a (why.Memory lacked) old mid new same left = λ out name named. unchanged_or_nothing (old name) (mid name) (new name) (same name) (left out name named)
 
 -- ---- whole runs
 
@@ -163,13 +164,13 @@ report_behind (why.Source side) old new same = same
 report_behind (why.Target out) old new same = same
 report_behind why.SameReport old new same = same
 report_behind why.Report old new same = inl same
-report_behind why.Memory old new same = inl same
+report_behind (why.Memory lacked) old new same = inl same
 
 -- the report itself was refused, or memory for it
-pub report_refused : (refusal : Refusal) (old new : Option (List ℕ)) → (refusal ≡ why.Report) ⊎ (refusal ≡ why.Memory) → (new ≡ old) ⊎ (new ≡ Some []) → ReportLeft refusal old new
+pub report_refused : (refusal : Refusal) (old new : Option (List ℕ)) → (refusal ≡ why.Report) ⊎ IsMemory refusal → (new ≡ old) ⊎ (new ≡ Some []) → ReportLeft refusal old new
 report_refused refusal old new is left =
     let P : Refusal → Type 0 = λ r. ReportLeft r old new in
-    ⊎_elim (λ report. subst P (sym report) left) (λ memory. subst P (sym memory) left) is
+    ⊎_elim (λ report. subst P (sym report) left) (λ memory. subst P (sym memory.1) left) is
 
 -- what each refusal leaves in the file of the report
 left_or_nothing : (refusal : Refusal) (old new : Option (List ℕ)) → ReportLeft refusal old new → (new ≡ old) ⊎ (new ≡ Some [])
@@ -181,7 +182,7 @@ left_or_nothing (why.Source side) old new left = inl left
 left_or_nothing (why.Target out) old new left = inl left
 left_or_nothing why.SameReport old new left = inl left
 left_or_nothing why.Report old new left = left
-left_or_nothing why.Memory old new left = left
+left_or_nothing (why.Memory lacked) old new left = left
 
 -- a refusal leaves in the file of the report what it held before, or nothing
 pub report_untrimmed : (a : Asking) (refusal : Refusal) (old new : Holding) → RefusalLeaves a refusal old new → ((name : List ℕ) → a.report ≡ Some name → IsNoOutput a name → ReportLeft refusal (old name) (new name))

@@ -16,7 +16,7 @@ use Rattle.fq_serial.specs.declared.settings.BadSetting.{BadSetting}
 use Rattle.fq_words.specs.Requests.{Asking, InputNames, encoding_of, input_name, is_input, output_name, same_log, same_name, report_is_input}
 use Rattle.fq_job.specs.declared.refusal.Refusal.{Refusal}
 use Rattle.fq_job.specs.declared.refusal.Refusal.TheVariants as why
-use Rattle.fq_job.specs.Refusals.{status_of}
+use Rattle.fq_job.specs.Refusals.{status_of, IsMemory}
 use Rattle.fq_job.specs.Judging.{choices_of, judged, with_steps, with_encoding, settings_of, wrong_among, wrong_with}
 use Rattle.fq_job.specs.Trimming.{Opened, IsNoOutput, KeepsUnnamed, AreFed, IsEmptyOutlet}
 use Rattle.fq_job.specs.Leaving.{AreThere, RefusalLeaves, ReportLeft, is_late}
@@ -52,13 +52,13 @@ refused_late a refusal tells refuses opened old new inputs behind late refused f
 }
 
 -- a refusal of the report, or of memory for it, comes after the inputs, and its status is not 2
-pub report_late : (refusal : Refusal) → (refusal ≡ why.Report) ⊎ (refusal ≡ why.Memory) → IsTrue (is_late refusal)
-report_late refusal is = let P : Refusal → Type 0 = λ r. IsTrue (is_late r) in ⊎_elim (λ report. subst P (sym report) refl) (λ memory. subst P (sym memory) refl) is
+pub report_late : (refusal : Refusal) → (refusal ≡ why.Report) ⊎ IsMemory refusal → IsTrue (is_late refusal)
+report_late refusal is = let P : Refusal → Type 0 = λ r. IsTrue (is_late r) in ⊎_elim (λ report. subst P (sym report) refl) (λ memory. subst P (sym memory.1) refl) is
 
 pub late_status : (refusal : Refusal) → IsTrue (is_late refusal) → status_of refusal ≢ 2
 late_status (why.Target out) late e = absurd (cc e)
 late_status why.Report late e = absurd (cc e)
-late_status why.Memory late e = absurd (cc e)
+late_status (why.Memory lacked) late e = absurd (cc e)
 late_status why.Encoding late e = absurd (cc late)
 late_status (why.Step fault) late e = absurd (cc late)
 late_status (why.Setting bad) late e = absurd (cc late)
@@ -108,7 +108,7 @@ first_refused a (why.Source side) tells refuses opened files first = absurd (cc 
 first_refused a (why.Target out) tells refuses opened files first = absurd (cc first)
 first_refused a why.SameReport tells refuses opened files first = record { refused = tt; inputs = λ told. tt; left = λ told name. refl; report_left = λ told name named free. refl }
 first_refused a why.Report tells refuses opened files first = absurd (cc first)
-first_refused a why.Memory tells refuses opened files first = record { refused = tt; inputs = λ told. tt; left = λ told out name named. inl refl; report_left = λ told name named free. inl refl }
+first_refused a (why.Memory lacked) tells refuses opened files first = record { refused = tt; inputs = λ told. tt; left = λ told out name named. inl refl; report_left = λ told name named free. inl refl }
 
 -- the request was wrong
 pub wrong_refused : (a : Asking) (refusal : Refusal) (tells : Bool) (refuses opened : Names) (files : Holding) → wrong_with a ≡ Some refusal → IsRefused a refusal tells refuses opened files files
@@ -118,7 +118,7 @@ wrong_refused a refusal tells refuses opened files wrong = first_refused a refus
 pub refusable_so : (a : Asking) (P Q : List ℕ → Type 0) (refusal : Refusal) → ((name : List ℕ) → P name → Q name) → IsRefusable a P refusal → IsRefusable a Q refusal
 refusable_so a P Q (why.Target out) so refused = (refused.0, refused.1, so refused.0 refused.2)
 refusable_so a P Q why.Report so refused = (refused.0, refused.1, so refused.0 refused.2)
-refusable_so a P Q why.Memory so refused = refused
+refusable_so a P Q (why.Memory lacked) so refused = refused
 refusable_so a P Q why.Encoding so refused = refused
 refusable_so a P Q (why.Step fault) so refused = refused
 refusable_so a P Q (why.Setting bad) so refused = refused
@@ -176,7 +176,7 @@ report_differs a name free named is =
 no_input : (a : Asking) (P : List ℕ → Type 0) (refusal : Refusal) → same_name a ≡ None → report_is_input a ≡ false → IsRefusable a (λ name. IsTrue (is_input a.inputs name) ⊎ P name) refusal → IsRefusable a P refusal
 no_input a P (why.Target out) outputs report refused = (refused.0, refused.1, ⊎_elim (λ is. absurd (differs_from a out refused.0 outputs refused.1 is)) (λ other. other) refused.2)
 no_input a P why.Report outputs report refused = (refused.0, refused.1, ⊎_elim (λ is. absurd (report_differs a refused.0 report refused.1 is)) (λ other. other) refused.2)
-no_input a P why.Memory outputs report refused = refused
+no_input a P (why.Memory lacked) outputs report refused = refused
 no_input a P why.Encoding outputs report refused = refused
 no_input a P (why.Step fault) outputs report refused = refused
 no_input a P (why.Setting bad) outputs report refused = refused

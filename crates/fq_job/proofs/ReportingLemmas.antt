@@ -83,4 +83,4 @@ report_held a c old new account Failed name bytes is held took = record {
   is = is took.text took.is (λ e. absurd (cc e));
   held = held ∙ ap Some took.took;
 }
-report_held a c old new account OutOfMemory name bytes is held took = held ∙ ap Some took
+report_held a c old new account (OutOfMemory refused) name bytes is held took = held ∙ ap Some took

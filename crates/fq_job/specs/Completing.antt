@@ -8,7 +8,7 @@ use Rattle.fq_pair.specs.declared.side.Side.TheVariants.{Forward, Reverse}
 use Rattle.fq_pair.specs.declared.counts.Counts.{Counts}
 use Rattle.fq_serial.specs.Choices.{Choices}
 use Rattle.fq_serial.specs.declared.outcome.Outcome.{Outcome}
-use Rattle.fq_serial.specs.declared.outcome.Outcome.TheVariants.{Lane, Write, Read, Endless}
+use Rattle.fq_serial.specs.declared.outcome.Outcome.TheVariants.{Lane, Memory, Write, Read, Endless}
 use Rattle.fq_serial.specs.Devices.{OutletStates, AreHealthy, outlet_at, place}
 use Rattle.fq_serial.specs.Endings.{ends_whole, failures_in}
 use Rattle.fq_words.specs.Requests.{Asking, InputNames, input_name, output_name}
@@ -17,6 +17,7 @@ use Rattle.fq_job.specs.Judging.{settings_of}
 use Rattle.fq_job.specs.Trimming.{KeepsUnnamed, TrimsFiles}
 use Rattle.fq_job.specs.Leaving.{HoldFirstPairs}
 use Rattle.fq_job.specs.Reporting.{ReportHeld}
+use Rattle.fq_job.specs.declared.account.Account.{Account}
 use Rattle.fq_job.specs.declared.reporting.Reported.{Reported}
 use Rattle.fq_job.specs.declared.reporting.Reported.TheVariants as became
 
@@ -60,6 +61,12 @@ HasFailed a tells old failed (Endless side) = IsTrue tells →
     (c : Choices) × (bytes : List ℕ) × (settings_of a ≡ Ok c)
     × (old (input_name a.inputs side) ≡ Some bytes) × (c.max_reads ≤ length bytes)
 HasFailed a tells old failed _ = Unit {0}
+
+-- The run has a witness for an outcome that only a refusal or a lane gives: an error of std, or
+-- what closing a lane returned.
+pub record IsWitnessed (account : Account) : Type 0 where
+  pub lane : account.outcome ≡ Lane → IsSome account.unended
+  pub memory : account.outcome ≡ Memory → IsSome account.refused
 
 -- a report that could not be written has a device that failed
 abbrev pub ReportFailed : Asking → Failed → Type 0

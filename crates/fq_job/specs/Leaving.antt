@@ -73,14 +73,14 @@ AreEmptied a new = (out : Out) (name : List ℕ) → output_name a out ≡ Some 
 abbrev pub RefusalLeaves : Asking → Refusal → Holding → Holding → Type 0
 RefusalLeaves a (why.Target out) old new = StopsAt a out old new ⊎ IsUnchanged old new
 RefusalLeaves a why.Report old new = AreEmptied a new ⊎ IsUnchanged old new
-RefusalLeaves a why.Memory old new = AreUntrimmed a old new
+RefusalLeaves a (why.Memory refused) old new = AreUntrimmed a old new
 RefusalLeaves a _ old new = IsUnchanged old new
 
 -- what a refusal leaves in the report's file: what it held before, or nothing if the report itself
 -- or memory was refused
 abbrev pub ReportLeft : Refusal → Option (List ℕ) → Option (List ℕ) → Type 0
 ReportLeft why.Report old new = (new ≡ old) ⊎ (new ≡ Some [])
-ReportLeft why.Memory old new = (new ≡ old) ⊎ (new ≡ Some [])
+ReportLeft (why.Memory refused) old new = (new ≡ old) ⊎ (new ≡ Some [])
 ReportLeft _ old new = new ≡ old
 
 -- What a refusal says about the inputs.
@@ -112,7 +112,7 @@ is_early _ = true
 abbrev pub is_late : Refusal → Bool
 is_late (why.Target out) = true
 is_late why.Report = true
-is_late why.Memory = true
+is_late (why.Memory refused) = true
 is_late _ = false
 
 -- Whether trimming had begun or not.

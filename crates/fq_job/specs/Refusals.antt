@@ -1,5 +1,6 @@
 -- The exit status and the line on standard error for each refusal.
-use Rattle.std.specs.Prelude.{ℕ, List, [], ◌++◌, codes, decimal, unwrap_or}
+use Rattle.std.specs.Prelude.{◌≡◌, ℕ, List, [], ◌++◌, codes, decimal, unwrap_or}
+use Rattle.fq_text.specs.declared.memory.MemoryRefused.{MemoryRefused}
 use Rattle.fq_trim.specs.declared.fault.StepFaultKind.{StepFaultKind}
 use Rattle.fq_trim.specs.declared.fault.StepFaultKind.TheVariants as step
 use Rattle.fq_serial.specs.declared.settings.BadSetting.{BadSetting}
@@ -19,7 +20,11 @@ status_of (Source side) = 4
 status_of (Target out) = 4
 status_of SameReport = 2
 status_of Report = 4
-status_of Memory = 5
+status_of (Memory refused) = 5
+
+-- memory was refused
+abbrev pub IsMemory : Refusal → Type 0
+IsMemory refusal = (refused : MemoryRefused) × (refusal ≡ Memory refused)
 
 abbrev pub step_fault_name : StepFaultKind → List ℕ
 step_fault_name step.NoSteps = codes "NoSteps"
@@ -48,4 +53,4 @@ words_of a (Source side) = codes "cannot read " ++ input_name a.inputs side
 words_of a (Target out) = codes "cannot write " ++ unwrap_or (output_name a out) []
 words_of a SameReport = codes "same name: " ++ unwrap_or a.report []
 words_of a Report = codes "cannot write " ++ unwrap_or a.report []
-words_of a Memory = memory_words
+words_of a (Memory refused) = memory_words

@@ -4,7 +4,7 @@ ghost use Rattle.std.specs.Prelude.{◌≡◌, ◌≢◌, ◌⊎◌, ℕ, List, 
 ghost use Rattle.std.specs.Option.{option_map};
 ghost use Rattle.fq_files.specs.Holding.{IsUnchanged, MayRefuse};
 ghost use Rattle.fq_words.specs.Requests.{asking_of, input_name};
-ghost use Rattle.fq_job.specs.Refusals.{status_of};
+ghost use Rattle.fq_job.specs.Refusals.{status_of, IsMemory};
 ghost use Rattle.fq_job.specs.Trimming.{IsFed, opened_of, left_of, form_of, AreFresh, AreFed};
 ghost use Rattle.fq_job.specs.Leaving.{AreThere, TellsInputs, is_early};
 ghost use Rattle.fq_job.specs.Opening.{MayLead};
@@ -81,7 +81,7 @@ fn input<T: Files>(request: &Request<'_>, files: &mut T, side: Side) -> Result<T
     ensures linked { (other : List ℕ) → other ≢ input_name (asking_of request.now).inputs side
         → IsTrue (T.is_open files.new other)
         → MayRefuse (T.refuses files.old) (T.is_open files.old) other }
-    ensures missing { IfErr result (λ why. (why ≡ Refusal.Memory)
+    ensures missing { IfErr result (λ why. IsMemory why
         ⊎ ((why ≡ Refusal.Source side) × (IsTrue (T.tells_bytes files.old)
         → (T.bytes_of files.old (input_name (asking_of request.now).inputs side) ≡ None)
         ⊎ IsTrue (T.is_open files.old (input_name (asking_of request.now).inputs side))))) }

@@ -5,7 +5,7 @@ ghost use Rattle.fq_files.specs.Holding.{Holding, KeepsNames, MayRefuse};
 ghost use Rattle.fq_serial.specs.Devices.{OutletStates, outlet_at, outlet_states, place, AreHealthy, AreFlushed};
 ghost use Rattle.fq_words.specs.Requests.{asking_of, output_name};
 ghost use Rattle.fq_job.specs.declared.refusal.Refusal.{Refusal as Refused};
-ghost use Rattle.fq_job.specs.Refusals.{status_of};
+ghost use Rattle.fq_job.specs.Refusals.{status_of, IsMemory};
 ghost use Rattle.fq_job.specs.Trimming.{AreHeld, AreEmpty};
 ghost use Rattle.fq_job.specs.Leaving.{is_late};
 ghost use Rattle.fq_job.specs.Making.{Made, Unmade, Stored};
@@ -78,7 +78,7 @@ fn output<T: Files>(request: &Request<'_>, files: &mut T, out: Out) -> Result<T:
         start (place out) (T.tells_bytes files.old) (T.bytes_of files.old)
         → Unmade (asking_of request.now) why
         start (T.tells_bytes files.new) (T.bytes_of files.new)) }
-    ensures why { IfErr result (λ why. (why ≡ Refused.Target out) ⊎ (why ≡ Refused.Memory)) }
+    ensures why { IfErr result (λ why. (why ≡ Refused.Target out) ⊎ IsMemory why) }
     ensures opened { IfErr result (λ why. IsTrue (is_late why)) }
     ensures told { T.tells_bytes files.new ≡ T.tells_bytes files.old }
     ensures names { IsTrue (T.tells_bytes files.old)

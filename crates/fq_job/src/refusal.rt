@@ -1,12 +1,12 @@
 //! Why the program did not do what it was asked to do.
 
 ghost use Rattle.std.specs.Prelude.{◌≡◌, ◌≢◌, ◌⊎◌};
-ghost use Rattle.fq_job.specs.Refusals.{status_of};
+ghost use Rattle.fq_job.specs.Refusals.{status_of, IsMemory};
 
 use fq_files::FileFault;
 use fq_pair::{Out, Side};
 use fq_serial::BadSetting;
-use fq_text::OutOfMemory;
+use fq_text::{MemoryRefused, OutOfMemory};
 use fq_trim::StepFault;
 
 /// Why the program did not do what it was asked to do. Each variant has an exit status and a line
@@ -30,29 +30,29 @@ pub enum Refusal {
     /// The report can't be written.
     Report,
     /// Memory was refused.
-    Memory,
+    Memory(MemoryRefused),
 }
 
 impl From<OutOfMemory> for Refusal {
-    ghost use Rattle.std.specs.Prelude.{◌≡◌};
-    ghost use Rattle.fq_job.specs.declared.refusal.Refusal.TheVariants.{Memory};
+    ghost use Rattle.fq_job.specs.Refusals.{IsMemory};
 
-    ghost from_gives = { λ _ e. e ≡ Memory };
+    ghost from_gives = { λ _ e. IsMemory e };
 
-    fn from(_e: OutOfMemory) -> Refusal {
-        Refusal::Memory
+    fn from(e: OutOfMemory) -> Refusal {
+        Refusal::Memory(MemoryRefused::from(e))
     }
 }
 
 /// Returns `refused`, or `Refusal::Memory` if the file was refused for lack of memory.
 pub(crate) fn file_refused(fault: FileFault, refused: Refusal) -> Refusal
     ensures refused { fault ≡ FileFault.Refused → result ≡ refused }
-    ensures memory { fault ≡ FileFault.OutOfMemory → result ≡ Refusal.Memory }
-    ensures either { (result ≡ refused) ⊎ (result ≡ Refusal.Memory) }
+    ensures memory { fault ≡ FileFault.OutOfMemory → IsMemory result }
+    ensures either { (result ≡ refused) ⊎ IsMemory result }
     ensures late { status_of refused ≢ 2 → status_of result ≢ 2 }
 {
     match fault {
         FileFault::Refused => refused,
-        FileFault::OutOfMemory => Refusal::Memory,
+        // The fault stands for the error of std.
+        FileFault::OutOfMemory => Refusal::Memory(MemoryRefused::from(OutOfMemory)),
     }
 }

@@ -9,6 +9,7 @@ ghost use Rattle.fq_report.specs.Reports.{text_of};
 ghost use Rattle.fq_words.specs.Requests.{asking_of, names_of};
 ghost use Rattle.fq_job.specs.declared.refusal.Refusal.{Refusal as Refused};
 ghost use Rattle.fq_job.specs.Faults.{outcome_status};
+ghost use Rattle.fq_job.specs.Refusals.{IsMemory};
 ghost use Rattle.fq_job.specs.Reporting.{report_inputs, run_facts, IsTextOf, TookReport};
 ghost use Rattle.fq_job.specs.Opening.{IsRefusable};
 ghost use Rattle.fq_job.specs.Completing.{KeepsFailed, ReportFailed};
@@ -19,7 +20,7 @@ use crate::refusal::{Refusal, file_refused};
 use fq_files::Files;
 use fq_report::{Inputs as NamedInputs, Report, report_text};
 use fq_tally::Tally;
-use fq_text::{Encoding, OutOfMemory, Outlet, OutletFailed, send};
+use fq_text::{Encoding, MemoryRefused, OutOfMemory, Outlet, OutletFailed, send};
 use fq_words::{Inputs, Request, VERSION};
 use std::alloc::Global;
 
@@ -34,7 +35,7 @@ pub enum Reported {
     /// A write of the report failed, or its flush.
     Failed,
     /// Memory for the report was refused.
-    OutOfMemory,
+    OutOfMemory(MemoryRefused),
 }
 
 /// Makes the file of the report, empty, if a report was asked for.
@@ -52,7 +53,7 @@ pub(crate) fn report_target<T: Files>(
     ensures made { OnOk result (IsTrue (T.tells_bytes files.old)
         → (name : List ℕ) → (asking_of request.now).report ≡ Some name
         → IsSome (T.bytes_of files.new name)) }
-    ensures why { IfErr result (λ why. (why ≡ Refused.Report) ⊎ (why ≡ Refused.Memory)) }
+    ensures why { IfErr result (λ why. (why ≡ Refused.Report) ⊎ IsMemory why) }
     ensures left { IfErr result (λ why. IsTrue (T.tells_bytes files.old)
         → (name : List ℕ) → (asking_of request.now).report ≡ Some name
         → (T.bytes_of files.new name ≡ T.bytes_of files.old name)
@@ -155,10 +156,11 @@ fn write_report<O: Outlet>(
     }
     // Never `None` here: a run that ended whole has a tally if a report was asked for.
     let Some(tally) = &account.tally else {
-        return Reported::OutOfMemory;
+        return Reported::OutOfMemory(MemoryRefused::from(OutOfMemory));
     };
-    let Ok(text) = run_text(alloc, request, encoding, account, tally) else {
-        return Reported::OutOfMemory;
+    let text = match run_text(alloc, request, encoding, account, tally) {
+        Ok(text) => text,
+        Err(e) => return Reported::OutOfMemory(MemoryRefused::from(e)),
     };
     match put_text(target, text.as_bytes()) {
         Ok(()) => Reported::Written,

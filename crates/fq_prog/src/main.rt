@@ -10,7 +10,7 @@ ghost use Rattle.fq_command.specs.Answers.{AreRefused, AreCalls};
 
 use fq_command::{out_of_memory, program};
 use fq_files::SystemFiles;
-use fq_text::{FromWrite, Outlet, send};
+use fq_text::{FromWrite, MemoryRefused, Outlet, send};
 use std::alloc::{AllocError, Global};
 use std::env::Env;
 use std::fs::File;
@@ -41,7 +41,8 @@ fn main(rt: HostRuntime) -> ExitCode {
         Err(error) if error.kind() == io::ErrorKind::InvalidData => {
             ExitCode::from(refuse_bytes(&rt, &mut err))
         }
-        Err(_) => ExitCode::from(out_of_memory(&mut err)),
+        // Otherwise the words could not be collected.
+        Err(_) => ExitCode::from(out_of_memory(&mut err, MemoryRefused::from(AllocError))),
     }
 }
 
@@ -68,15 +69,22 @@ fn run<R: Threads + Wait + Files<File = File> + Print + Copy + Send + 'static>(
         → (exit_status result ≡ 3) ⊎ (exit_status result ≡ 4) }
     ensures memory { exit_status result ≡ 5 → out.new ≡ out.old }
 {
-    let Ok(words) = words_of(alloc, texts) else {
-        return ExitCode::from(out_of_memory(err));
+    let words = match words_of(alloc, texts) {
+        Ok(words) => words,
+        Err(e) => return ExitCode::from(out_of_memory(err, MemoryRefused::from(e))),
     };
     let mut files = SystemFiles::new(alloc, rt);
     // An output that is the same regular file as standard output or standard error is refused.
-    if files.keep("/dev/stdout").is_err() || files.keep("/dev/stderr").is_err() {
-        return ExitCode::from(out_of_memory(err));
+    if let Err(e) = keep_outlets(&mut files) {
+        return ExitCode::from(out_of_memory(err, MemoryRefused::from(e)));
     }
     ExitCode::from(program(alloc, rt, &words, &mut files, out, err))
+}
+
+// Keeps the files of standard output and standard error from becoming outputs.
+fn keep_outlets<R: Files<File = File>>(files: &mut SystemFiles<'_, R>) -> Result<(), AllocError> {
+    files.keep("/dev/stdout")?;
+    files.keep("/dev/stderr")
 }
 
 // Returns the arguments of the command line. The first is the program's name.
@@ -102,8 +110,9 @@ fn words_of<'a>(alloc: Global, texts: &'a [String]) -> Result<Vec<&'a str>, Allo
 fn refuse_bytes<E: Outlet>(rt: &HostRuntime, err: &mut E) -> u8
     requires { (E.state err.old).failures ≡ 0 }
 {
-    let Ok(text) = bytes_line(rt) else {
-        return out_of_memory(err);
+    let text = match bytes_line(rt) {
+        Ok(text) => text,
+        Err(e) => return out_of_memory(err, MemoryRefused::from(e)),
     };
     // A failed write to `err` has nowhere to be reported.
     let _ = send(err, text.as_bytes());

@@ -148,4 +148,4 @@ refusal_reason a (Target out) = given_if (is_taken a out) (codes "it is also an 
 refusal_reason a SameReport = Some (codes "it is an input and the report")
 refusal_reason a Report =
     given_if (is_report_taken a (unwrap_or a.report [])) (codes "it is also an output")
-refusal_reason a Memory = None
+refusal_reason a (Memory refused) = None

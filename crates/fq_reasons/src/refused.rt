@@ -40,7 +40,7 @@ pub(crate) fn refusal_reason(
         Refusal::Target(out) => given_if(alloc, is_taken(request, out), "it is also an output"),
         Refusal::SameReport => given_if(alloc, true, "it is an input and the report"),
         Refusal::Report => given_if(alloc, is_report_taken(request), "it is also an output"),
-        Refusal::Memory => Ok(None),
+        Refusal::Memory(_) => Ok(None),
     }
 }
 

@@ -89,10 +89,11 @@ module _ {S : Type 0} (state : S → SourceState) (c : Choices) (s : SourceState
   reverse_there : option_map reverse_of ending.source ≡ None → ⊥
   reverse_there gone = let e = sym (ap (option_map reverse_of) ends.source) ∙ gone in cc
 
-  by_end : (u : Option NotEnded) → ending.unended ≡ u → IsThreaded c the_run u
+  by_end : (u : Option NotEnded) → ending.unended ≡ u → IsThreaded c the_run u ending.refused
   by_end None none = record {
     lane = λ at. absurd (let r = rank_is none in let e = ap rank at in omega arith);
     no_other = λ there. absurd cc;
+    memory = ends.memory;
     forward = λ gone. absurd (forward_there gone);
     reverse = λ gone. absurd (reverse_there gone);
     together = of_one forward_of reverse_of ending.source;
@@ -106,6 +107,7 @@ module _ {S : Type 0} (state : S → SourceState) (c : Choices) (s : SourceState
       record {
         lane = λ at. refl;
         no_other = λ u. lane;
+        memory = ends.memory;
         forward = λ gone. absurd (forward_there gone);
         reverse = λ gone. absurd (reverse_there gone);
         together = of_one forward_of reverse_of ending.source;
@@ -114,5 +116,5 @@ module _ {S : Type 0} (state : S → SourceState) (c : Choices) (s : SourceState
         every = λ sound. absurd (sound lane);
       }
 
-  pub threaded : IsThreaded c the_run ending.unended
+  pub threaded : IsThreaded c the_run ending.unended ending.refused
   threaded = by_end ending.unended refl

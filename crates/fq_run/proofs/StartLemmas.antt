@@ -1,7 +1,8 @@
 -- A run whose threads could not all be started.
-use Rattle.std.proofs.Common.{◌≡◌, ◌↔◌, Option, Some, None, IfSome, false, IsTrue, Result, ℕ, ◌-◌, ◌<◌, List, [], ◌∷◌, ◌++◌, length, take, refl, sym, ap, ◌∙◌, subst, arith, ◌≤◌, ◌^◌, vec_len, inl}
+use Rattle.std.proofs.Common.{◌≡◌, ◌↔◌, Option, Some, None, IfSome, IsSome, false, IsTrue, Result, ℕ, ◌-◌, ◌<◌, List, [], ◌∷◌, ◌++◌, length, take, refl, sym, ap, ◌∙◌, subst, arith, ◌≤◌, ◌^◌, vec_len, inl}
 use Rattle.fq_lane.specs.History.{History}
 use Rattle.fq_lane.specs.declared.tx.NotEnded.{NotEnded}
+use Rattle.fq_text.specs.declared.memory.MemoryRefused.{MemoryRefused}
 use Rattle.fq_block.specs.Blocks.{Numbered}
 use Rattle.fq_pair.specs.declared.out.Out.{Out}
 use Rattle.fq_pair.specs.Outputs.{text_of, texts_of, no_counts}
@@ -116,10 +117,11 @@ module _ (c : Choices) (run : Run) (e : run.outcome ≡ outcome.Spawn) (none : r
     };
   }
 
-  pub unstarted : IsThreaded c run None
+  pub unstarted : IsThreaded c run None None
   unstarted = record {
     lane = λ at. absurd (apart run e outcome.Lane (λ q. cc) at);
     no_other = λ some. absurd cc;
+    memory = λ at. absurd (apart run e outcome.Memory (λ q. cc) at);
     forward = λ gone. e;
     reverse = λ gone. e;
     together = both;
@@ -129,13 +131,14 @@ module _ (c : Choices) (run : Run) (e : run.outcome ≡ outcome.Spawn) (none : r
   }
 
 -- if memory was refused before the threads started, the outlets were only flushed
-pub refused : (form : Form) (c : Choices) (f r f' r' : FeedState) (before after : OutletStates) (counted : Total) (failed : Option Out) → f' ≡ f → r' ≡ r → counted ≡ no_total false → FlushesAfter None before after failed → f.failures ≡ 0 → r.failures ≡ 0 →
-    IsThreaded c (record { form = form; forward = f; reverse = r; outlets = before; forward_left = Some f'; reverse_left = Some r'; outlets_left = after; outcome = outcome.Memory; counts = counted.counts; tally = counted.tally }) None
-refused form c f r f' r' before after counted failed same also none flushed sound sound' =
+pub refused : (form : Form) (c : Choices) (f r f' r' : FeedState) (before after : OutletStates) (counted : Total) (failed : Option Out) (lacked : Option MemoryRefused) → IsSome lacked → f' ≡ f → r' ≡ r → counted ≡ no_total false → FlushesAfter None before after failed → f.failures ≡ 0 → r.failures ≡ 0 →
+    IsThreaded c (record { form = form; forward = f; reverse = r; outlets = before; forward_left = Some f'; reverse_left = Some r'; outlets_left = after; outcome = outcome.Memory; counts = counted.counts; tally = counted.tally }) None lacked
+refused form c f r f' r' before after counted failed lacked some same also none flushed sound sound' =
     let p = runs_refused form c f r f' r' before counted same also none in
     record {
       lane = λ at. absurd cc;
-      no_other = λ some. absurd cc;
+      no_other = λ there. absurd cc;
+      memory = λ at. some;
       forward = λ gone. absurd cc;
       reverse = λ gone. absurd cc;
       together = (λ gone. absurd cc, λ gone. absurd cc);
@@ -153,10 +156,10 @@ left_as feed fs side same (Some x) a is = ap Some (sym (same x)) ∙ sym (ap (op
 pub closed : {S F G : Type 0} (state : S → SourceState) (fs : F → FeedState) (gs : G → FeedState) (forward_of : S → F) (reverse_of : S → G) →
     ((x : S) → fs (forward_of x) ≡ feed_in (state x).forward) → ((x : S) → gs (reverse_of x) ≡ feed_in (state x).reverse) →
     (form : Form) (c : Choices) (s : SourceState) (f : F) (r : G) → s ≡ fresh_source form c (fs f) (gs r) → (before after : OutletStates) (e : Conclusion S) →
-    (o : Outcome) (counted : Total) (f' : Option F) (r' : Option G) (u : Option NotEnded) → o ≡ e.outcome → counted ≡ e.total → u ≡ e.unended → f' ≡ option_map forward_of e.source → r' ≡ option_map reverse_of e.source →
-    IsThreaded c (run_from state s before after e) e.unended →
-    IsThreaded c (record { form = form; forward = fs f; reverse = gs r; outlets = before; forward_left = option_map fs f'; reverse_left = option_map gs r'; outlets_left = after; outcome = o; counts = counted.counts; tally = counted.tally }) u
-closed state fs gs forward_of reverse_of first second form c s f r is before after e o counted f' r' u outcome_is counts_are ended left right t =
+    (o : Outcome) (counted : Total) (f' : Option F) (r' : Option G) (u : Option NotEnded) (lacked : Option MemoryRefused) → o ≡ e.outcome → counted ≡ e.total → u ≡ e.unended → lacked ≡ e.refused → f' ≡ option_map forward_of e.source → r' ≡ option_map reverse_of e.source →
+    IsThreaded c (run_from state s before after e) e.unended e.refused →
+    IsThreaded c (record { form = form; forward = fs f; reverse = gs r; outlets = before; forward_left = option_map fs f'; reverse_left = option_map gs r'; outlets_left = after; outcome = o; counts = counted.counts; tally = counted.tally }) u lacked
+closed state fs gs forward_of reverse_of first second form c s f r is before after e o counted f' r' u lacked outcome_is counts_are ended lacked_is left right t =
     let R : SourceState → Outcome → Total → Option FeedState → Option FeedState → Run =
     λ z x n p q. record { form = z.form; forward = feed_in z.forward; reverse = feed_in z.reverse; outlets = before; forward_left = p; reverse_left = q; outlets_left = after; outcome = x; counts = n.counts; tally = n.tally } in
     let p = option_map (λ x. feed_in (state x).forward) e.source in
@@ -168,7 +171,9 @@ closed state fs gs forward_of reverse_of first second form c s f r is before aft
     ∙ ap (λ n. R fresh o n p q) (sym counts_are)
     ∙ ap (λ x. R fresh o counted x q) (left_as forward_of fs (λ x. feed_in (state x).forward) first e.source f' left)
     ∙ ap (λ x. R fresh o counted (option_map fs f') x) (left_as reverse_of gs (λ x. feed_in (state x).reverse) second e.source r' right) in
-    subst (λ (v : Run). IsThreaded c v u) same (subst (λ (v : Option NotEnded). IsThreaded c (run_from state s before after e) v) (sym ended) t)
+    subst (λ (v : Run). IsThreaded c v u lacked) same
+    (subst (λ (v : Option MemoryRefused). IsThreaded c (run_from state s before after e) u v) (sym lacked_is)
+    (subst (λ (v : Option NotEnded). IsThreaded c (run_from state s before after e) v e.refused) (sym ended) t))
 
 -- a dealer whose lanes are new, over a source that nothing was read from
 pub can_deal : {S : Type 0} (workers : ℕ) (c : Choices) (s : SourceState) (dealer : Dealer S) (ready : Ready) → IsReady workers dealer ready → length dealer.to.items ≡ vec_len dealer.to → IsFresh c s → s.most_bytes ≤ 2 ^ 60 → CanDeal c s dealer

@@ -6,6 +6,7 @@ use Rattle.std.specs.List.{AllZip}
 use Rattle.std.specs.Option.{option_map}
 use Rattle.fq_lane.specs.declared.tx.NotEnded.{NotEnded}
 use Rattle.fq_lane.specs.History.{History}
+use Rattle.fq_text.specs.declared.memory.MemoryRefused.{MemoryRefused}
 use Rattle.fq_pair.specs.declared.out.Out.{Out}
 use Rattle.fq_work.specs.declared.ends.WorkEnds.{WorkEnds}
 use Rattle.fq_work.specs.declared.ends.Worked.{Worked}
@@ -83,6 +84,7 @@ pub record Concludes {S : Type 0} (started : Result (History (Unit {0})) NotEnde
   pub lane : IfSome ending.unended (λ unended. ending.outcome ≡ outcome.Lane)
   pub outcome_is : ending.unended ≡ None →
       ending.outcome ≡ outcome_of (occurred k.halt dealt.why failed)
+  pub memory : ending.outcome ≡ outcome.Memory → IsSome ending.refused
   pub start : ending.unended ≡ None → IsOkAnd started (λ e. dealt.start ≡ e)
   pub workers : ending.unended ≡ None →
       Each3 Confirmed dealt.closings.items worked k.replies.items
@@ -104,12 +106,15 @@ run_from state s before after ending = record {
 }
 
 -- What a run on several threads guarantees. The outcome is `Lane` exactly if a lane could not be
--- confirmed. Feeds are lost only if a thread was refused, and only both together. If a thread was
--- refused, nothing was read or written. If the run ended at the end of the input, or at a fault in
--- it, all pairs before that were trimmed. `EveryEnding` holds unless the outcome is `Lane`.
-pub record IsThreaded (c : Choices) (run : Run) (unended : Option NotEnded) : Type 0 where
+-- confirmed. If it is `Memory`, there is a witness. Feeds are lost only if a thread was refused,
+-- and only both together. If a thread was refused, nothing was read or written. If the run ended at
+-- the end of the input, or at a fault in it, all pairs before that were trimmed. `EveryEnding`
+-- holds unless the outcome is `Lane`.
+pub record IsThreaded (c : Choices) (run : Run)
+    (unended : Option NotEnded) (refused : Option MemoryRefused) : Type 0 where
   pub lane : run.outcome ≡ outcome.Lane → IsSome unended
   pub no_other : IsSome unended → run.outcome ≡ outcome.Lane
+  pub memory : run.outcome ≡ outcome.Memory → IsSome refused
   pub forward : run.forward_left ≡ None → run.outcome ≡ outcome.Spawn
   pub reverse : run.reverse_left ≡ None → run.outcome ≡ outcome.Spawn
   pub together : (run.forward_left ≡ None) ↔ (run.reverse_left ≡ None)

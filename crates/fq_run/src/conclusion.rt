@@ -3,6 +3,7 @@
 use fq_lane::NotEnded;
 use fq_serial::Outcome;
 use fq_serial::shared::Total;
+use fq_text::MemoryRefused;
 
 /// How a run on several threads ended, and what it returns.
 #[derive(Drop)]
@@ -15,6 +16,8 @@ pub(crate) struct Conclusion<S> {
     pub(crate) source: Option<S>,
     /// Why a lane couldn't be confirmed, if one couldn't.
     pub(crate) unended: Option<NotEnded>,
+    /// The witness that memory was refused, if this is the outcome.
+    pub(crate) refused: Option<MemoryRefused>,
 }
 
 impl<S> Conclusion<S> {
@@ -22,12 +25,13 @@ impl<S> Conclusion<S> {
     ghost use Rattle.fq_serial.specs.Totals.{no_total};
 
     /// The conclusion of a run to which memory was refused before its threads were started.
-    pub(crate) fn refused(source: S) -> Conclusion<S>
+    pub(crate) fn refused(source: S, refused: MemoryRefused) -> Conclusion<S>
         ensures { result ≡ record {
           outcome = Outcome.Memory;
           total = no_total false;
           source = Some source;
           unended = None;
+          refused = Some refused;
         } }
     {
         Conclusion {
@@ -35,19 +39,26 @@ impl<S> Conclusion<S> {
             total: Total::without_tally(),
             source: Some(source),
             unended: None,
+            refused: Some(refused),
         }
     }
 
     /// The conclusion of a run whose threads could not all be started.
     pub(crate) fn unstarted(total: Total, source: Option<S>) -> Conclusion<S>
-        ensures { result
-            ≡ record { outcome = Outcome.Spawn; total = total; source = source; unended = None } }
+        ensures { result ≡ record {
+          outcome = Outcome.Spawn;
+          total = total;
+          source = source;
+          unended = None;
+          refused = None;
+        } }
     {
         Conclusion {
             outcome: Outcome::Spawn,
             total,
             source,
             unended: None,
+            refused: None,
         }
     }
 }

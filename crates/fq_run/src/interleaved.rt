@@ -9,7 +9,7 @@ ghost use Rattle.fq_run.specs.Threads.{IsThreaded};
 use crate::conclusion::Conclusion;
 use crate::threads::run;
 use fq_pair::{Counts, MixedSource};
-use fq_serial::shared::open_interleaved;
+use fq_serial::shared::{Halt, Occurred, ReadingEnd, open_interleaved};
 use fq_serial::{MixedEnding, Outcome, Outlets, Settings};
 use fq_text::{Feed, Outlet};
 use fq_work::Gate;
@@ -40,6 +40,7 @@ pub fn run_threads_mixed<
     requires outlets { AreHealthy (outlet_states O.state outlets.old) }
     ensures lane { result.outcome ≡ Outcome.Lane → IsSome result.unended }
     ensures no_other { IsSome result.unended → result.outcome ≡ Outcome.Lane }
+    ensures memory { result.outcome ≡ Outcome.Memory → IsSome result.refused }
     ensures feed { result.feed ≡ None → result.outcome ≡ Outcome.Spawn }
     // If a thread was refused, the outlets are unchanged, and so is the feed if it is handed back.
     ensures untouched { let run = interleaved_run_of F.state (outlet_states O.state)
@@ -76,7 +77,7 @@ fn begin<
     requires feed { (F.state feed).failures ≡ 0 }
     requires outlets { AreHealthy (outlet_states O.state outlets.old) }
     ensures { IsThreaded settings.now (interleaved_run_of F.state (outlet_states O.state)
-        feed outlets.old outlets.new result) result.unended }
+        feed outlets.old outlets.new result) result.unended result.refused }
 {
     match open_interleaved(alloc, settings, feed) {
         Ok(source) => ending_of(run(alloc, rt, settings, gate, source, outlets)),
@@ -89,6 +90,7 @@ fn begin<
                 tally: None,
                 feed: Some(feed),
                 unended: None,
+                refused: Occurred::new(Halt::NONE, Some(ReadingEnd::Memory), None).refused(),
             }
         }
     }
@@ -99,6 +101,7 @@ fn ending_of<F: Feed>(conclusion: Conclusion<MixedSource<F>>) -> MixedEnding<F>
     ensures outcome { result.outcome ≡ conclusion.outcome }
     ensures total { record { counts = result.counts; tally = result.tally } ≡ conclusion.total }
     ensures unended { result.unended ≡ conclusion.unended }
+    ensures refused { result.refused ≡ conclusion.refused }
     ensures feed { result.feed ≡ option_map (λ s. s.source.feed) conclusion.source }
 {
     let Conclusion {
@@ -106,6 +109,7 @@ fn ending_of<F: Feed>(conclusion: Conclusion<MixedSource<F>>) -> MixedEnding<F>
         total,
         source,
         unended,
+        refused,
     } = conclusion;
     MixedEnding {
         outcome,
@@ -113,5 +117,6 @@ fn ending_of<F: Feed>(conclusion: Conclusion<MixedSource<F>>) -> MixedEnding<F>
         tally: total.tally,
         feed: source.map(MixedSource::into_feed),
         unended,
+        refused,
     }
 }

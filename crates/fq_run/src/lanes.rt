@@ -9,7 +9,7 @@ use fq_block::Block;
 use fq_lane::{End, NotEnded, Rx, Tx, lane};
 use fq_serial::Settings;
 use fq_serial::shared::Total;
-use fq_text::OutOfMemory;
+use fq_text::MemoryRefused;
 use fq_work::Worked;
 use seats::{Seats, lay};
 use std::alloc::Global;
@@ -33,7 +33,7 @@ impl Lanes {
     ghost use Rattle.fq_serial.specs.Totals.{no_total};
 
     /// Makes all lanes, and allocates the total.
-    pub(crate) fn new(alloc: Global, settings: &Settings) -> Result<Lanes, OutOfMemory>
+    pub(crate) fn new(alloc: Global, settings: &Settings) -> Result<Lanes, MemoryRefused>
         ensures lanes { IfOk result (AreLaidOut settings.now.workers) }
         ensures total { IfOk result (λ lanes. lanes.total ≡ no_total settings.now.tallied) }
     {

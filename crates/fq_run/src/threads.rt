@@ -49,12 +49,15 @@ pub(crate) fn run<
     requires outlets { AreHealthy (outlet_states O.state outlets.old) }
     ensures { IsThreaded settings.now (run_from S.state (S.state source)
         (outlet_states O.state outlets.old) (outlet_states O.state outlets.new) result)
-        result.unended }
+        result.unended result.refused }
 {
-    let Ok(lanes) = Lanes::new(alloc, settings) else {
-        // Refused memory comes before a failed flush in the order of `Outcome`.
-        let _ = outlets.flush_after(None);
-        return Conclusion::refused(source);
+    let lanes = match Lanes::new(alloc, settings) {
+        Ok(lanes) => lanes,
+        Err(refused) => {
+            // Refused memory comes before a failed flush in the order of `Outcome`.
+            let _ = outlets.flush_after(None);
+            return Conclusion::refused(source, refused);
+        }
     };
     let (dealer, ready) = lanes.over(source);
     start(alloc, rt, settings, gate, dealer, ready, outlets)
@@ -82,7 +85,7 @@ fn start<
     requires outlets { AreHealthy (outlet_states O.state outlets.old) }
     ensures { IsThreaded settings.now (run_from S.state (S.state dealer.source)
         (outlet_states O.state outlets.old) (outlet_states O.state outlets.new) result)
-        result.unended }
+        result.unended result.refused }
 {
     let Ready {
         starter,
@@ -128,7 +131,7 @@ fn attend<R: Threads + Wait, S: PairReader, O: Outlet>(
     ensures { IsThreaded crew.dealer.promise.settings
         (run_from S.state (S.state crew.dealer.promise.source.value)
         (outlet_states O.state outlets.old) (outlet_states O.state outlets.new) result)
-        result.unended }
+        result.unended result.refused }
 {
     let Crew {
         mut starter,
@@ -178,5 +181,6 @@ fn conclude<S>(
         total,
         source: Some(source),
         unended,
+        refused: Occurred::new(halt, why, failed).refused(),
     }
 }

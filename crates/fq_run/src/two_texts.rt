@@ -9,7 +9,7 @@ ghost use Rattle.fq_run.specs.Threads.{IsThreaded};
 use crate::conclusion::Conclusion;
 use crate::threads::run;
 use fq_pair::{Counts, PairSource};
-use fq_serial::shared::open;
+use fq_serial::shared::{Halt, Occurred, ReadingEnd, open};
 use fq_serial::{Ending, Outcome, Outlets, Settings};
 use fq_text::{Feed, Outlet};
 use fq_work::Gate;
@@ -66,6 +66,7 @@ pub fn run_threads<
     requires outlets { AreHealthy (outlet_states O.state outlets.old) }
     ensures lane { result.outcome ≡ Outcome.Lane → IsSome result.unended }
     ensures no_other { IsSome result.unended → result.outcome ≡ Outcome.Lane }
+    ensures memory { result.outcome ≡ Outcome.Memory → IsSome result.refused }
     ensures forward { result.forward ≡ None → result.outcome ≡ Outcome.Spawn }
     ensures reverse { result.reverse ≡ None → result.outcome ≡ Outcome.Spawn }
     ensures together { (result.forward ≡ None) ↔ (result.reverse ≡ None) }
@@ -107,7 +108,7 @@ fn begin<
     requires reverse { (G.state reverse).failures ≡ 0 }
     requires outlets { AreHealthy (outlet_states O.state outlets.old) }
     ensures { IsThreaded settings.now (run_of F.state G.state (outlet_states O.state)
-        forward reverse outlets.old outlets.new result) result.unended }
+        forward reverse outlets.old outlets.new result) result.unended result.refused }
 {
     match open(alloc, settings, forward, reverse) {
         Ok(source) => ending_of(run(alloc, rt, settings, gate, source, outlets)),
@@ -121,6 +122,7 @@ fn begin<
                 forward: Some(forward),
                 reverse: Some(reverse),
                 unended: None,
+                refused: Occurred::new(Halt::NONE, Some(ReadingEnd::Memory), None).refused(),
             }
         }
     }
@@ -131,6 +133,7 @@ fn ending_of<F: Feed, G: Feed>(conclusion: Conclusion<PairSource<F, G>>) -> Endi
     ensures outcome { result.outcome ≡ conclusion.outcome }
     ensures total { record { counts = result.counts; tally = result.tally } ≡ conclusion.total }
     ensures unended { result.unended ≡ conclusion.unended }
+    ensures refused { result.refused ≡ conclusion.refused }
     ensures forward { result.forward ≡ option_map (λ s. s.forward.feed) conclusion.source }
     ensures reverse { result.reverse ≡ option_map (λ s. s.reverse.feed) conclusion.source }
 {
@@ -139,6 +142,7 @@ fn ending_of<F: Feed, G: Feed>(conclusion: Conclusion<PairSource<F, G>>) -> Endi
         total,
         source,
         unended,
+        refused,
     } = conclusion;
     let (forward, reverse) = match source {
         Some(source) => {
@@ -154,5 +158,6 @@ fn ending_of<F: Feed, G: Feed>(conclusion: Conclusion<PairSource<F, G>>) -> Endi
         forward,
         reverse,
         unended,
+        refused,
     }
 }

@@ -4,6 +4,7 @@ use crate::outcome::Outcome;
 use fq_lane::NotEnded;
 use fq_pair::Counts;
 use fq_tally::Tally;
+use fq_text::MemoryRefused;
 
 /// How a run over two inputs ended, and what it returns.
 #[derive(Drop)]
@@ -22,6 +23,8 @@ pub struct Ending<F, G> {
     pub reverse: Option<G>,
     /// Why a lane couldn't be confirmed: `Some` exactly when the outcome is [`Outcome::Lane`].
     pub unended: Option<NotEnded>,
+    /// The witness that memory was refused: `Some` whenever the outcome is [`Outcome::Memory`].
+    pub refused: Option<MemoryRefused>,
 }
 
 /// How a run over one interleaved input ended, and what it returns.
@@ -38,4 +41,6 @@ pub struct MixedEnding<F> {
     pub feed: Option<F>,
     /// Why a lane couldn't be confirmed: `Some` exactly when the outcome is [`Outcome::Lane`].
     pub unended: Option<NotEnded>,
+    /// The witness that memory was refused: `Some` whenever the outcome is [`Outcome::Memory`].
+    pub refused: Option<MemoryRefused>,
 }

@@ -5,6 +5,7 @@ ghost use Rattle.fq_pair.specs.Forms.{InterleavedText};
 ghost use Rattle.fq_serial.specs.Devices.{outlet_states, AreHealthy};
 ghost use Rattle.fq_serial.specs.Writing.{Runs, no_halt};
 ghost use Rattle.fq_serial.specs.Outcomes.{rank};
+ghost use Rattle.fq_serial.specs.declared.outcome.Outcome.TheVariants.{Memory};
 ghost use Rattle.fq_serial.specs.Endings.{interleaved_run_of, AreTold, ends_whole, IsTrimmed, EveryEnding};
 
 use crate::ending::MixedEnding;
@@ -35,6 +36,7 @@ pub fn run_serial_mixed<F: Feed, O: Outlet>(
     ensures feed { IsSome result.feed }
     ensures serial { 4 ≤ rank result.outcome }
     ensures unended { result.unended ≡ None }
+    ensures memory { result.outcome ≡ Memory → IsSome result.refused }
     // At `Input` and `Finished` all pairs before the fault or the end of the input were trimmed.
     ensures whole { let run = interleaved_run_of F.state (outlet_states O.state)
         feed outlets.old outlets.new result in
@@ -57,6 +59,7 @@ pub fn run_serial_mixed<F: Feed, O: Outlet>(
         tally: total.tally,
         feed: Some(feed),
         unended: None,
+        refused: Occurred::new(Halt::NONE, why, failed).refused(),
     }
 }
 

@@ -25,6 +25,7 @@ mod outlets;
 mod settings;
 
 pub use ending::{Ending, MixedEnding};
+pub use fq_lane::NotEnded;
 pub use interleaved::run_serial_mixed;
 pub use outcome::Outcome;
 pub use outlets::Outlets;

@@ -7,7 +7,7 @@ use crate::halt::Halt;
 use crate::outcome::Outcome;
 use crate::reading_end::ReadingEnd;
 use fq_pair::{InputFault, Out};
-use fq_text::TextFault;
+use fq_text::{MemoryRefused, OutOfMemory, TextFault};
 
 /// What occurred in a run.
 #[derive(Clone, Copy, Debug, PartialEq, Eq)]
@@ -23,6 +23,7 @@ pub struct Occurred {
 }
 
 impl Occurred {
+    ghost use Rattle.std.specs.Prelude.{IsSome};
     ghost use Rattle.fq_serial.specs.Outcomes.{outcome_of};
     ghost use Rattle.fq_serial.specs.Writing.{occurred};
 
@@ -55,6 +56,17 @@ impl Occurred {
         match self.failed {
             Some(out) => Outcome::Write(out),
             None => ended,
+        }
+    }
+
+    /// Returns the witness that memory was refused, if this is the outcome.
+    pub fn refused(self) -> Option<MemoryRefused>
+        ensures { outcome_of self ≡ Outcome.Memory → IsSome result }
+    {
+        match self.outcome() {
+            // What occurred stands for the error of std.
+            Outcome::Memory => Some(MemoryRefused::from(OutOfMemory)),
+            _ => None,
         }
     }
 }

@@ -5,6 +5,7 @@ ghost use Rattle.fq_serial.specs.Devices.{outlet_states, AreHealthy};
 ghost use Rattle.fq_pair.specs.Forms.{TwoTexts};
 ghost use Rattle.fq_serial.specs.Writing.{Runs, no_halt};
 ghost use Rattle.fq_serial.specs.Outcomes.{rank};
+ghost use Rattle.fq_serial.specs.declared.outcome.Outcome.TheVariants.{Memory};
 ghost use Rattle.fq_serial.specs.Endings.{run_of, AreTold, ends_whole, IsTrimmed, EveryEnding};
 
 use crate::ending::Ending;
@@ -49,6 +50,7 @@ pub fn run_serial<F: Feed, G: Feed, O: Outlet>(
     ensures reverse { IsSome result.reverse }
     ensures serial { 4 ≤ rank result.outcome }
     ensures unended { result.unended ≡ None }
+    ensures memory { result.outcome ≡ Memory → IsSome result.refused }
     // At `Input` and `Finished` all pairs before the fault or the end of the input were trimmed.
     ensures whole { let run = run_of F.state G.state (outlet_states O.state)
         forward reverse outlets.old outlets.new result in
@@ -72,6 +74,7 @@ pub fn run_serial<F: Feed, G: Feed, O: Outlet>(
         forward: Some(forward),
         reverse: Some(reverse),
         unended: None,
+        refused: Occurred::new(Halt::NONE, why, failed).refused(),
     }
 }
 

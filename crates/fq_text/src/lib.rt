@@ -23,7 +23,7 @@ pub use adapters::{FromRead, FromWrite, write_to};
 pub use encoding::{Encoding, from_score33};
 pub use fault::TextFault;
 pub use feed::{Feed, FeedFailed, ScriptFeed};
-pub use memory::OutOfMemory;
+pub use memory::{MemoryRefused, OutOfMemory};
 pub use outlet::{Outlet, OutletFailed, ScriptOutlet, Sent, send};
 pub use record::FastqRecord;
 pub use source::{NoSource, Source};

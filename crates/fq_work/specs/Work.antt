@@ -1,5 +1,5 @@
 -- What a worker has done with its lanes.
-use Rattle.std.specs.Prelude.{◌≡◌, Bool, true, List, ◌++◌, Option, Some, None, IfOk}
+use Rattle.std.specs.Prelude.{◌≡◌, ◌⊎◌, ℕ, Bool, true, IsTrue, List, ◌++◌, Option, Some, None, IfOk}
 use Rattle.fq_trim.specs.declared.step.Step.{Step}
 use Rattle.fq_lane.specs.History.{History}
 use Rattle.fq_block.specs.Blocks.{Numbered}
@@ -21,6 +21,10 @@ pub record IsWork (tallied : Bool) (steps : List Step) (rx : History Numbered) (
   pub received : worked.rx ≡ with_items rx took true
   pub sent : IfOk worked.closing (λ end. end ≡ with_items tx replies true)
   pub answers : Answers tallied steps took replies worked.cause
+
+-- the gate may hold back some block, or is never asked
+abbrev pub MayShut : (ℕ → Bool) → ℕ → Type 0
+MayShut may_hold turns = (turns ≡ 0) ⊎ ((number : ℕ) × IsTrue (may_hold number))
 
 -- Intermediate states.
 

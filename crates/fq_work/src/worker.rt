@@ -1,9 +1,10 @@
 //! The worker of a threaded run.
 
-ghost use Rattle.std.specs.Prelude.{◌≡◌, true, false, IfOk, OnOk};
+ghost use Rattle.std.specs.Prelude.{◌≡◌, ◌⊎◌, Some, Err, true, false, IsTrue, IfOk, OnOk};
+ghost use Rattle.std.specs.Arc.{arc_value};
 ghost use Rattle.fq_lane.specs.History.{with_item};
 ghost use Rattle.fq_work.specs.Replies.{done_of, reply_to};
-ghost use Rattle.fq_work.specs.Work.{IsWork, HasAnswered, HasDrained};
+ghost use Rattle.fq_work.specs.Work.{IsWork, MayShut, HasAnswered, HasDrained};
 
 use crate::ends::{WorkEnds, Worked};
 use crate::gate::Gate;
@@ -38,7 +39,9 @@ pub fn work<R: Wait, G: Gate>(
     gate: Arc<G>,
     gate_turns: u64,
 ) -> Worked
-    ensures { IsWork false steps ends.rx ends.tx result }
+    ensures work { IsWork false steps ends.rx ends.tx result }
+    ensures gate { result.cause ≡ Some Cause.Gate
+        → MayShut (G.may_hold (arc_value gate)) gate_turns }
 {
     work_tallied(alloc, rt, ends, steps, false, gate, gate_turns)
 }
@@ -53,7 +56,10 @@ pub fn work_tallied<R: Wait, G: Gate>(
     gate: Arc<G>,
     gate_turns: u64,
 ) -> Worked
-    ensures { IsWork tallied steps ends.rx ends.tx result }
+    ensures work { IsWork tallied steps ends.rx ends.tx result }
+    // It stops at the gate only if the gate may hold back a block, or if it may not ask.
+    ensures gate { result.cause ≡ Some Cause.Gate
+        → MayShut (G.may_hold (arc_value gate)) gate_turns }
 {
     let mut ends = ends;
     let making = Making {
@@ -96,8 +102,10 @@ fn answer_blocks<R: Wait, G: Gate>(
     making: &Making,
     gate: &G,
 ) -> Option<Cause>
-    ensures { HasAnswered making.now.tallied making.now.steps result
+    ensures answers { HasAnswered making.now.tallied making.now.steps result
         ends.old.rx ends.new.rx ends.old.tx ends.new.tx }
+    ensures gate { result ≡ Some Cause.Gate
+        → MayShut (G.may_hold gate.now) making.now.gate_turns }
 {
     // The counts of one block at a time are made here, and packed for the lane.
     let mut done = Done::new(alloc, 0);
@@ -125,6 +133,8 @@ fn answer<R: Wait, G: Gate>(
     ensures sent { ends.new.tx
         ≡ with_item ends.old.tx (reply_to making.now.tallied making.now.steps block result) }
     ensures blocks { ends.new.rx ≡ ends.old.rx }
+    ensures gate { result ≡ Some Cause.Gate
+        → MayShut (G.may_hold gate.now) making.now.gate_turns }
 {
     let worked = work_on(alloc, &block, making, gate, done, &mut ends.texts_back);
     give_back(&mut ends.blocks_back, block);
@@ -163,8 +173,10 @@ fn work_on<G: Gate>(
     done: &mut Done,
     texts_back: &mut Rx<PackedDone>,
 ) -> Result<PackedDone, Cause>
-    ensures { IfOk result (λ packed.
+    ensures ok { IfOk result (λ packed.
         packed ≡ done_of making.now.tallied making.now.steps block.now) }
+    ensures gate { result ≡ Err Cause.Gate
+        → MayShut (G.may_hold gate.now) making.now.gate_turns }
 {
     if !passes(gate, block.number(), making.gate_turns) {
         return Err(Cause::Gate);
@@ -193,8 +205,10 @@ fn make(
 }
 
 // Asks the gate until it lets the block pass, at most `gate_turns` times.
-fn passes<G: Gate>(gate: &G, number: u64, gate_turns: u64) -> bool {
-    for _ in 0..gate_turns {
+fn passes<G: Gate>(gate: &G, number: u64, gate_turns: u64) -> bool
+    ensures { result ≡ false → (gate_turns ≡ 0) ⊎ IsTrue (G.may_hold gate.now number) }
+{
+    for _asked in 0..gate_turns {
         if gate.passes(number) {
             return true;
         }

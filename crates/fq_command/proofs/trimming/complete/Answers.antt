@@ -20,6 +20,7 @@ store-requires-after_bounds g c κs within = λ told out name named.
 
 pub returns : goal.returns
 returns g c = record {
+  witnessed = c.run-account.ensures.witnessed;
   leading = c.store_report-reported.ensures.leading ∙ (c.store.ensures.leading ∙ c.inputs_done.ensures.leading);
   completed = λ start opened settings.
       let a = asking_of c.args.request.now in

@@ -21,8 +21,8 @@ loop-preserved g c =
       answers_done c.args.making.now.tallied c.args.making.now.steps was.0 was.1 block (done_of c.args.making.now.tallied c.args.making.now.steps block) refl was.4,
     )
 
-pub returns-in-Some-answer : goal.returns-in-Some-answer
-returns-in-Some-answer g c =
+pub returns-in-Some-answer-clause-answers : goal.returns-in-Some-answer-clause-answers
+returns-in-Some-answer-clause-answers g c =
     let was = c.loop.invariant in
     let rx = c.args.ends.now.rx in
     let tx = c.args.ends.now.tx in

@@ -5,8 +5,8 @@ use Rattle.fq_work.proofs.WorkLemmas.{worked, closed}
 use Rattle.fq_work.proofs.worker.work_tallied.Goals as goal
 use Rattle.fq_work.proofs.worker.work_tallied.Goals.{then-is_some, else-is_some}
 
-pub returns : goal.returns
-returns g c =
+pub returns-clause-work : goal.returns-clause-work
+returns-clause-work g c =
     let mid = c.answer_blocks-cause.new.ends in
     let last = c.if-is_some.ends in
     let cause = c.answer_blocks-cause.result in
@@ -23,7 +23,7 @@ returns g c =
       | then-is_some w ↦ (let f = w.if-is_some.true in absurd (let no : true ≡ false = sym f ∙ e in cc))
       | else-is_some w ↦ (ap (λ (ends : WorkEnds). ends.rx) w.ends-is, ap (λ (ends : WorkEnds). ends.tx) w.ends-is)
     ] in
-    let all = worked c.args.tallied c.args.steps cause c.is_some.result c.args.ends.rx mid.rx last.rx c.args.ends.tx mid.tx last.tx c.is_some.ensures c.answer_blocks-cause.ensures more same in
+    let all = worked c.args.tallied c.args.steps cause c.is_some.result c.args.ends.rx mid.rx last.rx c.args.ends.tx mid.tx last.tx c.is_some.ensures c.answer_blocks-cause.ensures.answers more same in
     record {
       took = all.took;
       replies = all.replies;

@@ -1,0 +1,5 @@
+use Rattle.std.proofs.Common.{◌≡◌, ◌⊎◌, IsTrue}
+use Rattle.fq_work.proofs.worker.passes.Given as goal
+
+abbrev pub invariant-loop-asked : goal.invariant-loop-asked
+invariant-loop-asked g l = (l._asked ≡ 0) ⊎ IsTrue (g.G.Gate.may_hold l.gate l.number)
