@@ -7,7 +7,7 @@ PROGRAM = crates/fq_prog/out/fq_prog
 ROWS = crates/fq_rows/out/fq_rows
 LANE_TESTS = crates/fq_lane/out/fq_lane_tests crates/fq_lane_tests/out/fq_lane_tests_tests
 SOURCES := HANDLES crates.txt $(shell find crates -name out -prune -o '(' -name '*.rt' -o -name '*.antt' ')' -print)
-VERSION := $(shell sed -n 's/^pub const VERSION: &str = "\([0-9.]*\)";/\1/p' crates/fq_words/src/words.rt)
+VERSION := $(shell sed -n 's/^pub const VERSION: &str = "\([0-9.]*\)";/\1/p' crates/fq_cli/src/words.rt)
 SHOW = bash packaging/progress.sh
 NEEDS_KIT = @bash packaging/needs.sh
 .DEFAULT_GOAL := help

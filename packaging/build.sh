@@ -17,9 +17,9 @@ fi
 
 # In each list a crate comes after those that it depends on. What is beside the chain is in the chain
 # too, but proved by then. 'after:CRATE' waits until the chain has proved that crate.
-chain=(fq_text fq_trim fq_pair fq_tally fq_lane fq_serial fq_block fq_work fq_run fq_words fq_files fq_report fq_in_step fq_job fq_reasons fq_command)
-threads=(fq_lane after:fq_text fq_files after:fq_pair fq_words fq_block after:fq_tally fq_work)
-reports=(after:fq_tally fq_report fq_in_step after:fq_serial fq_job fq_reasons)
+chain=(fq_text fq_trim fq_pair fq_tally fq_lane fq_run_core fq_block fq_work fq_run fq_cli fq_files fq_report fq_in_step fq_files_run fq_reasons fq_app)
+threads=(fq_lane after:fq_text fq_files after:fq_pair fq_cli fq_block after:fq_tally fq_work)
+reports=(after:fq_tally fq_report fq_in_step after:fq_run_core fq_files_run fq_reasons)
 processors=$(nproc)
 jobs=(--jobs "${JOBS:-$processors}")
 if [ "$(awk '/^MemTotal:/ { print $2 }' /proc/meminfo)" -lt $((15 * 1048576)) ]; then jobs=(${JOBS:+--jobs "$JOBS"}); fi

@@ -26,7 +26,7 @@ fi
 versions() {
   local name file
   sed 's/  */ /g; s/ | /\t/g' << 'END'
-crates/fq_words/src/words.rt | ^pub const VERSION: &str = " | ";$
+crates/fq_cli/src/words.rt | ^pub const VERSION: &str = " | ";$
 crates/fq_rows/data/words.rows | ^= text: fq_prog | \\n$
 crates/fq_rows/data/command.rows | ^let two reported [0-9]+: "version":" | "\}$
 docs/FORMAT.md | ^ *"version": " | "\}$

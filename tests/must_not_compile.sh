@@ -209,12 +209,12 @@ RT
 error='(AllocError|OutOfMemory)'
 written=$(grep -rcE "\\($error\\)|= $error;|$error\\.into" --include='*.rt' crates/*/src |
   grep -vE ':0$|^crates/([a-z_]+_tests|fq_(rows|worked|samples))/' | sort)
-wanted='crates/fq_command/src/answering.rt:1
-crates/fq_command/src/example.rt:1
-crates/fq_job/src/refusal.rt:1
-crates/fq_job/src/reporting.rt:1
+wanted='crates/fq_app/src/answering.rt:1
+crates/fq_app/src/example.rt:1
+crates/fq_files_run/src/refusal.rt:1
+crates/fq_files_run/src/reporting.rt:1
 crates/fq_prog/src/main.rt:1
-crates/fq_serial/src/occurred.rt:1'
+crates/fq_run_core/src/occurred.rt:1'
 [ "$written" = "$wanted" ] || fail "errors of std are written as values in: $written"
 
 finish 'ok, 10 misuses refused and 3 uses accepted'

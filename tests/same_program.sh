@@ -5,7 +5,7 @@
 set -uo pipefail
 . "$(dirname "$0")/common.bash"
 find_program
-for crate in fq_text fq_command; do
+for crate in fq_text fq_app; do
   [ -e "crates/$crate/out/rlib/stamp" ] || skip "needs the crates as 'make build' leaves them"
 done
 room=$(mktemp -d)

@@ -10,50 +10,69 @@ use Rattle.fq_block.specs.Packing.{packed_pair, packed_pairs, pair_in, HoldsPair
 use Rattle.fq_block.specs.Blocks.{pairs_at, starts_from, Fits, AllFit, IsPacked}
 use Rattle.fq_block.proofs.PackingLemmas.{pair_in-packed_pair, HoldsPair-packed_pair}
 
-AllFit-append : (encoding : Encoding) (ms : List Mates) (m : Mates) → AllFit encoding ms → Fits encoding m → AllFit encoding (ms ++ m ∷ [])
+AllFit-append : (encoding : Encoding) (ms : List Mates) (m : Mates) → AllFit encoding ms →
+    Fits encoding m → AllFit encoding (ms ++ m ∷ [])
 AllFit-append encoding [] m all fits = (fits, tt)
 AllFit-append encoding (k ∷ ks) m all fits = (all.0, AllFit-append encoding ks m all.1 fits)
 
-packed_pairs-append : (ms : List Mates) (m : Mates) → packed_pairs (ms ++ m ∷ []) ≡ packed_pairs ms ++ packed_pair m
-packed_pairs-append ms m = flat_map-append packed_pair ms (m ∷ []) ∙ ap (λ bytes. packed_pairs ms ++ bytes) (append-nil (packed_pair m))
+packed_pairs-append : (ms : List Mates) (m : Mates) →
+    packed_pairs (ms ++ m ∷ []) ≡ packed_pairs ms ++ packed_pair m
+packed_pairs-append ms m = flat_map-append packed_pair ms (m ∷ [])
+    ∙ ap (λ bytes. packed_pairs ms ++ bytes) (append-nil (packed_pair m))
 
-starts_from-append : (n : ℕ) (ms : List Mates) (m : Mates) → starts_from n (ms ++ m ∷ []) ≡ starts_from n ms ++ (n + length (packed_pairs ms)) ∷ []
+starts_from-append : (n : ℕ) (ms : List Mates) (m : Mates) →
+    starts_from n (ms ++ m ∷ []) ≡ starts_from n ms ++ (n + length (packed_pairs ms)) ∷ []
 starts_from-append n [] m = let e : n ≡ n + 0 = omega arith in ap (λ k. k ∷ []) e
 starts_from-append n (k ∷ ks) m =
-    let e : n + length (packed_pair k) + length (packed_pairs ks) ≡ n + length (packed_pair k ++ packed_pairs ks) = omega (arith, length-append (packed_pair k) (packed_pairs ks)) in
+    let e : n + length (packed_pair k) + length (packed_pairs ks)
+        ≡ n + length (packed_pair k ++ packed_pairs ks) =
+        omega (arith, length-append (packed_pair k) (packed_pairs ks)) in
     ap (λ starts. n ∷ starts) (starts_from-append (n + length (packed_pair k)) ks m)
     ∙ ap (λ at. n ∷ (starts_from (n + length (packed_pair k)) ks ++ at ∷ [])) e
 
 module _ (encoding : Encoding) where
   -- packed pairs are found where they begin
-  pub pairs_at-packed : (front : List ℕ) (ms : List Mates) → AllFit encoding ms → pairs_at encoding (front ++ packed_pairs ms) (starts_from (length front) ms) ≡ ms
+  pub pairs_at-packed : (front : List ℕ) (ms : List Mates) → AllFit encoding ms →
+      pairs_at encoding (front ++ packed_pairs ms) (starts_from (length front) ms) ≡ ms
   pairs_at-packed front [] fit = refl
   pairs_at-packed front (m ∷ ms) fit =
       let bytes = front ++ (packed_pair m ++ packed_pairs ms) in
       let more = starts_from (length front + length (packed_pair m)) ms in
-      let first = ap (pair_in encoding) (drop-append_seam front (packed_pair m ++ packed_pairs ms)) ∙ pair_in-packed_pair encoding m fit.0 (packed_pairs ms) in
-      let others = ap (λ b. pairs_at encoding b more) (sym (append_assoc front (packed_pair m) (packed_pairs ms)))
-      ∙ ap (λ n. pairs_at encoding ((front ++ packed_pair m) ++ packed_pairs ms) (starts_from n ms)) (sym (length-append front (packed_pair m)))
+      let first = ap (pair_in encoding) (drop-append_seam front (packed_pair m ++ packed_pairs ms))
+          ∙ pair_in-packed_pair encoding m fit.0 (packed_pairs ms) in
+      let others =
+          ap (λ b. pairs_at encoding b more)
+          (sym (append_assoc front (packed_pair m) (packed_pairs ms)))
+      ∙ ap (λ n. pairs_at encoding ((front ++ packed_pair m) ++ packed_pairs ms) (starts_from n ms))
+          (sym (length-append front (packed_pair m)))
       ∙ pairs_at-packed (front ++ packed_pair m) ms fit.1 in
       ap (λ (k : Mates). k ∷ pairs_at encoding bytes more) first ∙ ap (λ ks. m ∷ ks) others
 
   held_from : (front : List ℕ) (ms : List Mates) (i : ℕ) → AllFit encoding ms → i < length ms
-      → HoldsPair encoding (drop (slice_index (starts_from (length front) ms) i) (front ++ packed_pairs ms))
+      → HoldsPair encoding (drop (slice_index (starts_from (length front) ms) i)
+          (front ++ packed_pairs ms))
   held_from front [] i fit within = absurd (omega arith)
   held_from front (m ∷ ms) zero fit within =
-      subst (HoldsPair encoding) (sym (drop-append_seam front (packed_pair m ++ packed_pairs ms))) (HoldsPair-packed_pair encoding m fit.0 (packed_pairs ms))
+      subst (HoldsPair encoding) (sym (drop-append_seam front (packed_pair m ++ packed_pairs ms)))
+          (HoldsPair-packed_pair encoding m fit.0 (packed_pairs ms))
   held_from front (m ∷ ms) (suc i) fit within =
-      subst (λ b. HoldsPair encoding (drop (slice_index (starts_from (length front + length (packed_pair m)) ms) i) b)) (append_assoc front (packed_pair m) (packed_pairs ms))
-      (subst (λ n. HoldsPair encoding (drop (slice_index (starts_from n ms) i) ((front ++ packed_pair m) ++ packed_pairs ms))) (length-append front (packed_pair m))
+      subst (λ b. HoldsPair encoding
+          (drop (slice_index (starts_from (length front + length (packed_pair m)) ms) i) b))
+          (append_assoc front (packed_pair m) (packed_pairs ms))
+      (subst (λ n. HoldsPair encoding (drop (slice_index (starts_from n ms) i)
+          ((front ++ packed_pair m) ++ packed_pairs ms))) (length-append front (packed_pair m))
       (held_from (front ++ packed_pair m) ms i fit.1 (omega arith)))
 
   module _ (bytes starts : List ℕ) where
     -- bytes that are the packing of some pairs, with the places where these begin
-    pairs_are : (ms : List Mates) → AllFit encoding ms → bytes ≡ packed_pairs ms → starts ≡ starts_from 0 ms → pairs_at encoding bytes starts ≡ ms
+    pairs_are : (ms : List Mates) → AllFit encoding ms → bytes ≡ packed_pairs ms →
+        starts ≡ starts_from 0 ms → pairs_at encoding bytes starts ≡ ms
     pairs_are ms fit packed placed =
-        ap (λ b. pairs_at encoding b starts) packed ∙ ap (pairs_at encoding (packed_pairs ms)) placed ∙ pairs_at-packed [] ms fit
+        ap (λ b. pairs_at encoding b starts) packed
+            ∙ ap (pairs_at encoding (packed_pairs ms)) placed ∙ pairs_at-packed [] ms fit
 
-    IsPacked-of : (ms : List Mates) → AllFit encoding ms → bytes ≡ packed_pairs ms → starts ≡ starts_from 0 ms → length starts ≤ 65536 → IsPacked encoding bytes starts
+    IsPacked-of : (ms : List Mates) → AllFit encoding ms → bytes ≡ packed_pairs ms →
+        starts ≡ starts_from 0 ms → length starts ≤ 65536 → IsPacked encoding bytes starts
     IsPacked-of ms fit packed placed few =
         let same = pairs_are ms fit packed placed in record {
           packed = packed ∙ ap packed_pairs (sym same);
@@ -67,7 +86,8 @@ module _ (encoding : Encoding) where
     length-pairs_at = length-map starts (λ start. pair_in encoding (drop start bytes))
 
     -- at place i a pair begins
-    pub held_at : (i : ℕ) → i < length starts → HoldsPair encoding (drop (slice_index starts i) bytes)
+    pub held_at : (i : ℕ) → i < length starts →
+        HoldsPair encoding (drop (slice_index starts i) bytes)
     held_at i within =
         let ms = pairs_at encoding bytes starts in
         subst (λ b. HoldsPair encoding (drop (slice_index starts i) b)) (sym is.packed)
@@ -75,10 +95,13 @@ module _ (encoding : Encoding) where
         (held_from [] ms i is.fit (omega (arith, length-pairs_at))))
 
     pub start_within : (i : ℕ) → i < length starts → slice_index starts i ≤ length bytes
-    start_within i within = omega (arith, (held_at i within).0.whole, length-drop (slice_index starts i) bytes)
+    start_within i within =
+        omega (arith, (held_at i within).0.whole, length-drop (slice_index starts i) bytes)
 
     -- and it is the pair at place i
-    pub slice_get-pairs_at : (i : ℕ) → i < length starts → slice_get (pairs_at encoding bytes starts) i ≡ Some (pair_in encoding (drop (slice_index starts i) bytes))
+    pub slice_get-pairs_at : (i : ℕ) → i < length starts →
+        slice_get (pairs_at encoding bytes starts) i
+        ≡ Some (pair_in encoding (drop (slice_index starts i) bytes))
     slice_get-pairs_at i within =
         let pair : ℕ → Mates = λ s. pair_in encoding (drop s bytes) in
         slice_get-map pair starts i ∙ ap (option_map pair) (slice_get-get_or starts i 0 within)
@@ -88,20 +111,27 @@ module _ (encoding : Encoding) where
       all_fit = AllFit-append encoding (pairs_at encoding bytes starts) m is.fit fits
 
       bytes_more : bytes ++ packed_pair m ≡ packed_pairs (pairs_at encoding bytes starts ++ m ∷ [])
-      bytes_more = ap (λ b. b ++ packed_pair m) is.packed ∙ sym (packed_pairs-append (pairs_at encoding bytes starts) m)
+      bytes_more = ap (λ b. b ++ packed_pair m) is.packed
+          ∙ sym (packed_pairs-append (pairs_at encoding bytes starts) m)
 
-      starts_more : starts ++ length bytes ∷ [] ≡ starts_from 0 (pairs_at encoding bytes starts ++ m ∷ [])
+      starts_more : starts ++ length bytes ∷ []
+          ≡ starts_from 0 (pairs_at encoding bytes starts ++ m ∷ [])
       starts_more =
           let ms = pairs_at encoding bytes starts in
           ap (λ s. s ++ length bytes ∷ []) is.placed
-          ∙ ap (λ n. starts_from 0 ms ++ n ∷ []) (ap length is.packed ∙ sym (zero-add (length (packed_pairs ms))))
+          ∙ ap (λ n. starts_from 0 ms ++ n ∷ []) (ap length is.packed
+              ∙ sym (zero-add (length (packed_pairs ms))))
           ∙ sym (starts_from-append 0 ms m)
 
       -- one more pair
-      pub pairs_at-pushed : pairs_at encoding (bytes ++ packed_pair m) (starts ++ length bytes ∷ []) ≡ pairs_at encoding bytes starts ++ m ∷ []
-      pairs_at-pushed = pairs_are (bytes ++ packed_pair m) (starts ++ length bytes ∷ []) (pairs_at encoding bytes starts ++ m ∷ []) all_fit bytes_more starts_more
+      pub pairs_at-pushed : pairs_at encoding (bytes ++ packed_pair m) (starts ++ length bytes ∷ [])
+          ≡ pairs_at encoding bytes starts ++ m ∷ []
+      pairs_at-pushed = pairs_are (bytes ++ packed_pair m) (starts ++ length bytes ∷ [])
+          (pairs_at encoding bytes starts ++ m ∷ []) all_fit bytes_more starts_more
 
-      pub IsPacked-pushed : length starts < 65536 → IsPacked encoding (bytes ++ packed_pair m) (starts ++ length bytes ∷ [])
+      pub IsPacked-pushed : length starts < 65536 →
+          IsPacked encoding (bytes ++ packed_pair m) (starts ++ length bytes ∷ [])
       IsPacked-pushed room =
-          IsPacked-of (bytes ++ packed_pair m) (starts ++ length bytes ∷ []) (pairs_at encoding bytes starts ++ m ∷ []) all_fit bytes_more starts_more
+          IsPacked-of (bytes ++ packed_pair m) (starts ++ length bytes ∷ [])
+              (pairs_at encoding bytes starts ++ m ∷ []) all_fit bytes_more starts_more
           (omega (arith, length_push starts (length bytes)))

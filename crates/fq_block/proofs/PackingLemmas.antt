@@ -14,7 +14,8 @@ pub length-packed_length : (n : ℕ) → length (packed_length n) ≡ 4
 unfolding packed_length
 length-packed_length n = refl
 
-pub length_in-packed_length : (n : ℕ) (rest : List ℕ) → n < 2 ^ 32 → length_in (packed_length n ++ rest) ≡ n
+pub length_in-packed_length : (n : ℕ) (rest : List ℕ) → n < 2 ^ 32 →
+    length_in (packed_length n ++ rest) ≡ n
 unfolding packed_length length_in
 length_in-packed_length n rest fits = from_be_bytes-to_be_bytes_4 n fits
 
@@ -24,7 +25,8 @@ drop-packed_length n rest = refl
 
 -- The parts of bytes that begin with two lengths.
 module _ (packed title seq qual rest : List ℕ) (is : packed ≡ packed_length (length title) ++ (packed_length (length seq) ++ (title ++ (seq ++ (qual ++ rest)))))
-    (title_fits : length title < 2 ^ 32) (seq_fits : length seq < 2 ^ 32) (same_len : length qual ≡ length seq) where
+    (title_fits : length title < 2 ^ 32) (seq_fits : length seq < 2 ^ 32) (same_len : length qual
+        ≡ length seq) where
   pub title_len_is : title_len_in packed ≡ length title
   title_len_is = ap length_in is ∙ length_in-packed_length (length title) _ title_fits
 
@@ -38,32 +40,40 @@ module _ (packed title seq qual rest : List ℕ) (is : packed ≡ packed_length 
   parts_is = ap (drop 4) lengths_is ∙ drop-packed_length (length seq) _
 
   pub title_is : take (title_len_in packed) (parts_in packed) ≡ title
-  title_is = ap (λ n. take n (parts_in packed)) title_len_is ∙ ap (take (length title)) parts_is ∙ take-append_seam title _
+  title_is = ap (λ n. take n (parts_in packed)) title_len_is ∙ ap (take (length title)) parts_is
+      ∙ take-append_seam title _
 
   scored_is : drop (title_len_in packed) (parts_in packed) ≡ seq ++ (qual ++ rest)
-  scored_is = ap (λ n. drop n (parts_in packed)) title_len_is ∙ ap (drop (length title)) parts_is ∙ drop-append_seam title _
+  scored_is = ap (λ n. drop n (parts_in packed)) title_len_is ∙ ap (drop (length title)) parts_is
+      ∙ drop-append_seam title _
 
   pub seq_is : take (bases_in packed) (drop (title_len_in packed) (parts_in packed)) ≡ seq
-  seq_is = ap (λ n. take n (drop (title_len_in packed) (parts_in packed))) bases_is ∙ ap (take (length seq)) scored_is ∙ take-append_seam seq _
+  seq_is = ap (λ n. take n (drop (title_len_in packed) (parts_in packed))) bases_is
+      ∙ ap (take (length seq)) scored_is ∙ take-append_seam seq _
 
   scores_is : drop (bases_in packed) (drop (title_len_in packed) (parts_in packed)) ≡ qual ++ rest
-  scores_is = ap (λ n. drop n (drop (title_len_in packed) (parts_in packed))) bases_is ∙ ap (drop (length seq)) scored_is ∙ drop-append_seam seq _
+  scores_is = ap (λ n. drop n (drop (title_len_in packed) (parts_in packed))) bases_is
+      ∙ ap (drop (length seq)) scored_is ∙ drop-append_seam seq _
 
   scores_len : bases_in packed ≡ length qual
   scores_len = bases_is ∙ sym same_len
 
-  pub qual_is : take (bases_in packed) (drop (bases_in packed) (drop (title_len_in packed) (parts_in packed))) ≡ qual
-  qual_is = ap (take (bases_in packed)) scores_is ∙ ap (λ n. take n (qual ++ rest)) scores_len ∙ take-append_seam qual rest
+  pub qual_is : take (bases_in packed) (drop (bases_in packed) (drop (title_len_in packed)
+      (parts_in packed))) ≡ qual
+  qual_is = ap (take (bases_in packed)) scores_is ∙ ap (λ n. take n (qual ++ rest)) scores_len
+      ∙ take-append_seam qual rest
 
   pub behind_is : behind_read packed ≡ rest
-  behind_is = ap (drop (bases_in packed)) scores_is ∙ ap (λ n. drop n (qual ++ rest)) scores_len ∙ drop-append_seam qual rest
+  behind_is = ap (drop (bases_in packed)) scores_is ∙ ap (λ n. drop n (qual ++ rest)) scores_len
+      ∙ drop-append_seam qual rest
 
   pub whole_is : 8 + title_len_in packed + bases_in packed + bases_in packed ≤ length packed
   whole_is =
       let a = length-packed_length (length title) in
       let b = length-packed_length (length seq) in
       let c = ap length is in
-      let d = length-append (packed_length (length title)) (packed_length (length seq) ++ (title ++ (seq ++ (qual ++ rest)))) in
+      let d = length-append (packed_length (length title))
+          (packed_length (length seq) ++ (title ++ (seq ++ (qual ++ rest)))) in
       let e = length-append (packed_length (length seq)) (title ++ (seq ++ (qual ++ rest))) in
       let f = length-append title (seq ++ (qual ++ rest)) in
       let g = length-append seq (qual ++ rest) in
@@ -79,25 +89,35 @@ module _ (r : Read) (lawful : IsLawful r) where
   seq_small = omega (arith, lawful.seq_fits)
 
   module _ (rest : List ℕ) where
-    bytes_are : packed_read r ++ rest ≡ packed_length (length r.title) ++ (packed_length (length r.seq) ++ (r.title ++ (r.seq ++ (r.qual ++ rest))))
+    bytes_are : packed_read r ++ rest ≡ packed_length (length r.title) ++ (packed_length
+        (length r.seq) ++ (r.title ++ (r.seq ++ (r.qual ++ rest))))
     bytes_are = simp append_assoc
 
     pub read_in-packed_read : read_in r.encoding (packed_read r ++ rest) ≡ r
     read_in-packed_read =
         let bytes = packed_read r ++ rest in
-        let title = title_is bytes r.title r.seq r.qual rest bytes_are title_small seq_small lawful.same_len in
-        let seq = seq_is bytes r.title r.seq r.qual rest bytes_are title_small seq_small lawful.same_len in
-        let qual = qual_is bytes r.title r.seq r.qual rest bytes_are title_small seq_small lawful.same_len in
-        ap (λ (t : List ℕ). let k : Read = record { encoding = r.encoding; title = t; seq = (read_in r.encoding bytes).seq; qual = (read_in r.encoding bytes).qual } in k) title
-        ∙ ap (λ (s : List ℕ). let k : Read = record { encoding = r.encoding; title = r.title; seq = s; qual = (read_in r.encoding bytes).qual } in k) seq
-        ∙ ap (λ (q : List ℕ). let k : Read = record { encoding = r.encoding; title = r.title; seq = r.seq; qual = q } in k) qual
+        let title = title_is bytes r.title r.seq r.qual rest bytes_are title_small seq_small
+            lawful.same_len in
+        let seq = seq_is bytes r.title r.seq r.qual rest bytes_are title_small seq_small
+            lawful.same_len in
+        let qual = qual_is bytes r.title r.seq r.qual rest bytes_are title_small seq_small
+            lawful.same_len in
+        ap (λ (t : List ℕ). let k : Read = record { encoding = r.encoding; title = t; seq =
+            (read_in r.encoding bytes).seq; qual = (read_in r.encoding bytes).qual } in k) title
+        ∙ ap (λ (s : List ℕ). let k : Read =
+            record { encoding = r.encoding; title = r.title; seq = s; qual =
+            (read_in r.encoding bytes).qual } in k) seq
+        ∙ ap (λ (q : List ℕ). let k : Read =
+            record { encoding = r.encoding; title = r.title; seq = r.seq; qual = q } in k) qual
 
     pub behind_read-packed_read : behind_read (packed_read r ++ rest) ≡ rest
-    behind_read-packed_read = behind_is (packed_read r ++ rest) r.title r.seq r.qual rest bytes_are title_small seq_small lawful.same_len
+    behind_read-packed_read = behind_is (packed_read r ++ rest) r.title r.seq r.qual rest bytes_are
+        title_small seq_small lawful.same_len
 
     pub HoldsRead-packed_read : HoldsRead r.encoding (packed_read r ++ rest)
     HoldsRead-packed_read = record {
-      whole = whole_is (packed_read r ++ rest) r.title r.seq r.qual rest bytes_are title_small seq_small lawful.same_len;
+      whole = whole_is (packed_read r ++ rest) r.title r.seq r.qual rest bytes_are title_small
+          seq_small lawful.same_len;
       lawful = subst IsLawful (sym read_in-packed_read) lawful;
     }
 
@@ -108,26 +128,34 @@ module _ (encoding : Encoding) (m : Mates) (fits : Fits encoding m) (rest : List
   pair_bytes = append_assoc (packed_read m.forward) (packed_read m.reverse) rest
 
   forward_in : read_in encoding (packed_pair m ++ rest) ≡ m.forward
-  forward_in = ap (read_in encoding) pair_bytes ∙ ap (λ e. read_in e (packed_read m.forward ++ (packed_read m.reverse ++ rest))) (sym fits.encodings.0)
+  forward_in = ap (read_in encoding) pair_bytes
+      ∙ ap (λ e. read_in e (packed_read m.forward ++ (packed_read m.reverse ++ rest)))
+      (sym fits.encodings.0)
       ∙ read_in-packed_read m.forward fits.forward (packed_read m.reverse ++ rest)
 
   behind_forward : behind_read (packed_pair m ++ rest) ≡ packed_read m.reverse ++ rest
-  behind_forward = ap behind_read pair_bytes ∙ behind_read-packed_read m.forward fits.forward (packed_read m.reverse ++ rest)
+  behind_forward = ap behind_read pair_bytes
+      ∙ behind_read-packed_read m.forward fits.forward (packed_read m.reverse ++ rest)
 
   reverse_in : read_in encoding (behind_read (packed_pair m ++ rest)) ≡ m.reverse
-  reverse_in = ap (read_in encoding) behind_forward ∙ ap (λ e. read_in e (packed_read m.reverse ++ rest)) (sym fits.encodings.1)
+  reverse_in = ap (read_in encoding) behind_forward
+      ∙ ap (λ e. read_in e (packed_read m.reverse ++ rest)) (sym fits.encodings.1)
       ∙ read_in-packed_read m.reverse fits.reverse rest
 
   pub pair_in-packed_pair : pair_in encoding (packed_pair m ++ rest) ≡ m
   pair_in-packed_pair =
-      ap (λ (f : Read). let k : Mates = record { forward = f; reverse = read_in encoding (behind_read (packed_pair m ++ rest)) } in k) forward_in
-      ∙ ap (λ (r : Read). let k : Mates = record { forward = m.forward; reverse = r } in k) reverse_in
+      ap (λ (f : Read). let k : Mates = record { forward = f; reverse =
+          read_in encoding (behind_read (packed_pair m ++ rest)) } in k) forward_in
+      ∙ ap (λ (r : Read). let k : Mates = record { forward = m.forward; reverse = r } in
+          k) reverse_in
 
   pub HoldsPair-packed_pair : HoldsPair encoding (packed_pair m ++ rest)
   HoldsPair-packed_pair = (
     subst (HoldsRead encoding) (sym pair_bytes)
-        (subst (λ e. HoldsRead e (packed_read m.forward ++ (packed_read m.reverse ++ rest))) fits.encodings.0
+        (subst (λ e. HoldsRead e (packed_read m.forward ++ (packed_read m.reverse ++ rest)))
+            fits.encodings.0
         (HoldsRead-packed_read m.forward fits.forward (packed_read m.reverse ++ rest))),
     subst (HoldsRead encoding) (sym behind_forward)
-        (subst (λ e. HoldsRead e (packed_read m.reverse ++ rest)) fits.encodings.1 (HoldsRead-packed_read m.reverse fits.reverse rest)),
+        (subst (λ e. HoldsRead e (packed_read m.reverse ++ rest)) fits.encodings.1
+            (HoldsRead-packed_read m.reverse fits.reverse rest)),
   )

@@ -9,7 +9,9 @@ abbrev pub bit : Bool → ℕ
 bit true = 1
 bit false = 0
 
-ways : (f r : Bool) → count_by (λ (way : Bool). way) ((f && r) ∷ (f && not r) ∷ (not f && r) ∷ (not f && not r) ∷ []) ≡ 1
+ways : (f r : Bool) →
+    count_by (λ (way : Bool). way) ((f && r) ∷ (f && not r) ∷ (not f && r) ∷ (not f && not r) ∷ [])
+    ≡ 1
 ways true true = refl
 ways true false = refl
 ways false true = refl
@@ -18,7 +20,8 @@ ways false false = refl
 pub one_way : PairsGoOneWay
 one_way steps m = ways (survives steps m.forward) (survives steps m.reverse)
 
-in_one : (f r : Bool) → bit (f && r) + bit (f && not r) + bit (not f && r) + bit (not f && not r) ≡ 1
+in_one : (f r : Bool) → bit (f && r) + bit (f && not r) + bit (not f && r) + bit (not f && not r)
+    ≡ 1
 in_one true true = refl
 in_one true false = refl
 in_one false true = refl
@@ -28,11 +31,13 @@ picked : (b : Bool) (m : Mates) (ms : List Mates) → length (cond b (m ∷ ms) 
 picked true m ms = omega arith
 picked false m ms = omega arith
 
-pub one_more : (test : Mates → Bool) (m : Mates) (ms : List Mates) → length (filter test (m ∷ ms)) ≡ bit (test m) + length (filter test ms)
+pub one_more : (test : Mates → Bool) (m : Mates) (ms : List Mates) →
+    length (filter test (m ∷ ms)) ≡ bit (test m) + length (filter test ms)
 one_more test m ms = picked (test m) m (filter test ms)
 
 pub counts_add_up : (steps : List Step) (ms : List Mates) →
-    let counts = counts_of steps ms in counts.both + counts.forward_only + counts.reverse_only + counts.dropped ≡ counts.pairs
+    let counts = counts_of steps ms in
+        counts.both + counts.forward_only + counts.reverse_only + counts.dropped ≡ counts.pairs
 counts_add_up steps [] = refl
 counts_add_up steps (m ∷ ms) =
     let a = one_more (both_survive steps) m ms in

@@ -24,30 +24,40 @@ use Rattle.fq_in_step.proofs.CountLemmas.{counts_add_up}
 
 -- Reads of one side.
 
-forward_in : (check : Bool) (e : Encoding) (ms : List Mates) → All (IsPairIn check e) ms → All (IsReadIn e) (forward_reads ms)
+forward_in : (check : Bool) (e : Encoding) (ms : List Mates) → All (IsPairIn check e) ms →
+    All (IsReadIn e) (forward_reads ms)
 forward_in check e [] all = All-nil (IsReadIn e)
 forward_in check e (m ∷ ms) all =
-    All-cons (IsReadIn e) m.forward (forward_reads ms) (All-head (IsPairIn check e) m ms all).forward (forward_in check e ms (All-tail (IsPairIn check e) m ms all))
+    All-cons (IsReadIn e) m.forward (forward_reads ms)
+        (All-head (IsPairIn check e) m ms all).forward
+        (forward_in check e ms (All-tail (IsPairIn check e) m ms all))
 
-reverse_in : (check : Bool) (e : Encoding) (ms : List Mates) → All (IsPairIn check e) ms → All (IsReadIn e) (reverse_reads ms)
+reverse_in : (check : Bool) (e : Encoding) (ms : List Mates) → All (IsPairIn check e) ms →
+    All (IsReadIn e) (reverse_reads ms)
 reverse_in check e [] all = All-nil (IsReadIn e)
 reverse_in check e (m ∷ ms) all =
-    All-cons (IsReadIn e) m.reverse (reverse_reads ms) (All-head (IsPairIn check e) m ms all).reverse (reverse_in check e ms (All-tail (IsPairIn check e) m ms all))
+    All-cons (IsReadIn e) m.reverse (reverse_reads ms)
+        (All-head (IsPairIn check e) m ms all).reverse
+        (reverse_in check e ms (All-tail (IsPairIn check e) m ms all))
 
 -- a text of records gives its reads, and their number
-gives : (steps : List Step) (e : Encoding) (reads : List Read) (count : ℕ) (text : List ℕ) → text ≡ flat_map (record_text steps) reads → length reads ≡ count →
+gives : (steps : List Step) (e : Encoding) (reads : List Read) (count : ℕ) (text : List ℕ) →
+    text ≡ flat_map (record_text steps) reads → length reads ≡ count →
     All (IsReadIn e) reads → IsReadAgain steps e reads count text
 gives steps e reads count text is size are plain =
-    let again : records (encoding_out steps e) text ≡ record { reads = map (trimmed steps) reads; fault = None } =
+    let again : records (encoding_out steps e) text ≡ record { reads =
+        map (trimmed steps) reads; fault = None } =
     ap (records (encoding_out steps e)) is ∙ many_again steps e reads are plain in
     record {
       again = again;
-      count_is = ap (λ (x : Records). length x.reads) again ∙ length-map reads (trimmed steps) ∙ size;
+      count_is = ap (λ (x : Records). length x.reads) again ∙ length-map reads (trimmed steps)
+          ∙ size;
     }
 
 module _ (check : Bool) (steps : List Step) (e : Encoding) (ms : List Mates) (all : All (IsPairIn check e) ms) where
   forward_gives : (test : Mates → Bool) →
-      IsReadAgain steps e (forward_reads (filter test ms)) (length (filter test ms)) (forward_records steps test ms)
+      IsReadAgain steps e (forward_reads (filter test ms)) (length (filter test ms))
+          (forward_records steps test ms)
   forward_gives test =
       let chosen = filter test ms in
       gives steps e (forward_reads chosen) (length chosen) (forward_records steps test ms)
@@ -56,7 +66,8 @@ module _ (check : Bool) (steps : List Step) (e : Encoding) (ms : List Mates) (al
       (forward_in check e chosen (All-filter test (IsPairIn check e) ms all))
 
   reverse_gives : (test : Mates → Bool) →
-      IsReadAgain steps e (reverse_reads (filter test ms)) (length (filter test ms)) (reverse_records steps test ms)
+      IsReadAgain steps e (reverse_reads (filter test ms)) (length (filter test ms))
+          (reverse_records steps test ms)
   reverse_gives test =
       let chosen = filter test ms in
       gives steps e (reverse_reads chosen) (length chosen) (reverse_records steps test ms)
@@ -66,7 +77,8 @@ module _ (check : Bool) (steps : List Step) (e : Encoding) (ms : List Mates) (al
 
 -- Pairs.
 
-written_title : (b : Bool) (e : Encoding) (r : Read) → (as_written (then_some b e) r).title ≡ r.title
+written_title : (b : Bool) (e : Encoding) (r : Read) →
+    (as_written (then_some b e) r).title ≡ r.title
 written_title true e r = refl
 written_title false e r = refl
 
@@ -80,16 +92,20 @@ module _ (check : Bool) (steps : List Step) where
       ∙ ap (λ (t : List ℕ). not check || names_match m.forward.title t) r
 
   -- the mates of a pair are at one place in both texts
-  mates_again : (ms : List Mates) → mates_of (map (trimmed steps) (forward_reads ms)) (map (trimmed steps) (reverse_reads ms)) ≡ map (trimmed_pair steps) ms
+  mates_again : (ms : List Mates) → mates_of (map (trimmed steps) (forward_reads ms))
+      (map (trimmed steps) (reverse_reads ms)) ≡ map (trimmed_pair steps) ms
   mates_again [] = refl
   mates_again (m ∷ ms) = ap (λ (xs : List Mates). trimmed_pair steps m ∷ xs) (mates_again ms)
 
-  all_taken : (e : Encoding) (ms : List Mates) → All (IsPairIn check e) ms → take_while (belong check) (map (trimmed_pair steps) ms) ≡ map (trimmed_pair steps) ms
+  all_taken : (e : Encoding) (ms : List Mates) → All (IsPairIn check e) ms →
+      take_while (belong check) (map (trimmed_pair steps) ms) ≡ map (trimmed_pair steps) ms
   all_taken e [] all = refl
   all_taken e (m ∷ ms) all =
       take_while-cons (belong check) (trimmed_pair steps m) (map (trimmed_pair steps) ms)
-      ∙ cond-true (belong check (trimmed_pair steps m)) _ _ (still_belong m ∙ (All-head (IsPairIn check e) m ms all).belong)
-      ∙ ap (λ (xs : List Mates). trimmed_pair steps m ∷ xs) (all_taken e ms (All-tail (IsPairIn check e) m ms all))
+      ∙ cond-true (belong check (trimmed_pair steps m)) _ _ (still_belong m
+          ∙ (All-head (IsPairIn check e) m ms all).belong)
+      ∙ ap (λ (xs : List Mates). trimmed_pair steps m ∷ xs)
+          (all_taken e ms (All-tail (IsPairIn check e) m ms all))
 
 nothing_behind : {A : Type 0} (xs : List A) → drop (length xs) xs ≡ []
 nothing_behind [] = refl
@@ -99,38 +115,54 @@ nothing_behind (x ∷ xs) = nothing_behind xs
 abbrev whole_text : List Read → Records
 whole_text reads = record { reads = reads; fault = None }
 
-no_fault : (n k : ℕ) (fs rs : List Read) → length fs ≡ k → length rs ≡ k → fault_at n (behind k (whole_text fs)) (behind k (whole_text rs)) ≡ None
+no_fault : (n k : ℕ) (fs rs : List Read) → length fs ≡ k → length rs ≡ k →
+    fault_at n (behind k (whole_text fs)) (behind k (whole_text rs)) ≡ None
 no_fault n k fs rs f r =
-    ap (λ (xs : List Read). fault_at n (whole_text xs) (behind k (whole_text rs))) (ap (λ (j : ℕ). drop j fs) (sym f) ∙ nothing_behind fs)
-    ∙ ap (λ (xs : List Read). fault_at n (whole_text []) (whole_text xs)) (ap (λ (j : ℕ). drop j rs) (sym r) ∙ nothing_behind rs)
+    ap (λ (xs : List Read). fault_at n (whole_text xs) (behind k (whole_text rs)))
+        (ap (λ (j : ℕ). drop j fs) (sym f) ∙ nothing_behind fs)
+    ∙ ap (λ (xs : List Read). fault_at n (whole_text []) (whole_text xs))
+        (ap (λ (j : ℕ). drop j rs) (sym r) ∙ nothing_behind rs)
 
 -- the pairs of two such texts, if these mates belong together
 abbrev with_mates : List Read → List Read → List Mates → Pairs
-with_mates fs rs mates = record { mates = mates; fault = fault_at (suc (0 + length mates)) (behind (length mates) (whole_text fs)) (behind (length mates) (whole_text rs)) }
+with_mates fs rs mates =
+    record { mates = mates; fault = fault_at (suc (0 + length mates))
+    (behind (length mates) (whole_text fs)) (behind (length mates) (whole_text rs)) }
 
-paired_again : (check : Bool) (steps : List Step) (e : Encoding) (ms : List Mates) → All (IsPairIn check e) ms →
-    pairs_of check 0 (whole_text (map (trimmed steps) (forward_reads ms))) (whole_text (map (trimmed steps) (reverse_reads ms)))
+paired_again : (check : Bool) (steps : List Step) (e : Encoding) (ms : List Mates) →
+    All (IsPairIn check e) ms →
+    pairs_of check 0 (whole_text (map (trimmed steps) (forward_reads ms)))
+        (whole_text (map (trimmed steps) (reverse_reads ms)))
     ≡ record { mates = map (trimmed_pair steps) ms; fault = None }
 paired_again check steps e ms all =
     let fs = map (trimmed steps) (forward_reads ms) in
     let rs = map (trimmed steps) (reverse_reads ms) in
     let tms = map (trimmed_pair steps) ms in
-    let same : take_while (belong check) (mates_of fs rs) ≡ tms = ap (take_while (belong check)) (mates_again check steps ms) ∙ all_taken check steps e ms all in
+    let same : take_while (belong check) (mates_of fs rs) ≡ tms =
+        ap (take_while (belong check)) (mates_again check steps ms)
+        ∙ all_taken check steps e ms all in
     let count = length-map ms (trimmed_pair steps) in
-    let forward : length fs ≡ length tms = length-map (forward_reads ms) (trimmed steps) ∙ length-map ms (λ (m : Mates). m.forward) ∙ sym count in
-    let reverse : length rs ≡ length tms = length-map (reverse_reads ms) (trimmed steps) ∙ length-map ms (λ (m : Mates). m.reverse) ∙ sym count in
+    let forward : length fs ≡ length tms = length-map (forward_reads ms) (trimmed steps)
+        ∙ length-map ms (λ (m : Mates). m.forward) ∙ sym count in
+    let reverse : length rs ≡ length tms = length-map (reverse_reads ms) (trimmed steps)
+        ∙ length-map ms (λ (m : Mates). m.reverse) ∙ sym count in
     ap (with_mates fs rs) same
-    ∙ ap (λ (fault : Option InputFault). record { mates = tms; fault = fault }) (no_fault (suc (0 + length tms)) (length tms) fs rs forward reverse)
+    ∙ ap (λ (fault : Option InputFault). record { mates = tms; fault = fault })
+        (no_fault (suc (0 + length tms)) (length tms) fs rs forward reverse)
 
 -- two texts that give the reads of pairs give the pairs
-pairs_again : (check : Bool) (steps : List Step) (e : Encoding) (ms : List Mates) (forward reverse : List ℕ) → All (IsPairIn check e) ms →
-    IsReadAgain steps e (forward_reads ms) (length ms) forward → IsReadAgain steps e (reverse_reads ms) (length ms) reverse →
+pairs_again : (check : Bool) (steps : List Step) (e : Encoding) (ms : List Mates)
+    (forward reverse : List ℕ) → All (IsPairIn check e) ms →
+    IsReadAgain steps e (forward_reads ms) (length ms) forward →
+        IsReadAgain steps e (reverse_reads ms) (length ms) reverse →
     ArePairsAgain check steps e ms (length ms) forward reverse
 pairs_again check steps e ms forward reverse all f r plain_forward plain_reverse =
     let out = encoding_out steps e in
-    let again : pairs_of check 0 (records out forward) (records out reverse) ≡ record { mates = map (trimmed_pair steps) ms; fault = None } =
+    let again : pairs_of check 0 (records out forward) (records out reverse) ≡ record { mates =
+        map (trimmed_pair steps) ms; fault = None } =
     ap (λ (x : Records). pairs_of check 0 x (records out reverse)) (f plain_forward).again
-    ∙ ap (λ (x : Records). pairs_of check 0 (whole_text (map (trimmed steps) (forward_reads ms))) x) (r plain_reverse).again
+    ∙ ap (λ (x : Records). pairs_of check 0 (whole_text (map (trimmed steps) (forward_reads ms))) x)
+        (r plain_reverse).again
     ∙ paired_again check steps e ms all in
     record {
       again = again;
@@ -147,7 +179,8 @@ texts_are_in_step check steps e ms all =
       forward_unpaired = forward_gives check steps e ms all (forward_alone steps);
       reverse_paired = reverse_gives check steps e ms all (both_survive steps);
       reverse_unpaired = reverse_gives check steps e ms all (reverse_alone steps);
-      in_step = pairs_again check steps e both (forward_records steps (both_survive steps) ms) (reverse_records steps (both_survive steps) ms)
+      in_step = pairs_again check steps e both (forward_records steps (both_survive steps) ms)
+          (reverse_records steps (both_survive steps) ms)
           (All-filter (both_survive steps) (IsPairIn check e) ms all)
           (forward_gives check steps e ms all (both_survive steps))
           (reverse_gives check steps e ms all (both_survive steps));

@@ -39,11 +39,14 @@ abbrev reverse : List ℕ
 reverse = codes "@p1/2\nTTTT\n+\nIIII\n@p2/2\nAAAA\n+\n!!!\"\n"
 
 abbrev mixed : List ℕ
-mixed = codes "@p1/1\nACGT\n+\n#!II\n@p1/2\nTTTT\n+\nIIII\n@p2/1\nGGCC\n+\nIIII\n@p2/2\nAAAA\n+\n!!!\"\n"
+mixed = codes
+    "@p1/1\nACGT\n+\n#!II\n@p1/2\nTTTT\n+\nIIII\n@p2/1\nGGCC\n+\nIIII\n@p2/2\nAAAA\n+\n!!!\"\n"
 
 abbrev both : List Mates
-both = record { forward = read (codes "p1/1") (codes "ACGT") (codes "#!II"); reverse = read (codes "p1/2") (codes "TTTT") (codes "IIII") }
-    ∷ record { forward = read (codes "p2/1") (codes "GGCC") (codes "IIII"); reverse = read (codes "p2/2") (codes "AAAA") (codes "!!!\"") }
+both = record { forward = read (codes "p1/1") (codes "ACGT") (codes "#!II"); reverse =
+    read (codes "p1/2") (codes "TTTT") (codes "IIII") }
+    ∷ record { forward = read (codes "p2/1") (codes "GGCC") (codes "IIII"); reverse =
+        read (codes "p2/2") (codes "AAAA") (codes "!!!\"") }
     ∷ []
 
 two_pairs : pairs true Sanger 0 forward reverse ≡ record { mates = both; fault = None }
@@ -92,7 +95,8 @@ forward_log = refl
 reverse_log : map numbers (reverse_reads both) ≡ (4 ∷ 0 ∷ 4 ∷ 0 ∷ []) ∷ (0 ∷ 0 ∷ 0 ∷ 0 ∷ []) ∷ []
 reverse_log = refl
 
-counts : counts_of steps both ≡ record { pairs = 2; both = 1; forward_only = 1; reverse_only = 0; dropped = 0 }
+counts : counts_of steps both ≡ record { pairs = 2; both = 1; forward_only = 1; reverse_only =
+    0; dropped = 0 }
 counts = refl
 
 -- Outputs that are read again.
@@ -100,10 +104,12 @@ counts = refl
 -- One pair is read, because both mates survive in one pair. The forward mate has lost its first two
 -- bases; the reverse mate is whole.
 in_step : pairs true Sanger 0 (codes "@p1/1\nGT\n+\nII\n") (codes "@p1/2\nTTTT\n+\nIIII\n")
-    ≡ record { mates = record { forward = read (codes "p1/1") (codes "GT") (codes "II"); reverse = read (codes "p1/2") (codes "TTTT") (codes "IIII") } ∷ []; fault = None }
+    ≡ record { mates = record { forward = read (codes "p1/1") (codes "GT") (codes "II"); reverse =
+        read (codes "p1/2") (codes "TTTT") (codes "IIII") } ∷ []; fault = None }
 in_step = refl
 
-alone_again : records Sanger (codes "@p2/1\nGGCC\n+\nIIII\n") ≡ record { reads = read (codes "p2/1") (codes "GGCC") (codes "IIII") ∷ []; fault = None }
+alone_again : records Sanger (codes "@p2/1\nGGCC\n+\nIIII\n") ≡ record { reads =
+    read (codes "p2/1") (codes "GGCC") (codes "IIII") ∷ []; fault = None }
 alone_again = refl
 
 none_again : records Sanger [] ≡ record { reads = []; fault = None }
@@ -111,16 +117,20 @@ none_again = refl
 
 -- the reads that are written are plain, as the laws require
 plain_forward : All (IsPlain steps) (forward_reads (filter (both_survive steps) both))
-plain_forward = All-cons (IsPlain steps) (read (codes "p1/1") (codes "ACGT") (codes "#!II")) [] (record { title = refl; no_title = refl; no_plus = refl }) (All-nil (IsPlain steps))
+plain_forward = All-cons (IsPlain steps) (read (codes "p1/1") (codes "ACGT") (codes "#!II")) []
+    (record { title = refl; no_title = refl; no_plus = refl }) (All-nil (IsPlain steps))
 
 plain_reverse : All (IsPlain steps) (reverse_reads (filter (both_survive steps) both))
-plain_reverse = All-cons (IsPlain steps) (read (codes "p1/2") (codes "TTTT") (codes "IIII")) [] (record { title = refl; no_title = refl; no_plus = refl }) (All-nil (IsPlain steps))
+plain_reverse = All-cons (IsPlain steps) (read (codes "p1/2") (codes "TTTT") (codes "IIII")) []
+    (record { title = refl; no_title = refl; no_plus = refl }) (All-nil (IsPlain steps))
 
 plain_alone : All (IsPlain steps) (forward_reads (filter (forward_alone steps) both))
-plain_alone = All-cons (IsPlain steps) (read (codes "p2/1") (codes "GGCC") (codes "IIII")) [] (record { title = refl; no_title = refl; no_plus = refl }) (All-nil (IsPlain steps))
+plain_alone = All-cons (IsPlain steps) (read (codes "p2/1") (codes "GGCC") (codes "IIII")) []
+    (record { title = refl; no_title = refl; no_plus = refl }) (All-nil (IsPlain steps))
 
 -- with TOPHRED33 an output is in Sanger's encoding
-recoded : map (trimmed (Leading 3 ∷ ToPhred33 ∷ [])) (record { encoding = Illumina13; title = codes "i"; seq = codes "ACG"; qual = codes "AhD" } ∷ [])
+recoded : map (trimmed (Leading 3 ∷ ToPhred33 ∷ [])) (record { encoding = Illumina13; title =
+    codes "i"; seq = codes "ACG"; qual = codes "AhD" } ∷ [])
     ≡ read (codes "i") (codes "CG") (codes "I%") ∷ []
 recoded = refl
 
@@ -169,9 +179,11 @@ removed_behind = refl
 -- Reads that can't be read again.
 
 -- a cut that leaves @ as the first base
-cut_to_a_mark : fault_following 1 (records Sanger (record_text (HeadCrop 1 ∷ []) (read (codes "m") (codes "A@C") (codes "III")))) ≡ Some (BadSequence 1)
+cut_to_a_mark : fault_following 1 (records Sanger (record_text (HeadCrop 1 ∷ [])
+    (read (codes "m") (codes "A@C") (codes "III")))) ≡ Some (BadSequence 1)
 cut_to_a_mark = refl
 
 -- a title that ends in CR loses it
-title_with_cr : records Sanger (record_text steps (read (codes "r\r") (codes "AC") (codes "II"))) ≡ record { reads = read (codes "r") (codes "AC") (codes "II") ∷ []; fault = None }
+title_with_cr : records Sanger (record_text steps (read (codes "r\r") (codes "AC") (codes "II")))
+    ≡ record { reads = read (codes "r") (codes "AC") (codes "II") ∷ []; fault = None }
 title_with_cr = refl

@@ -14,7 +14,8 @@ module _ {T : Type 0} where
   items-append (Mark ∷ ss) ts = items-append ss ts
 
   -- the slots after one more item, and after the mark
-  pub slots-item : (xs : List T) (x : T) → slots_of xs false ++ Item x ∷ [] ≡ slots_of (xs ++ x ∷ []) false
+  pub slots-item : (xs : List T) (x : T) → slots_of xs false ++ Item x ∷ [] ≡ slots_of
+      (xs ++ x ∷ []) false
   slots-item [] x = refl
   slots-item (y ∷ xs) x = ap (λ ss. Item y ∷ ss) (slots-item xs x)
 
@@ -28,23 +29,31 @@ module _ {T : Type 0} where
   items-slots (x ∷ xs) b = ap (λ ys. x ∷ ys) (items-slots xs b)
 
   -- one more item
-  pub item_items : (ss ts : List (Slot T)) (x : T) → IsHistory ss false → ts ≡ ss ++ Item x ∷ [] → items_of ts ≡ items_of ss ++ x ∷ []
+  pub item_items : (ss ts : List (Slot T)) (x : T) → IsHistory ss false → ts ≡ ss ++ Item x ∷ [] →
+      items_of ts ≡ items_of ss ++ x ∷ []
   item_items ss ts x history is = ap items_of is ∙ items-append ss (Item x ∷ [])
 
-  pub item_history : (ss ts : List (Slot T)) (x : T) → IsHistory ss false → ts ≡ ss ++ Item x ∷ [] → IsHistory ts false
+  pub item_history : (ss ts : List (Slot T)) (x : T) → IsHistory ss false → ts ≡ ss ++ Item x ∷ [] →
+      IsHistory ts false
   item_history ss ts x history is =
-      is ∙ ap (λ us. us ++ Item x ∷ []) history ∙ slots-item (items_of ss) x ∙ ap (λ ys. slots_of ys false) (sym (item_items ss ts x history is))
+      is ∙ ap (λ us. us ++ Item x ∷ []) history ∙ slots-item (items_of ss) x
+          ∙ ap (λ ys. slots_of ys false) (sym (item_items ss ts x history is))
 
   -- the mark after the items
-  pub mark_items : (ss ts : List (Slot T)) → IsHistory ss false → ts ≡ ss ++ Mark ∷ [] → items_of ts ≡ items_of ss
-  mark_items ss ts history is = ap items_of is ∙ items-append ss (Mark ∷ []) ∙ append-nil (items_of ss)
+  pub mark_items : (ss ts : List (Slot T)) → IsHistory ss false → ts ≡ ss ++ Mark ∷ [] →
+      items_of ts ≡ items_of ss
+  mark_items ss ts history is = ap items_of is ∙ items-append ss (Mark ∷ [])
+      ∙ append-nil (items_of ss)
 
-  pub mark_history : (ss ts : List (Slot T)) → IsHistory ss false → ts ≡ ss ++ Mark ∷ [] → IsHistory ts true
+  pub mark_history : (ss ts : List (Slot T)) → IsHistory ss false → ts ≡ ss ++ Mark ∷ [] →
+      IsHistory ts true
   mark_history ss ts history is =
-      is ∙ ap (λ us. us ++ Mark ∷ []) history ∙ slots-mark (items_of ss) ∙ ap (λ ys. slots_of ys true) (sym (mark_items ss ts history is))
+      is ∙ ap (λ us. us ++ Mark ∷ []) history ∙ slots-mark (items_of ss)
+          ∙ ap (λ ys. slots_of ys true) (sym (mark_items ss ts history is))
 
   -- nothing comes after the mark
-  whole : (xs ys : List T) (rest : List (Slot T)) → slots_of xs true ++ rest ≡ slots_of ys true → xs ≡ ys
+  whole : (xs ys : List T) (rest : List (Slot T)) → slots_of xs true ++ rest ≡ slots_of ys true →
+      xs ≡ ys
   whole [] [] rest e = refl
   whole [] (y ∷ ys) rest e = cc
   whole (x ∷ xs) [] rest e = cc
@@ -54,16 +63,21 @@ module _ {T : Type 0} where
       cc
 
   -- what was got up to the mark is all that was sent
-  pub whole_items : (got rest sent : List (Slot T)) → IsHistory got true → IsHistory sent true → got ++ rest ≡ sent → items_of got ≡ items_of sent
-  whole_items got rest sent g s e = whole (items_of got) (items_of sent) rest (ap (λ us. us ++ rest) (sym g) ∙ e ∙ s)
+  pub whole_items : (got rest sent : List (Slot T)) → IsHistory got true → IsHistory sent true →
+      got ++ rest ≡ sent → items_of got ≡ items_of sent
+  whole_items got rest sent g s e = whole (items_of got) (items_of sent) rest
+      (ap (λ us. us ++ rest) (sym g) ∙ e ∙ s)
 
   pub history_along : (ss ts : List (Slot T)) (b : Bool) → IsHistory ss b → ts ≡ ss → IsHistory ts b
   history_along ss ts b history is = is ∙ history ∙ ap (λ us. slots_of (items_of us) b) (sym is)
 
   pub history_is : (m n : Name) (xs ys : List T) (b c : Bool) → m ≡ n → xs ≡ ys → b ≡ c
-      → (let l : History T = record { name = m; items = xs; marked = b } in l) ≡ (let l : History T = record { name = n; items = ys; marked = c } in l)
+      → (let l : History T = record { name = m; items = xs; marked = b } in l)
+          ≡ (let l : History T = record { name = n; items = ys; marked = c } in l)
   history_is m n xs ys b c p q r = cc
 
 module _ {T A P : Type 0} where
-  pub same_name : (a b : End T A P) → SameRing a b → (let n : Name = (b.words, (b.slots, b.names)) in n) ≡ (let n : Name = (a.words, (a.slots, a.names)) in n)
+  pub same_name : (a b : End T A P) → SameRing a b →
+      (let n : Name = (b.words, (b.slots, b.names)) in n) ≡ (let n : Name =
+      (a.words, (a.slots, a.names)) in n)
   same_name a b r = let p = r.0 in let q = r.1 in let s = r.2 in cc

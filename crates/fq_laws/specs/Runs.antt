@@ -3,12 +3,12 @@ use Rattle.std.specs.Prelude.{◌≡◌, ◌<◌, Some, List, ◌++◌, ℕ}
 use Rattle.fq_text.specs.Devices.{OutletState}
 use Rattle.fq_pair.specs.declared.out.Out.{Out}
 use Rattle.fq_pair.specs.Mates.{Mates}
-use Rattle.fq_serial.specs.Choices.{Choices}
-use Rattle.fq_serial.specs.Devices.{OutletStates, outlet_at}
-use Rattle.fq_serial.specs.Endings.{Run, IsTrimmed, EveryEnding, AreTold, AreFirst, all_pairs}
-use Rattle.fq_serial.specs.Fates.{Fate, Unbroken, part_begun}
-use Rattle.fq_serial.specs.Outcomes.{rank}
-use Rattle.fq_job.specs.Trimming.{AreEmpty}
+use Rattle.fq_run_core.specs.Choices.{Choices}
+use Rattle.fq_run_core.specs.Devices.{OutletStates, outlet_at}
+use Rattle.fq_run_core.specs.Endings.{Run, IsTrimmed, EveryEnding, AreTold, AreFirst, all_pairs}
+use Rattle.fq_run_core.specs.Fates.{Fate, Unbroken, part_begun}
+use Rattle.fq_run_core.specs.Outcomes.{rank}
+use Rattle.fq_files_run.specs.Trimming.{AreEmpty}
 use Rattle.fq_in_step.specs.InStep.{AreInStep}
 
 -- the outlets have taken these texts

@@ -1,5 +1,5 @@
 //! The laws of `fq_in_step`, of runs: what outlets have taken is in step. Those of files are
-//! clauses of `program` of `fq_command`.
+//! clauses of `program` of `fq_app`.
 //!
 //! Each function of this crate has no parameters and does nothing. Its contract is a law about the
 //! definitions that the contracts of the other crates use, so it holds for every run. The laws have

@@ -16,25 +16,31 @@ some_places start zero some = absurd (omega arith)
 some_places start (suc n) some = refl
 
 -- bases of the read are kept
-pub kept_survives : (at : List ℕ) (o : Option Kept) (k : Kept) → at ≡ places_of o → o ≡ Some k → is_empty at ≡ false
-kept_survives at o k is some_is = let some = k.some in ap is_empty (is ∙ ap places_of some_is) ∙ some_places k.start (k.stop - k.start) (omega arith)
+pub kept_survives : (at : List ℕ) (o : Option Kept) (k : Kept) → at ≡ places_of o → o ≡ Some k →
+    is_empty at ≡ false
+kept_survives at o k is some_is = let some = k.some in ap is_empty (is ∙ ap places_of some_is)
+    ∙ some_places k.start (k.stop - k.start) (omega arith)
 
 -- no bases of the read are kept
-pub dropped_is_gone : (at : List ℕ) (o : Option Kept) → at ≡ places_of o → o ≡ None → is_empty at ≡ true
+pub dropped_is_gone : (at : List ℕ) (o : Option Kept) → at ≡ places_of o → o ≡ None →
+    is_empty at ≡ true
 dropped_is_gone at o is none_is = ap is_empty (is ∙ ap places_of none_is)
 
-passed : (test : Mates → Bool) (text : Mates → List ℕ) (m : Mates) → test m ≡ true → (flat_map text (filter test (m ∷ [])) ≡ text m) × (length (filter test (m ∷ [])) ≡ 1)
+passed : (test : Mates → Bool) (text : Mates → List ℕ) (m : Mates) → test m ≡ true →
+    (flat_map text (filter test (m ∷ [])) ≡ text m) × (length (filter test (m ∷ [])) ≡ 1)
 passed test text m passes =
     let one = cond-true (test m) (m ∷ []) [] passes in
     (ap (flat_map text) one ∙ append-nil (text m), ap length one)
 
-failed : (test : Mates → Bool) (text : Mates → List ℕ) (m : Mates) → test m ≡ false → (flat_map text (filter test (m ∷ [])) ≡ []) × (length (filter test (m ∷ [])) ≡ 0)
+failed : (test : Mates → Bool) (text : Mates → List ℕ) (m : Mates) → test m ≡ false →
+    (flat_map text (filter test (m ∷ [])) ≡ []) × (length (filter test (m ∷ [])) ≡ 0)
 failed test text m fails =
     let none = cond-false (test m) (m ∷ []) [] fails in
     (ap (flat_map text) none, ap length none)
 
 -- texts with the same parts
-pub same_outputs : (s t : Outputs) → s.forward_paired ≡ t.forward_paired → s.forward_unpaired ≡ t.forward_unpaired → s.reverse_paired ≡ t.reverse_paired
+pub same_outputs : (s t : Outputs) → s.forward_paired ≡ t.forward_paired →
+    s.forward_unpaired ≡ t.forward_unpaired → s.reverse_paired ≡ t.reverse_paired
     → s.reverse_unpaired ≡ t.reverse_unpaired → s.log ≡ t.log → s.counts ≡ t.counts → s ≡ t
 same_outputs s t a b c d e f =
     let parts : Outputs → Outputs = λ (o : Outputs). record {
@@ -48,16 +54,23 @@ same_outputs s t a b c d e f =
     let same : parts s ≡ parts t = cc in same
 
 -- a text after a record was appended
-pub text_with : (old room new : List ℕ) (recode : Bool) (steps : List Step) (o : Option Kept) (k : Kept) (read : Read) → room ≡ old → new ≡ room ++ record_at recode (places_of (Some k)) read
-    → recode ≡ recodes steps → kept_places steps read ≡ places_of o → o ≡ Some k → new ≡ old ++ record_text steps read
+pub text_with : (old room new : List ℕ) (recode : Bool) (steps : List Step) (o : Option Kept)
+    (k : Kept) (read : Read) → room ≡ old → new ≡ room ++ record_at recode (places_of (Some k)) read
+    → recode ≡ recodes steps → kept_places steps read ≡ places_of o → o ≡ Some k →
+        new ≡ old ++ record_text steps read
 text_with old room new recode steps o k read same put recodes_is is some_is =
     put ∙ ap (λ (xs : List ℕ). xs ++ record_at recode (places_of (Some k)) read) same
     ∙ ap (λ (b : Bool). old ++ record_at b (places_of (Some k)) read) recodes_is
-    ∙ ap (λ (xs : List ℕ). old ++ record_at (recodes steps) xs read) (sym (is ∙ ap places_of some_is))
+    ∙ ap (λ (xs : List ℕ). old ++ record_at (recodes steps) xs read) (sym (is
+        ∙ ap places_of some_is))
 
 -- a log after a line was appended
-pub log_with : (old room new : List ℕ) (side : Side) (steps : List Step) (o : Option Kept) (read : Read) (name : List ℕ) (bases : ℕ) → room ≡ old → new ≡ room ++ log_line_of name bases (places_of o)
-    → name ≡ name_of side read.title → bases ≡ length read.seq → kept_places steps read ≡ places_of o → new ≡ old ++ log_line side (kept_places steps read) read
+pub log_with : (old room new : List ℕ) (side : Side) (steps : List Step) (o : Option Kept)
+    (read : Read) (name : List ℕ) (bases : ℕ) → room ≡ old →
+    new ≡ room ++ log_line_of name bases (places_of o)
+    → name ≡ name_of side read.title → bases ≡ length read.seq →
+        kept_places steps read ≡ places_of o →
+        new ≡ old ++ log_line side (kept_places steps read) read
 log_with old room new side steps o read name bases same put named counted is =
     put ∙ ap (λ (xs : List ℕ). xs ++ log_line_of name bases (places_of o)) same
     ∙ ap (λ (xs : List ℕ). old ++ log_line_of xs bases (places_of o)) named
@@ -73,9 +86,11 @@ module _ (steps : List Step) (m : Mates) (old : Outputs) where
 
   -- the log with the lines of the pair
   abbrev pub log_added : List ℕ
-  log_added = (old.log ++ log_line Forward (kept_places steps m.forward) m.forward) ++ log_line Reverse (kept_places steps m.reverse) m.reverse
+  log_added = (old.log ++ log_line Forward (kept_places steps m.forward) m.forward) ++ log_line
+      Reverse (kept_places steps m.reverse) m.reverse
 
-  pub both_added : is_empty (kept_places steps m.forward) ≡ false → is_empty (kept_places steps m.reverse) ≡ false →
+  pub both_added : is_empty (kept_places steps m.forward) ≡ false →
+      is_empty (kept_places steps m.reverse) ≡ false →
       joined old (texts_of steps (m ∷ [])) ≡ record {
         forward_paired = old.forward_paired ++ record_text steps m.forward;
         forward_unpaired = old.forward_unpaired;
@@ -103,13 +118,15 @@ module _ (steps : List Step) (m : Mates) (old : Outputs) where
       let nil_0 = append-nil old.forward_unpaired in
       let nil_1 = append-nil old.reverse_unpaired in
       let lines = append-nil (log_lines steps m) in
-      let log = append_assoc old.log (log_line Forward (kept_places steps m.forward) m.forward) (log_line Reverse (kept_places steps m.reverse) m.reverse) in
+      let log = append_assoc old.log (log_line Forward (kept_places steps m.forward) m.forward)
+          (log_line Reverse (kept_places steps m.reverse) m.reverse) in
       let zero_0 = add-zero old.counts.forward_only in
       let zero_1 = add-zero old.counts.reverse_only in
       let zero_2 = add-zero old.counts.dropped in
       cc
 
-  pub forward_added : is_empty (kept_places steps m.forward) ≡ false → is_empty (kept_places steps m.reverse) ≡ true →
+  pub forward_added : is_empty (kept_places steps m.forward) ≡ false →
+      is_empty (kept_places steps m.reverse) ≡ true →
       joined old (texts_of steps (m ∷ [])) ≡ record {
         forward_paired = old.forward_paired;
         forward_unpaired = old.forward_unpaired ++ record_text steps m.forward;
@@ -138,13 +155,15 @@ module _ (steps : List Step) (m : Mates) (old : Outputs) where
       let nil_1 = append-nil old.reverse_paired in
       let nil_2 = append-nil old.reverse_unpaired in
       let lines = append-nil (log_lines steps m) in
-      let log = append_assoc old.log (log_line Forward (kept_places steps m.forward) m.forward) (log_line Reverse (kept_places steps m.reverse) m.reverse) in
+      let log = append_assoc old.log (log_line Forward (kept_places steps m.forward) m.forward)
+          (log_line Reverse (kept_places steps m.reverse) m.reverse) in
       let zero_0 = add-zero old.counts.both in
       let zero_1 = add-zero old.counts.reverse_only in
       let zero_2 = add-zero old.counts.dropped in
       cc
 
-  pub reverse_added : is_empty (kept_places steps m.forward) ≡ true → is_empty (kept_places steps m.reverse) ≡ false →
+  pub reverse_added : is_empty (kept_places steps m.forward) ≡ true →
+      is_empty (kept_places steps m.reverse) ≡ false →
       joined old (texts_of steps (m ∷ [])) ≡ record {
         forward_paired = old.forward_paired;
         forward_unpaired = old.forward_unpaired;
@@ -173,13 +192,15 @@ module _ (steps : List Step) (m : Mates) (old : Outputs) where
       let nil_1 = append-nil old.reverse_paired in
       let nil_2 = append-nil old.forward_unpaired in
       let lines = append-nil (log_lines steps m) in
-      let log = append_assoc old.log (log_line Forward (kept_places steps m.forward) m.forward) (log_line Reverse (kept_places steps m.reverse) m.reverse) in
+      let log = append_assoc old.log (log_line Forward (kept_places steps m.forward) m.forward)
+          (log_line Reverse (kept_places steps m.reverse) m.reverse) in
       let zero_0 = add-zero old.counts.both in
       let zero_1 = add-zero old.counts.forward_only in
       let zero_2 = add-zero old.counts.dropped in
       cc
 
-  pub none_added : is_empty (kept_places steps m.forward) ≡ true → is_empty (kept_places steps m.reverse) ≡ true →
+  pub none_added : is_empty (kept_places steps m.forward) ≡ true →
+      is_empty (kept_places steps m.reverse) ≡ true →
       joined old (texts_of steps (m ∷ [])) ≡ record {
         forward_paired = old.forward_paired;
         forward_unpaired = old.forward_unpaired;
@@ -209,7 +230,8 @@ module _ (steps : List Step) (m : Mates) (old : Outputs) where
       let nil_2 = append-nil old.forward_unpaired in
       let nil_3 = append-nil old.reverse_unpaired in
       let lines = append-nil (log_lines steps m) in
-      let log = append_assoc old.log (log_line Forward (kept_places steps m.forward) m.forward) (log_line Reverse (kept_places steps m.reverse) m.reverse) in
+      let log = append_assoc old.log (log_line Forward (kept_places steps m.forward) m.forward)
+          (log_line Reverse (kept_places steps m.reverse) m.reverse) in
       let zero_0 = add-zero old.counts.both in
       let zero_1 = add-zero old.counts.forward_only in
       let zero_2 = add-zero old.counts.reverse_only in

@@ -32,9 +32,11 @@ module _ {F : Type 0} (state : F → FeedState) (a b c : Sourced F) (p : KeepsCo
   side s = record (side_state state s) { failures = 0 }
 
   abbrev drawn_in : (old new : Sourced F) → KeepsCount state old new → Draws (side old) (side new) 0
-  drawn_in old new k = record { told = k.told; max_reads = k.max_reads; grows = k.grows; ended = k.ended; bytes = k.fed; size = k.length; failures = refl }
+  drawn_in old new k = record { told = k.told; max_reads = k.max_reads; grows = k.grows; ended =
+      k.ended; bytes = k.fed; size = k.length; failures = refl }
 
-  abbrev used_in : (old new : Sourced F) → IsTail (rest_in state old) (rest_in state new) new.ended → Uses (side old) (side new)
+  abbrev used_in : (old new : Sourced F) → IsTail (rest_in state old) (rest_in state new)
+      new.ended → Uses (side old) (side new)
   used_in old new t = record { used = t.before; split = t.split; at_line = t.at_line }
 
   pub keeps_then : KeepsCount state a c
@@ -52,28 +54,40 @@ module _ {F : Type 0} (state : F → FeedState) (a b c : Sourced F) (p : KeepsCo
       }
 
   -- the rest of a rest of a text
-  tail_then : IsTail (rest_in state a) (rest_in state b) b.ended → IsTail (rest_in state b) (rest_in state c) c.ended → IsTail (rest_in state a) (rest_in state c) c.ended
+  tail_then : IsTail (rest_in state a) (rest_in state b) b.ended →
+      IsTail (rest_in state b) (rest_in state c) c.ended →
+      IsTail (rest_in state a) (rest_in state c) c.ended
   tail_then t u =
       let both = uses_then (side a) (side b) (side c) q.ended (used_in a b t) (used_in b c u) in
       let some = t.some in
-      record { before = t.before ++ u.before; some = omega (arith, length-append t.before u.before); split = both.split; at_line = both.at_line }
+      record { before = t.before ++ u.before; some =
+          omega (arith, length-append t.before u.before); split = both.split; at_line =
+          both.at_line }
 
   -- two records that were given make a pair if their names allow it
-  pub two_given : (kept now_kept : Read) (check : Bool) (given : ℕ) (before now : Bool) (f r : Read) (m : Mates) → m ≡ mates_in f r → GivesRecord state a b f → GivesRecord state b c r → belong check (mates_in f r) ≡ true →
+  pub two_given : (kept now_kept : Read) (check : Bool) (given : ℕ) (before now : Bool) (f r : Read)
+      (m : Mates) → m ≡ mates_in f r → GivesRecord state a b f → GivesRecord state b c r →
+      belong check (mates_in f r) ≡ true →
       GivesPair state (asked a kept check given before) (asked c now_kept check (given + 1) now) m
   two_given kept now_kept check given before now f r m is first second together =
-      let P : Mates → Type 0 = GivesPair state (asked a kept check given before) (asked c now_kept check (given + 1) now) in
+      let P : Mates → Type 0 = GivesPair state (asked a kept check given before)
+          (asked c now_kept check (given + 1) now) in
       let one = first.given in let two = second.given in
       let ls = lines (rest_in state c) in
       let n = suc given in
-      let pair_is : IsTrue (state a.feed).tells → front_of state (asked a kept check given before) ≡ Met (mates_in f r) ls ls = λ told.
+      let pair_is : IsTrue (state a.feed).tells →
+          front_of state (asked a kept check given before) ≡ Met (mates_in f r) ls ls = λ told.
       ap (interleaved_meeting check a.encoding n) (first.record_is told)
-      ∙ ap (λ (e : Encoding). meeting_after check n f (front e (lines (rest_in state b)))) (sym p.encoding)
+      ∙ ap (λ (e : Encoding). meeting_after check n f (front e (lines (rest_in state b))))
+          (sym p.encoding)
       ∙ ap (meeting_after check n f) (second.record_is (p.told ∙ told))
-      ∙ cond-true (belong check (mates_in f r)) (Met (mates_in f r) ls ls) (Stopped (NamesDiffer n)) together in
+      ∙ cond-true (belong check (mates_in f r)) (Met (mates_in f r) ls ls) (Stopped (NamesDiffer n))
+          together in
       subst P (sym is) (record {
         pair_is = pair_is;
-        left = λ told. interleaved_left_met state (asked a kept check given before) (asked c now_kept check (given + 1) now) (mates_in f r) (q.encoding ∙ p.encoding) refl refl (pair_is told);
+        left = λ told. interleaved_left_met state (asked a kept check given before)
+            (asked c now_kept check (given + 1) now) (mates_in f r) (q.encoding
+            ∙ p.encoding) refl refl (pair_is told);
         records = record {
           forward = first.lawful;
           reverse = second.lawful;
@@ -94,13 +108,17 @@ module _ {F : Type 0} (state : F → FeedState) (a b c : Sourced F) (p : KeepsCo
     came = held state a c
 
     abbrev more : List (List ℕ)
-    more = more_lines (side a) (side b) (side c) 0 (drawn_in a b p) (drawn_in b c q) told (used_in a b t)
+    more = more_lines (side a) (side b) (side c) 0 (drawn_in a b p) (drawn_in b c q) told
+        (used_in a b t)
 
     before : lines (rest_in state a) ≡ lines (whole_part came) ++ more
-    before = lines_before (side a) (side b) (side c) 0 (drawn_in a b p) (drawn_in b c q) told (used_in a b t)
+    before = lines_before (side a) (side b) (side c) 0 (drawn_in a b p) (drawn_in b c q) told
+        (used_in a b t)
 
-    left : (ls : List (List ℕ)) → ls ++ more ≡ lines (rest_in state b) → (ls ≡ lines (whole_part (held state b c))) ⊎ (ls ≡ [])
-    left = lines_left (side a) (side b) (side c) 0 (drawn_in a b p) (drawn_in b c q) told (used_in a b t)
+    left : (ls : List (List ℕ)) → ls ++ more ≡ lines (rest_in state b) →
+        (ls ≡ lines (whole_part (held state b c))) ⊎ (ls ≡ [])
+    left = lines_left (side a) (side b) (side c) 0 (drawn_in a b p) (drawn_in b c q) told
+        (used_in a b t)
 
     module _ (check : Bool) (given : ℕ) (f : Read) (first : front a.encoding (lines (rest_in state a)) ≡ Found f (lines (rest_in state b))) (lacks : LacksRecord state b c) where
       abbrev whole_lines : List (List ℕ)
@@ -113,23 +131,38 @@ module _ {F : Type 0} (state : F → FeedState) (a b c : Sourced F) (p : KeepsCo
       n = suc given
 
       -- there is no second record
-      none_behind : (x y : Read) (ls rest : List (List ℕ)) → front a.encoding whole_lines ≡ Found x ls → front a.encoding ls ≡ Found y rest → ⊥
+      none_behind : (x y : Read) (ls rest : List (List ℕ)) →
+          front a.encoding whole_lines ≡ Found x ls → front a.encoding ls ≡ Found y rest → ⊥
       none_behind x y ls rest one two =
-          let longer : Found x (ls ++ more) ≡ Found f (lines (rest_in state b)) = sym (front_more more a.encoding x ls whole_lines one) ∙ ap (front a.encoding) (sym before) ∙ first in
+          let longer : Found x (ls ++ more) ≡ Found f (lines (rest_in state b)) =
+              sym (front_more more a.encoding x ls whole_lines one)
+              ∙ ap (front a.encoding) (sym before) ∙ first in
           let same : ls ++ more ≡ lines (rest_in state b) = cc in
           ⊎_elim
-          (λ these. lacks (p.told ∙ told) y rest (ap (λ (e : Encoding). front e (lines (whole_part (held state b c)))) p.encoding ∙ ap (front a.encoding) (sym these) ∙ two))
-          (λ none. absurd (let h : End ≡ Found y rest = ap (front a.encoding) (sym none) ∙ two in cc))
+          (λ these. lacks (p.told
+              ∙ told) y rest (ap (λ (e : Encoding). front e (lines (whole_part (held state b c))))
+              p.encoding ∙ ap (front a.encoding) (sym these) ∙ two))
+          (λ none. absurd (let h : End ≡ Found y rest = ap (front a.encoding) (sym none) ∙ two in
+              cc))
           (left ls same)
 
-      by_second : (x : Read) (ls : List (List ℕ)) → front a.encoding whole_lines ≡ Found x ls → (B : Front) → front a.encoding ls ≡ B → HasNone
-      by_second x ls one End two = ap (λ (ps : Pairs). ps.mates) (interleaved_pairs_of-stopped check a.encoding given whole_lines _ (ap (interleaved_meeting check a.encoding n) one ∙ ap (meeting_after check n x) two))
-      by_second x ls one (Faulty y) two = ap (λ (ps : Pairs). ps.mates) (interleaved_pairs_of-stopped check a.encoding given whole_lines _ (ap (interleaved_meeting check a.encoding n) one ∙ ap (meeting_after check n x) two))
+      by_second : (x : Read) (ls : List (List ℕ)) → front a.encoding whole_lines ≡ Found x ls →
+          (B : Front) → front a.encoding ls ≡ B → HasNone
+      by_second x ls one End two = ap (λ (ps : Pairs). ps.mates)
+          (interleaved_pairs_of-stopped check a.encoding given whole_lines _
+          (ap (interleaved_meeting check a.encoding n) one ∙ ap (meeting_after check n x) two))
+      by_second x ls one (Faulty y) two = ap (λ (ps : Pairs). ps.mates)
+          (interleaved_pairs_of-stopped check a.encoding given whole_lines _
+          (ap (interleaved_meeting check a.encoding n) one ∙ ap (meeting_after check n x) two))
       by_second x ls one (Found y rest) two = absurd (none_behind x y ls rest one two)
 
       by_first : (A : Front) → front a.encoding whole_lines ≡ A → HasNone
-      by_first End one = ap (λ (ps : Pairs). ps.mates) (interleaved_pairs_of-ended check a.encoding given whole_lines (ap (interleaved_meeting check a.encoding n) one))
-      by_first (Faulty x) one = ap (λ (ps : Pairs). ps.mates) (interleaved_pairs_of-stopped check a.encoding given whole_lines _ (ap (interleaved_meeting check a.encoding n) one))
+      by_first End one =
+          ap (λ (ps : Pairs). ps.mates) (interleaved_pairs_of-ended check a.encoding given
+          whole_lines (ap (interleaved_meeting check a.encoding n) one))
+      by_first (Faulty x) one = ap (λ (ps : Pairs). ps.mates)
+          (interleaved_pairs_of-stopped check a.encoding given whole_lines _
+          (ap (interleaved_meeting check a.encoding n) one))
       by_first (Found x ls) one = by_second x ls one (front a.encoding ls) refl
 
       -- if the second record was not read, the whole lines that came make no pair
@@ -140,22 +173,36 @@ module _ {F : Type 0} (state : F → FeedState) (a b c : Sourced F) (p : KeepsCo
       pub one_came : b.ended ≡ false → length (records a.encoding (whole_part came)).reads ≡ 1
       one_came going =
           let behind = lines (whole_part (held state b c)) in
-          let left_is : lines (rest_in state b) ≡ behind ++ more = lines_behind (side a) (side b) (side c) 0 (drawn_in a b p) (drawn_in b c q) told (used_in a b t) going in
+          let left_is : lines (rest_in state b) ≡ behind ++ more =
+              lines_behind (side a) (side b) (side c) 0 (drawn_in a b p) (drawn_in b c q) told
+              (used_in a b t) going in
           let found : front a.encoding whole_lines ≡ Found f behind =
-          front_fewer a.encoding f whole_lines behind more (ap (front a.encoding) (sym before) ∙ first ∙ ap (Found f) left_is) in
+          front_fewer a.encoding f whole_lines behind more (ap (front a.encoding) (sym before)
+              ∙ first ∙ ap (Found f) left_is) in
           one_record a.encoding f whole_lines behind found
-          ∙ ap suc (no_records a.encoding behind (λ r rest is. lacks (p.told ∙ told) r rest (ap (λ (e : Encoding). front e behind) p.encoding ∙ is)))
+          ∙ ap suc (no_records a.encoding behind (λ r rest is. lacks (p.told ∙ told) r rest
+              (ap (λ (e : Encoding). front e behind) p.encoding ∙ is)))
 
 -- a fault of the text is that of the record that comes first, with its number
-stops_behind : (check : Bool) (n : ℕ) (f : Read) (x : Front) (k : ℕ) (why : TextFault) → k ≡ 2 * n → is_outside why ≡ false → FaultIs x k why → meeting_after check n f x ≡ Stopped (Text Reverse why)
-stops_behind check n f x k (text.NoTitle j) is inside p = ap (meeting_after check n f) p.0 ∙ ap (λ i. Stopped (Text Reverse (text.NoTitle i))) (sym (p.1 ∙ is))
-stops_behind check n f x k (text.BadSequence j) is inside p = ap (meeting_after check n f) p.0 ∙ ap (λ i. Stopped (Text Reverse (text.BadSequence i))) (sym (p.1 ∙ is))
-stops_behind check n f x k (text.NoPlus j) is inside p = ap (meeting_after check n f) p.0 ∙ ap (λ i. Stopped (Text Reverse (text.NoPlus i))) (sym (p.1 ∙ is))
-stops_behind check n f x k (text.PlusDiffers j) is inside p = ap (meeting_after check n f) p.0 ∙ ap (λ i. Stopped (Text Reverse (text.PlusDiffers i))) (sym (p.1 ∙ is))
-stops_behind check n f x k (text.BadQuality j) is inside p = ap (meeting_after check n f) p.0 ∙ ap (λ i. Stopped (Text Reverse (text.BadQuality i))) (sym (p.1 ∙ is))
-stops_behind check n f x k (text.QualityLong j) is inside p = ap (meeting_after check n f) p.0 ∙ ap (λ i. Stopped (Text Reverse (text.QualityLong i))) (sym (p.1 ∙ is))
-stops_behind check n f x k (text.QualityShort j) is inside p = ap (meeting_after check n f) p.0 ∙ ap (λ i. Stopped (Text Reverse (text.QualityShort i))) (sym (p.1 ∙ is))
-stops_behind check n f x k (text.TooLong j) is inside p = ap (meeting_after check n f) p.0 ∙ ap (λ i. Stopped (Text Reverse (text.TooLong i))) (sym (p.1 ∙ is))
+stops_behind : (check : Bool) (n : ℕ) (f : Read) (x : Front) (k : ℕ) (why : TextFault) → k ≡ 2 * n →
+    is_outside why ≡ false → FaultIs x k why →
+    meeting_after check n f x ≡ Stopped (Text Reverse why)
+stops_behind check n f x k (text.NoTitle j) is inside p = ap (meeting_after check n f) p.0
+    ∙ ap (λ i. Stopped (Text Reverse (text.NoTitle i))) (sym (p.1 ∙ is))
+stops_behind check n f x k (text.BadSequence j) is inside p = ap (meeting_after check n f) p.0
+    ∙ ap (λ i. Stopped (Text Reverse (text.BadSequence i))) (sym (p.1 ∙ is))
+stops_behind check n f x k (text.NoPlus j) is inside p = ap (meeting_after check n f) p.0
+    ∙ ap (λ i. Stopped (Text Reverse (text.NoPlus i))) (sym (p.1 ∙ is))
+stops_behind check n f x k (text.PlusDiffers j) is inside p = ap (meeting_after check n f) p.0
+    ∙ ap (λ i. Stopped (Text Reverse (text.PlusDiffers i))) (sym (p.1 ∙ is))
+stops_behind check n f x k (text.BadQuality j) is inside p = ap (meeting_after check n f) p.0
+    ∙ ap (λ i. Stopped (Text Reverse (text.BadQuality i))) (sym (p.1 ∙ is))
+stops_behind check n f x k (text.QualityLong j) is inside p = ap (meeting_after check n f) p.0
+    ∙ ap (λ i. Stopped (Text Reverse (text.QualityLong i))) (sym (p.1 ∙ is))
+stops_behind check n f x k (text.QualityShort j) is inside p = ap (meeting_after check n f) p.0
+    ∙ ap (λ i. Stopped (Text Reverse (text.QualityShort i))) (sym (p.1 ∙ is))
+stops_behind check n f x k (text.TooLong j) is inside p = ap (meeting_after check n f) p.0
+    ∙ ap (λ i. Stopped (Text Reverse (text.TooLong i))) (sym (p.1 ∙ is))
 stops_behind check n f x k text.Read is inside p = absurd cc
 stops_behind check n f x k text.Endless is inside p = absurd cc
 stops_behind check n f x k text.OutOfMemory is inside p = absurd cc
@@ -174,7 +221,8 @@ cut_lacks P (text.QualityShort n) cut p = absurd cc
 cut_lacks P (text.TooLong n) cut p = absurd cc
 
 -- the side of a cut
-cut_side : (P : Side → Type 0) (s : Side) (why : TextFault) → (is_cut why ≡ true → P s) → if_cut P (Text s why)
+cut_side : (P : Side → Type 0) (s : Side) (why : TextFault) → (is_cut why ≡ true → P s) →
+    if_cut P (Text s why)
 cut_side P s text.Read p = p refl
 cut_side P s text.Endless p = p refl
 cut_side P s text.OutOfMemory p = tt
@@ -187,7 +235,8 @@ cut_side P s (text.QualityLong n) p = tt
 cut_side P s (text.QualityShort n) p = tt
 cut_side P s (text.TooLong n) p = tt
 
-endless_behind : (P : Type 0) (why : TextFault) → endless_text P why → if_endless P P (Text Reverse why)
+endless_behind : (P : Type 0) (why : TextFault) → endless_text P why →
+    if_endless P P (Text Reverse why)
 endless_behind P text.Endless p = p
 endless_behind P text.Read p = tt
 endless_behind P text.OutOfMemory p = tt
@@ -202,26 +251,36 @@ endless_behind P (text.TooLong n) p = tt
 
 -- what stays, and is false later, was false before
 not_before : {before later : Bool} → (before ≡ true → later ≡ true) → later ≡ false → before ≡ false
-not_before {before} {later} stays none = ⊎_elim (λ over. absurd (let h = sym (stays over) ∙ none in cc)) (λ going. going) (cases_Bool before)
+not_before {before} {later} stays none = ⊎_elim (λ over. absurd (let h = sym (stays over) ∙ none in
+    cc)) (λ going. going) (cases_Bool before)
 
 module _ {F : Type 0} (state : F → FeedState) (a b c : Sourced F) (p : KeepsCount state a b) (q : KeepsCount state b c) (kept : Read) (check : Bool) (given : ℕ) (before : Bool) (f : Read) (first : GivesRecord state a b f) where
   -- a fault after a forward mate
   second_stops : (why : TextFault) → a.given ≡ 2 * given → StopsText state b c why →
-      StopsPairs state (asked a kept check given before) (stopped c check given (Err (Text Reverse why))) (Text Reverse why)
+      StopsPairs state (asked a kept check given before)
+          (stopped c check given (Err (Text Reverse why))) (Text Reverse why)
   second_stops why even stops =
       let one = first.given in
       let n = suc given in
       let number : b.given + 1 ≡ 2 * n = omega arith in
-      let fault_is : IsTrue (state a.feed).tells → is_outside why ≡ false → front_of state (asked a kept check given before) ≡ Stopped (Text Reverse why) = λ told inside.
+      let fault_is : IsTrue (state a.feed).tells → is_outside why ≡ false →
+          front_of state (asked a kept check given before) ≡ Stopped (Text Reverse why) =
+          λ told inside.
       ap (interleaved_meeting check a.encoding n) (first.record_is told)
-      ∙ ap (λ (e : Encoding). meeting_after check n f (front e (lines (rest_in state b)))) (sym p.encoding)
-      ∙ stops_behind check n f (front b.encoding (lines (rest_in state b))) (b.given + 1) why number inside (stops.fault_is (p.told ∙ told)) in
+      ∙ ap (λ (e : Encoding). meeting_after check n f (front e (lines (rest_in state b))))
+          (sym p.encoding)
+      ∙ stops_behind check n f (front b.encoding (lines (rest_in state b))) (b.given + 1) why number
+          inside (stops.fault_is (p.told ∙ told)) in
       record {
         fault_is = fault_is;
-        left = λ told inside. interleaved_left_stopped state (asked a kept check given before) (Text Reverse why) (fault_is told inside);
-        lacks = λ cut told. no_pair state a b c p q told (first.tail told) check given f (first.record_is told) (cut_lacks _ why cut stops.lacks);
+        left = λ told inside. interleaved_left_stopped state (asked a kept check given before)
+            (Text Reverse why) (fault_is told inside);
+        lacks = λ cut told. no_pair state a b c p q told (first.tail told) check given f
+            (first.record_is told) (cut_lacks _ why cut stops.lacks);
         next = cut_side (IsNext state a c) Reverse why (λ cut told.
-            ap side_after (one_came state a b c p q told (first.tail told) check given f (first.record_is told) (cut_lacks _ why cut stops.lacks) (cut_lacks _ why cut stops.going)));
+            ap side_after (one_came state a b c p q told (first.tail told) check given f
+                (first.record_is told) (cut_lacks _ why cut stops.lacks)
+                (cut_lacks _ why cut stops.going)));
         going = λ cut. not_before p.ended (cut_lacks _ why cut stops.going);
         endless = endless_behind _ why stops.endless;
         reading = (stops.last, stops.given ∙ first.given);
@@ -232,17 +291,22 @@ module _ {F : Type 0} (state : F → FeedState) (a b c : Sourced F) (p : KeepsCo
 
   -- if the text ends after a forward mate, the reverse mate is missing
   pub mate_missing : EndsText state b c →
-      (let why = MateMissing Reverse (given + 1) in StopsPairs state (asked a kept check given before) (stopped c check given (Err why)) why)
+      (let why = MateMissing Reverse (given + 1) in
+          StopsPairs state (asked a kept check given before) (stopped c check given (Err why)) why)
   mate_missing ends =
       let n = suc given in
-      let fault_is : IsTrue (state a.feed).tells → false ≡ false → front_of state (asked a kept check given before) ≡ Stopped (MateMissing Reverse (given + 1)) = λ told inside.
+      let fault_is : IsTrue (state a.feed).tells → false ≡ false →
+          front_of state (asked a kept check given before)
+          ≡ Stopped (MateMissing Reverse (given + 1)) = λ told inside.
       ap (interleaved_meeting check a.encoding n) (first.record_is told)
-      ∙ ap (λ (e : Encoding). meeting_after check n f (front e (lines (rest_in state b)))) (sym p.encoding)
+      ∙ ap (λ (e : Encoding). meeting_after check n f (front e (lines (rest_in state b))))
+          (sym p.encoding)
       ∙ ap (meeting_after check n f) (ends.end_is (p.told ∙ told))
       ∙ ap (λ k. Stopped (MateMissing Reverse k)) (sym (add-one given)) in
       record {
         fault_is = fault_is;
-        left = λ told inside. interleaved_left_stopped state (asked a kept check given before) (MateMissing Reverse (given + 1)) (fault_is told inside);
+        left = λ told inside. interleaved_left_stopped state (asked a kept check given before)
+            (MateMissing Reverse (given + 1)) (fault_is told inside);
         lacks = λ cut. absurd cc;
         next = tt;
         going = λ cut. absurd cc;
@@ -254,21 +318,28 @@ module _ {F : Type 0} (state : F → FeedState) (a b c : Sourced F) (p : KeepsCo
       }
 
   -- two records that were given make no pair if their names differ
-  pub names_differ : (r : Read) (why : InputFault) → why ≡ NamesDiffer (given + 1) → GivesRecord state b c r → belong check (mates_in f r) ≡ false →
+  pub names_differ : (r : Read) (why : InputFault) → why ≡ NamesDiffer (given + 1) →
+      GivesRecord state b c r → belong check (mates_in f r) ≡ false →
       StopsPairs state (asked a kept check given before) (stopped c check given (Err why)) why
   names_differ r why is second apart =
       let n = suc given in
-      let P : InputFault → Type 0 = λ y. StopsPairs state (asked a kept check given before) (stopped c check given (Err y)) y in
+      let P : InputFault → Type 0 = λ y. StopsPairs state (asked a kept check given before)
+          (stopped c check given (Err y)) y in
       let ls = lines (rest_in state c) in
-      let fault_is : IsTrue (state a.feed).tells → false ≡ false → front_of state (asked a kept check given before) ≡ Stopped (NamesDiffer (given + 1)) = λ told inside.
+      let fault_is : IsTrue (state a.feed).tells → false ≡ false →
+          front_of state (asked a kept check given before) ≡ Stopped (NamesDiffer (given + 1)) =
+          λ told inside.
       ap (interleaved_meeting check a.encoding n) (first.record_is told)
-      ∙ ap (λ (e : Encoding). meeting_after check n f (front e (lines (rest_in state b)))) (sym p.encoding)
+      ∙ ap (λ (e : Encoding). meeting_after check n f (front e (lines (rest_in state b))))
+          (sym p.encoding)
       ∙ ap (meeting_after check n f) (second.record_is (p.told ∙ told))
-      ∙ cond-false (belong check (mates_in f r)) (Met (mates_in f r) ls ls) (Stopped (NamesDiffer n)) apart
+      ∙ cond-false (belong check (mates_in f r)) (Met (mates_in f r) ls ls)
+          (Stopped (NamesDiffer n)) apart
       ∙ ap (λ k. Stopped (NamesDiffer k)) (sym (add-one given)) in
       subst P (sym is) (record {
         fault_is = fault_is;
-        left = λ told inside. interleaved_left_stopped state (asked a kept check given before) (NamesDiffer (given + 1)) (fault_is told inside);
+        left = λ told inside. interleaved_left_stopped state (asked a kept check given before)
+            (NamesDiffer (given + 1)) (fault_is told inside);
         lacks = λ cut. absurd cc;
         next = tt;
         going = λ cut. absurd cc;
@@ -280,9 +351,13 @@ module _ {F : Type 0} (state : F → FeedState) (a b c : Sourced F) (p : KeepsCo
       })
 
 -- a source that was ready gave the forward mate, and failed after it
-pub second_fails : {F : Type 0} (state : F → FeedState) (a b c : Sourced F) → KeepsCount state a b → KeepsCount state b c → (kept : Read) (check : Bool) (given : ℕ) (before : Bool) (f : Read) →
-    IsReady a given → (a.last ≡ None → GivesRecord state a b f) → (why : TextFault) → (b.last ≡ None → StopsText state b c why) →
-    StopsPairs state (asked a kept check given before) (stopped c check given (Err (Text Reverse why))) (Text Reverse why)
+pub second_fails : {F : Type 0} (state : F → FeedState) (a b c : Sourced F) → KeepsCount state a b →
+    KeepsCount state b c → (kept : Read) (check : Bool) (given : ℕ) (before : Bool) (f : Read) →
+    IsReady a given → (a.last ≡ None → GivesRecord state a b f) → (why : TextFault) →
+        (b.last ≡ None → StopsText state b c why) →
+    StopsPairs state (asked a kept check given before)
+        (stopped c check given (Err (Text Reverse why))) (Text Reverse why)
 second_fails state a b c p q kept check given before f ready gives why stops =
     let first = gives ready.last in
-    second_stops state a b c p q kept check given before f first why ready.records (stops first.last)
+    second_stops state a b c p q kept check given before f first why ready.records
+        (stops first.last)

@@ -18,20 +18,25 @@ use Rattle.fq_pair.specs.declared.side.Side.TheVariants.{Forward, Reverse}
 use Rattle.fq_pair.specs.Mates.{is_gap, mark_of, without_end, name_of, lengths_of}
 
 -- the place of the first blank or tab, or the length
-word_end : (title : List ℕ) (r : Option ℕ) → IsFirstByte (is_byte2 32 9) title r → position_or_len is_gap title ≡ unwrap_or r (length title)
+word_end : (title : List ℕ) (r : Option ℕ) → IsFirstByte (is_byte2 32 9) title r →
+    position_or_len is_gap title ≡ unwrap_or r (length title)
 word_end title None none =
     position_or_len_is is_gap title (length title) 0 (omega arith)
-    (λ k lt. false_from_ne_true (is_gap (get_or title k 0)) (none k (zero-le {n = k}) lt)) (λ lt. absurd (omega arith))
+    (λ k lt. false_from_ne_true (is_gap (get_or title k 0)) (none k (zero-le {n = k}) lt))
+        (λ lt. absurd (omega arith))
 word_end title (Some end) is =
     let high = is.0.high in
     position_or_len_is is_gap title end 0 (omega arith)
-    (λ k lt. false_from_ne_true (is_gap (get_or title k 0)) (is.0.before k (zero-le {n = k}) lt)) (λ lt. is.1)
+    (λ k lt. false_from_ne_true (is_gap (get_or title k 0)) (is.0.before k (zero-le {n = k}) lt))
+        (λ lt. is.1)
 
-pub word_is : (title : List ℕ) (r : Option ℕ) (end : ℕ) → IsFirstByte (is_byte2 32 9) title r → end ≡ unwrap_or r (length title) → take end title ≡ before_first is_gap title
+pub word_is : (title : List ℕ) (r : Option ℕ) (end : ℕ) → IsFirstByte (is_byte2 32 9) title r →
+    end ≡ unwrap_or r (length title) → take end title ≡ before_first is_gap title
 word_is title r end first is = ap (λ n. take n title) (is ∙ sym (word_end title r first))
 
 -- the first word of a word is all of it
-pub word_of_word : (title : List ℕ) → before_first is_gap (before_first is_gap title) ≡ before_first is_gap title
+pub word_of_word : (title : List ℕ) → before_first is_gap (before_first is_gap title) ≡ before_first
+    is_gap title
 word_of_word title =
     let n = position_or_len is_gap title in
     let word = take n title in
@@ -45,30 +50,38 @@ word_of_word title =
     ap (λ (m : ℕ). take m word) all ∙ take-length word
 
 -- No byte of a word is a gap.
-no_gap : (word : List ℕ) → before_first is_gap word ≡ word → (k : ℕ) → k < length word → is_gap (get_or word k 0) ≡ false
+no_gap : (word : List ℕ) → before_first is_gap word ≡ word → (k : ℕ) → k < length word →
+    is_gap (get_or word k 0) ≡ false
 no_gap word is k lt =
     let long = length-take (position_or_len is_gap word) word in
     let same = ap length is in
     fails_before_first is_gap word k 0 (omega arith)
 
 -- A title that begins like a word, and goes on like one, begins with a word of its length.
-pub word_beside : (title word : List ℕ) → before_first is_gap word ≡ word → 0 < length word → length word ≤ length title
-    → take (length word - 1) title ≡ take (length word - 1) word → is_gap (get_or title (length word - 1) 0) ≡ false
+pub word_beside : (title word : List ℕ) → before_first is_gap word ≡ word → 0 < length word →
+    length word ≤ length title
+    → take (length word - 1) title ≡ take (length word - 1) word →
+        is_gap (get_or title (length word - 1) 0) ≡ false
     → (length word < length title → is_gap (get_or title (length word) 0) ≡ true)
     → take (length word) title ≡ before_first is_gap title
 word_beside title word is some within like last end =
     let n = length word in
     ap (λ (m : ℕ). take m title) (sym (position_or_len_is is_gap title n 0 within
     (λ k lt. elim (cases_lt k (n - 1)) [
-      | inl front ↦ ap is_gap (sym (get_or-take (n - 1) title k 0 front) ∙ ap (λ (bytes : List ℕ). get_or bytes k 0) like ∙ get_or-take (n - 1) word k 0 front) ∙ no_gap word is k lt
-      | inr past ↦ ap (λ (j : ℕ). is_gap (get_or title j 0)) (let same : k ≡ n - 1 = omega arith in same) ∙ last
+      | inl front ↦ ap is_gap (sym (get_or-take (n - 1) title k 0 front)
+          ∙ ap (λ (bytes : List ℕ). get_or bytes k 0) like ∙ get_or-take (n - 1) word k 0 front)
+          ∙ no_gap word is k lt
+      | inr past ↦ ap (λ (j : ℕ). is_gap (get_or title j 0)) (let same : k ≡ n - 1 = omega arith in
+          same) ∙ last
     ])
     end))
 
 eqb_sym : (a b : ℕ) → eqb a b ≡ eqb b a
 eqb_sym a b = ⊎_elim
     (λ same. same ∙ sym (eq-eqb b a (sym (eqb-true a b same))))
-    (λ other. other ∙ sym (false_from_ne_true (eqb b a) (λ same. absurd (let h = eq-eqb a b (sym (eqb-true b a same)) in cc))))
+    (λ other. other
+        ∙ sym (false_from_ne_true (eqb b a) (λ same. absurd (let h =
+        eq-eqb a b (sym (eqb-true b a same)) in cc))))
     (cases_Bool (eqb a b))
 
 pointwise_sym : (xs ys : List ℕ) → pointwise nat_eq xs ys ≡ pointwise nat_eq ys xs
@@ -80,24 +93,31 @@ pointwise_sym (x ∷ xs) (y ∷ ys) = let a = eqb_sym x y in let b = pointwise_s
 -- what is left after a suffix is removed
 pub stripped : (mark word : List ℕ) (r : Option (Bor (List ℕ))) (d : Bor (List ℕ)) → d.now ≡ word →
     MatchOption r (pointwise nat_eq (drop (length word - length mark) word) mark ≡ false)
-    (λ x. (pointwise nat_eq (drop (length word - length mark) word) mark ≡ true) × (x.now ≡ take (length word - length mark) word) × (length x.now + length mark ≡ length word)) →
+    (λ x. (pointwise nat_eq (drop (length word - length mark) word) mark ≡ true)
+        × (x.now ≡ take (length word - length mark) word)
+        × (length x.now + length mark ≡ length word)) →
     (unwrap_or r d).now ≡ without_end mark word
 stripped mark word None d is cases =
-    is ∙ sym (cond-false _ (take (length word - length mark) word) word (pointwise_sym mark (drop (length word - length mark) word) ∙ cases))
+    is ∙ sym (cond-false _ (take (length word - length mark) word) word (pointwise_sym mark
+        (drop (length word - length mark) word) ∙ cases))
 stripped mark word (Some x) d is cases =
-    cases.1 ∙ sym (cond-true _ (take (length word - length mark) word) word (pointwise_sym mark (drop (length word - length mark) word) ∙ cases.0))
+    cases.1 ∙ sym (cond-true _ (take (length word - length mark) word) word (pointwise_sym mark
+        (drop (length word - length mark) word) ∙ cases.0))
 
 -- A word without an ending is a prefix of it.
-get_or-without_end : (ending word : List ℕ) (k : ℕ) → k < length (without_end ending word) → get_or (without_end ending word) k 0 ≡ get_or word k 0
+get_or-without_end : (ending word : List ℕ) (k : ℕ) → k < length (without_end ending word) →
+    get_or (without_end ending word) k 0 ≡ get_or word k 0
 get_or-without_end ending word k =
     let short = length-take (length word - length ending) word in
-    cond_both (ends_with nat_eq word ending) (take (length word - length ending) word) word (λ (name : List ℕ). k < length name → get_or name k 0 ≡ get_or word k 0)
+    cond_both (ends_with nat_eq word ending) (take (length word - length ending) word) word
+        (λ (name : List ℕ). k < length name → get_or name k 0 ≡ get_or word k 0)
     (λ ends lt. get_or-take (length word - length ending) word k 0 (omega arith))
     (λ other lt. refl)
 
 length-without_end : (ending word : List ℕ) → length (without_end ending word) ≤ length word
 length-without_end ending word =
-    cond_both (ends_with nat_eq word ending) (take (length word - length ending) word) word (λ (name : List ℕ). length name ≤ length word)
+    cond_both (ends_with nat_eq word ending) (take (length word - length ending) word) word
+        (λ (name : List ℕ). length name ≤ length word)
     (λ ends. omega (arith, length-take (length word - length ending) word))
     (λ other. omega arith)
 
@@ -107,10 +127,12 @@ take_front zero text = refl
 take_front (suc n) [] = refl
 take_front (suc n) (x ∷ text) = ap (λ (front : List ℕ). x ∷ front) (take_front n text)
 
-without_end_front : (ending word : List ℕ) → take (length (without_end ending word)) word ≡ without_end ending word
+without_end_front : (ending word : List ℕ) →
+    take (length (without_end ending word)) word ≡ without_end ending word
 without_end_front ending word =
     let short = take (length word - length ending) word in
-    cond_both (ends_with nat_eq word ending) short word (λ (name : List ℕ). take (length name) word ≡ name)
+    cond_both (ends_with nat_eq word ending) short word (λ (name : List ℕ). take (length name) word
+        ≡ name)
     (λ ends. take_front (length word - length ending) word)
     (λ other. take-length word)
 
@@ -119,22 +141,29 @@ length-name side title =
     let n = position_or_len is_gap title in
     omega (arith, length-without_end (mark_of side) (take n title), length-take n title)
 
-pub name_front : (side : Side) (title : List ℕ) → take (length (name_of side title)) title ≡ name_of side title
+pub name_front : (side : Side) (title : List ℕ) →
+    take (length (name_of side title)) title ≡ name_of side title
 name_front side title =
     let n = position_or_len is_gap title in
     let word = take n title in
     let len = length (without_end (mark_of side) word) in
-    sym (take-take len n title (omega (arith, length-without_end (mark_of side) word, length-take n title)))
+    sym (take-take len n title (omega (arith, length-without_end (mark_of side) word, length-take n
+        title)))
     ∙ without_end_front (mark_of side) word
 
 -- a name is a prefix of an equal title, too
-pub named : (side : Side) (title same : List ℕ) (len : ℕ) → len ≡ length (name_of side title) → same ≡ title → take len same ≡ name_of side title
-named side title same len is equal = ap (λ (t : List ℕ). take len t) equal ∙ ap (λ (n : ℕ). take n title) is ∙ name_front side title
+pub named : (side : Side) (title same : List ℕ) (len : ℕ) → len ≡ length (name_of side title) →
+    same ≡ title → take len same ≡ name_of side title
+named side title same len is equal = ap (λ (t : List ℕ). take len t) equal
+    ∙ ap (λ (n : ℕ). take n title) is ∙ name_front side title
 
 -- two lengths are those of the names in two titles if each of them is
-pub same_lengths : (n : NameLengths) (forward reverse : List ℕ) → n.forward ≡ length (name_of Forward forward) → n.reverse ≡ length (name_of Reverse reverse) → n ≡ lengths_of forward reverse
+pub same_lengths : (n : NameLengths) (forward reverse : List ℕ) →
+    n.forward ≡ length (name_of Forward forward) → n.reverse ≡ length (name_of Reverse reverse) →
+    n ≡ lengths_of forward reverse
 same_lengths n forward reverse one other =
-    let parts : NameLengths → NameLengths = λ (k : NameLengths). record { forward = k.forward; reverse = k.reverse } in
+    let parts : NameLengths → NameLengths = λ (k : NameLengths). record { forward =
+        k.forward; reverse = k.reverse } in
     let same : parts n ≡ lengths_of forward reverse = cc in same
 
 -- The names in two words that differ at most in their last bytes.
@@ -148,27 +177,38 @@ module _ (word mate : List ℕ) (some : 0 < length word) (like : take (length wo
   front_like : (k : ℕ) → k < length word - 1 → get_or word k 0 ≡ get_or mate k 0
   front_like k lt =
       let last = length word - 1 in
-      sym (get_or-take last word k 0 lt) ∙ ap (λ (bytes : List ℕ). get_or bytes k 0) (sym like) ∙ get_or-take last mate k 0 lt
+      sym (get_or-take last word k 0 lt) ∙ ap (λ (bytes : List ℕ). get_or bytes k 0) (sym like)
+          ∙ get_or-take last mate k 0 lt
 
   -- names of one length are the same if the words are alike so far
-  same_names : length forward_name ≡ length reverse_name → ((k : ℕ) → k < length forward_name → get_or word k 0 ≡ get_or mate k 0) → forward_name ≡ reverse_name
+  same_names : length forward_name ≡ length reverse_name →
+      ((k : ℕ) → k < length forward_name → get_or word k 0 ≡ get_or mate k 0) →
+      forward_name ≡ reverse_name
   same_names long alike = same_number_lists forward_name reverse_name long
-      (λ k lt. get_or-without_end (mark_of Forward) word k lt ∙ alike k lt ∙ sym (get_or-without_end (mark_of Reverse) mate k (omega arith)))
+      (λ k lt. get_or-without_end (mark_of Forward) word k lt ∙ alike k lt
+          ∙ sym (get_or-without_end (mark_of Reverse) mate k (omega arith)))
 
   -- names shorter than the words
-  pub short_names : length forward_name ≡ length reverse_name → length forward_name ≤ length word - 1 → bytes_eq forward_name reverse_name ≡ true
-  short_names long short = (bytes_eq-Decides forward_name reverse_name).1 (same_names long (λ k lt. front_like k (omega arith)))
+  pub short_names : length forward_name ≡ length reverse_name →
+      length forward_name ≤ length word - 1 → bytes_eq forward_name reverse_name ≡ true
+  short_names long short = (bytes_eq-Decides forward_name reverse_name).1
+      (same_names long (λ k lt. front_like k (omega arith)))
 
   -- names as long as the words are the same if the last bytes are
-  pub whole_names : length forward_name ≡ length reverse_name → length word - 1 < length forward_name →
-      eqb (get_or word (length word - 1) 0) (get_or mate (length word - 1) 0) ≡ bytes_eq forward_name reverse_name
+  pub whole_names : length forward_name ≡ length reverse_name →
+      length word - 1 < length forward_name →
+      eqb (get_or word (length word - 1) 0) (get_or mate (length word - 1) 0)
+          ≡ bytes_eq forward_name reverse_name
   whole_names long whole =
       let last = length word - 1 in
       same_from_decides _ _ (Decides-eqb (get_or word last 0) (get_or mate last 0))
       (Decides-like (bytes_eq forward_name reverse_name)
-      (λ same. sym (get_or-without_end (mark_of Forward) word last whole) ∙ ap (λ (name : List ℕ). get_or name last 0) same ∙ get_or-without_end (mark_of Reverse) mate last (omega arith))
+      (λ same. sym (get_or-without_end (mark_of Forward) word last whole)
+          ∙ ap (λ (name : List ℕ). get_or name last 0) same
+          ∙ get_or-without_end (mark_of Reverse) mate last (omega arith))
       (λ one. same_names long (λ k lt. elim (cases_lt k last) [
         | inl front ↦ front_like k front
-        | inr past ↦ let at : k ≡ last = omega (arith, length-without_end (mark_of Forward) word) in ap (λ (j : ℕ). get_or word j 0) at ∙ one ∙ ap (λ (j : ℕ). get_or mate j 0) (sym at)
+        | inr past ↦ let at : k ≡ last = omega (arith, length-without_end (mark_of Forward) word) in
+            ap (λ (j : ℕ). get_or word j 0) at ∙ one ∙ ap (λ (j : ℕ). get_or mate j 0) (sym at)
       ]))
       (bytes_eq-Decides forward_name reverse_name))

@@ -7,30 +7,41 @@ use Rattle.fq_trim.specs.declared.step.Step.{Step}
 use Rattle.fq_pair.specs.Mates.{Mates}
 use Rattle.fq_pair.specs.Outputs.{Outputs, record_text, log_lines, both_survive, forward_alone, reverse_alone, none_survive, forward_records, reverse_records, counts_of, texts_of, sum_of, joined}
 
-filter-append : (test : Mates → Bool) (xs ys : List Mates) → filter test (xs ++ ys) ≡ filter test xs ++ filter test ys
+filter-append : (test : Mates → Bool) (xs ys : List Mates) →
+    filter test (xs ++ ys) ≡ filter test xs ++ filter test ys
 filter-append test [] ys = refl
 filter-append test (x ∷ xs) ys = ⊎_elim
     (λ passes. cond-true (test x) (x ∷ filter test (xs ++ ys)) (filter test (xs ++ ys)) passes
     ∙ ap (λ zs. x ∷ zs) (filter-append test xs ys)
-    ∙ ap (λ zs. zs ++ filter test ys) (sym (cond-true (test x) (x ∷ filter test xs) (filter test xs) passes)))
+    ∙ ap (λ zs. zs ++ filter test ys) (sym (cond-true (test x) (x ∷ filter test xs) (filter test xs)
+        passes)))
     (λ fails. cond-false (test x) (x ∷ filter test (xs ++ ys)) (filter test (xs ++ ys)) fails
     ∙ filter-append test xs ys
-    ∙ ap (λ zs. zs ++ filter test ys) (sym (cond-false (test x) (x ∷ filter test xs) (filter test xs) fails)))
+    ∙ ap (λ zs. zs ++ filter test ys) (sym (cond-false (test x) (x ∷ filter test xs)
+        (filter test xs) fails)))
     (cases_Bool (test x))
 
 module _ (steps : List Step) (xs ys : List Mates) where
-  forward_records-append : (test : Mates → Bool) → forward_records steps test (xs ++ ys) ≡ forward_records steps test xs ++ forward_records steps test ys
+  forward_records-append : (test : Mates → Bool) →
+      forward_records steps test (xs ++ ys) ≡ forward_records steps test xs ++ forward_records steps
+      test ys
   forward_records-append test =
       let text = λ (m : Mates). record_text steps m.forward in
-      ap (flat_map text) (filter-append test xs ys) ∙ flat_map-append text (filter test xs) (filter test ys)
+      ap (flat_map text) (filter-append test xs ys)
+          ∙ flat_map-append text (filter test xs) (filter test ys)
 
-  reverse_records-append : (test : Mates → Bool) → reverse_records steps test (xs ++ ys) ≡ reverse_records steps test xs ++ reverse_records steps test ys
+  reverse_records-append : (test : Mates → Bool) →
+      reverse_records steps test (xs ++ ys) ≡ reverse_records steps test xs ++ reverse_records steps
+      test ys
   reverse_records-append test =
       let text = λ (m : Mates). record_text steps m.reverse in
-      ap (flat_map text) (filter-append test xs ys) ∙ flat_map-append text (filter test xs) (filter test ys)
+      ap (flat_map text) (filter-append test xs ys)
+          ∙ flat_map-append text (filter test xs) (filter test ys)
 
-  count-append : (test : Mates → Bool) → length (filter test (xs ++ ys)) ≡ length (filter test xs) + length (filter test ys)
-  count-append test = ap length (filter-append test xs ys) ∙ length-append (filter test xs) (filter test ys)
+  count-append : (test : Mates → Bool) → length (filter test (xs ++ ys)) ≡ length
+      (filter test xs) + length (filter test ys)
+  count-append test = ap length (filter-append test xs ys)
+      ∙ length-append (filter test xs) (filter test ys)
 
   counts_of-append : counts_of steps (xs ++ ys) ≡ sum_of (counts_of steps xs) (counts_of steps ys)
   counts_of-append =

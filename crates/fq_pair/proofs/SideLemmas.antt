@@ -13,21 +13,29 @@ use Rattle.fq_pair.proofs.WholeLemmas.{behind_whole, whole_split, is_whole-whole
 -- One source as a side.
 module _ {F : Type 0} (state : F → FeedState) (old new : Sourced F) where
   -- what its feed gave in a call in which it failed this often
-  pub drawn : (n : ℕ) → KeepsCount state old new → (state new.feed).failures ≡ (state old.feed).failures + n → Draws (side_state state old) (side_state state new) n
-  drawn n k failed = record { told = k.told; max_reads = k.max_reads; grows = k.grows; ended = k.ended; bytes = k.fed; size = k.length; failures = failed }
+  pub drawn : (n : ℕ) → KeepsCount state old new →
+      (state new.feed).failures ≡ (state old.feed).failures + n →
+      Draws (side_state state old) (side_state state new) n
+  drawn n k failed = record { told = k.told; max_reads = k.max_reads; grows = k.grows; ended =
+      k.ended; bytes = k.fed; size = k.length; failures = failed }
 
   -- the bytes that a record was
-  abbrev pub used : IsTail (rest_in state old) (rest_in state new) new.ended → Uses (side_state state old) (side_state state new)
+  abbrev pub used : IsTail (rest_in state old) (rest_in state new) new.ended →
+      Uses (side_state state old) (side_state state new)
   used t = record { used = t.before; split = t.split; at_line = t.at_line }
 
 -- what a feed gave in two calls
-pub fed_then : (a b c : SideState) (n : ℕ) → Draws a b 0 → Draws b c n → IsTrue a.tells → fed a c ≡ fed a b ++ fed b c
+pub fed_then : (a b c : SideState) (n : ℕ) → Draws a b 0 → Draws b c n → IsTrue a.tells →
+    fed a c ≡ fed a b ++ fed b c
 fed_then a b c n p q told =
-    let up = p.grows in let then = q.grows in let fits = p.size told in let more = q.size (p.told ∙ told) in
+    let up = p.grows in let then = q.grows in let fits = p.size told in let more =
+        q.size (p.told ∙ told) in
     let j = length-take-le (b.taken - a.taken) a.to_come fits in
     let k = length-take-le (c.taken - b.taken) b.to_come more in
-    let sum : length (fed a b ++ fed b c) ≡ c.taken - a.taken = omega (arith, length-append (fed a b) (fed b c)) in
-    ap (take (c.taken - a.taken)) (p.bytes told ∙ ap (λ xs. fed a b ++ xs) (q.bytes (p.told ∙ told)) ∙ sym (append_assoc (fed a b) (fed b c) c.to_come))
+    let sum : length (fed a b ++ fed b c) ≡ c.taken - a.taken =
+        omega (arith, length-append (fed a b) (fed b c)) in
+    ap (take (c.taken - a.taken)) (p.bytes told ∙ ap (λ xs. fed a b ++ xs) (q.bytes (p.told ∙ told))
+        ∙ sym (append_assoc (fed a b) (fed b c) c.to_come))
     ∙ take_at (fed a b ++ fed b c) c.to_come (c.taken - a.taken) sum
 
 pub draws_then : (a b c : SideState) (n : ℕ) → Draws a b 0 → Draws b c n → Draws a c n
@@ -38,73 +46,100 @@ draws_then a b c n p q =
       max_reads = q.max_reads ∙ p.max_reads;
       grows = omega arith;
       ended = λ over. q.ended (p.ended over);
-      bytes = λ told. p.bytes told ∙ ap (λ xs. fed a b ++ xs) (q.bytes (p.told ∙ told)) ∙ sym (append_assoc (fed a b) (fed b c) c.to_come) ∙ ap (λ xs. xs ++ c.to_come) (sym (fed_then a b c n p q told));
+      bytes = λ told. p.bytes told ∙ ap (λ xs. fed a b ++ xs) (q.bytes (p.told ∙ told))
+          ∙ sym (append_assoc (fed a b) (fed b c) c.to_come)
+          ∙ ap (λ xs. xs ++ c.to_come) (sym (fed_then a b c n p q told));
       size = λ told.
-          let first = ap length (p.bytes told) in let fits = p.size told in let more = q.size (p.told ∙ told) in let m = length-take-le (b.taken - a.taken) a.to_come fits in
+          let first = ap length (p.bytes told) in let fits = p.size told in let more =
+              q.size (p.told ∙ told) in let m = length-take-le (b.taken - a.taken) a.to_come fits in
           omega (arith, length-append (fed a b) b.to_come);
       failures = omega arith;
     }
 
 pub nothing_left : (xs ys zs : List ℕ) → zs ≡ [] → zs ≡ xs ++ ys → ys ≡ []
-nothing_left xs ys zs none is = let len = ap length (sym none ∙ is) in nil_from_length ys (omega (arith, length-append xs ys))
+nothing_left xs ys zs none is = let len = ap length (sym none ∙ is) in
+    nil_from_length ys (omega (arith, length-append xs ys))
 
 -- two moves in a row, of which the second keeps an end that was reported
-abbrev pub uses_then : (a b c : SideState) → (b.ended ≡ true → c.ended ≡ true) → Uses a b → Uses b c → Uses a c
+abbrev pub uses_then : (a b c : SideState) → (b.ended ≡ true → c.ended ≡ true) → Uses a b →
+    Uses b c → Uses a c
 uses_then a b c stays p q = record {
   used = p.used ++ q.used;
   split = p.split ∙ ap (λ xs. p.used ++ xs) q.split ∙ sym (append_assoc p.used q.used (rest c));
   at_line = ⊎_elim
-      (λ (whole : is_whole p.used ≡ true). ⊎_elim (λ (then : is_whole q.used ≡ true). inl (whole-append p.used q.used whole then)) (λ (over : (rest c ≡ []) × (c.ended ≡ true)). inr over) q.at_line)
-      (λ (over : (rest b ≡ []) × (b.ended ≡ true)). inr (nothing_left q.used (rest c) (rest b) over.0 q.split, stays over.1))
+      (λ (whole : is_whole p.used ≡ true). ⊎_elim
+          (λ (then : is_whole q.used ≡ true). inl (whole-append p.used q.used whole then))
+          (λ (over : (rest c ≡ []) × (c.ended ≡ true)). inr over) q.at_line)
+      (λ (over : (rest b ≡ []) × (b.ended ≡ true)). inr
+          (nothing_left q.used (rest c) (rest b) over.0 q.split, stays over.1))
       p.at_line;
 }
 
 none_before : (xs ys : List (List ℕ)) → xs ++ ys ≡ [] → xs ≡ []
-none_before xs ys is = let len = ap length is in nil_from_length xs (omega (arith, length-append xs ys))
+none_before xs ys is = let len = ap length is in
+    nil_from_length xs (omega (arith, length-append xs ys))
 
 -- A side that was read up to a record, and then further.
 module _ (old mid new : SideState) (n : ℕ) (a : Draws old mid 0) (b : Draws mid new n) (told : IsTrue old.tells) (u : Uses old mid) where
   rest_is : rest old ≡ came old new ++ new.to_come
-  rest_is = let d = draws_then old mid new n a b in ap (λ xs. old.in_hand ++ xs) (d.bytes told) ∙ sym (append_assoc old.in_hand (fed old new) new.to_come)
+  rest_is = let d = draws_then old mid new n a b in ap (λ xs. old.in_hand ++ xs) (d.bytes told)
+      ∙ sym (append_assoc old.in_hand (fed old new) new.to_come)
 
   rest_then : rest mid ≡ came mid new ++ new.to_come
-  rest_then = ap (λ xs. mid.in_hand ++ xs) (b.bytes (a.told ∙ told)) ∙ sym (append_assoc mid.in_hand (fed mid new) new.to_come)
+  rest_then = ap (λ xs. mid.in_hand ++ xs) (b.bytes (a.told ∙ told))
+      ∙ sym (append_assoc mid.in_hand (fed mid new) new.to_come)
 
   came_is : came old new ≡ u.used ++ came mid new
   came_is = append_cancel_right (came old new) (u.used ++ came mid new) new.to_come
-      (sym rest_is ∙ u.split ∙ ap (λ xs. u.used ++ xs) rest_then ∙ sym (append_assoc u.used (came mid new) new.to_come))
+      (sym rest_is ∙ u.split ∙ ap (λ xs. u.used ++ xs) rest_then
+          ∙ sym (append_assoc u.used (came mid new) new.to_come))
 
   -- the lines that did not come whole, and those to come
   abbrev pub more_lines : List (List ℕ)
   more_lines = lines (behind_whole (came old new) ++ new.to_come)
 
-  split_lines : (xs ys zs : List ℕ) → zs ≡ whole_part xs ++ ys → lines zs ≡ lines (whole_part xs) ++ lines ys
+  split_lines : (xs ys zs : List ℕ) → zs ≡ whole_part xs ++ ys →
+      lines zs ≡ lines (whole_part xs) ++ lines ys
   split_lines xs ys zs is = ap lines is ∙ lines-append (whole_part xs) ys (is_whole-whole_part xs)
 
   pub lines_before : lines (rest old) ≡ lines (whole_part (came old new)) ++ more_lines
   lines_before = split_lines (came old new) (behind_whole (came old new) ++ new.to_come) (rest old)
-      (rest_is ∙ ap (λ xs. xs ++ new.to_come) (whole_split (came old new)) ∙ append_assoc (whole_part (came old new)) (behind_whole (came old new)) new.to_come)
+      (rest_is ∙ ap (λ xs. xs ++ new.to_come) (whole_split (came old new))
+          ∙ append_assoc (whole_part (came old new)) (behind_whole (came old new)) new.to_come)
 
-  came_whole : is_whole u.used ≡ true → came mid new ≡ whole_part (came mid new) ++ behind_whole (came old new)
-  came_whole whole = append_cancel_left u.used (came mid new) (whole_part (came mid new) ++ behind_whole (came old new))
-      (sym came_is ∙ whole_split (came old new) ∙ ap (λ xs. whole_part xs ++ behind_whole (came old new)) came_is
+  came_whole : is_whole u.used ≡ true → came mid new ≡ whole_part (came mid new) ++ behind_whole
+      (came old new)
+  came_whole whole = append_cancel_left u.used (came mid new)
+      (whole_part (came mid new) ++ behind_whole (came old new))
+      (sym came_is ∙ whole_split (came old new)
+          ∙ ap (λ xs. whole_part xs ++ behind_whole (came old new)) came_is
       ∙ ap (λ xs. xs ++ behind_whole (came old new)) (whole_part-whole u.used (came mid new) whole)
       ∙ append_assoc u.used (whole_part (came mid new)) (behind_whole (came old new)))
 
-  behind_used : is_whole u.used ≡ true → lines (rest mid) ≡ lines (whole_part (came mid new)) ++ more_lines
-  behind_used whole = split_lines (came mid new) (behind_whole (came old new) ++ new.to_come) (rest mid)
-      (rest_then ∙ ap (λ xs. xs ++ new.to_come) (came_whole whole) ∙ append_assoc (whole_part (came mid new)) (behind_whole (came old new)) new.to_come)
+  behind_used : is_whole u.used ≡ true → lines (rest mid) ≡ lines
+      (whole_part (came mid new)) ++ more_lines
+  behind_used whole = split_lines (came mid new) (behind_whole (came old new) ++ new.to_come)
+      (rest mid)
+      (rest_then ∙ ap (λ xs. xs ++ new.to_come) (came_whole whole)
+          ∙ append_assoc (whole_part (came mid new)) (behind_whole (came old new)) new.to_come)
 
   -- what is left of the lines that came whole, after those that were used
-  pub lines_left : (ls : List (List ℕ)) → ls ++ more_lines ≡ lines (rest mid) → (ls ≡ lines (whole_part (came mid new))) ⊎ (ls ≡ [])
+  pub lines_left : (ls : List (List ℕ)) → ls ++ more_lines ≡ lines (rest mid) →
+      (ls ≡ lines (whole_part (came mid new))) ⊎ (ls ≡ [])
   lines_left ls is = ⊎_elim
-      (λ (whole : is_whole u.used ≡ true). inl (append_cancel_right ls (lines (whole_part (came mid new))) more_lines (is ∙ behind_used whole)))
-      (λ (over : (rest mid ≡ []) × (mid.ended ≡ true)). inr (none_before ls more_lines (is ∙ ap lines over.0)))
+      (λ (whole : is_whole u.used ≡ true). inl
+          (append_cancel_right ls (lines (whole_part (came mid new))) more_lines (is
+          ∙ behind_used whole)))
+      (λ (over : (rest mid ≡ []) × (mid.ended ≡ true)). inr (none_before ls more_lines (is
+          ∙ ap lines over.0)))
       u.at_line
 
   -- if the end had not been reported, they are the whole lines that came after it
-  pub lines_behind : mid.ended ≡ false → lines (rest mid) ≡ lines (whole_part (came mid new)) ++ more_lines
-  lines_behind going = ⊎_elim behind_used (λ (over : (rest mid ≡ []) × (mid.ended ≡ true)). absurd (let h = sym going ∙ over.1 in cc)) u.at_line
+  pub lines_behind : mid.ended ≡ false → lines (rest mid) ≡ lines
+      (whole_part (came mid new)) ++ more_lines
+  lines_behind going =
+      ⊎_elim behind_used (λ (over : (rest mid ≡ []) × (mid.ended ≡ true)). absurd (let h = sym going
+      ∙ over.1 in cc)) u.at_line
 
 -- in either form there are as many records as pairs, or more
 pub some_records : (form : Form) (n : ℕ) → n ≤ records_of_pairs form n
@@ -112,10 +147,13 @@ some_records TwoTexts n = omega arith
 some_records InterleavedText n = omega arith
 
 -- the records of two lists of pairs, one after the other
-pub records_then : (form : Form) (m n : ℕ) → records_of_pairs form (m + n) ≡ records_of_pairs form m + records_of_pairs form n
+pub records_then : (form : Form) (m n : ℕ) →
+    records_of_pairs form (m + n) ≡ records_of_pairs form m + records_of_pairs form n
 records_then TwoTexts m n = refl
 records_then InterleavedText m n = omega arith
 
 -- at least a forward record was given for each pair
-pub walked_records : (old new : SourceState) (ms : List Mates) → Walks old new ms → old.forward.given + length ms ≤ new.forward.given
-walked_records old new ms w = let records = w.forward_records in let some = some_records old.form (length ms) in omega arith
+pub walked_records : (old new : SourceState) (ms : List Mates) → Walks old new ms →
+    old.forward.given + length ms ≤ new.forward.given
+walked_records old new ms w = let records = w.forward_records in let some =
+    some_records old.form (length ms) in omega arith

@@ -9,27 +9,38 @@ use Rattle.fq_text.specs.Grammar.{Read, IsLawful}
 use Rattle.fq_text.specs.Written.{written, written_quality, CanRecode}
 use Rattle.fq_pair.specs.Outputs.{log_numbers, bytes_at, places_of, IsWithin, record_at}
 
-pub log_numbers-places : (n start m : ℕ) → 0 < m → log_numbers n (places start m) ≡ m ∷ start ∷ (start + m) ∷ (n - start - m) ∷ []
+pub log_numbers-places : (n start m : ℕ) → 0 < m →
+    log_numbers n (places start m) ≡ m ∷ start ∷ (start + m) ∷ (n - start - m) ∷ []
 log_numbers-places n start zero some = absurd (omega arith)
 log_numbers-places n start (suc m) some =
-    ap (λ (k : ℕ). suc k ∷ start ∷ (start + suc k) ∷ (n - start - suc k) ∷ []) (length-places (suc start) m)
+    ap (λ (k : ℕ). suc k ∷ start ∷ (start + suc k) ∷ (n - start - suc k) ∷ [])
+        (length-places (suc start) m)
 
 module _ (read : Read) (k : Kept) where
   -- the kept quality can be recoded
-  pub can_recode : (recode : Bool) → IsLawful read → CanRecode (then_some recode read.encoding) (take (k.stop - k.start) (drop k.start read.qual))
-  can_recode true lawful = all_taken (is_scored read.encoding) (drop k.start read.qual) (k.stop - k.start) (all_dropped (is_scored read.encoding) read.qual k.start lawful.scores)
+  pub can_recode : (recode : Bool) → IsLawful read →
+      CanRecode (then_some recode read.encoding) (take (k.stop - k.start) (drop k.start read.qual))
+  can_recode true lawful = all_taken (is_scored read.encoding) (drop k.start read.qual)
+      (k.stop - k.start) (all_dropped (is_scored read.encoding) read.qual k.start lawful.scores)
   can_recode false lawful = tt
 
-  kept_bytes : (bytes : List ℕ) → k.stop ≤ length bytes → bytes_at (places_of (Some k)) bytes ≡ take (k.stop - k.start) (drop k.start bytes)
-  kept_bytes bytes within = let order = k.some in scores_at bytes k.start (k.stop - k.start) (omega arith)
+  kept_bytes : (bytes : List ℕ) → k.stop ≤ length bytes →
+      bytes_at (places_of (Some k)) bytes ≡ take (k.stop - k.start) (drop k.start bytes)
+  kept_bytes bytes within = let order = k.some in
+      scores_at bytes k.start (k.stop - k.start) (omega arith)
 
   -- the record of the kept bases
   pub record_of_kept : (recode : Bool) → IsLawful read → IsWithin (length read.seq) (Some k) →
-      written read.title (take (k.stop - k.start) (drop k.start read.seq)) (written_quality (then_some recode read.encoding) (take (k.stop - k.start) (drop k.start read.qual)))
+      written read.title (take (k.stop - k.start) (drop k.start read.seq))
+          (written_quality (then_some recode read.encoding)
+          (take (k.stop - k.start) (drop k.start read.qual)))
       ≡ record_at recode (places_of (Some k)) read
   record_of_kept recode lawful within =
       let same = lawful.same_len in
       let seq = kept_bytes read.seq within in
       let qual = kept_bytes read.qual (omega arith) in
-      ap (λ (bytes : List ℕ). written read.title bytes (written_quality (then_some recode read.encoding) (take (k.stop - k.start) (drop k.start read.qual)))) (sym seq)
-      ∙ ap (λ (bytes : List ℕ). written read.title (bytes_at (places_of (Some k)) read.seq) (written_quality (then_some recode read.encoding) bytes)) (sym qual)
+      ap (λ (bytes : List ℕ). written read.title bytes
+          (written_quality (then_some recode read.encoding)
+          (take (k.stop - k.start) (drop k.start read.qual)))) (sym seq)
+      ∙ ap (λ (bytes : List ℕ). written read.title (bytes_at (places_of (Some k)) read.seq)
+          (written_quality (then_some recode read.encoding) bytes)) (sym qual)

@@ -51,7 +51,8 @@ reverse_rest = codes "@p2/2\nAAAA\n+\n!!!\"\n"
 is_part : IsPart TwoTexts true Sanger 0 forward reverse
 is_part = record { forward_whole = refl; reverse_whole = refl; sound = refl }
 
-first_pair : pairs_in TwoTexts true Sanger 0 forward reverse ≡ record { mates = first; fault = None }
+first_pair : pairs_in TwoTexts true Sanger 0 forward reverse ≡ record { mates = first; fault =
+    None }
 first_pair = refl
 
 second_pair : pairs_in TwoTexts true Sanger 1 forward_rest reverse_rest
@@ -130,6 +131,7 @@ not_whole = refl
 sound_alone : (pairs_in TwoTexts true Sanger 0 cut_short reverse).fault ≡ None
 sound_alone = refl
 
-runs_on : (pairs_in TwoTexts true Sanger 0 (cut_short ++ forward_rest) (reverse ++ reverse_rest)).fault
+runs_on : (pairs_in TwoTexts true Sanger 0 (cut_short ++ forward_rest)
+    (reverse ++ reverse_rest)).fault
     ≡ Some (Text Forward (QualityLong 1))
 runs_on = refl

@@ -5,10 +5,10 @@
 ghost use Rattle.std.specs.Prelude.{◌≡◌, ◌≢◌, ◌⊎◌, [], map, IfOk};
 ghost use Rattle.std.specs.Process.{exit_status};
 ghost use Rattle.std.specs.String.{string_bytes};
-ghost use Rattle.fq_words.specs.Words.{words_fault};
-ghost use Rattle.fq_command.specs.Answers.{AreRefused, AreCalls};
+ghost use Rattle.fq_cli.specs.Words.{words_fault};
+ghost use Rattle.fq_app.specs.Answers.{AreRefused, AreCalls};
 
-use fq_command::{out_of_memory, program};
+use fq_app::{out_of_memory, program};
 use fq_files::SystemFiles;
 use fq_text::{FromWrite, MemoryRefused, Outlet, send};
 use std::alloc::{AllocError, Global};

@@ -27,15 +27,20 @@ bit_same j = grind (arith, nat_tests)
 bit_other : (i j : ℕ) → (i ≡ j → ⊥) → bit (i == j) ≡ 0
 bit_other i j other = grind (arith, nat_tests)
 
-pub share_here : (workers n : ℕ) → share workers (suc n) (turn_at workers n) ≡ suc (share workers n (turn_at workers n))
+pub share_here : (workers n : ℕ) → share workers (suc n) (turn_at workers n) ≡ suc
+    (share workers n (turn_at workers n))
 share_here workers n = omega (arith, bit_same (turn_at workers n))
 
-pub share_away : (workers n j : ℕ) → (j ≡ turn_at workers n → ⊥) → share workers (suc n) j ≡ share workers n j
+pub share_away : (workers n j : ℕ) → (j ≡ turn_at workers n → ⊥) →
+    share workers (suc n) j ≡ share workers n j
 share_away workers n j other = omega (arith, bit_other j (turn_at workers n) other)
 
 grows : (workers m n j : ℕ) → m ≤ n → share workers m j ≤ share workers n j
-grows workers m n j h = le_ind (λ k. share workers m j ≤ share workers k j) (omega arith) (λ k within below. omega (arith, below)) n h
+grows workers m n j h = le_ind (λ k. share workers m j ≤ share workers k j) (omega arith)
+    (λ k within below. omega (arith, below)) n h
 
 -- the worker whose block is next has had fewer blocks than after any more
-pub share_less : (workers m n : ℕ) → m < n → share workers m (turn_at workers m) < share workers n (turn_at workers m)
-share_less workers m n h = omega (arith, share_here workers m, grows workers (suc m) n (turn_at workers m) h)
+pub share_less : (workers m n : ℕ) → m < n →
+    share workers m (turn_at workers m) < share workers n (turn_at workers m)
+share_less workers m n h =
+    omega (arith, share_here workers m, grows workers (suc m) n (turn_at workers m) h)

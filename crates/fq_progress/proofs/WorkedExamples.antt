@@ -12,9 +12,12 @@ two = record { workers = 2; started = 2; depth = 1; blocks = 3 }
 
 abbrev ordinary : List Move
 ordinary =
-    put_start ∷ close_start ∷ take_start ∷ deal ∷ take_block 0 texts ∷ deal ∷ deal ∷ end_reading ∷ pass_start ∷ close_blocks 0 ∷ close_blocks 1
-    ∷ put_reply 0 texts ∷ write ∷ take_block 1 texts ∷ put_reply 1 texts ∷ write ∷ take_block 0 texts ∷ put_reply 0 texts ∷ write
-    ∷ leave 0 ∷ leave 1 ∷ find_mark ∷ drop_mark 0 ∷ end_drain ∷ join_dealer ∷ join_worker 0 ∷ join_worker 1 ∷ []
+    put_start ∷ close_start ∷ take_start ∷ deal ∷ take_block 0
+        texts ∷ deal ∷ deal ∷ end_reading ∷ pass_start ∷ close_blocks 0 ∷ close_blocks 1
+    ∷ put_reply 0 texts ∷ write ∷ take_block 1 texts ∷ put_reply 1 texts ∷ write ∷ take_block 0
+        texts ∷ put_reply 0 texts ∷ write
+    ∷ leave 0 ∷ leave 1 ∷ find_mark ∷ drop_mark 0 ∷ end_drain ∷ join_dealer ∷ join_worker
+        0 ∷ join_worker 1 ∷ []
 
 all_written : (after_all two start ordinary).written ≡ 3
 all_written = refl
@@ -28,7 +31,8 @@ of_two P first second (suc zero) h = second
 of_two P first second (suc (suc j)) h = absurd (omega arith)
 
 has_ended : HasEnded two (after_all two start ordinary)
-has_ended = record { caller = refl; dealer = refl; workers = of_two (λ j. ((after_all two start ordinary).seats j).doing ≡ left) refl refl }
+has_ended = record { caller = refl; dealer = refl; workers =
+    of_two (λ j. ((after_all two start ordinary).seats j).doing ≡ left) refl refl }
 
 -- it has 27 moves, of at most 28
 moves : length ordinary ≡ 27
@@ -41,30 +45,36 @@ most = refl
 
 abbrev stopped : List Move
 stopped =
-    put_start ∷ close_start ∷ take_start ∷ deal ∷ take_block 0 stop ∷ deal ∷ deal ∷ put_reply 0 stop ∷ hear_stop ∷ empty_block 0
-    ∷ end_reading ∷ pass_start ∷ close_blocks 0 ∷ close_blocks 1 ∷ leave 0 ∷ take_block 1 texts ∷ put_reply 1 texts ∷ drop_mark 0 ∷ drop_reply 1
+    put_start ∷ close_start ∷ take_start ∷ deal ∷ take_block 0 stop ∷ deal ∷ deal ∷ put_reply 0
+        stop ∷ hear_stop ∷ empty_block 0
+    ∷ end_reading ∷ pass_start ∷ close_blocks 0 ∷ close_blocks 1 ∷ leave 0 ∷ take_block 1
+        texts ∷ put_reply 1 texts ∷ drop_mark 0 ∷ drop_reply 1
     ∷ leave 1 ∷ drop_mark 1 ∷ end_drain ∷ join_dealer ∷ join_worker 0 ∷ join_worker 1 ∷ []
 
 stopped_moves : AreMoves two start stopped
 stopped_moves = search rules
 
 stopped_ended : HasEnded two (after_all two start stopped)
-stopped_ended = record { caller = refl; dealer = refl; workers = of_two (λ j. ((after_all two start stopped).seats j).doing ≡ left) refl refl }
+stopped_ended = record { caller = refl; dealer = refl; workers =
+    of_two (λ j. ((after_all two start stopped).seats j).doing ≡ left) refl refl }
 
 none_written : (after_all two start stopped).written ≡ 0
 none_written = refl
 
 abbrev failed : List Move
 failed =
-    put_start ∷ close_start ∷ take_start ∷ deal ∷ take_block 0 texts ∷ deal ∷ deal ∷ put_reply 0 texts ∷ fail_to_write ∷ take_block 0 texts ∷ put_reply 0 texts ∷ drop_reply 0
-    ∷ end_reading ∷ pass_start ∷ close_blocks 0 ∷ close_blocks 1 ∷ leave 0 ∷ take_block 1 texts ∷ put_reply 1 texts ∷ drop_mark 0 ∷ drop_reply 1
+    put_start ∷ close_start ∷ take_start ∷ deal ∷ take_block 0 texts ∷ deal ∷ deal ∷ put_reply 0
+        texts ∷ fail_to_write ∷ take_block 0 texts ∷ put_reply 0 texts ∷ drop_reply 0
+    ∷ end_reading ∷ pass_start ∷ close_blocks 0 ∷ close_blocks 1 ∷ leave 0 ∷ take_block 1
+        texts ∷ put_reply 1 texts ∷ drop_mark 0 ∷ drop_reply 1
     ∷ leave 1 ∷ drop_mark 1 ∷ end_drain ∷ join_dealer ∷ join_worker 0 ∷ join_worker 1 ∷ []
 
 failed_moves : AreMoves two start failed
 failed_moves = search rules
 
 failed_ended : HasEnded two (after_all two start failed)
-failed_ended = record { caller = refl; dealer = refl; workers = of_two (λ j. ((after_all two start failed).seats j).doing ≡ left) refl refl }
+failed_ended = record { caller = refl; dealer = refl; workers =
+    of_two (λ j. ((after_all two start failed).seats j).doing ≡ left) refl refl }
 
 -- The second worker's thread is refused.
 
@@ -72,13 +82,16 @@ abbrev refused : Run
 refused = record { workers = 2; started = 1; depth = 1; blocks = 3 }
 
 abbrev given_up : List Move
-given_up = give_up ∷ find_no_start ∷ close_blocks 0 ∷ close_blocks 1 ∷ leave 0 ∷ join_dealer ∷ join_worker 0 ∷ []
+given_up = give_up ∷ find_no_start ∷ close_blocks 0 ∷ close_blocks 1 ∷ leave
+    0 ∷ join_dealer ∷ join_worker 0 ∷ []
 
 given_up_moves : AreMoves refused start given_up
 given_up_moves = search rules
 
 given_up_ended : HasEnded refused (after_all refused start given_up)
-given_up_ended = record { caller = refl; dealer = refl; workers = λ j h. of_two (λ i. i < 1 → ((after_all refused start given_up).seats i).doing ≡ left) (λ k. refl) (λ k. absurd (omega arith)) j (omega arith) h }
+given_up_ended = record { caller = refl; dealer = refl; workers = λ j h. of_two (λ i. i < 1 →
+    ((after_all refused start given_up).seats i).doing ≡ left) (λ k. refl)
+    (λ k. absurd (omega arith)) j (omega arith) h }
 
 -- Broken rules: no thread has a move, and the run hasn't ended.
 
@@ -93,16 +106,19 @@ abbrev one : Run
 one = record { workers = 1; started = 1; depth = 1; blocks = 3 }
 
 abbrev until_its_stop : List Move
-until_its_stop = put_start ∷ close_start ∷ take_start ∷ deal ∷ take_block 0 stop ∷ deal ∷ put_reply 0 stop ∷ hear_stop ∷ []
+until_its_stop = put_start ∷ close_start ∷ take_start ∷ deal ∷ take_block 0 stop ∷ deal ∷ put_reply
+    0 stop ∷ hear_stop ∷ []
 
 -- it leaves
 abbrev gone_early : State
-gone_early = let s = after_all one start until_its_stop in at_seat s 0 (record (s.seats 0) { doing = left })
+gone_early = let s = after_all one start until_its_stop in
+    at_seat s 0 (record (s.seats 0) { doing = left })
 
 abbrev not_emptied : State
 not_emptied = after_all one gone_early (drop_mark 0 ∷ end_drain ∷ [])
 
-all_can_be_made : AreMoves one start until_its_stop × AreMoves one gone_early (drop_mark 0 ∷ end_drain ∷ [])
+all_can_be_made : AreMoves one start until_its_stop
+    × AreMoves one gone_early (drop_mark 0 ∷ end_drain ∷ [])
 all_can_be_made = search rules
 
 stuck_unemptied : IsStuck one not_emptied
@@ -144,7 +160,10 @@ first_in_hand = after_all seven two_written (take_block 0 texts ∷ [])
 abbrev out_of_turn : State
 out_of_turn = at_second (after_all seven first_in_hand two_more)
 
-each_can_be_made : AreMoves seven start opening × AreMoves seven opened two_more × AreMoves seven one_written (take_block 0 texts ∷ put_reply 0 texts ∷ []) × AreMoves seven first_answered two_more × AreMoves seven two_written (take_block 0 texts ∷ []) × AreMoves seven first_in_hand two_more
+each_can_be_made : AreMoves seven start opening × AreMoves seven opened two_more
+    × AreMoves seven one_written (take_block 0 texts ∷ put_reply 0 texts ∷ [])
+    × AreMoves seven first_answered two_more × AreMoves seven two_written (take_block 0 texts ∷ [])
+    × AreMoves seven first_in_hand two_more
 each_can_be_made = search rules
 
 stuck_out_of_turn : IsStuck seven out_of_turn
@@ -159,7 +178,8 @@ eight = record { workers = 2; started = 2; depth = 1; blocks = 8 }
 abbrev full_beside : List Move
 full_beside =
     put_start ∷ close_start ∷ take_start ∷ deal ∷ take_block 0 stop ∷ put_reply 0 stop ∷ hear_stop
-    ∷ deal ∷ take_block 1 texts ∷ put_reply 1 texts ∷ deal ∷ empty_block 0 ∷ deal ∷ take_block 1 texts ∷ deal ∷ empty_block 0
+    ∷ deal ∷ take_block 1 texts ∷ put_reply 1 texts ∷ deal ∷ empty_block 0 ∷ deal ∷ take_block 1
+        texts ∷ deal ∷ empty_block 0
     ∷ deal ∷ deal ∷ empty_block 0 ∷ []
 
 full_beside_moves : AreMoves eight start full_beside

@@ -1,62 +1,85 @@
 -- Lines with a reason, and lines without.
 use Rattle.std.proofs.Common.{◌≡◌, ◌∙◌, ◌++◌, ℕ, Bool, true, false, Option, Some, None, List, codes, refl, ap, sym}
 use Rattle.fq_text.specs.Written.{line}
-use Rattle.fq_serial.specs.declared.outcome.Outcome.{Outcome}
-use Rattle.fq_serial.specs.declared.outcome.Outcome.TheVariants.{Spawn, Lane, Gate, Memory, Write, Read, Endless, Input, Finished}
-use Rattle.fq_words.specs.Requests.{Asking}
-use Rattle.fq_job.specs.Faults.{outcome_words, line_when}
+use Rattle.fq_run_core.specs.declared.outcome.Outcome.{Outcome}
+use Rattle.fq_run_core.specs.declared.outcome.Outcome.TheVariants.{Spawn, Lane, Gate, Memory, Write, Read, Endless, Input, Finished}
+use Rattle.fq_cli.specs.Requests.{Asking}
+use Rattle.fq_files_run.specs.Faults.{outcome_words, line_when}
 use Rattle.fq_reasons.specs.Ended.{ending_reason}
 use Rattle.fq_reasons.specs.Lines.{explained, ending_line_when}
 
-pub unasked : (b : Bool) (words : List ℕ) (reason : Option (List ℕ)) → b ≡ false → explained b words reason ≡ words
+pub unasked : (b : Bool) (words : List ℕ) (reason : Option (List ℕ)) → b ≡ false →
+    explained b words reason ≡ words
 unasked b words reason e = ap (λ (x : Bool). explained x words reason) e
 
-pub unknown : (b : Bool) (words : List ℕ) (reason : Option (List ℕ)) → reason ≡ None → explained b words reason ≡ words
+pub unknown : (b : Bool) (words : List ℕ) (reason : Option (List ℕ)) → reason ≡ None →
+    explained b words reason ≡ words
 unknown b words reason none = ap (explained b words) none ∙ go b
   where
     go : (x : Bool) → explained x words None ≡ words
     go true = refl
     go false = refl
 
-pub known : (b : Bool) (words : List ℕ) (reason : Option (List ℕ)) (text : List ℕ) → b ≡ true → reason ≡ Some text → explained b words reason ≡ words ++ codes ": " ++ text
-known b words reason text e is = ap (explained b words) is ∙ ap (λ (x : Bool). explained x words (Some text)) e
+pub known : (b : Bool) (words : List ℕ) (reason : Option (List ℕ)) (text : List ℕ) → b ≡ true →
+    reason ≡ Some text → explained b words reason ≡ words ++ codes ": " ++ text
+known b words reason text e is = ap (explained b words) is
+    ∙ ap (λ (x : Bool). explained x words (Some text)) e
 
 -- The line of an outcome.
 
-pub unasked_ending : (a : Asking) (o : Outcome) → a.explain ≡ false → ending_line_when a o ≡ line_when o
+pub unasked_ending : (a : Asking) (o : Outcome) → a.explain ≡ false →
+    ending_line_when a o ≡ line_when o
 unasked_ending a Finished e = refl
 unasked_ending a Spawn e = ap line (unasked a.explain (outcome_words Spawn) None e)
 unasked_ending a Lane e = ap line (unasked a.explain (outcome_words Lane) None e)
 unasked_ending a Gate e = ap line (unasked a.explain (outcome_words Gate) None e)
 unasked_ending a Memory e = ap line (unasked a.explain (outcome_words Memory) None e)
-unasked_ending a (Write out) e = ap line (unasked a.explain (outcome_words (Write out)) (ending_reason a (Write out)) e)
-unasked_ending a (Read side) e = ap line (unasked a.explain (outcome_words (Read side)) (ending_reason a (Read side)) e)
-unasked_ending a (Endless side) e = ap line (unasked a.explain (outcome_words (Endless side)) (ending_reason a (Endless side)) e)
-unasked_ending a (Input fault) e = ap line (unasked a.explain (outcome_words (Input fault)) (ending_reason a (Input fault)) e)
+unasked_ending a (Write out) e =
+    ap line (unasked a.explain (outcome_words (Write out)) (ending_reason a (Write out)) e)
+unasked_ending a (Read side) e =
+    ap line (unasked a.explain (outcome_words (Read side)) (ending_reason a (Read side)) e)
+unasked_ending a (Endless side) e =
+    ap line (unasked a.explain (outcome_words (Endless side)) (ending_reason a (Endless side)) e)
+unasked_ending a (Input fault) e =
+    ap line (unasked a.explain (outcome_words (Input fault)) (ending_reason a (Input fault)) e)
 
-pub unknown_ending : (a : Asking) (o : Outcome) → ending_reason a o ≡ None → ending_line_when a o ≡ line_when o
+pub unknown_ending : (a : Asking) (o : Outcome) → ending_reason a o ≡ None →
+    ending_line_when a o ≡ line_when o
 unknown_ending a Finished none = refl
 unknown_ending a Spawn none = ap line (unknown a.explain (outcome_words Spawn) None refl)
 unknown_ending a Lane none = ap line (unknown a.explain (outcome_words Lane) None refl)
 unknown_ending a Gate none = ap line (unknown a.explain (outcome_words Gate) None refl)
 unknown_ending a Memory none = ap line (unknown a.explain (outcome_words Memory) None refl)
-unknown_ending a (Write out) none = ap line (unknown a.explain (outcome_words (Write out)) (ending_reason a (Write out)) none)
-unknown_ending a (Read side) none = ap line (unknown a.explain (outcome_words (Read side)) (ending_reason a (Read side)) none)
-unknown_ending a (Endless side) none = ap line (unknown a.explain (outcome_words (Endless side)) (ending_reason a (Endless side)) none)
-unknown_ending a (Input fault) none = ap line (unknown a.explain (outcome_words (Input fault)) (ending_reason a (Input fault)) none)
+unknown_ending a (Write out) none =
+    ap line (unknown a.explain (outcome_words (Write out)) (ending_reason a (Write out)) none)
+unknown_ending a (Read side) none =
+    ap line (unknown a.explain (outcome_words (Read side)) (ending_reason a (Read side)) none)
+unknown_ending a (Endless side) none =
+    ap line (unknown a.explain (outcome_words (Endless side)) (ending_reason a (Endless side)) none)
+unknown_ending a (Input fault) none =
+    ap line (unknown a.explain (outcome_words (Input fault)) (ending_reason a (Input fault)) none)
 
 -- an outcome that has a reason has a line, to which the reason is added
 pub record IsAdded (a : Asking) (o : Outcome) (text : List ℕ) : Type 0 where
   pub plain : line_when o ≡ line (outcome_words o)
   pub whole : line (outcome_words o ++ codes ": " ++ text) ≡ ending_line_when a o
 
-pub known_ending : (a : Asking) (o : Outcome) (text : List ℕ) → a.explain ≡ true → ending_reason a o ≡ Some text → IsAdded a o text
+pub known_ending : (a : Asking) (o : Outcome) (text : List ℕ) → a.explain ≡ true →
+    ending_reason a o ≡ Some text → IsAdded a o text
 known_ending a Finished text e is = absurd (cc is)
 known_ending a Spawn text e is = absurd (cc is)
 known_ending a Lane text e is = absurd (cc is)
 known_ending a Gate text e is = absurd (cc is)
 known_ending a Memory text e is = absurd (cc is)
-known_ending a (Write out) text e is = record { plain = refl; whole = sym (ap line (known a.explain (outcome_words (Write out)) (ending_reason a (Write out)) text e is)) }
-known_ending a (Read side) text e is = record { plain = refl; whole = sym (ap line (known a.explain (outcome_words (Read side)) (ending_reason a (Read side)) text e is)) }
-known_ending a (Endless side) text e is = record { plain = refl; whole = sym (ap line (known a.explain (outcome_words (Endless side)) (ending_reason a (Endless side)) text e is)) }
-known_ending a (Input fault) text e is = record { plain = refl; whole = sym (ap line (known a.explain (outcome_words (Input fault)) (ending_reason a (Input fault)) text e is)) }
+known_ending a (Write out) text e is = record { plain = refl; whole =
+    sym (ap line (known a.explain (outcome_words (Write out)) (ending_reason a (Write out)) text e
+    is)) }
+known_ending a (Read side) text e is = record { plain = refl; whole =
+    sym (ap line (known a.explain (outcome_words (Read side)) (ending_reason a (Read side)) text e
+    is)) }
+known_ending a (Endless side) text e is = record { plain = refl; whole =
+    sym (ap line (known a.explain (outcome_words (Endless side)) (ending_reason a (Endless side))
+    text e is)) }
+known_ending a (Input fault) text e is = record { plain = refl; whole =
+    sym (ap line (known a.explain (outcome_words (Input fault)) (ending_reason a (Input fault)) text
+    e is)) }

@@ -7,9 +7,9 @@ use Rattle.fq_pair.specs.declared.side.Side.TheVariants.{Forward, Reverse}
 use Rattle.fq_pair.specs.declared.fault.InputFault.{InputFault}
 use Rattle.fq_pair.specs.declared.fault.InputFault.TheVariants.{Text, MateMissing, NamesDiffer}
 use Rattle.fq_pair.specs.Forms.{Form, TwoTexts, InterleavedText}
-use Rattle.fq_serial.specs.declared.outcome.Outcome.{Outcome}
-use Rattle.fq_serial.specs.declared.outcome.Outcome.TheVariants.{Write, Read, Endless, Input}
-use Rattle.fq_words.specs.Requests.{Asking, InputNames, input_name, output_name}
+use Rattle.fq_run_core.specs.declared.outcome.Outcome.{Outcome}
+use Rattle.fq_run_core.specs.declared.outcome.Outcome.TheVariants.{Write, Read, Endless, Input}
+use Rattle.fq_cli.specs.Requests.{Asking, InputNames, input_name, output_name}
 
 -- what is wrong with a file
 abbrev pub file_reason : List ℕ → List ℕ → List ℕ

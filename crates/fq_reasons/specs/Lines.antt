@@ -1,12 +1,12 @@
 -- The lines on standard error, with a reason if one is asked for and known.
 use Rattle.std.specs.Prelude.{ℕ, Bool, true, false, Option, Some, None, List, [], ◌++◌, codes}
 use Rattle.fq_text.specs.Written.{line}
-use Rattle.fq_serial.specs.declared.outcome.Outcome.{Outcome}
-use Rattle.fq_serial.specs.declared.outcome.Outcome.TheVariants.{Finished}
-use Rattle.fq_words.specs.Requests.{Asking}
-use Rattle.fq_job.specs.Faults.{settled, outcome_words, outcome_line}
-use Rattle.fq_job.specs.Refusals.{words_of}
-use Rattle.fq_job.specs.declared.refusal.Refusal.{Refusal}
+use Rattle.fq_run_core.specs.declared.outcome.Outcome.{Outcome}
+use Rattle.fq_run_core.specs.declared.outcome.Outcome.TheVariants.{Finished}
+use Rattle.fq_cli.specs.Requests.{Asking}
+use Rattle.fq_files_run.specs.Faults.{settled, outcome_words, outcome_line}
+use Rattle.fq_files_run.specs.Refusals.{words_of}
+use Rattle.fq_files_run.specs.declared.refusal.Refusal.{Refusal}
 use Rattle.fq_reasons.specs.Refused.{refusal_reason}
 use Rattle.fq_reasons.specs.Ended.{ending_reason}
 

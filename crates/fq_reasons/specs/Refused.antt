@@ -10,11 +10,11 @@ use Rattle.fq_pair.specs.declared.out.Out.TheVariants.{ForwardPaired, ForwardUnp
 use Rattle.fq_pair.specs.declared.side.Side.{Side}
 use Rattle.fq_pair.specs.declared.side.Side.TheVariants.{Forward, Reverse}
 use Rattle.fq_pair.specs.Forms.{Form, TwoTexts, InterleavedText}
-use Rattle.fq_serial.specs.declared.settings.BadSetting.{BadSetting}
-use Rattle.fq_serial.specs.declared.settings.BadSetting.TheVariants as setting
-use Rattle.fq_words.specs.Requests.{Asking, InputNames}
-use Rattle.fq_job.specs.declared.refusal.Refusal.{Refusal}
-use Rattle.fq_job.specs.declared.refusal.Refusal.TheVariants.{Encoding, Step, Setting, SameName, Source, Target, SameReport, Report, Memory}
+use Rattle.fq_run_core.specs.declared.settings.BadSetting.{BadSetting}
+use Rattle.fq_run_core.specs.declared.settings.BadSetting.TheVariants as setting
+use Rattle.fq_cli.specs.Requests.{Asking, InputNames}
+use Rattle.fq_files_run.specs.declared.refusal.Refusal.{Refusal}
+use Rattle.fq_files_run.specs.declared.refusal.Refusal.TheVariants.{Encoding, Step, Setting, SameName, Source, Target, SameReport, Report, Memory}
 
 -- Steps.
 

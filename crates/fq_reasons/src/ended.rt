@@ -3,13 +3,13 @@
 ghost use Rattle.std.specs.Prelude.{◌≡◌, ◌++◌, IfOk, codes, unwrap_or};
 ghost use Rattle.std.specs.Option.{option_map};
 ghost use Rattle.std.specs.String.{string_bytes};
-ghost use Rattle.fq_words.specs.Requests.{asking_of, names_of};
+ghost use Rattle.fq_cli.specs.Requests.{asking_of, names_of};
 ghost use Rattle.fq_reasons.specs.Ended.{file_reason, record_reason, missing_reason, names_reason, other_side, input_reason, ending_reason};
 
+use fq_cli::{Inputs, Request};
 use fq_pair::{InputFault, Side};
-use fq_serial::Outcome;
+use fq_run_core::Outcome;
 use fq_text::{OutOfMemory, TextFault};
-use fq_words::{Inputs, Request};
 use std::alloc::Global;
 
 /// Why the run ended so, as far as the outcome and the arguments show.

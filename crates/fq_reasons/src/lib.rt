@@ -1,8 +1,8 @@
 //! Why a request was refused, and why a run ended early, in words that say what to change. The
 //! option `--explain` asks for these reasons.
 //!
-//! This is an inner layer of the program `fq_prog`, between `fq_job`, which knows what was refused
-//! or went wrong, and `fq_command`, which reports it. A reason is made of the fault and the
+//! This is an inner layer of the program `fq_prog`, between `fq_files_run`, which knows what was refused
+//! or went wrong, and `fq_app`, which reports it. A reason is made of the fault and the
 //! arguments alone.
 #![tactic(auto)]
 

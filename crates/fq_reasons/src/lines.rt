@@ -3,16 +3,16 @@
 ghost use Rattle.std.specs.Prelude.{◌≡◌, ◌++◌, ℕ, List, IfOk, codes};
 ghost use Rattle.std.specs.String.{string_bytes};
 ghost use Rattle.fq_text.specs.Written.{line};
-ghost use Rattle.fq_words.specs.Requests.{asking_of};
-ghost use Rattle.fq_job.specs.Refusals.{words_of};
+ghost use Rattle.fq_cli.specs.Requests.{asking_of};
+ghost use Rattle.fq_files_run.specs.Refusals.{words_of};
 ghost use Rattle.fq_reasons.specs.Lines.{line_of, ending_line};
 
 use crate::ended::ending_reason;
 use crate::refused::refusal_reason;
-use fq_job::{Refusal, fault_line, settled, without_end};
-use fq_serial::Outcome;
+use fq_cli::Request;
+use fq_files_run::{Refusal, fault_line, settled, without_end};
+use fq_run_core::Outcome;
 use fq_text::OutOfMemory;
-use fq_words::Request;
 use std::alloc::Global;
 
 /// Adds the reason to the line of a refusal of this request, if it is asked for and known.

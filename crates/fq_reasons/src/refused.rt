@@ -3,15 +3,15 @@
 ghost use Rattle.std.specs.Prelude.{◌≡◌, ◌++◌, [], IfOk, codes, decimal, unwrap_or};
 ghost use Rattle.std.specs.Option.{option_map};
 ghost use Rattle.std.specs.String.{string_bytes};
-ghost use Rattle.fq_words.specs.Requests.{asking_of, output_name};
+ghost use Rattle.fq_cli.specs.Requests.{asking_of, output_name};
 ghost use Rattle.fq_reasons.specs.Refused.{step_word, step_name, step_names, numbers_of, example_of, is_like_file, too_many_files, must_have, step_reason, range_words, setting_reason, role_of, is_twice, is_output, is_taken, is_report_taken, given_if, refusal_reason};
 
-use fq_job::Refusal;
+use fq_cli::{Inputs, Request};
+use fq_files_run::Refusal;
 use fq_pair::{Out, Side};
-use fq_serial::BadSetting;
+use fq_run_core::BadSetting;
 use fq_text::OutOfMemory;
 use fq_trim::{StepFault, StepFaultKind};
-use fq_words::{Inputs, Request};
 use std::alloc::Global;
 
 // The names of steps, as a reason lists them.

@@ -11,7 +11,7 @@
 ghost use Rattle.std.specs.Prelude.{◌≡◌, true, false, None};
 
 use anyhow::{Context, Result};
-use fq_command::program;
+use fq_app::program;
 use fq_files::{FileFault, Files, MemoryFiles};
 use fq_text::{ScriptFeed, ScriptOutlet};
 use fq_worked::{Answers, Given};

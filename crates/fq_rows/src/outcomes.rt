@@ -2,7 +2,7 @@
 //! status, a space, and its line.
 
 use anyhow::Result;
-use fq_job::{fault_line, status_of};
+use fq_files_run::{fault_line, status_of};
 use fq_pair::{InputFault, Out, Side};
 use fq_run::Outcome;
 use fq_text::TextFault;

@@ -26,19 +26,22 @@ inner_before : (n w k : ℕ) → 0 < w → suc n % w ≡ suc k → n % w ≡ k
 inner_before n w k pos e =
     elim (cases_lt (suc (n % w)) w) [
       | inl more ↦ (let f = next_within n w more in omega arith)
-      | inr last ↦ (let g = mod_below n w pos in let f = next_wraps n w pos (omega arith) in absurd (omega arith))
+      | inr last ↦ (let g = mod_below n w pos in let f = next_wraps n w pos (omega arith) in
+          absurd (omega arith))
     ]
 
 inner_after : (n w k : ℕ) → suc k < w → n % w ≡ k → suc n % w ≡ suc k
 inner_after n w k lt e = next_within n w (omega arith) ∙ ap (λ i. suc i) e
 
 module _ {T : Type 0} where
-  total-append : (ls ms : List (List T)) → total_length (ls ++ ms) ≡ total_length ls + total_length ms
+  total-append : (ls ms : List (List T)) → total_length (ls ++ ms) ≡ total_length ls + total_length
+      ms
   total-append [] ms = omega arith
   total-append (l ∷ ls) ms = let ih = total-append ls ms in omega arith
 
   -- a first member goes to the first list, and the rest is dealt on from the second
-  dealt_more : (n w : ℕ) (x : T) (xs : List T) → dealt_to (suc n) w (x ∷ xs) ≡ (x ∷ every (w - 1) w xs) ∷ dealt_to n w xs
+  dealt_more : (n w : ℕ) (x : T) (xs : List T) →
+      dealt_to (suc n) w (x ∷ xs) ≡ (x ∷ every (w - 1) w xs) ∷ dealt_to n w xs
   dealt_more zero w x xs = refl
   dealt_more (suc n) w x xs = ap (λ ls. ls ++ every n w xs ∷ []) (dealt_more n w x xs)
 
@@ -65,14 +68,17 @@ module _ {T : Type 0} where
   gathered (x ∷ xs) n =
       let l : suc n - 1 ≡ n = omega arith in
       ap (gather_turns (suc (length xs))) (dealt_more n (suc n) x xs)
-      ∙ ap (λ ys. x ∷ ys) (ap (λ k. gather_turns (length xs) (dealt_to n (suc n) xs ++ every k (suc n) xs ∷ [])) l ∙ gathered xs n)
+      ∙ ap (λ ys. x ∷ ys) (ap (λ k. gather_turns (length xs)
+          (dealt_to n (suc n) xs ++ every k (suc n) xs ∷ [])) l ∙ gathered xs n)
 
   pub gather-deal : (xs : List T) (w : ℕ) → 0 < w → gather (deal xs w) ≡ xs
   gather-deal xs zero pos = absurd (omega arith)
-  gather-deal xs (suc n) pos = ap (λ k. gather_turns k (deal xs (suc n))) (total_dealt xs n) ∙ gathered xs n
+  gather-deal xs (suc n) pos = ap (λ k. gather_turns k (deal xs (suc n))) (total_dealt xs n)
+      ∙ gathered xs n
 
   -- one more member, in the list whose turn it is
-  pub every_here : (xs : List T) (x : T) (k w : ℕ) → k < w → length xs % w ≡ k → every k w (xs ++ x ∷ []) ≡ every k w xs ++ x ∷ []
+  pub every_here : (xs : List T) (x : T) (k w : ℕ) → k < w → length xs % w ≡ k →
+      every k w (xs ++ x ∷ []) ≡ every k w xs ++ x ∷ []
   every_here [] x k w lt e =
       let z : k ≡ 0 = sym e ∙ zero-mod w in
       ap (λ i. every i w (x ∷ [])) z
@@ -84,16 +90,21 @@ module _ {T : Type 0} where
       every_here xs x k w (omega arith) (inner_before (length xs) w k pos e)
 
   -- and none in the others
-  pub every_there : (xs : List T) (x : T) (k w : ℕ) → k < w → (length xs % w ≡ k → ⊥) → every k w (xs ++ x ∷ []) ≡ every k w xs
+  pub every_there : (xs : List T) (x : T) (k w : ℕ) → k < w → (length xs % w ≡ k → ⊥) →
+      every k w (xs ++ x ∷ []) ≡ every k w xs
   every_there [] x zero w lt e = absurd (e (zero-mod w))
   every_there [] x (suc k) w lt e = refl
   every_there (y ∷ xs) x zero w lt e =
       let pos : 0 < w = omega arith in
-      ap (λ ys. y ∷ ys) (every_there xs x (w - 1) w (omega arith) (λ h. e (last_after (length xs) w pos h)))
-  every_there (y ∷ xs) x (suc k) w lt e = every_there xs x k w (omega arith) (λ h. e (inner_after (length xs) w k lt h))
+      ap (λ ys. y ∷ ys) (every_there xs x (w - 1) w (omega arith) (λ h. e
+          (last_after (length xs) w pos h)))
+  every_there (y ∷ xs) x (suc k) w lt e = every_there xs x k w (omega arith)
+      (λ h. e (inner_after (length xs) w k lt h))
 
   -- a list whose turns have all come, up to a list that has no more, is the whole list
-  pub whole_from_turns : (xs ys : List T) (w : ℕ) → 0 < w → ((j : ℕ) → j < w → IsPrefix (every j w xs) (every j w ys)) → every (length xs % w) w ys ≡ every (length xs % w) w xs → xs ≡ ys
+  pub whole_from_turns : (xs ys : List T) (w : ℕ) → 0 < w →
+      ((j : ℕ) → j < w → IsPrefix (every j w xs) (every j w ys)) →
+      every (length xs % w) w ys ≡ every (length xs % w) w xs → xs ≡ ys
   whole_from_turns [] [] w pos pre end = refl
   whole_from_turns [] (y ∷ ys) w pos pre end =
       let P : ℕ → Type 0 = λ k. every k w (y ∷ ys) ≡ every {T = T} k w [] in
@@ -109,21 +120,26 @@ module _ {T : Type 0} where
       let tail : every (w - 1) w xs ++ p.0 ≡ every (w - 1) w ys = cc in
       let pre' : (j : ℕ) → j < w → IsPrefix (every j w xs) (every j w ys) = λ j lt.
       (let P : ℕ → Type 0 = λ k. IsPrefix (every k w xs) (every k w ys) in
-      elim (cases_lt (suc j) w) [ inl more ↦ pre (suc j) more | inr last ↦ subst P (let e : w - 1 ≡ j = omega arith in e) (p.0, tail) ]) in
+      elim (cases_lt (suc j) w) [ inl more ↦ pre (suc j) more | inr last ↦ subst P (let e : w - 1
+          ≡ j = omega arith in e) (p.0, tail) ]) in
       let end' : every (length xs % w) w ys ≡ every (length xs % w) w xs =
       (let P : ℕ → Type 0 = λ k. every k w (y ∷ ys) ≡ every k w (x ∷ xs) in
       let Q : ℕ → Type 0 = λ k. every k w ys ≡ every k w xs in
       let below = mod_below (length xs) w pos in
       elim (cases_lt (suc (length xs % w)) w) [
         | inl more ↦ subst P (next_within (length xs) w more) end
-        | inr last ↦ (let e : y ∷ every (w - 1) w ys ≡ x ∷ every (w - 1) w xs = subst P (next_wraps (length xs) w pos (omega arith)) end in let t : every (w - 1) w ys ≡ every (w - 1) w xs = cc in subst Q (let e : w - 1 ≡ length xs % w = omega arith in e) t)
+        | inr last ↦ (let e : y ∷ every (w - 1) w ys ≡ x ∷ every (w - 1) w xs =
+            subst P (next_wraps (length xs) w pos (omega arith)) end in
+            let t : every (w - 1) w ys ≡ every (w - 1) w xs = cc in
+            subst Q (let e : w - 1 ≡ length xs % w = omega arith in e) t)
       ]) in
       let rest : xs ≡ ys = whole_from_turns xs ys w pos pre' end' in
       cc
 
 module _ {T : Type 0} where
   -- a list whose turns are all beginnings is a beginning
-  pub prefix_from_turns : (xs ys : List T) (w : ℕ) → 0 < w → ((j : ℕ) → j < w → IsPrefix (every j w xs) (every j w ys)) → IsPrefix xs ys
+  pub prefix_from_turns : (xs ys : List T) (w : ℕ) → 0 < w →
+      ((j : ℕ) → j < w → IsPrefix (every j w xs) (every j w ys)) → IsPrefix xs ys
   prefix_from_turns [] ys w pos pre = (ys, refl)
   prefix_from_turns (x ∷ xs) [] w pos pre =
       let p = (pre 0 pos).1 in
@@ -135,17 +151,21 @@ module _ {T : Type 0} where
       let tail : every (w - 1) w xs ++ p.0 ≡ every (w - 1) w ys = cc in
       let pre' : (j : ℕ) → j < w → IsPrefix (every j w xs) (every j w ys) = λ j lt.
       (let P : ℕ → Type 0 = λ k. IsPrefix (every k w xs) (every k w ys) in
-      elim (cases_lt (suc j) w) [ inl more ↦ pre (suc j) more | inr last ↦ subst P (let e : w - 1 ≡ j = omega arith in e) (p.0, tail) ]) in
+      elim (cases_lt (suc j) w) [ inl more ↦ pre (suc j) more | inr last ↦ subst P (let e : w - 1
+          ≡ j = omega arith in e) (p.0, tail) ]) in
       let rest = prefix_from_turns xs ys w pos pre' in
       (rest.0, ap (λ z. z ∷ (xs ++ rest.0)) head ∙ ap (λ zs. y ∷ zs) rest.1)
 
-pub every-map : {A B : Type 0} (f : A → B) (k w : ℕ) (xs : List A) → every k w (map f xs) ≡ map f (every k w xs)
+pub every-map : {A B : Type 0} (f : A → B) (k w : ℕ) (xs : List A) →
+    every k w (map f xs) ≡ map f (every k w xs)
 every-map f k w [] = refl
 every-map f zero w (x ∷ xs) = ap (λ ys. f x ∷ ys) (every-map f (w - 1) w xs)
 every-map f (suc k) w (x ∷ xs) = every-map f k w xs
 
 -- whose turn it is after one more member
-pub turn_more : {T : Type 0} (xs : List T) (x : T) (turn next w : ℕ) → turn ≡ length xs % w → next ≡ suc turn % w → next ≡ length (xs ++ x ∷ []) % w
+pub turn_more : {T : Type 0} (xs : List T) (x : T) (turn next w : ℕ) → turn ≡ length xs % w →
+    next ≡ suc turn % w → next ≡ length (xs ++ x ∷ []) % w
 turn_more xs x turn next w here is =
-    let grown : length (xs ++ x ∷ []) ≡ suc (length xs) = omega (arith, length-append xs (x ∷ [])) in
+    let grown : length (xs ++ x ∷ []) ≡ suc (length xs) =
+        omega (arith, length-append xs (x ∷ [])) in
     is ∙ ap (λ n. suc n % w) here ∙ sym (suc-mod (length xs) w) ∙ ap (λ n. n % w) (sym grown)

@@ -6,17 +6,20 @@ use Rattle.fq_run.specs.Each.{Each3}
 use Rattle.fq_run.specs.lanes.Laying.{fresh}
 
 module _ {A B : Type 0} (R : A → B → Type 0) where
-  pub zip_push : (xs : List A) (ys : List B) (x : A) (y : B) → AllZip R xs ys → R x y → AllZip R (xs ++ x ∷ []) (ys ++ y ∷ [])
+  pub zip_push : (xs : List A) (ys : List B) (x : A) (y : B) → AllZip R xs ys → R x y →
+      AllZip R (xs ++ x ∷ []) (ys ++ y ∷ [])
   zip_push [] [] x y h r = (r, tt)
   zip_push [] (b ∷ ys) x y h r = absurd h
   zip_push (a ∷ xs) [] x y h r = absurd h
   zip_push (a ∷ xs) (b ∷ ys) x y h r = (h.0, zip_push xs ys x y h.1 r)
 
-  pub zip_pushed : (xs : List A) (ys zs : List B) (x : A) (y : B) → AllZip R xs ys → R x y → zs ≡ ys ++ y ∷ [] → AllZip R (xs ++ x ∷ []) zs
+  pub zip_pushed : (xs : List A) (ys zs : List B) (x : A) (y : B) → AllZip R xs ys → R x y →
+      zs ≡ ys ++ y ∷ [] → AllZip R (xs ++ x ∷ []) zs
   zip_pushed xs ys zs x y h r e = subst (AllZip R (xs ++ x ∷ [])) (sym e) (zip_push xs ys x y h r)
 
 module _ {A B C : Type 0} (R : A → B → C → Type 0) where
-  each3_push : (xs : List A) (ys : List B) (zs : List C) (x : A) (y : B) (z : C) → Each3 R xs ys zs → R x y z → Each3 R (xs ++ x ∷ []) (ys ++ y ∷ []) (zs ++ z ∷ [])
+  each3_push : (xs : List A) (ys : List B) (zs : List C) (x : A) (y : B) (z : C) →
+      Each3 R xs ys zs → R x y z → Each3 R (xs ++ x ∷ []) (ys ++ y ∷ []) (zs ++ z ∷ [])
   each3_push [] [] [] x y z h r = (r, tt)
   each3_push (a ∷ xs) (b ∷ ys) (c ∷ zs) x y z h r = (h.0, each3_push xs ys zs x y z h.1 r)
   each3_push [] [] (c ∷ zs) x y z h r = absurd h
@@ -24,13 +27,19 @@ module _ {A B C : Type 0} (R : A → B → C → Type 0) where
   each3_push (a ∷ xs) [] zs x y z h r = absurd h
   each3_push (a ∷ xs) (b ∷ ys) [] x y z h r = absurd h
 
-  pub each3_pushed : (xs xs' : List A) (ys ys' : List B) (zs zs' : List C) (x : A) (y : B) (z : C) → Each3 R xs ys zs → R x y z → xs' ≡ xs ++ x ∷ [] → ys' ≡ ys ++ y ∷ [] → zs' ≡ zs ++ z ∷ [] → Each3 R xs' ys' zs'
+  pub each3_pushed : (xs xs' : List A) (ys ys' : List B) (zs zs' : List C) (x : A) (y : B) (z : C) →
+      Each3 R xs ys zs → R x y z → xs' ≡ xs ++ x ∷ [] → ys' ≡ ys ++ y ∷ [] → zs' ≡ zs ++ z ∷ [] →
+      Each3 R xs' ys' zs'
   each3_pushed xs xs' ys ys' zs zs' x y z h r e f k =
-      subst (λ us. Each3 R us ys' zs') (sym e) (subst (λ us. Each3 R (xs ++ x ∷ []) us zs') (sym f) (subst (λ us. Each3 R (xs ++ x ∷ []) (ys ++ y ∷ []) us) (sym k) (each3_push xs ys zs x y z h r)))
+      subst (λ us. Each3 R us ys' zs') (sym e)
+          (subst (λ us. Each3 R (xs ++ x ∷ []) us zs') (sym f)
+          (subst (λ us. Each3 R (xs ++ x ∷ []) (ys ++ y ∷ []) us) (sym k)
+          (each3_push xs ys zs x y z h r)))
 
 module _ {A B C : Type 0} (R Q : A → B → C → Type 0) where
   -- what holds of nothing
-  pub nothing_left : (xs : List A) (ys : List B) (zs : List C) → Each3 R xs ys zs → length zs ≡ 0 → Each3 Q xs ys zs
+  pub nothing_left : (xs : List A) (ys : List B) (zs : List C) → Each3 R xs ys zs → length zs ≡ 0 →
+      Each3 Q xs ys zs
   nothing_left [] [] [] h e = tt
   nothing_left (a ∷ xs) (b ∷ ys) (c ∷ zs) h e = cc
   nothing_left [] [] (c ∷ zs) h e = absurd h
@@ -39,11 +48,14 @@ module _ {A B C : Type 0} (R Q : A → B → C → Type 0) where
   nothing_left (a ∷ xs) (b ∷ ys) [] h e = absurd h
 
 -- a lane through which nothing has gone
-pub fresh_is : {T : Type 0} (l : History T) (n : Name) → l.name ≡ n → l.items ≡ [] → l.marked ≡ false → l ≡ fresh n
+pub fresh_is : {T : Type 0} (l : History T) (n : Name) → l.name ≡ n → l.items ≡ [] →
+    l.marked ≡ false → l ≡ fresh n
 fresh_is {T = T} l n p q r =
     ap (λ m. let k : History T = record { name = m; items = l.items; marked = l.marked } in k) p
-    ∙ ap (λ xs. let k : History T = record { name = n; items = xs; marked = l.marked } in k) q ∙ ap (λ b. let k : History T = record { name = n; items = []; marked = b } in k) r
+    ∙ ap (λ xs. let k : History T = record { name = n; items = xs; marked = l.marked } in k) q
+        ∙ ap (λ b. let k : History T = record { name = n; items = []; marked = b } in k) r
 
-pub weaker : {A E : Type 0} (P Q : A → Type 0) → ((x : A) → P x → Q x) → (r : Result A E) → IfOk r P → IfOk r Q
+pub weaker : {A E : Type 0} (P Q : A → Type 0) → ((x : A) → P x → Q x) → (r : Result A E) →
+    IfOk r P → IfOk r Q
 weaker P Q f (Ok x) h = f x h
 weaker P Q f (Err e) h = tt

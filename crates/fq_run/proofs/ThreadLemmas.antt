@@ -16,30 +16,30 @@ use Rattle.fq_work.specs.declared.reply.Cause.{Cause}
 use Rattle.fq_work.specs.declared.reply.Cause.TheVariants as cause
 use Rattle.fq_work.specs.declared.reply.Reply.TheVariants.{Done as done, Stop}
 use Rattle.fq_run.specs.declared.collector.Collector.{Collector}
-use Rattle.fq_serial.specs.declared.halt.Halt.{Halt}
-use Rattle.fq_serial.specs.declared.total.Total.{Total}
-use Rattle.fq_serial.specs.Totals.{total_of, no_total, total_plus}
+use Rattle.fq_run_core.specs.declared.halt.Halt.{Halt}
+use Rattle.fq_run_core.specs.declared.total.Total.{Total}
+use Rattle.fq_run_core.specs.Totals.{total_of, no_total, total_plus}
 use Rattle.fq_run.specs.declared.collector.phase.Phase.{Phase}
 use Rattle.fq_run.specs.declared.collector.phase.Phase.TheVariants.{Writing, AtMark, Stopped, WriteFailed}
-use Rattle.fq_serial.specs.declared.reading_end.ReadingEnd.{ReadingEnd}
-use Rattle.fq_serial.specs.Choices.{Choices}
+use Rattle.fq_run_core.specs.declared.reading_end.ReadingEnd.{ReadingEnd}
+use Rattle.fq_run_core.specs.Choices.{Choices}
 use Rattle.fq_run.specs.collector.Collecting.{Collects, Writes, IsHeard, TookAll, written_text, counted_from, counted, failed_in}
 use Rattle.fq_run.specs.Shares.{AreEven, IsCut, join}
 use Rattle.fq_run.specs.dealer.Dealt.{Closed}
 use Rattle.fq_run.specs.dealer.DealingOut.{DealsOut}
 use Rattle.fq_text.specs.Devices.{FeedState}
-use Rattle.fq_serial.specs.Devices.{OutletStates, OutletsTook, part_at}
-use Rattle.fq_serial.specs.Fates as fate
+use Rattle.fq_run_core.specs.Devices.{OutletStates, OutletsTook, part_at}
+use Rattle.fq_run_core.specs.Fates as fate
 use Rattle.fq_run.specs.lanes.Items.{IsDealt}
 use Rattle.fq_pair.specs.Forms.{Form}
 use Rattle.fq_pair.specs.Walks.{SourceState}
-use Rattle.fq_serial.specs.PairsRead.{Reads, fresh_source, feed_in}
-use Rattle.fq_serial.specs.Writing.{no_halt, Passes, Runs}
+use Rattle.fq_run_core.specs.PairsRead.{Reads, fresh_source, feed_in}
+use Rattle.fq_run_core.specs.Writing.{no_halt, Passes, Runs}
 use Rattle.fq_run.proofs.MatchLemmas.{Matched, answered, begun_before, begun_first, at_mark_all}
-use Rattle.fq_serial.proofs.OutletLemmas.{all_took_same}
-use Rattle.fq_serial.proofs.PassLemmas.{runs_passed}
-use Rattle.fq_serial.proofs.TextLemmas.{no_text, text_then, some_pair}
-use Rattle.fq_serial.proofs.TotalLemmas.{no_total_is, total_added, is_counted}
+use Rattle.fq_run_core.proofs.OutletLemmas.{all_took_same}
+use Rattle.fq_run_core.proofs.PassLemmas.{runs_passed}
+use Rattle.fq_run_core.proofs.TextLemmas.{no_text, text_then, some_pair}
+use Rattle.fq_run_core.proofs.TotalLemmas.{no_total_is, total_added, is_counted}
 
 -- the pairs of some blocks
 abbrev pairs_in : List Numbered → List Mates
@@ -47,10 +47,12 @@ pairs_in bs = join (map (λ (b : Numbered). b.pairs) bs)
 
 pairs_in-append : (bs ds : List Numbered) → pairs_in (bs ++ ds) ≡ pairs_in bs ++ pairs_in ds
 pairs_in-append [] ds = refl
-pairs_in-append (b ∷ bs) ds = ap (λ ms. b.pairs ++ ms) (pairs_in-append bs ds) ∙ sym (append_assoc b.pairs (pairs_in bs) (pairs_in ds))
+pairs_in-append (b ∷ bs) ds = ap (λ ms. b.pairs ++ ms) (pairs_in-append bs ds)
+    ∙ sym (append_assoc b.pairs (pairs_in bs) (pairs_in ds))
 
 -- no block has more pairs than are allowed
-even_at : (most : ℕ) (first : List Numbered) (b : Numbered) (rest : List Numbered) → AreEven most (map (λ (x : Numbered). x.pairs) (first ++ b ∷ rest)) → length b.pairs ≤ most
+even_at : (most : ℕ) (first : List Numbered) (b : Numbered) (rest : List Numbered) →
+    AreEven most (map (λ (x : Numbered). x.pairs) (first ++ b ∷ rest)) → length b.pairs ≤ most
 even_at most [] b [] e = e.1
 even_at most [] b (x ∷ rest) e = let full = e.0 in omega arith
 even_at most (x ∷ []) b rest e = even_at most [] b rest e.1
@@ -58,17 +60,23 @@ even_at most (x ∷ y ∷ first) b rest e = even_at most (y ∷ first) b rest e.
 
 module _ (tallied : Bool) (steps : List Step) where
   -- the texts of replies are those of the pairs of their blocks
-  texts_in : (out : Out) (bs : List Numbered) → written_text out (answered tallied steps bs) ≡ text_of out (texts_of steps (pairs_in bs))
+  texts_in : (out : Out) (bs : List Numbered) →
+      written_text out (answered tallied steps bs) ≡ text_of out (texts_of steps (pairs_in bs))
   texts_in out [] = sym (no_text steps out)
-  texts_in out (b ∷ bs) = ap (λ text. text_of out (texts_of steps b.pairs) ++ text) (texts_in out bs) ∙ sym (text_then steps b.pairs (pairs_in bs) out)
+  texts_in out (b ∷ bs) = ap (λ text. text_of out (texts_of steps b.pairs) ++ text)
+      (texts_in out bs) ∙ sym (text_then steps b.pairs (pairs_in bs) out)
 
   -- and so is what is counted of them
-  counts_in : (bs : List Numbered) (ms : List Mates) (total : Total) → total ≡ total_of tallied steps ms → length ms + length (pairs_in bs) < 2 ^ 62 → counted_from total (answered tallied steps bs) ≡ total_of tallied steps (ms ++ pairs_in bs)
+  counts_in : (bs : List Numbered) (ms : List Mates) (total : Total) →
+      total ≡ total_of tallied steps ms → length ms + length (pairs_in bs) < 2 ^ 62 →
+      counted_from total (answered tallied steps bs) ≡ total_of tallied steps (ms ++ pairs_in bs)
   counts_in [] ms total is few = is ∙ ap (total_of tallied steps) (sym (append-nil ms))
   counts_in (b ∷ bs) ms total is few =
       let more = length-append b.pairs (pairs_in bs) in
       let all = length-append ms b.pairs in
-      counts_in bs (ms ++ b.pairs) (total_plus total (done_of tallied steps b)) (total_added tallied steps ms b.pairs total (done_of tallied steps b) is refl refl (omega arith)) (omega arith)
+      counts_in bs (ms ++ b.pairs) (total_plus total (done_of tallied steps b))
+          (total_added tallied steps ms b.pairs total (done_of tallied steps b) is refl refl
+          (omega arith)) (omega arith)
       ∙ ap (total_of tallied steps) (append_assoc ms b.pairs (pairs_in bs))
 
   -- the first replies are those to the first blocks
@@ -79,7 +87,8 @@ module _ (tallied : Bool) (steps : List Step) where
     answers : ds ≡ answered tallied steps first
     others : IsPrefix es (answered tallied steps rest)
 
-  splits_more : (d : Done) (b : Numbered) (ds es : List Done) (bs : List Numbered) → d ≡ done_of tallied steps b → Splits ds es bs → Splits (d ∷ ds) es (b ∷ bs)
+  splits_more : (d : Done) (b : Numbered) (ds es : List Done) (bs : List Numbered) →
+      d ≡ done_of tallied steps b → Splits ds es bs → Splits (d ∷ ds) es (b ∷ bs)
   splits_more d b ds es bs same s = record {
     first = b ∷ s.first;
     rest = s.rest;
@@ -88,7 +97,8 @@ module _ (tallied : Bool) (steps : List Step) where
     others = s.others;
   }
 
-  splits : (ds es : List Done) (bs : List Numbered) → IsPrefix (ds ++ es) (answered tallied steps bs) → Splits ds es bs
+  splits : (ds es : List Done) (bs : List Numbered) →
+      IsPrefix (ds ++ es) (answered tallied steps bs) → Splits ds es bs
   splits [] es bs p = record { first = []; rest = bs; all = refl; answers = refl; others = p }
   splits (d ∷ ds) es [] p = let q = p.1 in cc
   splits (d ∷ ds) es (b ∷ bs) p =
@@ -98,19 +108,27 @@ module _ (tallied : Bool) (steps : List Step) where
       splits_more d b ds es bs same (splits ds es bs (p.0, tail))
 
 module _ (c : Choices) (old new : SourceState) (mates : List Mates) (why : Option ReadingEnd) (bs : List Numbered) (before mid : OutletStates)
-    (reads : Reads old new mates why) (few : length mates ≤ 2 ^ 60) (cut : IsCut c.block_pairs mates (map (λ (b : Numbered). b.pairs) bs)) (stopped : why ≡ None → ⊥) where
+    (reads : Reads old new mates why) (few : length mates ≤ 2 ^ 60)
+        (cut : IsCut c.block_pairs mates (map (λ (b : Numbered). b.pairs) bs)) (stopped : why
+        ≡ None → ⊥) where
   -- the pairs that were read are those of the first blocks and those of the others
-  read_is : (first rest : List Numbered) → bs ≡ first ++ rest → mates ≡ pairs_in first ++ pairs_in rest
+  read_is : (first rest : List Numbered) → bs ≡ first ++ rest →
+      mates ≡ pairs_in first ++ pairs_in rest
   read_is first rest all = sym cut.joined ∙ ap pairs_in all ∙ pairs_in-append first rest
 
-  counted_is : (ds : List Done) (first rest : List Numbered) → bs ≡ first ++ rest → ds ≡ answered c.tallied c.steps first → counted c.tallied ds ≡ total_of c.tallied c.steps (pairs_in first)
+  counted_is : (ds : List Done) (first rest : List Numbered) → bs ≡ first ++ rest →
+      ds ≡ answered c.tallied c.steps first →
+      counted c.tallied ds ≡ total_of c.tallied c.steps (pairs_in first)
   counted_is ds first rest all is =
       let len = ap length (read_is first rest all) in
       let sum = length-append (pairs_in first) (pairs_in rest) in
-      ap (counted c.tallied) is ∙ counts_in c.tallied c.steps first [] (no_total c.tallied) (no_total_is c.tallied c.steps) (omega arith)
+      ap (counted c.tallied) is ∙ counts_in c.tallied c.steps first [] (no_total c.tallied)
+          (no_total_is c.tallied c.steps) (omega arith)
 
   -- no write failed: the texts of the first blocks were sent, and no others
-  passes_first : (ds : List Done) (counts : Total) (halt : Halt) (first rest : List Numbered) → bs ≡ first ++ rest → ds ≡ answered c.tallied c.steps first → counts ≡ counted c.tallied ds → TookAll before mid ds →
+  passes_first : (ds : List Done) (counts : Total) (halt : Halt) (first rest : List Numbered) →
+      bs ≡ first ++ rest → ds ≡ answered c.tallied c.steps first → counts ≡ counted c.tallied ds →
+      TookAll before mid ds →
       (halt ≡ no_halt → rest ≡ []) → Passes c old new before mid counts halt why None
   passes_first ds counts halt first rest all is totals took none =
       let P : List Mates → Type 0 = λ ms. Reads old new ms why in
@@ -118,10 +136,13 @@ module _ (c : Choices) (old new : SourceState) (mates : List Mates) (why : Optio
         whole = pairs_in first;
         fate = fate.Unbroken;
         missed = pairs_in rest;
-        counts = is_counted c (pairs_in first) halt why counts (totals ∙ counted_is ds first rest all is);
-        reads = subst P (read_is first rest all ∙ ap (λ ms. ms ++ pairs_in rest) (sym (append-nil (pairs_in first)))) reads;
+        counts = is_counted c (pairs_in first) halt why counts (totals
+            ∙ counted_is ds first rest all is);
+        reads = subst P (read_is first rest all
+            ∙ ap (λ ms. ms ++ pairs_in rest) (sym (append-nil (pairs_in first)))) reads;
         took = all_took_same before mid _ _ None
-            (λ out. ap (written_text out) is ∙ texts_in c.tallied c.steps out first ∙ sym (append-nil (text_of out (texts_of c.steps (pairs_in first))))) took;
+            (λ out. ap (written_text out) is ∙ texts_in c.tallied c.steps out first
+                ∙ sym (append-nil (text_of out (texts_of c.steps (pairs_in first))))) took;
         failed = refl;
         cut_short = tt;
         over = λ going sound. stopped going;
@@ -130,37 +151,56 @@ module _ (c : Choices) (old new : SourceState) (mates : List Mates) (why : Optio
       }
 
   -- a write failed in the block after the first ones
-  passes_broken : (failed : Out) (ds : List Done) (counts : Total) (halt : Halt) (next : Done) (sent : ℕ) (first rest : List Numbered) (b : Numbered) → bs ≡ first ++ (b ∷ rest) → ds ≡ answered c.tallied c.steps first → next ≡ done_of c.tallied c.steps b →
-      counts ≡ counted c.tallied ds → sent < length (text_of failed next.texts) → OutletsTook before mid (λ out. written_text out ds ++ part_at failed sent out (text_of out next.texts)) (Some failed) →
+  passes_broken : (failed : Out) (ds : List Done) (counts : Total) (halt : Halt) (next : Done)
+      (sent : ℕ) (first rest : List Numbered) (b : Numbered) → bs ≡ first ++ (b ∷ rest) →
+      ds ≡ answered c.tallied c.steps first → next ≡ done_of c.tallied c.steps b →
+      counts ≡ counted c.tallied ds → sent < length (text_of failed next.texts) →
+          OutletsTook before mid (λ out. written_text out ds ++ part_at failed sent out (text_of out
+          next.texts)) (Some failed) →
       Passes c old new before mid counts halt why (Some failed)
   passes_broken failed ds counts halt next sent first rest b all is next_is totals short took =
       let P : List Mates → Type 0 = λ ms. Reads old new ms why in
       let Q : Done → Type 0 = λ d. sent < length (text_of failed d.texts) in
-      let R : List Numbered → Type 0 = λ xs. AreEven c.block_pairs (map (λ (x : Numbered). x.pairs) xs) in
-      let cut_at : sent < length (text_of failed (texts_of c.steps b.pairs)) = subst Q next_is short in
+      let R : List Numbered → Type 0 = λ xs. AreEven c.block_pairs
+          (map (λ (x : Numbered). x.pairs) xs) in
+      let cut_at : sent < length (text_of failed (texts_of c.steps b.pairs)) =
+          subst Q next_is short in
       record {
         whole = pairs_in first;
         fate = fate.WriteFailed failed sent b.pairs;
         missed = pairs_in rest;
-        counts = is_counted c (pairs_in first) halt why counts (totals ∙ counted_is ds first (b ∷ rest) all is);
-        reads = subst P (read_is first (b ∷ rest) all ∙ sym (append_assoc (pairs_in first) b.pairs (pairs_in rest))) reads;
+        counts = is_counted c (pairs_in first) halt why counts (totals
+            ∙ counted_is ds first (b ∷ rest) all is);
+        reads = subst P (read_is first (b ∷ rest) all
+            ∙ sym (append_assoc (pairs_in first) b.pairs (pairs_in rest))) reads;
         took = all_took_same before mid _ _ (Some failed)
-            (λ out. ap (λ text. text ++ part_at failed sent out (text_of out next.texts)) (ap (written_text out) is ∙ texts_in c.tallied c.steps out first)
-            ∙ ap (λ (d : Done). text_of out (texts_of c.steps (pairs_in first)) ++ part_at failed sent out (text_of out d.texts)) next_is) took;
+            (λ out. ap (λ text. text ++ part_at failed sent out (text_of out next.texts))
+                (ap (written_text out) is ∙ texts_in c.tallied c.steps out first)
+            ∙ ap (λ (d : Done). text_of out (texts_of c.steps (pairs_in first)) ++ part_at failed
+                sent out (text_of out d.texts)) next_is) took;
         failed = refl;
-        cut_short = (some_pair c.steps failed b.pairs sent cut_at, even_at c.block_pairs first b rest (subst R all cut.even), cut_at);
+        cut_short =
+            (some_pair c.steps failed b.pairs sent cut_at, even_at c.block_pairs first b rest
+            (subst R all cut.even), cut_at);
         over = λ going sound. stopped going;
         unflushed = refl;
         missed_none = λ sound unbroken. absurd cc;
       }
 
   -- which block it was
-  passes_behind : (failed : Out) (ds : List Done) (counts : Total) (halt : Halt) (next : Done) (sent : ℕ) (first rest : List Numbered) → bs ≡ first ++ rest → ds ≡ answered c.tallied c.steps first → IsPrefix (next ∷ []) (answered c.tallied c.steps rest) →
-      counts ≡ counted c.tallied ds → sent < length (text_of failed next.texts) → OutletsTook before mid (λ out. written_text out ds ++ part_at failed sent out (text_of out next.texts)) (Some failed) →
+  passes_behind : (failed : Out) (ds : List Done) (counts : Total) (halt : Halt) (next : Done)
+      (sent : ℕ) (first rest : List Numbered) → bs ≡ first ++ rest →
+      ds ≡ answered c.tallied c.steps first →
+      IsPrefix (next ∷ []) (answered c.tallied c.steps rest) →
+      counts ≡ counted c.tallied ds → sent < length (text_of failed next.texts) →
+          OutletsTook before mid (λ out. written_text out ds ++ part_at failed sent out (text_of out
+          next.texts)) (Some failed) →
       Passes c old new before mid counts halt why (Some failed)
-  passes_behind failed ds counts halt next sent first [] all is p totals short took = absurd (let q = p.1 in cc)
+  passes_behind failed ds counts halt next sent first [] all is p totals short took =
+      absurd (let q = p.1 in cc)
   passes_behind failed ds counts halt next sent first (b ∷ rest) all is p totals short took =
-      let q : next ∷ ([] ++ p.0) ≡ done_of c.tallied c.steps b ∷ answered c.tallied c.steps rest = p.1 in
+      let q : next ∷ ([] ++ p.0) ≡ done_of c.tallied c.steps b ∷ answered c.tallied c.steps rest =
+          p.1 in
       let same : next ≡ done_of c.tallied c.steps b = cc in
       passes_broken failed ds counts halt next sent first rest b all is same totals short took
 
@@ -170,29 +210,48 @@ halted cause.Gate k heard sound = let e = sym heard ∙ ap (λ (h : Halt). h.gat
 halted cause.Memory k heard sound = let e = sym heard ∙ ap (λ (h : Halt). h.memory) sound in cc
 
 module _ (form : Form) (c : Choices) (f r : FeedState) (old new : SourceState) (to : List (History Numbered)) (closings : List (Result (History Numbered) NotEnded)) (why : Option ReadingEnd) (w : ℕ) (before mid : OutletStates) (k : Collector)
-    (is : old ≡ fresh_source form c f r) (sent : List (History Numbered)) (d : DealsOut c old new to sent why) (ends : AllZip Closed sent closings) (matched : AllZip (Matched c.tallied c.steps) closings k.replies.items) (stopped : why ≡ None → ⊥) (lanes : length to ≡ w) (some : 0 < w) where
+    (is : old ≡ fresh_source form c f r) (sent : List (History Numbered))
+        (d : DealsOut c old new to sent why) (ends : AllZip Closed sent closings)
+        (matched : AllZip (Matched c.tallied c.steps) closings k.replies.items) (stopped : why
+        ≡ None → ⊥) (lanes : length to ≡ w) (some : 0 < w) where
   dealt_to : IsDealt w d.blocks sent
   dealt_to = subst (λ n. IsDealt n d.blocks sent) lanes d.dealt
 
   -- the replies to the first blocks, by the phase of the collector
-  passes_by : (phase : Phase) (ds : List Done) → k.total ≡ counted c.tallied ds → Writes phase w before mid ds k → (phase ≡ Writing → ⊥) → Passes c old new before mid k.total k.halt why (failed_in phase)
+  passes_by : (phase : Phase) (ds : List Done) → k.total ≡ counted c.tallied ds →
+      Writes phase w before mid ds k → (phase ≡ Writing → ⊥) →
+      Passes c old new before mid k.total k.halt why (failed_in phase)
   passes_by Writing ds totals writes over = absurd (over refl)
   passes_by AtMark ds totals writes over =
       let cut = d.cut in
-      let all = at_mark_all c.tallied c.steps w d.blocks sent closings k.replies.items dealt_to ends matched some ds writes.0 in
-      passes_first c old new d.mates why d.blocks before mid d.reads d.few cut.cut stopped ds k.total k.halt d.blocks [] (sym (append-nil d.blocks)) all totals writes.1 (λ sound. refl)
+      let all = at_mark_all c.tallied c.steps w d.blocks sent closings k.replies.items dealt_to ends
+          matched some ds writes.0 in
+      passes_first c old new d.mates why d.blocks before mid d.reads d.few cut.cut stopped ds
+          k.total k.halt d.blocks [] (sym (append-nil d.blocks)) all totals writes.1 (λ sound. refl)
   passes_by Stopped ds totals writes over =
       let cut = d.cut in
-      let begun = begun_first c.tallied c.steps w d.blocks sent closings k.replies.items dealt_to ends matched some ds (begun_before w (map done ds) (Stop writes.why ∷ []) k.replies.items writes.begun) in
-      let s = splits c.tallied c.steps ds [] d.blocks (subst (λ xs. IsPrefix xs (answered c.tallied c.steps d.blocks)) (sym (append-nil ds)) begun) in
-      passes_first c old new d.mates why d.blocks before mid d.reads d.few cut.cut stopped ds k.total k.halt s.first s.rest s.all s.answers totals writes.took (λ sound. absurd (halted writes.why k writes.heard sound))
+      let begun = begun_first c.tallied c.steps w d.blocks sent closings k.replies.items dealt_to
+          ends matched some ds (begun_before w (map done ds) (Stop writes.why ∷ []) k.replies.items
+          writes.begun) in
+      let s = splits c.tallied c.steps ds [] d.blocks
+          (subst (λ xs. IsPrefix xs (answered c.tallied c.steps d.blocks)) (sym (append-nil ds))
+          begun) in
+      passes_first c old new d.mates why d.blocks before mid d.reads d.few cut.cut stopped ds
+          k.total k.halt s.first s.rest s.all s.answers totals writes.took
+          (λ sound. absurd (halted writes.why k writes.heard sound))
   passes_by (WriteFailed failed) ds totals writes over =
       let cut = d.cut in
-      let begun = begun_first c.tallied c.steps w d.blocks sent closings k.replies.items dealt_to ends matched some (ds ++ writes.next ∷ []) writes.begun in
+      let begun = begun_first c.tallied c.steps w d.blocks sent closings k.replies.items dealt_to
+          ends matched some (ds ++ writes.next ∷ []) writes.begun in
       let s = splits c.tallied c.steps ds (writes.next ∷ []) d.blocks begun in
-      passes_behind c old new d.mates why d.blocks before mid d.reads d.few cut.cut stopped failed ds k.total k.halt writes.next writes.sent s.first s.rest s.all s.answers s.others totals writes.short writes.took
+      passes_behind c old new d.mates why d.blocks before mid d.reads d.few cut.cut stopped failed
+          ds k.total k.halt writes.next writes.sent s.first s.rest s.all s.answers s.others totals
+          writes.short writes.took
 
   -- what the run read and wrote
-  pub runs_threaded : Collects c.tallied w before mid k → (k.phase ≡ Writing → ⊥) → Runs form c f r (feed_in new.forward) (feed_in new.reverse) before mid k.total k.halt why (failed_in k.phase)
+  pub runs_threaded : Collects c.tallied w before mid k → (k.phase ≡ Writing → ⊥) →
+      Runs form c f r (feed_in new.forward) (feed_in new.reverse) before mid k.total k.halt why
+      (failed_in k.phase)
   runs_threaded collects over =
-      runs_passed form c f r _ _ old new before mid k.total k.halt why (failed_in k.phase) is refl refl (passes_by k.phase collects.written collects.total collects.writes over)
+      runs_passed form c f r _ _ old new before mid k.total k.halt why (failed_in k.phase) is refl
+          refl (passes_by k.phase collects.written collects.total collects.writes over)

@@ -11,22 +11,22 @@ use Rattle.fq_pair.specs.declared.out.Out.{Out}
 use Rattle.fq_work.specs.declared.ends.WorkEnds.{WorkEnds}
 use Rattle.fq_work.specs.declared.ends.Worked.{Worked}
 use Rattle.fq_work.specs.declared.reply.Reply.{Reply}
-use Rattle.fq_serial.specs.Choices.{Choices}
+use Rattle.fq_run_core.specs.Choices.{Choices}
 use Rattle.fq_run.specs.lanes.Laying.{fresh, Laid, IsLaid, AreFor}
 use Rattle.fq_run.specs.crew.Workers.{Seated}
 use Rattle.fq_run.specs.Confirming.{Confirmed}
-use Rattle.fq_serial.specs.Devices.{OutletStates}
+use Rattle.fq_run_core.specs.Devices.{OutletStates}
 use Rattle.fq_run.specs.Each.{Each3}
-use Rattle.fq_serial.specs.Endings.{Run, AreTold, ends_whole, IsTrimmed, IsUntouched, EveryEnding}
-use Rattle.fq_serial.specs.Outcomes.{outcome_of}
+use Rattle.fq_run_core.specs.Endings.{Run, AreTold, ends_whole, IsTrimmed, IsUntouched, EveryEnding}
+use Rattle.fq_run_core.specs.Outcomes.{outcome_of}
 use Rattle.fq_pair.specs.Walks.{SourceState}
-use Rattle.fq_serial.specs.PairsRead.{fresh_source, feed_in}
-use Rattle.fq_serial.specs.Writing.{occurred}
+use Rattle.fq_run_core.specs.PairsRead.{fresh_source, feed_in}
+use Rattle.fq_run_core.specs.Writing.{occurred}
 use Rattle.fq_run.specs.declared.collector.Collector.{Collector}
 use Rattle.fq_run.specs.declared.dealer.Dealer.{Dealer}
 use Rattle.fq_run.specs.declared.dealer.dealt.Dealt.{Dealt}
 use Rattle.fq_run.specs.declared.conclusion.Conclusion.{Conclusion}
-use Rattle.fq_serial.specs.declared.outcome.Outcome.TheVariants as outcome
+use Rattle.fq_run_core.specs.declared.outcome.Outcome.TheVariants as outcome
 use Rattle.fq_run.specs.declared.lanes.Lanes.{Lanes}
 use Rattle.fq_run.specs.declared.ready.Ready.{Ready}
 use Rattle.fq_run.specs.declared.crew.Crew.{Crew}

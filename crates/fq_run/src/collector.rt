@@ -3,8 +3,8 @@
 ghost use Rattle.std.specs.Prelude.{◌≡◌, ◌≢◌, ◌+◌, ◌<◌, [], None, Bool, IsTrue, is_some, min, if◌then◌else◌, vec_len};
 ghost use Rattle.fq_run.specs.collector.Collecting.{Collects, TookAll, before_stop, failed_in};
 ghost use Rattle.fq_run.specs.Shares.{gather};
-ghost use Rattle.fq_serial.specs.Totals.{no_total};
-ghost use Rattle.fq_serial.specs.Devices.{OutletStates, outlet_states, AreHealthy};
+ghost use Rattle.fq_run_core.specs.Totals.{no_total};
+ghost use Rattle.fq_run_core.specs.Devices.{OutletStates, outlet_states, AreHealthy};
 ghost use Rattle.fq_run.specs.lanes.Items.{names_of, lists_of, AllClosed, IsDealt};
 ghost use Rattle.fq_run.specs.collector.Stops.{HearsAll, Drains};
 
@@ -15,8 +15,8 @@ mod stops;
 use crate::turns::next_turn;
 use ends::CollectorEnds;
 use fq_lane::Taken;
-use fq_serial::Outlets;
-use fq_serial::shared::{Halt, Total};
+use fq_run_core::Outlets;
+use fq_run_core::shared::{Halt, Total};
 use fq_text::Outlet;
 use fq_work::Reply;
 use phase::Phase;

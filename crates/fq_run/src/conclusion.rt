@@ -1,8 +1,8 @@
 //! What a run on several threads returns, over any source of pairs.
 
 use fq_lane::NotEnded;
-use fq_serial::Outcome;
-use fq_serial::shared::Total;
+use fq_run_core::Outcome;
+use fq_run_core::shared::Total;
 use fq_text::MemoryRefused;
 
 /// How a run on several threads ended, and what it returns.
@@ -22,7 +22,7 @@ pub(crate) struct Conclusion<S> {
 
 impl<S> Conclusion<S> {
     ghost use Rattle.std.specs.Prelude.{◌≡◌, false, Some, None};
-    ghost use Rattle.fq_serial.specs.Totals.{no_total};
+    ghost use Rattle.fq_run_core.specs.Totals.{no_total};
 
     /// The conclusion of a run to which memory was refused before its threads were started.
     pub(crate) fn refused(source: S, refused: MemoryRefused) -> Conclusion<S>

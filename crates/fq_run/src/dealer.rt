@@ -17,8 +17,8 @@ use ends::DealerEnds;
 use fq_block::Block;
 use fq_lane::{End, NotEnded, Rx};
 use fq_pair::PairReader;
-use fq_serial::Settings;
-use fq_serial::shared::ReadingEnd;
+use fq_run_core::Settings;
+use fq_run_core::shared::ReadingEnd;
 use std::alloc::Global;
 use std::sync::Wait;
 

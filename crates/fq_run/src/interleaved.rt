@@ -2,15 +2,15 @@
 
 ghost use Rattle.std.specs.Prelude.{◌≡◌, ◌≢◌, None, IsTrue, IsSome};
 ghost use Rattle.std.specs.Option.{option_map};
-ghost use Rattle.fq_serial.specs.Devices.{outlet_states, AreHealthy};
-ghost use Rattle.fq_serial.specs.Endings.{interleaved_run_of, AreTold, ends_whole, IsTrimmed, IsUntouched, EveryEnding};
+ghost use Rattle.fq_run_core.specs.Devices.{outlet_states, AreHealthy};
+ghost use Rattle.fq_run_core.specs.Endings.{interleaved_run_of, AreTold, ends_whole, IsTrimmed, IsUntouched, EveryEnding};
 ghost use Rattle.fq_run.specs.Threads.{IsThreaded};
 
 use crate::conclusion::Conclusion;
 use crate::threads::run;
 use fq_pair::{Counts, MixedSource};
-use fq_serial::shared::{Halt, Occurred, ReadingEnd, open_interleaved};
-use fq_serial::{MixedEnding, Outcome, Outlets, Settings};
+use fq_run_core::shared::{Halt, Occurred, ReadingEnd, open_interleaved};
+use fq_run_core::{MixedEnding, Outcome, Outlets, Settings};
 use fq_text::{Feed, Outlet};
 use fq_work::Gate;
 use std::alloc::Global;

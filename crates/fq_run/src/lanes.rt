@@ -7,8 +7,8 @@ use crate::dealer::Dealer;
 use crate::ready::Ready;
 use fq_block::Block;
 use fq_lane::{End, NotEnded, Rx, Tx, lane};
-use fq_serial::Settings;
-use fq_serial::shared::Total;
+use fq_run_core::Settings;
+use fq_run_core::shared::Total;
 use fq_text::MemoryRefused;
 use fq_work::Worked;
 use seats::{Seats, lay};
@@ -30,7 +30,7 @@ pub(crate) struct Lanes {
 impl Lanes {
     ghost use Rattle.std.specs.Prelude.{◌≡◌, IfOk};
     ghost use Rattle.fq_run.specs.Threads.{AreLaidOut, IsReady};
-    ghost use Rattle.fq_serial.specs.Totals.{no_total};
+    ghost use Rattle.fq_run_core.specs.Totals.{no_total};
 
     /// Makes all lanes, and allocates the total.
     pub(crate) fn new(alloc: Global, settings: &Settings) -> Result<Lanes, MemoryRefused>

@@ -26,7 +26,7 @@ mod conclusion;
 mod confirming;
 pub mod laws;
 
-pub use fq_serial::{
+pub use fq_run_core::{
     BadSetting, Ending, MixedEnding, Outcome, Outlets, Settings, run_serial, run_serial_mixed,
 };
 pub use interleaved::run_threads_mixed;

@@ -3,7 +3,7 @@
 use crate::collector::ends::CollectorEnds;
 use crate::crew::job::Job;
 use fq_lane::Tx;
-use fq_serial::shared::Total;
+use fq_run_core::shared::Total;
 use fq_work::{WorkEnds, Worked};
 use std::thread::PromisedHandle;
 

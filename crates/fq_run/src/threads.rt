@@ -3,8 +3,8 @@
 ghost use Rattle.std.specs.Prelude.{◌≡◌, ◌≤◌, ◌^◌, true, IfOk, vec_len};
 ghost use Rattle.fq_text.specs.Reading.{text_limit};
 ghost use Rattle.fq_run.specs.Confirming.{CanConfirm};
-ghost use Rattle.fq_serial.specs.Totals.{no_total};
-ghost use Rattle.fq_serial.specs.Devices.{outlet_states, AreHealthy};
+ghost use Rattle.fq_run_core.specs.Totals.{no_total};
+ghost use Rattle.fq_run_core.specs.Devices.{outlet_states, AreHealthy};
 ghost use Rattle.fq_run.specs.Each.{Each3};
 ghost use Rattle.fq_run.specs.Threads.{IsReady, IsFresh, IsManned, run_from, IsThreaded, Concludes};
 
@@ -21,8 +21,8 @@ use crate::lanes::Lanes;
 use crate::ready::Ready;
 use fq_lane::{End, NotEnded};
 use fq_pair::{Out, PairReader};
-use fq_serial::shared::{Occurred, Total};
-use fq_serial::{Outcome, Outlets, Settings};
+use fq_run_core::shared::{Occurred, Total};
+use fq_run_core::{Outcome, Outlets, Settings};
 use fq_text::Outlet;
 use fq_work::{Gate, Worked};
 use std::alloc::Global;

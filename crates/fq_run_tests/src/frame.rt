@@ -1,7 +1,7 @@
 //! What the tests of runs share.
 
 ghost use Rattle.std.specs.Prelude.{◌≡◌, ◌<◌, true, [], IfOk};
-ghost use Rattle.fq_serial.specs.Devices.{outlet_states, AreHealthy};
+ghost use Rattle.fq_run_core.specs.Devices.{outlet_states, AreHealthy};
 
 use fq_pair::{Counts, Out};
 use fq_run::{Ending, Outcome, Outlets, Settings, run_serial, run_threads};

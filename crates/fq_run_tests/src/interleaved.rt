@@ -1,7 +1,7 @@
 //! Runs over an interleaved input.
 
 ghost use Rattle.std.specs.Prelude.{◌≡◌, true};
-ghost use Rattle.fq_serial.specs.Devices.{outlet_states, AreHealthy};
+ghost use Rattle.fq_run_core.specs.Devices.{outlet_states, AreHealthy};
 
 use super::frame::{Given, Left, Wanted, assert_left, feed, outlets, settings_of, with_defaults};
 use super::rows::five_pairs;

@@ -1,7 +1,7 @@
 //! Threads that must see each other.
 
 ghost use Rattle.std.specs.Prelude.{◌≡◌, ◌<◌, ◌+◌, ◌^◌, false, [], IfOk};
-ghost use Rattle.fq_serial.specs.Devices.{outlet_states, AreHealthy};
+ghost use Rattle.fq_run_core.specs.Devices.{outlet_states, AreHealthy};
 
 use super::frame::{
     Given, Wanted, assert_ended, assert_run_with_gate, feed, nothing, settings_with, threaded,

@@ -1,7 +1,7 @@
 //! How a run uses its gate and the depth of its lanes, and what it does with outlets after a stop.
 
 ghost use Rattle.std.specs.Prelude.{◌≡◌, ◌+◌, ◌<◌, ◌^◌, None, false, true, []};
-ghost use Rattle.fq_serial.specs.Devices.{outlet_states, AreHealthy};
+ghost use Rattle.fq_run_core.specs.Devices.{outlet_states, AreHealthy};
 
 use super::frame::{
     Given, Left, Wanted, assert_ended, assert_reads, assert_run_with_gate, feed, nothing, outlets,

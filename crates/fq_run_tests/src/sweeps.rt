@@ -1,7 +1,7 @@
 //! Runs in which each call on a device fails in turn.
 
 ghost use Rattle.std.specs.Prelude.{◌≡◌, true};
-ghost use Rattle.fq_serial.specs.Devices.{outlet_states, AreHealthy};
+ghost use Rattle.fq_run_core.specs.Devices.{outlet_states, AreHealthy};
 
 use super::frame::{
     Given, Left, assert_left, feed, left_of, outlets, serial, settings_of, threaded, with_defaults,

@@ -22,13 +22,15 @@ or_true : (a b : Bool) → b ≡ true → a || b ≡ true
 or_true true b is = refl
 or_true false b is = is
 
-pub scored_lanes : (e : Encoding) (q : List ℕ) → list_all (is_scored e) q ≡ true → list_all (is_lane e) q ≡ true
+pub scored_lanes : (e : Encoding) (q : List ℕ) → list_all (is_scored e) q ≡ true →
+    list_all (is_lane e) q ≡ true
 scored_lanes e [] all = refl
 scored_lanes e (b ∷ bs) all =
     let parts = and_parts (is_scored e b) (list_all (is_scored e) bs) all in
     and_from _ _ (or_true (eqb b 0) (is_scored e b) parts.0) (scored_lanes e bs parts.1)
 
-pub lanes_in_front : (e : Encoding) (k : ℕ) (q : List ℕ) → list_all (is_scored e) q ≡ true → list_all (is_lane e) (replicate k 0 ++ q) ≡ true
+pub lanes_in_front : (e : Encoding) (k : ℕ) (q : List ℕ) → list_all (is_scored e) q ≡ true →
+    list_all (is_lane e) (replicate k 0 ++ q) ≡ true
 lanes_in_front e zero q all = scored_lanes e q all
 lanes_in_front e (suc k) q all = lanes_in_front e k q all
 
@@ -36,22 +38,28 @@ no_lanes : (e : Encoding) (k : ℕ) → list_all (is_lane e) (replicate k 0) ≡
 no_lanes e zero = refl
 no_lanes e (suc k) = no_lanes e k
 
-pub lanes_then_none : (e : Encoding) (k : ℕ) (q : List ℕ) → list_all (is_scored e) q ≡ true → list_all (is_lane e) (q ++ replicate k 0) ≡ true
-lanes_then_none e k q all = list_all-append (is_lane e) q (replicate k 0) ∙ and_from _ _ (scored_lanes e q all) (no_lanes e k)
+pub lanes_then_none : (e : Encoding) (k : ℕ) (q : List ℕ) → list_all (is_scored e) q ≡ true →
+    list_all (is_lane e) (q ++ replicate k 0) ≡ true
+lanes_then_none e k q all = list_all-append (is_lane e) q (replicate k 0)
+    ∙ and_from _ _ (scored_lanes e q all) (no_lanes e k)
 
 -- Facts of a few reads that say less.
-row_weaker : (rows rows' len len' most most' : ℕ) (xs : List ℕ) → IsFew rows len most xs → rows' ≤ rows → len ≤ len' → most ≤ most' → IsFew rows' len' most' xs
+row_weaker : (rows rows' len len' most most' : ℕ) (xs : List ℕ) → IsFew rows len most xs →
+    rows' ≤ rows → len ≤ len' → most ≤ most' → IsFew rows' len' most' xs
 row_weaker rows rows' len len' most most' xs few less order bound = record {
   size = let size = few.size in omega arith;
   behind = λ k from. few.behind k (omega arith);
   small = λ k. let one = few.small k in omega arith;
 }
 
-pub few_weaker : (x : Columns) (rows rows' len len' reads reads' : ℕ) → AreFew rows len reads x → rows' ≤ rows → len ≤ len' → reads ≤ reads' → AreFew rows' len' reads' x
+pub few_weaker : (x : Columns) (rows rows' len len' reads reads' : ℕ) → AreFew rows len reads x →
+    rows' ≤ rows → len ≤ len' → reads ≤ reads' → AreFew rows' len' reads' x
 few_weaker x rows rows' len len' reads reads' few less order bound = record {
   bases = row_weaker rows rows' len len' reads reads' x.bases few.bases less order bound;
-  score_sum = row_weaker rows rows' len len' (93 * reads) (93 * reads') x.score_sum few.score_sum less order (omega arith);
-  q30_bases = row_weaker rows rows' len len' reads reads' x.q30_bases few.q30_bases less order bound;
+  score_sum = row_weaker rows rows' len len' (93 * reads) (93 * reads') x.score_sum few.score_sum
+      less order (omega arith);
+  q30_bases = row_weaker rows rows' len len' reads reads' x.q30_bases few.q30_bases less order
+      bound;
   a = row_weaker rows rows' len len' reads reads' x.a few.a less order bound;
   c = row_weaker rows rows' len len' reads reads' x.c few.c less order bound;
   g = row_weaker rows rows' len len' reads reads' x.g few.g less order bound;
@@ -60,27 +68,37 @@ few_weaker x rows rows' len len' reads reads' few less order bound = record {
 }
 
 -- nothing is counted
-row_nothing : (rows len most at : ℕ) (xs : List ℕ) → IsFew rows len most xs → most ≤ 65535 → at ≤ rows → xs ≡ rows_plus xs (replicate at 0 ++ [])
+row_nothing : (rows len most at : ℕ) (xs : List ℕ) → IsFew rows len most xs → most ≤ 65535 →
+    at ≤ rows → xs ≡ rows_plus xs (replicate at 0 ++ [])
 row_nothing rows len most at xs few bound within =
     let size = few.size in
     let small : Small xs = λ k. let one = few.small k in omega arith in
     grown_within xs at small (omega arith) ∙ ap (rows_plus xs) (sym (append-nil (replicate at 0)))
 
-lanes_nothing : (x : Columns) (rows len reads at : ℕ) (e : Encoding) → AreFew rows len reads x → reads ≤ 254 → at ≤ rows → x ≡ columns_plus x (lanes_at at e [] [])
+lanes_nothing : (x : Columns) (rows len reads at : ℕ) (e : Encoding) → AreFew rows len reads x →
+    reads ≤ 254 → at ≤ rows → x ≡ columns_plus x (lanes_at at e [] [])
 lanes_nothing x rows len reads at e few bound within =
     columns_same x (columns_plus x (lanes_at at e [] []))
-    (row_nothing rows len reads at x.bases few.bases (omega arith) within) (row_nothing rows len (93 * reads) at x.score_sum few.score_sum (omega arith) within)
-    (row_nothing rows len reads at x.q30_bases few.q30_bases (omega arith) within) (row_nothing rows len reads at x.a few.a (omega arith) within)
-    (row_nothing rows len reads at x.c few.c (omega arith) within) (row_nothing rows len reads at x.g few.g (omega arith) within)
-    (row_nothing rows len reads at x.t few.t (omega arith) within) (row_nothing rows len reads at x.n few.n (omega arith) within)
+    (row_nothing rows len reads at x.bases few.bases (omega arith) within)
+        (row_nothing rows len (93 * reads) at x.score_sum few.score_sum (omega arith) within)
+    (row_nothing rows len reads at x.q30_bases few.q30_bases (omega arith) within)
+        (row_nothing rows len reads at x.a few.a (omega arith) within)
+    (row_nothing rows len reads at x.c few.c (omega arith) within)
+        (row_nothing rows len reads at x.g few.g (omega arith) within)
+    (row_nothing rows len reads at x.t few.t (omega arith) within)
+        (row_nothing rows len reads at x.n few.n (omega arith) within)
 
-pub nothing_counted : (x : Columns) (rows len reads at : ℕ) (e : Encoding) → AreFew rows len reads x → reads ≤ 254 → at ≤ 10000 → at ≤ rows → x ≡ columns_plus x (columns_from at e [] [])
+pub nothing_counted : (x : Columns) (rows len reads at : ℕ) (e : Encoding) →
+    AreFew rows len reads x → reads ≤ 254 → at ≤ 10000 → at ≤ rows →
+    x ≡ columns_plus x (columns_from at e [] [])
 nothing_counted x rows len reads at e few bound near within =
-    lanes_nothing x rows len reads at e few bound within ∙ ap (columns_plus x) (lanes_are_columns at e [] [] refl refl (omega arith))
+    lanes_nothing x rows len reads at e few bound within
+        ∙ ap (columns_plus x) (lanes_are_columns at e [] [] refl refl (omega arith))
 
 -- What is counted of one read.
 module _ (start now : Columns) (at from : ℕ) (e : Encoding) (seq qual : List ℕ) (so_far : now ≡ columns_plus start (columns_from at e (take from seq) (take from qual)))
-    (same : length qual ≡ length seq) (near : at + length qual ≤ 10000) (scored : list_all (is_scored e) qual ≡ true) (within : from ≤ length seq) where
+    (same : length qual ≡ length seq) (near : at + length qual ≤ 10000)
+        (scored : list_all (is_scored e) qual ≡ true) (within : from ≤ length seq) where
   front_s : length (take from seq) ≡ from
   front_s = length-take-le from seq within
 
@@ -93,7 +111,8 @@ module _ (start now : Columns) (at from : ℕ) (e : Encoding) (seq qual : List �
   rest_scored : list_all (is_scored e) (drop from qual) ≡ true
   rest_scored = all_dropped (is_scored e) qual from scored
 
-  pub vector_next : (new : Columns) → from + 32 ≤ length seq → new ≡ columns_plus now (lanes_at (at + from) e (chunk from 32 seq) (chunk from 32 qual)) →
+  pub vector_next : (new : Columns) → from + 32 ≤ length seq →
+      new ≡ columns_plus now (lanes_at (at + from) e (chunk from 32 seq) (chunk from 32 qual)) →
       new ≡ columns_plus start (columns_from at e (take (from + 32) seq) (take (from + 32) qual))
   vector_next new room here =
       let s = length-chunk from 32 seq room in
@@ -102,90 +121,137 @@ module _ (start now : Columns) (at from : ℕ) (e : Encoding) (seq qual : List �
       let fq = front_q in
       let all = all_taken (is_scored e) (drop from qual) 32 rest_scored in
       here
-      ∙ ap₂ columns_plus so_far (lanes_are_columns (at + from) e (chunk from 32 seq) (chunk from 32 qual) all (omega arith) (omega arith))
-      ∙ columns_assoc start (columns_from at e (take from seq) (take from qual)) (columns_from (at + from) e (chunk from 32 seq) (chunk from 32 qual))
-      ∙ ap (columns_plus start) (columns_joined at (at + from) e (take from seq) (take from qual) (chunk from 32 seq) (chunk from 32 qual) (omega arith) (omega arith) (omega arith) (omega arith) (omega arith) front_scored all)
-      ∙ ap₂ (λ x y. columns_plus start (columns_from at e x y)) (sym (take-add from 32 seq)) (sym (take-add from 32 qual))
+      ∙ ap₂ columns_plus so_far (lanes_are_columns (at + from) e (chunk from 32 seq) (chunk from 32
+          qual) all (omega arith) (omega arith))
+      ∙ columns_assoc start (columns_from at e (take from seq) (take from qual))
+          (columns_from (at + from) e (chunk from 32 seq) (chunk from 32 qual))
+      ∙ ap (columns_plus start) (columns_joined at (at + from) e (take from seq) (take from qual)
+          (chunk from 32 seq) (chunk from 32 qual) (omega arith) (omega arith) (omega arith)
+          (omega arith) (omega arith) front_scored all)
+      ∙ ap₂ (λ x y. columns_plus start (columns_from at e x y)) (sym (take-add from 32 seq))
+          (sym (take-add from 32 qual))
 
-  pub rest_next : (new : Columns) → new ≡ columns_plus now (columns_from (at + from) e (drop from seq) (drop from qual)) → new ≡ columns_plus start (columns_from at e seq qual)
+  pub rest_next : (new : Columns) →
+      new ≡ columns_plus now (columns_from (at + from) e (drop from seq) (drop from qual)) →
+      new ≡ columns_plus start (columns_from at e seq qual)
   rest_next new here =
       let s = length-drop from seq in
       let q = length-drop from qual in
       let fs = front_s in
       let fq = front_q in
       here
-      ∙ ap (λ x. columns_plus x (columns_from (at + from) e (drop from seq) (drop from qual))) so_far
-      ∙ columns_assoc start (columns_from at e (take from seq) (take from qual)) (columns_from (at + from) e (drop from seq) (drop from qual))
-      ∙ ap (columns_plus start) (columns_joined at (at + from) e (take from seq) (take from qual) (drop from seq) (drop from qual) (omega arith) (omega arith) (omega arith) (omega arith) (omega arith) front_scored rest_scored)
-      ∙ ap₂ (λ x y. columns_plus start (columns_from at e x y)) (take-append-drop from seq) (take-append-drop from qual)
+      ∙ ap (λ x. columns_plus x (columns_from (at + from) e (drop from seq) (drop from qual)))
+          so_far
+      ∙ columns_assoc start (columns_from at e (take from seq) (take from qual))
+          (columns_from (at + from) e (drop from seq) (drop from qual))
+      ∙ ap (columns_plus start) (columns_joined at (at + from) e (take from seq) (take from qual)
+          (drop from seq) (drop from qual) (omega arith) (omega arith) (omega arith) (omega arith)
+          (omega arith) front_scored rest_scored)
+      ∙ ap₂ (λ x y. columns_plus start (columns_from at e x y)) (take-append-drop from seq)
+          (take-append-drop from qual)
 
   pub all_counted : length seq ≤ from → now ≡ columns_plus start (columns_from at e seq qual)
-  all_counted done = so_far ∙ ap₂ (λ x y. columns_plus start (columns_from at e x y)) (take_all from seq done) (take_all from qual (omega arith))
+  all_counted done = so_far ∙ ap₂ (λ x y. columns_plus start (columns_from at e x y))
+      (take_all from seq done) (take_all from qual (omega arith))
 
-  pub still_few : (rows : ℕ) → at + length qual ≤ rows → AreFew rows 10032 253 start → AreFew rows 10032 254 now
+  pub still_few : (rows : ℕ) → at + length qual ≤ rows → AreFew rows 10032 253 start →
+      AreFew rows 10032 254 now
   still_few rows room few =
       let fs = front_s in
       let fq = front_q in
-      let more = lanes_more start rows 10032 10032 253 at e (take from seq) (take from qual) few front_scored (omega arith) (omega arith) (omega arith) (omega arith) in
-      subst (λ x. AreFew rows 10032 254 x) (ap (columns_plus start) (lanes_are_columns at e (take from seq) (take from qual) front_scored (omega arith) (omega arith)) ∙ sym so_far) more
+      let more = lanes_more start rows 10032 10032 253 at e (take from seq) (take from qual) few
+          front_scored (omega arith) (omega arith) (omega arith) (omega arith) in
+      subst (λ x. AreFew rows 10032 254 x) (ap (columns_plus start) (lanes_are_columns at e
+          (take from seq) (take from qual) front_scored (omega arith) (omega arith))
+          ∙ sym so_far) more
 
 -- The last bases of a read, in the last lanes of a vector and in the first.
-pub rest_in_last : (old new : Columns) (at from start k : ℕ) (e : Encoding) (seq qual bases bytes : List ℕ) → start + k ≡ from →
-    bases ≡ replicate k 0 ++ drop k (drop start seq) → bytes ≡ replicate k 0 ++ drop k (drop start qual) →
-    length qual ≡ length seq → at + length qual ≤ 10000 → from ≤ length seq → list_all (is_scored e) qual ≡ true →
-    new ≡ columns_plus old (lanes_at (at + start) e bases bytes) → new ≡ columns_plus old (columns_from (at + from) e (drop from seq) (drop from qual))
+pub rest_in_last : (old new : Columns) (at from start k : ℕ) (e : Encoding)
+    (seq qual bases bytes : List ℕ) → start + k ≡ from →
+    bases ≡ replicate k 0 ++ drop k (drop start seq) →
+        bytes ≡ replicate k 0 ++ drop k (drop start qual) →
+    length qual ≡ length seq → at + length qual ≤ 10000 → from ≤ length seq →
+        list_all (is_scored e) qual ≡ true →
+    new ≡ columns_plus old (lanes_at (at + start) e bases bytes) →
+        new ≡ columns_plus old (columns_from (at + from) e (drop from seq) (drop from qual))
 rest_in_last old new at from start k e seq qual bases bytes place s q same near within scored here =
     let ls = length-drop from seq in
     let lq = length-drop from qual in
     here
     ∙ ap₂ (λ x y. columns_plus old (lanes_at (at + start) e x y)) s q
-    ∙ ap (columns_plus old) (lanes_moved (at + start) k e (drop k (drop start seq)) (drop k (drop start qual)))
-    ∙ ap₂ (λ x y. columns_plus old (lanes_at (at + start + k) e x y)) (drop-drop k start seq ∙ ap (λ n. drop n seq) place) (drop-drop k start qual ∙ ap (λ n. drop n qual) place)
+    ∙ ap (columns_plus old) (lanes_moved (at + start) k e (drop k (drop start seq)) (drop k
+        (drop start qual)))
+    ∙ ap₂ (λ x y. columns_plus old (lanes_at (at + start + k) e x y)) (drop-drop k start seq
+        ∙ ap (λ n. drop n seq) place) (drop-drop k start qual ∙ ap (λ n. drop n qual) place)
     ∙ ap (λ n. columns_plus old (lanes_at n e (drop from seq) (drop from qual))) (omega arith)
-    ∙ ap (columns_plus old) (lanes_are_columns (at + from) e (drop from seq) (drop from qual) (all_dropped (is_scored e) qual from scored) (omega arith) (omega arith))
+    ∙ ap (columns_plus old) (lanes_are_columns (at + from) e (drop from seq) (drop from qual)
+        (all_dropped (is_scored e) qual from scored) (omega arith) (omega arith))
 
-pub rest_in_first : (old new : Columns) (rows at from k m : ℕ) (e : Encoding) (seq qual bases bytes : List ℕ) →
-    bases ≡ drop from seq ++ replicate k 0 → bytes ≡ drop from qual ++ replicate m 0 → k ≡ 32 - length (drop from seq) → m ≡ 32 - length (drop from qual) →
-    length qual ≡ length seq → at + length qual ≤ 10000 → from ≤ length seq → length seq ≤ from + 32 → list_all (is_scored e) qual ≡ true → at + (from + 32) ≤ rows → AreFew rows 10032 254 old →
-    new ≡ columns_plus old (lanes_at (at + from) e bases bytes) → new ≡ columns_plus old (columns_from (at + from) e (drop from seq) (drop from qual))
-rest_in_first old new rows at from k m e seq qual bases bytes s q k_is m_is same near within less scored room few here =
+pub rest_in_first : (old new : Columns) (rows at from k m : ℕ) (e : Encoding)
+    (seq qual bases bytes : List ℕ) →
+    bases ≡ drop from seq ++ replicate k 0 → bytes ≡ drop from qual ++ replicate m 0 →
+        k ≡ 32 - length (drop from seq) → m ≡ 32 - length (drop from qual) →
+    length qual ≡ length seq → at + length qual ≤ 10000 → from ≤ length seq →
+        length seq ≤ from + 32 → list_all (is_scored e) qual ≡ true → at + (from + 32) ≤ rows →
+        AreFew rows 10032 254 old →
+    new ≡ columns_plus old (lanes_at (at + from) e bases bytes) →
+        new ≡ columns_plus old (columns_from (at + from) e (drop from seq) (drop from qual))
+rest_in_first old new rows at from k m e seq qual bases bytes s q k_is m_is same near within less
+    scored room few here =
     let ls = length-drop from seq in
     let lq = length-drop from qual in
     let equal : m ≡ k = omega arith in
     here
-    ∙ ap₂ (λ x y. columns_plus old (lanes_at (at + from) e x y)) s (q ∙ ap (λ n. drop from qual ++ replicate n 0) equal)
-    ∙ lanes_behind old rows 10032 254 (at + from) k e (drop from seq) (drop from qual) few (omega arith) (omega arith) (omega arith)
-    ∙ ap (columns_plus old) (lanes_are_columns (at + from) e (drop from seq) (drop from qual) (all_dropped (is_scored e) qual from scored) (omega arith) (omega arith))
+    ∙ ap₂ (λ x y. columns_plus old (lanes_at (at + from) e x y)) s (q
+        ∙ ap (λ n. drop from qual ++ replicate n 0) equal)
+    ∙ lanes_behind old rows 10032 254 (at + from) k e (drop from seq) (drop from qual) few
+        (omega arith) (omega arith) (omega arith)
+    ∙ ap (columns_plus old) (lanes_are_columns (at + from) e (drop from seq) (drop from qual)
+        (all_dropped (is_scored e) qual from scored) (omega arith) (omega arith))
 
 -- One more read among a few.
-pub read_added : (totals x y : Columns) (rows reached reads at end : ℕ) (e : Encoding) (seq qual : List ℕ) → AreFew rows reached reads x → reached ≤ rows → end ≤ rows →
-    y ≡ columns_plus x (columns_from at e seq qual) → length qual ≡ length seq → end ≡ at + length seq → end ≤ 10000 → list_all (is_scored e) qual ≡ true →
-    columns_plus totals (first_rows (max reached end) y) ≡ columns_plus (columns_plus totals (first_rows reached x)) (columns_from at e seq qual)
-read_added totals x y rows reached reads at end e seq qual few near room here same end_is within scored =
+pub read_added : (totals x y : Columns) (rows reached reads at end : ℕ) (e : Encoding)
+    (seq qual : List ℕ) → AreFew rows reached reads x → reached ≤ rows → end ≤ rows →
+    y ≡ columns_plus x (columns_from at e seq qual) → length qual ≡ length seq →
+        end ≡ at + length seq → end ≤ 10000 → list_all (is_scored e) qual ≡ true →
+    columns_plus totals (first_rows (max reached end) y)
+        ≡ columns_plus (columns_plus totals (first_rows reached x)) (columns_from at e seq qual)
+read_added totals x y rows reached reads at end e seq qual few near room here same end_is within
+    scored =
     let as_lanes = lanes_are_columns at e seq qual scored same (omega arith) in
-    ap (λ z. columns_plus totals (first_rows (max reached end) z)) (here ∙ ap (columns_plus x) (sym as_lanes))
-    ∙ ap (columns_plus totals) (lanes_cut x rows reached (max reached end) reads at e seq qual few scored same (omega arith) (omega arith))
+    ap (λ z. columns_plus totals (first_rows (max reached end) z)) (here
+        ∙ ap (columns_plus x) (sym as_lanes))
+    ∙ ap (columns_plus totals) (lanes_cut x rows reached (max reached end) reads at e seq qual few
+        scored same (omega arith) (omega arith))
     ∙ ap (λ z. columns_plus totals (columns_plus (first_rows reached x) z)) as_lanes
     ∙ sym (columns_assoc totals (first_rows reached x) (columns_from at e seq qual))
 
-pub read_few : (x y : Columns) (rows reached reads at end : ℕ) (e : Encoding) (seq qual : List ℕ) → AreFew rows reached reads x → end ≤ rows →
-    y ≡ columns_plus x (columns_from at e seq qual) → length qual ≡ length seq → end ≡ at + length seq → end ≤ 10000 → list_all (is_scored e) qual ≡ true →
+pub read_few : (x y : Columns) (rows reached reads at end : ℕ) (e : Encoding) (seq qual : List ℕ) →
+    AreFew rows reached reads x → end ≤ rows →
+    y ≡ columns_plus x (columns_from at e seq qual) → length qual ≡ length seq →
+        end ≡ at + length seq → end ≤ 10000 → list_all (is_scored e) qual ≡ true →
     AreFew rows (max reached end) (reads + 1) y
 read_few x y rows reached reads at end e seq qual few room here same end_is within scored =
     let as_lanes = lanes_are_columns at e seq qual scored same (omega arith) in
-    subst (λ z. AreFew rows (max reached end) (reads + 1) z) (ap (columns_plus x) as_lanes ∙ sym here)
-    (lanes_more x rows reached (max reached end) reads at e seq qual few scored same (omega arith) (omega arith) (omega arith))
+    subst (λ z. AreFew rows (max reached end) (reads + 1) z) (ap (columns_plus x) as_lanes
+        ∙ sym here)
+    (lanes_more x rows reached (max reached end) reads at e seq qual few scored same (omega arith)
+        (omega arith) (omega arith))
 
 -- One more byte is converted.
-pub converted_next : (f : ℕ → ℕ) (bytes scores : List ℕ) (i r : ℕ) → scores ≡ map f (take i bytes) ++ drop i bytes → i < length bytes → r ≡ f (get_or scores i 0) →
+pub converted_next : (f : ℕ → ℕ) (bytes scores : List ℕ) (i r : ℕ) →
+    scores ≡ map f (take i bytes) ++ drop i bytes → i < length bytes → r ≡ f (get_or scores i 0) →
     set scores i r ≡ map f (take (i + 1) bytes) ++ drop (i + 1) bytes
 converted_next f bytes scores i r so_far within here =
     let front : List ℕ = map f (take i bytes) in
     let rest : List ℕ = drop (i + 1) bytes in
     let b = get_or bytes i 0 in
-    let size : length front ≡ i = length-map (take i bytes) f ∙ length-take-le i bytes (omega arith) in
-    let parts : scores ≡ front ++ (b ∷ rest) = so_far ∙ ap (λ xs. front ++ xs) (drop_more bytes i 0 within) in
-    let value : r ≡ f b = here ∙ ap (λ xs. f (get_or xs i 0)) parts ∙ ap f (get_or_at front b rest 0 i size) in
+    let size : length front ≡ i = length-map (take i bytes) f
+        ∙ length-take-le i bytes (omega arith) in
+    let parts : scores ≡ front ++ (b ∷ rest) = so_far
+        ∙ ap (λ xs. front ++ xs) (drop_more bytes i 0 within) in
+    let value : r ≡ f b = here ∙ ap (λ xs. f (get_or xs i 0)) parts
+        ∙ ap f (get_or_at front b rest 0 i size) in
     ap₂ (λ xs x. set xs i x) parts value
     ∙ set_at front b rest (f b) i size
     ∙ sym (append_assoc front (f b ∷ []) rest)

@@ -21,26 +21,32 @@ columns_packed [] t = refl
 columns_packed (u ∷ ts) t = ap (λ us. u ∷ us) (columns_packed ts t)
 
 pub reads_packed : (ts : List (List ℕ)) (t : ReadsTally) →
-    ts ++ ((t.reads ∷ []) ∷ []) ++ bases_tables t.bases ++ ((t.shortest ∷ []) ∷ []) ++ ((t.longest ∷ []) ∷ []) ++ (t.lengths ∷ []) ++ (t.mean_scores ∷ []) ++ (t.gc_percents ∷ []) ≡ ts ++ reads_tables t
+    ts ++ ((t.reads ∷ []) ∷ []) ++ bases_tables
+        t.bases ++ ((t.shortest ∷ []) ∷ []) ++ ((t.longest ∷ []) ∷ []) ++ (t.lengths ∷ []) ++ (t.mean_scores ∷ []) ++ (t.gc_percents ∷ []) ≡ ts ++ reads_tables t
 reads_packed [] t = refl
 reads_packed (u ∷ ts) t = ap (λ us. u ∷ us) (reads_packed ts t)
 
 pub side_columns_packed : (ts : List (List ℕ)) (t : SideColumns) →
-    ts ++ columns_tables t.before ++ columns_tables t.paired ++ columns_tables t.unpaired ≡ ts ++ side_columns_tables t
+    ts ++ columns_tables t.before ++ columns_tables t.paired ++ columns_tables t.unpaired
+        ≡ ts ++ side_columns_tables t
 side_columns_packed [] t = refl
 side_columns_packed (u ∷ ts) t = ap (λ us. u ∷ us) (side_columns_packed ts t)
 
-pub three_packed : (ts ts₁ ts₂ ts₃ : List (List ℕ)) (x y z : Columns) (t : SideColumns) → ts₁ ≡ ts ++ columns_tables x → ts₂ ≡ ts₁ ++ columns_tables y → ts₃ ≡ ts₂ ++ columns_tables z →
+pub three_packed : (ts ts₁ ts₂ ts₃ : List (List ℕ)) (x y z : Columns) (t : SideColumns) →
+    ts₁ ≡ ts ++ columns_tables x → ts₂ ≡ ts₁ ++ columns_tables y → ts₃ ≡ ts₂ ++ columns_tables z →
     x ≡ t.before → y ≡ t.paired → z ≡ t.unpaired → ts₃ ≡ ts ++ side_columns_tables t
 three_packed ts ts₁ ts₂ ts₃ x y z t first second third before paired unpaired =
     third ∙ ap (λ us. us ++ columns_tables z) (second ∙ ap (λ us. us ++ columns_tables y) first)
     ∙ ap (λ (c : Columns). ts ++ columns_tables c ++ columns_tables y ++ columns_tables z) before
-    ∙ ap (λ (c : Columns). ts ++ columns_tables t.before ++ columns_tables c ++ columns_tables z) paired
-    ∙ ap (λ (c : Columns). ts ++ columns_tables t.before ++ columns_tables t.paired ++ columns_tables c) unpaired
+    ∙ ap (λ (c : Columns). ts ++ columns_tables t.before ++ columns_tables c ++ columns_tables z)
+        paired
+    ∙ ap (λ (c : Columns). ts ++ columns_tables t.before ++ columns_tables
+        t.paired ++ columns_tables c) unpaired
     ∙ side_columns_packed ts t
 
 pub side_packed : (ts : List (List ℕ)) (t : SideTally) →
-    ts ++ reads_tables t.before ++ reads_tables t.paired ++ reads_tables t.unpaired ++ ((t.front ∷ []) ∷ []) ++ ((t.behind ∷ []) ∷ []) ++ (t.removed_front ∷ []) ++ (t.removed_behind ∷ [])
+    ts ++ reads_tables t.before ++ reads_tables t.paired ++ reads_tables
+        t.unpaired ++ ((t.front ∷ []) ∷ []) ++ ((t.behind ∷ []) ∷ []) ++ (t.removed_front ∷ []) ++ (t.removed_behind ∷ [])
     ++ side_columns_tables t.positions ++ steps_tables t.steps ≡ ts ++ side_tables t
 side_packed [] t = refl
 side_packed (u ∷ ts) t = ap (λ us. u ∷ us) (side_packed ts t)
@@ -59,4 +65,5 @@ left_read t ts = refl
 pub tally_read : (t : Tally) → tally_in (tally_tables t) ≡ t
 tally_read t =
     let two : SideTally → SideTally → Tally = λ f r. record { forward = f; reverse = r } in
-    ap₂ two (side_read t.forward (side_tables t.reverse)) (ap side_in (left_read t.forward (side_tables t.reverse)) ∙ side_alone t.reverse)
+    ap₂ two (side_read t.forward (side_tables t.reverse))
+        (ap side_in (left_read t.forward (side_tables t.reverse)) ∙ side_alone t.reverse)

@@ -49,7 +49,8 @@ all_small : (ns xs : List ℕ) → SmallRows xs → SmallRows (counted_all ns xs
 all_small [] xs small = small
 all_small (n ∷ ns) xs small = all_small ns (counted n xs) (one_small (row_of n) xs small)
 
-rows_one : (row : ℕ) (xs ys : List ℕ) → SmallRows xs → with_one row (rows_plus xs ys) ≡ rows_plus xs (with_one row ys)
+rows_one : (row : ℕ) (xs ys : List ℕ) → SmallRows xs →
+    with_one row (rows_plus xs ys) ≡ rows_plus xs (with_one row ys)
 unfolding SmallRows
 rows_one row [] ys small = refl
 rows_one zero (x ∷ xs) [] small = ap (λ ns. capped_sum x 1 ∷ ns) (sym (plus_none xs))
@@ -58,15 +59,19 @@ rows_one (suc row) (x ∷ xs) [] small =
     let tail = rows_one row xs [] small.1 in
     let none = plus_none xs in cc
 rows_one zero (x ∷ xs) (y ∷ ys) small = ap (λ n. n ∷ rows_plus xs ys) (capped_assoc x y 1)
-rows_one (suc row) (x ∷ xs) (y ∷ ys) small = ap (λ ns. capped_sum x y ∷ ns) (rows_one row xs ys small.1)
+rows_one (suc row) (x ∷ xs) (y ∷ ys) small =
+    ap (λ ns. capped_sum x y ∷ ns) (rows_one row xs ys small.1)
 
-rows_if : (b : Bool) (n : ℕ) (xs ys : List ℕ) → SmallRows xs → counted_if b n (rows_plus xs ys) ≡ rows_plus xs (counted_if b n ys)
+rows_if : (b : Bool) (n : ℕ) (xs ys : List ℕ) → SmallRows xs →
+    counted_if b n (rows_plus xs ys) ≡ rows_plus xs (counted_if b n ys)
 rows_if true n xs ys small = rows_one (row_of n) xs ys small
 rows_if false n xs ys small = refl
 
-rows_all : (ns xs ys : List ℕ) → SmallRows xs → counted_all ns (rows_plus xs ys) ≡ rows_plus xs (counted_all ns ys)
+rows_all : (ns xs ys : List ℕ) → SmallRows xs →
+    counted_all ns (rows_plus xs ys) ≡ rows_plus xs (counted_all ns ys)
 rows_all [] xs ys small = refl
-rows_all (n ∷ ns) xs ys small = ap (counted_all ns) (rows_one (row_of n) xs ys small) ∙ rows_all ns xs (counted n ys) small
+rows_all (n ∷ ns) xs ys small = ap (counted_all ns) (rows_one (row_of n) xs ys small)
+    ∙ rows_all ns xs (counted n ys) small
 
 -- Bases.
 
@@ -98,7 +103,8 @@ bases_assoc a b c =
     let u = capped_assoc a.n b.n c.n in cc
 
 abbrev bases_parts : BaseTally → BaseTally
-bases_parts t = record { bases = t.bases; at_least_20 = t.at_least_20; at_least_30 = t.at_least_30; score_sum = t.score_sum; gc = t.gc; n = t.n }
+bases_parts t = record { bases = t.bases; at_least_20 = t.at_least_20; at_least_30 =
+    t.at_least_30; score_sum = t.score_sum; gc = t.gc; n = t.n }
 
 bases_none : (t : BaseTally) → SmallBases t → bases_plus t no_bases ≡ t
 bases_none t small =
@@ -126,13 +132,17 @@ part_small p t small = let short = small.shortest in record {
   bases = bases_small t.bases (bases_of p);
   shortest = omega arith;
   lengths = one_small _ t.lengths small.lengths;
-  mean_scores = if_small (nat_lt 0 (length p.seq)) (mean_score (bases_of p)) t.mean_scores small.mean_scores;
-  gc_percents = if_small (nat_lt 0 (length p.seq)) (gc_percent (bases_of p)) t.gc_percents small.gc_percents;
+  mean_scores = if_small (nat_lt 0 (length p.seq)) (mean_score (bases_of p)) t.mean_scores
+      small.mean_scores;
+  gc_percents = if_small (nat_lt 0 (length p.seq)) (gc_percent (bases_of p)) t.gc_percents
+      small.gc_percents;
 }
 
 none_small : SmallReads no_reads
 unfolding SmallRows
-none_small = record { reads = omega arith; bases = record { bases = omega arith; at_least_20 = omega arith; at_least_30 = omega arith; score_sum = omega arith; gc = omega arith; n = omega arith }; shortest = omega arith; lengths = tt; mean_scores = tt; gc_percents = tt }
+none_small = record { reads = omega arith; bases = record { bases = omega arith; at_least_20 =
+    omega arith; at_least_30 = omega arith; score_sum = omega arith; gc = omega arith; n =
+    omega arith }; shortest = omega arith; lengths = tt; mean_scores = tt; gc_percents = tt }
 
 min_assoc : (a b c : ℕ) → min (min a b) c ≡ min a (min b c)
 min_assoc a b c = omega arith
@@ -146,18 +156,22 @@ min_none a small = omega arith
 max_none : (a : ℕ) → max a 0 ≡ a
 max_none a = omega arith
 
-reads_part : (p : Part) (a b : ReadsTally) → SmallReads a → with_part p (reads_plus a b) ≡ reads_plus a (with_part p b)
+reads_part : (p : Part) (a b : ReadsTally) → SmallReads a →
+    with_part p (reads_plus a b) ≡ reads_plus a (with_part p b)
 reads_part p a b small =
     let r = capped_assoc a.reads b.reads 1 in
     let s = bases_assoc a.bases b.bases (bases_of p) in
     let t = min_assoc a.shortest b.shortest (length p.seq) in
     let u = max_assoc a.longest b.longest (length p.seq) in
     let v = rows_one (row_of (length p.seq)) a.lengths b.lengths small.lengths in
-    let w = rows_if (nat_lt 0 (length p.seq)) (mean_score (bases_of p)) a.mean_scores b.mean_scores small.mean_scores in
-    let x = rows_if (nat_lt 0 (length p.seq)) (gc_percent (bases_of p)) a.gc_percents b.gc_percents small.gc_percents in cc
+    let w = rows_if (nat_lt 0 (length p.seq)) (mean_score (bases_of p)) a.mean_scores b.mean_scores
+        small.mean_scores in
+    let x = rows_if (nat_lt 0 (length p.seq)) (gc_percent (bases_of p)) a.gc_percents b.gc_percents
+        small.gc_percents in cc
 
 abbrev reads_parts : ReadsTally → ReadsTally
-reads_parts t = record { reads = t.reads; bases = t.bases; shortest = t.shortest; longest = t.longest; lengths = t.lengths; mean_scores = t.mean_scores; gc_percents = t.gc_percents }
+reads_parts t = record { reads = t.reads; bases = t.bases; shortest = t.shortest; longest =
+    t.longest; lengths = t.lengths; mean_scores = t.mean_scores; gc_percents = t.gc_percents }
 
 reads_none : (t : ReadsTally) → SmallReads t → reads_plus t no_reads ≡ t
 reads_none t small =
@@ -183,7 +197,8 @@ record SmallSide (t : SideTally) : Type 0 where
   shortened : SmallRows t.steps.shortened
   dropped : SmallRows t.steps.dropped
 
-part_if_small : (b : Bool) (p : Part) (t : ReadsTally) → SmallReads t → SmallReads (cond b (with_part p t) t)
+part_if_small : (b : Bool) (p : Part) (t : ReadsTally) → SmallReads t →
+    SmallReads (cond b (with_part p t) t)
 part_if_small true p t small = part_small p t small
 part_if_small false p t small = small
 
@@ -191,19 +206,24 @@ sum_if_small : (b : Bool) (n t : ℕ) → Small t → Small (cond b (capped_sum 
 sum_if_small true n t small = capped_small t n
 sum_if_small false n t small = small
 
-part_if : (b : Bool) (p : Part) (s t : ReadsTally) → SmallReads s → cond b (with_part p (reads_plus s t)) (reads_plus s t) ≡ reads_plus s (cond b (with_part p t) t)
+part_if : (b : Bool) (p : Part) (s t : ReadsTally) → SmallReads s →
+    cond b (with_part p (reads_plus s t)) (reads_plus s t) ≡ reads_plus s (cond b (with_part p t) t)
 part_if true p s t small = reads_part p s t small
 part_if false p s t small = refl
 
-sum_if : (b : Bool) (n s t : ℕ) → cond b (capped_sum (capped_sum s t) n) (capped_sum s t) ≡ capped_sum s (cond b (capped_sum t n) t)
+sum_if : (b : Bool) (n s t : ℕ) → cond b (capped_sum (capped_sum s t) n) (capped_sum s t)
+    ≡ capped_sum s (cond b (capped_sum t n) t)
 sum_if true n s t = capped_assoc s t n
 sum_if false n s t = refl
 
 no_side_small : SmallSide no_side
 unfolding SmallRows
-no_side_small = record { before = none_small; paired = none_small; unpaired = none_small; front = omega arith; behind = omega arith; removed_front = tt; removed_behind = tt; shortened = tt; dropped = tt }
+no_side_small = record { before = none_small; paired = none_small; unpaired = none_small; front =
+    omega arith; behind = omega arith; removed_front = tt; removed_behind = tt; shortened =
+    tt; dropped = tt }
 
-read_small : (read : Read) (c : Course) (mate_survives : Bool) (t : SideTally) → SmallSide t → SmallSide (with_read read c mate_survives t)
+read_small : (read : Read) (c : Course) (mate_survives : Bool) (t : SideTally) → SmallSide t →
+    SmallSide (with_read read c mate_survives t)
 read_small read c mate_survives t small = record {
   before = part_small (whole read) t.before small.before;
   paired = part_if_small _ c.left t.paired small.paired;
@@ -211,20 +231,25 @@ read_small read c mate_survives t small = record {
   front = sum_if_small _ c.front t.front small.front;
   behind = sum_if_small _ _ t.behind small.behind;
   removed_front = if_small (survives c.left) c.front t.removed_front small.removed_front;
-  removed_behind = if_small (survives c.left) (behind_of read c.left c.front) t.removed_behind small.removed_behind;
+  removed_behind = if_small (survives c.left) (behind_of read c.left c.front) t.removed_behind
+      small.removed_behind;
   shortened = all_small c.shortened t.steps.shortened small.shortened;
   dropped = all_small c.dropped t.steps.dropped small.dropped;
 }
 
-side_read : (read : Read) (c : Course) (mate_survives : Bool) (s t : SideTally) → SmallSide s → with_read read c mate_survives (side_plus s t) ≡ side_plus s (with_read read c mate_survives t)
+side_read : (read : Read) (c : Course) (mate_survives : Bool) (s t : SideTally) → SmallSide s →
+    with_read read c mate_survives (side_plus s t) ≡ side_plus s (with_read read c mate_survives t)
 side_read read c mate_survives s t small =
     let before = reads_part (whole read) s.before t.before small.before in
     let paired = part_if (survives c.left && mate_survives) c.left s.paired t.paired small.paired in
-    let unpaired = part_if (survives c.left && not mate_survives) c.left s.unpaired t.unpaired small.unpaired in
+    let unpaired = part_if (survives c.left && not mate_survives) c.left s.unpaired t.unpaired
+        small.unpaired in
     let front = sum_if (survives c.left) c.front s.front t.front in
     let behind = sum_if (survives c.left) (behind_of read c.left c.front) s.behind t.behind in
-    let removed_front = rows_if (survives c.left) c.front s.removed_front t.removed_front small.removed_front in
-    let removed_behind = rows_if (survives c.left) (behind_of read c.left c.front) s.removed_behind t.removed_behind small.removed_behind in
+    let removed_front = rows_if (survives c.left) c.front s.removed_front t.removed_front
+        small.removed_front in
+    let removed_behind = rows_if (survives c.left) (behind_of read c.left c.front) s.removed_behind
+        t.removed_behind small.removed_behind in
     let positions = side_columns_read read c.left mate_survives s.positions t.positions in
     let shortened = rows_all c.shortened s.steps.shortened t.steps.shortened small.shortened in
     let dropped = rows_all c.dropped s.steps.dropped t.steps.dropped small.dropped in cc
@@ -269,29 +294,41 @@ module _ (lists : List (List Step)) where
     reverse = read_small m.reverse (course lists m.reverse) _ t.reverse small.reverse;
   }
 
-  pairs_small : (t : Tally) (ms : List Mates) → SmallTally t → SmallTally (fold (with_pair lists) t ms)
+  pairs_small : (t : Tally) (ms : List Mates) → SmallTally t →
+      SmallTally (fold (with_pair lists) t ms)
   pairs_small t [] small = small
   pairs_small t (m ∷ ms) small = pairs_small (with_pair lists t m) ms (pair_small t m small)
 
-  plus_pair : (s t : Tally) (m : Mates) → SmallTally s → with_pair lists (plus s t) m ≡ plus s (with_pair lists t m)
+  plus_pair : (s t : Tally) (m : Mates) → SmallTally s →
+      with_pair lists (plus s t) m ≡ plus s (with_pair lists t m)
   plus_pair s t m small =
-      let forward = side_read m.forward (course lists m.forward) (survives (course lists m.reverse).left) s.forward t.forward small.forward in
-      let reverse = side_read m.reverse (course lists m.reverse) (survives (course lists m.forward).left) s.reverse t.reverse small.reverse in
+      let forward = side_read m.forward (course lists m.forward)
+          (survives (course lists m.reverse).left) s.forward t.forward small.forward in
+      let reverse = side_read m.reverse (course lists m.reverse)
+          (survives (course lists m.forward).left) s.reverse t.reverse small.reverse in
       let two : SideTally → SideTally → Tally = λ f r. record { forward = f; reverse = r } in
-      ap (λ (f : SideTally). two f (with_read m.reverse (course lists m.reverse) (survives (course lists m.forward).left) (side_plus s.reverse t.reverse))) forward
-      ∙ ap (two (side_plus s.forward (with_read m.forward (course lists m.forward) (survives (course lists m.reverse).left) t.forward))) reverse
+      ap (λ (f : SideTally). two f (with_read m.reverse (course lists m.reverse) (survives
+          (course lists m.forward).left) (side_plus s.reverse t.reverse))) forward
+      ∙ ap (two (side_plus s.forward (with_read m.forward (course lists m.forward)
+          (survives (course lists m.reverse).left) t.forward))) reverse
 
-  plus_pairs : (s t : Tally) (ms : List Mates) → SmallTally s → fold (with_pair lists) (plus s t) ms ≡ plus s (fold (with_pair lists) t ms)
+  plus_pairs : (s t : Tally) (ms : List Mates) → SmallTally s →
+      fold (with_pair lists) (plus s t) ms ≡ plus s (fold (with_pair lists) t ms)
   plus_pairs s t [] small = refl
-  plus_pairs s t (m ∷ ms) small = ap (λ (u : Tally). fold (with_pair lists) u ms) (plus_pair s t m small) ∙ plus_pairs s (with_pair lists t m) ms small
+  plus_pairs s t (m ∷ ms) small = ap (λ (u : Tally). fold (with_pair lists) u ms)
+      (plus_pair s t m small) ∙ plus_pairs s (with_pair lists t m) ms small
 
   -- the tally of pairs, and of others after them
-  pub tally_of-append : (front behind : List Mates) → tally_of lists (front ++ behind) ≡ plus (tally_of lists front) (tally_of lists behind)
+  pub tally_of-append : (front behind : List Mates) →
+      tally_of lists (front ++ behind) ≡ plus (tally_of lists front) (tally_of lists behind)
   tally_of-append front behind =
       let s = tally_of lists front in
-      let small : SmallTally s = pairs_small no_tally front (record { forward = no_side_small; reverse = no_side_small }) in
+      let small : SmallTally s = pairs_small no_tally front (record { forward =
+          no_side_small; reverse = no_side_small }) in
       let two : SideTally → SideTally → Tally = λ f r. record { forward = f; reverse = r } in
-      let none : plus s no_tally ≡ s = ap (λ (f : SideTally). two f (side_plus s.reverse no_side)) (side_none s.forward small.forward) ∙ ap (two s.forward) (side_none s.reverse small.reverse) in
+      let none : plus s no_tally ≡ s = ap (λ (f : SideTally). two f (side_plus s.reverse no_side))
+          (side_none s.forward small.forward)
+          ∙ ap (two s.forward) (side_none s.reverse small.reverse) in
       fold-append (with_pair lists) no_tally front behind
       ∙ ap (λ (u : Tally). fold (with_pair lists) u behind) (sym none)
       ∙ plus_pairs s no_tally behind small

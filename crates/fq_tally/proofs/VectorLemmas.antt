@@ -19,7 +19,8 @@ use Rattle.fq_tally.specs.Columns.{one_if}
 use Rattle.fq_tally.specs.Counting.{AtMost}
 
 -- how many bytes pass, by the bits of their flags
-pub flags_counted : (p : ℕ → Bool) (v : List ℕ) {z : List ℕ} → length v ≤ 64 → z ≡ map (λ x. flag (p x)) v →
+pub flags_counted : (p : ℕ → Bool) (v : List ℕ) {z : List ℕ} → length v ≤ 64 →
+    z ≡ map (λ x. flag (p x)) v →
     ones (mask_l (map (top 7) z) % 2 ^ 64) ≡ count_by p v
 flags_counted p v short same = ap ones (mask_of p v short same) ∙ ones-mask_l p v
 
@@ -30,23 +31,27 @@ flag_or false true = refl
 flag_or false false = refl
 
 -- one or the other
-either_flags : (p q : ℕ → Bool) (v : List ℕ) → zip2 bit_or (map (λ x. flag (p x)) v) (map (λ x. flag (q x)) v) ≡ map (λ x. flag (p x || q x)) v
+either_flags : (p q : ℕ → Bool) (v : List ℕ) →
+    zip2 bit_or (map (λ x. flag (p x)) v) (map (λ x. flag (q x)) v) ≡ map (λ x. flag (p x || q x)) v
 either_flags p q [] = refl
 either_flags p q (x ∷ xs) = ap₂ (λ y ys. y ∷ ys) (flag_or (p x) (q x)) (either_flags p q xs)
 
-pub either : (p q : ℕ → Bool) (v : List ℕ) {a b : List ℕ} → a ≡ map (λ x. flag (p x)) v → b ≡ map (λ x. flag (q x)) v →
+pub either : (p q : ℕ → Bool) (v : List ℕ) {a b : List ℕ} → a ≡ map (λ x. flag (p x)) v →
+    b ≡ map (λ x. flag (q x)) v →
     zip2 bit_or a b ≡ map (λ x. flag (p x || q x)) v
 either p q v left right = ap₂ (zip2 bit_or) left right ∙ either_flags p q v
 
 -- the sum of a vector
 pub vector_summed : (v : List ℕ) → sum_l v ≡ sum v
 vector_summed [] = refl
-vector_summed (x ∷ xs) = ap (λ rest. x + rest) (vector_summed xs) ∙ sym (sum_by-cons (λ (y : ℕ). y) x xs)
+vector_summed (x ∷ xs) = ap (λ rest. x + rest) (vector_summed xs)
+    ∙ sym (sum_by-cons (λ (y : ℕ). y) x xs)
 
 -- What masks keep. If zeros follow other bytes, a vector that begins among these has the last of
 -- them and the first zeros.
 
-dropped : (a b m n k t : ℕ) → t ≡ k + m → drop k (replicate t a ++ replicate n b) ≡ replicate m a ++ replicate n b
+dropped : (a b m n k t : ℕ) → t ≡ k + m → drop k (replicate t a ++ replicate n b) ≡ replicate m
+    a ++ replicate n b
 dropped a b m n zero t all = ap (λ i. replicate i a ++ replicate n b) (omega arith)
 dropped a b m n (suc k) zero all = absurd (omega arith)
 dropped a b m n (suc k) (suc t) all = dropped a b m n k t (omega arith)
@@ -56,21 +61,26 @@ taken_same b zero t zero all few = refl
 taken_same b zero t (suc n) all few = absurd (omega arith)
 taken_same b (suc r) t zero all few = absurd (omega arith)
 taken_same b (suc r) zero (suc n) all few = absurd (omega arith)
-taken_same b (suc r) (suc t) (suc n) all few = ap (λ xs. b ∷ xs) (taken_same b r t n (omega arith) (omega arith))
+taken_same b (suc r) (suc t) (suc n) all few =
+    ap (λ xs. b ∷ xs) (taken_same b r t n (omega arith) (omega arith))
 
-taken : (a b m r t n : ℕ) → n ≡ m + r → r ≤ t → take n (replicate m a ++ replicate t b) ≡ replicate m a ++ replicate r b
+taken : (a b m r t n : ℕ) → n ≡ m + r → r ≤ t →
+    take n (replicate m a ++ replicate t b) ≡ replicate m a ++ replicate r b
 taken a b zero r t n all few = taken_same b r t n (omega arith) few
 taken a b (suc m) r t zero all few = absurd (omega arith)
 taken a b (suc m) r t (suc n) all few = ap (λ xs. a ∷ xs) (taken a b m r t n (omega arith) few)
 
 -- of 64 bytes, 32 of each
-pub edge : (a b k m : ℕ) → k + m ≡ 32 → take 32 (drop k (replicate 32 a ++ replicate 32 b)) ≡ replicate m a ++ replicate k b
-edge a b k m whole = ap (take 32) (dropped a b m 32 k 32 (omega arith)) ∙ taken a b m k 32 32 (omega arith) (omega arith)
+pub edge : (a b k m : ℕ) → k + m ≡ 32 → take 32 (drop k (replicate 32 a ++ replicate 32 b))
+    ≡ replicate m a ++ replicate k b
+edge a b k m whole = ap (take 32) (dropped a b m 32 k 32 (omega arith))
+    ∙ taken a b m k 32 32 (omega arith) (omega arith)
 
 all_bits : (x : ℕ) → Fits w8 x → bit_and x 255 ≡ x
 all_bits x small = and_mask x 8 ∙ mod-eq_of_lt small.fits
 
-nothing_kept : (f : ℕ → ℕ) → f 0 ≡ 0 → (v : List ℕ) (k : ℕ) → length v ≡ k → sum_by f (zip2 bit_and v (replicate k 0)) ≡ 0
+nothing_kept : (f : ℕ → ℕ) → f 0 ≡ 0 → (v : List ℕ) (k : ℕ) → length v ≡ k →
+    sum_by f (zip2 bit_and v (replicate k 0)) ≡ 0
 nothing_kept f nothing [] k long = refl
 nothing_kept f nothing (x ∷ xs) zero long = absurd (omega arith)
 nothing_kept f nothing (x ∷ xs) (suc k) long =
@@ -79,23 +89,28 @@ nothing_kept f nothing (x ∷ xs) (suc k) long =
     let both = sum_by-cons f (bit_and x 0) (zip2 bit_and xs (replicate k 0)) in
     omega arith
 
-all_kept : (v : List ℕ) (c : ℕ) → Each1 (Fits w8) v → length v ≡ c → zip2 bit_and v (replicate c 255) ≡ v
+all_kept : (v : List ℕ) (c : ℕ) → Each1 (Fits w8) v → length v ≡ c →
+    zip2 bit_and v (replicate c 255) ≡ v
 all_kept [] c fits long = refl
 all_kept (x ∷ xs) zero fits long = absurd (omega arith)
-all_kept (x ∷ xs) (suc c) fits long = ap₂ (λ y ys. y ∷ ys) (all_bits x fits.0) (all_kept xs c fits.1 (omega arith))
+all_kept (x ∷ xs) (suc c) fits long = ap₂ (λ y ys. y ∷ ys) (all_bits x fits.0)
+    (all_kept xs c fits.1 (omega arith))
 
 -- the first bytes are kept
-pub first_kept : (f : ℕ → ℕ) → f 0 ≡ 0 → (v : List ℕ) (c k : ℕ) → Each1 (Fits w8) v → length v ≡ c + k →
+pub first_kept : (f : ℕ → ℕ) → f 0 ≡ 0 → (v : List ℕ) (c k : ℕ) → Each1 (Fits w8) v →
+    length v ≡ c + k →
     sum_by f (zip2 bit_and v (replicate c 255 ++ replicate k 0)) ≡ sum_by f (take c v)
 first_kept f nothing v zero k fits long = nothing_kept f nothing v k (omega arith)
 first_kept f nothing [] (suc c) k fits long = absurd (omega arith)
 first_kept f nothing (x ∷ xs) (suc c) k fits long =
     sum_by-cons f (bit_and x 255) (zip2 bit_and xs (replicate c 255 ++ replicate k 0))
-    ∙ ap₂ (λ y rest. f y + rest) (all_bits x fits.0) (first_kept f nothing xs c k fits.1 (omega arith))
+    ∙ ap₂ (λ y rest. f y + rest) (all_bits x fits.0)
+        (first_kept f nothing xs c k fits.1 (omega arith))
     ∙ sym (sum_by-cons f x (take c xs))
 
 -- the last bytes are kept
-pub last_kept : (f : ℕ → ℕ) → f 0 ≡ 0 → (v : List ℕ) (c k : ℕ) → Each1 (Fits w8) v → length v ≡ k + c →
+pub last_kept : (f : ℕ → ℕ) → f 0 ≡ 0 → (v : List ℕ) (c k : ℕ) → Each1 (Fits w8) v →
+    length v ≡ k + c →
     sum_by f (zip2 bit_and v (replicate k 0 ++ replicate c 255)) ≡ sum_by f (drop k v)
 last_kept f nothing v c zero fits long = ap (sum_by f) (all_kept v c fits (omega arith))
 last_kept f nothing [] c (suc k) fits long = absurd (omega arith)
@@ -106,31 +121,44 @@ last_kept f nothing (x ∷ xs) c (suc k) fits long =
     omega arith
 
 -- fewer bytes, with zeros after them
-pub filled_up : (bytes filled : List ℕ) → filled ≡ bytes ++ replicate (32 - length bytes) 0 → Holds bytes filled
+pub filled_up : (bytes filled : List ℕ) → filled ≡ bytes ++ replicate (32 - length bytes) 0 →
+    Holds bytes filled
 filled_up bytes filled is f nothing =
     let filler : List ℕ = replicate (32 - length bytes) 0 in
-    let joined : sum_by f (bytes ++ filler) ≡ sum_by f bytes + sum_by f filler = sum_by-append f bytes filler in
-    let none : sum_by f filler ≡ (32 - length bytes) * f 0 = sum_by-replicate f (32 - length bytes) 0 in
-    let no : (32 - length bytes) * f 0 ≡ (32 - length bytes) * 0 = ap (λ n. (32 - length bytes) * n) nothing in
+    let joined : sum_by f (bytes ++ filler) ≡ sum_by f bytes + sum_by f filler =
+        sum_by-append f bytes filler in
+    let none : sum_by f filler ≡ (32 - length bytes) * f 0 =
+        sum_by-replicate f (32 - length bytes) 0 in
+    let no : (32 - length bytes) * f 0 ≡ (32 - length bytes) * 0 =
+        ap (λ n. (32 - length bytes) * n) nothing in
     let same : sum_by f filled ≡ sum_by f (bytes ++ filler) = ap (sum_by f) is in
     omega arith
 
 -- A loop over the places from one to another, of which a vector holds some at a time, counts on.
-pub summed_on : (f : ℕ → ℕ) → f 0 ≡ 0 → (bytes vector : List ℕ) (from at stop n m : ℕ) → from ≤ at → at ≤ stop → Holds (take (stop - at) (drop at bytes)) vector →
-    m ≡ sum_by f vector → n ≡ sum_by f (take (at - from) (drop from bytes)) → n + m ≡ sum_by f (take (stop - from) (drop from bytes))
+pub summed_on : (f : ℕ → ℕ) → f 0 ≡ 0 → (bytes vector : List ℕ) (from at stop n m : ℕ) → from ≤ at →
+    at ≤ stop → Holds (take (stop - at) (drop at bytes)) vector →
+    m ≡ sum_by f vector → n ≡ sum_by f (take (at - from) (drop from bytes)) →
+        n + m ≡ sum_by f (take (stop - from) (drop from bytes))
 summed_on f nothing bytes vector from at stop n m begun order holds here so_far =
     let more : m ≡ sum_by f (take (stop - at) (drop at bytes)) = here ∙ holds f nothing in
-    let behind : drop (at - from) (drop from bytes) ≡ drop at bytes = drop-drop (at - from) from bytes ∙ ap (λ k. drop k bytes) (omega arith) in
-    let parts : take (stop - from) (drop from bytes) ≡ take (at - from) (drop from bytes) ++ take (stop - at) (drop at bytes) =
+    let behind : drop (at - from) (drop from bytes) ≡ drop at bytes =
+        drop-drop (at - from) from bytes ∙ ap (λ k. drop k bytes) (omega arith) in
+    let parts : take (stop - from) (drop from bytes)
+        ≡ take (at - from) (drop from bytes) ++ take (stop - at) (drop at bytes) =
     ap (λ k. take k (drop from bytes)) (omega arith)
     ∙ take-add (at - from) (stop - at) (drop from bytes)
     ∙ ap (λ xs. take (at - from) (drop from bytes) ++ take (stop - at) xs) behind in
-    let both : sum_by f (take (stop - from) (drop from bytes)) ≡ sum_by f (take (at - from) (drop from bytes)) + sum_by f (take (stop - at) (drop at bytes)) =
-    ap (sum_by f) parts ∙ sum_by-append f (take (at - from) (drop from bytes)) (take (stop - at) (drop at bytes)) in
+    let both : sum_by f (take (stop - from) (drop from bytes))
+        ≡ sum_by f (take (at - from) (drop from bytes)) + sum_by f
+        (take (stop - at) (drop at bytes)) =
+    ap (sum_by f) parts ∙ sum_by-append f (take (at - from) (drop from bytes))
+        (take (stop - at) (drop at bytes)) in
     omega arith
 
-pub counted_on : (p : ℕ → Bool) → p 0 ≡ false → (bytes vector : List ℕ) (from at stop n m : ℕ) → from ≤ at → at ≤ stop → Holds (take (stop - at) (drop at bytes)) vector →
-    m ≡ count_by p vector → n ≡ count_by p (take (at - from) (drop from bytes)) → n + m ≡ count_by p (take (stop - from) (drop from bytes))
+pub counted_on : (p : ℕ → Bool) → p 0 ≡ false → (bytes vector : List ℕ) (from at stop n m : ℕ) →
+    from ≤ at → at ≤ stop → Holds (take (stop - at) (drop at bytes)) vector →
+    m ≡ count_by p vector → n ≡ count_by p (take (at - from) (drop from bytes)) →
+        n + m ≡ count_by p (take (stop - from) (drop from bytes))
 counted_on p never = summed_on (λ x. cond (p x) 1 0) (ap (λ b. cond b 1 0) never)
 
 -- Letters in either case: those of upper case lack one bit.
@@ -143,7 +171,8 @@ unfolding all_below
 below_at zero p k all lt = absurd (omega arith)
 below_at (suc n) p k all lt =
     let parts = and_parts _ _ all in
-    ⊎_elim (λ less. below_at n p k parts.1 less) (λ from. let last : k ≡ n = omega arith in ap p last ∙ parts.0) (cases_lt k n)
+    ⊎_elim (λ less. below_at n p k parts.1 less) (λ from. let last : k ≡ n = omega arith in
+        ap p last ∙ parts.0) (cases_lt k n)
 
 same_answer : Bool → Bool → Bool
 same_answer a b = cond a b (not b)
@@ -162,24 +191,31 @@ cases_below : all_below 26 (λ l. all_below 256 (in_case l)) ≡ true
 unfolding all_below in_case same_answer
 cases_below = refl
 
-one_letter : (letter x : ℕ) → 97 ≤ letter → letter ≤ 122 → x < 256 → eqb (bit_or x 32) letter ≡ (eqb x (letter - 32) || eqb x letter)
+one_letter : (letter x : ℕ) → 97 ≤ letter → letter ≤ 122 → x < 256 →
+    eqb (bit_or x 32) letter ≡ (eqb x (letter - 32) || eqb x letter)
 unfolding in_case
 one_letter letter x low high small =
     let l : ℕ = letter - 97 in
     let whole : 97 + l ≡ letter = omega arith in
     let upper : 65 + l ≡ letter - 32 = omega arith in
-    let same = same_from _ _ (below_at 256 (in_case l) x (below_at 26 (λ k. all_below 256 (in_case k)) l cases_below (omega arith)) small) in
+    let same =
+        same_from _ _ (below_at 256 (in_case l) x (below_at 26 (λ k. all_below 256 (in_case k)) l
+        cases_below (omega arith)) small) in
     ap (λ n. eqb (bit_or x 32) n) (sym whole) ∙ same ∙ ap₂ (λ m n. eqb x m || eqb x n) upper whole
 
 each_letter : (letter : ℕ) (v : List ℕ) → 97 ≤ letter → letter ≤ 122 → Each1 (Fits w8) v →
-    map (λ x. flag (eqb (bit_or x 32) letter)) v ≡ map (λ x. flag (eqb x (letter - 32) || eqb x letter)) v
+    map (λ x. flag (eqb (bit_or x 32) letter)) v
+        ≡ map (λ x. flag (eqb x (letter - 32) || eqb x letter)) v
 each_letter letter [] low high fits = refl
 each_letter letter (x ∷ xs) low high fits =
     let small : x < 256 = fits.0.fits in
-    ap₂ (λ b ys. flag b ∷ ys) (one_letter letter x low high small) (each_letter letter xs low high fits.1)
+    ap₂ (λ b ys. flag b ∷ ys) (one_letter letter x low high small)
+        (each_letter letter xs low high fits.1)
 
-pub either_case : (letter : ℕ) (v : List ℕ) → 97 ≤ letter → letter ≤ 122 → length v ≡ 32 → Each1 (Fits w8) v →
-    zip2 (λ a b. flag (eqb a b)) (zip2 bit_or v (replicate 32 32)) (replicate 32 letter) ≡ map (λ x. flag (eqb x (letter - 32) || eqb x letter)) v
+pub either_case : (letter : ℕ) (v : List ℕ) → 97 ≤ letter → letter ≤ 122 → length v ≡ 32 →
+    Each1 (Fits w8) v →
+    zip2 (λ a b. flag (eqb a b)) (zip2 bit_or v (replicate 32 32)) (replicate 32 letter)
+        ≡ map (λ x. flag (eqb x (letter - 32) || eqb x letter)) v
 either_case letter v low high long fits =
     let lower = zip2_splat bit_or v 32 32 long in
     let size : length (map (λ x. bit_or x 32) v) ≡ 32 = length-map v (λ x. bit_or x 32) ∙ long in
@@ -193,13 +229,18 @@ flag_top : (b : Bool) → top 7 (flag b) ≡ b
 flag_top true = refl
 flag_top false = refl
 
-ones_for : (p : ℕ → Bool) (v : List ℕ) (n : ℕ) → length v ≡ n → sel_l (map (top 7) (map (λ x. flag (p x)) v)) (replicate n 1) (replicate n 0) ≡ map (one_if p) v
+ones_for : (p : ℕ → Bool) (v : List ℕ) (n : ℕ) → length v ≡ n →
+    sel_l (map (top 7) (map (λ x. flag (p x)) v)) (replicate n 1) (replicate n 0) ≡ map (one_if p) v
 ones_for p [] n long = refl
 ones_for p (x ∷ xs) zero long = absurd (omega arith)
-ones_for p (x ∷ xs) (suc n) long = ap₂ (λ b ys. cond b 1 0 ∷ ys) (flag_top (p x)) (ones_for p xs n (omega arith))
+ones_for p (x ∷ xs) (suc n) long = ap₂ (λ b ys. cond b 1 0 ∷ ys) (flag_top (p x))
+    (ones_for p xs n (omega arith))
 
-pub ones_chosen : (p : ℕ → Bool) (v : List ℕ) (n : ℕ) {z : List ℕ} → length v ≡ n → z ≡ map (λ x. flag (p x)) v → sel_l (map (top 7) z) (replicate n 1) (replicate n 0) ≡ map (one_if p) v
-ones_chosen p v n long is = ap (λ z. sel_l (map (top 7) z) (replicate n 1) (replicate n 0)) is ∙ ones_for p v n long
+pub ones_chosen : (p : ℕ → Bool) (v : List ℕ) (n : ℕ) {z : List ℕ} → length v ≡ n →
+    z ≡ map (λ x. flag (p x)) v → sel_l (map (top 7) z) (replicate n 1) (replicate n 0) ≡ map
+    (one_if p) v
+ones_chosen p v n long is = ap (λ z. sel_l (map (top 7) z) (replicate n 1) (replicate n 0)) is
+    ∙ ones_for p v n long
 
 one_small : (b : Bool) → cond b 1 0 ≤ 1
 one_small true = omega arith
@@ -211,10 +252,13 @@ ones_at_most p (x ∷ xs) zero = one_small (p x)
 ones_at_most p (x ∷ xs) (suc k) = ones_at_most p xs k
 
 pub ones_are_few : (p : ℕ → Bool) (v ones : List ℕ) → ones ≡ map (one_if p) v → AtMost 1 ones
-ones_are_few p v ones is k = let small = ones_at_most p v k in let same = ap (λ xs. get_or xs k 0) is in omega arith
+ones_are_few p v ones is k = let small = ones_at_most p v k in let same =
+    ap (λ xs. get_or xs k 0) is in omega arith
 
 -- The last bytes are kept, after zeros.
-pub last_lanes : (v : List ℕ) (c k : ℕ) → Each1 (Fits w8) v → length v ≡ k + c → zip2 bit_and v (replicate k 0 ++ replicate c 255) ≡ replicate k 0 ++ drop k v
+pub last_lanes : (v : List ℕ) (c k : ℕ) → Each1 (Fits w8) v → length v ≡ k + c →
+    zip2 bit_and v (replicate k 0 ++ replicate c 255) ≡ replicate k 0 ++ drop k v
 last_lanes v c zero fits long = all_kept v c fits (omega arith)
 last_lanes [] c (suc k) fits long = absurd (omega arith)
-last_lanes (x ∷ xs) c (suc k) fits long = ap₂ (λ y ys. y ∷ ys) (and_zero_r x) (last_lanes xs c k fits.1 (omega arith))
+last_lanes (x ∷ xs) c (suc k) fits long = ap₂ (λ y ys. y ∷ ys) (and_zero_r x)
+    (last_lanes xs c k fits.1 (omega arith))

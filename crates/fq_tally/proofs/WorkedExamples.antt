@@ -46,11 +46,13 @@ lower_n : is_n 110 ≡ true
 lower_n = refl
 
 -- The scores 2, 20, 30, 29 and 40.
-some_bases : bases_of (record { encoding = Sanger; seq = codes "GcANn"; qual = codes "#5?>I" }) ≡ record { bases = 5; at_least_20 = 4; at_least_30 = 2; score_sum = 121; gc = 2; n = 2 }
+some_bases : bases_of (record { encoding = Sanger; seq = codes "GcANn"; qual = codes "#5?>I" })
+    ≡ record { bases = 5; at_least_20 = 4; at_least_30 = 2; score_sum = 121; gc = 2; n = 2 }
 some_bases = refl
 
 abbrev scored : ℕ → ℕ → ℕ → BaseTally
-scored bases score_sum gc = record { bases = bases; at_least_20 = 0; at_least_30 = 0; score_sum = score_sum; gc = gc; n = 0 }
+scored bases score_sum gc = record { bases = bases; at_least_20 = 0; at_least_30 = 0; score_sum =
+    score_sum; gc = gc; n = 0 }
 
 -- 119 / 4 is 29.75
 mean_is_cut : mean_score (scored 4 119 0) ≡ 29
@@ -74,13 +76,19 @@ read_of seq qual = record { encoding = Sanger; title = codes "r"; seq = seq; qua
 abbrev ends : List (List Step)
 ends = (Leading 3 ∷ []) ∷ (Trailing 3 ∷ []) ∷ (MinLen 2 ∷ []) ∷ []
 
-both_ends : course ends (read_of (codes "ACGT") (codes "#II#")) ≡ record { left = record { encoding = Sanger; seq = codes "CG"; qual = codes "II" }; front = 1; shortened = 0 ∷ 1 ∷ []; dropped = [] }
+both_ends : course ends (read_of (codes "ACGT") (codes "#II#")) ≡ record { left =
+    record { encoding = Sanger; seq = codes "CG"; qual = codes "II" }; front = 1; shortened =
+    0 ∷ 1 ∷ []; dropped = [] }
 both_ends = refl
 
-both_ends_pass : passage (Leading 3 ∷ Trailing 3 ∷ MinLen 2 ∷ []) (read_of (codes "ACGT") (codes "#II#")) ≡ record { kept = 1 ∷ 2 ∷ []; front = 1; shortened = 0 ∷ 1 ∷ []; dropped = [] }
+both_ends_pass : passage (Leading 3 ∷ Trailing 3 ∷ MinLen 2 ∷ [])
+    (read_of (codes "ACGT") (codes "#II#")) ≡ record { kept = 1 ∷ 2 ∷ []; front = 1; shortened =
+    0 ∷ 1 ∷ []; dropped = [] }
 both_ends_pass = refl
 
-short_pass : passage (Leading 3 ∷ Trailing 3 ∷ MinLen 2 ∷ []) (read_of (codes "ACGT") (codes "##I#")) ≡ record { kept = []; front = 2; shortened = 0 ∷ 1 ∷ []; dropped = 2 ∷ [] }
+short_pass : passage (Leading 3 ∷ Trailing 3 ∷ MinLen 2 ∷ [])
+    (read_of (codes "ACGT") (codes "##I#")) ≡ record { kept = []; front = 2; shortened =
+    0 ∷ 1 ∷ []; dropped = 2 ∷ [] }
 short_pass = refl
 
 too_short : (course ends (read_of (codes "ACGT") (codes "##I#"))).dropped ≡ 2 ∷ []
@@ -92,7 +100,9 @@ low_throughout = refl
 no_bases_to_drop : (course ends (read_of [] [])).dropped ≡ 0 ∷ []
 no_bases_to_drop = refl
 
-untouched : course ends (read_of (codes "AC") (codes "II")) ≡ record { left = record { encoding = Sanger; seq = codes "AC"; qual = codes "II" }; front = 0; shortened = []; dropped = [] }
+untouched : course ends (read_of (codes "AC") (codes "II")) ≡ record { left =
+    record { encoding = Sanger; seq = codes "AC"; qual = codes "II" }; front = 0; shortened =
+    []; dropped = [] }
 untouched = refl
 
 -- Pairs.
@@ -118,7 +128,8 @@ reads_of reads bases shortest longest lengths mean_scores gc_percents = record {
 }
 
 abbrev good : ℕ → ℕ → BaseTally
-good bases gc = record { bases = bases; at_least_20 = bases; at_least_30 = bases; score_sum = 40 * bases; gc = gc; n = 0 }
+good bases gc = record { bases = bases; at_least_20 = bases; at_least_30 = bases; score_sum =
+    40 * bases; gc = gc; n = 0 }
 
 abbrev score_20 : BaseTally
 score_20 = record { bases = 1; at_least_20 = 1; at_least_30 = 0; score_sum = 20; gc = 0; n = 0 }
@@ -140,7 +151,8 @@ one_t = columns_are (1 ∷ []) (20 ∷ []) (0 ∷ []) (0 ∷ []) (0 ∷ []) (0 �
 
 two_pairs : tally_of crop (first ∷ second ∷ []) ≡ record {
   forward = record {
-    before = reads_of 2 (good 5 4) 2 3 (with_one 2 (with_one 3 [])) (with_one 40 (with_one 40 [])) (with_one 67 (with_one 100 []));
+    before = reads_of 2 (good 5 4) 2 3 (with_one 2 (with_one 3 [])) (with_one 40 (with_one 40 []))
+        (with_one 67 (with_one 100 []));
     paired = reads_of 1 (good 2 1) 2 2 (with_one 2 []) (with_one 40 []) (with_one 50 []);
     unpaired = reads_of 1 (good 2 2) 2 2 (with_one 2 []) (with_one 40 []) (with_one 100 []);
     front = 0;
@@ -148,9 +160,12 @@ two_pairs : tally_of crop (first ∷ second ∷ []) ≡ record {
     removed_front = 2 ∷ [];
     removed_behind = 1 ∷ 1 ∷ [];
     positions = record {
-      before = columns_are (2 ∷ 2 ∷ 1 ∷ []) (80 ∷ 80 ∷ 40 ∷ []) (2 ∷ 2 ∷ 1 ∷ []) (1 ∷ 0 ∷ 0 ∷ []) (0 ∷ 1 ∷ 0 ∷ []) (1 ∷ 1 ∷ 1 ∷ []) (0 ∷ 0 ∷ 0 ∷ []) (0 ∷ 0 ∷ 0 ∷ []);
-      paired = columns_are (1 ∷ 1 ∷ []) (40 ∷ 40 ∷ []) (1 ∷ 1 ∷ []) (1 ∷ 0 ∷ []) (0 ∷ 1 ∷ []) (0 ∷ 0 ∷ []) (0 ∷ 0 ∷ []) (0 ∷ 0 ∷ []);
-      unpaired = columns_are (1 ∷ 1 ∷ []) (40 ∷ 40 ∷ []) (1 ∷ 1 ∷ []) (0 ∷ 0 ∷ []) (0 ∷ 0 ∷ []) (1 ∷ 1 ∷ []) (0 ∷ 0 ∷ []) (0 ∷ 0 ∷ []);
+      before = columns_are (2 ∷ 2 ∷ 1 ∷ []) (80 ∷ 80 ∷ 40 ∷ []) (2 ∷ 2 ∷ 1 ∷ []) (1 ∷ 0 ∷ 0 ∷ [])
+          (0 ∷ 1 ∷ 0 ∷ []) (1 ∷ 1 ∷ 1 ∷ []) (0 ∷ 0 ∷ 0 ∷ []) (0 ∷ 0 ∷ 0 ∷ []);
+      paired = columns_are (1 ∷ 1 ∷ []) (40 ∷ 40 ∷ []) (1 ∷ 1 ∷ []) (1 ∷ 0 ∷ []) (0 ∷ 1 ∷ [])
+          (0 ∷ 0 ∷ []) (0 ∷ 0 ∷ []) (0 ∷ 0 ∷ []);
+      unpaired = columns_are (1 ∷ 1 ∷ []) (40 ∷ 40 ∷ []) (1 ∷ 1 ∷ []) (0 ∷ 0 ∷ []) (0 ∷ 0 ∷ [])
+          (1 ∷ 1 ∷ []) (0 ∷ 0 ∷ []) (0 ∷ 0 ∷ []);
     };
     steps = record { shortened = 1 ∷ []; dropped = [] };
   };
@@ -168,7 +183,8 @@ two_pairs : tally_of crop (first ∷ second ∷ []) ≡ record {
 }
 two_pairs = refl
 
-added_up : plus (tally_of crop (first ∷ [])) (tally_of crop (second ∷ [])) ≡ tally_of crop (first ∷ second ∷ [])
+added_up : plus (tally_of crop (first ∷ [])) (tally_of crop (second ∷ []))
+    ≡ tally_of crop (first ∷ second ∷ [])
 added_up = refl
 
 of_none : tally_of crop [] ≡ no_tally

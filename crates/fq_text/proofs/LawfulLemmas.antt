@@ -18,15 +18,19 @@ not_lf b = not (eqb b 10)
 abbrev clean : List ℕ → Bool
 clean l = list_all not_lf l
 
-clean_first : (b : ℕ) (ps : List (List ℕ)) → eqb b 10 ≡ false → list_all clean ps ≡ true → list_all clean (before_first_piece b ps) ≡ true
+clean_first : (b : ℕ) (ps : List (List ℕ)) → eqb b 10 ≡ false → list_all clean ps ≡ true →
+    list_all clean (before_first_piece b ps) ≡ true
 clean_first b [] off all = and_from _ _ (and_from _ _ (not_from_false _ off) refl) refl
-clean_first b (p ∷ ps) off all = let parts = and_parts _ _ all in and_from _ _ (and_from _ _ (not_from_false _ off) parts.0) parts.1
+clean_first b (p ∷ ps) off all = let parts = and_parts _ _ all in
+    and_from _ _ (and_from _ _ (not_from_false _ off) parts.0) parts.1
 
 clean_pieces : (text : List ℕ) → list_all clean (pieces text) ≡ true
 clean_pieces [] = refl
 clean_pieces (b ∷ bs) = ⊎_elim
-    (λ yes_is. ap (list_all clean) (cond-true (eqb b 10) ([] ∷ pieces bs) (before_first_piece b (pieces bs)) yes_is) ∙ clean_pieces bs)
-    (λ no_is. ap (list_all clean) (cond-false (eqb b 10) ([] ∷ pieces bs) (before_first_piece b (pieces bs)) no_is) ∙ clean_first b (pieces bs) no_is (clean_pieces bs))
+    (λ yes_is. ap (list_all clean) (cond-true (eqb b 10) ([] ∷ pieces bs) (before_first_piece b
+        (pieces bs)) yes_is) ∙ clean_pieces bs)
+    (λ no_is. ap (list_all clean) (cond-false (eqb b 10) ([] ∷ pieces bs) (before_first_piece b
+        (pieces bs)) no_is) ∙ clean_first b (pieces bs) no_is (clean_pieces bs))
     (cases_Bool (eqb b 10))
 
 clean_without_cr : (l : List ℕ) → clean l ≡ true → clean (without_cr l) ≡ true
@@ -35,17 +39,21 @@ clean_without_cr (b ∷ []) all = ⊎_elim
     (λ yes_is. ap clean (cond-true (eqb b 13) [] (b ∷ []) yes_is))
     (λ no_is. ap clean (cond-false (eqb b 13) [] (b ∷ []) no_is) ∙ all)
     (cases_Bool (eqb b 13))
-clean_without_cr (b ∷ c ∷ bs) all = let parts = and_parts _ _ all in and_from _ _ parts.0 (clean_without_cr (c ∷ bs) parts.1)
+clean_without_cr (b ∷ c ∷ bs) all = let parts = and_parts _ _ all in
+    and_from _ _ parts.0 (clean_without_cr (c ∷ bs) parts.1)
 
-clean_map : (ps : List (List ℕ)) → list_all clean ps ≡ true → list_all clean (map without_cr ps) ≡ true
+clean_map : (ps : List (List ℕ)) → list_all clean ps ≡ true →
+    list_all clean (map without_cr ps) ≡ true
 clean_map [] all = refl
-clean_map (p ∷ ps) all = let parts = and_parts _ _ all in and_from _ _ (clean_without_cr p parts.0) (clean_map ps parts.1)
+clean_map (p ∷ ps) all = let parts = and_parts _ _ all in
+    and_from _ _ (clean_without_cr p parts.0) (clean_map ps parts.1)
 
 clean_lines : (text : List ℕ) → list_all clean (lines text) ≡ true
 clean_lines text = clean_map (pieces text) (clean_pieces text)
 
 -- what a record without fault passed
-pub passed : (o : Option Fault) (found : Front) (r : Read) (ls : List (List ℕ)) → unless_faulty o found ≡ Found r ls → (o ≡ None) × (found ≡ Found r ls)
+pub passed : (o : Option Fault) (found : Front) (r : Read) (ls : List (List ℕ)) →
+    unless_faulty o found ≡ Found r ls → (o ≡ None) × (found ≡ Found r ls)
 passed None found r ls is = (refl, is)
 passed (Some f) found r ls is = absurd (let h : Faulty f ≡ Found r ls = is in cc)
 
@@ -57,7 +65,8 @@ both_none : (o p : Option Fault) → or_else o p ≡ None → (o ≡ None) × (p
 both_none None p is = (refl, is)
 both_none (Some f) p is = absurd (let h : Some f ≡ None = is in cc)
 
-begins-append : (m : ℕ) (l rest : List ℕ) → begins_with m l ≡ false → begins_with m rest ≡ false → begins_with m (l ++ rest) ≡ false
+begins-append : (m : ℕ) (l rest : List ℕ) → begins_with m l ≡ false → begins_with m rest ≡ false →
+    begins_with m (l ++ rest) ≡ false
 begins-append m [] rest first then = then
 begins-append m (b ∷ bs) rest first then = first
 
@@ -66,7 +75,8 @@ record Bases (n : ℕ) (bases : List ℕ) : Type 0 where
   valid : list_all is_base bases ≡ true
   no_title : begins_with 64 bases ≡ false
 
-sound_bases : (n : ℕ) (ls : List (List ℕ)) → n ≤ limit → sequence_faults n ls ≡ None → Bases n (concat ls)
+sound_bases : (n : ℕ) (ls : List (List ℕ)) → n ≤ limit → sequence_faults n ls ≡ None →
+    Bases n (concat ls)
 sound_bases n [] le sound = record { fits = omega arith; valid = refl; no_title = refl }
 sound_bases n (l ∷ ls) le sound =
     let parts = both_none (sequence_fault n l) _ sound in
@@ -86,15 +96,19 @@ sound_bases n (l ∷ ls) le sound =
 no_plus_before : (ls : List (List ℕ)) → begins_with 43 (concat (before_plus ls)) ≡ false
 no_plus_before [] = refl
 no_plus_before (l ∷ ls) = ⊎_elim
-    (λ plus. ap (λ ms. begins_with 43 (concat ms)) (cond-true (begins_with 43 l) [] (l ∷ before_plus ls) plus))
-    (λ plain. ap (λ ms. begins_with 43 (concat ms)) (cond-false (begins_with 43 l) [] (l ∷ before_plus ls) plain) ∙ begins-append 43 l (concat (before_plus ls)) plain (no_plus_before ls))
+    (λ plus. ap (λ ms. begins_with 43 (concat ms))
+        (cond-true (begins_with 43 l) [] (l ∷ before_plus ls) plus))
+    (λ plain. ap (λ ms. begins_with 43 (concat ms))
+        (cond-false (begins_with 43 l) [] (l ∷ before_plus ls) plain)
+        ∙ begins-append 43 l (concat (before_plus ls)) plain (no_plus_before ls))
     (cases_Bool (begins_with 43 l))
 
 record Scored (encoding : Encoding) (bases n : ℕ) (quals : List ℕ) : Type 0 where
   fits : n + length quals ≤ bases
   valid : list_all (is_scored encoding) quals ≡ true
 
-sound_quality : (encoding : Encoding) (bases n : ℕ) (ls : List (List ℕ)) → n ≤ bases → quality_faults encoding bases n ls ≡ None → Scored encoding bases n (concat ls)
+sound_quality : (encoding : Encoding) (bases n : ℕ) (ls : List (List ℕ)) → n ≤ bases →
+    quality_faults encoding bases n ls ≡ None → Scored encoding bases n (concat ls)
 sound_quality encoding bases n [] le sound = record { fits = omega arith; valid = refl }
 sound_quality encoding bases n (l ∷ ls) le sound =
     let parts = both_none (quality_fault encoding bases n l) _ sound in
@@ -106,10 +120,12 @@ sound_quality encoding bases n (l ∷ ls) le sound =
     let fits = rest.fits in
     record {
       fits = omega (arith, length-append l (concat ls));
-      valid = list_all-append (is_scored encoding) l (concat ls) ∙ and_from _ _ (not-false _ valid.0) rest.valid;
+      valid = list_all-append (is_scored encoding) l (concat ls)
+          ∙ and_from _ _ (not-false _ valid.0) rest.valid;
     }
 
-enough : (n : ℕ) (ls behind : List (List ℕ)) → after_quality n ls ≡ Some behind → n ≤ length (concat (quality_lines n ls))
+enough : (n : ℕ) (ls behind : List (List ℕ)) → after_quality n ls ≡ Some behind →
+    n ≤ length (concat (quality_lines n ls))
 enough n [] behind is = ⊎_elim
     (λ none. let e = eqb-true n 0 none in omega arith)
     (λ some. absurd (let h = sym (cond-false (eqb n 0) (Some []) None some) ∙ is in cc))
@@ -117,14 +133,20 @@ enough n [] behind is = ⊎_elim
 enough n (l ∷ ls) behind is = ⊎_elim
     (λ none. let e = eqb-true n 0 none in omega arith)
     (λ some.
-    let rest = enough (n - length l) ls behind (sym (cond-false (eqb n 0) (Some (l ∷ ls)) (after_quality (n - length l) ls) some) ∙ is) in
-    let same = ap (λ ms. length (concat ms)) (cond-false (eqb n 0) [] (l ∷ quality_lines (n - length l) ls) some) in
+    let rest =
+        enough (n - length l) ls behind (sym (cond-false (eqb n 0) (Some (l ∷ ls))
+        (after_quality (n - length l) ls) some) ∙ is) in
+    let same =
+        ap (λ ms. length (concat ms)) (cond-false (eqb n 0) [] (l ∷ quality_lines (n - length l) ls)
+        some) in
     omega (arith, length-append l (concat (quality_lines (n - length l) ls)), same))
     (cases_Bool (eqb n 0))
 
-pub complete : (r s : Read) (o : Option (List (List ℕ))) (ls : List (List ℕ)) → completed r o ≡ Found s ls → (o ≡ Some ls) × (r ≡ s)
+pub complete : (r s : Read) (o : Option (List (List ℕ))) (ls : List (List ℕ)) →
+    completed r o ≡ Found s ls → (o ≡ Some ls) × (r ≡ s)
 complete r s None ls is = absurd (let h : Faulty fault.QualityShort ≡ Found s ls = is in cc)
-complete r s (Some ms) ls is = (let h : Found r ms ≡ Found s ls = is in cc, let h : Found r ms ≡ Found s ls = is in cc)
+complete r s (Some ms) ls is = (let h : Found r ms ≡ Found s ls = is in cc, let h : Found r ms
+    ≡ Found s ls = is in cc)
 
 module _ (encoding : Encoding) where
   record Quality (title bases : List ℕ) (r : Read) : Type 0 where
@@ -133,26 +155,35 @@ module _ (encoding : Encoding) where
     same : length quals ≡ length bases
     valid : list_all (is_scored encoding) quals ≡ true
 
-  found_quality : (title bases : List ℕ) (ls : List (List ℕ)) (r : Read) (behind : List (List ℕ)) → from_plus_line encoding title bases ls ≡ Found r behind → Quality title bases r
-  found_quality title bases [] r behind is = absurd (let h : Faulty fault.NoPlus ≡ Found r behind = is in cc)
+  found_quality : (title bases : List ℕ) (ls : List (List ℕ)) (r : Read) (behind : List (List ℕ)) →
+      from_plus_line encoding title bases ls ≡ Found r behind → Quality title bases r
+  found_quality title bases [] r behind is =
+      absurd (let h : Faulty fault.NoPlus ≡ Found r behind = is in cc)
   found_quality title bases (plus ∷ ls) r behind is =
-      let first = passed (plus_fault title plus) (from_quality_lines encoding title bases ls) r behind is in
+      let first = passed (plus_fault title plus) (from_quality_lines encoding title bases ls) r
+          behind is in
       let scores = quality_lines (length bases) ls in
-      let second = passed (quality_faults encoding (length bases) 0 scores) (completed (record { encoding = encoding; title = title; seq = bases; qual = concat scores }) (after_quality (length bases) ls)) r behind first.1 in
-      let third = complete (record { encoding = encoding; title = title; seq = bases; qual = concat scores }) r (after_quality (length bases) ls) behind second.1 in
+      let second = passed (quality_faults encoding (length bases) 0 scores)
+          (completed (record { encoding = encoding; title = title; seq = bases; qual =
+          concat scores }) (after_quality (length bases) ls)) r behind first.1 in
+      let third = complete (record { encoding = encoding; title = title; seq = bases; qual =
+          concat scores }) r (after_quality (length bases) ls) behind second.1 in
       let sound = sound_quality encoding (length bases) 0 scores (omega arith) second.0 in
       let most = sound.fits in
       let least = enough (length bases) ls behind third.0 in
       record { quals = concat scores; is = sym third.1; same = omega arith; valid = sound.valid }
 
-  found_lawful : (b : ℕ) (bs : List ℕ) (ls : List (List ℕ)) (r : Read) (behind : List (List ℕ)) → clean (b ∷ bs) ≡ true → from_title_line encoding (b ∷ bs) ls ≡ Found r behind → IsLawful r
+  found_lawful : (b : ℕ) (bs : List ℕ) (ls : List (List ℕ)) (r : Read) (behind : List (List ℕ)) →
+      clean (b ∷ bs) ≡ true → from_title_line encoding (b ∷ bs) ls ≡ Found r behind → IsLawful r
   found_lawful b bs ls r behind one is =
       let first = passed (title_fault (b ∷ bs)) _ r behind is in
       let second = passed (sequence_faults 0 (before_plus ls)) _ r behind first.1 in
       let bases = sound_bases 0 (before_plus ls) (omega arith) second.0 in
       let fits = bases.fits in
       let quality = found_quality bs (concat (before_plus ls)) (from_plus ls) r behind second.1 in
-      let short = ltb-false limit (length (b ∷ bs)) (unfaulted (is_too_long (b ∷ bs)) fault.TooLong _ first.0).0 in
+      let short =
+          ltb-false limit (length (b ∷ bs)) (unfaulted (is_too_long (b ∷ bs)) fault.TooLong _
+          first.0).0 in
       subst IsLawful (sym quality.is) (record {
         one_line = (and_parts _ _ one).1;
         title_fits = omega arith;
@@ -164,19 +195,24 @@ module _ (encoding : Encoding) where
         scores = quality.valid;
       })
 
-  lawful_lines : (ls : List (List ℕ)) (r : Read) (behind : List (List ℕ)) → list_all clean ls ≡ true → front encoding ls ≡ Found r behind → IsLawful r
+  lawful_lines : (ls : List (List ℕ)) (r : Read) (behind : List (List ℕ)) →
+      list_all clean ls ≡ true → front encoding ls ≡ Found r behind → IsLawful r
   lawful_lines [] r behind all is = absurd (let h : End ≡ Found r behind = is in cc)
   lawful_lines ([] ∷ ls) r behind all is = lawful_lines ls r behind all is
-  lawful_lines ((b ∷ bs) ∷ ls) r behind all is = found_lawful b bs ls r behind (and_parts _ _ all).0 is
+  lawful_lines ((b ∷ bs) ∷ ls) r behind all is =
+      found_lawful b bs ls r behind (and_parts _ _ all).0 is
 
-  pub front_is_lawful : (text : List ℕ) (r : Read) (behind : List (List ℕ)) → front encoding (lines text) ≡ Found r behind → IsLawful r
+  pub front_is_lawful : (text : List ℕ) (r : Read) (behind : List (List ℕ)) →
+      front encoding (lines text) ≡ Found r behind → IsLawful r
   front_is_lawful text r behind is = lawful_lines (lines text) r behind (clean_lines text) is
 
   -- a record has the encoding in which it was read
-  pub front_encoding : (ls : List (List ℕ)) (r : Read) (behind : List (List ℕ)) → front encoding ls ≡ Found r behind → r.encoding ≡ encoding
+  pub front_encoding : (ls : List (List ℕ)) (r : Read) (behind : List (List ℕ)) →
+      front encoding ls ≡ Found r behind → r.encoding ≡ encoding
   front_encoding [] r behind is = absurd (let h : End ≡ Found r behind = is in cc)
   front_encoding ([] ∷ ls) r behind is = front_encoding ls r behind is
   front_encoding ((b ∷ bs) ∷ ls) r behind is =
       let first = passed (title_fault (b ∷ bs)) _ r behind is in
       let second = passed (sequence_faults 0 (before_plus ls)) _ r behind first.1 in
-      ap (λ (s : Read). s.encoding) (found_quality bs (concat (before_plus ls)) (from_plus ls) r behind second.1).is
+      ap (λ (s : Read). s.encoding) (found_quality bs (concat (before_plus ls)) (from_plus ls) r
+          behind second.1).is

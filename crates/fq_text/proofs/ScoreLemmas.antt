@@ -10,7 +10,8 @@ use Rattle.fq_text.specs.declared.encoding.TheConstants.{PHRED_OF_SOLEXA}
 use Rattle.fq_text.specs.Scores.{lowest, is_scored, low_solexa, phred_of_solexa, value_of, recoded}
 
 -- what holds of each member holds of the one at an index
-pub at_place : (p : ℕ → Bool) (xs : List ℕ) (i : ℕ) → list_all p xs ≡ true → i < length xs → p (get_or xs i 0) ≡ true
+pub at_place : (p : ℕ → Bool) (xs : List ℕ) (i : ℕ) → list_all p xs ≡ true → i < length xs →
+    p (get_or xs i 0) ≡ true
 at_place p xs i all within = ⊎_elim
     (λ holds. holds)
     (λ fails. absurd (false≢true (sym (list_all_at p xs i 0 within fails) ∙ all)))
@@ -19,18 +20,23 @@ at_place p xs i all within = ⊎_elim
 -- no score is above 93, the highest of Sanger's encoding
 low_small : (k : ℕ) → get_or low_solexa k 0 ≤ 93
 low_small k = ⊎_elim
-    (λ within. leb-true (get_or low_solexa k 0) 93 (at_place (λ s. nat_le s 93) low_solexa k refl within))
+    (λ within. leb-true (get_or low_solexa k 0) 93
+        (at_place (λ s. nat_le s 93) low_solexa k refl within))
     (λ beyond. let none = get_or_past low_solexa k 0 beyond in omega arith)
     (cases_lt k (length low_solexa))
 
 pub value_small : (e : Encoding) (b : ℕ) → is_scored e b ≡ true → value_of e b ≤ 93
-value_small Sanger b is = let most : b ≤ 126 = leb-true b 126 (and_parts (nat_le (lowest Sanger) b) (nat_le b 126) is).1 in omega arith
-value_small Illumina13 b is = let most : b ≤ 126 = leb-true b 126 (and_parts (nat_le (lowest Illumina13) b) (nat_le b 126) is).1 in omega arith
+value_small Sanger b is = let most : b ≤ 126 =
+    leb-true b 126 (and_parts (nat_le (lowest Sanger) b) (nat_le b 126) is).1 in omega arith
+value_small Illumina13 b is = let most : b ≤ 126 =
+    leb-true b 126 (and_parts (nat_le (lowest Illumina13) b) (nat_le b 126) is).1 in omega arith
 value_small Solexa b is =
-    let most : b ≤ 126 = leb-true b 126 (and_parts (nat_le (lowest Solexa) b) (nat_le b 126) is).1 in
+    let most : b ≤ 126 =
+        leb-true b 126 (and_parts (nat_le (lowest Solexa) b) (nat_le b 126) is).1 in
     let low = low_small (b - 59) in
     ⊎_elim
-    (λ below. let e : phred_of_solexa b ≡ get_or low_solexa (b - 59) 0 = cond-true (nat_lt b 74) _ _ below in omega arith)
+    (λ below. let e : phred_of_solexa b ≡ get_or low_solexa (b - 59) 0 =
+        cond-true (nat_lt b 74) _ _ below in omega arith)
     (λ from. let e : phred_of_solexa b ≡ b - 64 = cond-false (nat_lt b 74) _ _ from in omega arith)
     (cases_Bool (nat_lt b 74))
 
@@ -44,14 +50,16 @@ unfolding all_below
 below_at zero p k all lt = absurd (omega arith)
 below_at (suc n) p k all lt =
     let parts = and_parts _ _ all in
-    ⊎_elim (λ less. below_at n p k parts.1 less) (λ from. let last : k ≡ n = omega arith in ap p last ∙ parts.0) (cases_lt k n)
+    ⊎_elim (λ less. below_at n p k parts.1 less) (λ from. let last : k ≡ n = omega arith in
+        ap p last ∙ parts.0) (cases_lt k n)
 
 -- the table in the code, from byte 59 on, is that of the definition
 table_below : all_below 68 (λ k. eqb (get_or PHRED_OF_SOLEXA k 0) (phred_of_solexa (k + 59))) ≡ true
 unfolding all_below
 table_below = refl
 
-pub table_at : (k b : ℕ) → is_scored Solexa b ≡ true → k ≡ b - 59 → get_or PHRED_OF_SOLEXA k 0 ≡ value_of Solexa b
+pub table_at : (k b : ℕ) → is_scored Solexa b ≡ true → k ≡ b - 59 →
+    get_or PHRED_OF_SOLEXA k 0 ≡ value_of Solexa b
 table_at k b is place =
     let parts = and_parts _ _ is in
     let least : 59 ≤ b = leb-true 59 b parts.0 in
@@ -60,11 +68,14 @@ table_at k b is place =
     eqb-true _ _ (below_at 68 _ k table_below (omega arith)) ∙ ap phred_of_solexa byte
 
 -- a score at offset 33 is one of Sanger's encoding
-pub recoded_scored : (e : Encoding) (b : ℕ) → is_scored e b ≡ true → is_scored Sanger (recoded e b) ≡ true
+pub recoded_scored : (e : Encoding) (b : ℕ) → is_scored e b ≡ true →
+    is_scored Sanger (recoded e b) ≡ true
 recoded_scored e b is =
     let small = value_small e b is in
     and_from _ _ (le-leb 33 (recoded e b) (omega arith)) (le-leb (recoded e b) 126 (omega arith))
 
-pub all_recoded_scored : (e : Encoding) (bs : List ℕ) → list_all (is_scored e) bs ≡ true → list_all (is_scored Sanger) (map (recoded e) bs) ≡ true
+pub all_recoded_scored : (e : Encoding) (bs : List ℕ) → list_all (is_scored e) bs ≡ true →
+    list_all (is_scored Sanger) (map (recoded e) bs) ≡ true
 all_recoded_scored e [] all = refl
-all_recoded_scored e (b ∷ bs) all = let parts = and_parts _ _ all in and_from _ _ (recoded_scored e b parts.0) (all_recoded_scored e bs parts.1)
+all_recoded_scored e (b ∷ bs) all = let parts = and_parts _ _ all in
+    and_from _ _ (recoded_scored e b parts.0) (all_recoded_scored e bs parts.1)

@@ -24,7 +24,8 @@ is_lf c = eqb c 10
 
 no_lf_any : (xs : List ℕ) → NoLf xs (length xs) → list_any is_lf xs ≡ false
 no_lf_any [] none = refl
-no_lf_any (x ∷ xs) none = or_from _ _ (ne_eqb x 10 (none 0 (omega arith))) (no_lf_any xs (λ k lt. none (suc k) (omega arith)))
+no_lf_any (x ∷ xs) none = or_from _ _ (ne_eqb x 10 (none 0 (omega arith)))
+    (no_lf_any xs (λ k lt. none (suc k) (omega arith)))
 
 none_whole : (xs : List ℕ) → NoLf xs (length xs) → whole_part xs ≡ []
 none_whole [] none = refl
@@ -35,21 +36,25 @@ whole_has_lf b [] whole = or_left _ _ whole
 whole_has_lf b (c ∷ bs) whole = or_right _ _ (whole_has_lf c bs whole)
 
 -- complete lines, and bytes without a line end after them
-pub whole_part-append : (xs ys : List ℕ) → is_whole xs ≡ true → NoLf ys (length ys) → whole_part (xs ++ ys) ≡ xs
+pub whole_part-append : (xs ys : List ℕ) → is_whole xs ≡ true → NoLf ys (length ys) →
+    whole_part (xs ++ ys) ≡ xs
 whole_part-append [] ys whole none = none_whole ys none
 whole_part-append (b ∷ []) ys whole none =
     cond-true _ (b ∷ whole_part ys) [] (or_left _ _ whole) ∙ ap (λ zs. b ∷ zs) (none_whole ys none)
 whole_part-append (b ∷ c ∷ bs) ys whole none =
-    cond-true _ (b ∷ whole_part ((c ∷ bs) ++ ys)) [] (or_right _ _ (list_any-append is_lf (c ∷ bs) ys ∙ or_left _ _ (whole_has_lf c bs whole)))
+    cond-true _ (b ∷ whole_part ((c ∷ bs) ++ ys)) []
+        (or_right _ _ (list_any-append is_lf (c ∷ bs) ys ∙ or_left _ _ (whole_has_lf c bs whole)))
     ∙ ap (λ zs. b ∷ zs) (whole_part-append (c ∷ bs) ys whole none)
 
-some_used : (e : Encoding) (r : Read) (used : List ℕ) → front e (lines used ++ []) ≡ Found r [] → 0 < length used
+some_used : (e : Encoding) (r : Read) (used : List ℕ) → front e (lines used ++ []) ≡ Found r [] →
+    0 < length used
 some_used e r [] is = absurd (let h : End ≡ Found r [] = is in cc)
 some_used e r (b ∷ bs) is = omega arith
 
 module _ {F : Type 0} (state : F → FeedState) (e : Encoding) where
   -- a reader of lines as a source
-  abbrev pub source_of : Lined F → ℕ → Option (Result (Unit {0}) TextFault) → Option Read → Sourced F
+  abbrev pub source_of : Lined F → ℕ → Option (Result (Unit {0}) TextFault) → Option Read →
+      Sourced F
   source_of r k last current = record {
     feed = r.feed;
     encoding = e;
@@ -63,32 +68,43 @@ module _ {F : Type 0} (state : F → FeedState) (e : Encoding) where
     current = current;
   }
 
-  gave_is : (a b : Lined F) (used : List ℕ) (p : Reads state a b used) → IsTrue (state a.feed).tells → take (b.taken - a.taken) (state a.feed).to_come ≡ p.gave
+  gave_is : (a b : Lined F) (used : List ℕ) (p : Reads state a b used) →
+      IsTrue (state a.feed).tells → take (b.taken - a.taken) (state a.feed).to_come ≡ p.gave
   gave_is a b used p told =
       let taken = p.taken in
       let n : b.taken - a.taken ≡ length p.gave = omega arith in
-      ap (λ m. take m (state a.feed).to_come) n ∙ ap (take (length p.gave)) (p.fed told) ∙ take_at p.gave (state b.feed).to_come (length p.gave) refl
+      ap (λ m. take m (state a.feed).to_come) n ∙ ap (take (length p.gave)) (p.fed told)
+          ∙ take_at p.gave (state b.feed).to_come (length p.gave) refl
 
-  pub counted : (a b : Lined F) (used : List ℕ) (k : ℕ) → Reads state a b used → k + length a.in_hand ≤ a.taken → k + length used + length b.in_hand ≤ b.taken
+  pub counted : (a b : Lined F) (used : List ℕ) (k : ℕ) → Reads state a b used →
+      k + length a.in_hand ≤ a.taken → k + length used + length b.in_hand ≤ b.taken
   counted a b used k p le =
-      let taken = p.taken in let hand = ap length p.hand in omega (arith, length-append a.in_hand p.gave, length-append used b.in_hand)
+      let taken = p.taken in let hand = ap length p.hand in
+          omega (arith, length-append a.in_hand p.gave, length-append used b.in_hand)
 
   -- the record at the front is valid
   pub found_lawful : (a b : Lined F) (r : Read) → Goes state a b (front e) (Found r) → IsLawful r
-  found_lawful a b r p = front_is_lawful e p.used r [] (ap (front e) (sym (append-nil (lines p.used))) ∙ p.answer [])
+  found_lawful a b r p =
+      front_is_lawful e p.used r [] (ap (front e) (sym (append-nil (lines p.used))) ∙ p.answer [])
 
-  pub gives_record : (a b : Lined F) (k : ℕ) (l : Option (Result (Unit {0}) TextFault)) (before : Option Read) (r : Read) → l ≡ None → Goes state a b (front e) (Found r) → IsSound state b → length a.in_hand < a.chunk →
+  pub gives_record : (a b : Lined F) (k : ℕ) (l : Option (Result (Unit {0}) TextFault))
+      (before : Option Read) (r : Read) → l ≡ None → Goes state a b (front e) (Found r) →
+      IsSound state b → length a.in_hand < a.chunk →
       GivesRecord state (source_of a k l before) (source_of b (k + 1) l (Some r)) r
   gives_record a b k l before r none p sound small = record {
     lawful = found_lawful a b r p;
-    encoding = front_encoding e (lines p.used) r [] (ap (front e) (sym (append-nil (lines p.used))) ∙ p.answer []);
-    record_is = λ told. ap (front e) (lines_left state a b p.used p.reads p.closed sound told) ∙ p.answer (lines (rest_of state b));
+    encoding = front_encoding e (lines p.used) r [] (ap (front e) (sym (append-nil (lines p.used)))
+        ∙ p.answer []);
+    record_is = λ told. ap (front e) (lines_left state a b p.used p.reads p.closed sound told)
+        ∙ p.answer (lines (rest_of state b));
     tail = λ told. record {
       before = p.used;
       some = some_used e r p.used (p.answer []);
       split = rest_is state a b p.used p.reads told;
       at_line = ⊎_elim (λ whole. inl whole)
-          (λ (end : (b.ended ≡ true) × (b.in_hand ≡ [])). inr (ap (λ xs. xs ++ (state b.feed).to_come) end.1 ∙ sound.nothing end.0 (p.reads.told ∙ told), end.0)) p.closed;
+          (λ (end : (b.ended ≡ true) × (b.in_hand ≡ [])). inr
+              (ap (λ xs. xs ++ (state b.feed).to_come) end.1
+              ∙ sound.nothing end.0 (p.reads.told ∙ told), end.0)) p.closed;
     };
     given = refl;
     last = none;
@@ -96,19 +112,25 @@ module _ {F : Type 0} (state : F → FeedState) (e : Encoding) where
     in_hand = p.small small;
   }
 
-  pub record_used : (a b : Lined F) (r : Read) (p : Goes state a b (front e) (Found r)) → 0 < length p.used
+  pub record_used : (a b : Lined F) (r : Read) (p : Goes state a b (front e) (Found r)) →
+      0 < length p.used
   record_used a b r p = some_used e r p.used (p.answer [])
 
-  lacks_record : (a b : Lined F) (k m : ℕ) (l n : Option (Result (Unit {0}) TextFault)) (before after : Option Read) → Waits state a b (front e) →
+  lacks_record : (a b : Lined F) (k m : ℕ) (l n : Option (Result (Unit {0}) TextFault))
+      (before after : Option Read) → Waits state a b (front e) →
       LacksRecord state (source_of a k l before) (source_of b m n after)
   lacks_record a b k m l n before after p = λ told read ls is. p.answer read ls
-      (ap (λ xs. front e (lines xs)) (sym (ap whole_part (ap (λ xs. a.in_hand ++ xs) (gave_is a b p.used p.reads told) ∙ p.reads.hand) ∙ whole_part-append p.used b.in_hand p.whole p.no_line)) ∙ is)
+      (ap (λ xs. front e (lines xs))
+          (sym (ap whole_part (ap (λ xs. a.in_hand ++ xs) (gave_is a b p.used p.reads told)
+          ∙ p.reads.hand) ∙ whole_part-append p.used b.in_hand p.whole p.no_line)) ∙ is)
 
   -- a feed that has ended stays at its end, so it had not ended before
   still_going : (a b : Lined F) → Waits state a b (front e) → a.ended ≡ false
-  still_going a b p = ⊎_elim (λ over. absurd (let q = p.reads.quiet over in let h = sym q.1 ∙ p.going in cc)) (λ going. going) (cases_Bool a.ended)
+  still_going a b p = ⊎_elim (λ over. absurd (let q = p.reads.quiet over in let h = sym q.1
+      ∙ p.going in cc)) (λ going. going) (cases_Bool a.ended)
 
-  pub stops_used : (a b : Lined F) (why : ReadError) → Stops state a b (front e) why → (used : List ℕ) × Reads state a b used
+  pub stops_used : (a b : Lined F) (why : ReadError) → Stops state a b (front e) why →
+      (used : List ℕ) × Reads state a b used
   stops_used a b (error.Fault f) p = (p.used, p.reads)
   stops_used a b error.Read p = (p.used, p.reads)
   stops_used a b error.Endless p = (p.0.used, p.0.reads)
@@ -124,7 +146,8 @@ module _ {F : Type 0} (state : F → FeedState) (e : Encoding) where
   fault_is S k fault.QualityShort is = (is, refl)
   fault_is S k fault.TooLong is = (is, refl)
 
-  no_device : (P : Type 0) (k : ℕ) (f : Fault) → if_read P (numbered f k) × if_endless P (numbered f k)
+  no_device : (P : Type 0) (k : ℕ) (f : Fault) →
+      if_read P (numbered f k) × if_endless P (numbered f k)
   no_device P k fault.NoTitle = (tt, tt)
   no_device P k fault.BadSequence = (tt, tt)
   no_device P k fault.NoPlus = (tt, tt)
@@ -134,8 +157,10 @@ module _ {F : Type 0} (state : F → FeedState) (e : Encoding) where
   no_device P k fault.QualityShort = (tt, tt)
   no_device P k fault.TooLong = (tt, tt)
 
-  pub stops_text : (a b : Lined F) (k : ℕ) (l : Option (Result (Unit {0}) TextFault)) (before : Option Read) (why : ReadError) → Stops state a b (front e) why →
-      StopsText state (source_of a k l before) (source_of b k (Some (Err (text_fault why (k + 1)))) None) (text_fault why (k + 1))
+  pub stops_text : (a b : Lined F) (k : ℕ) (l : Option (Result (Unit {0}) TextFault))
+      (before : Option Read) (why : ReadError) → Stops state a b (front e) why →
+      StopsText state (source_of a k l before)
+          (source_of b k (Some (Err (text_fault why (k + 1)))) None) (text_fault why (k + 1))
   stops_text a b k l before (error.Fault f) p = record {
     fault_is = λ told. fault_is _ (k + 1) f (p.answer told);
     given = refl;
@@ -145,6 +170,12 @@ module _ {F : Type 0} (state : F → FeedState) (e : Encoding) where
     going = (no_device (a.ended ≡ false) (k + 1) f).0;
     endless = (no_device _ (k + 1) f).1;
   }
-  stops_text a b k l before error.Read p = record { fault_is = λ told. tt; given = refl; last = refl; current = refl; lacks = lacks_record a b k k l None before None p; going = still_going a b p; endless = tt }
-  stops_text a b k l before error.Endless p = record { fault_is = λ told. tt; given = refl; last = refl; current = refl; lacks = lacks_record a b k k l None before None p.0; going = still_going a b p.0; endless = p.1 }
-  stops_text a b k l before error.OutOfMemory p = record { fault_is = λ told. tt; given = refl; last = refl; current = refl; lacks = tt; going = tt; endless = tt }
+  stops_text a b k l before error.Read p = record { fault_is = λ told. tt; given = refl; last =
+      refl; current = refl; lacks = lacks_record a b k k l None before None p; going =
+      still_going a b p; endless = tt }
+  stops_text a b k l before error.Endless p =
+      record { fault_is = λ told. tt; given = refl; last = refl; current = refl; lacks =
+      lacks_record a b k k l None before None p.0; going = still_going a b p.0; endless = p.1 }
+  stops_text a b k l before error.OutOfMemory p =
+      record { fault_is = λ told. tt; given = refl; last = refl; current = refl; lacks = tt; going =
+      tt; endless = tt }

@@ -24,7 +24,8 @@ one_at (x ∷ xs) zero b lt is = ap (λ y. y ∷ []) is
 one_at (x ∷ xs) (suc i) b lt is = one_at xs i b (omega arith) is
 
 -- c bytes from index i on are a bytes, and then b bytes
-parted : (xs : List ℕ) (i j a b c : ℕ) → a + b ≡ c → i + a ≡ j → take c (drop i xs) ≡ take a (drop i xs) ++ take b (drop j xs)
+parted : (xs : List ℕ) (i j a b c : ℕ) → a + b ≡ c → i + a ≡ j →
+    take c (drop i xs) ≡ take a (drop i xs) ++ take b (drop j xs)
 parted xs i j a b c sum place =
     ap (λ m. take m (drop i xs)) (sym sum) ∙ take-add a b (drop i xs)
     ∙ ap (λ ys. take a (drop i xs) ++ take b ys) (drop-drop a i xs ∙ ap (λ m. drop m xs) place)
@@ -37,23 +38,29 @@ abbrev bytes_of : {e : ℕ} → IsEnd e → List ℕ
 bytes_of (inl one) = 10 ∷ []
 bytes_of (inr two) = 13 ∷ 10 ∷ []
 
-end_at : (hand : List ℕ) (i e : ℕ) (is : IsEnd e) → i + e ≤ length hand → EndsAt hand i e → take e (drop i hand) ≡ bytes_of is
+end_at : (hand : List ℕ) (i e : ℕ) (is : IsEnd e) → i + e ≤ length hand → EndsAt hand i e →
+    take e (drop i hand) ≡ bytes_of is
 end_at hand i e (inl one) within p =
-    ap (λ m. take m (drop i hand)) one ∙ one_at hand i 10 (omega arith) (ap (λ m. get_or hand m 0) (omega arith) ∙ p.lf)
+    ap (λ m. take m (drop i hand)) one ∙ one_at hand i 10 (omega arith)
+        (ap (λ m. get_or hand m 0) (omega arith) ∙ p.lf)
 end_at hand i e (inr two) within p =
     let cr : get_or hand i 0 ≡ 13 = ⊎_elim (λ one. absurd (omega arith)) (λ at. at) p.cr in
     parted hand i (i + 1) 1 1 e (omega arith) refl
     ∙ ap (λ ys. ys ++ take 1 (drop (i + 1) hand)) (one_at hand i 13 (omega arith) cr)
-    ∙ ap (λ ys. 13 ∷ ys) (one_at hand (i + 1) 10 (omega arith) (ap (λ m. get_or hand m 0) (omega arith) ∙ p.lf))
+    ∙ ap (λ ys. 13 ∷ ys) (one_at hand (i + 1) 10 (omega arith) (ap (λ m. get_or hand m 0)
+        (omega arith) ∙ p.lf))
 
 -- a line of k bytes at index i, with its line end
-line_at : (hand : List ℕ) (i k j e c : ℕ) (is : IsEnd e) → i + k ≡ j → k + e ≡ c → j + e ≤ length hand → EndsAt hand j e →
+line_at : (hand : List ℕ) (i k j e c : ℕ) (is : IsEnd e) → i + k ≡ j → k + e ≡ c →
+    j + e ≤ length hand → EndsAt hand j e →
     take c (drop i hand) ≡ take k (drop i hand) ++ bytes_of is
 line_at hand i k j e c is place sum within p =
-    parted hand i j k e c sum place ∙ ap (λ ys. take k (drop i hand) ++ ys) (end_at hand j e is within p)
+    parted hand i j k e c sum place ∙ ap (λ ys. take k (drop i hand) ++ ys)
+        (end_at hand j e is within p)
 
 -- a line after a mark
-marked_at : (hand : List ℕ) (i b k j e c : ℕ) (is : IsEnd e) → get_or hand i 0 ≡ b → i + 1 + k ≡ j → k + e + 1 ≡ c → j + e ≤ length hand → EndsAt hand j e →
+marked_at : (hand : List ℕ) (i b k j e c : ℕ) (is : IsEnd e) → get_or hand i 0 ≡ b → i + 1 + k ≡ j →
+    k + e + 1 ≡ c → j + e ≤ length hand → EndsAt hand j e →
     take c (drop i hand) ≡ (b ∷ take k (drop (i + 1) hand)) ++ bytes_of is
 marked_at hand i b k j e c is mark place sum within p =
     parted hand i (i + 1) 1 (k + e) c (omega arith) refl
@@ -66,7 +73,8 @@ four_len s = s.title + s.bases + s.bases + s.again + 4 * s.end + 2
 
 module _ (encoding : Encoding) (hand : List ℕ) (s : Shape) (p : IsFourLines hand s) (is : IsEnd s.end) where
   -- the bytes in hand begin with the four lines of the record
-  lines_first : take (four_len s) hand ≡ four (bytes_of is) (take s.again (drop 1 hand)) (unwrapped encoding s (drop 1 hand)) []
+  lines_first : take (four_len s) hand ≡ four (bytes_of is) (take s.again (drop 1 hand)) (unwrapped
+      encoding s (drop 1 hand)) []
   lines_first =
       let t = s.title in
       let n = s.bases in
@@ -77,28 +85,51 @@ module _ (encoding : Encoding) (hand : List ℕ) (s : Shape) (p : IsFourLines ha
       let title = take t (drop 1 hand) in
       let seq = take n (drop (t + e + 1) hand) in
       let qual = take n (drop (t + n + a + 3 * e + 2) hand) in
-      let first : take (t + e + 1) (drop 0 hand) ≡ (64 ∷ title) ++ end = marked_at hand 0 64 t (t + 1) e (t + e + 1) is p.mark (omega arith) (omega arith) (omega arith) p.ends.title in
-      let second : take (n + e) (drop (t + e + 1) hand) ≡ seq ++ end = line_at hand (t + e + 1) n (t + n + e + 1) e (n + e) is (omega arith) refl (omega arith) p.ends.seq in
-      let third : take (a + e + 1) (drop (t + n + 2 * e + 1) hand) ≡ (43 ∷ take a (drop (t + n + 2 * e + 1 + 1) hand)) ++ end =
-      marked_at hand (t + n + 2 * e + 1) 43 a (t + n + a + 2 * e + 2) e (a + e + 1) is p.plus (omega arith) (omega arith) (omega arith) p.ends.plus in
-      let fourth : take (n + e) (drop (t + n + a + 3 * e + 2) hand) ≡ qual ++ end = line_at hand (t + n + a + 3 * e + 2) n (t + n + n + a + 3 * e + 2) e (n + e) is (omega arith) refl (omega arith) p.ends.qual in
+      let first : take (t + e + 1) (drop 0 hand) ≡ (64 ∷ title) ++ end =
+          marked_at hand 0 64 t (t + 1) e (t + e + 1) is p.mark (omega arith) (omega arith)
+          (omega arith) p.ends.title in
+      let second : take (n + e) (drop (t + e + 1) hand) ≡ seq ++ end =
+          line_at hand (t + e + 1) n (t + n + e + 1) e (n + e) is (omega arith) refl (omega arith)
+          p.ends.seq in
+      let third : take (a + e + 1) (drop (t + n + 2 * e + 1) hand)
+          ≡ (43 ∷ take a (drop (t + n + 2 * e + 1 + 1) hand)) ++ end =
+      marked_at hand (t + n + 2 * e + 1) 43 a (t + n + a + 2 * e + 2) e (a + e + 1) is p.plus
+          (omega arith) (omega arith) (omega arith) p.ends.plus in
+      let fourth : take (n + e) (drop (t + n + a + 3 * e + 2) hand) ≡ qual ++ end =
+          line_at hand (t + n + a + 3 * e + 2) n (t + n + n + a + 3 * e + 2) e (n + e) is
+          (omega arith) refl (omega arith) p.ends.qual in
       let again : take a (drop (t + n + 2 * e + 1 + 1) hand) ≡ take a (drop 1 hand) = p.repeats in
-      let from_third : take (a + n + 2 * e + 1) (drop (t + n + 2 * e + 1) hand) ≡ ((43 ∷ take a (drop 1 hand)) ++ end) ++ (qual ++ end) =
-      parted hand (t + n + 2 * e + 1) (t + n + a + 3 * e + 2) (a + e + 1) (n + e) (a + n + 2 * e + 1) (omega arith) (omega arith)
-      ∙ ap (λ ys. ys ++ take (n + e) (drop (t + n + a + 3 * e + 2) hand)) (third ∙ ap (λ ys. (43 ∷ ys) ++ end) again)
+      let from_third : take (a + n + 2 * e + 1) (drop (t + n + 2 * e + 1) hand)
+          ≡ ((43 ∷ take a (drop 1 hand)) ++ end) ++ (qual ++ end) =
+      parted hand (t + n + 2 * e + 1) (t + n + a + 3 * e + 2) (a + e + 1) (n + e)
+          (a + n + 2 * e + 1) (omega arith) (omega arith)
+      ∙ ap (λ ys. ys ++ take (n + e) (drop (t + n + a + 3 * e + 2) hand)) (third
+          ∙ ap (λ ys. (43 ∷ ys) ++ end) again)
       ∙ ap (λ ys. ((43 ∷ take a (drop 1 hand)) ++ end) ++ ys) fourth in
-      let from_second : take (n + a + n + 3 * e + 1) (drop (t + e + 1) hand) ≡ (seq ++ end) ++ (((43 ∷ take a (drop 1 hand)) ++ end) ++ (qual ++ end)) =
-      parted hand (t + e + 1) (t + n + 2 * e + 1) (n + e) (a + n + 2 * e + 1) (n + a + n + 3 * e + 1) (omega arith) (omega arith)
+      let from_second : take (n + a + n + 3 * e + 1) (drop (t + e + 1) hand)
+          ≡ (seq ++ end) ++ (((43 ∷ take a (drop 1 hand)) ++ end) ++ (qual ++ end)) =
+      parted hand (t + e + 1) (t + n + 2 * e + 1) (n + e) (a + n + 2 * e + 1)
+          (n + a + n + 3 * e + 1) (omega arith) (omega arith)
       ∙ ap (λ ys. ys ++ take (a + n + 2 * e + 1) (drop (t + n + 2 * e + 1) hand)) second
       ∙ ap (λ ys. (seq ++ end) ++ ys) from_third in
-      let place_seq : drop (t + e) (drop 1 hand) ≡ drop (t + e + 1) hand = drop-drop (t + e) 1 hand ∙ ap (λ m. drop m hand) (omega arith) in
-      let place_qual : drop (t + n + a + 3 * e + 1) (drop 1 hand) ≡ drop (t + n + a + 3 * e + 2) hand = drop-drop (t + n + a + 3 * e + 1) 1 hand ∙ ap (λ m. drop m hand) (omega arith) in
-      parted hand 0 (t + e + 1) (t + e + 1) (n + a + n + 3 * e + 1) (four_len s) (omega arith) (omega arith)
+      let place_seq : drop (t + e) (drop 1 hand) ≡ drop (t + e + 1) hand = drop-drop (t + e) 1 hand
+          ∙ ap (λ m. drop m hand) (omega arith) in
+      let place_qual : drop (t + n + a + 3 * e + 1) (drop 1 hand)
+          ≡ drop (t + n + a + 3 * e + 2) hand = drop-drop (t + n + a + 3 * e + 1) 1 hand
+          ∙ ap (λ m. drop m hand) (omega arith) in
+      parted hand 0 (t + e + 1) (t + e + 1) (n + a + n + 3 * e + 1) (four_len s) (omega arith)
+          (omega arith)
       ∙ ap (λ ys. ys ++ take (n + a + n + 3 * e + 1) (drop (t + e + 1) hand)) first
       ∙ ap (λ ys. ((64 ∷ title) ++ end) ++ ys) from_second
-      ∙ ap (λ ys. ((64 ∷ title) ++ end) ++ ((seq ++ end) ++ (((43 ∷ take a (drop 1 hand)) ++ end) ++ ys))) (sym (append-nil (qual ++ end)))
-      ∙ ap (λ ys. ((64 ∷ title) ++ end) ++ ((take n ys ++ end) ++ (((43 ∷ take a (drop 1 hand)) ++ end) ++ ((qual ++ end) ++ [])))) (sym place_seq)
-      ∙ ap (λ ys. ((64 ∷ title) ++ end) ++ ((take n (drop (t + e) (drop 1 hand)) ++ end) ++ (((43 ∷ take a (drop 1 hand)) ++ end) ++ ((take n ys ++ end) ++ [])))) (sym place_qual)
+      ∙ ap (λ ys.
+          ((64 ∷ title) ++ end) ++ ((seq ++ end) ++ (((43 ∷ take a (drop 1 hand)) ++ end) ++ ys)))
+          (sym (append-nil (qual ++ end)))
+      ∙ ap (λ ys.
+          ((64 ∷ title) ++ end) ++ ((take n ys ++ end) ++ (((43 ∷ take a
+          (drop 1 hand)) ++ end) ++ ((qual ++ end) ++ [])))) (sym place_seq)
+      ∙ ap (λ ys. ((64 ∷ title) ++ end) ++ ((take n (drop (t + e)
+          (drop 1 hand)) ++ end) ++ (((43 ∷ take a (drop 1 hand)) ++ end) ++ ((take n
+          ys ++ end) ++ [])))) (sym place_qual)
 
   -- the bytes used up to the end of such lines are complete lines
   whole_first : is_whole (take (four_len s) hand) ≡ true
@@ -110,19 +141,25 @@ module _ (encoding : Encoding) (hand : List ℕ) (s : Shape) (p : IsFourLines ha
       ap (λ m. is_whole (take m hand)) len ∙ whole_to hand last (omega arith) p.ends.qual.lf
 
 -- what follows the second mark is nothing, or the title
-plus_is_sound : (title again : List ℕ) → length title < limit → (again ≡ []) ⊎ (again ≡ title) → plus_fault title (43 ∷ again) ≡ None
+plus_is_sound : (title again : List ℕ) → length title < limit → (again ≡ []) ⊎ (again ≡ title) →
+    plus_fault title (43 ∷ again) ≡ None
 plus_is_sound title again fits (inl none) = ap (λ xs. plus_fault title (43 ∷ xs)) none
 plus_is_sound title again fits (inr same) =
     let short = cond-false _ _ _ (le-ltb limit (length (43 ∷ title)) (omega arith)) in
     let equal = (bytes_eq-Decides (43 ∷ title) (43 ∷ title)).1 refl in
-    ap (λ xs. plus_fault title (43 ∷ xs)) same ∙ short ∙ cond-false _ _ _ (ap not (or_right (bytes_eq (43 ∷ title) (43 ∷ [])) _ equal))
+    ap (λ xs. plus_fault title (43 ∷ xs)) same ∙ short
+        ∙ cond-false _ _ _ (ap not (or_right (bytes_eq (43 ∷ title) (43 ∷ [])) _ equal))
 
-ends_plus : (end title again : List ℕ) → (again ≡ []) ⊎ (again ≡ title) → Ends end (43 ∷ []) → Ends end (43 ∷ title) → Ends end (43 ∷ again)
-ends_plus end title again (inl none) bare titled = subst (λ (xs : List ℕ). Ends end (43 ∷ xs)) (sym none) bare
-ends_plus end title again (inr same) bare titled = subst (λ (xs : List ℕ). Ends end (43 ∷ xs)) (sym same) titled
+ends_plus : (end title again : List ℕ) → (again ≡ []) ⊎ (again ≡ title) → Ends end (43 ∷ []) →
+    Ends end (43 ∷ title) → Ends end (43 ∷ again)
+ends_plus end title again (inl none) bare titled =
+    subst (λ (xs : List ℕ). Ends end (43 ∷ xs)) (sym none) bare
+ends_plus end title again (inr same) bare titled =
+    subst (λ (xs : List ℕ). Ends end (43 ∷ xs)) (sym same) titled
 
 -- the lines of a valid record give the record
-lawful_lines : {e : ℕ} (is : IsEnd e) (r : Read) (again : List ℕ) → IsLawful r → (e ≡ 1 → without_cr r.title ≡ r.title) → (again ≡ []) ⊎ (again ≡ r.title) →
+lawful_lines : {e : ℕ} (is : IsEnd e) (r : Read) (again : List ℕ) → IsLawful r →
+    (e ≡ 1 → without_cr r.title ≡ r.title) → (again ≡ []) ⊎ (again ≡ r.title) →
     AreItsLines (bytes_of is) again r
 lawful_lines (inl one) r again lawful plain shape =
     let quals = quals_are_bases r lawful in
@@ -130,7 +167,8 @@ lawful_lines (inl one) r again lawful plain shape =
       lawful = lawful;
       title = ends_in_lf (64 ∷ r.title) lawful.one_line (plain_behind 64 r.title refl (plain one));
       seq = ends_in_lf r.seq (clean_bases r.seq lawful.bases) (plain_bases r.seq lawful.bases);
-      plus = ends_plus (10 ∷ []) r.title again shape (ends_in_lf (43 ∷ []) refl refl) (ends_in_lf (43 ∷ r.title) lawful.one_line (plain_behind 43 r.title refl (plain one)));
+      plus = ends_plus (10 ∷ []) r.title again shape (ends_in_lf (43 ∷ []) refl refl)
+          (ends_in_lf (43 ∷ r.title) lawful.one_line (plain_behind 43 r.title refl (plain one)));
       qual = ends_in_lf r.qual (clean_bases r.qual quals) (plain_bases r.qual quals);
       same = plus_is_sound r.title again lawful.title_fits shape;
     }
@@ -140,34 +178,47 @@ lawful_lines (inr two) r again lawful plain shape =
       lawful = lawful;
       title = ends_in_cr_lf (64 ∷ r.title) lawful.one_line;
       seq = ends_in_cr_lf r.seq (clean_bases r.seq lawful.bases);
-      plus = ends_plus (13 ∷ 10 ∷ []) r.title again shape (ends_in_cr_lf (43 ∷ []) refl) (ends_in_cr_lf (43 ∷ r.title) lawful.one_line);
+      plus = ends_plus (13 ∷ 10 ∷ []) r.title again shape (ends_in_cr_lf (43 ∷ []) refl)
+          (ends_in_cr_lf (43 ∷ r.title) lawful.one_line);
       qual = ends_in_cr_lf r.qual (clean_bases r.qual quals);
       same = plus_is_sound r.title again lawful.title_fits shape;
     }
 
-its_lines : (encoding : Encoding) (hand : List ℕ) (s : Shape) (p : BeginsWithRecord encoding hand s) → AreItsLines (bytes_of p.shape.end) (take s.again (drop 1 hand)) (unwrapped encoding s (drop 1 hand))
+its_lines : (encoding : Encoding) (hand : List ℕ) (s : Shape)
+    (p : BeginsWithRecord encoding hand s) →
+    AreItsLines (bytes_of p.shape.end) (take s.again (drop 1 hand))
+    (unwrapped encoding s (drop 1 hand))
 its_lines encoding hand s p =
-    let again : (take s.again (drop 1 hand) ≡ []) ⊎ (take s.again (drop 1 hand) ≡ take s.title (drop 1 hand)) =
-    ⊎_elim (λ none. inl (ap (λ (m : ℕ). take m (drop 1 hand)) none)) (λ same. inr (ap (λ (m : ℕ). take m (drop 1 hand)) same)) p.shape.again in
-    lawful_lines p.shape.end (unwrapped encoding s (drop 1 hand)) (take s.again (drop 1 hand)) p.lawful p.plain again
+    let again : (take s.again (drop 1 hand) ≡ [])
+        ⊎ (take s.again (drop 1 hand) ≡ take s.title (drop 1 hand)) =
+    ⊎_elim (λ none. inl (ap (λ (m : ℕ). take m (drop 1 hand)) none))
+        (λ same. inr (ap (λ (m : ℕ). take m (drop 1 hand)) same)) p.shape.again in
+    lawful_lines p.shape.end (unwrapped encoding s (drop 1 hand)) (take s.again (drop 1 hand))
+        p.lawful p.plain again
 
 -- such a record is the one at the front, whatever lines follow
-pub found_in_hand : (encoding : Encoding) (hand : List ℕ) (s : Shape) (ls : List (List ℕ)) → BeginsWithRecord encoding hand s →
-    front encoding (lines (take (four_len s) hand) ++ ls) ≡ Found (unwrapped encoding s (drop 1 hand)) ls
+pub found_in_hand : (encoding : Encoding) (hand : List ℕ) (s : Shape) (ls : List (List ℕ)) →
+    BeginsWithRecord encoding hand s →
+    front encoding (lines (take (four_len s) hand) ++ ls)
+        ≡ Found (unwrapped encoding s (drop 1 hand)) ls
 found_in_hand encoding hand s ls p =
     let r = unwrapped encoding s (drop 1 hand) in
     let fits = p.lines.fits in
     ap (λ xs. front encoding (lines xs ++ ls)) (lines_first encoding hand s p.lines p.shape.end)
-    ∙ found_first (bytes_of p.shape.end) (take s.again (drop 1 hand)) r ls (its_lines encoding hand s p)
-    (omega (arith, length-take s.bases (drop (s.title + s.end) (drop 1 hand)), length-drop (s.title + s.end) (drop 1 hand), length-drop 1 hand, p.some))
+    ∙ found_first (bytes_of p.shape.end) (take s.again (drop 1 hand)) r ls
+        (its_lines encoding hand s p)
+    (omega (arith, length-take s.bases (drop (s.title + s.end) (drop 1 hand)), length-drop
+        (s.title + s.end) (drop 1 hand), length-drop 1 hand, p.some))
 
 -- a first part of the bytes in hand that is long enough holds the same record
-pub unwrapped_front : (encoding : Encoding) (bytes : List ℕ) (s : Shape) (k : ℕ) → s.title + s.bases + s.bases + s.again + 3 * s.end + 1 ≤ k →
+pub unwrapped_front : (encoding : Encoding) (bytes : List ℕ) (s : Shape) (k : ℕ) →
+    s.title + s.bases + s.bases + s.again + 3 * s.end + 1 ≤ k →
     unwrapped encoding s (take k bytes) ≡ unwrapped encoding s bytes
 unwrapped_front encoding bytes s k le =
     let part : (a m : ℕ) → a + m ≤ k → take m (drop a (take k bytes)) ≡ take m (drop a bytes) =
     λ a m within. let sum : a + (k - a) ≡ k = omega arith in
-    ap (λ j. take m (drop a (take j bytes))) (sym sum) ∙ ap (take m) (drop-take a (k - a) bytes) ∙ take-take m (k - a) (drop a bytes) (omega arith) in
+    ap (λ j. take m (drop a (take j bytes))) (sym sum) ∙ ap (take m) (drop-take a (k - a) bytes)
+        ∙ take-take m (k - a) (drop a bytes) (omega arith) in
     let title = take-take s.title k bytes (omega arith) in
     let seq = part (s.title + s.end) s.bases (omega arith) in
     let qual = part (s.title + s.bases + s.again + 3 * s.end + 1) s.bases (omega arith) in
@@ -175,11 +226,13 @@ unwrapped_front encoding bytes s k le =
 
 module _ {F : Type 0} (state : F → FeedState) where
   -- a reader that takes a record out of the bytes in hand is after it
-  pub goes_first : (a b : Lined F) (encoding : Encoding) (s : Shape) (k : ℕ) → b ≡ behind_line state a k (four_len s) → BeginsWithRecord encoding a.in_hand s →
+  pub goes_first : (a b : Lined F) (encoding : Encoding) (s : Shape) (k : ℕ) →
+      b ≡ behind_line state a k (four_len s) → BeginsWithRecord encoding a.in_hand s →
       Goes state a b (front encoding) (Found (unwrapped encoding s (drop 1 a.in_hand)))
   goes_first a b encoding s k is p =
       let len = four_len s in
-      subst (λ (r : Lined F). Goes state a r (front encoding) (Found (unwrapped encoding s (drop 1 a.in_hand)))) (sym is) (record {
+      subst (λ (r : Lined F). Goes state a r (front encoding)
+          (Found (unwrapped encoding s (drop 1 a.in_hand)))) (sym is) (record {
         used = take len a.in_hand;
         reads = behind_reads state a a k len (reads_none state a);
         closed = inl (whole_first encoding a.in_hand s p.lines p.shape.end);
@@ -190,30 +243,37 @@ module _ {F : Type 0} (state : F → FeedState) where
 -- Where the lines end.
 
 -- a byte that fails a test is at no index below n, if the bytes there all pass it
-not_at : (test : ℕ → Bool) (b n : ℕ) (xs : List ℕ) → test b ≡ false → n ≤ length xs → list_all test (take n xs) ≡ true → (k : ℕ) → k < n → get_or xs k 0 ≡ b → ⊥
+not_at : (test : ℕ → Bool) (b n : ℕ) (xs : List ℕ) → test b ≡ false → n ≤ length xs →
+    list_all test (take n xs) ≡ true → (k : ℕ) → k < n → get_or xs k 0 ≡ b → ⊥
 not_at test b n xs fails within passes k lt is =
     let here : get_or (take n xs) k 0 ≡ b = get_or-take n xs k 0 lt ∙ is in
-    let none : list_all test (take n xs) ≡ false = list_all_at test (take n xs) k 0 (omega (arith, length-take n xs)) (ap test here ∙ fails) in
+    let none : list_all test (take n xs) ≡ false =
+        list_all_at test (take n xs) k 0 (omega (arith, length-take n xs)) (ap test here ∙ fails) in
     cc
 
 -- if no LF is below index n, every byte there is another one
-pub one_line_to : (n : ℕ) (xs : List ℕ) → NoLf xs n → list_all (λ b. not (eqb b 10)) (take n xs) ≡ true
+pub one_line_to : (n : ℕ) (xs : List ℕ) → NoLf xs n →
+    list_all (λ b. not (eqb b 10)) (take n xs) ≡ true
 one_line_to zero xs none = refl
 one_line_to (suc n) [] none = refl
 one_line_to (suc n) (x ∷ xs) none = ⊎_elim
     (λ here. absurd (none 0 (omega arith) (eqb-true x 10 here)))
-    (λ off. and_from _ _ (not_from_false _ off) (one_line_to n xs (λ k lt is. none (suc k) (omega arith) is)))
+    (λ off. and_from _ _ (not_from_false _ off)
+        (one_line_to n xs (λ k lt is. none (suc k) (omega arith) is)))
     (cases_Bool (eqb x 10))
 
 -- there is one first LF
-one_end : (xs : List ℕ) (a b : ℕ) → NoLf xs a → get_or xs a 0 ≡ 10 → NoLf xs b → get_or xs b 0 ≡ 10 → a ≡ b
+one_end : (xs : List ℕ) (a b : ℕ) → NoLf xs a → get_or xs a 0 ≡ 10 → NoLf xs b →
+    get_or xs b 0 ≡ 10 → a ≡ b
 one_end xs a b none_a at_a none_b at_b = ⊎_elim
     (λ (lt : a < b). absurd (none_b a lt at_a))
-    (λ (le : b ≤ a). ⊎_elim (λ (lt : b < a). absurd (none_a b lt at_b)) (λ (ge : a ≤ b). omega arith) (cases_lt b a))
+    (λ (le : b ≤ a). ⊎_elim (λ (lt : b < a). absurd (none_a b lt at_b))
+        (λ (ge : a ≤ b). omega arith) (cases_lt b a))
     (cases_lt a b)
 
 -- a line end after an index
-shifted : (i : ℕ) (hand : List ℕ) (k e : ℕ) → 1 ≤ e → EndsAt hand (i + k) e → EndsAt (drop i hand) k e
+shifted : (i : ℕ) (hand : List ℕ) (k e : ℕ) → 1 ≤ e → EndsAt hand (i + k) e →
+    EndsAt (drop i hand) k e
 shifted i hand k e some p =
     let place : i + (k + e - 1) ≡ i + k + e - 1 = omega arith in
     record {
@@ -239,7 +299,8 @@ some_end : {xs : List ℕ} {k e : ℕ} → IsFirstLine xs k e → 1 ≤ e
 some_end p = ⊎_elim (λ one. omega arith) (λ two. omega arith) p.end_is
 
 -- if a line end is LF alone, no CR is before it
-no_cr_before : (xs : List ℕ) (k e : ℕ) → IsFirstLine xs k e → e ≡ 1 → 1 ≤ k → get_or xs (k - 1) 0 ≡ 13 → ⊥
+no_cr_before : (xs : List ℕ) (k e : ℕ) → IsFirstLine xs k e → e ≡ 1 → 1 ≤ k →
+    get_or xs (k - 1) 0 ≡ 13 → ⊥
 no_cr_before xs k e p one some cr =
     let fits = p.fits in
     let line = take k xs in
@@ -249,29 +310,36 @@ no_cr_before xs k e p one some cr =
     omega (arith, length-take (k - 1) line)
 
 -- a line that does not end in CR keeps all its bytes
-pub plain_to : (xs : List ℕ) (k : ℕ) → k ≤ length xs → (1 ≤ k → get_or xs (k - 1) 0 ≡ 13 → ⊥) → without_cr (take k xs) ≡ take k xs
+pub plain_to : (xs : List ℕ) (k : ℕ) → k ≤ length xs → (1 ≤ k → get_or xs (k - 1) 0 ≡ 13 → ⊥) →
+    without_cr (take k xs) ≡ take k xs
 plain_to xs zero le none = refl
 plain_to xs (suc n) le none =
     let last : suc n - 1 ≡ n = omega arith in
     let size : length (take (suc n) xs) ≡ suc n = omega (arith, length-take (suc n) xs) in
-    without_cr_no (take (suc n) xs) n size (λ is. none (omega arith) (ap (λ m. get_or xs m 0) last ∙ sym (get_or-take (suc n) xs n 0 (omega arith)) ∙ is))
+    without_cr_no (take (suc n) xs) n size (λ is. none (omega arith) (ap (λ m. get_or xs m 0) last
+        ∙ sym (get_or-take (suc n) xs n 0 (omega arith)) ∙ is))
 
 -- there is one first line, and it has one line end
-one_end_of : (xs : List ℕ) (k e k' e' : ℕ) → IsFirstLine xs k e → IsFirstLine xs k' e' → k + e ≡ k' + e' → e ≡ 1 → e' ≡ 2 → ⊥
+one_end_of : (xs : List ℕ) (k e k' e' : ℕ) → IsFirstLine xs k e → IsFirstLine xs k' e' →
+    k + e ≡ k' + e' → e ≡ 1 → e' ≡ 2 → ⊥
 one_end_of xs k e k' e' p q same one two =
     let cr : get_or xs k' 0 ≡ 13 = ⊎_elim (λ one. absurd (omega arith)) (λ is. is) q.ends.cr in
     let before : k' ≡ k - 1 = omega arith in
     no_cr_before xs k e p one (omega arith) (ap (λ m. get_or xs m 0) (sym before) ∙ cr)
 
-pub same_line : (xs : List ℕ) (k e k' e' : ℕ) → IsFirstLine xs k e → IsFirstLine xs k' e' → (k ≡ k') × (e ≡ e')
+pub same_line : (xs : List ℕ) (k e k' e' : ℕ) → IsFirstLine xs k e → IsFirstLine xs k' e' →
+    (k ≡ k') × (e ≡ e')
 same_line xs k e k' e' p q =
     let some = some_end p in
     let some' = some_end q in
-    let place : k + e - 1 ≡ k' + e' - 1 = one_end xs (k + e - 1) (k' + e' - 1) (no_lf_to_end xs k e p) p.ends.lf (no_lf_to_end xs k' e' q) q.ends.lf in
+    let place : k + e - 1 ≡ k' + e' - 1 = one_end xs (k + e - 1) (k' + e' - 1)
+        (no_lf_to_end xs k e p) p.ends.lf (no_lf_to_end xs k' e' q) q.ends.lf in
     let same : k + e ≡ k' + e' = omega arith in
     let ends : e ≡ e' = ⊎_elim
-    (λ (one : e ≡ 1). ⊎_elim (λ (one' : e' ≡ 1). omega arith) (λ (two' : e' ≡ 2). absurd (one_end_of xs k e k' e' p q same one two')) q.end_is)
-    (λ (two : e ≡ 2). ⊎_elim (λ (one' : e' ≡ 1). absurd (one_end_of xs k' e' k e q p (sym same) one' two)) (λ (two' : e' ≡ 2). omega arith) q.end_is)
+    (λ (one : e ≡ 1). ⊎_elim (λ (one' : e' ≡ 1). omega arith)
+        (λ (two' : e' ≡ 2). absurd (one_end_of xs k e k' e' p q same one two')) q.end_is)
+    (λ (two : e ≡ 2). ⊎_elim (λ (one' : e' ≡ 1). absurd (one_end_of xs k' e' k e q p (sym same) one'
+        two)) (λ (two' : e' ≡ 2). omega arith) q.end_is)
     p.end_is in
     (omega arith, ends)
 
@@ -290,23 +358,30 @@ module _ (encoding : Encoding) (hand : List ℕ) (s : Shape) (p : BeginsWithReco
       let some = p.some in
       let start = s.title + s.bases + s.again + 3 * s.end + 2 in
       let behind : 1 + (s.title + s.bases + s.again + 3 * s.end + 1) ≡ start = omega arith in
-      let qual : drop (s.title + s.bases + s.again + 3 * s.end + 1) (drop 1 hand) ≡ drop start hand = drop-drop (s.title + s.bases + s.again + 3 * s.end + 1) 1 hand ∙ ap (λ m. drop m hand) behind in
-      let bases = subst (λ xs. list_all is_base (take s.bases xs) ≡ true) qual (quals_are_bases (unwrapped encoding s (drop 1 hand)) p.lawful) in
+      let qual : drop (s.title + s.bases + s.again + 3 * s.end + 1) (drop 1 hand)
+          ≡ drop start hand = drop-drop (s.title + s.bases + s.again + 3 * s.end + 1) 1 hand
+          ∙ ap (λ m. drop m hand) behind in
+      let bases = subst (λ xs. list_all is_base (take s.bases xs) ≡ true) qual
+          (quals_are_bases (unwrapped encoding s (drop 1 hand)) p.lawful) in
       let last : start + (s.bases - 1) ≡ lines_len s - 1 = omega arith in
       plain_to hand (lines_len s) (omega arith)
-      (λ _ cr. not_at is_base 13 s.bases (drop start hand) refl (omega (arith, length-drop start hand)) bases (s.bases - 1) (omega arith)
+      (λ _ cr. not_at is_base 13 s.bases (drop start hand) refl
+          (omega (arith, length-drop start hand)) bases (s.bases - 1) (omega arith)
       (get_or-drop start hand (s.bases - 1) 0 ∙ ap (λ m. get_or hand m 0) last ∙ cr))
 
   -- what is taken up to the end of the last line holds the same record
-  pub taken_same : (taken : List ℕ) → taken ≡ without_cr (take (lines_len s) hand) → unwrapped encoding s (drop 1 taken) ≡ unwrapped encoding s (drop 1 hand)
+  pub taken_same : (taken : List ℕ) → taken ≡ without_cr (take (lines_len s) hand) →
+      unwrapped encoding s (drop 1 taken) ≡ unwrapped encoding s (drop 1 hand)
   taken_same taken is =
       let len : 1 + (lines_len s - 1) ≡ lines_len s = omega arith in
-      ap (λ xs. unwrapped encoding s (drop 1 xs)) (is ∙ lines_plain ∙ ap (λ m. take m hand) (sym len))
+      ap (λ xs. unwrapped encoding s (drop 1 xs)) (is ∙ lines_plain
+          ∙ ap (λ m. take m hand) (sym len))
       ∙ ap (unwrapped encoding s) (drop-take 1 (lines_len s - 1) hand)
       ∙ unwrapped_front encoding (drop 1 hand) s (lines_len s - 1) (omega arith)
 
   -- and all of the record
-  pub taken_whole : (taken : List ℕ) → taken ≡ without_cr (take (lines_len s) hand) → lines_len s ≤ length taken
+  pub taken_whole : (taken : List ℕ) → taken ≡ without_cr (take (lines_len s) hand) →
+      lines_len s ≤ length taken
   taken_whole taken is =
       let fits = p.lines.fits in
       let len = ap length (is ∙ lines_plain) in
@@ -324,8 +399,10 @@ module _ (encoding : Encoding) (hand : List ℕ) (s : Shape) (p : BeginsWithReco
       record {
         end_is = p.shape.end;
         fits = omega (arith, length-drop 1 hand);
-        no_lf = not_at (λ b. not (eqb b 10)) 10 s.title (drop 1 hand) refl (omega (arith, length-drop 1 hand)) p.lawful.one_line;
-        ends = shifted 1 hand s.title s.end some (subst (λ (m : ℕ). EndsAt hand m s.end) place p.lines.ends.title);
+        no_lf = not_at (λ b. not (eqb b 10)) 10 s.title (drop 1 hand) refl
+            (omega (arith, length-drop 1 hand)) p.lawful.one_line;
+        ends = shifted 1 hand s.title s.end some
+            (subst (λ (m : ℕ). EndsAt hand m s.end) place p.lines.ends.title);
         plain = p.plain;
       }
 
@@ -336,24 +413,31 @@ module _ (encoding : Encoding) (hand : List ℕ) (s : Shape) (p : BeginsWithReco
       let some = end_of_shape in
       let place : s.title + s.bases + s.end + 1 ≡ s.title + s.end + 1 + s.bases = omega arith in
       let behind : 1 + (s.title + s.end) ≡ s.title + s.end + 1 = omega arith in
-      let seq : drop (s.title + s.end) (drop 1 hand) ≡ drop (s.title + s.end + 1) hand = drop-drop (s.title + s.end) 1 hand ∙ ap (λ m. drop m hand) behind in
+      let seq : drop (s.title + s.end) (drop 1 hand) ≡ drop (s.title + s.end + 1) hand =
+          drop-drop (s.title + s.end) 1 hand ∙ ap (λ m. drop m hand) behind in
       let bases = subst (λ xs. list_all is_base (take s.bases xs) ≡ true) seq p.lawful.bases in
       record {
         end_is = p.shape.end;
         fits = omega (arith, length-drop (s.title + s.end + 1) hand);
-        no_lf = not_at is_base 10 s.bases (drop (s.title + s.end + 1) hand) refl (omega (arith, length-drop (s.title + s.end + 1) hand)) bases;
-        ends = shifted (s.title + s.end + 1) hand s.bases s.end some (subst (λ (m : ℕ). EndsAt hand m s.end) place p.lines.ends.seq);
+        no_lf = not_at is_base 10 s.bases (drop (s.title + s.end + 1) hand) refl
+            (omega (arith, length-drop (s.title + s.end + 1) hand)) bases;
+        ends = shifted (s.title + s.end + 1) hand s.bases s.end some
+            (subst (λ (m : ℕ). EndsAt hand m s.end) place p.lines.ends.seq);
         plain = λ one. plain_bases (take s.bases (drop (s.title + s.end + 1) hand)) bases;
       }
 
   -- both, if the first line was found
-  pub as_found : (t k : ℕ) → IsFirstLine (drop 1 hand) t k → (t ≡ s.title) × (k ≡ s.end) × IsFirstLine (drop (t + k + 1) hand) s.bases s.end
+  pub as_found : (t k : ℕ) → IsFirstLine (drop 1 hand) t k →
+      (t ≡ s.title) × (k ≡ s.end) × IsFirstLine (drop (t + k + 1) hand) s.bases s.end
   as_found t k title =
       let same = same_line (drop 1 hand) t k s.title s.end title title_line in
       let place : s.title + s.end + 1 ≡ t + k + 1 = cc in
       (same.0, same.1, subst (λ (m : ℕ). IsFirstLine (drop m hand) s.bases s.end) place bases_line)
 
 -- a shape by its parts
-pub shape_is : (s : Shape) (t n e : ℕ) → t ≡ s.title → n ≡ s.bases → e ≡ s.end → s ≡ record { title = t; bases = n; end = e; again = s.again }
+pub shape_is : (s : Shape) (t n e : ℕ) → t ≡ s.title → n ≡ s.bases → e ≡ s.end →
+    s ≡ record { title = t; bases = n; end = e; again = s.again }
 shape_is s t n e title bases end =
-    ap (λ (m : ℕ). record s { title = m }) (sym title) ∙ ap (λ (m : ℕ). record s { title = t; bases = m }) (sym bases) ∙ ap (λ (m : ℕ). record s { title = t; bases = n; end = m }) (sym end)
+    ap (λ (m : ℕ). record s { title = m }) (sym title)
+        ∙ ap (λ (m : ℕ). record s { title = t; bases = m }) (sym bases)
+        ∙ ap (λ (m : ℕ). record s { title = t; bases = n; end = m }) (sym end)

@@ -22,7 +22,8 @@ not_lf b = not (eqb b 10)
 pieces_line : (l ys : List ℕ) → list_all not_lf l ≡ true → pieces (l ++ 10 ∷ ys) ≡ l ∷ pieces ys
 pieces_line [] ys clean = refl
 pieces_line (x ∷ xs) ys clean = let parts = and_parts _ _ clean in
-    cond-false (eqb x 10) _ _ (not-true _ parts.0) ∙ ap (before_first_piece x) (pieces_line xs ys parts.1)
+    cond-false (eqb x 10) _ _ (not-true _ parts.0)
+        ∙ ap (before_first_piece x) (pieces_line xs ys parts.1)
 
 -- bytes from 33 on hold neither line end
 base_high : (b : ℕ) → is_base b ≡ true → 33 ≤ b
@@ -31,14 +32,17 @@ base_high b is = leb-true 33 b (and_parts _ _ is).0
 pub clean_bases : (l : List ℕ) → list_all is_base l ≡ true → list_all not_lf l ≡ true
 clean_bases [] all = refl
 clean_bases (b ∷ bs) all = let parts = and_parts _ _ all in let high = base_high b parts.0 in
-    and_from _ _ (not_from_false _ (ne_eqb b 10 (λ e. absurd (omega arith)))) (clean_bases bs parts.1)
+    and_from _ _ (not_from_false _ (ne_eqb b 10 (λ e. absurd (omega arith))))
+        (clean_bases bs parts.1)
 
 pub plain_bases : (l : List ℕ) → list_all is_base l ≡ true → without_cr l ≡ l
 plain_bases [] all = refl
-plain_bases (b ∷ []) all = let high = base_high b (and_parts _ _ all).0 in cond-false (eqb b 13) _ _ (ne_eqb b 13 (λ e. absurd (omega arith)))
+plain_bases (b ∷ []) all = let high = base_high b (and_parts _ _ all).0 in
+    cond-false (eqb b 13) _ _ (ne_eqb b 13 (λ e. absurd (omega arith)))
 plain_bases (b ∷ c ∷ bs) all = ap (λ xs. b ∷ xs) (plain_bases (c ∷ bs) (and_parts _ _ all).1)
 
-pub plain_behind : (b : ℕ) (l : List ℕ) → eqb b 13 ≡ false → without_cr l ≡ l → without_cr (b ∷ l) ≡ b ∷ l
+pub plain_behind : (b : ℕ) (l : List ℕ) → eqb b 13 ≡ false → without_cr l ≡ l →
+    without_cr (b ∷ l) ≡ b ∷ l
 plain_behind b [] other plain = cond-false (eqb b 13) _ _ other
 plain_behind b (c ∷ cs) other plain = ap (λ xs. b ∷ xs) plain
 
@@ -55,16 +59,19 @@ scored_base e b is =
     let high = leb-true (lowest e) b parts.0 in
     and_from _ _ (le-leb 33 b (omega arith)) parts.1
 
-scored_bases : (e : Encoding) (l : List ℕ) → list_all (is_scored e) l ≡ true → list_all is_base l ≡ true
+scored_bases : (e : Encoding) (l : List ℕ) → list_all (is_scored e) l ≡ true →
+    list_all is_base l ≡ true
 scored_bases e [] all = refl
-scored_bases e (b ∷ bs) all = let parts = and_parts _ _ all in and_from _ _ (scored_base e b parts.0) (scored_bases e bs parts.1)
+scored_bases e (b ∷ bs) all = let parts = and_parts _ _ all in
+    and_from _ _ (scored_base e b parts.0) (scored_bases e bs parts.1)
 
 -- A line followed by this line end is one line, whatever follows.
 abbrev pub Ends : List ℕ → List ℕ → Type 0
 Ends end l = (ys : List ℕ) → lines ((l ++ end) ++ ys) ≡ l ∷ lines ys
 
 pub ends_in_lf : (l : List ℕ) → list_all not_lf l ≡ true → without_cr l ≡ l → Ends (10 ∷ []) l
-ends_in_lf l clean plain ys = ap lines (append_assoc l (10 ∷ []) ys) ∙ ap (map without_cr) (pieces_line l ys clean) ∙ ap (λ m. m ∷ lines ys) plain
+ends_in_lf l clean plain ys = ap lines (append_assoc l (10 ∷ []) ys)
+    ∙ ap (map without_cr) (pieces_line l ys clean) ∙ ap (λ m. m ∷ lines ys) plain
 
 without_last_cr : (l : List ℕ) → without_cr (l ++ 13 ∷ []) ≡ l
 without_last_cr [] = refl
@@ -73,13 +80,16 @@ without_last_cr (b ∷ c ∷ bs) = ap (λ xs. b ∷ xs) (without_last_cr (c ∷ 
 
 pub ends_in_cr_lf : (l : List ℕ) → list_all not_lf l ≡ true → Ends (13 ∷ 10 ∷ []) l
 ends_in_cr_lf l clean ys =
-    let all : list_all not_lf (l ++ 13 ∷ []) ≡ true = list_all-append not_lf l (13 ∷ []) ∙ ap (λ b. b && true) clean in
+    let all : list_all not_lf (l ++ 13 ∷ []) ≡ true = list_all-append not_lf l (13 ∷ [])
+        ∙ ap (λ b. b && true) clean in
     ap lines (append_assoc l (13 ∷ 10 ∷ []) ys ∙ sym (append_assoc l (13 ∷ []) (10 ∷ ys)))
-    ∙ ap (map without_cr) (pieces_line (l ++ 13 ∷ []) ys all) ∙ ap (λ m. m ∷ lines ys) (without_last_cr l)
+    ∙ ap (map without_cr) (pieces_line (l ++ 13 ∷ []) ys all)
+        ∙ ap (λ m. m ∷ lines ys) (without_last_cr l)
 
 -- a record as four lines with this line end, these bytes after the `+`, and a text after them
 abbrev pub four : List ℕ → List ℕ → Read → List ℕ → List ℕ
-four end again r text = ((64 ∷ r.title) ++ end) ++ ((r.seq ++ end) ++ (((43 ∷ again) ++ end) ++ ((r.qual ++ end) ++ text)))
+four end again r text =
+    ((64 ∷ r.title) ++ end) ++ ((r.seq ++ end) ++ (((43 ∷ again) ++ end) ++ ((r.qual ++ end) ++ text)))
 
 -- what makes four such lines a record
 pub record AreItsLines (end again : List ℕ) (r : Read) : Type 0 where
@@ -95,11 +105,14 @@ four_lines : (end again : List ℕ) (r : Read) (text : List ℕ) → AreItsLines
 four_lines end again r text p =
     let qual = ap (λ ls. (43 ∷ again) ∷ ls) (p.qual text) in
     let plus = ap (λ ls. r.seq ∷ ls) (p.plus ((r.qual ++ end) ++ text) ∙ qual) in
-    let seq = ap (λ ls. (64 ∷ r.title) ∷ ls) (p.seq (((43 ∷ again) ++ end) ++ ((r.qual ++ end) ++ text)) ∙ plus) in
+    let seq =
+        ap (λ ls. (64 ∷ r.title) ∷ ls) (p.seq (((43 ∷ again) ++ end) ++ ((r.qual ++ end) ++ text))
+        ∙ plus) in
     p.title ((r.seq ++ end) ++ (((43 ∷ again) ++ end) ++ ((r.qual ++ end) ++ text))) ∙ seq
 
 -- a record is written as such lines
-written_four : (r : Read) (text : List ℕ) → written r.title r.seq r.qual ++ text ≡ four (10 ∷ []) [] r text
+written_four : (r : Read) (text : List ℕ) → written r.title r.seq r.qual ++ text ≡ four (10 ∷ []) []
+    r text
 written_four r text =
     append_assoc (line (64 ∷ r.title) ++ line r.seq ++ line (43 ∷ [])) (line r.qual) text
     ∙ append_assoc (line (64 ∷ r.title) ++ line r.seq) (line (43 ∷ [])) (line r.qual ++ text)
@@ -114,7 +127,8 @@ its_lines r lawful plain = record {
   title = ends_in_lf (64 ∷ r.title) lawful.one_line (plain_behind 64 r.title refl plain);
   seq = ends_in_lf r.seq (clean_bases r.seq lawful.bases) (plain_bases r.seq lawful.bases);
   plus = ends_in_lf (43 ∷ []) refl refl;
-  qual = let quals = quals_are_bases r lawful in ends_in_lf r.qual (clean_bases r.qual quals) (plain_bases r.qual quals);
+  qual = let quals = quals_are_bases r lawful in
+      ends_in_lf r.qual (clean_bases r.qual quals) (plain_bases r.qual quals);
   same = refl;
 }
 
@@ -122,22 +136,30 @@ its_lines r lawful plain = record {
 sound_title : (title : List ℕ) → length title < limit → title_fault (64 ∷ title) ≡ None
 sound_title title fits = cond-false _ _ _ (le-ltb limit (length (64 ∷ title)) (omega arith))
 
-sound_seq : (seq : List ℕ) → length seq ≤ limit → list_all is_base seq ≡ true → begins_with 64 seq ≡ false → sequence_fault 0 seq ≡ None
+sound_seq : (seq : List ℕ) → length seq ≤ limit → list_all is_base seq ≡ true →
+    begins_with 64 seq ≡ false → sequence_fault 0 seq ≡ None
 sound_seq seq fits bases plain =
-    cond-false _ _ _ (le-ltb limit (length seq) fits) ∙ cond-false _ _ _ plain ∙ cond-false _ _ _ (le-ltb limit (0 + length seq) (omega arith))
+    cond-false _ _ _ (le-ltb limit (length seq) fits) ∙ cond-false _ _ _ plain
+        ∙ cond-false _ _ _ (le-ltb limit (0 + length seq) (omega arith))
     ∙ cond-false _ _ _ (not_from_true _ bases)
 
-sound_qual : (e : Encoding) (bases : ℕ) (qual : List ℕ) → bases ≤ limit → length qual ≡ bases → list_all (is_scored e) qual ≡ true → quality_fault e bases 0 qual ≡ None
+sound_qual : (e : Encoding) (bases : ℕ) (qual : List ℕ) → bases ≤ limit → length qual ≡ bases →
+    list_all (is_scored e) qual ≡ true → quality_fault e bases 0 qual ≡ None
 sound_qual e bases qual fits same scores =
-    cond-false _ _ _ (le-ltb limit (length qual) (omega arith)) ∙ cond-false _ _ _ (le-ltb bases (0 + length qual) (omega arith)) ∙ cond-false _ _ _ (not_from_true _ scores)
+    cond-false _ _ _ (le-ltb limit (length qual) (omega arith))
+        ∙ cond-false _ _ _ (le-ltb bases (0 + length qual) (omega arith))
+        ∙ cond-false _ _ _ (not_from_true _ scores)
 
 -- the way to the quality
 to_quality : (end again : List ℕ) (r : Read) (ls : List (List ℕ)) → AreItsLines end again r →
-    front r.encoding ((64 ∷ r.title) ∷ r.seq ∷ (43 ∷ again) ∷ ls) ≡ in_quality r.encoding r.title r.seq [] ls
+    front r.encoding ((64 ∷ r.title) ∷ r.seq ∷ (43 ∷ again) ∷ ls)
+        ≡ in_quality r.encoding r.title r.seq [] ls
 to_quality end again r ls p =
     let lawful = p.lawful in
-    title_goes r.encoding 64 r.title (r.seq ∷ (43 ∷ again) ∷ ls) (sound_title r.title lawful.title_fits)
-    ∙ sequence_goes r.encoding r.title [] r.seq ((43 ∷ again) ∷ ls) (not-true _ lawful.no_plus) (sound_seq r.seq lawful.seq_fits lawful.bases (not-true _ lawful.no_title))
+    title_goes r.encoding 64 r.title (r.seq ∷ (43 ∷ again) ∷ ls)
+        (sound_title r.title lawful.title_fits)
+    ∙ sequence_goes r.encoding r.title [] r.seq ((43 ∷ again) ∷ ls) (not-true _ lawful.no_plus)
+        (sound_seq r.seq lawful.seq_fits lawful.bases (not-true _ lawful.no_title))
     ∙ sequence_ends r.encoding r.title r.seq (43 ∷ again) ls refl
     ∙ plus_goes r.encoding r.title r.seq (43 ∷ again) ls p.same
 
@@ -158,54 +180,68 @@ stands_before r text lawful plain =
     let same = lawful.same_len in
     let fits = lawful.seq_fits in
     let its = its_lines r lawful plain in
-    let four = ap (λ xs. front r.encoding (lines xs)) (written_four r text) ∙ ap (front r.encoding) (four_lines (10 ∷ []) [] r text its) ∙ to_quality (10 ∷ []) [] r (r.qual ∷ lines text) its in
+    let four = ap (λ xs. front r.encoding (lines xs)) (written_four r text)
+        ∙ ap (front r.encoding) (four_lines (10 ∷ []) [] r text its)
+        ∙ to_quality (10 ∷ []) [] r (r.qual ∷ lines text) its in
     ⊎_elim
     (λ none.
     let empty : r.qual ≡ [] = nil_qual r.qual (omega arith) in
     record {
       rest = r.qual ∷ lines text;
-      found = four ∙ quality_ends r.encoding r.title r.seq [] (r.qual ∷ lines text) (omega arith) ∙ ap (λ q. Found (record { encoding = r.encoding; title = r.title; seq = r.seq; qual = q }) (r.qual ∷ lines text)) (sym empty);
+      found = four ∙ quality_ends r.encoding r.title r.seq [] (r.qual ∷ lines text) (omega arith)
+          ∙ ap (λ q. Found (record { encoding = r.encoding; title = r.title; seq = r.seq; qual =
+          q }) (r.qual ∷ lines text)) (sym empty);
       then = ap (λ q. front r.encoding (q ∷ lines text)) empty;
     })
     (λ some.
     record {
       rest = lines text;
-      found = four ∙ quality_goes r.encoding r.title r.seq [] r.qual (lines text) (omega arith) (sound_qual r.encoding (length r.seq) r.qual fits same lawful.scores)
+      found = four ∙ quality_goes r.encoding r.title r.seq [] r.qual (lines text) (omega arith)
+          (sound_qual r.encoding (length r.seq) r.qual fits same lawful.scores)
           ∙ quality_ends r.encoding r.title r.seq r.qual (lines text) (omega arith);
       then = refl;
     })
     (Rattle.std.proofs.lemmas.Bool.cases_eq (length r.seq) 0)
 
 -- four lines that are a record with bases are the record at the front, whatever lines follow
-pub found_first : (end again : List ℕ) (r : Read) (ls : List (List ℕ)) → AreItsLines end again r → 0 < length r.seq →
+pub found_first : (end again : List ℕ) (r : Read) (ls : List (List ℕ)) → AreItsLines end again r →
+    0 < length r.seq →
     front r.encoding (lines (four end again r []) ++ ls) ≡ Found r ls
 found_first end again r ls p some =
     let lawful = p.lawful in
     let same = lawful.same_len in
     ap (λ xs. front r.encoding (xs ++ ls)) (four_lines end again r [] p)
     ∙ to_quality end again r (r.qual ∷ ls) p
-    ∙ quality_goes r.encoding r.title r.seq [] r.qual ls (omega arith) (sound_qual r.encoding (length r.seq) r.qual lawful.seq_fits same lawful.scores)
+    ∙ quality_goes r.encoding r.title r.seq [] r.qual ls (omega arith)
+        (sound_qual r.encoding (length r.seq) r.qual lawful.seq_fits same lawful.scores)
     ∙ quality_ends r.encoding r.title r.seq r.qual ls (omega arith)
 
 -- the records of lines that begin with one: that record, and then those of the lines after it
-records_of : (n : ℕ) (e : Encoding) (r : Read) (ls others : List (List ℕ)) → length others < n → StandsBefore e r ls others →
+records_of : (n : ℕ) (e : Encoding) (r : Read) (ls others : List (List ℕ)) → length others < n →
+    StandsBefore e r ls others →
     records_within (suc (suc n)) e ls ≡ with_first r (records_within (suc (length others)) e others)
 records_of n e r ls others fewer stands =
     ap (from_front (records_within (suc n) e)) stands.found
     ∙ ap (λ f. with_first r (from_front (records_within n e) f)) stands.then
-    ∙ ap (with_first r) (room_enough (suc n) (suc (length others)) e others (omega arith) (omega arith))
+    ∙ ap (with_first r) (room_enough (suc n) (suc (length others)) e others (omega arith)
+        (omega arith))
 
 -- a valid record reads back
 reads_lawful : (r : Read) (text : List ℕ) → IsLawful r → without_cr r.title ≡ r.title →
-    records r.encoding (written r.title r.seq r.qual ++ text) ≡ with_first r (records r.encoding text)
+    records r.encoding (written r.title r.seq r.qual ++ text)
+        ≡ with_first r (records r.encoding text)
 reads_lawful r text lawful plain =
     let whole = lines (written r.title r.seq r.qual ++ text) in
-    let len : suc (length whole) ≡ suc (suc (length (lines text) + 3)) = omega (arith, ap (λ xs. length (lines xs)) (written_four r text), ap length (four_lines (10 ∷ []) [] r text (its_lines r lawful plain))) in
+    let len : suc (length whole) ≡ suc (suc (length (lines text) + 3)) =
+        omega (arith, ap (λ xs. length (lines xs)) (written_four r text), ap length
+        (four_lines (10 ∷ []) [] r text (its_lines r lawful plain))) in
     ap (λ n. records_within n r.encoding whole) len
-    ∙ records_of (length (lines text) + 3) r.encoding r whole (lines text) (omega arith) (stands_before r text lawful plain)
+    ∙ records_of (length (lines text) + 3) r.encoding r whole (lines text) (omega arith)
+        (stands_before r text lawful plain)
 
 -- recoding keeps a record valid
-lawful_as_written : (recode : Option Encoding) (r : Read) → IsLawful r → CanRecode recode r.qual → IsLawful (as_written recode r)
+lawful_as_written : (recode : Option Encoding) (r : Read) → IsLawful r → CanRecode recode r.qual →
+    IsLawful (as_written recode r)
 lawful_as_written None r lawful can = lawful
 lawful_as_written (Some e) r lawful can = record {
   one_line = lawful.one_line;
@@ -220,4 +256,5 @@ lawful_as_written (Some e) r lawful can = record {
 
 pub reads_back : ReadsBack
 reads_back r None text lawful plain can = reads_lawful r text lawful plain
-reads_back r (Some e) text lawful plain can = reads_lawful (as_written (Some e) r) text (lawful_as_written (Some e) r lawful can) plain
+reads_back r (Some e) text lawful plain can =
+    reads_lawful (as_written (Some e) r) text (lawful_as_written (Some e) r lawful can) plain

@@ -20,7 +20,8 @@ get_or-countdown zero k lt = absurd (omega arith)
 get_or-countdown (suc n) zero lt = omega arith
 get_or-countdown (suc n) (suc k) lt = get_or-countdown n k (omega arith) ∙ omega arith
 
-pub turned_at : (v : List ℕ) (k : ℕ) → length v ≡ 16 → k < 16 → get_or (map (λ i. get_or (v ++ v) i 0) (countdown 16)) k 0 ≡ get_or v (15 - k) 0
+pub turned_at : (v : List ℕ) (k : ℕ) → length v ≡ 16 → k < 16 →
+    get_or (map (λ i. get_or (v ++ v) i 0) (countdown 16)) k 0 ≡ get_or v (15 - k) 0
 turned_at v k long lt =
     get_or-map (λ i. get_or (v ++ v) i 0) (countdown 16) k 0 0 (omega (arith, length-countdown 16))
     ∙ ap (λ i. get_or (v ++ v) i 0) (get_or-countdown 16 k lt ∙ omega arith)
@@ -30,14 +31,16 @@ turned_at v k long lt =
 module _ (v turned : List ℕ) (score r : ℕ) (long : length turned ≡ 16) (each : (k : ℕ) → k < 16 → get_or turned k 0 ≡ get_or v (15 - k) 0)
     (counted : r ≡ prefix_len (λ x. not (leb score x)) turned) where
   of_all : r ≡ prefix_len (λ x. not (leb score x)) (take 16 turned)
-  of_all = counted ∙ ap (prefix_len (λ x. not (leb score x))) (sym (take_all 16 turned (omega arith)))
+  of_all = counted ∙ ap (prefix_len (λ x. not (leb score x)))
+      (sym (take_all 16 turned (omega arith)))
 
   pub few : r ≤ 16
   few = run_in_chunk_le (leb score) turned 0 16 r 0 (omega arith) of_all
 
   pub low : (k : ℕ) → 16 ≤ k + r → k < 16 → get_or v k 0 < score
   low k from lt =
-      let fails = run_in_chunk_fails (leb score) turned 0 16 r 0 (omega arith) of_all (15 - k) (omega arith) (omega arith) in
+      let fails = run_in_chunk_fails (leb score) turned 0 16 r 0 (omega arith) of_all (15 - k)
+          (omega arith) (omega arith) in
       let small = leb-false score (get_or turned (15 - k) 0) fails in
       let same = each (15 - k) (omega arith) in
       let place : 15 - (15 - k) ≡ k = omega arith in
@@ -45,19 +48,23 @@ module _ (v turned : List ℕ) (score r : ℕ) (long : length turned ≡ 16) (ea
       omega arith
 
 -- the scores of part of a read
-part_at : (offset start k : ℕ) (qual part : List ℕ) → start + 16 ≤ length qual → k < 16 → part ≡ map (λ byte. byte - offset) (take 16 (drop start qual)) →
+part_at : (offset start k : ℕ) (qual part : List ℕ) → start + 16 ≤ length qual → k < 16 →
+    part ≡ map (λ byte. byte - offset) (take 16 (drop start qual)) →
     get_or part k 0 ≡ get_or (distances offset qual) (start + k) 0
 part_at offset start k qual part room lt is =
     let lent = take 16 (drop start qual) in
-    let here : length lent ≡ 16 = length-take-le 16 (drop start qual) (omega (arith, length-drop start qual)) in
+    let here : length lent ≡ 16 = length-take-le 16 (drop start qual)
+        (omega (arith, length-drop start qual)) in
     ap (λ s. get_or s k 0) is
     ∙ get_or-map (λ byte. byte - offset) lent k 0 0 (omega arith)
     ∙ ap (λ byte. byte - offset) (get_or-chunk start 16 qual k 0 lt)
     ∙ sym (get_or-map (λ byte. byte - offset) qual (start + k) 0 0 (omega arith))
 
 -- low scores at the end, and the scores before them
-pub lower : (offset score stop r : ℕ) (qual part : List ℕ) → 16 ≤ stop → stop ≤ length qual → part ≡ map (λ byte. byte - offset) (take 16 (drop (stop - 16) qual)) →
-    ((k : ℕ) → 16 ≤ k + r → k < 16 → get_or part k 0 < score) → ((k : ℕ) → stop ≤ k → k < length qual → get_or (distances offset qual) k 0 < score) →
+pub lower : (offset score stop r : ℕ) (qual part : List ℕ) → 16 ≤ stop → stop ≤ length qual →
+    part ≡ map (λ byte. byte - offset) (take 16 (drop (stop - 16) qual)) →
+    ((k : ℕ) → 16 ≤ k + r → k < 16 → get_or part k 0 < score) →
+        ((k : ℕ) → stop ≤ k → k < length qual → get_or (distances offset qual) k 0 < score) →
     r ≤ 16 → (k : ℕ) → stop - r ≤ k → k < length qual → get_or (distances offset qual) k 0 < score
 lower offset score stop r qual part room within is here behind few k from lt = ⊎_elim
     (λ before.

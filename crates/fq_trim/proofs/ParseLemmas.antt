@@ -11,60 +11,80 @@ use Rattle.fq_trim.specs.Words.{result_map, step_of, put_before, steps_from, ste
 abbrev pub put_all : List Step → Result (List Step) StepFault → Result (List Step) StepFault
 put_all steps rest = result_map (λ others. steps ++ others) rest
 
-put_all-push : (steps : List Step) (step : Step) (rest : Result (List Step) StepFault) → put_all steps (result_map (λ others. step ∷ others) rest) ≡ put_all (steps ++ (step ∷ [])) rest
+put_all-push : (steps : List Step) (step : Step) (rest : Result (List Step) StepFault) →
+    put_all steps (result_map (λ others. step ∷ others) rest) ≡ put_all (steps ++ (step ∷ [])) rest
 put_all-push steps step (Ok others) = ap Ok (sym (append_assoc steps (step ∷ []) others))
 put_all-push steps step (Err fault) = refl
 
 module _ (words : List (List ℕ)) (held : List Step) (i : ℕ) (lt : i < length words) (so_far : steps_from 1 words ≡ put_all (take i held) (steps_from (suc i) (drop i words))) where
-  next : steps_from (suc i) (drop i words) ≡ steps_from (suc i) (get_or words i [] ∷ drop (i + 1) words)
+  next : steps_from (suc i) (drop i words) ≡ steps_from (suc i) (get_or words i [] ∷ drop (i + 1)
+      words)
   next = ap (steps_from (suc i)) (drop_more words i [] lt)
 
   pub step_put : (step : Step) → i < length held → step_of (get_or words i []) ≡ Ok step →
-      steps_from 1 words ≡ put_all (take (i + 1) (set held i step)) (steps_from (suc (i + 1)) (drop (i + 1) words))
+      steps_from 1 words ≡ put_all (take (i + 1) (set held i step)) (steps_from (suc (i + 1))
+          (drop (i + 1) words))
   step_put step room is =
       so_far
-      ∙ ap (put_all (take i held)) (next ∙ ap (λ r. put_before (suc i) r (steps_from (suc (suc i)) (drop (i + 1) words))) is)
+      ∙ ap (put_all (take i held)) (next
+          ∙ ap (λ r. put_before (suc i) r (steps_from (suc (suc i)) (drop (i + 1) words))) is)
       ∙ put_all-push (take i held) step (steps_from (suc (suc i)) (drop (i + 1) words))
-      ∙ ap (λ n. put_all (take i held ++ (step ∷ [])) (steps_from n (drop (i + 1) words))) (ap suc (sym (add-one i)))
-      ∙ ap (λ steps. put_all steps (steps_from (suc (i + 1)) (drop (i + 1) words))) (sym (take_more_set held i step room))
+      ∙ ap (λ n. put_all (take i held ++ (step ∷ [])) (steps_from n (drop (i + 1) words)))
+          (ap suc (sym (add-one i)))
+      ∙ ap (λ steps. put_all steps (steps_from (suc (i + 1)) (drop (i + 1) words)))
+          (sym (take_more_set held i step room))
 
-  pub fault_found : (kind : StepFaultKind) → step_of (get_or words i []) ≡ Err kind → steps_from 1 words ≡ Err (record { place = i + 1; kind = kind })
+  pub fault_found : (kind : StepFaultKind) → step_of (get_or words i []) ≡ Err kind →
+      steps_from 1 words ≡ Err (record { place = i + 1; kind = kind })
   fault_found kind is =
       let fault : ℕ → Result (List Step) StepFault = λ n. Err (record { place = n; kind = kind }) in
       so_far
-      ∙ ap (put_all (take i held)) (next ∙ ap (λ r. put_before (suc i) r (steps_from (suc (suc i)) (drop (i + 1) words))) is)
+      ∙ ap (put_all (take i held)) (next
+          ∙ ap (λ r. put_before (suc i) r (steps_from (suc (suc i)) (drop (i + 1) words))) is)
       ∙ ap fault (sym (add-one i))
 
 -- after the last argument
-pub all_held : (words : List (List ℕ)) (held : List Step) (i : ℕ) → length words ≤ i → steps_from 1 words ≡ put_all (take i held) (steps_from (suc i) (drop i words)) → steps_from 1 words ≡ Ok (take i held)
-all_held words held i le so_far = so_far ∙ ap (λ left. put_all (take i held) (steps_from (suc i) left)) (drop_all i words le) ∙ ap Ok (append-nil (take i held))
+pub all_held : (words : List (List ℕ)) (held : List Step) (i : ℕ) → length words ≤ i →
+    steps_from 1 words ≡ put_all (take i held) (steps_from (suc i) (drop i words)) →
+    steps_from 1 words ≡ Ok (take i held)
+all_held words held i le so_far = so_far
+    ∙ ap (λ left. put_all (take i held) (steps_from (suc i) left)) (drop_all i words le)
+    ∙ ap Ok (append-nil (take i held))
 
 -- 1 to 64 arguments
-pub steps_of_few : (words : List (List ℕ)) → 0 < length words → length words ≤ 64 → steps_of words ≡ steps_from 1 words
+pub steps_of_few : (words : List (List ℕ)) → 0 < length words → length words ≤ 64 →
+    steps_of words ≡ steps_from 1 words
 steps_of_few words some few =
     cond-false (eqb (length words) 0) _ _ (ne_eqb (length words) 0 (λ none. omega arith))
     ∙ cond-false (ltb 64 (length words)) _ _ (le-ltb 64 (length words) few)
 
 -- Arguments that are all steps, and the first that is not.
-record Put (place : ℕ) (one : Result Step StepFaultKind) (rest : Result (List Step) StepFault) (steps : List Step) : Type 0 where
+record Put (place : ℕ) (one : Result Step StepFaultKind) (rest : Result (List Step) StepFault)
+    (steps : List Step) : Type 0 where
   step : Step
   others : List Step
   first : one ≡ Ok step
   behind : rest ≡ Ok others
   both : steps ≡ step ∷ others
 
-put_parts : (place : ℕ) (one : Result Step StepFaultKind) (rest : Result (List Step) StepFault) (steps : List Step) → put_before place one rest ≡ Ok steps → Put place one rest steps
+put_parts : (place : ℕ) (one : Result Step StepFaultKind) (rest : Result (List Step) StepFault)
+    (steps : List Step) → put_before place one rest ≡ Ok steps → Put place one rest steps
 put_parts place (Err kind) rest steps is = cc
 put_parts place (Ok step) (Err fault) steps is = cc
-put_parts place (Ok step) (Ok others) steps is = record { step = step; others = others; first = refl; behind = refl; both = cc }
+put_parts place (Ok step) (Ok others) steps is =
+    record { step = step; others = others; first = refl; behind = refl; both = cc }
 
-pub all_steps : (place : ℕ) (words : List (List ℕ)) (steps : List Step) → steps_from place words ≡ Ok steps → map {B = Result Step StepFaultKind} Ok steps ≡ map step_of words
+pub all_steps : (place : ℕ) (words : List (List ℕ)) (steps : List Step) →
+    steps_from place words ≡ Ok steps → map {B = Result Step StepFaultKind} Ok steps ≡ map step_of
+    words
 all_steps place [] steps is = let none : steps ≡ [] = cc in ap (map Ok) none
 all_steps place (word ∷ words) steps is =
     let put = put_parts place (step_of word) (steps_from (suc place) words) steps is in
     let rest = all_steps (suc place) words put.others put.behind in
-    let list : Step → List Step → List (Result Step StepFaultKind) = λ step others. Ok step ∷ map Ok others in
-    ap (map Ok) put.both ∙ ap (λ r. r ∷ map Ok put.others) (sym put.first) ∙ ap (λ rs. step_of word ∷ rs) rest
+    let list : Step → List Step → List (Result Step StepFaultKind) =
+        λ step others. Ok step ∷ map Ok others in
+    ap (map Ok) put.both ∙ ap (λ r. r ∷ map Ok put.others) (sym put.first)
+        ∙ ap (λ rs. step_of word ∷ rs) rest
 
 -- the index of the first faulty argument, counted from 0
 record FirstAt (place : ℕ) (words : List (List ℕ)) (fault : StepFault) : Type 0 where
@@ -74,30 +94,43 @@ record FirstAt (place : ℕ) (words : List (List ℕ)) (fault : StepFault) : Typ
   found : step_of (get_or words index []) ≡ Err fault.kind
   before : (k : ℕ) → k < index → is_ok (step_of (get_or words k [])) ≡ true
 
-later : (place : ℕ) (word : List ℕ) (words : List (List ℕ)) (fault : StepFault) → is_ok (step_of word) ≡ true → FirstAt (suc place) words fault → FirstAt place (word ∷ words) fault
+later : (place : ℕ) (word : List ℕ) (words : List (List ℕ)) (fault : StepFault) →
+    is_ok (step_of word) ≡ true → FirstAt (suc place) words fault →
+    FirstAt place (word ∷ words) fault
 later place word words fault good first =
     let at = first.at in
     let within = first.within in
-    let passed : (k : ℕ) → k < suc first.index → is_ok (step_of (get_or (word ∷ words) k [])) ≡ true = below first.before in
-    record { index = suc first.index; within = omega arith; at = omega arith; found = first.found; before = passed }
+    let passed : (k : ℕ) → k < suc first.index →
+        is_ok (step_of (get_or (word ∷ words) k [])) ≡ true = below first.before in
+    record { index = suc first.index; within = omega arith; at = omega arith; found =
+        first.found; before = passed }
   where
-    below : ((k : ℕ) → k < first.index → is_ok (step_of (get_or words k [])) ≡ true) → (k : ℕ) → k < suc first.index → is_ok (step_of (get_or (word ∷ words) k [])) ≡ true
+    below : ((k : ℕ) → k < first.index → is_ok (step_of (get_or words k [])) ≡ true) → (k : ℕ) →
+        k < suc first.index → is_ok (step_of (get_or (word ∷ words) k [])) ≡ true
     below old zero lt = good
     below old (suc k) lt = old k (omega arith)
 
-first_at : (place : ℕ) (words : List (List ℕ)) (fault : StepFault) → steps_from place words ≡ Err fault → FirstAt place words fault
+first_at : (place : ℕ) (words : List (List ℕ)) (fault : StepFault) →
+    steps_from place words ≡ Err fault → FirstAt place words fault
 first_at place [] fault is = cc
-first_at place (word ∷ words) fault is = at_word (first_at (suc place) words fault) (step_of word) refl (steps_from (suc place) words) refl is
+first_at place (word ∷ words) fault is = at_word (first_at (suc place) words fault) (step_of word)
+    refl (steps_from (suc place) words) refl is
   where
-    at_word : (steps_from (suc place) words ≡ Err fault → FirstAt (suc place) words fault) → (one : Result Step StepFaultKind) → step_of word ≡ one → (rest : Result (List Step) StepFault) → steps_from (suc place) words ≡ rest → put_before place one rest ≡ Err fault → FirstAt place (word ∷ words) fault
+    at_word : (steps_from (suc place) words ≡ Err fault → FirstAt (suc place) words fault) →
+        (one : Result Step StepFaultKind) → step_of word ≡ one →
+        (rest : Result (List Step) StepFault) → steps_from (suc place) words ≡ rest →
+        put_before place one rest ≡ Err fault → FirstAt place (word ∷ words) fault
     at_word deeper (Err kind) one_is rest rest_is is =
         let same : place ≡ fault.place = cc in
         let kinds : kind ≡ fault.kind = cc in
-        record { index = 0; within = omega arith; at = omega arith; found = one_is ∙ ap Err kinds; before = λ k lt. absurd (omega arith) }
+        record { index = 0; within = omega arith; at = omega arith; found = one_is
+            ∙ ap Err kinds; before = λ k lt. absurd (omega arith) }
     at_word deeper (Ok step) one_is (Ok others) rest_is is = cc
-    at_word deeper (Ok step) one_is (Err other) rest_is is = later place word words fault (ap is_ok one_is) (deeper (rest_is ∙ is))
+    at_word deeper (Ok step) one_is (Err other) rest_is is =
+        later place word words fault (ap is_ok one_is) (deeper (rest_is ∙ is))
 
-pub first_fault : (words : List (List ℕ)) (fault : StepFault) → steps_from 1 words ≡ Err fault → IsFirstFault fault.kind fault.place words
+pub first_fault : (words : List (List ℕ)) (fault : StepFault) → steps_from 1 words ≡ Err fault →
+    IsFirstFault fault.kind fault.place words
 first_fault words fault is =
     let first = first_at 1 words fault is in
     let at = first.at in

@@ -17,29 +17,43 @@ length-places a zero = refl
 length-places a (suc n) = ap suc (length-places (suc a) n)
 
 pub places-append : (a m n : ℕ) → places a (m + n) ≡ places a m ++ places (a + m) n
-places-append a zero n = let e : zero + n ≡ n = omega arith in let f : a + zero ≡ a = omega arith in rw (e, f) refl
-places-append a (suc m) n = let e : suc m + n ≡ suc (m + n) = omega arith in let f : a + suc m ≡ suc a + m = omega arith in rw (e, f) (ap (λ ps. a ∷ ps) (places-append (suc a) m n))
+places-append a zero n = let e : zero + n ≡ n = omega arith in let f : a + zero ≡ a = omega arith in
+    rw (e, f) refl
+places-append a (suc m) n = let e : suc m + n ≡ suc (m + n) = omega arith in
+    let f : a + suc m ≡ suc a + m = omega arith in
+    rw (e, f) (ap (λ ps. a ∷ ps) (places-append (suc a) m n))
 
-select_append : (test : ℕ → Bool) (j : ℕ) (xs ys : List ℕ) → select test j (xs ++ ys) ≡ select test j xs ++ select test (j + length xs) ys
+select_append : (test : ℕ → Bool) (j : ℕ) (xs ys : List ℕ) →
+    select test j (xs ++ ys) ≡ select test j xs ++ select test (j + length xs) ys
 select_append test j [] ys = let e : j + 0 ≡ j = omega arith in rw e refl
 select_append test j (x ∷ xs) ys =
     let e : j + suc (length xs) ≡ suc j + length xs = omega arith in
-    let rest = select_append test (suc j) xs ys ∙ ap (λ n. select test (suc j) xs ++ select test n ys) (sym e) in
+    let rest = select_append test (suc j) xs ys
+        ∙ ap (λ n. select test (suc j) xs ++ select test n ys) (sym e) in
     ⊎_elim
-    (λ is. cond-true (test j) _ _ is ∙ ap (λ zs. x ∷ zs) rest ∙ ap (λ zs. zs ++ select test (j + suc (length xs)) ys) (sym (cond-true (test j) (x ∷ select test (suc j) xs) (select test (suc j) xs) is)))
-    (λ is. cond-false (test j) _ _ is ∙ rest ∙ ap (λ zs. zs ++ select test (j + suc (length xs)) ys) (sym (cond-false (test j) (x ∷ select test (suc j) xs) (select test (suc j) xs) is)))
+    (λ is. cond-true (test j) _ _ is ∙ ap (λ zs. x ∷ zs) rest
+        ∙ ap (λ zs. zs ++ select test (j + suc (length xs)) ys)
+        (sym (cond-true (test j) (x ∷ select test (suc j) xs) (select test (suc j) xs) is)))
+    (λ is. cond-false (test j) _ _ is ∙ rest
+        ∙ ap (λ zs. zs ++ select test (j + suc (length xs)) ys)
+        (sym (cond-false (test j) (x ∷ select test (suc j) xs) (select test (suc j) xs) is)))
     (cases_Bool (test j))
 
-select_all : (test : ℕ → Bool) (j : ℕ) (xs : List ℕ) → ((k : ℕ) → j ≤ k → k < j + length xs → test k ≡ true) → select test j xs ≡ xs
+select_all : (test : ℕ → Bool) (j : ℕ) (xs : List ℕ) →
+    ((k : ℕ) → j ≤ k → k < j + length xs → test k ≡ true) → select test j xs ≡ xs
 select_all test j [] all = refl
-select_all test j (x ∷ xs) all = cond-true (test j) _ _ (all j (omega arith) (omega arith)) ∙ ap (λ zs. x ∷ zs) (select_all test (suc j) xs (λ k le lt. all k (omega arith) (omega arith)))
+select_all test j (x ∷ xs) all = cond-true (test j) _ _ (all j (omega arith) (omega arith))
+    ∙ ap (λ zs. x ∷ zs) (select_all test (suc j) xs (λ k le lt. all k (omega arith) (omega arith)))
 
-select_none : (test : ℕ → Bool) (j : ℕ) (xs : List ℕ) → ((k : ℕ) → j ≤ k → k < j + length xs → test k ≡ false) → select test j xs ≡ []
+select_none : (test : ℕ → Bool) (j : ℕ) (xs : List ℕ) →
+    ((k : ℕ) → j ≤ k → k < j + length xs → test k ≡ false) → select test j xs ≡ []
 select_none test j [] none = refl
-select_none test j (x ∷ xs) none = cond-false (test j) _ _ (none j (omega arith) (omega arith)) ∙ select_none test (suc j) xs (λ k le lt. none k (omega arith) (omega arith))
+select_none test j (x ∷ xs) none = cond-false (test j) _ _ (none j (omega arith) (omega arith))
+    ∙ select_none test (suc j) xs (λ k le lt. none k (omega arith) (omega arith))
 
 -- what a test between two indices selects
-pub select_between : (test : ℕ → Bool) (a n lo hi : ℕ) → IsBetween test n lo hi → select test 0 (places a n) ≡ places (a + lo) (hi - lo)
+pub select_between : (test : ℕ → Bool) (a n lo hi : ℕ) → IsBetween test n lo hi →
+    select test 0 (places a n) ≡ places (a + lo) (hi - lo)
 select_between test a n lo hi b =
     let order = b.order in let within = b.within in
     let e : n ≡ lo + ((hi - lo) + (n - hi)) = omega arith in
@@ -47,53 +61,74 @@ select_between test a n lo hi b =
     let l2 = length-places (a + lo) (hi - lo) in
     let l3 = length-places (a + lo + (hi - lo)) (n - hi) in
     ap (λ m. select test 0 (places a m)) e
-    ∙ ap (select test 0) (places-append a lo ((hi - lo) + (n - hi)) ∙ ap (λ ps. places a lo ++ ps) (places-append (a + lo) (hi - lo) (n - hi)))
+    ∙ ap (select test 0) (places-append a lo ((hi - lo) + (n - hi))
+        ∙ ap (λ ps. places a lo ++ ps) (places-append (a + lo) (hi - lo) (n - hi)))
     ∙ select_append test 0 (places a lo) _
-    ∙ ap (λ ps. ps ++ select test (0 + length (places a lo)) (places (a + lo) (hi - lo) ++ places (a + lo + (hi - lo)) (n - hi))) (select_none test 0 (places a lo) (λ k le lt. b.before k (omega arith) (omega arith)))
+    ∙ ap (λ ps. ps ++ select test (0 + length (places a lo))
+        (places (a + lo) (hi - lo) ++ places (a + lo + (hi - lo)) (n - hi)))
+        (select_none test 0 (places a lo) (λ k le lt. b.before k (omega arith) (omega arith)))
     ∙ select_append test (0 + length (places a lo)) (places (a + lo) (hi - lo)) _
-    ∙ ap (λ ps. ps ++ select test (0 + length (places a lo) + length (places (a + lo) (hi - lo))) (places (a + lo + (hi - lo)) (n - hi))) (select_all test (0 + length (places a lo)) (places (a + lo) (hi - lo)) (λ k le lt. b.inside k (omega arith) (omega arith)))
-    ∙ ap (λ ps. places (a + lo) (hi - lo) ++ ps) (select_none test (0 + length (places a lo) + length (places (a + lo) (hi - lo))) (places (a + lo + (hi - lo)) (n - hi)) (λ k le lt. b.behind k (omega arith) (omega arith)))
+    ∙ ap (λ ps. ps ++ select test (0 + length (places a lo) + length (places (a + lo) (hi - lo)))
+        (places (a + lo + (hi - lo)) (n - hi)))
+        (select_all test (0 + length (places a lo)) (places (a + lo) (hi - lo))
+        (λ k le lt. b.inside k (omega arith) (omega arith)))
+    ∙ ap (λ ps. places (a + lo) (hi - lo) ++ ps)
+        (select_none test (0 + length (places a lo) + length (places (a + lo) (hi - lo)))
+        (places (a + lo + (hi - lo)) (n - hi)) (λ k le lt. b.behind k (omega arith) (omega arith)))
     ∙ append-nil _
 
 -- the scores at consecutive indices
-pub scores_at : (q : List ℕ) (a n : ℕ) → a + n ≤ length q → map (λ p. get_or q p 0) (places a n) ≡ take n (drop a q)
+pub scores_at : (q : List ℕ) (a n : ℕ) → a + n ≤ length q →
+    map (λ p. get_or q p 0) (places a n) ≡ take n (drop a q)
 scores_at q a zero le = refl
 scores_at q a (suc n) le =
     ap (λ xs. get_or q a 0 ∷ xs) (scores_at q (suc a) n (omega arith))
-    ∙ sym (ap (take (suc n)) (drop_more q a 0 (omega arith) ∙ ap (λ m. get_or q a 0 ∷ drop m q) (add-one a)))
+    ∙ sym (ap (take (suc n)) (drop_more q a 0 (omega arith)
+        ∙ ap (λ m. get_or q a 0 ∷ drop m q) (add-one a)))
 
 -- one step of several, if it keeps the indices between two
-pub step_keeps : (step : Step) (steps : List Step) (q : List ℕ) (start stop lo hi : ℕ) → start ≤ stop → stop ≤ length q →
+pub step_keeps : (step : Step) (steps : List Step) (q : List ℕ) (start stop lo hi : ℕ) →
+    start ≤ stop → stop ≤ length q →
     IsBetween (keeps step (take (stop - start) (drop start q))) (stop - start) lo hi →
-    kept_of (step ∷ steps) q (places start (stop - start)) ≡ kept_of steps q (places (start + lo) (hi - lo))
+    kept_of (step ∷ steps) q (places start (stop - start))
+        ≡ kept_of steps q (places (start + lo) (hi - lo))
 step_keeps step steps q start stop lo hi le within b =
-    ap (λ xs. kept_of steps q (select (keeps step xs) 0 (places start (stop - start)))) (scores_at q start (stop - start) (omega arith))
+    ap (λ xs. kept_of steps q (select (keeps step xs) 0 (places start (stop - start))))
+        (scores_at q start (stop - start) (omega arith))
     ∙ ap (kept_of steps q) (select_between _ start (stop - start) lo hi b)
 
 -- one step alone, applied to all bases
-pub step_alone : (step : Step) (e : Encoding) (qual : List ℕ) (lo hi : ℕ) → IsBetween (keeps step (scores e qual)) (length qual) lo hi →
+pub step_alone : (step : Step) (e : Encoding) (qual : List ℕ) (lo hi : ℕ) →
+    IsBetween (keeps step (scores e qual)) (length qual) lo hi →
     kept (step ∷ []) (scores e qual) ≡ places lo (hi - lo)
 step_alone step e qual lo hi b =
     let q = scores e qual in
     let len = length-map qual (value_of e) in
-    ap (λ xs. select (keeps step xs) 0 (places 0 (length q))) (scores_at q 0 (length q) (omega arith) ∙ take_all (length q) q (omega arith))
+    ap (λ xs. select (keeps step xs) 0 (places 0 (length q)))
+        (scores_at q 0 (length q) (omega arith) ∙ take_all (length q) q (omega arith))
     ∙ ap (λ n. select (keeps step q) 0 (places 0 n)) len
     ∙ select_between (keeps step q) 0 (length qual) lo hi b
     ∙ ap (λ a. places a (hi - lo)) (omega arith)
 
 -- The first index with a score.
-pub any_from : (t : ℕ) (q : List ℕ) (lo j : ℕ) → lo ≤ j → lo < length q → t ≤ get_or q lo 0 → list_any (leb t) (take (suc j) q) ≡ true
+pub any_from : (t : ℕ) (q : List ℕ) (lo j : ℕ) → lo ≤ j → lo < length q → t ≤ get_or q lo 0 →
+    list_any (leb t) (take (suc j) q) ≡ true
 any_from t [] lo j le lt at = absurd (omega arith)
 any_from t (x ∷ xs) zero j le lt at = or_left _ _ (le-leb t x at)
 any_from t (x ∷ xs) (suc lo) zero le lt at = absurd (omega arith)
-any_from t (x ∷ xs) (suc lo) (suc j) le lt at = or_right _ _ (any_from t xs lo j (omega arith) (omega arith) at)
+any_from t (x ∷ xs) (suc lo) (suc j) le lt at =
+    or_right _ _ (any_from t xs lo j (omega arith) (omega arith) at)
 
-pub none_to : (t : ℕ) (q : List ℕ) (n : ℕ) → ((k : ℕ) → k < n → get_or q k 0 < t) → n ≤ length q → list_any (leb t) (take n q) ≡ false
+pub none_to : (t : ℕ) (q : List ℕ) (n : ℕ) → ((k : ℕ) → k < n → get_or q k 0 < t) → n ≤ length q →
+    list_any (leb t) (take n q) ≡ false
 none_to t q zero none le = refl
 none_to t [] (suc n) none le = absurd (omega arith)
-none_to t (x ∷ xs) (suc n) none le = or_from _ _ (lt-leb t x (none 0 (omega arith))) (none_to t xs n (λ k lt. none (suc k) (omega arith)) (omega arith))
+none_to t (x ∷ xs) (suc n) none le = or_from _ _ (lt-leb t x (none 0 (omega arith)))
+    (none_to t xs n (λ k lt. none (suc k) (omega arith)) (omega arith))
 
-pub leading_between : (t : ℕ) (q : List ℕ) (lo : ℕ) → lo ≤ length q → ((k : ℕ) → k < lo → get_or q k 0 < t) → (lo < length q → t ≤ get_or q lo 0) → IsBetween (keeps (Leading t) q) (length q) lo (length q)
+pub leading_between : (t : ℕ) (q : List ℕ) (lo : ℕ) → lo ≤ length q →
+    ((k : ℕ) → k < lo → get_or q k 0 < t) → (lo < length q → t ≤ get_or q lo 0) →
+    IsBetween (keeps (Leading t) q) (length q) lo (length q)
 leading_between t q lo le none at = record {
   order = le;
   within = omega arith;
@@ -103,23 +138,31 @@ leading_between t q lo le none at = record {
 }
 
 -- The last index with a score.
-any_behind : (t : ℕ) (q : List ℕ) (k j : ℕ) → k ≤ j → j < length q → t ≤ get_or q j 0 → list_any (leb t) (drop k q) ≡ true
+any_behind : (t : ℕ) (q : List ℕ) (k j : ℕ) → k ≤ j → j < length q → t ≤ get_or q j 0 →
+    list_any (leb t) (drop k q) ≡ true
 any_behind t q k j le lt at =
     let there : k + (j - k) ≡ j = omega arith in
-    let is : get_or (drop k q) (j - k) 0 ≡ get_or q j 0 = get_or-drop k q (j - k) 0 ∙ ap (λ n. get_or q n 0) there in
+    let is : get_or (drop k q) (j - k) 0 ≡ get_or q j 0 = get_or-drop k q (j - k) 0
+        ∙ ap (λ n. get_or q n 0) there in
     let len = length-drop k q in
     list_any_at (leb t) (drop k q) (j - k) 0 (omega arith) (le-leb t _ (omega arith))
 
-none_in : (t : ℕ) (q : List ℕ) → ((k : ℕ) → k < length q → get_or q k 0 < t) → list_any (leb t) q ≡ false
+none_in : (t : ℕ) (q : List ℕ) → ((k : ℕ) → k < length q → get_or q k 0 < t) →
+    list_any (leb t) q ≡ false
 none_in t [] none = refl
-none_in t (x ∷ xs) none = or_from _ _ (lt-leb t x (none 0 (omega arith))) (none_in t xs (λ k lt. none (suc k) (omega arith)))
+none_in t (x ∷ xs) none = or_from _ _ (lt-leb t x (none 0 (omega arith)))
+    (none_in t xs (λ k lt. none (suc k) (omega arith)))
 
-none_behind : (t : ℕ) (q : List ℕ) (k : ℕ) → ((j : ℕ) → k ≤ j → j < length q → get_or q j 0 < t) → list_any (leb t) (drop k q) ≡ false
+none_behind : (t : ℕ) (q : List ℕ) (k : ℕ) → ((j : ℕ) → k ≤ j → j < length q → get_or q j 0 < t) →
+    list_any (leb t) (drop k q) ≡ false
 none_behind t q k none =
     let len = length-drop k q in
-    none_in t (drop k q) (λ i lt. let is = get_or-drop k q i 0 in let low = none (k + i) (omega arith) (omega arith) in omega arith)
+    none_in t (drop k q) (λ i lt. let is = get_or-drop k q i 0 in let low =
+        none (k + i) (omega arith) (omega arith) in omega arith)
 
-pub trailing_between : (t : ℕ) (q : List ℕ) (hi : ℕ) → hi ≤ length q → (0 < hi → t ≤ get_or q (hi - 1) 0) → ((k : ℕ) → hi ≤ k → k < length q → get_or q k 0 < t) → IsBetween (keeps (Trailing t) q) (length q) 0 hi
+pub trailing_between : (t : ℕ) (q : List ℕ) (hi : ℕ) → hi ≤ length q →
+    (0 < hi → t ≤ get_or q (hi - 1) 0) → ((k : ℕ) → hi ≤ k → k < length q → get_or q k 0 < t) →
+    IsBetween (keeps (Trailing t) q) (length q) 0 hi
 trailing_between t q hi within at low = record {
   order = omega arith;
   within = within;
@@ -139,30 +182,38 @@ empty_between test n none = record {
 }
 
 -- Windows.
-pub all_places : (test : ℕ → Bool) (a n : ℕ) → ((k : ℕ) → a ≤ k → k < a + n → test k ≡ true) → list_all test (places a n) ≡ true
+pub all_places : (test : ℕ → Bool) (a n : ℕ) → ((k : ℕ) → a ≤ k → k < a + n → test k ≡ true) →
+    list_all test (places a n) ≡ true
 all_places test a zero all = refl
-all_places test a (suc n) all = and_from _ _ (all a (omega arith) (omega arith)) (all_places test (suc a) n (λ k le lt. all k (omega arith) (omega arith)))
+all_places test a (suc n) all = and_from _ _ (all a (omega arith) (omega arith))
+    (all_places test (suc a) n (λ k le lt. all k (omega arith) (omega arith)))
 
-pub one_fails : (test : ℕ → Bool) (a n k : ℕ) → a ≤ k → k < a + n → test k ≡ false → list_all test (places a n) ≡ false
+pub one_fails : (test : ℕ → Bool) (a n k : ℕ) → a ≤ k → k < a + n → test k ≡ false →
+    list_all test (places a n) ≡ false
 one_fails test a zero k le lt bad = absurd (omega arith)
 one_fails test a (suc n) k le lt bad = ⊎_elim
     (λ is. and_left _ _ (ap test is ∙ bad))
     (λ above. and_right _ _ (one_fails test (suc a) n k (omega arith) (omega arith) bad))
     (Rattle.std.proofs.lemmas.Bool.cases_eq a k)
 
-any_places : (test : ℕ → Bool) (a n k : ℕ) → a ≤ k → k < a + n → test k ≡ true → list_any test (places a n) ≡ true
+any_places : (test : ℕ → Bool) (a n k : ℕ) → a ≤ k → k < a + n → test k ≡ true →
+    list_any test (places a n) ≡ true
 any_places test a zero k le lt good = absurd (omega arith)
 any_places test a (suc n) k le lt good = ⊎_elim
     (λ is. or_left _ _ (ap test is ∙ good))
     (λ above. or_right _ _ (any_places test (suc a) n k (omega arith) (omega arith) good))
     (Rattle.std.proofs.lemmas.Bool.cases_eq a k)
 
-none_places : (test : ℕ → Bool) (a n : ℕ) → ((k : ℕ) → a ≤ k → k < a + n → test k ≡ false) → list_any test (places a n) ≡ false
+none_places : (test : ℕ → Bool) (a n : ℕ) → ((k : ℕ) → a ≤ k → k < a + n → test k ≡ false) →
+    list_any test (places a n) ≡ false
 none_places test a zero none = refl
-none_places test a (suc n) none = or_from _ _ (none a (omega arith) (omega arith)) (none_places test (suc a) n (λ k le lt. none k (omega arith) (omega arith)))
+none_places test a (suc n) none = or_from _ _ (none a (omega arith) (omega arith))
+    (none_places test (suc a) n (λ k le lt. none k (omega arith) (omega arith)))
 
-pub window_between : (w t : ℕ) (q : List ℕ) (last : ℕ) → w ≤ length q → is_good_window w t q 0 ≡ true → last ≤ length q →
-    (0 < last → is_good_end w t q (last - 1) ≡ true) → ((k : ℕ) → last ≤ k → k < length q → is_good_end w t q k ≡ false) →
+pub window_between : (w t : ℕ) (q : List ℕ) (last : ℕ) → w ≤ length q →
+    is_good_window w t q 0 ≡ true → last ≤ length q →
+    (0 < last → is_good_end w t q (last - 1) ≡ true) →
+        ((k : ℕ) → last ≤ k → k < length q → is_good_end w t q k ≡ false) →
     IsBetween (keeps (SlidingWindow w t) q) (length q) 0 last
 window_between w t q last fits first within good none =
     let ready = and_from _ _ (le-leb w (length q) fits) first in
@@ -170,62 +221,91 @@ window_between w t q last fits first within good none =
       order = omega arith;
       within = within;
       before = λ k lt in_q. absurd (omega arith);
-      inside = λ k from lt. and_from _ _ ready (any_places (is_good_end w t q) k (length q - k) (last - 1) (omega arith) (omega arith) (good (omega arith)));
-      behind = λ k from lt. and_right _ _ (none_places (is_good_end w t q) k (length q - k) (λ m le below. none m (omega arith) (omega arith)));
+      inside =
+          λ k from lt. and_from _ _ ready (any_places (is_good_end w t q) k (length q - k) (last -
+          1) (omega arith) (omega arith) (good (omega arith)));
+      behind =
+          λ k from lt. and_right _ _ (none_places (is_good_end w t q) k (length q - k) (λ m le
+          below. none m (omega arith) (omega arith)));
     }
 
-pub window_bad : (w t : ℕ) (q : List ℕ) → sum (take w q) < w * t → IsBetween (keeps (SlidingWindow w t) q) (length q) 0 0
-window_bad w t q bad = empty_between (keeps (SlidingWindow w t) q) (length q) (λ k. and_left _ _ (and_right _ _ (lt-leb (w * t) (sum (take w q)) bad)))
+pub window_bad : (w t : ℕ) (q : List ℕ) → sum (take w q) < w * t →
+    IsBetween (keeps (SlidingWindow w t) q) (length q) 0 0
+window_bad w t q bad = empty_between (keeps (SlidingWindow w t) q) (length q)
+    (λ k. and_left _ _ (and_right _ _ (lt-leb (w * t) (sum (take w q)) bad)))
 
 -- Scores of quality bytes.
 module _ (e : Encoding) (qual : List ℕ) where
   pub length-scores : length (scores e qual) ≡ length qual
   length-scores = length-map qual (value_of e)
 
-  pub score_at : (i : ℕ) → i < length qual → get_or (scores e qual) i 0 ≡ value_of e (get_or qual i 0)
+  pub score_at : (i : ℕ) → i < length qual →
+      get_or (scores e qual) i 0 ≡ value_of e (get_or qual i 0)
   score_at i lt = get_or-map (value_of e) qual i 0 0 lt
 
   pub scores_of_part : (s n : ℕ) → scores e (take n (drop s qual)) ≡ take n (drop s (scores e qual))
-  scores_of_part s n = sym (take-map (value_of e) n (drop s qual)) ∙ ap (take n) (sym (drop-map (value_of e) s qual))
+  scores_of_part s n = sym (take-map (value_of e) n (drop s qual))
+      ∙ ap (take n) (sym (drop-map (value_of e) s qual))
 
-  pub leading_scores : (t lo : ℕ) → lo ≤ length qual → ((k : ℕ) → k < lo → get_or (scores e qual) k 0 < t) → (lo < length qual → t ≤ value_of e (get_or qual lo 0)) →
+  pub leading_scores : (t lo : ℕ) → lo ≤ length qual →
+      ((k : ℕ) → k < lo → get_or (scores e qual) k 0 < t) →
+      (lo < length qual → t ≤ value_of e (get_or qual lo 0)) →
       IsBetween (keeps (Leading t) (scores e qual)) (length qual) lo (length qual)
   leading_scores t lo le none at =
       let len = length-scores in
-      subst (λ n. IsBetween (keeps (Leading t) (scores e qual)) n lo n) len (leading_between t (scores e qual) lo (omega arith) none
-      (λ lt. let in_qual : lo < length qual = omega arith in let same = score_at lo in_qual in let h = at in_qual in omega arith))
+      subst (λ n. IsBetween (keeps (Leading t) (scores e qual)) n lo n) len
+          (leading_between t (scores e qual) lo (omega arith) none
+      (λ lt. let in_qual : lo < length qual = omega arith in let same = score_at lo in_qual in
+          let h = at in_qual in omega arith))
 
-  pub trailing_scores : (t hi : ℕ) → hi ≤ length qual → (0 < hi → t ≤ get_or (scores e qual) (hi - 1) 0) → ((k : ℕ) → hi ≤ k → k < length qual → get_or (scores e qual) k 0 < t) →
+  pub trailing_scores : (t hi : ℕ) → hi ≤ length qual →
+      (0 < hi → t ≤ get_or (scores e qual) (hi - 1) 0) →
+      ((k : ℕ) → hi ≤ k → k < length qual → get_or (scores e qual) k 0 < t) →
       IsBetween (keeps (Trailing t) (scores e qual)) (length qual) 0 hi
   trailing_scores t hi within at low =
       let len = length-scores in
-      subst (λ n. IsBetween (keeps (Trailing t) (scores e qual)) n 0 hi) len (trailing_between t (scores e qual) hi (omega arith) at (λ k from lt. low k from (omega arith)))
+      subst (λ n. IsBetween (keeps (Trailing t) (scores e qual)) n 0 hi) len
+          (trailing_between t (scores e qual) hi (omega arith) at
+          (λ k from lt. low k from (omega arith)))
 
   pub part_between : (step : Step) (start stop lo hi : ℕ) → start ≤ stop → stop ≤ length qual →
-      IsBetween (keeps step (scores e (take (stop - start) (drop start qual)))) (length (take (stop - start) (drop start qual))) lo hi →
+      IsBetween (keeps step (scores e (take (stop - start) (drop start qual))))
+          (length (take (stop - start) (drop start qual))) lo hi →
       IsBetween (keeps step (take (stop - start) (drop start (scores e qual)))) (stop - start) lo hi
   part_between step start stop lo hi le within b =
-      let n : length (take (stop - start) (drop start qual)) ≡ stop - start = length-take-le (stop - start) (drop start qual) (omega (arith, length-drop start qual)) in
-      subst (λ m. IsBetween (keeps step (take (stop - start) (drop start (scores e qual)))) m lo hi) n
-      (subst (λ xs. IsBetween (keeps step xs) (length (take (stop - start) (drop start qual))) lo hi) (scores_of_part start (stop - start)) b)
+      let n : length (take (stop - start) (drop start qual)) ≡ stop - start =
+          length-take-le (stop - start) (drop start qual) (omega (arith, length-drop start qual)) in
+      subst (λ m. IsBetween (keeps step (take (stop - start) (drop start (scores e qual)))) m lo hi)
+          n
+      (subst (λ xs. IsBetween (keeps step xs) (length (take (stop - start) (drop start qual))) lo
+          hi) (scores_of_part start (stop - start)) b)
 
 -- Ends of windows.
 low_end : (w t : ℕ) (q : List ℕ) (k : ℕ) → get_or q k 0 < t → is_good_end w t q k ≡ false
 low_end w t q k low = and_left _ _ (lt-leb t (get_or q k 0) low)
 
-bad_end : (w t : ℕ) (q : List ℕ) (s k : ℕ) → 0 < w → s + w ≤ k + 1 → sum (take w (drop s q)) < w * t → is_good_end w t q k ≡ false
-bad_end w t q s k some within bad = and_right _ _ (one_fails (is_good_window w t q) 0 (k + 2 - w) s (omega arith) (omega arith) (lt-leb (w * t) (sum (take w (drop s q))) bad))
+bad_end : (w t : ℕ) (q : List ℕ) (s k : ℕ) → 0 < w → s + w ≤ k + 1 →
+    sum (take w (drop s q)) < w * t → is_good_end w t q k ≡ false
+bad_end w t q s k some within bad =
+    and_right _ _ (one_fails (is_good_window w t q) 0 (k + 2 - w) s (omega arith) (omega arith)
+    (lt-leb (w * t) (sum (take w (drop s q))) bad))
 
-good_end : (w t : ℕ) (q : List ℕ) (k : ℕ) → t ≤ get_or q k 0 → ((s : ℕ) → s + w ≤ k + 1 → w * t ≤ sum (take w (drop s q))) → is_good_end w t q k ≡ true
-good_end w t q k at good = and_from _ _ (le-leb t (get_or q k 0) at) (all_places (is_good_window w t q) 0 (k + 2 - w) (λ s le lt. le-leb (w * t) (sum (take w (drop s q))) (good s (omega arith))))
+good_end : (w t : ℕ) (q : List ℕ) (k : ℕ) → t ≤ get_or q k 0 →
+    ((s : ℕ) → s + w ≤ k + 1 → w * t ≤ sum (take w (drop s q))) → is_good_end w t q k ≡ true
+good_end w t q k at good = and_from _ _ (le-leb t (get_or q k 0) at)
+    (all_places (is_good_window w t q) 0 (k + 2 - w)
+    (λ s le lt. le-leb (w * t) (sum (take w (drop s q))) (good s (omega arith))))
 
 -- what a sliding window keeps, if the first bad window ends at index `good`
-pub window_kept : (w t : ℕ) (q : List ℕ) (good last : ℕ) → 0 < w → w ≤ length q → w ≤ good → good ≤ length q → last ≤ good →
-    ((s : ℕ) → s + w ≤ good → w * t ≤ sum (take w (drop s q))) → (good < length q → sum (take w (drop (good + 1 - w) q)) < w * t) →
+pub window_kept : (w t : ℕ) (q : List ℕ) (good last : ℕ) → 0 < w → w ≤ length q → w ≤ good →
+    good ≤ length q → last ≤ good →
+    ((s : ℕ) → s + w ≤ good → w * t ≤ sum (take w (drop s q))) →
+        (good < length q → sum (take w (drop (good + 1 - w) q)) < w * t) →
     (0 < last → t ≤ get_or q (last - 1) 0) → ((k : ℕ) → last ≤ k → k < good → get_or q k 0 < t) →
     IsBetween (keeps (SlidingWindow w t) q) (length q) 0 last
 window_kept w t q good last some fits first within under windows bad high low =
-    window_between w t q last fits (le-leb (w * t) (sum (take w q)) (windows 0 (omega arith))) (omega arith)
+    window_between w t q last fits (le-leb (w * t) (sum (take w q)) (windows 0 (omega arith)))
+        (omega arith)
     (λ has. good_end w t q (last - 1) (high has) (λ s le. windows s (omega arith)))
     (λ k from lt. ⊎_elim
     (λ (below : k < good). low_end w t q k (low k from below))
@@ -233,32 +313,44 @@ window_kept w t q good last some fits first within under windows bad high low =
     (cases_lt k good))
 
 -- the sum of the next window: one score is added, one subtracted
-pub window_moves : (w : ℕ) (q : List ℕ) (s : ℕ) → 0 < w → s + w < length q → sum (take w (drop (s + 1) q)) + get_or q s 0 ≡ sum (take w (drop s q)) + get_or q (s + w) 0
+pub window_moves : (w : ℕ) (q : List ℕ) (s : ℕ) → 0 < w → s + w < length q →
+    sum (take w (drop (s + 1) q)) + get_or q s 0 ≡ sum (take w (drop s q)) + get_or q (s + w) 0
 window_moves zero q s some lt = absurd (omega arith)
 window_moves (suc w) q s some lt =
     let rest = drop (s + 1) q in
     let len = length-drop (s + 1) q in
-    let old : sum (take (suc w) (drop s q)) ≡ get_or q s 0 + sum (take w rest) = ap (λ xs. sum (take (suc w) xs)) (drop_more q s 0 (omega arith)) ∙ sum_by-cons (λ x. x) (get_or q s 0) (take w rest) in
-    let more : take (w + 1) rest ≡ take w rest ++ (get_or rest w 0 ∷ []) = take_more rest w 0 (omega arith) in
-    let new : sum (take (suc w) rest) ≡ sum (take w rest) + get_or rest w 0 = ap (λ n. sum (take n rest)) (sym (add-one w)) ∙ ap sum more ∙ sum_by_push (λ x. x) (take w rest) (get_or rest w 0) in
+    let old : sum (take (suc w) (drop s q)) ≡ get_or q s 0 + sum (take w rest) =
+        ap (λ xs. sum (take (suc w) xs)) (drop_more q s 0 (omega arith))
+        ∙ sum_by-cons (λ x. x) (get_or q s 0) (take w rest) in
+    let more : take (w + 1) rest ≡ take w rest ++ (get_or rest w 0 ∷ []) =
+        take_more rest w 0 (omega arith) in
+    let new : sum (take (suc w) rest) ≡ sum (take w rest) + get_or rest w 0 =
+        ap (λ n. sum (take n rest)) (sym (add-one w)) ∙ ap sum more
+        ∙ sum_by_push (λ x. x) (take w rest) (get_or rest w 0) in
     let place : s + 1 + w ≡ s + suc w = omega arith in
-    let entering : get_or rest w 0 ≡ get_or q (s + suc w) 0 = get_or-drop (s + 1) q w 0 ∙ ap (λ n. get_or q n 0) place in
+    let entering : get_or rest w 0 ≡ get_or q (s + suc w) 0 = get_or-drop (s + 1) q w 0
+        ∙ ap (λ n. get_or q n 0) place in
     omega arith
 
 -- Tests of each member.
-pub all_taken : {T : Type 0} (p : T → Bool) (xs : List T) (n : ℕ) → list_all p xs ≡ true → list_all p (take n xs) ≡ true
+pub all_taken : {T : Type 0} (p : T → Bool) (xs : List T) (n : ℕ) → list_all p xs ≡ true →
+    list_all p (take n xs) ≡ true
 all_taken p xs zero all = refl
 all_taken p [] (suc n) all = refl
-all_taken p (x ∷ xs) (suc n) all = let parts = and_parts (p x) (list_all p xs) all in and_from _ _ parts.0 (all_taken p xs n parts.1)
+all_taken p (x ∷ xs) (suc n) all = let parts = and_parts (p x) (list_all p xs) all in
+    and_from _ _ parts.0 (all_taken p xs n parts.1)
 
-pub all_dropped : {T : Type 0} (p : T → Bool) (xs : List T) (n : ℕ) → list_all p xs ≡ true → list_all p (drop n xs) ≡ true
+pub all_dropped : {T : Type 0} (p : T → Bool) (xs : List T) (n : ℕ) → list_all p xs ≡ true →
+    list_all p (drop n xs) ≡ true
 all_dropped p xs zero all = all
 all_dropped p [] (suc n) all = refl
 all_dropped p (x ∷ xs) (suc n) all = all_dropped p xs n (and_parts (p x) (list_all p xs) all).1
 
 -- Scores of which each is high enough.
-pub high_more : (t n m : ℕ) (q : List ℕ) → list_all (leb t) (take n q) ≡ true → list_all (leb t) (take m (drop n q)) ≡ true → list_all (leb t) (take (n + m) q) ≡ true
-high_more t n m q first next = ap (list_all (leb t)) (take-add n m q) ∙ list_all-append (leb t) (take n q) (take m (drop n q)) ∙ and_from _ _ first next
+pub high_more : (t n m : ℕ) (q : List ℕ) → list_all (leb t) (take n q) ≡ true →
+    list_all (leb t) (take m (drop n q)) ≡ true → list_all (leb t) (take (n + m) q) ≡ true
+high_more t n m q first next = ap (list_all (leb t)) (take-add n m q)
+    ∙ list_all-append (leb t) (take n q) (take m (drop n q)) ∙ and_from _ _ first next
 
 high_sum : (t : ℕ) (q : List ℕ) → list_all (leb t) q ≡ true → length q * t ≤ sum q
 high_sum t [] all = omega arith
@@ -270,16 +362,20 @@ high_sum t (x ∷ xs) all =
     omega arith
 
 -- a window of high scores is good
-pub high_window : (w t front s : ℕ) (q : List ℕ) → front ≤ length q → list_all (leb t) (take front q) ≡ true → s + w ≤ front → w * t ≤ sum (take w (drop s q))
+pub high_window : (w t front s : ℕ) (q : List ℕ) → front ≤ length q →
+    list_all (leb t) (take front q) ≡ true → s + w ≤ front → w * t ≤ sum (take w (drop s q))
 high_window w t front s q within high le =
     let window = take w (drop s q) in
-    let fits = ap (list_all (leb t)) (sym (take-take (s + w) front q le)) ∙ all_taken (leb t) (take front q) (s + w) high in
-    let all : list_all (leb t) window ≡ true = ap (list_all (leb t)) (sym (drop-take s w q)) ∙ all_dropped (leb t) (take (s + w) q) s fits in
+    let fits = ap (list_all (leb t)) (sym (take-take (s + w) front q le))
+        ∙ all_taken (leb t) (take front q) (s + w) high in
+    let all : list_all (leb t) window ≡ true = ap (list_all (leb t)) (sym (drop-take s w q))
+        ∙ all_dropped (leb t) (take (s + w) q) s fits in
     let len : length window ≡ w = length-take-le w (drop s q) (omega (arith, length-drop s q)) in
     subst (λ n. n * t ≤ sum window) len (high_sum t window all)
 
 -- Sums of scores.
-pub sum_small : (e : Encoding) (qual : List ℕ) → list_all (is_scored e) qual ≡ true → sum (scores e qual) ≤ 126 * length qual
+pub sum_small : (e : Encoding) (qual : List ℕ) → list_all (is_scored e) qual ≡ true →
+    sum (scores e qual) ≤ 126 * length qual
 sum_small e [] all = omega arith
 sum_small e (b ∷ bs) all =
     let parts = and_parts (is_scored e b) (list_all (is_scored e) bs) all in
@@ -289,17 +385,21 @@ sum_small e (b ∷ bs) all =
     omega arith
 
 module _ (e : Encoding) (qual : List ℕ) where
-  pub part_small : (s n : ℕ) → list_all (is_scored e) qual ≡ true → sum (take n (drop s (scores e qual))) ≤ 126 * n
+  pub part_small : (s n : ℕ) → list_all (is_scored e) qual ≡ true →
+      sum (take n (drop s (scores e qual))) ≤ 126 * n
   part_small s n all =
       let part = take n (drop s qual) in
-      let small = sum_small e part (all_taken (is_scored e) (drop s qual) n (all_dropped (is_scored e) qual s all)) in
+      let small =
+          sum_small e part (all_taken (is_scored e) (drop s qual) n (all_dropped (is_scored e) qual
+          s all)) in
       let same = ap sum (scores_of_part e qual s n) in
       let len : length part ≤ n = omega (arith, length-take n (drop s qual)) in
       omega arith
 
   -- the window that ends at an index, after the window that ends before it
   pub next_window : (w end : ℕ) → 0 < w → w ≤ end → end < length qual →
-      sum (take w (drop (end + 1 - w) (scores e qual))) + value_of e (get_or qual (end - w) 0) ≡ sum (take w (drop (end - w) (scores e qual))) + value_of e (get_or qual end 0)
+      sum (take w (drop (end + 1 - w) (scores e qual))) + value_of e (get_or qual (end - w) 0)
+          ≡ sum (take w (drop (end - w) (scores e qual))) + value_of e (get_or qual end 0)
   next_window w end some from lt =
       let q = scores e qual in
       let len = length-scores e qual in
@@ -307,21 +407,28 @@ module _ (e : Encoding) (qual : List ℕ) where
       let start : end - w + 1 ≡ end + 1 - w = omega arith in
       let new = ap (λ s. sum (take w (drop s q))) start in
       let stop : end - w + w ≡ end = omega arith in
-      let entering : get_or q (end - w + w) 0 ≡ value_of e (get_or qual end 0) = ap (λ n. get_or q n 0) stop ∙ score_at e qual end lt in
+      let entering : get_or q (end - w + w) 0 ≡ value_of e (get_or qual end 0) =
+          ap (λ n. get_or q n 0) stop ∙ score_at e qual end lt in
       let leaving = score_at e qual (end - w) (omega arith) in
       omega arith
 
   -- what a sliding window keeps, if the first bad window ends at index `good` and the last score of
   -- at least t before that is right before `last`
-  pub window_scores : (w t least good last : ℕ) → least ≡ w * t → 0 < w → w ≤ length qual → w ≤ good → good ≤ length qual → last ≤ length (take good qual) →
-      ((s : ℕ) → s + w ≤ good → least ≤ sum (take w (drop s (scores e qual)))) → (good < length qual → sum (take w (drop (good + 1 - w) (scores e qual))) < least) →
-      (0 < last → t ≤ get_or (scores e (take good qual)) (last - 1) 0) → ((k : ℕ) → last ≤ k → k < length (take good qual) → get_or (scores e (take good qual)) k 0 < t) →
+  pub window_scores : (w t least good last : ℕ) → least ≡ w * t → 0 < w → w ≤ length qual →
+      w ≤ good → good ≤ length qual → last ≤ length (take good qual) →
+      ((s : ℕ) → s + w ≤ good → least ≤ sum (take w (drop s (scores e qual)))) →
+          (good < length qual → sum (take w (drop (good + 1 - w) (scores e qual))) < least) →
+      (0 < last → t ≤ get_or (scores e (take good qual)) (last - 1) 0) →
+          ((k : ℕ) → last ≤ k → k < length (take good qual) →
+          get_or (scores e (take good qual)) k 0 < t) →
       IsBetween (keeps (SlidingWindow w t) (scores e qual)) (length qual) 0 last
   window_scores w t least good last least_is some fits first within under windows bad high low =
       let q = scores e qual in
       let len = length-scores e qual in
       let taken = length-take-le good qual within in
-      let same : (k : ℕ) → k < good → get_or (scores e (take good qual)) k 0 ≡ get_or q k 0 = λ k lt. ap (λ xs. get_or xs k 0) (sym (take-map (value_of e) good qual)) ∙ get_or-take good q k 0 lt in
+      let same : (k : ℕ) → k < good → get_or (scores e (take good qual)) k 0 ≡ get_or q k 0 =
+          λ k lt. ap (λ xs. get_or xs k 0) (sym (take-map (value_of e) good qual))
+          ∙ get_or-take good q k 0 lt in
       subst (λ n. IsBetween (keeps (SlidingWindow w t) q) n 0 last) len
       (window_kept w t q good last some (omega arith) first (omega arith) (omega arith)
       (λ s le. subst (λ n. n ≤ sum (take w (drop s q))) least_is (windows s le))
@@ -332,26 +439,33 @@ module _ (e : Encoding) (qual : List ℕ) where
 -- The first window that is summed is the one that ends at `from`. Each of the first `front` scores
 -- is at least t.
 module _ (e : Encoding) (qual : List ℕ) (w t score front from total : ℕ) (score_is : score ≡ t) (fits : w ≤ length qual) (within : front ≤ length qual)
-    (high : list_all (leb t) (take front (scores e qual)) ≡ true) (from_is : from ≡ max front w) (total_is : total ≡ sum (scores e (take (from - (from - w)) (drop (from - w) qual)))) where
+    (high : list_all (leb t) (take front (scores e qual)) ≡ true) (from_is : from ≡ max front w)
+        (total_is : total ≡ sum (scores e (take (from - (from - w)) (drop (from - w) qual)))) where
   least_is : w * score ≡ w * t
   least_is = ap (λ n. w * n) score_is
 
   pub from_sum : total ≡ sum (take w (drop (from - w) (scores e qual)))
   from_sum =
       let size : from - (from - w) ≡ w = omega arith in
-      total_is ∙ ap sum (scores_of_part e qual (from - w) (from - (from - w))) ∙ ap (λ n. sum (take n (drop (from - w) (scores e qual)))) size
+      total_is ∙ ap sum (scores_of_part e qual (from - w) (from - (from - w)))
+          ∙ ap (λ n. sum (take n (drop (from - w) (scores e qual)))) size
 
   -- a window up to there is good, or it is the first of all
-  window_up_to : (s : ℕ) → s + w ≤ from → (w * score ≤ sum (take w (drop s (scores e qual)))) ⊎ (from ≡ w)
+  window_up_to : (s : ℕ) → s + w ≤ from → (w * score ≤ sum (take w (drop s (scores e qual))))
+      ⊎ (from ≡ w)
   window_up_to s le = ⊎_elim
-      (λ skips. let least = least_is in let len = length-scores e qual in let good = high_window w t front s (scores e qual) (omega arith) high (omega arith) in inl (omega arith))
+      (λ skips. let least = least_is in let len = length-scores e qual in let good =
+          high_window w t front s (scores e qual) (omega arith) high (omega arith) in
+          inl (omega arith))
       (λ none. inr (omega arith))
       (cases_lt w front)
 
-  pub from_good : w * score ≤ total → (s : ℕ) → s + w ≤ from → w * score ≤ sum (take w (drop s (scores e qual)))
+  pub from_good : w * score ≤ total → (s : ℕ) → s + w ≤ from →
+      w * score ≤ sum (take w (drop s (scores e qual)))
   from_good good s le = ⊎_elim
       (λ is. is)
-      (λ first. let here = from_sum in let start : from - w ≡ s = omega arith in let is = ap (λ n. sum (take w (drop n (scores e qual)))) start in omega arith)
+      (λ first. let here = from_sum in let start : from - w ≡ s = omega arith in let is =
+          ap (λ n. sum (take w (drop n (scores e qual)))) start in omega arith)
       (window_up_to s le)
 
   pub from_bad : total < w * score → sum (take w (drop 0 (scores e qual))) < w * score
@@ -360,5 +474,6 @@ module _ (e : Encoding) (qual : List ℕ) (w t score front from total : ℕ) (sc
       let here = from_sum in
       ⊎_elim
       (λ good. absurd (omega arith))
-      (λ first. let start : from - w ≡ 0 = omega arith in let is = ap (λ n. sum (take w (drop n q))) start in omega arith)
+      (λ first. let start : from - w ≡ 0 = omega arith in let is =
+          ap (λ n. sum (take w (drop n q))) start in omega arith)
       (window_up_to (from - w) (omega arith))

@@ -27,42 +27,57 @@ less_one x o small off =
     (λ is.
     let lt = ltb-true x o is in
     let whole : o + (256 - o) ≡ 256 = omega arith in
-    ap (λ v. (v + (256 - o)) % 256) (cond-true (ltb x o) o x is) ∙ ap (λ v. v % 256) whole ∙ omega arith)
-    (λ is. let le = ltb-false x o is in ap (λ v. (v + (256 - o)) % 256) (cond-false (ltb x o) o x is) ∙ omega arith)
+    ap (λ v. (v + (256 - o)) % 256) (cond-true (ltb x o) o x is) ∙ ap (λ v. v % 256) whole
+        ∙ omega arith)
+    (λ is. let le = ltb-false x o is in ap (λ v. (v + (256 - o)) % 256)
+        (cond-false (ltb x o) o x is) ∙ omega arith)
     (cases_Bool (ltb x o))
 
 -- a byte plus the smaller of another byte and what is left of 255
-plus_one : (x y : ℕ) → Fits w8 x → Fits w8 y → (x + cond (ltb y (255 - x)) y (255 - x)) % 256 ≡ min 255 (x + y)
+plus_one : (x y : ℕ) → Fits w8 x → Fits w8 y →
+    (x + cond (ltb y (255 - x)) y (255 - x)) % 256 ≡ min 255 (x + y)
 plus_one x y small other =
     let fx = small.fits in
     let fy = other.fits in
     ⊎_elim
-    (λ is. let lt = ltb-true y (255 - x) is in ap (λ v. (x + v) % 256) (cond-true (ltb y (255 - x)) y (255 - x) is) ∙ mod-eq_of_lt (omega arith) ∙ omega arith)
-    (λ is. let le = ltb-false y (255 - x) is in ap (λ v. (x + v) % 256) (cond-false (ltb y (255 - x)) y (255 - x) is) ∙ mod-eq_of_lt (omega arith) ∙ omega arith)
+    (λ is. let lt = ltb-true y (255 - x) is in
+        ap (λ v. (x + v) % 256) (cond-true (ltb y (255 - x)) y (255 - x) is)
+        ∙ mod-eq_of_lt (omega arith) ∙ omega arith)
+    (λ is. let le = ltb-false y (255 - x) is in
+        ap (λ v. (x + v) % 256) (cond-false (ltb y (255 - x)) y (255 - x) is)
+        ∙ mod-eq_of_lt (omega arith) ∙ omega arith)
     (cases_Bool (ltb y (255 - x)))
 
 -- each byte minus the same number
 pub each_less : (v : List ℕ) (o n : ℕ) → length v ≡ n → Each1 (Fits w8) v → Fits w8 o →
-    zip2 (λ a b. (a + (256 - b)) % 256) (sel_l (map (top 7) (zip2 (λ a b. cond (ltb a b) 255 0) v (replicate n o))) (replicate n o) v) (replicate n o) ≡ map (λ x. x - o) v
+    zip2 (λ a b. (a + (256 - b)) % 256) (sel_l (map (top 7)
+        (zip2 (λ a b. cond (ltb a b) 255 0) v (replicate n o))) (replicate n o) v) (replicate n o)
+        ≡ map (λ x. x - o) v
 each_less [] o n long fits off = refl
 each_less (x ∷ xs) o zero long fits off = absurd (omega arith)
 each_less (x ∷ xs) o (suc n) long fits off =
-    ap₂ (λ y ys. y ∷ ys) (ap (λ v. (v + (256 - o)) % 256) (chosen (ltb x o) o x) ∙ less_one x o fits.0 off) (each_less xs o n (omega arith) fits.1 off)
+    ap₂ (λ y ys. y ∷ ys) (ap (λ v. (v + (256 - o)) % 256) (chosen (ltb x o) o x)
+        ∙ less_one x o fits.0 off) (each_less xs o n (omega arith) fits.1 off)
 
 -- the pair of bytes at an index of two vectors
 pub each_plus : (v u : List ℕ) → length v ≡ length u → Each1 (Fits w8) v → Each1 (Fits w8) u →
-    zip2 (λ a b. (a + b) % 256) v (sel_l (map (top 7) (zip2 (λ a b. cond (ltb a b) 255 0) u (map (λ a. 255 - a) v))) u (map (λ a. 255 - a) v)) ≡ zip2 (λ x y. min 255 (x + y)) v u
+    zip2 (λ a b. (a + b) % 256) v
+        (sel_l (map (top 7) (zip2 (λ a b. cond (ltb a b) 255 0) u (map (λ a. 255 - a) v))) u
+        (map (λ a. 255 - a) v)) ≡ zip2 (λ x y. min 255 (x + y)) v u
 each_plus [] [] long fits others = refl
 each_plus [] (y ∷ ys) long fits others = refl
 each_plus (x ∷ xs) [] long fits others = absurd (omega arith)
 each_plus (x ∷ xs) (y ∷ ys) long fits others =
-    ap₂ (λ z zs. z ∷ zs) (ap (λ v. (x + v) % 256) (chosen (ltb y (255 - x)) y (255 - x)) ∙ plus_one x y fits.0 others.0) (each_plus xs ys (omega arith) fits.1 others.1)
+    ap₂ (λ z zs. z ∷ zs) (ap (λ v. (x + v) % 256) (chosen (ltb y (255 - x)) y (255 - x))
+        ∙ plus_one x y fits.0 others.0) (each_plus xs ys (omega arith) fits.1 others.1)
 
 -- the lower of each two bytes
-pub each_lower : (v u : List ℕ) → sel_l (map (top 7) (zip2 (λ a b. cond (ltb a b) 255 0) v u)) v u ≡ zip2 min v u
+pub each_lower : (v u : List ℕ) → sel_l (map (top 7) (zip2 (λ a b. cond (ltb a b) 255 0) v u)) v u
+    ≡ zip2 min v u
 each_lower [] u = refl
 each_lower (x ∷ xs) [] = refl
-each_lower (x ∷ xs) (y ∷ ys) = ap₂ (λ z zs. z ∷ zs) (chosen (ltb x y) x y ∙ lower x y) (each_lower xs ys)
+each_lower (x ∷ xs) (y ∷ ys) = ap₂ (λ z zs. z ∷ zs) (chosen (ltb x y) x y ∙ lower x y)
+    (each_lower xs ys)
   where
     lower : (x y : ℕ) → cond (ltb x y) x y ≡ min x y
     lower x y = ⊎_elim
@@ -74,11 +89,15 @@ each_lower (x ∷ xs) (y ∷ ys) = ap₂ (λ z zs. z ∷ zs) (chosen (ltb x y) x
 both_high : (score o x y : ℕ) → leb score (min x y - o) ≡ leb score (x - o) && leb score (y - o)
 both_high score o x y = ⊎_elim
     (λ (low : min x y - o < score). lt-leb score (min x y - o) low ∙ ⊎_elim
-    (λ (left : x < y). sym (and_left (leb score (x - o)) (leb score (y - o)) (lt-leb score (x - o) (omega arith))))
-    (λ (right : y ≤ x). sym (and_right (leb score (x - o)) (leb score (y - o)) (lt-leb score (y - o) (omega arith))))
+    (λ (left : x < y). sym (and_left (leb score (x - o)) (leb score (y - o)) (lt-leb score (x - o)
+        (omega arith))))
+    (λ (right : y ≤ x). sym (and_right (leb score (x - o)) (leb score (y - o)) (lt-leb score (y - o)
+        (omega arith))))
     (cases_lt x y))
     (λ (high : score ≤ min x y - o).
-    le-leb score (min x y - o) high ∙ sym (and_from (leb score (x - o)) (leb score (y - o)) (le-leb score (x - o) (omega arith)) (le-leb score (y - o) (omega arith))))
+    le-leb score (min x y - o) high
+        ∙ sym (and_from (leb score (x - o)) (leb score (y - o)) (le-leb score (x - o) (omega arith))
+        (le-leb score (y - o) (omega arith))))
     (cases_lt (min x y - o) score)
 
 in_pairs : (a b c d : Bool) → ((a && b) && (c && d)) ≡ ((a && c) && (b && d))
@@ -87,26 +106,35 @@ in_pairs true false true d = refl
 in_pairs true false false d = refl
 in_pairs false b c d = refl
 
-all_both_high : (score o : ℕ) (v u : List ℕ) → length v ≡ length u → list_all (leb score) (distances o (zip2 min v u)) ≡ list_all (leb score) (distances o v) && list_all (leb score) (distances o u)
+all_both_high : (score o : ℕ) (v u : List ℕ) → length v ≡ length u →
+    list_all (leb score) (distances o (zip2 min v u))
+    ≡ list_all (leb score) (distances o v) && list_all (leb score) (distances o u)
 all_both_high score o [] [] long = refl
 all_both_high score o [] (y ∷ ys) long = absurd (omega arith)
 all_both_high score o (x ∷ xs) [] long = absurd (omega arith)
 all_both_high score o (x ∷ xs) (y ∷ ys) long =
     ap₂ (λ a b. a && b) (both_high score o x y) (all_both_high score o xs ys (omega arith))
-    ∙ in_pairs (leb score (x - o)) (leb score (y - o)) (list_all (leb score) (distances o xs)) (list_all (leb score) (distances o ys))
+    ∙ in_pairs (leb score (x - o)) (leb score (y - o)) (list_all (leb score) (distances o xs))
+        (list_all (leb score) (distances o ys))
 
 -- so of 32 bytes, only the lower of two that are 16 apart is compared
-pub all_high_by_lower : (offset score : ℕ) (qual : List ℕ) {lower scores : List ℕ} → 32 ≤ length qual → lower ≡ zip2 min (chunk 0 16 qual) (chunk 16 16 qual) → scores ≡ distances offset lower →
+pub all_high_by_lower : (offset score : ℕ) (qual : List ℕ) {lower scores : List ℕ} →
+    32 ≤ length qual → lower ≡ zip2 min (chunk 0 16 qual) (chunk 16 16 qual) →
+    scores ≡ distances offset lower →
     list_all (leb score) scores ≡ list_all (leb score) (take 32 (distances offset qual))
 all_high_by_lower offset score qual room lower_is scores_is =
     let q = distances offset qual in
     let left = length-take-le 16 qual (omega arith) in
     let right = length-take-le 16 (drop 16 qual) (omega (arith, length-drop 16 qual)) in
-    let behind : distances offset (take 16 (drop 16 qual)) ≡ take 16 (drop 16 q) = sym (take-map (λ byte. byte - offset) 16 (drop 16 qual)) ∙ ap (take 16) (sym (drop-map (λ byte. byte - offset) 16 qual)) in
+    let behind : distances offset (take 16 (drop 16 qual)) ≡ take 16 (drop 16 q) =
+        sym (take-map (λ byte. byte - offset) 16 (drop 16 qual))
+        ∙ ap (take 16) (sym (drop-map (λ byte. byte - offset) 16 qual)) in
     ap (list_all (leb score)) (scores_is ∙ ap (distances offset) lower_is)
     ∙ all_both_high score offset (take 16 qual) (take 16 (drop 16 qual)) (omega arith)
-    ∙ ap₂ (λ v u. list_all (leb score) v && list_all (leb score) u) (sym (take-map (λ byte. byte - offset) 16 qual)) behind
-    ∙ sym (ap (list_all (leb score)) (take-add 16 16 q) ∙ list_all-append (leb score) (take 16 q) (take 16 (drop 16 q)))
+    ∙ ap₂ (λ v u. list_all (leb score) v && list_all (leb score) u)
+        (sym (take-map (λ byte. byte - offset) 16 qual)) behind
+    ∙ sym (ap (list_all (leb score)) (take-add 16 16 q)
+        ∙ list_all-append (leb score) (take 16 q) (take 16 (drop 16 q)))
 
 -- The first sum that is too small.
 module _ (sums : List ℕ) (least r : ℕ) (counted : r ≡ prefix_len (λ x. not (ltb x least)) sums) where
@@ -114,22 +142,29 @@ module _ (sums : List ℕ) (least r : ℕ) (counted : r ≡ prefix_len (λ x. no
   room = omega arith
 
   of_all : r ≡ prefix_len (λ x. not (ltb x least)) (take (length sums) sums)
-  of_all = counted ∙ ap (prefix_len (λ x. not (ltb x least))) (sym (take_all (length sums) sums (omega arith)))
+  of_all = counted ∙ ap (prefix_len (λ x. not (ltb x least)))
+      (sym (take_all (length sums) sums (omega arith)))
 
   pub at_most : r ≤ length sums
   at_most = run_in_chunk_le (λ x. ltb x least) sums 0 (length sums) r 0 room of_all
 
   pub none_before : (k : ℕ) → k < r → least ≤ get_or sums k 0
-  none_before k lt = ltb-false (get_or sums k 0) least (run_in_chunk_fails (λ x. ltb x least) sums 0 (length sums) r 0 room of_all k (omega arith) (omega arith))
+  none_before k lt =
+      ltb-false (get_or sums k 0) least (run_in_chunk_fails (λ x. ltb x least) sums 0 (length sums)
+      r 0 room of_all k (omega arith) (omega arith))
 
   pub there : r < length sums → get_or sums r 0 < least
-  there lt = let place : r ≡ 0 + r = omega arith in ltb-true (get_or sums r 0) least (ap (λ n. ltb (get_or sums n 0) least) place ∙ run_in_chunk_stops (λ x. ltb x least) sums 0 (length sums) r 0 room of_all lt)
+  there lt = let place : r ≡ 0 + r = omega arith in
+      ltb-true (get_or sums r 0) least (ap (λ n. ltb (get_or sums n 0) least) place
+      ∙ run_in_chunk_stops (λ x. ltb x least) sums 0 (length sums) r 0 room of_all lt)
 
 -- Whether each byte of a vector passes, by the mask of those that do: it has one bit per byte.
-each_bit : (b : Bool) (m full : ℕ) → 0 < full → eqb (cond b 1 0 + 2 * m) (2 * full - 1) ≡ b && eqb m (full - 1)
+each_bit : (b : Bool) (m full : ℕ) → 0 < full →
+    eqb (cond b 1 0 + 2 * m) (2 * full - 1) ≡ b && eqb m (full - 1)
 each_bit true m full some = ⊎_elim
     (λ is. eq-eqb (1 + 2 * m) (2 * full - 1) (omega arith) ∙ sym (eq-eqb m (full - 1) is))
-    (λ other. ne_eqb (1 + 2 * m) (2 * full - 1) (λ e. other (omega arith)) ∙ sym (ne_eqb m (full - 1) other))
+    (λ other. ne_eqb (1 + 2 * m) (2 * full - 1) (λ e. other (omega arith))
+        ∙ sym (ne_eqb m (full - 1) other))
     (cases_eq m (full - 1))
 each_bit false m full some = ne_eqb (0 + 2 * m) (2 * full - 1) (λ e. omega arith)
 
@@ -142,13 +177,15 @@ all_set p (x ∷ xs) =
     ∙ each_bit (p x) (mask_l (map p xs)) (2 ^ length xs) some
     ∙ ap (λ b. p x && b) (all_set p xs)
 
-pub all_pass : (p : ℕ → Bool) (v : List ℕ) {z : List ℕ} → length v ≡ 16 → z ≡ map (λ x. flag (p x)) v → eqb (mask_l (map (top 7) z) % 2 ^ 64) 65535 ≡ list_all p v
+pub all_pass : (p : ℕ → Bool) (v : List ℕ) {z : List ℕ} → length v ≡ 16 →
+    z ≡ map (λ x. flag (p x)) v → eqb (mask_l (map (top 7) z) % 2 ^ 64) 65535 ≡ list_all p v
 all_pass p v long same =
     let all : 65535 ≡ 2 ^ length v - 1 = ap (λ n. 2 ^ n - 1) (sym long) in
     ap₂ eqb (mask_of p v (omega arith) same) all ∙ all_set p v
 
 -- the sum of a part with one more score
-one_more : (q : List ℕ) (i k : ℕ) → k + i < length q → sum (take (i + 1) (drop k q)) ≡ sum (take i (drop k q)) + get_or q (k + i) 0
+one_more : (q : List ℕ) (i k : ℕ) → k + i < length q →
+    sum (take (i + 1) (drop k q)) ≡ sum (take i (drop k q)) + get_or q (k + i) 0
 one_more q i k lt =
     let rest = drop k q in
     ap sum (take_more rest i 0 (omega (arith, length-drop k q)))
@@ -156,14 +193,17 @@ one_more q i k lt =
     ∙ ap (λ v. sum (take i rest) + v) (get_or-drop k q i 0)
 
 -- so is each sum of a vector, saturated at 255
-pub lane_more : (offset i k : ℕ) (qual sums scores : List ℕ) → length sums ≡ 32 → i + 32 ≤ length qual → k < 32 →
+pub lane_more : (offset i k : ℕ) (qual sums scores : List ℕ) → length sums ≡ 32 →
+    i + 32 ≤ length qual → k < 32 →
     scores ≡ map (λ byte. byte - offset) (take 32 (drop i qual)) →
     get_or sums k 0 ≡ min 255 (sum (take i (drop k (distances offset qual)))) →
-    get_or (zip2 (λ x y. min 255 (x + y)) sums scores) k 0 ≡ min 255 (sum (take (i + 1) (drop k (distances offset qual))))
+    get_or (zip2 (λ x y. min 255 (x + y)) sums scores) k 0
+        ≡ min 255 (sum (take (i + 1) (drop k (distances offset qual))))
 lane_more offset i k qual sums scores long room lt is so_far =
     let q = distances offset qual in
     let part = take 32 (drop i qual) in
-    let here : length part ≡ 32 = length-take-le 32 (drop i qual) (omega (arith, length-drop i qual)) in
+    let here : length part ≡ 32 = length-take-le 32 (drop i qual)
+        (omega (arith, length-drop i qual)) in
     let size : length scores ≡ 32 = ap length is ∙ length-map part (λ byte. byte - offset) ∙ here in
     let all : length q ≡ length qual = length-map qual (λ byte. byte - offset) in
     let place : i + k ≡ k + i = omega arith in
@@ -174,21 +214,27 @@ lane_more offset i k qual sums scores long room lt is so_far =
     ∙ ap (λ n. get_or qual n 0 - offset) place
     ∙ sym (get_or-map (λ byte. byte - offset) qual (k + i) 0 0 (omega arith)) in
     let next = one_more q i k (omega arith) in
-    let both = get_or-zip2 (λ x y. min 255 (x + y)) sums scores k 0 0 0 (omega arith) (omega arith) in
+    let both = get_or-zip2 (λ x y. min 255 (x + y)) sums scores k 0 0 0 (omega arith)
+        (omega arith) in
     omega arith
 
 -- a window of the scores from `start` on
 abbrev behind : List ℕ → ℕ → List ℕ
 behind qual start = take (length qual - start) (drop start qual)
 
-window_behind : (offset start k w : ℕ) (qual : List ℕ) → sum (take w (drop k (distances offset (behind qual start)))) ≡ sum (take w (drop (start + k) (distances offset qual)))
+window_behind : (offset start k w : ℕ) (qual : List ℕ) →
+    sum (take w (drop k (distances offset (behind qual start))))
+    ≡ sum (take w (drop (start + k) (distances offset qual)))
 window_behind offset start k w qual =
-    ap (λ xs. sum (take w (drop k (distances offset xs)))) (take_all (length qual - start) (drop start qual) (omega (arith, length-drop start qual)))
+    ap (λ xs. sum (take w (drop k (distances offset xs))))
+        (take_all (length qual - start) (drop start qual) (omega (arith, length-drop start qual)))
     ∙ ap (λ xs. sum (take w (drop k xs))) (sym (drop-map (λ byte. byte - offset) start qual))
-    ∙ ap (λ xs. sum (take w xs)) (drop-drop k start (distances offset qual) ∙ ap (λ n. drop n (distances offset qual)) (omega arith))
+    ∙ ap (λ xs. sum (take w xs)) (drop-drop k start (distances offset qual)
+        ∙ ap (λ n. drop n (distances offset qual)) (omega arith))
 
 -- windows of scores that are all high, after others that are good
-pub good_over_high : (offset w score least start : ℕ) (qual : List ℕ) → least ≡ w * score → start + 32 ≤ length qual →
+pub good_over_high : (offset w score least start : ℕ) (qual : List ℕ) → least ≡ w * score →
+    start + 32 ≤ length qual →
     list_all (leb score) (take 32 (distances offset (behind qual start))) ≡ true →
     ((s : ℕ) → s < start → least ≤ sum (take w (drop s (distances offset qual)))) →
     (s : ℕ) → s + w ≤ start + 32 → least ≤ sum (take w (drop s (distances offset qual)))
@@ -196,20 +242,28 @@ good_over_high offset w score least start qual least_is fits high before s le = 
     (λ earlier. before s earlier)
     (λ here.
     let part = behind qual start in
-    let len : length part ≡ length qual - start = length-take-le (length qual - start) (drop start qual) (omega (arith, length-drop start qual)) in
+    let len : length part ≡ length qual - start =
+        length-take-le (length qual - start) (drop start qual)
+        (omega (arith, length-drop start qual)) in
     let all = length-map part (λ byte. byte - offset) in
-    let good = high_window w score 32 (s - start) (distances offset part) (omega arith) high (omega arith) in
+    let good = high_window w score 32 (s - start) (distances offset part) (omega arith) high
+        (omega arith) in
     let is = window_behind offset start (s - start) w qual in
-    let same : sum (take w (drop (start + (s - start)) (distances offset qual))) ≡ sum (take w (drop s (distances offset qual))) = ap (λ n. sum (take w (drop n (distances offset qual)))) (omega arith) in
+    let same : sum (take w (drop (start + (s - start)) (distances offset qual)))
+        ≡ sum (take w (drop s (distances offset qual))) =
+        ap (λ n. sum (take w (drop n (distances offset qual)))) (omega arith) in
     omega arith)
     (cases_lt s start)
 
 -- Windows from `start` on, the first `good` of which are good, after others that are.
 module _ (offset w least start good : ℕ) (qual sums : List ℕ) (small : least < 256)
-    (each : (k : ℕ) → k < 32 → get_or sums k 0 ≡ min 255 (sum (take w (drop k (distances offset (behind qual start))))))
-    (few : good ≤ 32) (before : (s : ℕ) → s < start → least ≤ sum (take w (drop s (distances offset qual))))
+    (each : (k : ℕ) → k < 32 →
+        get_or sums k 0 ≡ min 255 (sum (take w (drop k (distances offset (behind qual start))))))
+    (few : good ≤ 32) (before : (s : ℕ) → s < start →
+        least ≤ sum (take w (drop s (distances offset qual))))
     (high : (k : ℕ) → k < good → least ≤ get_or sums k 0) where
-  pub good_up_to : (s : ℕ) → s < start + good → least ≤ sum (take w (drop s (distances offset qual)))
+  pub good_up_to : (s : ℕ) → s < start + good →
+      least ≤ sum (take w (drop s (distances offset qual)))
   good_up_to s lt = ⊎_elim
       (λ earlier. before s earlier)
       (λ here.
@@ -217,15 +271,20 @@ module _ (offset w least start good : ℕ) (qual sums : List ℕ) (small : least
       let lane = each k (omega arith) in
       let enough = high k (omega arith) in
       let is = window_behind offset start k w qual in
-      let same : sum (take w (drop (start + k) (distances offset qual))) ≡ sum (take w (drop s (distances offset qual))) = ap (λ n. sum (take w (drop n (distances offset qual)))) (omega arith) in
+      let same : sum (take w (drop (start + k) (distances offset qual)))
+          ≡ sum (take w (drop s (distances offset qual))) =
+          ap (λ n. sum (take w (drop n (distances offset qual)))) (omega arith) in
       omega arith)
       (cases_lt s start)
 
-  pub bad_there : good < 32 → get_or sums good 0 < least → sum (take w (drop (start + good) (distances offset qual))) < least
-  bad_there lt low = let lane = each good lt in let is = window_behind offset start good w qual in omega arith
+  pub bad_there : good < 32 → get_or sums good 0 < least →
+      sum (take w (drop (start + good) (distances offset qual))) < least
+  bad_there lt low = let lane = each good lt in let is = window_behind offset start good w qual in
+      omega arith
 
   -- the window after the good ones is bad: it ends in the read
-  pub stops_there : 0 < w → start + good + w ≤ length qual → good < 32 → get_or sums good 0 < least → IsGoodStop w least (distances offset qual) (start + good + w - 1)
+  pub stops_there : 0 < w → start + good + w ≤ length qual → good < 32 →
+      get_or sums good 0 < least → IsGoodStop w least (distances offset qual) (start + good + w - 1)
   stops_there some fits lt low =
       let len = length-map qual (λ (byte : ℕ). byte - offset) in
       record {
@@ -233,7 +292,9 @@ module _ (offset w least start good : ℕ) (qual sums : List ℕ) (small : least
         some = omega arith;
         good = λ s le. good_up_to s (omega arith);
         bad = λ within.
-            let is : sum (take w (drop (start + good + w - 1 + 1 - w) (distances offset qual))) ≡ sum (take w (drop (start + good) (distances offset qual))) = ap (λ n. sum (take w (drop n (distances offset qual)))) (omega arith) in
+            let is : sum (take w (drop (start + good + w - 1 + 1 - w) (distances offset qual)))
+                ≡ sum (take w (drop (start + good) (distances offset qual))) =
+                ap (λ n. sum (take w (drop n (distances offset qual)))) (omega arith) in
             let low_there = bad_there lt low in
             omega arith;
       }

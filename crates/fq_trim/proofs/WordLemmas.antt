@@ -13,16 +13,19 @@ use Rattle.fq_trim.specs.declared.fault.StepFaultKind.TheVariants.{WrongCount}
 use Rattle.fq_trim.specs.Words.{pieces, pieces_in, is_number, number_of, numbers_of}
 
 -- an argument without a colon is its one piece
-pub pieces_none : (word : List ℕ) → position_or_len (λ b. eqb b 58) word ≡ length word → pieces word ≡ word ∷ []
+pub pieces_none : (word : List ℕ) → position_or_len (λ b. eqb b 58) word ≡ length word →
+    pieces word ≡ word ∷ []
 pieces_none word none =
     slice_split_none (λ b. eqb b 58) word
-    (All-from_get_or (λ b. eqb b 58 ≡ Bool.false) word 0 (λ i lt. fails_before_first (λ b. eqb b 58) word i 0 (omega arith)))
+    (All-from_get_or (λ b. eqb b 58 ≡ Bool.false) word 0
+        (λ i lt. fails_before_first (λ b. eqb b 58) word i 0 (omega arith)))
 
 -- an argument has a piece
 pieces_some : (word : List ℕ) → 0 < length (pieces word)
 pieces_some word = omega (arith, length-slice_split (λ b. eqb b 58) word)
 
-pub pieces_behind : (rest : Option (Bor (List ℕ))) → is_some rest ≡ true → 0 < length (pieces_in rest)
+pub pieces_behind : (rest : Option (Bor (List ℕ))) → is_some rest ≡ true →
+    0 < length (pieces_in rest)
 pieces_behind None is = absurd (false≢true is)
 pieces_behind (Some text) is = pieces_some text.now
 
@@ -33,7 +36,8 @@ reading : FoldsDigits (λ n ds. fold (λ n digit. 10 * n + (digit - 48)) n ds)
 reading = search rules
 
 decimal : IsNumeralModel (λ ds. list_all is_ascii_digit ds ≡ true) number_of
-decimal = numerals_by_fold (λ ds. list_all is_ascii_digit ds ≡ true) digits (λ n ds. fold (λ n digit. 10 * n + (digit - 48)) n ds) reading
+decimal = numerals_by_fold (λ ds. list_all is_ascii_digit ds ≡ true) digits
+    (λ n ds. fold (λ n digit. 10 * n + (digit - 48)) n ds) reading
 
 pub number_small : (piece : List ℕ) → is_number piece ≡ true → number_of piece ≤ 999999999
 number_small piece is =
@@ -43,7 +47,8 @@ number_small piece is =
     omega arith
 
 -- what std parses from a piece that is a number
-pub number_read : {E : Type 0} (piece : List ℕ) (r : Result ℕ E) → ParsesUnsigned 32 10 piece r → is_number piece ≡ true → r ≡ Ok (number_of piece)
+pub number_read : {E : Type 0} (piece : List ℕ) (r : Result ℕ E) → ParsesUnsigned 32 10 piece r →
+    is_number piece ≡ true → r ≡ Ok (number_of piece)
 number_read piece r h is =
     let parts = and_parts _ (list_all is_ascii_digit piece) is in
     let some = leb-true 1 (length piece) (and_parts (leb 1 (length piece)) _ parts.0).0 in
@@ -51,5 +56,7 @@ number_read piece r h is =
     parse_gives decimal 32 piece r h parts.1 some (omega arith)
 
 -- more or fewer pieces than the kind takes
-pub wrong_count : (smallest : List ℕ) (numbers : List (List ℕ)) → (length numbers ≡ length smallest → ⊥) → numbers_of smallest numbers ≡ Err WrongCount
-wrong_count smallest numbers differ = cond-true (not (eqb (length numbers) (length smallest))) _ _ (not_from_false _ (ne_eqb _ _ differ))
+pub wrong_count : (smallest : List ℕ) (numbers : List (List ℕ)) →
+    (length numbers ≡ length smallest → ⊥) → numbers_of smallest numbers ≡ Err WrongCount
+wrong_count smallest numbers differ = cond-true (not (eqb (length numbers) (length smallest))) _ _
+    (not_from_false _ (ne_eqb _ _ differ))

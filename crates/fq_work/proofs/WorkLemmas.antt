@@ -13,7 +13,9 @@ use Rattle.fq_work.specs.Work.{with_items, HasAnswered, HasDrained}
 
 module _ (tallied : Bool) (steps : List Step) where
   -- with one more block, which is done
-  pub answers_done : (bs : List Numbered) (rs : List Reply) (b : Numbered) (d : Done) → d ≡ done_of tallied steps b → Answers tallied steps bs rs None → Answers tallied steps (bs ++ b ∷ []) (rs ++ done d ∷ []) None
+  pub answers_done : (bs : List Numbered) (rs : List Reply) (b : Numbered) (d : Done) →
+      d ≡ done_of tallied steps b → Answers tallied steps bs rs None →
+      Answers tallied steps (bs ++ b ∷ []) (rs ++ done d ∷ []) None
   answers_done [] [] b d e h = (e, tt)
   answers_done [] (r ∷ rs) b d e h = absurd h
   answers_done (a ∷ bs) [] b d e h = absurd h
@@ -21,7 +23,9 @@ module _ (tallied : Bool) (steps : List Step) where
   answers_done (a ∷ bs) (Stop c ∷ rs) b d e h = cc
 
   -- with one more block, which is refused
-  pub answers_stop : (bs : List Numbered) (rs : List Reply) (b : Numbered) (c : Cause) → Answers tallied steps bs rs None → Answers tallied steps (bs ++ b ∷ []) (rs ++ Stop c ∷ []) (Some c)
+  pub answers_stop : (bs : List Numbered) (rs : List Reply) (b : Numbered) (c : Cause) →
+      Answers tallied steps bs rs None → Answers tallied steps (bs ++ b ∷ []) (rs ++ Stop c ∷ [])
+      (Some c)
   answers_stop [] [] b c h = (refl, refl)
   answers_stop [] (r ∷ rs) b c h = absurd h
   answers_stop (a ∷ bs) [] b c h = absurd h
@@ -29,7 +33,8 @@ module _ (tallied : Bool) (steps : List Step) where
   answers_stop (a ∷ bs) (Stop k ∷ rs) b c h = cc
 
   -- after a Stop, blocks get no reply
-  pub answers_more : (bs more : List Numbered) (rs : List Reply) (c : Cause) → Answers tallied steps bs rs (Some c) → Answers tallied steps (bs ++ more) rs (Some c)
+  pub answers_more : (bs more : List Numbered) (rs : List Reply) (c : Cause) →
+      Answers tallied steps bs rs (Some c) → Answers tallied steps (bs ++ more) rs (Some c)
   answers_more [] more [] c h = absurd h
   answers_more [] more (r ∷ rs) c h = absurd h
   answers_more (a ∷ bs) more [] c h = absurd h
@@ -38,31 +43,41 @@ module _ (tallied : Bool) (steps : List Step) where
 
 module _ {T : Type 0} where
   pub with_none : (l : History T) → l ≡ with_items l [] l.marked
-  with_none l = ap (λ xs. let k : History T = record { name = l.name; items = xs; marked = l.marked } in k) (sym (append-nil l.items))
+  with_none l = ap (λ xs. let k : History T = record { name = l.name; items = xs; marked =
+      l.marked } in k) (sym (append-nil l.items))
 
   -- one item after some
-  pub with_more : (l k n : History T) (xs : List T) (x : T) (m : Bool) → k ≡ with_items l xs m → n ≡ with_item k x → n ≡ with_items l (xs ++ x ∷ []) m
+  pub with_more : (l k n : History T) (xs : List T) (x : T) (m : Bool) → k ≡ with_items l xs m →
+      n ≡ with_item k x → n ≡ with_items l (xs ++ x ∷ []) m
   with_more l k n xs x m e f =
-      f ∙ ap (λ j. with_item j x) e ∙ ap (λ ys. let j : History T = record { name = l.name; items = ys; marked = m } in j) (append_assoc l.items xs (x ∷ []))
+      f ∙ ap (λ j. with_item j x) e ∙ ap (λ ys. let j : History T = record { name = l.name; items =
+          ys; marked = m } in j) (append_assoc l.items xs (x ∷ []))
 
   -- some items after some, and the mark
-  pub with_both : (l k n : History T) (xs ys : List T) (m : Bool) → k ≡ with_items l xs m → n ≡ with_items k ys true → n ≡ with_items l (xs ++ ys) true
+  pub with_both : (l k n : History T) (xs ys : List T) (m : Bool) → k ≡ with_items l xs m →
+      n ≡ with_items k ys true → n ≡ with_items l (xs ++ ys) true
   with_both l k n xs ys m e f =
-      f ∙ ap (λ j. with_items j ys true) e ∙ ap (λ zs. let j : History T = record { name = l.name; items = zs; marked = true } in j) (append_assoc l.items xs ys)
+      f ∙ ap (λ j. with_items j ys true) e ∙ ap (λ zs. let j : History T = record { name =
+          l.name; items = zs; marked = true } in j) (append_assoc l.items xs ys)
 
 -- what was taken and answered in all: up to a mark, or drained up to it after a Stop
 module _ (tallied : Bool) (steps : List Step) where
-  pub record HasWorked (cause : Option Cause) (rx rx_new : History Numbered) (tx tx_new : History Reply) : Type 0 where
+  pub record HasWorked (cause : Option Cause) (rx rx_new : History Numbered)
+      (tx tx_new : History Reply) : Type 0 where
     pub took : List Numbered
     pub replies : List Reply
     pub received : rx_new ≡ with_items rx took true
     pub sent : tx_new ≡ with_items tx replies tx.marked
     pub answers : Answers tallied steps took replies cause
 
-  pub worked : (cause : Option Cause) (b : Bool) (rx rx1 rx2 : History Numbered) (tx tx1 tx2 : History Reply) → b ≡ is_some cause → HasAnswered tallied steps cause rx rx1 tx tx1
-      → (b ≡ true → HasDrained rx1 rx2 × (tx2 ≡ tx1)) → (b ≡ false → (rx2 ≡ rx1) × (tx2 ≡ tx1)) → HasWorked cause rx rx2 tx tx2
+  pub worked : (cause : Option Cause) (b : Bool) (rx rx1 rx2 : History Numbered)
+      (tx tx1 tx2 : History Reply) → b ≡ is_some cause →
+      HasAnswered tallied steps cause rx rx1 tx tx1
+      → (b ≡ true → HasDrained rx1 rx2 × (tx2 ≡ tx1)) → (b ≡ false → (rx2 ≡ rx1) × (tx2 ≡ tx1)) →
+          HasWorked cause rx rx2 tx tx2
   worked None b rx rx1 rx2 tx tx1 tx2 is h more same =
-      record { took = h.took; replies = h.replies; received = (same is).0 ∙ h.received; sent = (same is).1 ∙ h.sent; answers = h.answers }
+      record { took = h.took; replies = h.replies; received = (same is).0 ∙ h.received; sent =
+          (same is).1 ∙ h.sent; answers = h.answers }
   worked (Some c) b rx rx1 rx2 tx tx1 tx2 is h more same =
       let d = more is in record {
         took = h.took ++ d.0.took;
@@ -72,6 +87,8 @@ module _ (tallied : Bool) (steps : List Step) where
         answers = answers_more tallied steps h.took d.0.took h.replies c h.answers;
       }
 
-pub closed : {E : Type 0} (tx tx1 : History Reply) (replies : List Reply) (r : Result (History Reply) E) → tx1 ≡ with_items tx replies tx.marked → IfOk r (λ e. e ≡ with_mark tx1) → IfOk r (λ e. e ≡ with_items tx replies true)
+pub closed : {E : Type 0} (tx tx1 : History Reply) (replies : List Reply)
+    (r : Result (History Reply) E) → tx1 ≡ with_items tx replies tx.marked →
+    IfOk r (λ e. e ≡ with_mark tx1) → IfOk r (λ e. e ≡ with_items tx replies true)
 closed tx tx1 replies (Ok e) is q = q ∙ ap with_mark is
 closed tx tx1 replies (Err e) is q = tt

@@ -20,8 +20,8 @@ mod words;
 
 pub use answers::{Answers, compare};
 use anyhow::{Context, Result, bail};
+use fq_cli::encoding_of;
 use fq_text::Encoding;
-use fq_words::encoding_of;
 pub use mates::put_counts;
 pub use names::{Names, decode};
 pub use row::{Given, Row, read_block};

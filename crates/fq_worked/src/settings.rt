@@ -4,7 +4,7 @@
 use crate::answers::Answers;
 use crate::row::Given;
 use anyhow::Result;
-use fq_serial::{BadSetting, Settings};
+use fq_run_core::{BadSetting, Settings};
 use fq_text::Encoding;
 use fq_trim::Steps;
 use std::alloc::Global;

@@ -8,7 +8,7 @@ use crate::answers::Answers;
 use crate::row::Given;
 use crate::words_of;
 use anyhow::Result;
-use fq_words::{Asked, Request, read_words, report_is_input, same_name};
+use fq_cli::{Asked, Request, read_words, report_is_input, same_name};
 use std::alloc::Global;
 
 fn put_request(alloc: Global, answers: &mut Answers, request: &Request<'_>) -> Result<()> {

@@ -13,7 +13,7 @@ use Rattle.fq_work.specs.declared.reply.Reply.{Reply}
 use Rattle.fq_work.specs.declared.reply.Reply.TheVariants.{Done as done, Stop}
 use Rattle.fq_run.specs.lanes.Items.{IsDealt}
 use Rattle.fq_run.specs.collector.Stops.{with_stop, is_stop, has_come, stops_of}
-use Rattle.fq_serial.specs.declared.halt.Halt.{Halt}
+use Rattle.fq_run_core.specs.declared.halt.Halt.{Halt}
 use Rattle.fq_run.proofs.lanes.LaneLemmas.{TakesAt}
 
 -- what a take adds to the stops
@@ -25,48 +25,76 @@ or_last : (a b c : Bool) → ((a || b) || c) ≡ ((a || c) || b)
 or_last a b c = or_assoc a b c ∙ ap (λ d. a || d) (or_comm b c) ∙ sym (or_assoc a c b)
 
 -- one more reply in one lane
-come_more : (why : Cause) (ls : List (History Reply)) (j : ℕ) (l : History Reply) (x : Reply) → j < length ls → l.items ≡ (get_or ls j l).items ++ x ∷ [] →
+come_more : (why : Cause) (ls : List (History Reply)) (j : ℕ) (l : History Reply) (x : Reply) →
+    j < length ls → l.items ≡ (get_or ls j l).items ++ x ∷ [] →
     has_come why (set ls j l) ≡ (has_come why ls || is_stop why x)
 come_more why [] j l x lt e = absurd (omega arith)
 come_more why (k ∷ ls) zero l x lt e =
-    let grown : list_any (is_stop why) l.items ≡ (list_any (is_stop why) k.items || (is_stop why x || false)) = ap (list_any (is_stop why)) e ∙ list_any-append (is_stop why) k.items (x ∷ []) in
-    ap (λ b. b || has_come why ls) (grown ∙ ap (λ b. list_any (is_stop why) k.items || b) (or-false (is_stop why x))) ∙ or_last (list_any (is_stop why) k.items) (is_stop why x) (has_come why ls)
+    let grown : list_any (is_stop why) l.items
+        ≡ (list_any (is_stop why) k.items || (is_stop why x || false)) =
+        ap (list_any (is_stop why)) e ∙ list_any-append (is_stop why) k.items (x ∷ []) in
+    ap (λ b. b || has_come why ls) (grown ∙ ap (λ b. list_any (is_stop why) k.items || b)
+        (or-false (is_stop why x))) ∙ or_last (list_any (is_stop why) k.items) (is_stop why x)
+        (has_come why ls)
 come_more why (k ∷ ls) (suc j) l x lt e =
-    ap (λ b. list_any (is_stop why) k.items || b) (come_more why ls j l x (omega arith) e) ∙ sym (or_assoc (list_any (is_stop why) k.items) (has_come why ls) (is_stop why x))
+    ap (λ b. list_any (is_stop why) k.items || b) (come_more why ls j l x (omega arith) e)
+        ∙ sym (or_assoc (list_any (is_stop why) k.items) (has_come why ls) (is_stop why x))
 
 -- nothing more in one lane
-come_same : (why : Cause) (ls : List (History Reply)) (j : ℕ) (l : History Reply) → l.items ≡ (get_or ls j l).items → has_come why (set ls j l) ≡ has_come why ls
+come_same : (why : Cause) (ls : List (History Reply)) (j : ℕ) (l : History Reply) →
+    l.items ≡ (get_or ls j l).items → has_come why (set ls j l) ≡ has_come why ls
 come_same why [] j l e = refl
 come_same why (k ∷ ls) zero l e = ap (λ is. list_any (is_stop why) is || has_come why ls) e
-come_same why (k ∷ ls) (suc j) l e = ap (λ b. list_any (is_stop why) k.items || b) (come_same why ls j l e)
+come_same why (k ∷ ls) (suc j) l e = ap (λ b. list_any (is_stop why) k.items || b)
+    (come_same why ls j l e)
 
-same_halt : (a b c d : Bool) → a ≡ c → b ≡ d → (let x : Halt = record { gate = a; memory = b } in let y : Halt = record { gate = c; memory = d } in x ≡ y)
-same_halt a b c d p q = ap (λ g. let x : Halt = record { gate = g; memory = b } in x) p ∙ ap (λ m. let x : Halt = record { gate = c; memory = m } in x) q
+same_halt : (a b c d : Bool) → a ≡ c → b ≡ d →
+    (let x : Halt = record { gate = a; memory = b } in let y : Halt =
+    record { gate = c; memory = d } in x ≡ y)
+same_halt a b c d p q = ap (λ g. let x : Halt = record { gate = g; memory = b } in x) p
+    ∙ ap (λ m. let x : Halt = record { gate = c; memory = m } in x) q
 
 -- what has come, with a reply that was taken
-come_taken : (x : Reply) (old new : List (History Reply)) (j : ℕ) → j < length old → TakesAt (Item x) old new j → (why : Cause) → has_come why new ≡ (has_come why old || is_stop why x)
-come_taken x old new j lt t why = ap (has_come why) t.becomes ∙ come_more why old j t.history x lt (ap (λ (l : History Reply). l.items) t.takes.1)
+come_taken : (x : Reply) (old new : List (History Reply)) (j : ℕ) → j < length old →
+    TakesAt (Item x) old new j → (why : Cause) →
+    has_come why new ≡ (has_come why old || is_stop why x)
+come_taken x old new j lt t why = ap (has_come why) t.becomes
+    ∙ come_more why old j t.history x lt (ap (λ (l : History Reply). l.items) t.takes.1)
 
-pub stops_taken : (r : Taken Reply) (old new : List (History Reply)) (j : ℕ) → j < length old → TakesAt r old new j → stops_of new ≡ heard_at r (stops_of old)
+pub stops_taken : (r : Taken Reply) (old new : List (History Reply)) (j : ℕ) → j < length old →
+    TakesAt r old new j → stops_of new ≡ heard_at r (stops_of old)
 stops_taken (Item (Stop Gate)) old new j lt t =
-    let more = come_taken _ old new j lt t in same_halt _ _ _ _ (more Gate ∙ or-true (has_come Gate old)) (more Memory ∙ or-false (has_come Memory old))
+    let more = come_taken _ old new j lt t in
+        same_halt _ _ _ _ (more Gate ∙ or-true (has_come Gate old)) (more Memory
+        ∙ or-false (has_come Memory old))
 stops_taken (Item (Stop Memory)) old new j lt t =
-    let more = come_taken _ old new j lt t in same_halt _ _ _ _ (more Gate ∙ or-false (has_come Gate old)) (more Memory ∙ or-true (has_come Memory old))
+    let more = come_taken _ old new j lt t in
+        same_halt _ _ _ _ (more Gate ∙ or-false (has_come Gate old)) (more Memory
+        ∙ or-true (has_come Memory old))
 stops_taken (Item (done d)) old new j lt t =
-    let more = come_taken _ old new j lt t in same_halt _ _ _ _ (more Gate ∙ or-false (has_come Gate old)) (more Memory ∙ or-false (has_come Memory old))
+    let more = come_taken _ old new j lt t in
+        same_halt _ _ _ _ (more Gate ∙ or-false (has_come Gate old)) (more Memory
+        ∙ or-false (has_come Memory old))
 stops_taken Empty old new j lt t =
-    let same = λ (why : Cause). ap (has_come why) t.becomes ∙ come_same why old j t.history (ap (λ (l : History Reply). l.items) t.takes.1) in
+    let same = λ (why : Cause). ap (has_come why) t.becomes
+        ∙ come_same why old j t.history (ap (λ (l : History Reply). l.items) t.takes.1) in
     same_halt _ _ _ _ (same Gate) (same Memory)
 stops_taken Closed old new j lt t =
-    let same = λ (why : Cause). ap (has_come why) t.becomes ∙ come_same why old j t.history (ap (λ (l : History Reply). l.items) t.takes) in
+    let same = λ (why : Cause). ap (has_come why) t.becomes
+        ∙ come_same why old j t.history (ap (λ (l : History Reply). l.items) t.takes) in
     same_halt _ _ _ _ (same Gate) (same Memory)
 
 -- nothing came yet
-none_come : (why : Cause) (ls : List (History Reply)) → ((j : ℕ) (d : History Reply) → j < length ls → (get_or ls j d).items ≡ []) → has_come why ls ≡ false
+none_come : (why : Cause) (ls : List (History Reply)) →
+    ((j : ℕ) (d : History Reply) → j < length ls → (get_or ls j d).items ≡ []) →
+    has_come why ls ≡ false
 none_come why [] h = refl
 none_come why (l ∷ ls) h =
-    ap (λ is. list_any (is_stop why) is || has_come why ls) (h 0 l (omega arith)) ∙ none_come why ls (λ j d lt. h (suc j) d (omega arith))
+    ap (λ is. list_any (is_stop why) is || has_come why ls) (h 0 l (omega arith))
+        ∙ none_come why ls (λ j d lt. h (suc j) d (omega arith))
 
-pub no_stops : (ls : List (History Reply)) → IsDealt (length ls) [] ls → stops_of ls ≡ record { gate = false; memory = false }
+pub no_stops : (ls : List (History Reply)) → IsDealt (length ls) [] ls →
+    stops_of ls ≡ record { gate = false; memory = false }
 no_stops ls h =
-    same_halt _ _ _ _ (none_come Gate ls (λ j d lt. h.items j d lt)) (none_come Memory ls (λ j d lt. h.items j d lt))
+    same_halt _ _ _ _ (none_come Gate ls (λ j d lt. h.items j d lt))
+        (none_come Memory ls (λ j d lt. h.items j d lt))

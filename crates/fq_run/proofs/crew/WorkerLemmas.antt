@@ -25,7 +25,8 @@ use Rattle.fq_run.proofs.MatchLemmas.{Matched}
 -- New lanes.
 
 -- one more lane without items
-dealt_more : {T : Type 0} (w : ℕ) (l : History T) (ls : List (History T)) → l.items ≡ [] → IsDealt w [] ls → IsDealt (suc w) [] (l ∷ ls)
+dealt_more : {T : Type 0} (w : ℕ) (l : History T) (ls : List (History T)) → l.items ≡ [] →
+    IsDealt w [] ls → IsDealt (suc w) [] (l ∷ ls)
 dealt_more {T} w l ls none h = record { lanes = ap (λ n. suc n) h.lanes; items = at }
   where
     at : (j : ℕ) (d : History T) → j < suc w → (get_or (l ∷ ls) j d).items ≡ []
@@ -36,25 +37,31 @@ dealt_none : {T : Type 0} → IsDealt {T = T} 0 [] []
 dealt_none = record { lanes = refl; items = λ j d lt. absurd (omega arith) }
 
 -- nothing is dealt to new lanes, and there are as many lanes to the workers as from them
-laid_dealt : (ts : List (History Numbered)) (es : List WorkEnds) (fs : List (History Reply)) → Each3 Laid ts es fs → IsDealt (length ts) [] ts × IsDealt (length ts) [] fs
+laid_dealt : (ts : List (History Numbered)) (es : List WorkEnds) (fs : List (History Reply)) →
+    Each3 Laid ts es fs → IsDealt (length ts) [] ts × IsDealt (length ts) [] fs
 laid_dealt [] [] [] h = (dealt_none, dealt_none)
 laid_dealt (t ∷ ts) (e ∷ es) (f ∷ fs) h =
     let l = h.0 in
     let rest = laid_dealt ts es fs h.1 in
-    (dealt_more (length ts) t ts (ap (λ (x : History Numbered). x.items) l.to_is) rest.0, dealt_more (length ts) f fs (ap (λ (x : History Reply). x.items) l.replies_are) rest.1)
+    (dealt_more (length ts) t ts (ap (λ (x : History Numbered). x.items) l.to_is) rest.0, dealt_more
+        (length ts) f fs (ap (λ (x : History Reply). x.items) l.replies_are) rest.1)
 laid_dealt [] [] (f ∷ fs) h = absurd h
 laid_dealt [] (e ∷ es) fs h = absurd h
 laid_dealt (t ∷ ts) [] fs h = absurd h
 laid_dealt (t ∷ ts) (e ∷ es) [] h = absurd h
 
-pub laid_length : (ts : List (History Numbered)) (es : List WorkEnds) (fs : List (History Reply)) → Each3 Laid ts es fs → length ts ≡ length fs
+pub laid_length : (ts : List (History Numbered)) (es : List WorkEnds) (fs : List (History Reply)) →
+    Each3 Laid ts es fs → length ts ≡ length fs
 laid_length ts es fs h = let replies = (laid_dealt ts es fs h).1 in sym replies.lanes
 
-pub to_dealt : (w : ℕ) (ts : List (History Numbered)) (es : List WorkEnds) (fs : List (History Reply)) → length ts ≡ w → Each3 Laid ts es fs → IsDealt w [] ts
+pub to_dealt : (w : ℕ) (ts : List (History Numbered)) (es : List WorkEnds)
+    (fs : List (History Reply)) → length ts ≡ w → Each3 Laid ts es fs → IsDealt w [] ts
 to_dealt w ts es fs len h = subst (λ n. IsDealt n [] ts) len (laid_dealt ts es fs h).0
 
-pub replies_dealt : (w : ℕ) (ts : List (History Numbered)) (es : List WorkEnds) (fs : List (History Reply)) → length fs ≡ w → Each3 Laid ts es fs → IsDealt w [] fs
-replies_dealt w ts es fs len h = subst (λ n. IsDealt n [] fs) (laid_length ts es fs h ∙ len) (laid_dealt ts es fs h).1
+pub replies_dealt : (w : ℕ) (ts : List (History Numbered)) (es : List WorkEnds)
+    (fs : List (History Reply)) → length fs ≡ w → Each3 Laid ts es fs → IsDealt w [] fs
+replies_dealt w ts es fs len h = subst (λ n. IsDealt n [] fs) (laid_length ts es fs h ∙ len)
+    (laid_dealt ts es fs h).1
 
 -- After the joins.
 
@@ -63,32 +70,43 @@ module _ (tallied : Bool) (steps : List Step) where
   pub record Answered (n m : Name) (w : Worked) : Type 0 where
     pub name : w.rx.name ≡ n
     pub closed : w.rx.marked ≡ true
-    pub answers : IfOk w.closing (λ e. (e.name ≡ m) × Answers tallied steps w.rx.items e.items w.cause)
+    pub answers : IfOk w.closing (λ e. (e.name ≡ m)
+        × Answers tallied steps w.rx.items e.items w.cause)
 
-  answered : (t : History Numbered) (e : WorkEnds) (f : History Reply) (h : PromisedHandle Worked Job) (w : Worked) → Laid t e f → Seated tallied steps e h → Joined h w → Answered t.name f.name w
+  answered : (t : History Numbered) (e : WorkEnds) (f : History Reply)
+      (h : PromisedHandle Worked Job) (w : Worked) → Laid t e f → Seated tallied steps e h →
+      Joined h w → Answered t.name f.name w
   answered t e f h w l s j =
       let rx : h.promise.rx.value ≡ fresh t.name = s.rx ∙ l.rx in
       let tx : h.promise.tx.value ≡ fresh f.name = s.tx ∙ l.tx in
       let took = j.took in
-      let came : took ≡ w.rx.items = sym (ap (λ x. x.items) j.received ∙ ap (λ (x : History Numbered). x.items ++ took) rx) in
+      let came : took ≡ w.rx.items = sym (ap (λ x. x.items) j.received
+          ∙ ap (λ (x : History Numbered). x.items ++ took) rx) in
       record {
         name = ap (λ x. x.name) j.received ∙ ap (λ (x : History Numbered). x.name) rx;
         closed = ap (λ x. x.marked) j.received;
-        answers = weaker (λ x. x ≡ with_items h.promise.tx.value j.replies true) (λ x. (x.name ≡ f.name) × Answers tallied steps w.rx.items x.items w.cause)
+        answers = weaker (λ x. x ≡ with_items h.promise.tx.value j.replies true)
+            (λ x. (x.name ≡ f.name) × Answers tallied steps w.rx.items x.items w.cause)
             (λ x q.
-            (let sent : x.items ≡ j.replies = ap (λ y. y.items) q ∙ ap (λ (y : History Reply). y.items ++ j.replies) tx in
+            (let sent : x.items ≡ j.replies = ap (λ y. y.items) q
+                ∙ ap (λ (y : History Reply). y.items ++ j.replies) tx in
             let P : List Step → Type 0 = λ s. Answers h.promise.tallied s took j.replies w.cause in
             let Q : Bool → Type 0 = λ b. Answers b steps took j.replies w.cause in
-            let a : Answers tallied steps took j.replies w.cause = subst Q s.tallied_is (subst P s.steps_are j.answers) in (
+            let a : Answers tallied steps took j.replies w.cause =
+                subst Q s.tallied_is (subst P s.steps_are j.answers) in (
               ap (λ y. y.name) q ∙ ap (λ (y : History Reply). y.name) tx,
-              subst (λ bs. Answers tallied steps bs x.items w.cause) came (subst (λ rs. Answers tallied steps took rs w.cause) (sym sent) a),
+              subst (λ bs. Answers tallied steps bs x.items w.cause) came
+                  (subst (λ rs. Answers tallied steps took rs w.cause) (sym sent) a),
             ))) w.closing j.sent;
       }
 
-  pub all_answered : (ts : List (History Numbered)) (es : List WorkEnds) (fs : List (History Reply)) (hs : List (PromisedHandle Worked Job)) (ws : List Worked) →
-      Each3 Laid ts es fs → AllZip (Seated tallied steps) es hs → AllZip Joined hs ws → Each3 Answered (names_of ts) (names_of fs) ws
+  pub all_answered : (ts : List (History Numbered)) (es : List WorkEnds) (fs : List (History Reply))
+      (hs : List (PromisedHandle Worked Job)) (ws : List Worked) →
+      Each3 Laid ts es fs → AllZip (Seated tallied steps) es hs → AllZip Joined hs ws →
+          Each3 Answered (names_of ts) (names_of fs) ws
   all_answered [] [] [] [] [] l s j = tt
-  all_answered (t ∷ ts) (e ∷ es) (f ∷ fs) (h ∷ hs) (w ∷ ws) l s j = (answered t e f h w l.0 s.0 j.0, all_answered ts es fs hs ws l.1 s.1 j.1)
+  all_answered (t ∷ ts) (e ∷ es) (f ∷ fs) (h ∷ hs) (w ∷ ws) l s j =
+      (answered t e f h w l.0 s.0 j.0, all_answered ts es fs hs ws l.1 s.1 j.1)
   all_answered [] [] [] [] (w ∷ ws) l s j = absurd j
   all_answered [] [] [] (h ∷ hs) ws l s j = absurd s
   all_answered [] [] (f ∷ fs) hs ws l s j = absurd l
@@ -98,23 +116,32 @@ module _ (tallied : Bool) (steps : List Step) where
   all_answered (t ∷ ts) (e ∷ es) (f ∷ fs) [] ws l s j = absurd s
   all_answered (t ∷ ts) (e ∷ es) (f ∷ fs) (h ∷ hs) [] l s j = absurd j
 
-  closed_first : (f : History Reply) (fs : List (History Reply)) → AllClosed (f ∷ fs) → f.marked ≡ true
+  closed_first : (f : History Reply) (fs : List (History Reply)) → AllClosed (f ∷ fs) →
+      f.marked ≡ true
   closed_first f fs h = h 0 f (omega arith)
 
   closed_rest : (f : History Reply) (fs : List (History Reply)) → AllClosed (f ∷ fs) → AllClosed fs
   closed_rest f fs h = λ j d lt. h (suc j) d (omega arith)
 
-  can_confirm_one : (t : History Numbered) (c : Result (History Numbered) NotEnded) (w : Worked) (f : History Reply) → Closed t c → Answered t.name f.name w → f.marked ≡ true → CanConfirm c w f
+  can_confirm_one : (t : History Numbered) (c : Result (History Numbered) NotEnded) (w : Worked)
+      (f : History Reply) → Closed t c → Answered t.name f.name w → f.marked ≡ true →
+      CanConfirm c w f
   can_confirm_one t c w f h a m = record {
-    blocks = weaker (λ e. e ≡ with_mark t) (λ e. e.name ≡ w.rx.name) (λ e q. ap (λ l. l.name) q ∙ sym a.name) c h;
+    blocks = weaker (λ e. e ≡ with_mark t) (λ e. e.name ≡ w.rx.name) (λ e q. ap (λ l. l.name) q
+        ∙ sym a.name) c h;
     came = a.closed;
-    sent = weaker (λ e. (e.name ≡ f.name) × Answers tallied steps w.rx.items e.items w.cause) (λ e. e.name ≡ f.name) (λ e q. q.0) w.closing a.answers;
+    sent = weaker (λ e. (e.name ≡ f.name) × Answers tallied steps w.rx.items e.items w.cause)
+        (λ e. e.name ≡ f.name) (λ e q. q.0) w.closing a.answers;
     got = m;
   }
 
-  pub can_confirm : (ts : List (History Numbered)) (cs : List (Result (History Numbered) NotEnded)) (ws : List Worked) (fs : List (History Reply)) → AllZip Closed ts cs → Each3 Answered (names_of ts) (names_of fs) ws → AllClosed fs → Each3 CanConfirm cs ws fs
+  pub can_confirm : (ts : List (History Numbered)) (cs : List (Result (History Numbered) NotEnded))
+      (ws : List Worked) (fs : List (History Reply)) → AllZip Closed ts cs →
+      Each3 Answered (names_of ts) (names_of fs) ws → AllClosed fs → Each3 CanConfirm cs ws fs
   can_confirm [] [] [] [] h a m = tt
-  can_confirm (t ∷ ts) (c ∷ cs) (w ∷ ws) (f ∷ fs) h a m = (can_confirm_one t c w f h.0 a.0 (closed_first f fs m), can_confirm ts cs ws fs h.1 a.1 (closed_rest f fs m))
+  can_confirm (t ∷ ts) (c ∷ cs) (w ∷ ws) (f ∷ fs) h a m =
+      (can_confirm_one t c w f h.0 a.0 (closed_first f fs m), can_confirm ts cs ws fs h.1 a.1
+      (closed_rest f fs m))
   can_confirm [] (c ∷ cs) ws fs h a m = absurd h
   can_confirm (t ∷ ts) [] ws fs h a m = absurd h
   can_confirm [] [] (w ∷ ws) [] h a m = absurd a
@@ -124,19 +151,29 @@ module _ (tallied : Bool) (steps : List Step) where
 
   -- After the lanes are confirmed.
 
-  matched_by : (n m : Name) (e r : History Numbered) (x f : History Reply) (cause : Option Cause) → r ≡ e → f ≡ x → Answers tallied steps r.items x.items cause → Answers tallied steps e.items f.items cause
+  matched_by : (n m : Name) (e r : History Numbered) (x f : History Reply) (cause : Option Cause) →
+      r ≡ e → f ≡ x → Answers tallied steps r.items x.items cause →
+      Answers tallied steps e.items f.items cause
   matched_by n m e r x f cause rx same a =
-      subst (λ (l : History Numbered). Answers tallied steps l.items f.items cause) rx (subst (λ (l : History Reply). Answers tallied steps r.items l.items cause) (sym same) a)
+      subst (λ (l : History Numbered). Answers tallied steps l.items f.items cause) rx
+          (subst (λ (l : History Reply). Answers tallied steps r.items l.items cause) (sym same) a)
 
-  matched_one : (n m : Name) (c : Result (History Numbered) NotEnded) (w : Worked) (f : History Reply) (replied : Result (History Reply) NotEnded) → IfOk replied (λ e. (e.name ≡ m) × Answers tallied steps w.rx.items e.items w.cause) →
+  matched_one : (n m : Name) (c : Result (History Numbered) NotEnded) (w : Worked)
+      (f : History Reply) (replied : Result (History Reply) NotEnded) →
+      IfOk replied (λ e. (e.name ≡ m) × Answers tallied steps w.rx.items e.items w.cause) →
       IsOkAnd c (λ e. w.rx ≡ e) → IsOkAnd replied (λ e. f ≡ e) → Matched tallied steps c f
-  matched_one n m (Ok e) w f (Ok x) a rx same = (w.cause, matched_by n m e w.rx x f w.cause rx same a.1)
+  matched_one n m (Ok e) w f (Ok x) a rx same =
+      (w.cause, matched_by n m e w.rx x f w.cause rx same a.1)
   matched_one n m (Err e) w f replied a rx same = absurd rx
   matched_one n m (Ok e) w f (Err x) a rx same = absurd same
 
-  pub matched : (ns ms : List Name) (cs : List (Result (History Numbered) NotEnded)) (ws : List Worked) (fs : List (History Reply)) → Each3 Answered ns ms ws → Each3 Confirmed cs ws fs → AllZip (Matched tallied steps) cs fs
+  pub matched : (ns ms : List Name) (cs : List (Result (History Numbered) NotEnded))
+      (ws : List Worked) (fs : List (History Reply)) → Each3 Answered ns ms ws →
+      Each3 Confirmed cs ws fs → AllZip (Matched tallied steps) cs fs
   matched [] [] [] [] [] a k = tt
-  matched (n ∷ ns) (m ∷ ms) (c ∷ cs) (w ∷ ws) (f ∷ fs) a k = (let first = a.0 in matched_one n m c w f w.closing first.answers k.0.0 k.0.1, matched ns ms cs ws fs a.1 k.1)
+  matched (n ∷ ns) (m ∷ ms) (c ∷ cs) (w ∷ ws) (f ∷ fs) a k =
+      (let first = a.0 in matched_one n m c w f w.closing first.answers k.0.0 k.0.1, matched ns ms
+      cs ws fs a.1 k.1)
   matched [] [] [] [] (f ∷ fs) a k = absurd k
   matched [] [] (c ∷ cs) [] fs a k = absurd k
   matched [] [] cs (w ∷ ws) fs a k = absurd a

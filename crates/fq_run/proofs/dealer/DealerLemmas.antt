@@ -7,18 +7,18 @@ use Rattle.fq_text.specs.declared.encoding.Encoding.{Encoding}
 use Rattle.fq_lane.specs.History.{History}
 use Rattle.fq_block.specs.Blocks.{Numbered}
 use Rattle.fq_pair.specs.Mates.{Mates}
-use Rattle.fq_serial.specs.declared.reading_end.ReadingEnd.{ReadingEnd}
-use Rattle.fq_serial.specs.declared.reading_end.ReadingEnd.TheVariants as reading
-use Rattle.fq_serial.specs.Choices.{Choices}
+use Rattle.fq_run_core.specs.declared.reading_end.ReadingEnd.{ReadingEnd}
+use Rattle.fq_run_core.specs.declared.reading_end.ReadingEnd.TheVariants as reading
+use Rattle.fq_run_core.specs.Choices.{Choices}
 use Rattle.fq_run.specs.Shares.{join, AreEven}
 use Rattle.fq_run.specs.dealer.DealingOut.{AreNumbered, AreBlocks, DealsOut, SendsFilled}
 use Rattle.fq_run.specs.dealer.Filling.{Fills}
 use Rattle.fq_run.specs.lanes.Items.{names_of, IsDealt}
 use Rattle.fq_pair.specs.Walks.{SourceState, Walks, GoesOn}
-use Rattle.fq_serial.specs.PairsRead.{Reads}
+use Rattle.fq_run_core.specs.PairsRead.{Reads}
 use Rattle.fq_run.proofs.DealLemmas.{turn_more}
 use Rattle.fq_run.proofs.lanes.LaneLemmas.{dealt_offer, names_written}
-use Rattle.fq_serial.proofs.WalkLemmas.{walks_none, walks_then, reads_then}
+use Rattle.fq_run_core.proofs.WalkLemmas.{walks_none, walks_then, reads_then}
 use Rattle.fq_pair.proofs.SideLemmas.{walked_records}
 
 -- Cutting.
@@ -29,41 +29,52 @@ module _ {T : Type 0} where
   AreFull most [] = Unit {0}
   AreFull most (piece ∷ pieces) = (length piece ≡ most) × AreFull most pieces
 
-  full_then : (most : ℕ) (pieces : List (List T)) (last : List T) → AreFull most pieces → length last ≡ most → AreFull most (pieces ++ last ∷ [])
+  full_then : (most : ℕ) (pieces : List (List T)) (last : List T) → AreFull most pieces →
+      length last ≡ most → AreFull most (pieces ++ last ∷ [])
   full_then most [] last full is = (is, tt)
   full_then most (piece ∷ pieces) last full is = (full.0, full_then most pieces last full.1 is)
 
-  even_full : (most : ℕ) (pieces : List (List T)) → 1 ≤ most → AreFull most pieces → AreEven most pieces
+  even_full : (most : ℕ) (pieces : List (List T)) → 1 ≤ most → AreFull most pieces →
+      AreEven most pieces
   even_full most [] some full = tt
   even_full most (piece ∷ []) some full = let is = full.0 in (omega arith, omega arith)
-  even_full most (piece ∷ next ∷ pieces) some full = (full.0, even_full most (next ∷ pieces) some full.1)
+  even_full most (piece ∷ next ∷ pieces) some full =
+      (full.0, even_full most (next ∷ pieces) some full.1)
 
   -- and the last at most that number
-  even_then : (most : ℕ) (pieces : List (List T)) (last : List T) → AreFull most pieces → 1 ≤ length last → length last ≤ most → AreEven most (pieces ++ last ∷ [])
+  even_then : (most : ℕ) (pieces : List (List T)) (last : List T) → AreFull most pieces →
+      1 ≤ length last → length last ≤ most → AreEven most (pieces ++ last ∷ [])
   even_then most [] last full some few = (some, few)
   even_then most (piece ∷ []) last full some few = (full.0, (some, few))
-  even_then most (piece ∷ next ∷ pieces) last full some few = (full.0, even_then most (next ∷ pieces) last full.1 some few)
+  even_then most (piece ∷ next ∷ pieces) last full some few =
+      (full.0, even_then most (next ∷ pieces) last full.1 some few)
 
-  join_then : (pieces : List (List T)) (last : List T) → join (pieces ++ last ∷ []) ≡ join pieces ++ last
+  join_then : (pieces : List (List T)) (last : List T) →
+      join (pieces ++ last ∷ []) ≡ join pieces ++ last
   join_then [] last = append-nil last
-  join_then (piece ∷ pieces) last = ap (λ xs. piece ++ xs) (join_then pieces last) ∙ sym (append_assoc piece (join pieces) last)
+  join_then (piece ∷ pieces) last = ap (λ xs. piece ++ xs) (join_then pieces last)
+      ∙ sym (append_assoc piece (join pieces) last)
 
 abbrev pairs_of : List Numbered → List (List Mates)
 pairs_of blocks = map (λ (b : Numbered). b.pairs) blocks
 
-pairs_then : (blocks : List Numbered) (block : Numbered) → pairs_of (blocks ++ block ∷ []) ≡ pairs_of blocks ++ block.pairs ∷ []
+pairs_then : (blocks : List Numbered) (block : Numbered) →
+    pairs_of (blocks ++ block ∷ []) ≡ pairs_of blocks ++ block.pairs ∷ []
 pairs_then blocks block = map-append (λ (b : Numbered). b.pairs) blocks (block ∷ [])
 
-numbered_then : (encoding : Encoding) (n : ℕ) (blocks : List Numbered) (block : Numbered) → AreNumbered encoding n blocks → block.number ≡ n + length blocks → block.encoding ≡ encoding →
+numbered_then : (encoding : Encoding) (n : ℕ) (blocks : List Numbered) (block : Numbered) →
+    AreNumbered encoding n blocks → block.number ≡ n + length blocks → block.encoding ≡ encoding →
     AreNumbered encoding n (blocks ++ block ∷ [])
 numbered_then encoding n [] block are is same = (omega arith, same, tt)
-numbered_then encoding n (b ∷ blocks) block are is same = (are.0, are.1, numbered_then encoding (suc n) blocks block are.2 (omega arith) same)
+numbered_then encoding n (b ∷ blocks) block are is same =
+    (are.0, are.1, numbered_then encoding (suc n) blocks block are.2 (omega arith) same)
 
 -- Dealing.
 
 module _ (c : Choices) (old : SourceState) (to : List (History Numbered)) where
   -- full blocks were dealt out
-  pub record DealsFull (now : SourceState) (lanes : List (History Numbered)) (turn number : ℕ) : Type 0 where
+  pub record DealsFull (now : SourceState) (lanes : List (History Numbered))
+      (turn number : ℕ) : Type 0 where
     pub mates : List Mates
     pub blocks : List Numbered
     pub walks : Walks old now mates
@@ -100,27 +111,41 @@ module _ (c : Choices) (old : SourceState) (to : List (History Numbered)) where
 
   -- One more block.
   module _ (now next : SourceState) (lanes : List (History Numbered)) (turn number : ℕ) (lane other after : History Numbered) (empty block : Numbered) (why : Option ReadingEnd) (d : DealsFull now lanes turn number)
-      (f : Fills now next c.block_pairs empty block why) (numbered_as : empty.number ≡ number) (encoded_as : empty.encoding ≡ c.encoding) (read : lane ≡ get_or lanes turn other) (sends : SendsFilled block lane after) where
-    mates_few : old.forward.given ≡ 0 → old.most_bytes ≤ 2 ^ 60 → length (d.mates ++ block.pairs) ≤ 2 ^ 60
+      (f : Fills now next c.block_pairs empty block why) (numbered_as : empty.number ≡ number)
+          (encoded_as : empty.encoding ≡ c.encoding) (read : lane ≡ get_or lanes turn other)
+          (sends : SendsFilled block lane after) where
+    mates_few : old.forward.given ≡ 0 → old.most_bytes ≤ 2 ^ 60 →
+        length (d.mates ++ block.pairs) ≤ 2 ^ 60
     mates_few fresh bound =
-        let mates = d.mates in let w = d.walks in let s = w.same in let records = walked_records old now d.mates w in let bytes = s.most_bytes in let within = f.within in omega (arith, length-append mates block.pairs)
+        let mates = d.mates in let w = d.walks in let s = w.same in let records =
+            walked_records old now d.mates w in let bytes = s.most_bytes in let within = f.within in
+            omega (arith, length-append mates block.pairs)
 
     joined_more : join (pairs_of (d.blocks ++ block ∷ [])) ≡ d.mates ++ block.pairs
-    joined_more = ap join (pairs_then d.blocks block) ∙ join_then (pairs_of d.blocks) block.pairs ∙ ap (λ ms. ms ++ block.pairs) d.joined
+    joined_more = ap join (pairs_then d.blocks block) ∙ join_then (pairs_of d.blocks) block.pairs
+        ∙ ap (λ ms. ms ++ block.pairs) d.joined
 
     numbered_more : AreNumbered c.encoding 0 (d.blocks ++ block ∷ [])
-    numbered_more = let is = d.number_is in let number = f.number in numbered_then c.encoding 0 d.blocks block d.numbered (omega (arith, numbered_as)) (f.encoding ∙ encoded_as)
+    numbered_more = let is = d.number_is in let number = f.number in
+        numbered_then c.encoding 0 d.blocks block d.numbered (omega (arith, numbered_as))
+        (f.encoding ∙ encoded_as)
 
-    dealt_more : 0 < length block.pairs → IsDealt (length to) (d.blocks ++ block ∷ []) (set lanes turn after)
-    dealt_more some = dealt_offer (length to) d.blocks block lanes turn lane other after d.dealt read (sends.some some) d.below d.turn_is
+    dealt_more : 0 < length block.pairs → IsDealt (length to) (d.blocks ++ block ∷ [])
+        (set lanes turn after)
+    dealt_more some = dealt_offer (length to) d.blocks block lanes turn lane other after d.dealt
+        read (sends.some some) d.below d.turn_is
 
     names_more : 0 < length block.pairs → names_of (set lanes turn after) ≡ names_of to
-    names_more some = let dealt = d.dealt in names_written lanes turn lane other after (omega (arith, dealt.lanes, d.below)) read (ap (λ l. l.name) (sends.some some)) ∙ d.names
+    names_more some = let dealt = d.dealt in
+        names_written lanes turn lane other after (omega (arith, dealt.lanes, d.below)) read
+        (ap (λ l. l.name) (sends.some some)) ∙ d.names
 
-    pub deals_more : why ≡ None → 1 ≤ c.block_pairs → (turn' : ℕ) → turn' ≡ suc turn % length to → turn' < length to → DealsFull next (set lanes turn after) turn' (number + 1)
+    pub deals_more : why ≡ None → 1 ≤ c.block_pairs → (turn' : ℕ) → turn' ≡ suc turn % length to →
+        turn' < length to → DealsFull next (set lanes turn after) turn' (number + 1)
     deals_more going most turn' is below =
         let full = f.full going in
-        let blocks = d.blocks in let mates = d.mates in let few = d.few in let number_is = d.number_is in
+        let blocks = d.blocks in let mates = d.mates in let few = d.few in let number_is =
+            d.number_is in
         let P : Option ReadingEnd → Type 0 = λ o. Reads now next block.pairs o in
         record {
           mates = mates ++ block.pairs;
@@ -128,7 +153,8 @@ module _ (c : Choices) (old : SourceState) (to : List (History Numbered)) where
           walks = walks_then old now next mates block.pairs d.walks (subst P going f.reads);
           goes = f.goes going;
           joined = joined_more;
-          full = subst (AreFull c.block_pairs) (sym (pairs_then blocks block)) (full_then c.block_pairs (pairs_of blocks) block.pairs d.full full);
+          full = subst (AreFull c.block_pairs) (sym (pairs_then blocks block))
+              (full_then c.block_pairs (pairs_of blocks) block.pairs d.full full);
           numbered = numbered_more;
           few = omega (arith, length-append mates block.pairs, length-append blocks (block ∷ []));
           dealt = dealt_more (omega arith);
@@ -138,52 +164,67 @@ module _ (c : Choices) (old : SourceState) (to : List (History Numbered)) where
           number_is = omega (arith, length-append blocks (block ∷ []));
         }
 
-    lost_last : why ≡ Some reading.Memory → next.given ≡ old.given + length (d.mates ++ block.pairs) + 1
-    lost_last refused = let mates = d.mates in let w = d.walks in let given = w.given in let more = f.lost refused in omega (arith, length-append mates block.pairs)
+    lost_last : why ≡ Some reading.Memory → next.given ≡ old.given + length
+        (d.mates ++ block.pairs) + 1
+    lost_last refused = let mates = d.mates in let w = d.walks in let given = w.given in let more =
+        f.lost refused in omega (arith, length-append mates block.pairs)
 
-    cut_last : (blocks : List Numbered) (mates : List Mates) → join (pairs_of blocks) ≡ mates → AreEven c.block_pairs (pairs_of blocks) → AreNumbered c.encoding 0 blocks → AreBlocks c mates blocks
-    cut_last blocks mates joined even numbered = record { cut = record { joined = joined; even = even }; numbered = numbered }
+    cut_last : (blocks : List Numbered) (mates : List Mates) → join (pairs_of blocks) ≡ mates →
+        AreEven c.block_pairs (pairs_of blocks) → AreNumbered c.encoding 0 blocks →
+        AreBlocks c mates blocks
+    cut_last blocks mates joined even numbered =
+        record { cut = record { joined = joined; even = even }; numbered = numbered }
 
-    last_some : old.forward.given ≡ 0 → old.most_bytes ≤ 2 ^ 60 → 0 < length block.pairs → DealsOut c old next to (set lanes turn after) why
+    last_some : old.forward.given ≡ 0 → old.most_bytes ≤ 2 ^ 60 → 0 < length block.pairs →
+        DealsOut c old next to (set lanes turn after) why
     last_some fresh bound some =
         let blocks = d.blocks in let mates = d.mates in
-        let even = even_then c.block_pairs (pairs_of blocks) block.pairs d.full (omega arith) f.few in
+        let even = even_then c.block_pairs (pairs_of blocks) block.pairs d.full (omega arith)
+            f.few in
         record {
           mates = mates ++ block.pairs;
           blocks = blocks ++ block ∷ [];
           reads = reads_then old now next mates block.pairs why d.walks f.reads;
           lost = lost_last;
           few = mates_few fresh bound;
-          cut = cut_last (blocks ++ block ∷ []) (mates ++ block.pairs) joined_more (subst (AreEven c.block_pairs) (sym (pairs_then blocks block)) even) numbered_more;
+          cut = cut_last (blocks ++ block ∷ []) (mates ++ block.pairs) joined_more
+              (subst (AreEven c.block_pairs) (sym (pairs_then blocks block)) even) numbered_more;
           dealt = dealt_more some;
           names = names_more some;
         }
 
-    last_none : old.forward.given ≡ 0 → old.most_bytes ≤ 2 ^ 60 → 1 ≤ c.block_pairs → block.pairs ≡ [] → DealsOut c old next to (set lanes turn after) why
+    last_none : old.forward.given ≡ 0 → old.most_bytes ≤ 2 ^ 60 → 1 ≤ c.block_pairs →
+        block.pairs ≡ [] → DealsOut c old next to (set lanes turn after) why
     last_none fresh bound most none =
         let blocks = d.blocks in let mates = d.mates in
         let same : mates ++ block.pairs ≡ mates = ap (λ ms. mates ++ ms) none ∙ append-nil mates in
         let P : List Mates → Type 0 = λ ms. Reads old next ms why in
-        let unsent : set lanes turn after ≡ lanes = ap (set lanes turn) (sends.none none ∙ read) ∙ set-get_or lanes turn other in
+        let unsent : set lanes turn after ≡ lanes = ap (set lanes turn) (sends.none none ∙ read)
+            ∙ set-get_or lanes turn other in
         let Q : List Mates → Type 0 = λ ms. length ms ≤ 2 ^ 60 in
-        let R : List Mates → Type 0 = λ ms. why ≡ Some reading.Memory → next.given ≡ old.given + length ms + 1 in
+        let R : List Mates → Type 0 = λ ms. why ≡ Some reading.Memory →
+            next.given ≡ old.given + length ms + 1 in
         record {
           mates = mates;
           blocks = blocks;
           reads = subst P same (reads_then old now next mates block.pairs why d.walks f.reads);
           lost = subst R same lost_last;
           few = subst Q same (mates_few fresh bound);
-          cut = cut_last blocks mates d.joined (even_full c.block_pairs (pairs_of blocks) most d.full) d.numbered;
+          cut = cut_last blocks mates d.joined
+              (even_full c.block_pairs (pairs_of blocks) most d.full) d.numbered;
           dealt = subst (IsDealt (length to) blocks) (sym unsent) d.dealt;
           names = ap names_of unsent ∙ d.names;
         }
 
-    last_of : old.forward.given ≡ 0 → old.most_bytes ≤ 2 ^ 60 → 1 ≤ c.block_pairs → (ms : List Mates) → block.pairs ≡ ms → DealsOut c old next to (set lanes turn after) why
+    last_of : old.forward.given ≡ 0 → old.most_bytes ≤ 2 ^ 60 → 1 ≤ c.block_pairs →
+        (ms : List Mates) → block.pairs ≡ ms → DealsOut c old next to (set lanes turn after) why
     last_of fresh bound most [] is = last_none fresh bound most is
-    last_of fresh bound most (m ∷ ms) is = let len = ap length is in last_some fresh bound (omega arith)
+    last_of fresh bound most (m ∷ ms) is = let len = ap length is in
+        last_some fresh bound (omega arith)
 
     -- the last block has pairs or is empty
-    pub deals_last : old.forward.given ≡ 0 → old.most_bytes ≤ 2 ^ 60 → 1 ≤ c.block_pairs → DealsOut c old next to (set lanes turn after) why
+    pub deals_last : old.forward.given ≡ 0 → old.most_bytes ≤ 2 ^ 60 → 1 ≤ c.block_pairs →
+        DealsOut c old next to (set lanes turn after) why
     deals_last fresh bound most = last_of fresh bound most block.pairs refl
 
   -- nothing was read

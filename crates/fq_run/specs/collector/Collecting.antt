@@ -7,9 +7,9 @@ use Rattle.fq_work.specs.declared.reply.Cause.{Cause}
 use Rattle.fq_work.specs.declared.reply.Cause.TheVariants as cause
 use Rattle.fq_work.specs.declared.reply.Reply.{Reply}
 use Rattle.fq_work.specs.declared.reply.Reply.TheVariants.{Done as done, Stop}
-use Rattle.fq_serial.specs.declared.total.Total.{Total}
-use Rattle.fq_serial.specs.Totals.{no_total, total_plus}
-use Rattle.fq_serial.specs.Devices.{OutletStates, OutletsTook, part_at}
+use Rattle.fq_run_core.specs.declared.total.Total.{Total}
+use Rattle.fq_run_core.specs.Totals.{no_total, total_plus}
+use Rattle.fq_run_core.specs.Devices.{OutletStates, OutletsTook, part_at}
 use Rattle.fq_run.specs.lanes.Items.{IsDealt, IsAtMark, IsBegun}
 use Rattle.fq_run.specs.declared.collector.Collector.{Collector}
 use Rattle.fq_run.specs.declared.collector.phase.Phase.{Phase}

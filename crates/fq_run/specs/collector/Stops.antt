@@ -7,10 +7,10 @@ use Rattle.fq_work.specs.declared.reply.Cause.TheVariants.{Gate, Memory}
 use Rattle.fq_work.specs.declared.reply.Reply.{Reply}
 use Rattle.fq_work.specs.declared.reply.Reply.TheVariants.{Stop}
 use Rattle.fq_run.specs.collector.Collecting.{Collects}
-use Rattle.fq_serial.specs.Devices.{OutletStates}
+use Rattle.fq_run_core.specs.Devices.{OutletStates}
 use Rattle.fq_run.specs.lanes.Items.{names_of}
 use Rattle.fq_run.specs.declared.collector.Collector.{Collector}
-use Rattle.fq_serial.specs.declared.halt.Halt.{Halt}
+use Rattle.fq_run_core.specs.declared.halt.Halt.{Halt}
 
 -- one more worker stopped
 abbrev pub with_stop : Cause → Halt → Halt

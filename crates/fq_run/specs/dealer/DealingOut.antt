@@ -6,13 +6,13 @@ use Rattle.fq_text.specs.declared.encoding.Encoding.{Encoding}
 use Rattle.fq_lane.specs.History.{History, with_item}
 use Rattle.fq_block.specs.Blocks.{Numbered}
 use Rattle.fq_pair.specs.Mates.{Mates}
-use Rattle.fq_serial.specs.Choices.{Choices}
+use Rattle.fq_run_core.specs.Choices.{Choices}
 use Rattle.fq_run.specs.Shares.{IsCut}
 use Rattle.fq_run.specs.lanes.Items.{names_of, IsDealt}
 use Rattle.fq_pair.specs.Walks.{SourceState, GoesOn}
-use Rattle.fq_serial.specs.PairsRead.{Reads}
-use Rattle.fq_serial.specs.declared.reading_end.ReadingEnd.{ReadingEnd}
-use Rattle.fq_serial.specs.declared.reading_end.ReadingEnd.TheVariants as reading
+use Rattle.fq_run_core.specs.PairsRead.{Reads}
+use Rattle.fq_run_core.specs.declared.reading_end.ReadingEnd.{ReadingEnd}
+use Rattle.fq_run_core.specs.declared.reading_end.ReadingEnd.TheVariants as reading
 
 -- blocks are numbered from n on, and all are in one encoding
 abbrev pub AreNumbered : Encoding → ℕ → List Numbered → Type 0

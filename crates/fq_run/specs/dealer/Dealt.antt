@@ -5,11 +5,11 @@ use Rattle.std.specs.List.{AllZip}
 use Rattle.fq_lane.specs.History.{History, with_mark}
 use Rattle.fq_lane.specs.declared.tx.NotEnded.{NotEnded}
 use Rattle.fq_block.specs.Blocks.{Numbered}
-use Rattle.fq_serial.specs.Choices.{Choices}
+use Rattle.fq_run_core.specs.Choices.{Choices}
 use Rattle.fq_run.specs.dealer.DealingOut.{MayDeal, DealsOut}
 use Rattle.fq_run.specs.declared.dealer.Dealer.{Dealer}
 use Rattle.fq_pair.specs.Walks.{SourceState}
-use Rattle.fq_serial.specs.declared.reading_end.ReadingEnd.{ReadingEnd}
+use Rattle.fq_run_core.specs.declared.reading_end.ReadingEnd.{ReadingEnd}
 
 -- the end of a lane, if it has one, is what its sender sent, with the mark
 abbrev pub Closed : {T : Type 0} → History T → Result (History T) NotEnded → Type 0

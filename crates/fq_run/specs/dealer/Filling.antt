@@ -2,9 +2,9 @@
 use Rattle.std.specs.Prelude.{◌≡◌, ℕ, ◌+◌, ◌≤◌, Option, Some, None, length}
 use Rattle.fq_block.specs.Blocks.{Numbered}
 use Rattle.fq_pair.specs.Walks.{SourceState, GoesOn}
-use Rattle.fq_serial.specs.PairsRead.{Reads}
-use Rattle.fq_serial.specs.declared.reading_end.ReadingEnd.{ReadingEnd}
-use Rattle.fq_serial.specs.declared.reading_end.ReadingEnd.TheVariants as reading
+use Rattle.fq_run_core.specs.PairsRead.{Reads}
+use Rattle.fq_run_core.specs.declared.reading_end.ReadingEnd.{ReadingEnd}
+use Rattle.fq_run_core.specs.declared.reading_end.ReadingEnd.TheVariants as reading
 
 -- Up to `most` pairs were read into a block, and as many as `most` if reading has not stopped. A
 -- pair for which memory was refused was taken from the source, and is in no block.

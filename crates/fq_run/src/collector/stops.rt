@@ -3,7 +3,7 @@
 ghost use Rattle.std.specs.Prelude.{◌≡◌};
 ghost use Rattle.fq_run.specs.collector.Stops.{with_stop};
 
-use fq_serial::shared::Halt;
+use fq_run_core::shared::Halt;
 use fq_work::Cause;
 
 /// Adds the cause for which one more worker stopped.

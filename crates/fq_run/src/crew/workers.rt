@@ -5,7 +5,7 @@ ghost use Rattle.std.specs.List.{AllZip};
 ghost use Rattle.fq_run.specs.crew.Workers.{Seated, Joined};
 
 use crate::crew::job::Job;
-use fq_serial::Settings;
+use fq_run_core::Settings;
 use fq_work::{Gate, WorkEnds, Worked, work_tallied};
 use std::alloc::Global;
 use std::snapshot::Snapshot;

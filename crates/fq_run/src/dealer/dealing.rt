@@ -8,7 +8,7 @@ use crate::dealer::ends::DealerEnds;
 use crate::dealer::{Dealer, deal};
 use fq_lane::Rx;
 use fq_pair::PairReader;
-use fq_serial::Settings;
+use fq_run_core::Settings;
 use std::alloc::Global;
 use std::snapshot::Snapshot;
 use std::sync::Wait;

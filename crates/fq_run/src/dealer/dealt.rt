@@ -4,7 +4,7 @@ ghost use Rattle.std.specs.Prelude.{◌≡◌, None, IfSome};
 
 use fq_block::Block;
 use fq_lane::{End, NotEnded, Rx};
-use fq_serial::shared::ReadingEnd;
+use fq_run_core::shared::ReadingEnd;
 
 /// What a dealer hands back: what is needed to confirm its lanes, why reading stopped, and the
 /// source.

@@ -6,7 +6,7 @@ ghost use Rattle.fq_run.specs.dealer.Filling.{Fills};
 
 use fq_block::Block;
 use fq_pair::PairReader;
-use fq_serial::shared::ReadingEnd;
+use fq_run_core::shared::ReadingEnd;
 
 /// Fills a block with the next pairs, up to `most`.
 ///

@@ -9,6 +9,8 @@ split_at-requires c = start_within _ _ _ c.requires.packed c.args.i c.requires.w
 
 pub returns : goal.returns
 returns c = record {
-  held = subst (HoldsPair c.args.encoding) (sym c.split_at.ensures.back) (held_at _ _ _ c.requires.packed c.args.i c.requires.within);
-  pair = slice_get-pairs_at _ _ _ c.requires.packed c.args.i c.requires.within ∙ ap (λ (m : Mates). Some m) (ap (pair_in c.args.encoding) (sym c.split_at.ensures.back));
+  held = subst (HoldsPair c.args.encoding) (sym c.split_at.ensures.back)
+      (held_at _ _ _ c.requires.packed c.args.i c.requires.within);
+  pair = slice_get-pairs_at _ _ _ c.requires.packed c.args.i c.requires.within
+      ∙ ap (λ (m : Mates). Some m) (ap (pair_in c.args.encoding) (sym c.split_at.ensures.back));
 }

@@ -5,8 +5,10 @@ use Rattle.fq_lane.proofs.ring.push_item.Goals as goal
 
 pub returns-clause-open : goal.returns-clause-open
 returns-clause-open g c =
-    (omega (arith, c.requires.room, c.push_reserved.ensures.sent.1), item_history _ _ c.args.item c.requires.open.1 c.push_reserved.ensures.sent.0)
+    (omega (arith, c.requires.room, c.push_reserved.ensures.sent.1), item_history _ _ c.args.item
+        c.requires.open.1 c.push_reserved.ensures.sent.0)
 
 pub returns-clause-sent : goal.returns-clause-sent
 returns-clause-sent g c =
-    sender_item c.args.producer.now c.push_reserved.new.self c.args.item c.push_reserved.ensures.ring c.requires.open.1 c.push_reserved.ensures.sent.0
+    sender_item c.args.producer.now c.push_reserved.new.self c.args.item
+        c.push_reserved.ensures.ring c.requires.open.1 c.push_reserved.ensures.sent.0

@@ -3,8 +3,8 @@ use Rattle.std.specs.Option.{option_map}
 use Rattle.std.specs.String.{string_bytes}
 use Rattle.std.proofs.lemmas.Result.{IfOk-weaker}
 use Rattle.fq_text.specs.Written.{line}
-use Rattle.fq_words.specs.Requests.{asking_of}
-use Rattle.fq_job.specs.Faults.{settled, outcome_line, outcome_words}
+use Rattle.fq_cli.specs.Requests.{asking_of}
+use Rattle.fq_files_run.specs.Faults.{settled, outcome_line, outcome_words}
 use Rattle.fq_reasons.specs.Ended.{ending_reason}
 use Rattle.fq_reasons.proofs.LineLemmas.{known_ending}
 use Rattle.fq_reasons.proofs.lines.ending_line.Goals as goal
@@ -15,9 +15,13 @@ returns-in-Some c =
     let o = settled c.args.outcome in
     let text = string_bytes c.in-Some.reason in
     let is : ending_reason a o ≡ Some text =
-    ap (ending_reason a) (sym c.settled.ensures) ∙ sym c.in_ok-reason.ensures ∙ ap (option_map string_bytes) c.in-Some.is in
+    ap (ending_reason a) (sym c.settled.ensures) ∙ sym c.in_ok-reason.ensures
+        ∙ ap (option_map string_bytes) c.in-Some.is in
     let add = known_ending a o text c.if-not-request.false is in
-    let plain = c.as_str.ensures.value ∙ (c.in_ok-fault_line.ensures.ok ∙ ap (λ bytes. bytes ++ outcome_line c.args.outcome) c.new-line.ensures.bytes) ∙ add.plain in
+    let plain = c.as_str.ensures.value ∙ (c.in_ok-fault_line.ensures.ok
+        ∙ ap (λ bytes. bytes ++ outcome_line c.args.outcome) c.new-line.ensures.bytes)
+        ∙ add.plain in
     IfOk-weaker c.with_reason.result _ _
-    (λ explained e. e ∙ ap (λ r. line (outcome_words o ++ codes ": " ++ r)) c.as_str-in-Some.ensures.value ∙ add.whole)
+    (λ explained e. e ∙ ap (λ r. line (outcome_words o ++ codes ": " ++ r))
+        c.as_str-in-Some.ensures.value ∙ add.whole)
     (c.with_reason.ensures (outcome_words o) plain)

@@ -7,4 +7,5 @@ use Rattle.fq_run.proofs.confirming.confirm_workers.Goals as goal
 pub returns : goal.returns
 returns c =
     let l = c.loop-ends in
-    l.invariant.confirmed (nothing_left CanConfirm Confirmed _ _ _ l.invariant.left (omega (arith, l.ends-iterator.rest.ok.0, c.in-None.ensures.steps.0)))
+    l.invariant.confirmed (nothing_left CanConfirm Confirmed _ _ _ l.invariant.left (omega
+        (arith, l.ends-iterator.rest.ok.0, c.in-None.ensures.steps.0)))

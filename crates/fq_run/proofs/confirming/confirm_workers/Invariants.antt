@@ -7,5 +7,6 @@ use Rattle.fq_run.proofs.confirming.confirm_workers.Given as goal
 abbrev pub invariant-loop-ends : goal.invariant-loop-ends
 invariant-loop-ends l = record {
   left : Each3 CanConfirm l.closings.items l.worked.items (into_iter_items l.ends-iterator);
-  confirmed : Each3 Confirmed l.closings.items l.worked.items (into_iter_items l.ends-iterator) → Each3 Confirmed l.fn.closings.items l.fn.worked.items l.fn.replies.items;
+  confirmed : Each3 Confirmed l.closings.items l.worked.items (into_iter_items l.ends-iterator) →
+      Each3 Confirmed l.fn.closings.items l.fn.worked.items l.fn.replies.items;
 }

@@ -3,7 +3,7 @@
 use Rattle.std.proofs.Common.{refl, ap}
 use Rattle.fq_pair.specs.Forms.{InterleavedText}
 use Rattle.fq_pair.specs.Walks.{interleaved_state}
-use Rattle.fq_serial.specs.Outcomes.{outcome_of}
+use Rattle.fq_run_core.specs.Outcomes.{outcome_of}
 use Rattle.fq_run.proofs.StartLemmas.{closed, refused}
 use Rattle.fq_run.proofs.interleaved.begin.Goals as goal
 
@@ -12,12 +12,16 @@ returns-in-Ok g c =
     let f = g.F.Feed in
     let fs = f.state in
     let e = c.ending_of.ensures in
-    closed (interleaved_state f.state) fs fs (λ s. s.source.feed) (λ s. s.source.feed) (λ s. refl) (λ s. refl)
-    InterleavedText c.args.settings.now _ c.args.feed c.args.feed c.in-Ok.ensures.ok _ _ c.run.result _ _ _ _ _ _ e.outcome e.total e.unended e.refused e.feed e.feed c.run.ensures
+    closed (interleaved_state f.state) fs fs (λ s. s.source.feed) (λ s. s.source.feed) (λ s. refl)
+        (λ s. refl)
+    InterleavedText c.args.settings.now _ c.args.feed c.args.feed c.in-Ok.ensures.ok _ _
+        c.run.result _ _ _ _ _ _ e.outcome e.total e.unended e.refused e.feed e.feed c.run.ensures
 
 pub returns-in-Err : goal.returns-in-Err
 returns-in-Err g c =
     let f = g.F.Feed in
     let fs = f.state in
     let back = c.in-Err.ensures.err in
-    refused _ c.args.settings.now _ _ _ _ _ _ _ _ _ (c.refused.ensures (ap outcome_of c.new.ensures)) (ap fs back) (ap fs back) refl c.flush_after.ensures c.requires.feed c.requires.feed
+    refused _ c.args.settings.now _ _ _ _ _ _ _ _ _
+        (c.refused.ensures (ap outcome_of c.new.ensures)) (ap fs back) (ap fs back) refl
+        c.flush_after.ensures c.requires.feed c.requires.feed

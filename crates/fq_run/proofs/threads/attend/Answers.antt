@@ -2,24 +2,26 @@
 use Rattle.std.proofs.Common.{Bool, is_some, Option, ◌≡◌, ◌∙◌, ◌<◌, [], ◌∷◌, length, vec_len, length-append, sym, ap, subst, arith}
 use Rattle.fq_pair.specs.declared.out.Out.{Out}
 use Rattle.fq_tally.proofs.ResultLemmas.{is_asked}
-use Rattle.fq_serial.specs.declared.total.Total.{Total}
-use Rattle.fq_serial.specs.Totals.{no_total}
+use Rattle.fq_run_core.specs.declared.total.Total.{Total}
+use Rattle.fq_run_core.specs.Totals.{no_total}
 use Rattle.fq_run.specs.collector.Collecting.{Collects}
-use Rattle.fq_serial.specs.Devices.{outlet_states}
+use Rattle.fq_run_core.specs.Devices.{outlet_states}
 use Rattle.fq_run.specs.Each.{Each3}
 use Rattle.fq_run.specs.lanes.Items.{names_of}
-use Rattle.fq_serial.specs.Writing.{FlushesAfter}
-use Rattle.fq_serial.proofs.OutletLemmas.{still_healthy}
+use Rattle.fq_run_core.specs.Writing.{FlushesAfter}
+use Rattle.fq_run_core.proofs.OutletLemmas.{still_healthy}
 use Rattle.fq_run.proofs.crew.WorkerLemmas.{Answered, all_answered, replies_dealt, laid_length, can_confirm, matched}
 use Rattle.fq_run.proofs.AttendLemmas.{threaded}
 use Rattle.fq_run.proofs.threads.attend.Goals as goal
 
 -- whether a total of no pairs has a tally
-asked_by : (total : Total) (tallied : Bool) → total ≡ no_total tallied → is_some total.tally ≡ tallied
+asked_by : (total : Total) (tallied : Bool) → total ≡ no_total tallied →
+    is_some total.tally ≡ tallied
 asked_by total tallied is = ap (λ (t : Total). is_some t.tally) is ∙ is_asked tallied [] []
 
 pub collect-collector-requires-clause-none : goal.collect-collector-requires-clause-none
-collect-collector-requires-clause-none g c = c.requires.total ∙ ap no_total (sym (asked_by _ _ c.requires.total))
+collect-collector-requires-clause-none g c = c.requires.total
+    ∙ ap no_total (sym (asked_by _ _ c.requires.total))
 
 pub collect-collector-requires-clause-fresh : goal.collect-collector-requires-clause-fresh
 collect-collector-requires-clause-fresh g c =
@@ -27,7 +29,8 @@ collect-collector-requires-clause-fresh g c =
     replies_dealt _ _ _ _ (omega (arith, c.args.replies.ok.0)) m.laid
 
 pub flush_after-failed-requires : goal.flush_after-failed-requires
-flush_after-failed-requires g c none = still_healthy _ _ _ c.requires.outlets (c.collect-collector.ensures.written (sym c.failed.ensures ∙ none))
+flush_after-failed-requires g c none = still_healthy _ _ _ c.requires.outlets
+    (c.collect-collector.ensures.written (sym c.failed.ensures ∙ none))
 
 pub conclude-requires-clause-workers : goal.conclude-requires-clause-workers
 conclude-requires-clause-workers g c =
@@ -38,9 +41,12 @@ conclude-requires-clause-workers g c =
     let d = c.join-dealt.ensures.deals in
     let k = c.collect-collector.result in
     let ws = c.join_workers-worked.result.items in
-    let a = all_answered tallied steps to m.ends c.args.replies.items _ ws m.laid m.seated c.join_workers-worked.ensures in
+    let a = all_answered tallied steps to m.ends c.args.replies.items _ ws m.laid m.seated
+        c.join_workers-worked.ensures in
     can_confirm tallied steps d.sent c.join-dealt.result.closings.items ws k.replies.items d.ends
-    (subst (λ ns. Each3 (Answered tallied steps) ns (names_of k.replies.items) ws) (sym d.out.names) (subst (λ ns. Each3 (Answered tallied steps) (names_of to) ns ws) (sym c.collect-collector.ensures.names) a))
+    (subst (λ ns. Each3 (Answered tallied steps) ns (names_of k.replies.items) ws) (sym d.out.names)
+        (subst (λ ns. Each3 (Answered tallied steps) (names_of to) ns ws)
+        (sym c.collect-collector.ensures.names) a))
     c.collect-collector.ensures.over.1
 
 pub returns : goal.returns
@@ -52,14 +58,26 @@ returns g c =
     let to = crew.dealer.promise.to.value.items in
     let k = c.collect-collector.result in
     let ws = c.join_workers-worked.result.items in
-    let a = all_answered tallied steps to m.ends c.args.replies.items _ ws m.laid m.seated c.join_workers-worked.ensures in
+    let a = all_answered tallied steps to m.ends c.args.replies.items _ ws m.laid m.seated
+        c.join_workers-worked.ensures in
     let o = g.O.Outlet in
-    let len : length to ≡ vec_len c.args.replies = laid_length to m.ends c.args.replies.items m.laid ∙ omega (arith, c.args.replies.ok.0) in
-    let put : 0 < length c.put.new.self.items = omega (arith, ap (λ l. length l.items) c.put.ensures, length-append crew.starter.items (tt ∷ [])) in
-    let collected : Bool → Type 0 = λ b. Collects b (vec_len c.args.replies) (outlet_states o.state c.args.outlets.now) (outlet_states o.state c.collect-collector.new.outlets) k in
-    let flushed : Option Out → Type 0 = λ f. FlushesAfter f (outlet_states o.state c.collect-collector.new.outlets)
+    let len : length to ≡ vec_len c.args.replies = laid_length to m.ends c.args.replies.items m.laid
+        ∙ omega (arith, c.args.replies.ok.0) in
+    let put : 0 < length c.put.new.self.items =
+        omega (arith, ap (λ l. length l.items) c.put.ensures, length-append crew.starter.items
+        (tt ∷ [])) in
+    let collected : Bool → Type 0 = λ b. Collects b (vec_len c.args.replies)
+        (outlet_states o.state c.args.outlets.now)
+        (outlet_states o.state c.collect-collector.new.outlets) k in
+    let flushed : Option Out → Type 0 = λ f. FlushesAfter f
+        (outlet_states o.state c.collect-collector.new.outlets)
     (outlet_states o.state c.flush_after-failed.new.self) c.flush_after-failed.result in
-    threaded g.S.PairReader.state crew.dealer.promise.settings _ c.requires.fresh _ _ _ c.close-started.result c.put.new.self _ c.join-dealt.result ws k _ c.conclude.result to (vec_len c.args.replies)
-    c.conclude.ensures c.join-dealt.ensures put c.close-started.ensures (matched tallied steps _ _ _ ws k.replies.items a) len (omega (arith, c.args.replies.ok.0, m.some))
-    (subst collected (asked_by _ _ c.requires.total) c.collect-collector.ensures.collects) c.collect-collector.ensures.over.0
+    threaded g.S.PairReader.state crew.dealer.promise.settings _ c.requires.fresh _ _ _
+        c.close-started.result c.put.new.self _ c.join-dealt.result ws k _ c.conclude.result to
+        (vec_len c.args.replies)
+    c.conclude.ensures c.join-dealt.ensures put c.close-started.ensures
+        (matched tallied steps _ _ _ ws k.replies.items a) len
+        (omega (arith, c.args.replies.ok.0, m.some))
+    (subst collected (asked_by _ _ c.requires.total) c.collect-collector.ensures.collects)
+        c.collect-collector.ensures.over.0
     (subst flushed c.failed.ensures c.flush_after-failed.ensures)

@@ -3,7 +3,7 @@
 use Rattle.std.proofs.Common.{refl, ap}
 use Rattle.fq_pair.specs.Forms.{TwoTexts}
 use Rattle.fq_pair.specs.Walks.{source_state}
-use Rattle.fq_serial.specs.Outcomes.{outcome_of}
+use Rattle.fq_run_core.specs.Outcomes.{outcome_of}
 use Rattle.fq_run.proofs.StartLemmas.{closed, refused}
 use Rattle.fq_run.proofs.two_texts.begin.Goals as goal
 
@@ -12,12 +12,16 @@ returns-in-Ok g c =
     let f = g.F.Feed in let r = g.G.Feed in
     let fs = f.state in let gs = r.state in
     let e = c.ending_of.ensures in
-    closed (source_state f.state r.state) fs gs (λ s. s.forward.feed) (λ s. s.reverse.feed) (λ s. refl) (λ s. refl)
-    TwoTexts c.args.settings.now _ c.args.forward c.args.reverse c.in-Ok.ensures.ok _ _ c.run.result _ _ _ _ _ _ e.outcome e.total e.unended e.refused e.forward e.reverse c.run.ensures
+    closed (source_state f.state r.state) fs gs (λ s. s.forward.feed) (λ s. s.reverse.feed)
+        (λ s. refl) (λ s. refl)
+    TwoTexts c.args.settings.now _ c.args.forward c.args.reverse c.in-Ok.ensures.ok _ _ c.run.result
+        _ _ _ _ _ _ e.outcome e.total e.unended e.refused e.forward e.reverse c.run.ensures
 
 pub returns-in-Err : goal.returns-in-Err
 returns-in-Err g c =
     let f = g.F.Feed in let r = g.G.Feed in
     let fs = f.state in let gs = r.state in
     let back = c.in-Err.ensures.err in
-    refused _ c.args.settings.now _ _ _ _ _ _ _ _ _ (c.refused.ensures (ap outcome_of c.new.ensures)) (ap fs back.0) (ap gs back.1) refl c.flush_after.ensures c.requires.forward c.requires.reverse
+    refused _ c.args.settings.now _ _ _ _ _ _ _ _ _
+        (c.refused.ensures (ap outcome_of c.new.ensures)) (ap fs back.0) (ap gs back.1) refl
+        c.flush_after.ensures c.requires.forward c.requires.reverse

@@ -6,7 +6,8 @@ abbrev pub invariant-loop-at : goal.invariant-loop-at
 invariant-loop-at l = record {
   begun : l.fn.from ≤ l.at;
   within : l.at ≤ l.fn.to;
-  count : IsCount l.fn.low l.fn.high (take (l.at - l.fn.from) (drop l.fn.from l.seq)) (take (l.at - l.fn.from) (drop l.fn.from l.qual)) l.counted;
+  count : IsCount l.fn.low l.fn.high (take (l.at - l.fn.from) (drop l.fn.from l.seq))
+      (take (l.at - l.fn.from) (drop l.fn.from l.qual)) l.counted;
   most : l.counted.sum ≤ 65536 * (l.at - l.fn.from);
 }
 

@@ -9,7 +9,8 @@ use Rattle.fq_trim.specs.Keeping.{scores}
 use Rattle.fq_tally.proofs.bases.score_sum.Goals as goal
 
 -- if each score is its byte less the same number
-distances : (e : Encoding) (off : ℕ) → ((b : ℕ) → is_scored e b ≡ true → value_of e b + off ≡ b) → (qual : List ℕ) →
+distances : (e : Encoding) (off : ℕ) → ((b : ℕ) → is_scored e b ≡ true → value_of e b + off ≡ b) →
+    (qual : List ℕ) →
     list_all (is_scored e) qual ≡ true → sum (scores e qual) + off * length qual ≡ sum qual
 distances e off each [] all = omega arith
 distances e off each (b ∷ others) all =
@@ -21,29 +22,40 @@ distances e off each (b ∷ others) all =
     omega arith
 
 sanger : (b : ℕ) → is_scored Sanger b ≡ true → value_of Sanger b + 33 ≡ b
-sanger b is = let least : 33 ≤ b = leb-true 33 b (and_parts (nat_le (lowest Sanger) b) (nat_le b 126) is).0 in omega arith
+sanger b is = let least : 33 ≤ b =
+    leb-true 33 b (and_parts (nat_le (lowest Sanger) b) (nat_le b 126) is).0 in omega arith
 
 illumina : (b : ℕ) → is_scored Illumina13 b ≡ true → value_of Illumina13 b + 64 ≡ b
-illumina b is = let least : 64 ≤ b = leb-true 64 b (and_parts (nat_le (lowest Illumina13) b) (nat_le b 126) is).0 in omega arith
+illumina b is = let least : 64 ≤ b =
+    leb-true 64 b (and_parts (nat_le (lowest Illumina13) b) (nat_le b 126) is).0 in omega arith
 
 -- the same of the encoding that a match found
-found : (e k : Encoding) (off : ℕ) (qual : List ℕ) (bytes : ℕ) → ((b : ℕ) → is_scored k b ≡ true → value_of k b + off ≡ b) → e ≡ k →
-    list_all (is_scored e) qual ≡ true → bytes ≡ sum qual → sum (scores e qual) + off * length qual ≡ bytes
+found : (e k : Encoding) (off : ℕ) (qual : List ℕ) (bytes : ℕ) →
+    ((b : ℕ) → is_scored k b ≡ true → value_of k b + off ≡ b) → e ≡ k →
+    list_all (is_scored e) qual ≡ true → bytes ≡ sum qual →
+        sum (scores e qual) + off * length qual ≡ bytes
 found e k off qual bytes each is all whole =
-    let scored : list_all (is_scored k) qual ≡ true = ap (λ x. list_all (is_scored x) qual) (sym is) ∙ all in
+    let scored : list_all (is_scored k) qual ≡ true = ap (λ x. list_all (is_scored x) qual) (sym is)
+        ∙ all in
     let same : sum (scores e qual) ≡ sum (scores k qual) = ap (λ x. sum (scores x qual)) is in
     omega (arith, distances k off each qual scored)
 
 pub overflow_sub-result : goal.overflow_sub-result
-overflow_sub-result c = omega (arith, found c.args.encoding Sanger 33 c.args.qual.now c.args.bytes sanger c.in-Sanger.is c.requires.scored c.requires.bytes)
+overflow_sub-result c =
+    omega (arith, found c.args.encoding Sanger 33 c.args.qual.now c.args.bytes sanger c.in-Sanger.is
+    c.requires.scored c.requires.bytes)
 
 pub overflow_sub-result-in-Illumina13 : goal.overflow_sub-result-in-Illumina13
 overflow_sub-result-in-Illumina13 c =
-    omega (arith, found c.args.encoding Illumina13 64 c.args.qual.now c.args.bytes illumina c.in-Illumina13.is c.requires.scored c.requires.bytes)
+    omega (arith, found c.args.encoding Illumina13 64 c.args.qual.now c.args.bytes illumina
+        c.in-Illumina13.is c.requires.scored c.requires.bytes)
 
 pub returns-in-Sanger : goal.returns-in-Sanger
-returns-in-Sanger c = omega (arith, found c.args.encoding Sanger 33 c.args.qual.now c.args.bytes sanger c.in-Sanger.is c.requires.scored c.requires.bytes)
+returns-in-Sanger c =
+    omega (arith, found c.args.encoding Sanger 33 c.args.qual.now c.args.bytes sanger c.in-Sanger.is
+    c.requires.scored c.requires.bytes)
 
 pub returns-in-Illumina13 : goal.returns-in-Illumina13
 returns-in-Illumina13 c =
-    omega (arith, found c.args.encoding Illumina13 64 c.args.qual.now c.args.bytes illumina c.in-Illumina13.is c.requires.scored c.requires.bytes)
+    omega (arith, found c.args.encoding Illumina13 64 c.args.qual.now c.args.bytes illumina
+        c.in-Illumina13.is c.requires.scored c.requires.bytes)

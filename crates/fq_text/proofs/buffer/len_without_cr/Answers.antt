@@ -5,15 +5,19 @@ use Rattle.fq_text.proofs.LineLemmas.{without_cr_yes, without_cr_no}
 use Rattle.fq_text.proofs.buffer.len_without_cr.Goals as goal
 use Rattle.fq_text.proofs.buffer.len_without_cr.Goals.{else-len-gt0-via-then-len-gt0+else-piece-len-eq13, else-len-gt0-via-else-len-gt0}
 
-no_cr : (xs : List ℕ) → (0 < length xs → get_or xs (length xs - 1) 0 ≡ 13 → ⊥) → without_cr xs ≡ take (length xs) xs
+no_cr : (xs : List ℕ) → (0 < length xs → get_or xs (length xs - 1) 0 ≡ 13 → ⊥) →
+    without_cr xs ≡ take (length xs) xs
 no_cr [] none = refl
-no_cr (x ∷ xs) none = without_cr_no (x ∷ xs) (length (x ∷ xs) - 1) (omega arith) (none (omega arith)) ∙ sym (take_all (length (x ∷ xs)) (x ∷ xs) (omega arith))
+no_cr (x ∷ xs) none = without_cr_no (x ∷ xs) (length (x ∷ xs) - 1) (omega arith)
+    (none (omega arith)) ∙ sym (take_all (length (x ∷ xs)) (x ∷ xs) (omega arith))
 
 pub returns-then-piece-len-eq13-clause-line : goal.returns-then-piece-len-eq13-clause-line
-returns-then-piece-len-eq13-clause-line c = without_cr_yes _ _ (omega arith) c.if-piece-len-eq13.true
+returns-then-piece-len-eq13-clause-line c = without_cr_yes _ _ (omega arith)
+    c.if-piece-len-eq13.true
 
 pub returns-else-len-gt0-clause-line : goal.returns-else-len-gt0-clause-line
-returns-else-len-gt0-clause-line c = no_cr c.args.piece.now (λ some is. elim c.else-len-gt0.branch as (λ _. ⊥) [
+returns-else-len-gt0-clause-line c = no_cr c.args.piece.now
+    (λ some is. elim c.else-len-gt0.branch as (λ _. ⊥) [
   | else-len-gt0-via-then-len-gt0+else-piece-len-eq13 w ↦ w.if-piece-len-eq13.false is
   | else-len-gt0-via-else-len-gt0 w ↦ absurd (omega arith)
 ])

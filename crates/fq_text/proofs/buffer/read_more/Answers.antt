@@ -5,12 +5,14 @@ use Rattle.fq_text.proofs.ResultLemmas.{cases_mapped}
 use Rattle.fq_text.proofs.buffer.read_more.Goals as goal
 
 -- the first `filled` bytes stay the same when bytes are written after them
-unwritten : (grown wrote past other before : List ℕ) (filled room : ℕ) → take filled grown ≡ before → length before ≡ filled → filled ≤ room →
+unwritten : (grown wrote past other before : List ℕ) (filled room : ℕ) →
+    take filled grown ≡ before → length before ≡ filled → filled ≤ room →
     take filled (take room (take filled grown ++ (wrote ++ past) ++ other)) ≡ before
 unwritten grown wrote past other before filled room is same within =
     let none : filled ≡ filled + 0 = omega arith in
     ap (λ m. take m (take room (take filled grown ++ (wrote ++ past) ++ other))) none
-    ∙ written_behind grown wrote past other before filled 0 room is same (omega arith) (omega arith) ∙ append-nil before
+    ∙ written_behind grown wrote past other before filled 0 room is same (omega arith) (omega arith)
+        ∙ append-nil before
 
 pub returns-clause-moved : goal.returns-clause-moved
 returns-clause-moved g c = cases_mapped c.read.result c.map_err.result _ _ _ c.map_err.ensures.cases
@@ -28,14 +30,19 @@ returns-clause-moved g c = cases_mapped c.read.result c.map_err.result _ _ _ c.m
       gave = take n c.read.new.buf;
       len = length-take-le n c.read.new.buf (omega arith);
       within = omega arith;
-      bytes = written_behind c.deref_mut.result.now c.read.new.buf _ _ (take c.args.filled c.args.bytes.now.items) c.args.filled n grown.len
-          (ap (take c.args.filled) at ∙ c.in_ok-grow.ensures.kept) (length-take-le c.args.filled c.args.bytes.now.items c.requires.filled) (omega arith) (omega arith);
+      bytes = written_behind c.deref_mut.result.now c.read.new.buf _ _
+          (take c.args.filled c.args.bytes.now.items) c.args.filled n grown.len
+          (ap (take c.args.filled) at ∙ c.in_ok-grow.ensures.kept) (length-take-le c.args.filled
+              c.args.bytes.now.items c.requires.filled) (omega arith) (omega arith);
       fed = rw got at c.read.ensures.moved;
       none = λ is. end (ap Ok is) (simp (length-take, length-drop) (omega arith));
     })
     (λ e d got gave. record {
-      bytes = unwritten c.deref_mut.result.now c.read.new.buf _ _ (take c.args.filled c.args.bytes.now.items) c.args.filled c.grow.new.bytes.len
-          (ap (take c.args.filled) c.deref_mut.ensures.value ∙ c.in_ok-grow.ensures.kept) (length-take-le c.args.filled c.args.bytes.now.items c.requires.filled)
+      bytes = unwritten c.deref_mut.result.now c.read.new.buf _ _
+          (take c.args.filled c.args.bytes.now.items) c.args.filled c.grow.new.bytes.len
+          (ap (take c.args.filled) c.deref_mut.ensures.value
+              ∙ c.in_ok-grow.ensures.kept) (length-take-le c.args.filled c.args.bytes.now.items
+              c.requires.filled)
           (omega (arith, c.in_ok-grow.ensures.room));
       fed = rw got at c.read.ensures.err;
       cause = inl (search rules);

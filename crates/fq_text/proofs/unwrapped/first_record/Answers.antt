@@ -12,22 +12,28 @@ abbrev behind : List ℕ → ℕ → List ℕ
 behind hand n = take (length hand - n) (drop n hand)
 
 -- the two lines that were found are the first lines of the record at the front
-two_lines : (e : Encoding) (hand : List ℕ) (s : Shape) (t k n m : ℕ) → BeginsWithRecord e hand s → IsFirstLine (behind hand 1) t k → IsFirstLine (behind hand (t + k + 1)) n m →
+two_lines : (e : Encoding) (hand : List ℕ) (s : Shape) (t k n m : ℕ) → BeginsWithRecord e hand s →
+    IsFirstLine (behind hand 1) t k → IsFirstLine (behind hand (t + k + 1)) n m →
     (t ≡ s.title) × (k ≡ s.end) × (n ≡ s.bases) × (m ≡ s.end)
 two_lines e hand s t k n m first title bases =
-    let found = as_found e hand s first t k (subst (λ (xs : List ℕ). IsFirstLine xs t k) (take_rest hand 1) title) in
-    let same = same_line (drop (t + k + 1) hand) n m s.bases s.end (subst (λ (xs : List ℕ). IsFirstLine xs n m) (take_rest hand (t + k + 1)) bases) found.2 in
+    let found =
+        as_found e hand s first t k (subst (λ (xs : List ℕ). IsFirstLine xs t k) (take_rest hand 1)
+        title) in
+    let same = same_line (drop (t + k + 1) hand) n m s.bases s.end
+        (subst (λ (xs : List ℕ). IsFirstLine xs n m) (take_rest hand (t + k + 1)) bases) found.2 in
     (found.0, found.1, same.0, same.1)
 
 pub returns-in_err-title-clause-none : goal.returns-in_err-title-clause-none
 returns-in_err-title-clause-none c none s first =
     let hand = c.args.hand.now in
     first_line_ends (drop 1 hand) s.title s.end (title_line c.args.encoding hand s first)
-    (subst (λ (xs : List ℕ). NoLf xs (length xs)) (take_rest hand 1) (c.in_err-title.ensures.none refl))
+    (subst (λ (xs : List ℕ). NoLf xs (length xs)) (take_rest hand 1)
+        (c.in_err-title.ensures.none refl))
 
 pub shape_of-requires-in-Some-first_line : goal.shape_of-requires-in-Some-first_line
 shape_of-requires-in-Some-first_line c =
-    subst (λ (xs : List ℕ). IsFirstLine xs c.in_ok-title.title.len c.in_ok-title.title.end) (take_rest c.args.hand.now 1) c.in_ok-title.ensures.found
+    subst (λ (xs : List ℕ). IsFirstLine xs c.in_ok-title.title.len c.in_ok-title.title.end)
+        (take_rest c.args.hand.now 1) c.in_ok-title.ensures.found
 
 pub returns-in-Some-first_line-clause-none : goal.returns-in-Some-first_line-clause-none
 returns-in-Some-first_line-clause-none c none s first =
@@ -35,15 +41,18 @@ returns-in-Some-first_line-clause-none c none s first =
     let hand = c.args.hand.now in
     let title = c.in_ok-title.title in
     let seq = c.in-Some-first_line.seq in
-    let found = two_lines e hand s title.len title.end seq.len seq.end first c.in_ok-title.ensures.found c.in-Some-first_line.ensures.found in
+    let found = two_lines e hand s title.len title.end seq.len seq.end first
+        c.in_ok-title.ensures.found c.in-Some-first_line.ensures.found in
     c.shape_of-in-Some-first_line.ensures.none none s.again
-    (subst (λ (shape : Shape). BeginsWithRecord e hand shape) (shape_is s title.len seq.len title.end found.0 found.2 found.1) first)
+    (subst (λ (shape : Shape). BeginsWithRecord e hand shape)
+        (shape_is s title.len seq.len title.end found.0 found.2 found.1) first)
 
 pub returns-in_default-first_line-clause-none : goal.returns-in_default-first_line-clause-none
 returns-in_default-first_line-clause-none c none s first =
     let title = c.in_ok-title.title in
     let seq = c.in-Some-first_line.seq in
-    let found = two_lines c.args.encoding c.args.hand.now s title.len title.end seq.len seq.end first c.in_ok-title.ensures.found c.in-Some-first_line.ensures.found in
+    let found = two_lines c.args.encoding c.args.hand.now s title.len title.end seq.len seq.end
+        first c.in_ok-title.ensures.found c.in-Some-first_line.ensures.found in
     c.if-seq-title.false (found.3 ∙ sym found.1)
 
 pub returns-in_default-first_line-2-clause-none : goal.returns-in_default-first_line-2-clause-none
@@ -52,6 +61,9 @@ returns-in_default-first_line-2-clause-none c none s first =
     let hand = c.args.hand.now in
     let t = c.in_ok-title.title.len in
     let k = c.in_ok-title.title.end in
-    let found = as_found e hand s first t k (subst (λ (xs : List ℕ). IsFirstLine xs t k) (take_rest hand 1) c.in_ok-title.ensures.found) in
+    let found =
+        as_found e hand s first t k (subst (λ (xs : List ℕ). IsFirstLine xs t k) (take_rest hand 1)
+        c.in_ok-title.ensures.found) in
     first_line_ends (drop (t + k + 1) hand) s.bases s.end found.2
-    (subst (λ (xs : List ℕ). NoLf xs (length xs)) (take_rest hand (t + k + 1)) (c.in_default-first_line.ensures.none refl))
+    (subst (λ (xs : List ℕ). NoLf xs (length xs)) (take_rest hand (t + k + 1))
+        (c.in_default-first_line.ensures.none refl))

@@ -11,5 +11,7 @@ returns c =
     let long = c.fits-least.0 in
     let most_long = c.fits-most.0 in
     ap₂ (λ a b. a && b)
-    (all_at_least low least (omega arith) (zip2_splat (λ (a b : ℕ). flag (ltb a b)) least 32 low long))
-    (all_at_most 126 most (omega arith) (zip2_splat_left (λ (a b : ℕ). flag (ltb a b)) 126 32 most most_long))
+    (all_at_least low least (omega arith) (zip2_splat (λ (a b : ℕ). flag (ltb a b)) least 32 low
+        long))
+    (all_at_most 126 most (omega arith) (zip2_splat_left (λ (a b : ℕ). flag (ltb a b)) 126 32 most
+        most_long))

@@ -8,7 +8,9 @@ use Rattle.fq_text.proofs.vectors.are_from.Goals as goal
 pub loop-start-init : goal.loop-start-init
 loop-start-init c = record {
   room = omega arith;
-  judged = sym (in_both (λ b. leb c.args.lowest b) (λ b. leb b 126) (chunk (length c.args.bytes.now - 32) 32 c.args.bytes.now));
+  judged =
+      sym (in_both (λ b. leb c.args.lowest b) (λ b. leb b 126)
+      (chunk (length c.args.bytes.now - 32) 32 c.args.bytes.now));
 }
 
 pub loop-start-preserved : goal.loop-start-preserved
@@ -17,8 +19,10 @@ loop-start-preserved c =
     let bytes = c.args.bytes.now in
     record {
       room = omega arith;
-      judged = one_more c.args.lowest 126 c.loop-start.start 32 bytes c.loop-start.least c.loop-start.most (list_all (is_from c.args.lowest) (chunk (length bytes - 32) 32 bytes))
-          c.loop-start.auto.least.0 c.loop-start.auto.most.0 (omega arith) c.loop-start.invariant.judged;
+      judged = one_more c.args.lowest 126 c.loop-start.start 32 bytes c.loop-start.least
+          c.loop-start.most (list_all (is_from c.args.lowest) (chunk (length bytes - 32) 32 bytes))
+          c.loop-start.auto.least.0 c.loop-start.auto.most.0 (omega arith)
+              c.loop-start.invariant.judged;
     }
 
 pub returns : goal.returns
@@ -27,4 +31,5 @@ returns c =
     let past = c.loop-start-test.false in
     c.are_between.ensures
     ∙ c.loop-start.invariant.judged
-    ∙ with_the_last (is_from c.args.lowest) c.loop-start.start (length c.args.bytes.now - 32) 32 c.args.bytes.now (omega arith) (omega arith)
+    ∙ with_the_last (is_from c.args.lowest) c.loop-start.start (length c.args.bytes.now - 32) 32
+        c.args.bytes.now (omega arith) (omega arith)

@@ -7,19 +7,24 @@ use Rattle.memchr.specs.Find.{IsFirstByte, is_byte}
 use Rattle.fq_text.proofs.view.is_one_line.Goals as goal
 
 -- no byte is LF
-without_lf : (xs : List ℕ) → ((k : ℕ) → 0 ≤ k → k < length xs → eqb (get_or xs k 0) 10 ≡ true → ⊥) → list_all (λ b. not (eqb b 10)) xs ≡ true
+without_lf : (xs : List ℕ) → ((k : ℕ) → 0 ≤ k → k < length xs → eqb (get_or xs k 0) 10 ≡ true → ⊥) →
+    list_all (λ b. not (eqb b 10)) xs ≡ true
 without_lf [] none = refl
 without_lf (x ∷ xs) none = ⊎_elim
     (λ here. absurd (none 0 (omega arith) (omega arith) here))
-    (λ off. and_from _ _ (not_from_false _ off) (without_lf xs (λ k low lt. none (suc k) (omega arith) (omega arith))))
+    (λ off. and_from _ _ (not_from_false _ off)
+        (without_lf xs (λ k low lt. none (suc k) (omega arith) (omega arith))))
     (cases_Bool (eqb x 10))
 
 -- a search for LF finds none exactly if no byte is LF
-none_found : (xs : List ℕ) (at : Option ℕ) (none : Bool) → IsFirstByte (is_byte 10) xs at → is_some at ≡ not none → none ≡ list_all (λ b. not (eqb b 10)) xs
+none_found : (xs : List ℕ) (at : Option ℕ) (none : Bool) → IsFirstByte (is_byte 10) xs at →
+    is_some at ≡ not none → none ≡ list_all (λ b. not (eqb b 10)) xs
 none_found xs None true found is = sym (without_lf xs found)
 none_found xs None false found is = cc
 none_found xs (Some k) true found is = cc
-none_found xs (Some k) false found is = sym (list_all_at (λ b. not (eqb b 10)) xs k 0 found.0.high (not_from_true _ found.1))
+none_found xs (Some k) false found is =
+    sym (list_all_at (λ b. not (eqb b 10)) xs k 0 found.0.high (not_from_true _ found.1))
 
 pub returns : goal.returns
-returns c = none_found c.args.title.now c.memchr.result c.is_none.result c.memchr.ensures c.is_none.ensures
+returns c = none_found c.args.title.now c.memchr.result c.is_none.result c.memchr.ensures
+    c.is_none.ensures

@@ -3,7 +3,11 @@ use Rattle.fq_trim.proofs.PlaceLemmas.{leading_scores}
 use Rattle.fq_trim.proofs.keeping.leading.Goals as goal
 
 pub returns-then-score-from : goal.returns-then-score-from
-returns-then-score-from c = let same = c.from.ensures ∙ c.phred.ensures in rw c.start_at.ensures (leading_scores c.args.encoding c.args.qual.now c.args.score c.loop-i.i (omega arith) c.loop-i.invariant (λ lt. omega arith))
+returns-then-score-from c = let same = c.from.ensures ∙ c.phred.ensures in
+    rw c.start_at.ensures (leading_scores c.args.encoding c.args.qual.now c.args.score c.loop-i.i
+    (omega arith) c.loop-i.invariant (λ lt. omega arith))
 
 pub returns : goal.returns
-returns c = let low = c.loop-i.invariant in rw c.start_at-2.ensures (leading_scores c.args.encoding c.args.qual.now c.args.score (length c.args.qual.now) (omega arith) (λ k lt. low k (omega arith)) (λ lt. absurd (omega arith)))
+returns c = let low = c.loop-i.invariant in rw c.start_at-2.ensures
+    (leading_scores c.args.encoding c.args.qual.now c.args.score (length c.args.qual.now)
+    (omega arith) (λ k lt. low k (omega arith)) (λ lt. absurd (omega arith)))

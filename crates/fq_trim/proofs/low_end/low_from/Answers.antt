@@ -6,7 +6,9 @@ pub returns-then-low-lt-TOGETHER-clause-low : goal.returns-then-low-lt-TOGETHER-
 returns-then-low-lt-TOGETHER-clause-low c =
     let old = c.loop-stop.invariant in
     let here = c.low_after-low.ensures in
-    lower c.args.offset c.args.score c.loop-stop.stop c.low_after-low.result c.args.qual.now c.less_16.result c.loop-stop-test.true old.within c.less_16.ensures here.low old.low here.within
+    lower c.args.offset c.args.score c.loop-stop.stop c.low_after-low.result c.args.qual.now
+        c.less_16.result c.loop-stop-test.true old.within c.less_16.ensures here.low old.low
+        here.within
 
 pub loop-stop-preserved : goal.loop-stop-preserved
 loop-stop-preserved c =
@@ -18,5 +20,7 @@ loop-stop-preserved c =
     record {
       within = omega arith;
       low = λ k from lt.
-          lower c.args.offset c.args.score c.loop-stop.stop c.low_after-low.result c.args.qual.now c.less_16.result c.loop-stop-test.true old.within c.less_16.ensures here.low old.low here.within k (omega arith) lt;
+          lower c.args.offset c.args.score c.loop-stop.stop c.low_after-low.result c.args.qual.now
+              c.less_16.result c.loop-stop-test.true old.within c.less_16.ensures here.low old.low
+              here.within k (omega arith) lt;
     }

@@ -6,7 +6,8 @@ use Rattle.fq_trim.proofs.low_end.low_from.Given as goal
 abbrev pub invariant-loop-stop : goal.invariant-loop-stop
 invariant-loop-stop l = record {
   within : l.stop ≤ length l.qual;
-  low : (k : ℕ) → l.stop ≤ k → k < length l.qual → get_or (distances l.fn.offset l.qual) k 0 < l.score;
+  low : (k : ℕ) → l.stop ≤ k → k < length l.qual →
+      get_or (distances l.fn.offset l.qual) k 0 < l.score;
 }
 
 abbrev pub decreases-loop-stop : goal.decreases-loop-stop

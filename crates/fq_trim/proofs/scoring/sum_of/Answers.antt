@@ -7,7 +7,8 @@ use Rattle.fq_trim.proofs.scoring.sum_of.Goals as goal
 pub loop-byte-preserved : goal.loop-byte-preserved
 loop-byte-preserved c =
     let byte = get_or c.args.qual.now c.loop-byte.byte-index 0 in
-    let scored = at_place (is_scored c.args.encoding) c.args.qual.now c.loop-byte.byte-index c.requires.scored (omega arith) in
+    let scored = at_place (is_scored c.args.encoding) c.args.qual.now c.loop-byte.byte-index
+        c.requires.scored (omega arith) in
     let small = value_small c.args.encoding byte scored in
     record {
       total = grind (arith, common_steps);

@@ -12,5 +12,6 @@ invariant-loop-chunk l = record {
   ready : (goal.iterator-loop-chunk).can_next l.chunk-iterator;
   size : chunks_size l.chunk-iterator ≡ CHUNK;
   scored : list_all (is_scored l.fn.encoding) (chunks_rest l.chunk-iterator) ≡ true;
-  left : l.total + sum (scores l.fn.encoding (chunks_rest l.chunk-iterator)) ≡ sum (scores l.fn.encoding l.qual);
+  left : l.total + sum (scores l.fn.encoding (chunks_rest l.chunk-iterator))
+      ≡ sum (scores l.fn.encoding l.qual);
 }

@@ -6,5 +6,6 @@ abbrev pub invariant-loop-step : goal.invariant-loop-step
 invariant-loop-step l = record {
   order : l.start ≤ l.stop;
   within : l.stop ≤ length l.qual;
-  left : kept_of (drop l.step-index l.steps) (scores l.fn.encoding l.qual) (places l.start (l.stop - l.start)) ≡ kept l.steps (scores l.fn.encoding l.qual);
+  left : kept_of (drop l.step-index l.steps) (scores l.fn.encoding l.qual)
+      (places l.start (l.stop - l.start)) ≡ kept l.steps (scores l.fn.encoding l.qual);
 }

@@ -4,4 +4,5 @@ use Rattle.fq_trim.specs.Keeping.{scores}
 use Rattle.fq_trim.proofs.windows.are_high.Given as goal
 
 abbrev pub invariant-loop-byte : goal.invariant-loop-byte
-invariant-loop-byte l = l.all ≡ list_all (nat_le l.score) (take l.byte-index (scores l.fn.encoding l.qual))
+invariant-loop-byte l =
+    l.all ≡ list_all (nat_le l.score) (take l.byte-index (scores l.fn.encoding l.qual))

@@ -8,7 +8,9 @@ returns-then-are_all_high-clause-next c =
     let narrow = c.requires.narrow in (
       omega arith,
       λ end. omega arith,
-      λ s lt. good_over_high c.args.offset c.args.width c.args.score c.args.least c.args.start c.args.qual.now c.requires.least fits (sym c.are_all_high.ensures ∙ c.if-are_all_high.true) c.requires.good s (omega arith),
+      λ s lt. good_over_high c.args.offset c.args.width c.args.score c.args.least c.args.start
+          c.args.qual.now c.requires.least fits (sym c.are_all_high.ensures
+          ∙ c.if-are_all_high.true) c.requires.good s (omega arith),
     )
 
 pub returns-then-good-lt-TOGETHER-clause-stop : goal.returns-then-good-lt-TOGETHER-clause-stop
@@ -20,8 +22,10 @@ returns-then-good-lt-TOGETHER-clause-stop c =
     let fits = c.requires.long in
     let from = c.min-from.ensures in
     let few = c.if-good-lt-TOGETHER.true in
-    stops_there c.args.offset c.args.width c.args.least c.min-from.result c.first_below-good.result c.args.qual.now c.sums_of.result small c.sums_of.ensures.each (omega arith)
-    (λ s lt. c.requires.good s (omega arith)) found.good c.requires.window (omega arith) few (found.bad (omega arith))
+    stops_there c.args.offset c.args.width c.args.least c.min-from.result c.first_below-good.result
+        c.args.qual.now c.sums_of.result small c.sums_of.ensures.each (omega arith)
+    (λ s lt. c.requires.good s (omega arith)) found.good c.requires.window (omega arith) few
+        (found.bad (omega arith))
 
 pub returns-clause-next : goal.returns-clause-next
 returns-clause-next c =
@@ -37,6 +41,8 @@ returns-clause-next c =
     let all = c.if-good-lt-TOGETHER.false in (
       omega arith,
       λ end. omega arith,
-      λ s lt. good_up_to c.args.offset c.args.width c.args.least c.min-from.result c.first_below-good.result c.args.qual.now c.sums_of.result small c.sums_of.ensures.each (omega arith)
+      λ s lt. good_up_to c.args.offset c.args.width c.args.least c.min-from.result
+          c.first_below-good.result c.args.qual.now c.sums_of.result small c.sums_of.ensures.each
+          (omega arith)
           (λ t less. c.requires.good t (omega arith)) found.good s (omega arith),
     )

@@ -3,4 +3,5 @@ use Rattle.fq_trim.proofs.WindowLemmas.{each_plus}
 use Rattle.fq_trim.proofs.windows.plus.Goals as goal
 
 pub returns : goal.returns
-returns c = each_plus c.args.left c.args.right (c.fits-left.0 ∙ sym c.fits-right.0) c.fits-left.1 c.fits-right.1
+returns c = each_plus c.args.left c.args.right (c.fits-left.0 ∙ sym c.fits-right.0) c.fits-left.1
+    c.fits-right.1

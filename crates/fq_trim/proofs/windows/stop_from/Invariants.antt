@@ -7,5 +7,6 @@ abbrev pub invariant-loop-end : goal.invariant-loop-end
 invariant-loop-end l = record {
   from : l.width ≤ l.end;
   total : l.sum ≡ sum (take l.width (drop (l.end - l.width) (scores l.fn.encoding l.qual)));
-  windows : (s : ℕ) → s + l.width ≤ l.end → l.least ≤ sum (take l.width (drop s (scores l.fn.encoding l.qual)));
+  windows : (s : ℕ) → s + l.width ≤ l.end →
+      l.least ≤ sum (take l.width (drop s (scores l.fn.encoding l.qual)));
 }

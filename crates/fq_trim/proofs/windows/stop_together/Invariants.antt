@@ -6,7 +6,8 @@ use Rattle.fq_trim.proofs.windows.stop_together.Given as goal
 abbrev pub invariant-loop-next : goal.invariant-loop-next
 invariant-loop-next l = record {
   fits : l.start + 32 ≤ length l.qual;
-  good : (s : ℕ) → s < l.start → l.fn.least ≤ sum (take l.fn.width (drop s (distances l.fn.offset l.qual)));
+  good : (s : ℕ) → s < l.start →
+      l.fn.least ≤ sum (take l.fn.width (drop s (distances l.fn.offset l.qual)));
 }
 
 abbrev pub decreases-loop-next : goal.decreases-loop-next

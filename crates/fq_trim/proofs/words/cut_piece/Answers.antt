@@ -13,4 +13,5 @@ returns-in-Some c =
     ∙ ap (λ rest. c.in-Some.piece.now ∷ pieces rest) (sym cut.1)
 
 pub returns-in-None : goal.returns-in-None
-returns-in-None c = pieces_none c.args.text.now (c.in-None.ensures.byte (lit< tt) (λ w o found. found))
+returns-in-None c =
+    pieces_none c.args.text.now (c.in-None.ensures.byte (lit< tt) (λ w o found. found))

@@ -8,4 +8,5 @@ pub returns-in-Some-clause-value : goal.returns-in-Some-clause-value
 returns-in-Some-clause-value c =
     let more = pieces_behind c.args.numbers (ap is_some c.in-Some.is) in
     sym (ap (λ name. step_of_kind (kind_of name) (pieces_in c.args.numbers)) c.in-TOPHRED33.is
-    ∙ ap (result_map (λ numbers. ToPhred33)) (wrong_count [] (pieces_in c.args.numbers) (λ same. omega arith)))
+    ∙ ap (result_map (λ numbers. ToPhred33))
+        (wrong_count [] (pieces_in c.args.numbers) (λ same. omega arith)))

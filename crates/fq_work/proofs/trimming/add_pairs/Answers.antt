@@ -8,10 +8,14 @@ use Rattle.fq_tally.proofs.ResultLemmas.{made_more}
 use Rattle.fq_work.proofs.trimming.add_pairs.Goals as goal
 
 pub add-requires-clause-names : goal.add-requires-clause-names
-add-requires-clause-names c = subst (λ (o : Option Mates). IfSome o (λ m. c.names.result ≡ name_lengths m)) c.pair.ensures c.names.ensures
+add-requires-clause-names c =
+    subst (λ (o : Option Mates). IfSome o (λ m. c.names.result ≡ name_lengths m)) c.pair.ensures
+    c.names.ensures
 
 pub add-requires-clause-room : goal.add-requires-clause-room
-add-requires-clause-room c = omega (arith, ap (λ (d : Done). d.texts.counts.pairs) c.loop-i.invariant, length-take c.loop-i.i c.args.block.now.pairs, c.len-i-end.ensures.limit)
+add-requires-clause-room c =
+    omega (arith, ap (λ (d : Done). d.texts.counts.pairs) c.loop-i.invariant, length-take c.loop-i.i
+    c.args.block.now.pairs, c.len-i-end.ensures.limit)
 
 pub loop-i-preserved : goal.loop-i-preserved
 loop-i-preserved c =

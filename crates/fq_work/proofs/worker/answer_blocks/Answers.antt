@@ -16,9 +16,12 @@ loop-preserved g c =
     let reply = done (done_of c.args.making.now.tallied c.args.making.now.steps block) in (
       was.0 ++ block ∷ [],
       was.1 ++ reply ∷ [],
-      with_more rx c.loop.ends.rx c.answer.new.ends.rx was.0 block rx.marked was.2 (c.in_default-answer.ensures.blocks ∙ c.in-Some-take_wait.ensures.1),
-      with_more tx c.loop.ends.tx c.answer.new.ends.tx was.1 reply tx.marked was.3 c.in_default-answer.ensures.sent,
-      answers_done c.args.making.now.tallied c.args.making.now.steps was.0 was.1 block (done_of c.args.making.now.tallied c.args.making.now.steps block) refl was.4,
+      with_more rx c.loop.ends.rx c.answer.new.ends.rx was.0 block rx.marked was.2
+          (c.in_default-answer.ensures.blocks ∙ c.in-Some-take_wait.ensures.1),
+      with_more tx c.loop.ends.tx c.answer.new.ends.tx was.1 reply tx.marked was.3
+          c.in_default-answer.ensures.sent,
+      answers_done c.args.making.now.tallied c.args.making.now.steps was.0 was.1 block
+          (done_of c.args.making.now.tallied c.args.making.now.steps block) refl was.4,
     )
 
 pub returns-in-Some-answer-clause-answers : goal.returns-in-Some-answer-clause-answers
@@ -30,7 +33,10 @@ returns-in-Some-answer-clause-answers g c =
     let cause = c.in-Some-answer.cause in record {
       took = was.0 ++ block ∷ [];
       replies = was.1 ++ Stop cause ∷ [];
-      received = with_more rx c.loop.ends.rx c.answer.new.ends.rx was.0 block rx.marked was.2 (c.in-Some-answer.ensures.blocks ∙ c.in-Some-take_wait.ensures.1);
-      sent = with_more tx c.loop.ends.tx c.answer.new.ends.tx was.1 (Stop cause) tx.marked was.3 c.in-Some-answer.ensures.sent;
-      answers = answers_stop c.args.making.now.tallied c.args.making.now.steps was.0 was.1 block cause was.4;
+      received = with_more rx c.loop.ends.rx c.answer.new.ends.rx was.0 block rx.marked was.2
+          (c.in-Some-answer.ensures.blocks ∙ c.in-Some-take_wait.ensures.1);
+      sent = with_more tx c.loop.ends.tx c.answer.new.ends.tx was.1 (Stop cause) tx.marked was.3
+          c.in-Some-answer.ensures.sent;
+      answers = answers_stop c.args.making.now.tallied c.args.making.now.steps was.0 was.1 block
+          cause was.4;
     }

@@ -11,7 +11,8 @@ loop-preserved g c =
     let was = c.loop.invariant in
     let block = c.in-Some-take_wait.block in (
       was.0 ++ block ∷ [],
-      with_more c.args.ends.now.rx c.loop.ends.rx c.take_wait.new.self was.0 block c.args.ends.now.rx.marked was.1 c.in-Some-take_wait.ensures.1,
+      with_more c.args.ends.now.rx c.loop.ends.rx c.take_wait.new.self was.0 block
+          c.args.ends.now.rx.marked was.1 c.in-Some-take_wait.ensures.1,
       was.2,
     )
 

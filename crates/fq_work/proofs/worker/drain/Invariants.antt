@@ -4,4 +4,6 @@ use Rattle.fq_work.specs.Work.{with_items}
 use Rattle.fq_work.proofs.worker.drain.Given as goal
 
 abbrev pub invariant-loop : goal.invariant-loop
-invariant-loop g l = (took : List Numbered) × (l.ends.rx ≡ with_items l.initial.ends.rx took l.initial.ends.rx.marked) × (l.ends.tx ≡ l.initial.ends.tx)
+invariant-loop g l =
+    (took : List Numbered) × (l.ends.rx ≡ with_items l.initial.ends.rx took
+    l.initial.ends.rx.marked) × (l.ends.tx ≡ l.initial.ends.tx)

@@ -13,17 +13,23 @@ returns-clause-work g c =
     let more : c.is_some.result ≡ true → HasDrained mid.rx last.rx × (last.tx ≡ mid.tx) = λ e.
     elim c.if-is_some.branch [
       | then-is_some w ↦ (
-        subst (λ (ends : WorkEnds). HasDrained mid.rx ends.rx) (sym w.ends-is) w.drain.ensures.drained,
+        subst (λ (ends : WorkEnds). HasDrained mid.rx ends.rx) (sym w.ends-is)
+            w.drain.ensures.drained,
         ap (λ (ends : WorkEnds). ends.tx) w.ends-is ∙ w.drain.ensures.replies,
       )
-      | else-is_some w ↦ (let f = w.if-is_some.false in absurd (let no : true ≡ false = sym e ∙ f in cc))
+      | else-is_some w ↦ (let f = w.if-is_some.false in
+          absurd (let no : true ≡ false = sym e ∙ f in cc))
     ] in
     let same : c.is_some.result ≡ false → (last.rx ≡ mid.rx) × (last.tx ≡ mid.tx) = λ e.
     elim c.if-is_some.branch [
-      | then-is_some w ↦ (let f = w.if-is_some.true in absurd (let no : true ≡ false = sym f ∙ e in cc))
-      | else-is_some w ↦ (ap (λ (ends : WorkEnds). ends.rx) w.ends-is, ap (λ (ends : WorkEnds). ends.tx) w.ends-is)
+      | then-is_some w ↦ (let f = w.if-is_some.true in
+          absurd (let no : true ≡ false = sym f ∙ e in cc))
+      | else-is_some w ↦ (ap (λ (ends : WorkEnds). ends.rx) w.ends-is, ap
+          (λ (ends : WorkEnds). ends.tx) w.ends-is)
     ] in
-    let all = worked c.args.tallied c.args.steps cause c.is_some.result c.args.ends.rx mid.rx last.rx c.args.ends.tx mid.tx last.tx c.is_some.ensures c.answer_blocks-cause.ensures.answers more same in
+    let all = worked c.args.tallied c.args.steps cause c.is_some.result c.args.ends.rx mid.rx
+        last.rx c.args.ends.tx mid.tx last.tx c.is_some.ensures
+        c.answer_blocks-cause.ensures.answers more same in
     record {
       took = all.took;
       replies = all.replies;

@@ -9,14 +9,19 @@ pub returns-in-Item-Stop : goal.returns-in-Item-Stop
 returns-in-Item-Stop c =
     let k = c.args.self.now in
     let lt : c.args.at < length k.replies.items = omega (arith, k.replies.ok.0) in
-    let t = taken_at _ _ _ _ c.args.at _ _ _ (c.in-Item-Stop.is ∙ ap Item c.in-Item-Stop.field-0-is) lt (c.ends.view_is ∙ c.index_mut-ends.ensures.value) c.take.ensures refl in
-    record { drains = drains_take _ k _ c.args.at c.requires.over refl lt t c.add_stop-self.ensures refl refl }
+    let t = taken_at _ _ _ _ c.args.at _ _ _ (c.in-Item-Stop.is
+        ∙ ap Item c.in-Item-Stop.field-0-is) lt (c.ends.view_is
+        ∙ c.index_mut-ends.ensures.value) c.take.ensures refl in
+    record { drains = drains_take _ k _ c.args.at c.requires.over refl lt t c.add_stop-self.ensures
+        refl refl }
 
 pub returns-in-Item-Done : goal.returns-in-Item-Done
 returns-in-Item-Done c =
     let k = c.args.self.now in
     let lt : c.args.at < length k.replies.items = omega (arith, k.replies.ok.0) in
-    let t = taken_at _ _ _ _ c.args.at _ _ _ (c.in-Item-Done.is ∙ ap Item c.in-Item-Done.field-0-is) lt (c.ends.view_is ∙ c.index_mut-ends.ensures.value) c.take.ensures refl in
+    let t = taken_at _ _ _ _ c.args.at _ _ _ (c.in-Item-Done.is
+        ∙ ap Item c.in-Item-Done.field-0-is) lt (c.ends.view_is
+        ∙ c.index_mut-ends.ensures.value) c.take.ensures refl in
     record { drains = drains_take _ k _ c.args.at c.requires.over refl lt t refl refl refl }
 
 pub returns : goal.returns
@@ -26,7 +31,9 @@ returns c =
     let read = c.ends.view_is ∙ c.index_mut-ends.ensures.value in
     record {
       drains = elim c.in-Empty.is [
-        | inl e ↦ drains_take _ k _ c.args.at c.requires.over refl lt (taken_at _ _ _ _ c.args.at _ _ _ e lt read c.take.ensures refl) refl refl refl
-        | inr e ↦ drains_take _ k _ c.args.at c.requires.over refl lt (taken_at _ _ _ _ c.args.at _ _ _ e lt read c.take.ensures refl) refl refl refl
+        | inl e ↦ drains_take _ k _ c.args.at c.requires.over refl lt
+            (taken_at _ _ _ _ c.args.at _ _ _ e lt read c.take.ensures refl) refl refl refl
+        | inr e ↦ drains_take _ k _ c.args.at c.requires.over refl lt
+            (taken_at _ _ _ _ c.args.at _ _ _ e lt read c.take.ensures refl) refl refl refl
       ];
     }

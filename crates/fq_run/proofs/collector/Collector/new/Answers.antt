@@ -8,4 +8,5 @@ pub returns-clause-hears : goal.returns-clause-hears
 returns-clause-hears c =
     let replies = c.args.replies in
     let same : length replies.items ≡ replies.len = omega (arith, replies.ok.0) in
-    sym (no_stops replies.items (subst (λ n. IsDealt n [] replies.items) (sym same) c.requires.fresh))
+    sym (no_stops replies.items (subst (λ n. IsDealt n [] replies.items) (sym same)
+        c.requires.fresh))

@@ -9,9 +9,13 @@ pub returns-in-Err : goal.returns-in-Err
 returns-in-Err g c =
     let k = c.args.self.now in
     let lt : k.turn < length k.replies.items = omega (arith, k.replies.ok.0) in
-    let t = taken_at _ _ _ _ k.turn _ _ _ (ap taken_of (c.in-Some-Done.is ∙ ap Some c.in-Some-Done.field-0-is)) lt (c.ends.view_is ∙ c.index_mut-ends.ensures.value) c.take_wait.ensures refl in
+    let t = taken_at _ _ _ _ k.turn _ _ _ (ap taken_of (c.in-Some-Done.is
+        ∙ ap Some c.in-Some-Done.field-0-is)) lt (c.ends.view_is
+        ∙ c.index_mut-ends.ensures.value) c.take_wait.ensures refl in
     record {
-      collects = λ tallied before h. collects_broken tallied _ before _ _ k _ c.in-Some-Done.done c.in-Err.out h c.requires.writing refl t (rw c.texts.ensures at c.in-Err.ensures) refl refl;
+      collects = λ tallied before h. collects_broken tallied _ before _ _ k _ c.in-Some-Done.done
+          c.in-Err.out h c.requires.writing refl t (rw c.texts.ensures at c.in-Err.ensures) refl
+          refl;
       names = takes_names _ _ _ _ t;
       hears = hears_take _ _ _ _ _ k.turn lt t refl;
     }
@@ -20,9 +24,13 @@ pub returns-in_default : goal.returns-in_default
 returns-in_default g c =
     let k = c.args.self.now in
     let lt : k.turn < length k.replies.items = omega (arith, k.replies.ok.0) in
-    let t = taken_at _ _ _ _ k.turn _ _ _ (ap taken_of (c.in-Some-Done.is ∙ ap Some c.in-Some-Done.field-0-is)) lt (c.ends.view_is ∙ c.index_mut-ends.ensures.value) c.take_wait.ensures refl in
+    let t = taken_at _ _ _ _ k.turn _ _ _ (ap taken_of (c.in-Some-Done.is
+        ∙ ap Some c.in-Some-Done.field-0-is)) lt (c.ends.view_is
+        ∙ c.index_mut-ends.ensures.value) c.take_wait.ensures refl in
     record {
-      collects = λ tallied before h. collects_written tallied _ before _ _ k _ c.in-Some-Done.done h c.requires.writing c.requires.writing t (rw c.texts.ensures at c.in_default.ensures) c.add_packed.ensures (cc (c.next_turn-self.ensures.value, c.len-lanes.ensures));
+      collects = λ tallied before h. collects_written tallied _ before _ _ k _ c.in-Some-Done.done h
+          c.requires.writing c.requires.writing t (rw c.texts.ensures at c.in_default.ensures)
+          c.add_packed.ensures (cc (c.next_turn-self.ensures.value, c.len-lanes.ensures));
       names = takes_names _ _ _ _ t;
       hears = hears_take _ _ _ _ _ k.turn lt t refl;
     }
@@ -31,9 +39,11 @@ pub returns-in-None : goal.returns-in-None
 returns-in-None g c =
     let k = c.args.self.now in
     let lt : k.turn < length k.replies.items = omega (arith, k.replies.ok.0) in
-    let t = taken_at _ _ _ _ k.turn _ _ _ (ap taken_of c.in-None.is) lt (c.ends.view_is ∙ c.index_mut-ends.ensures.value) c.take_wait.ensures refl in
+    let t = taken_at _ _ _ _ k.turn _ _ _ (ap taken_of c.in-None.is) lt (c.ends.view_is
+        ∙ c.index_mut-ends.ensures.value) c.take_wait.ensures refl in
     record {
-      collects = λ tallied before h. collects_at_mark tallied _ before _ k _ h c.requires.writing refl t refl refl;
+      collects = λ tallied before h. collects_at_mark tallied _ before _ k _ h c.requires.writing
+          refl t refl refl;
       names = takes_names _ _ _ _ t;
       hears = hears_take _ _ _ _ _ k.turn lt t refl;
     }
@@ -42,9 +52,12 @@ pub returns-in-Some-Stop : goal.returns-in-Some-Stop
 returns-in-Some-Stop g c =
     let k = c.args.self.now in
     let lt : k.turn < length k.replies.items = omega (arith, k.replies.ok.0) in
-    let t = taken_at _ _ _ _ k.turn _ _ _ (ap taken_of (c.in-Some-Stop.is ∙ ap Some c.in-Some-Stop.field-0-is)) lt (c.ends.view_is ∙ c.index_mut-ends.ensures.value) c.take_wait.ensures refl in
+    let t = taken_at _ _ _ _ k.turn _ _ _ (ap taken_of (c.in-Some-Stop.is
+        ∙ ap Some c.in-Some-Stop.field-0-is)) lt (c.ends.view_is
+        ∙ c.index_mut-ends.ensures.value) c.take_wait.ensures refl in
     record {
-      collects = λ tallied before h. collects_stopped tallied _ before _ k _ c.in-Some-Stop.cause h c.requires.writing refl t c.add_stop-self.ensures refl refl;
+      collects = λ tallied before h. collects_stopped tallied _ before _ k _ c.in-Some-Stop.cause h
+          c.requires.writing refl t c.add_stop-self.ensures refl refl;
       names = takes_names _ _ _ _ t;
       hears = hears_take _ _ _ _ _ k.turn lt t c.add_stop-self.ensures;
     }

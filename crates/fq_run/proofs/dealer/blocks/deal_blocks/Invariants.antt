@@ -12,4 +12,5 @@ invariant-dealing g l =
     }
 
 abbrev pub decreases-dealing : goal.decreases-dealing
-decreases-dealing g l = let s = g.S.PairReader in (s.state l.fn.source).most_bytes - (s.state l.source).forward.given
+decreases-dealing g l = let s = g.S.PairReader in
+    (s.state l.fn.source).most_bytes - (s.state l.source).forward.given

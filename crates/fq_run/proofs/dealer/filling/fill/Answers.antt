@@ -1,8 +1,8 @@
 -- Each pair that is read goes into the block, until memory for one is refused or none is left.
 use Rattle.std.proofs.Common.{◌≡◌, arith, sym, ◌∙◌}
 use Rattle.fq_pair.specs.Mates.{name_lengths}
-use Rattle.fq_serial.proofs.WalkLemmas.{is_in_hand, of_in_hand, if_in_hand}
-use Rattle.fq_serial.proofs.GatherLemmas.{err_says, ok_says}
+use Rattle.fq_run_core.proofs.WalkLemmas.{is_in_hand, of_in_hand, if_in_hand}
+use Rattle.fq_run_core.proofs.GatherLemmas.{err_says, ok_says}
 use Rattle.fq_run.proofs.dealer.FillLemmas.{filled_none, filled_more, filled_encoding, fills_full, fills_end, fills_fault, fills_refused}
 use Rattle.fq_run.proofs.dealer.filling.fill.Goals as goal
 
@@ -20,11 +20,13 @@ names_in_hand-names-requires g c = let i = c.loop.invariant in let goes = i.goes
     is_in_hand _ _ (asked.advances goes.last)
 
 pub push_named-requires-clause-names : goal.push_named-requires-clause-names
-push_named-requires-clause-names g c = if_in_hand _ _ (λ m. c.names_in_hand-names.result ≡ name_lengths m) c.pair_in_hand-pair.ensures c.names_in_hand-names.ensures
+push_named-requires-clause-names g c = if_in_hand _ _ (λ m. c.names_in_hand-names.result
+    ≡ name_lengths m) c.pair_in_hand-pair.ensures c.names_in_hand-names.ensures
 
 pub push_named-requires-clause-encoding : goal.push_named-requires-clause-encoding
 push_named-requires-clause-encoding g c = let i = c.loop.invariant in let goes = i.goes in
-    let both = if_in_hand _ _ _ c.pair_in_hand-pair.ensures (c.in-Ok-true.ensures.encoding goes.last) in
+    let both = if_in_hand _ _ _ c.pair_in_hand-pair.ensures
+        (c.in-Ok-true.ensures.encoding goes.last) in
     let block = filled_encoding _ _ _ _ _ c.loop.invariant c.requires.encoding in
     (both.0 ∙ sym block, both.1 ∙ sym block)
 
@@ -48,11 +50,13 @@ returns-then-is_err g c = let i = c.loop.invariant in let goes = i.goes in
     let asked = rw c.in-Ok-true.field-0-test at c.in-Ok-true.ensures in
     let read = of_in_hand _ _ _ c.pair_in_hand-pair.ensures (asked.advances goes.last) in
     fills_refused _ _ _ _ _ _ c.loop.invariant _ _ _ (omega arith) read
-    (err_says c.push_named.result c.is_err.result _ c.is_err.ensures.value c.if-is_err.true c.push_named.ensures.err)
+    (err_says c.push_named.result c.is_err.result _ c.is_err.ensures.value c.if-is_err.true
+        c.push_named.ensures.err)
 
 pub loop-preserved : goal.loop-preserved
 loop-preserved g c = let i = c.loop.invariant in let goes = i.goes in
     let asked = rw c.in-Ok-true.field-0-test at c.in-Ok-true.ensures in
     let read = of_in_hand _ _ _ c.pair_in_hand-pair.ensures (asked.advances goes.last) in
     filled_more _ _ _ _ _ _ _ _ c.loop.invariant read asked.within
-    (ok_says c.push_named.result c.is_err.result _ c.is_err.ensures.value c.if-is_err.false c.push_named.ensures.ok)
+    (ok_says c.push_named.result c.is_err.result _ c.is_err.ensures.value c.if-is_err.false
+        c.push_named.ensures.ok)

@@ -11,10 +11,12 @@ pub score_sum-sum-requires-clause-scored : goal.score_sum-sum-requires-clause-sc
 score_sum-sum-requires-clause-scored c =
     let scored = is_scored c.args.encoding in
     let qual = c.args.qual.now in
-    all_taken scored (drop c.args.from qual) (c.args.to - c.args.from) (all_dropped scored qual c.args.from c.requires.scored)
+    all_taken scored (drop c.args.from qual) (c.args.to - c.args.from)
+        (all_dropped scored qual c.args.from c.requires.scored)
 
 -- scores are counted by the bytes that are as large as the least one with such a score
-counted : (e : Encoding) (score least : ℕ) → ((byte : ℕ) → nat_le score (value_of e byte) ≡ nat_le least byte) → (qual : List ℕ) →
+counted : (e : Encoding) (score least : ℕ) →
+    ((byte : ℕ) → nat_le score (value_of e byte) ≡ nat_le least byte) → (qual : List ℕ) →
     count_by (nat_le least) qual ≡ count_by (nat_le score) (scores e qual)
 counted e score least same [] = refl
 counted e score least same (b ∷ others) =
@@ -29,8 +31,10 @@ returns c =
     let part = take (c.args.to - c.args.from) (drop c.args.from c.args.qual.now) in
     let order = c.requires.order in
     let within = c.requires.within in
-    let long : c.args.to - c.args.from ≡ length (take (c.args.to - c.args.from) (drop c.args.from seq)) =
-    sym (length-take-le (c.args.to - c.args.from) (drop c.args.from seq) (omega (arith, length-drop c.args.from seq))) in
+    let long : c.args.to - c.args.from ≡ length (take (c.args.to - c.args.from)
+        (drop c.args.from seq)) =
+    sym (length-take-le (c.args.to - c.args.from) (drop c.args.from seq)
+        (omega (arith, length-drop c.args.from seq))) in
     let low = c.count_of-counted.ensures.low ∙ counted e 20 _ c.byte_of-low.ensures.least part in
     let high = c.count_of-counted.ensures.high ∙ counted e 30 _ c.byte_of-high.ensures.least part in
     let sum = c.score_sum-sum.ensures in

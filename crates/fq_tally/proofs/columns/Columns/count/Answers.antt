@@ -4,7 +4,9 @@ use Rattle.fq_tally.proofs.ColumnLemmas.{columns_empty, counted_next}
 use Rattle.fq_tally.proofs.columns.Columns.count.Goals as goal
 
 pub loop-i-init : goal.loop-i-init
-loop-i-init c = record { counted = c.grow.ensures ∙ ap (columns_plus c.args.self.now) (columns_empty c.args.at c.min-rows.result c.args.encoding c.min-rows.ensures) }
+loop-i-init c =
+    record { counted = c.grow.ensures ∙ ap (columns_plus c.args.self.now)
+    (columns_empty c.args.at c.min-rows.result c.args.encoding c.min-rows.ensures) }
 
 pub loop-i-preserved : goal.loop-i-preserved
 loop-i-preserved c =
@@ -12,6 +14,8 @@ loop-i-preserved c =
     let same = c.requires.same in
     let within = c.loop-i-test.true in
     record {
-      counted = counted_next c.args.self.now c.loop-i.self c.count_one.new.self c.args.at c.loop-i.i c.min-row.result c.phred-score.result c.args.encoding c.args.seq.now c.args.qual.now
-          c.loop-i.invariant.counted c.min-row.ensures c.phred-score.ensures (omega arith) same (omega arith) c.requires.scored c.count_one.ensures;
+      counted = counted_next c.args.self.now c.loop-i.self c.count_one.new.self c.args.at c.loop-i.i
+          c.min-row.result c.phred-score.result c.args.encoding c.args.seq.now c.args.qual.now
+          c.loop-i.invariant.counted c.min-row.ensures c.phred-score.ensures (omega arith) same
+              (omega arith) c.requires.scored c.count_one.ensures;
     }

@@ -4,5 +4,6 @@ use Rattle.fq_tally.proofs.columns.Columns.count.Given as goal
 
 abbrev pub invariant-loop-i : goal.invariant-loop-i
 invariant-loop-i l = record {
-  counted : l.self ≡ columns_plus l.fn.self (columns_from l.fn.at l.fn.encoding (take l.i l.seq) (take l.i l.qual));
+  counted : l.self ≡ columns_plus l.fn.self (columns_from l.fn.at l.fn.encoding (take l.i l.seq)
+      (take l.i l.qual));
 }

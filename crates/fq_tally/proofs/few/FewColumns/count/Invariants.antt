@@ -5,7 +5,8 @@ use Rattle.fq_tally.proofs.few.FewColumns.count.Given as goal
 abbrev pub invariant-loop-from : goal.invariant-loop-from
 invariant-loop-from l = record {
   within : l.from ≤ length l.seq;
-  counted : l.self ≡ columns_plus l.fn.self (columns_from l.fn.at l.fn.encoding (take l.from l.seq) (take l.from l.qual));
+  counted : l.self ≡ columns_plus l.fn.self (columns_from l.fn.at l.fn.encoding (take l.from l.seq)
+      (take l.from l.qual));
 }
 
 abbrev pub decreases-loop-from : goal.decreases-loop-from

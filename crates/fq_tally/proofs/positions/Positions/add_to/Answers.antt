@@ -9,4 +9,5 @@ returns c =
     let totals = c.self.inside.totals in
     let few = first_rows c.self.inside.reached c.self.inside.few in
     let columns = c.args.columns.now in
-    c.add_to.ensures ∙ ap (λ x. columns_plus x few) c.add_all.ensures ∙ columns_assoc columns totals few ∙ ap (columns_plus columns) c.self.view_is
+    c.add_to.ensures ∙ ap (λ x. columns_plus x few) c.add_all.ensures
+        ∙ columns_assoc columns totals few ∙ ap (columns_plus columns) c.self.view_is

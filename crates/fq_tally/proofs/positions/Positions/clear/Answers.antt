@@ -9,7 +9,8 @@ invariant_of-self c =
     let room = c.self.invariant.room in
     let rows = old.last + 32 in
     record {
-      few = c.clear-2.ensures rows (few_weaker old.few rows rows old.reached old.reached old.reads 254 c.self.invariant.few (omega arith) (omega arith) (omega arith));
+      few = c.clear-2.ensures rows (few_weaker old.few rows rows old.reached old.reached old.reads
+          254 c.self.invariant.few (omega arith) (omega arith) (omega arith));
       within = omega arith;
       near = c.self.invariant.near;
       room = omega arith;

@@ -11,7 +11,8 @@ invariant_of-self c =
     let room = c.self.invariant.room in
     let rows = old.last + 32 in
     record {
-      few = c.empty.ensures.none rows (few_weaker old.few rows rows old.reached old.reached old.reads 254 c.self.invariant.few (omega arith) (omega arith) (omega arith));
+      few = c.empty.ensures.none rows (few_weaker old.few rows rows old.reached old.reached
+          old.reads 254 c.self.invariant.few (omega arith) (omega arith) (omega arith));
       within = omega arith;
       near = c.self.invariant.near;
       room = omega arith;
@@ -20,4 +21,5 @@ invariant_of-self c =
 pub returns : goal.returns
 returns c =
     let same = c.empty.ensures.moved ∙ c.self.view_is in
-    subst (λ (t : Columns). OnOk c.pack.result (c.pack.new.tables ≡ c.args.tables.now ++ columns_tables t)) same c.pack.ensures
+    subst (λ (t : Columns). OnOk c.pack.result (c.pack.new.tables
+        ≡ c.args.tables.now ++ columns_tables t)) same c.pack.ensures

@@ -12,17 +12,22 @@ loop-i-init c =
 
 pub index-requires : goal.index-requires
 index-requires c =
-    let long = grown_long c.args.self.now c.args.more.now c.loop-i.self-inside.counts.items c.loop-i.i c.loop-i.invariant.sum c.loop-i-test.true in
+    let long = grown_long c.args.self.now c.args.more.now c.loop-i.self-inside.counts.items
+        c.loop-i.i c.loop-i.invariant.sum c.loop-i-test.true in
     omega (arith, c.loop-i.self-inside.counts.ok.0)
 
 pub index_mut-requires : goal.index_mut-requires
 index_mut-requires c =
-    let long = grown_long c.args.self.now c.args.more.now c.loop-i.self-inside.counts.items c.loop-i.i c.loop-i.invariant.sum c.loop-i-test.true in
+    let long = grown_long c.args.self.now c.args.more.now c.loop-i.self-inside.counts.items
+        c.loop-i.i c.loop-i.invariant.sum c.loop-i-test.true in
     omega (arith, c.loop-i.self-inside.counts.ok.0)
 
 pub loop-i-preserved : goal.loop-i-preserved
 loop-i-preserved c = record {
-  sum = grown_next c.args.self.now c.args.more.now c.loop-i.self-inside.counts.items c.loop-i.i c.index.result.now c.saturating_add.result c.loop-i-test.true c.loop-i.invariant.sum c.index.ensures (c.saturating_add.ensures ∙ ap (λ n. capped_sum c.index.result.now n) c.from.ensures);
+  sum = grown_next c.args.self.now c.args.more.now c.loop-i.self-inside.counts.items c.loop-i.i
+      c.index.result.now c.saturating_add.result c.loop-i-test.true c.loop-i.invariant.sum
+      c.index.ensures (c.saturating_add.ensures
+      ∙ ap (λ n. capped_sum c.index.result.now n) c.from.ensures);
   room = c.loop-i.invariant.room;
 }
 

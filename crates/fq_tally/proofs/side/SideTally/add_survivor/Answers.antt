@@ -13,33 +13,44 @@ use Rattle.fq_tally.proofs.SideLemmas.{kept_length, parts_are, survivor, few_bas
 use Rattle.fq_tally.proofs.side.SideTally.add_survivor.Goals as goal
 use Rattle.fq_tally.proofs.side.SideTally.add_survivor.Goals.{then-mate_survives, else-mate_survives}
 
-front_is : {now sum : ℕ} (old start : ℕ) → now ≡ old → sum ≡ min (now + start) 18446744073709551615 → sum ≡ capped_sum old start
+front_is : {now sum : ℕ} (old start : ℕ) → now ≡ old →
+    sum ≡ min (now + start) 18446744073709551615 → sum ≡ capped_sum old start
 front_is old start is sum_is = omega arith
 
-behind_is : {now size sum : ℕ} (old stop length : ℕ) → now ≡ old → size ≡ length → sum ≡ min (now + (size - stop)) 18446744073709551615 → sum ≡ capped_sum old (length - stop)
+behind_is : {now size sum : ℕ} (old stop length : ℕ) → now ≡ old → size ≡ length →
+    sum ≡ min (now + (size - stop)) 18446744073709551615 → sum ≡ capped_sum old (length - stop)
 behind_is old stop length is size_is sum_is = omega arith
 
 -- a row counted in a histogram that is the old one
-row_is : {now new : List ℕ} {number : ℕ} (old : List ℕ) (counted_number : ℕ) → now ≡ old → number ≡ counted_number → new ≡ counted number now → new ≡ counted counted_number old
+row_is : {now new : List ℕ} {number : ℕ} (old : List ℕ) (counted_number : ℕ) → now ≡ old →
+    number ≡ counted_number → new ≡ counted number now → new ≡ counted counted_number old
 row_is old counted_number is number_is new_is = cc
 
 -- what is left of a read has no more bases than the read
-left_fits : (read : Read) (k : Kept) → k.stop ≤ length read.seq → length read.seq ≤ 1048576 → length (part_at (places_of (Some k)) (whole read)).seq ≤ 1048576
+left_fits : (read : Read) (k : Kept) → k.stop ≤ length read.seq → length read.seq ≤ 1048576 →
+    length (part_at (places_of (Some k)) (whole read)).seq ≤ 1048576
 left_fits read k within few = let size = kept_length k (whole read) in omega arith
 
 pub add-requires-clause-few : goal.add-requires-clause-few
-add-requires-clause-few c = (few_bases (whole c.args.read.now) c.whole_bases-whole.result c.whole_bases-whole.ensures c.title.ensures.lawful.seq_fits).0
+add-requires-clause-few c =
+    (few_bases (whole c.args.read.now) c.whole_bases-whole.result c.whole_bases-whole.ensures
+    c.title.ensures.lawful.seq_fits).0
 
 pub add-requires-clause-among : goal.add-requires-clause-among
-add-requires-clause-among c = (few_bases (whole c.args.read.now) c.whole_bases-whole.result c.whole_bases-whole.ensures c.title.ensures.lawful.seq_fits).1
+add-requires-clause-among c =
+    (few_bases (whole c.args.read.now) c.whole_bases-whole.result c.whole_bases-whole.ensures
+    c.title.ensures.lawful.seq_fits).1
 
 pub add-requires-then-mate_survives : goal.add-requires-then-mate_survives
 add-requires-then-mate_survives c =
     let part = part_at (places_of (Some c.args.kept)) (whole c.args.read.now) in
     let left = c.kept_bases-left in
-    let few = few_bases part left.result left.ensures (left_fits c.args.read.now c.args.kept c.requires c.title.ensures.lawful.seq_fits) in
+    let few =
+        few_bases part left.result left.ensures
+        (left_fits c.args.read.now c.args.kept c.requires c.title.ensures.lawful.seq_fits) in
     record {
-      length = sym (ap (λ (b : BaseTally). b.bases) left.ensures ∙ kept_length c.args.kept (whole c.args.read.now));
+      length = sym (ap (λ (b : BaseTally). b.bases) left.ensures
+          ∙ kept_length c.args.kept (whole c.args.read.now));
       few = few.0;
       among = few.1;
     }
@@ -48,9 +59,12 @@ pub add-requires-else-mate_survives : goal.add-requires-else-mate_survives
 add-requires-else-mate_survives c =
     let part = part_at (places_of (Some c.args.kept)) (whole c.args.read.now) in
     let left = c.kept_bases-left in
-    let few = few_bases part left.result left.ensures (left_fits c.args.read.now c.args.kept c.requires c.title.ensures.lawful.seq_fits) in
+    let few =
+        few_bases part left.result left.ensures
+        (left_fits c.args.read.now c.args.kept c.requires c.title.ensures.lawful.seq_fits) in
     record {
-      length = sym (ap (λ (b : BaseTally). b.bases) left.ensures ∙ kept_length c.args.kept (whole c.args.read.now));
+      length = sym (ap (λ (b : BaseTally). b.bases) left.ensures
+          ∙ kept_length c.args.kept (whole c.args.read.now));
       few = few.0;
       among = few.1;
     }
@@ -61,9 +75,11 @@ returns c =
     let k = c.args.kept in
     let old = c.args.self.now in
     let left = part_at (places_of (Some k)) (whole read) in
-    let before : c.add.new.self ≡ with_part (whole read) old.before = c.add.ensures ∙ ap (λ (b : BaseTally). with_bases b old.before) c.whole_bases-whole.ensures in
+    let before : c.add.new.self ≡ with_part (whole read) old.before = c.add.ensures
+        ∙ ap (λ (b : BaseTally). with_bases b old.before) c.whole_bases-whole.ensures in
     let size = ap length c.seq-seq.ensures in
-    let rest : length c.seq-seq.result.now - k.stop ≡ length read.seq - k.stop = ap (λ (n : ℕ). n - k.stop) size in
+    let rest : length c.seq-seq.result.now - k.stop ≡ length read.seq - k.stop =
+        ap (λ (n : ℕ). n - k.stop) size in
     let sum = c.saturating_add-self.ensures in
     let sum_behind = c.saturating_add-self-2.ensures in
     let made : Bool → SideTally = λ mate_survives. record {
@@ -81,27 +97,39 @@ returns c =
       | then-mate_survives w ↦
           let is = w.self-is in
           let a = ap (λ (t : SideTally). t.before) is ∙ before in
-          let b = ap (λ (t : SideTally). t.paired) is ∙ w.add-then-mate_survives.ensures ∙ ap (λ (x : BaseTally). with_bases x old.paired) c.kept_bases-left.ensures in
+          let b = ap (λ (t : SideTally). t.paired) is ∙ w.add-then-mate_survives.ensures
+              ∙ ap (λ (x : BaseTally). with_bases x old.paired) c.kept_bases-left.ensures in
           let d = ap (λ (t : SideTally). t.unpaired) is in
           let f = ap (λ (t : SideTally). t.front) is in
           let g = ap (λ (t : SideTally). t.behind) is in
           let h = ap (λ (t : SideTally). t.steps) is in
           let i = c.count.ensures ∙ ap (λ (t : SideTally). counted k.start t.removed_front) is in
-          let j = c.count-2.ensures ∙ ap (λ (t : SideTally). counted (length c.seq-seq.result.now - k.stop) t.removed_behind) is ∙ ap (λ (n : ℕ). counted n old.removed_behind) rest in
-          let l = c.add_survivor.ensures ∙ ap (λ (t : SideTally). with_columns read left c.args.mate_survives t.positions) is in
-          parts_are a b d (front_is old.front k.start f sum) (behind_is old.behind k.stop (length read.seq) g size sum_behind) i j l h
+          let j = c.count-2.ensures
+              ∙ ap (λ (t : SideTally). counted (length c.seq-seq.result.now - k.stop)
+              t.removed_behind) is ∙ ap (λ (n : ℕ). counted n old.removed_behind) rest in
+          let l = c.add_survivor.ensures
+              ∙ ap (λ (t : SideTally). with_columns read left c.args.mate_survives t.positions)
+              is in
+          parts_are a b d (front_is old.front k.start f sum)
+              (behind_is old.behind k.stop (length read.seq) g size sum_behind) i j l h
           ∙ sym (ap made w.if-mate_survives.true) ∙ sym (survivor read k c.args.mate_survives old)
       | else-mate_survives w ↦
           let is = w.self-is in
           let a = ap (λ (t : SideTally). t.before) is ∙ before in
           let b = ap (λ (t : SideTally). t.paired) is in
-          let d = ap (λ (t : SideTally). t.unpaired) is ∙ w.add-else-mate_survives.ensures ∙ ap (λ (x : BaseTally). with_bases x old.unpaired) c.kept_bases-left.ensures in
+          let d = ap (λ (t : SideTally). t.unpaired) is ∙ w.add-else-mate_survives.ensures
+              ∙ ap (λ (x : BaseTally). with_bases x old.unpaired) c.kept_bases-left.ensures in
           let f = ap (λ (t : SideTally). t.front) is in
           let g = ap (λ (t : SideTally). t.behind) is in
           let h = ap (λ (t : SideTally). t.steps) is in
           let i = c.count.ensures ∙ ap (λ (t : SideTally). counted k.start t.removed_front) is in
-          let j = c.count-2.ensures ∙ ap (λ (t : SideTally). counted (length c.seq-seq.result.now - k.stop) t.removed_behind) is ∙ ap (λ (n : ℕ). counted n old.removed_behind) rest in
-          let l = c.add_survivor.ensures ∙ ap (λ (t : SideTally). with_columns read left c.args.mate_survives t.positions) is in
-          parts_are a b d (front_is old.front k.start f sum) (behind_is old.behind k.stop (length read.seq) g size sum_behind) i j l h
+          let j = c.count-2.ensures
+              ∙ ap (λ (t : SideTally). counted (length c.seq-seq.result.now - k.stop)
+              t.removed_behind) is ∙ ap (λ (n : ℕ). counted n old.removed_behind) rest in
+          let l = c.add_survivor.ensures
+              ∙ ap (λ (t : SideTally). with_columns read left c.args.mate_survives t.positions)
+              is in
+          parts_are a b d (front_is old.front k.start f sum)
+              (behind_is old.behind k.stop (length read.seq) g size sum_behind) i j l h
           ∙ sym (ap made w.if-mate_survives.false) ∙ sym (survivor read k c.args.mate_survives old)
     ]

@@ -12,8 +12,15 @@ invariant-loop-number l = record {
   within : l.stop ≤ length l.read.qual;
   few : l.count ≤ l.number;
   room : length l.shortened ≡ 64;
-  kept : kept_of (drop l.number l.steps) (scores l.read.encoding l.read.qual) (places l.start (l.stop - l.start)) ≡ kept_places l.steps l.read;
-  front : l.start + (course_of l.number (drop l.number (alone l.steps)) (cut l.start (l.stop - l.start) (whole l.read))).front ≡ (course (alone l.steps) l.read).front;
-  shortened : take l.count l.shortened ++ (course_of l.number (drop l.number (alone l.steps)) (cut l.start (l.stop - l.start) (whole l.read))).shortened ≡ (course (alone l.steps) l.read).shortened;
-  dropped : (course_of l.number (drop l.number (alone l.steps)) (cut l.start (l.stop - l.start) (whole l.read))).dropped ≡ (course (alone l.steps) l.read).dropped;
+  kept : kept_of (drop l.number l.steps) (scores l.read.encoding l.read.qual)
+      (places l.start (l.stop - l.start)) ≡ kept_places l.steps l.read;
+  front : l.start + (course_of l.number (drop l.number (alone l.steps))
+      (cut l.start (l.stop - l.start) (whole l.read))).front
+      ≡ (course (alone l.steps) l.read).front;
+  shortened : take l.count l.shortened ++ (course_of l.number (drop l.number (alone l.steps)) (cut
+      l.start (l.stop - l.start) (whole l.read))).shortened
+      ≡ (course (alone l.steps) l.read).shortened;
+  dropped : (course_of l.number (drop l.number (alone l.steps))
+      (cut l.start (l.stop - l.start) (whole l.read))).dropped
+      ≡ (course (alone l.steps) l.read).dropped;
 }

@@ -9,6 +9,7 @@ returns-clause-place g c = line_end_some c.args.self.now.in_hand _ c.args.scanne
     c.requires.within c.requires.none c.in_ok-at.ensures
 
 pub returns-in_err-at-clause-place : goal.returns-in_err-at-clause-place
-returns-in_err-at-clause-place g c = rw c.from_residual.ensures (line_end_none c.args.self.now.in_hand _ c.args.scanned
+returns-in_err-at-clause-place g c = rw c.from_residual.ensures
+    (line_end_none c.args.self.now.in_hand _ c.args.scanned
     (take_rest c.hand.result.now c.args.scanned ∙ ap (drop c.args.scanned) c.hand.ensures)
     c.requires.within c.requires.none c.in_err-at.ensures)

@@ -9,13 +9,16 @@ use Rattle.fq_trim.specs.Words.{step_of, steps_from}
 use Rattle.fq_trim.proofs.ParseLemmas.{step_put, fault_found, first_fault, all_steps, all_held, steps_of_few}
 use Rattle.fq_trim.proofs.steps.Steps.parse.Goals as goal
 
-faulty : (c : goal.In-Err) → steps_from 1 (map (λ word. word.now) c.args.words.now) ≡ Err (record { place = c.loop-i.i + 1; kind = c.in-Err.kind })
+faulty : (c : goal.In-Err) → steps_from 1 (map (λ word. word.now) c.args.words.now) ≡ Err
+    (record { place = c.loop-i.i + 1; kind = c.in-Err.kind })
 faulty c =
     let words = map (λ word. word.now) c.args.words.now in
     let i = c.loop-i.i in
     let len = length-map c.args.words.now (λ word. word.now) in
     let lt : i < length words = omega arith in
-    let is : step_of (get_or words i []) ≡ Err c.in-Err.kind = ap step_of (get_or-map (λ word. word.now) c.args.words.now i _ [] c.loop-i-test.true) ∙ sym c.in-Err.ensures.value in
+    let is : step_of (get_or words i []) ≡ Err c.in-Err.kind =
+        ap step_of (get_or-map (λ word. word.now) c.args.words.now i _ [] c.loop-i-test.true)
+        ∙ sym c.in-Err.ensures.value in
     fault_found words c.loop-i.held i lt c.loop-i.invariant.so_far c.in-Err.kind is
 
 pub returns-in-Err-clause-value : goal.returns-in-Err-clause-value
@@ -31,7 +34,8 @@ returns-in-Err-clause-first c =
     record {
       none = λ empty. absurd (omega arith);
       many = λ more. absurd (omega arith);
-      first = λ some few. first_fault words (record { place = c.loop-i.i + 1; kind = c.in-Err.kind }) (faulty c);
+      first = λ some few. first_fault words (record { place = c.loop-i.i + 1; kind =
+          c.in-Err.kind }) (faulty c);
     }
 
 pub returns-clause-all : goal.returns-clause-all
@@ -42,7 +46,8 @@ returns-clause-all c =
     let len = length-map c.args.words.now (λ word. word.now) in
     let whole : i ≡ length c.args.words.now = omega arith in
     let done = all_held words held i (omega arith) c.loop-i.invariant.so_far in
-    all_steps 1 words (take (length c.args.words.now) held) (done ∙ ap (λ n. Ok (take n held)) whole)
+    all_steps 1 words (take (length c.args.words.now) held) (done
+        ∙ ap (λ n. Ok (take n held)) whole)
 
 pub loop-i-preserved : goal.loop-i-preserved
 loop-i-preserved c =
@@ -55,11 +60,17 @@ loop-i-preserved c =
     let len = length-map c.args.words.now (λ word. word.now) in
     let lt : i < length words = omega arith in
     let room : i < length held = omega arith in
-    let is : step_of (get_or words i []) ≡ Ok step = ap step_of (get_or-map (λ word. word.now) c.args.words.now i _ [] c.loop-i-test.true) ∙ sym c.in-Ok.ensures.value in
+    let is : step_of (get_or words i []) ≡ Ok step =
+        ap step_of (get_or-map (λ word. word.now) c.args.words.now i _ [] c.loop-i-test.true)
+        ∙ sym c.in-Ok.ensures.value in
     let left : 64 - i - 1 ≡ 64 - (i + 1) = omega arith in
     record {
       whole = length-set held i step ∙ whole;
-      filled = drop-set-lt (i + 1) held i step (omega arith) ∙ sym (drop-drop 1 i held) ∙ ap (drop 1) old.filled ∙ drop-replicate 1 (64 - i) ToPhred33 ∙ ap (λ n. replicate n ToPhred33) left;
-      in_range = ap (list_all is_in_range) (take_more_set held i step room) ∙ list_all-append is_in_range (take i held) (step ∷ []) ∙ and_from _ _ old.in_range (and_from _ _ c.in-Ok.ensures.in_range refl);
+      filled = drop-set-lt (i + 1) held i step (omega arith) ∙ sym (drop-drop 1 i held)
+          ∙ ap (drop 1) old.filled ∙ drop-replicate 1 (64 - i) ToPhred33
+          ∙ ap (λ n. replicate n ToPhred33) left;
+      in_range = ap (list_all is_in_range) (take_more_set held i step room)
+          ∙ list_all-append is_in_range (take i held) (step ∷ [])
+          ∙ and_from _ _ old.in_range (and_from _ _ c.in-Ok.ensures.in_range refl);
       so_far = step_put words held i lt old.so_far step room is;
     }

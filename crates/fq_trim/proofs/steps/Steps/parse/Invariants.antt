@@ -12,5 +12,7 @@ invariant-loop-i l = record {
   whole : length l.held ≡ 64;
   filled : drop l.i l.held ≡ replicate (64 - l.i) ToPhred33;
   in_range : list_all is_in_range (take l.i l.held) ≡ true;
-  so_far : steps_from 1 (map (λ word. word.now) l.words) ≡ put_all (take l.i l.held) (steps_from (suc l.i) (drop l.i (map (λ word. word.now) l.words)));
+  so_far : steps_from 1 (map (λ word. word.now) l.words)
+      ≡ put_all (take l.i l.held) (steps_from (suc l.i) (drop l.i
+      (map (λ word. word.now) l.words)));
 }

@@ -9,8 +9,12 @@ returns-clause-laid c =
     let blocks = c.in_ok-to in let replies = c.in_ok-tx in
     each3_pushed Laid _ _ _ _ _ _ _ _ _ c.requires.laid
     (record {
-      to_is = fresh_is blocks.to blocks.to.name refl blocks.ensures.sender.0 blocks.ensures.sender.1;
-      replies_are = fresh_is replies.replies replies.replies.name refl replies.ensures.receiver.0 replies.ensures.receiver.1;
-      rx = fresh_is blocks.rx blocks.to.name blocks.ensures.one_lane blocks.ensures.receiver.0 blocks.ensures.receiver.1;
-      tx = fresh_is replies.tx replies.replies.name (sym replies.ensures.one_lane) replies.ensures.sender.0 replies.ensures.sender.1;
+      to_is = fresh_is blocks.to blocks.to.name refl blocks.ensures.sender.0
+          blocks.ensures.sender.1;
+      replies_are = fresh_is replies.replies replies.replies.name refl replies.ensures.receiver.0
+          replies.ensures.receiver.1;
+      rx = fresh_is blocks.rx blocks.to.name blocks.ensures.one_lane blocks.ensures.receiver.0
+          blocks.ensures.receiver.1;
+      tx = fresh_is replies.tx replies.replies.name (sym replies.ensures.one_lane)
+          replies.ensures.sender.0 replies.ensures.sender.1;
     }) c.push_reserved.ensures.items c.push_reserved-2.ensures.items c.push_reserved-3.ensures.items

@@ -1,0 +1,378 @@
+-- What is reported for a refusal, and for a run that was made.
+use Rattle.std.proofs.Common.{◌≡◌, ◌≢◌, ◌⊎◌, ◌∙◌, ℕ, suc, Bool, IsTrue, IsSome, Option, Some, None, [], ◌∷◌, List, length, inl, inr, ⊎_elim, refl, sym, ap, subst, arith}
+use Rattle.std.proofs.lemmas.List.{take_all}
+use Rattle.std.specs.List.{All}
+use Rattle.fq_files.specs.Holding.{Holding, Names, IsUnchanged, MayRefuse}
+use Rattle.fq_pair.specs.declared.counts.Counts.{Counts}
+use Rattle.fq_pair.specs.declared.side.Side.{Side}
+use Rattle.clap.specs.Kinds.{IsAmong, Kinds}
+use Rattle.clap.specs.Words.{Text}
+use Rattle.clap.specs.declared.error.kind.ErrorKind.{ErrorKind}
+use Rattle.fq_run.specs.Outcome.{Outcome}
+use Rattle.fq_run.specs.Outcome.TheVariants.{Lane}
+use Rattle.fq_run.specs.Endings.{ends_whole}
+use Rattle.fq_files_run.specs.Faults.{settled, outcome_status}
+use Rattle.fq_reasons.specs.Lines.{line_of, ending_line}
+use Rattle.fq_cli.specs.Requests.{Asking, input_name}
+use Rattle.fq_cli.specs.Words.{AskedFor, asked_pairs, pairs_asked}
+use Rattle.fq_cli.specs.declared.words.Asked.{Asked}
+use Rattle.fq_files_run.specs.Judging.{wrong_with}
+use Rattle.fq_files_run.specs.Trimming.{IsNoOutput, TrimsFiles}
+use Rattle.fq_files_run.specs.Leaving.{RefusalLeaves, ReportLeft, HoldFirstPairs, AreLeft, TellsInputs}
+use Rattle.fq_files_run.proofs.EndingLemmas.{done_is_whole, ends_so}
+use Rattle.fq_files_run.proofs.LeavingLemmas.{refusal_untrimmed, report_untrimmed, whole_first}
+use Rattle.fq_files_run.specs.Refusals.{status_of}
+use Rattle.fq_app.specs.Answers.{Device, EndsWhole, IsRefusal, IsEnding, IsUnprinted, IsUntold, IsUnreported, IsReportLeft, IsReportUncut, LacksMemory, NamesRefused, NamesDevice, PairsAnswered, Refuses, Tells, TookLine, memory_line, print_line, report_line}
+use Rattle.fq_files_run.specs.declared.refusal.Refusal.{Refusal}
+use Rattle.fq_files_run.specs.declared.reporting.Reported.{Reported}
+use Rattle.fq_files_run.specs.declared.reporting.Reported.TheVariants as report
+use Rattle.fq_files_run.specs.Opening.{IsRefusable}
+use Rattle.fq_files_run.specs.Completing.{Failed, HasFailed, ReportFailed}
+use Rattle.fq_files_run.specs.Reporting.{HoldsReport, ReportHeld}
+use Rattle.fq_files_run.specs.declared.refusal.Refusal.TheVariants as why
+
+-- what was read of the arguments is what they ask for
+pub asks_this : (words : List Text) (read : Asked) (own a : Asking) →
+    pairs_asked words ≡ asked_pairs read → asked_pairs read ≡ Some own → AskedFor words (Some a) →
+    own ≡ a
+asks_this words read own a is pairs asked = let some : Some own ≡ Some a = sym pairs ∙ sym is
+    ∙ asked.ask in cc
+
+-- the status of a refusal is neither 0 nor 1
+pub refusal_fails : (refusal : Refusal) → (status_of refusal ≢ 0) × (status_of refusal ≢ 1)
+    × (status_of refusal ≢ 3)
+refusal_fails why.Encoding =
+    ((λ e. absurd (omega (arith, e))), (λ e. absurd (omega (arith, e))),
+    (λ e. absurd (omega (arith, e))))
+refusal_fails (why.Step fault) =
+    ((λ e. absurd (omega (arith, e))), (λ e. absurd (omega (arith, e))),
+    (λ e. absurd (omega (arith, e))))
+refusal_fails (why.Setting bad) =
+    ((λ e. absurd (omega (arith, e))), (λ e. absurd (omega (arith, e))),
+    (λ e. absurd (omega (arith, e))))
+refusal_fails (why.SameName out) =
+    ((λ e. absurd (omega (arith, e))), (λ e. absurd (omega (arith, e))),
+    (λ e. absurd (omega (arith, e))))
+refusal_fails (why.Source side) =
+    ((λ e. absurd (omega (arith, e))), (λ e. absurd (omega (arith, e))),
+    (λ e. absurd (omega (arith, e))))
+refusal_fails (why.Target out) =
+    ((λ e. absurd (omega (arith, e))), (λ e. absurd (omega (arith, e))),
+    (λ e. absurd (omega (arith, e))))
+refusal_fails why.SameReport =
+    ((λ e. absurd (omega (arith, e))), (λ e. absurd (omega (arith, e))),
+    (λ e. absurd (omega (arith, e))))
+refusal_fails why.Report =
+    ((λ e. absurd (omega (arith, e))), (λ e. absurd (omega (arith, e))),
+    (λ e. absurd (omega (arith, e))))
+refusal_fails (why.Memory lacked) =
+    ((λ e. absurd (omega (arith, e))), (λ e. absurd (omega (arith, e))),
+    (λ e. absurd (omega (arith, e))))
+
+-- nor is the status at which a refusal is reported
+pub refuses_fails : (a : Asking) (refusal : Refusal) (err : Device) (status : ℕ) →
+    Refuses a refusal err status → (status ≢ 0) × (status ≢ 3)
+refuses_fails a refusal err status (inl told) =
+    let own = refusal_fails refusal in
+        ((λ zero. own.0 (sym told.0 ∙ zero)), (λ three. own.2 (sym told.0 ∙ three)))
+refuses_fails a refusal err status (inr lacks) =
+    let five = lacks.status_is in
+        ((λ zero. absurd (omega (arith, zero, five))),
+        (λ three. absurd (omega (arith, three, five))))
+
+-- refused memory has its line
+lacks_line : (a : Asking) (told : Bool) (old new : Holding) (out err : Device) (status : ℕ) →
+    LacksMemory err status → (IsTrue told → AreLeft a old new)
+    → (IsTrue told → (name : List ℕ) → a.report ≡ Some name → IsReportUncut a old new name) →
+        TookLine a told old new out err status
+lacks_line a told old new out err status lacks left report_left = record {
+  text = memory_line;
+  fits = inr (inr (inl (record { status_is = lacks.status_is; text_is = refl; left =
+      left; report_left = report_left })));
+  took = lacks.told;
+}
+
+-- a whole report is a first part of itself
+whole_begins : (a : Asking) (old new : Holding) (name : List ℕ) → HoldsReport a old new name →
+    IsReportLeft a old new name
+whole_begins a old new name holds = inr (record { text = holds.text; count = length holds.text; is =
+    holds.is; held = holds.held
+    ∙ ap Some (sym (take_all (length holds.text) holds.text (omega arith))) })
+
+uncut_left : (a : Asking) (old new : Holding) (name : List ℕ) → IsReportUncut a old new name →
+    IsReportLeft a old new name
+uncut_left a old new name uncut = ⊎_elim (λ kept. inl kept)
+    (λ holds. whole_begins a old new name holds) uncut
+
+-- a request that ends because memory was refused
+pub lacks_answer : (a : Asking) (told : Bool) (old new : Holding) (out err : Device) (status : ℕ) →
+    LacksMemory err status → (IsTrue told → AreLeft a old new)
+    → (IsTrue told → (name : List ℕ) → a.report ≡ Some name → IsReportUncut a old new name)
+    → (IsTrue told → (side : Side) → old (input_name a.inputs side) ≡ None → IsUnchanged old new) →
+        PairsAnswered a told old new out err status
+lacks_answer a told old new out err status lacks left report_left unopened =
+    let five = lacks.status_is in
+    record {
+      whole = λ ends. absurd (⊎_elim (λ zero. omega (arith, zero, five)) (λ three. omega
+          (arith, three, five)) ends);
+      wrong = λ refusal is. inr lacks;
+      right = λ two. absurd (omega (arith, two, five));
+      line = λ other. lacks_line a told old new out err status lacks left report_left;
+      known = λ one. absurd (omega (arith, one, five));
+      left = λ other. left;
+      reported =
+          λ ends. absurd (⊎_elim (λ zero. omega (arith, zero, five)) (λ three. omega
+          (arith, three, five)) ends);
+      report_left = λ tells name named. uncut_left a old new name (report_left tells name named);
+      unopened = unopened;
+    }
+
+there_is : {X : Type 0} (o : Option X) → (o ≡ None → ⊥) → IsSome o
+there_is None none = absurd (none refl)
+there_is (Some x) none = refl
+
+-- a request that is refused
+pub refused_answer : (a : Asking) (told : Bool) (old new : Holding) (out err : Device) (status : ℕ)
+    (refusal : Refusal) → Refuses a refusal err status
+    → ((other : Refusal) → wrong_with a ≡ Some other → refusal ≡ other) →
+        (wrong_with a ≡ None → status_of refusal ≢ 2)
+    → (IsTrue told → RefusalLeaves a refusal old new)
+    → (IsTrue told → (name : List ℕ) → a.report ≡ Some name → IsNoOutput a name →
+        ReportLeft refusal (old name) (new name))
+    → (IsTrue told → (side : Side) → old (input_name a.inputs side) ≡ None → IsUnchanged old new) →
+        PairsAnswered a told old new out err status
+refused_answer a told old new out err status refusal (inl refuses) first late left report_left
+    unopened =
+    let own = refusal_fails refusal in
+    let is = refuses.0 in
+    record {
+      whole = λ ends. absurd (⊎_elim (λ zero. own.0 (sym is ∙ zero)) (λ three. own.2 (sym is
+          ∙ three)) ends);
+      wrong = λ other named. let P : Refusal → Type 0 = λ r. Refuses a r err status in
+          subst P (first other named) (inl refuses);
+      right = λ two. there_is (wrong_with a) (λ none. late none (sym is ∙ two));
+      line = λ other. record { text = line_of a refusal; fits =
+          inl (inl (record { why = refusal; status_is = sym is; text_is = refl; left =
+          left; report_left = report_left })); took = refuses.1 };
+      known = λ one. own.1 (sym is ∙ one);
+      left = λ other tells. inl (refusal_untrimmed a refusal old new (left tells));
+      reported =
+          λ ends. absurd (⊎_elim (λ zero. own.0 (sym is ∙ zero)) (λ three. own.2 (sym is ∙ three))
+          ends);
+      report_left =
+          λ tells name named. inl (report_untrimmed a refusal old new (left tells)
+          (report_left tells) name named);
+      unopened = unopened;
+    }
+refused_answer a told old new out err status refusal (inr lacks) first late left report_left
+    unopened =
+    lacks_answer a told old new out err status lacks
+        (λ tells. inl (refusal_untrimmed a refusal old new (left tells)))
+    (λ tells name named. inl (report_untrimmed a refusal old new (left tells) (report_left tells)
+        name named)) unopened
+
+-- What is known of a run that was made: what its outputs hold, whether its report was due, and what
+-- the report holds.
+pub record IsRun (a : Asking) (told : Bool) (old new : Holding) (outcome : Outcome)
+    (counts : Counts) (reported : Reported) : Type 0 where
+  pub trims : IsTrue told → IsTrue (ends_whole outcome) → TrimsFiles a old new outcome counts
+  pub ended : IsTrue told → outcome ≢ Lane → HoldFirstPairs a old new outcome
+  pub due : reported ≢ report.NotDue → (outcome_status outcome ≡ 0) ⊎ (outcome_status outcome ≡ 3)
+  pub not_due : reported ≡ report.NotDue → IsSome a.report →
+      (outcome_status outcome ≢ 0) × (outcome_status outcome ≢ 3)
+  pub held : IsTrue told → (name : List ℕ) → a.report ≡ Some name →
+      ReportHeld reported a old new name
+
+is_wanted : (o : Option (List ℕ)) (name : List ℕ) → o ≡ Some name → IsSome o
+is_wanted (Some n) name e = refl
+is_wanted None name e = absurd cc
+
+not_lane : (outcome : Outcome) → (outcome_status outcome ≡ 0) ⊎ (outcome_status outcome ≡ 3) →
+    outcome ≢ Lane
+not_lane outcome is lane =
+    let six : outcome_status outcome ≡ 6 = ap outcome_status lane in
+    ⊎_elim (λ zero. omega (arith, six, zero)) (λ three. omega (arith, six, three)) is
+
+module _ (a : Asking) (told : Bool) (old new : Holding) (outcome : Outcome) (counts : Counts) (reported : Reported) (run : IsRun a told old new outcome counts reported) where
+  held_as : (is : Reported) → reported ≡ is → IsTrue told → (name : List ℕ) → a.report ≡ Some name →
+      ReportHeld is a old new name
+  held_as is same tells name named = let P : Reported → Type 0 = λ r. ReportHeld r a old new name in
+      subst P same (run.held tells name named)
+
+  due_as : (is : Reported) → reported ≡ is → is ≢ report.NotDue →
+      (outcome_status outcome ≡ 0) ⊎ (outcome_status outcome ≡ 3)
+  due_as is same other = run.due (λ none. other (sym same ∙ none))
+
+  -- if the run ended whole, a report that was written or not due holds the defined text
+  pub is_held : (reported ≡ report.NotDue) ⊎ (reported ≡ report.Written) →
+      (outcome_status outcome ≡ 0) ⊎ (outcome_status outcome ≡ 3)
+      → IsTrue told → (name : List ℕ) → a.report ≡ Some name → HoldsReport a old new name
+  is_held (inl none) ends tells name named =
+      let other = run.not_due none (is_wanted a.report name named) in
+      absurd (⊎_elim other.0 other.1 ends)
+  is_held (inr written) ends tells name named = held_as report.Written written tells name named
+
+  -- if the run did not end whole, the report is empty
+  is_empty : (reported ≡ report.NotDue) ⊎ (reported ≡ report.Written) → IsTrue told →
+      outcome_status outcome ≢ 0 → outcome_status outcome ≢ 3
+      → (name : List ℕ) → a.report ≡ Some name → new name ≡ Some []
+  is_empty (inl none) tells some other name named = held_as report.NotDue none tells name named
+  is_empty (inr written) tells some other name named =
+      absurd (⊎_elim some other (due_as report.Written written (λ e. absurd (cc e))))
+
+  -- a report that was written or not due is whole or empty
+  is_uncut : (reported ≡ report.NotDue) ⊎ (reported ≡ report.Written) → IsTrue told →
+      (name : List ℕ) → a.report ≡ Some name → IsReportUncut a old new name
+  is_uncut (inl none) tells name named = inl (inr (held_as report.NotDue none tells name named))
+  is_uncut (inr written) tells name named = inr (held_as report.Written written tells name named)
+
+  -- the line of a run that was made
+  pub told_line : (out err : Device) (status : ℕ) → Tells a outcome reported out err status →
+      TookLine a told old new out err status
+  told_line out err status (inl (which, inl ending)) = record {
+    text = ending_line a outcome;
+    fits = inl (inr (record { outcome = outcome; status_is = sym ending.0; text_is = refl; left =
+        run.ended; unreported = is_empty which }));
+    took = ending.1;
+  }
+  told_line out err status (inl (which, inr (inl unprinted))) = record {
+    text = print_line;
+    fits = inr (inl (record {
+      status_is = unprinted.1.1;
+      failed = unprinted.1.0;
+      text_is = refl;
+      left = λ tells. (outcome, counts, unprinted.0, run.trims tells
+          (done_is_whole outcome unprinted.0));
+      reported = is_held which (inl unprinted.0);
+    }));
+    took = unprinted.1.2;
+  }
+  told_line out err status (inl (which, inr (inr untold))) =
+      lacks_line a told old new out err status untold.1
+          (λ tells. inr (outcome, run.ended tells untold.0)) (λ tells. is_uncut which tells)
+  told_line out err status (inr (inl failed)) =
+      let due = due_as report.Failed failed.0 (λ e. absurd (cc e)) in record {
+        text = report_line;
+        fits = inr (inr (inr (record {
+          status_is = failed.1;
+          text_is = refl;
+          left = λ tells. (outcome, counts, run.trims tells
+              (ends_so outcome (outcome_status outcome) refl due));
+          begun = held_as report.Failed failed.0;
+        })));
+        took = failed.2;
+      }
+  told_line out err status (inr (inr lacks)) =
+      let due = due_as (report.OutOfMemory lacks.0.0) lacks.0.1 (λ e. absurd (cc e)) in
+      lacks_line a told old new out err status lacks.1
+          (λ tells. inr (outcome, run.ended tells (not_lane outcome due)))
+      (λ tells name named. inl (inr (held_as (report.OutOfMemory lacks.0.0) lacks.0.1 tells name
+          named)))
+
+-- ---- the device that is named
+
+four_not_five : (n : ℕ) → n ≡ 4 → n ≡ 5 → ⊥
+four_not_five n four five = absurd (omega (arith, four, five))
+
+-- what was refused
+pub refused_device : (a : Asking) (tells : Bool) (old : Holding) (refuses opened : Names)
+    (err : Device) (status : ℕ) (refusal : Refusal) → Refuses a refusal err status
+    → (IsTrue tells → TellsInputs a.inputs refusal old refuses opened) →
+        IsRefusable a (MayRefuse refuses opened) refusal → status ≡ 4 →
+        NamesRefused a tells old refuses opened err
+refused_device a tells old refuses opened err status refusal (inl refuses_so) inputs refused four =
+    record { why = refusal; status_is = sym refuses_so.0 ∙ four; told = refuses_so.1; inputs =
+        inputs; refused = refused }
+refused_device a tells old refuses opened err status refusal (inr lacks) inputs refused four =
+    absurd (four_not_five status four lacks.status_is)
+
+four_not_lane : (outcome : Outcome) → outcome_status outcome ≡ 4 → outcome ≢ Lane
+four_not_lane outcome four lane = let six : outcome_status outcome ≡ 6 = ap outcome_status lane in
+    absurd (omega (arith, four, six))
+
+-- what has failed
+pub failed_device : (a : Asking) (tells : Bool) (old : Holding) (refuses opened : Names)
+    (failed : Failed) (out err : Device) (status : ℕ) (outcome : Outcome) (reported : Reported)
+    → (outcome ≢ Lane → HasFailed a tells old failed outcome) →
+        (IsTrue tells → settled outcome ≡ outcome) →
+        (reported ≡ report.Failed → ReportFailed a failed)
+    → Tells a outcome reported out err status → status ≡ 4 →
+        NamesDevice a tells old refuses opened failed out err
+failed_device a tells old refuses opened failed out err status outcome reported fails as_it_is
+    report_fails (inl (which, inl ending)) four =
+    let is = sym ending.0 ∙ four in
+    inr (inl (record { outcome = outcome; status_is = is; told = ending.1; has_failed =
+        fails (four_not_lane outcome is); as_it_is = as_it_is }))
+failed_device a tells old refuses opened failed out err status outcome reported fails as_it_is
+    report_fails (inl (which, inr (inl unprinted))) four =
+    inr (inr (inl (unprinted.1.0, unprinted.1.2)))
+failed_device a tells old refuses opened failed out err status outcome reported fails as_it_is
+    report_fails (inl (which, inr (inr untold))) four =
+    absurd (four_not_five status four untold.1.status_is)
+failed_device a tells old refuses opened failed out err status outcome reported fails as_it_is
+    report_fails (inr (inl unwritten)) four =
+    inr (inr (inr (report_fails unwritten.0, unwritten.2)))
+failed_device a tells old refuses opened failed out err status outcome reported fails as_it_is
+    report_fails (inr (inr lacks)) four =
+    absurd (four_not_five status four lacks.1.status_is)
+
+-- a report that was written or not due has not failed
+pub not_failed : (reported : Reported) → (reported ≡ report.NotDue) ⊎ (reported ≡ report.Written) →
+    reported ≢ report.Failed
+not_failed reported (inl none) failed = let bad : report.NotDue ≡ report.Failed = sym none
+    ∙ failed in absurd (cc bad)
+not_failed reported (inr written) failed = let bad : report.Written ≡ report.Failed = sym written
+    ∙ failed in absurd (cc bad)
+
+-- what a run leaves in the file of the report
+pub is_left : (a : Asking) (old new : Holding) (name : List ℕ) (reported : Reported) →
+    ReportHeld reported a old new name → IsReportLeft a old new name
+is_left a old new name report.NotDue empty = inl (inr empty)
+is_left a old new name report.Written holds = whole_begins a old new name holds
+is_left a old new name report.Failed begins = inr begins
+is_left a old new name (report.OutOfMemory lacked) empty = inl (inr empty)
+
+-- what the line of a run says about the files
+fits_left : (a : Asking) (told : Bool) (old new : Holding) (out : Device) (status : ℕ)
+    (text : List ℕ) → (IsRefusal a told old new status text ⊎ IsEnding a told old new status text)
+    ⊎ (IsUnprinted a told old new out status text
+        ⊎ (IsUntold a told old new status text ⊎ IsUnreported a told old new status text)) →
+        status ≢ 6 → IsTrue told → AreLeft a old new
+fits_left a told old new out status text (inl (inl refusal)) other tells =
+    inl (refusal_untrimmed a refusal.why old new (refusal.left tells))
+fits_left a told old new out status text (inl (inr ending)) other tells =
+    inr (ending.outcome, ending.left tells (λ lane. other (sym ending.status_is
+        ∙ ap outcome_status lane)))
+fits_left a told old new out status text (inr (inl unprinted)) other tells =
+    let all = unprinted.left tells in inr (all.0, whole_first a old new all.0 all.1 all.3)
+fits_left a told old new out status text (inr (inr (inl untold))) other tells = untold.left tells
+fits_left a told old new out status text (inr (inr (inr unreported))) other tells =
+    let all = unreported.left tells in inr (all.0, whole_first a old new all.0 all.1 all.2)
+
+zero_or : (n : ℕ) → (n ≡ 0) ⊎ (n ≢ 0)
+zero_or n = grind arith
+
+-- what a call leaves in the files, at every status except that of an unconfirmed lane
+pub left_so : (a : Asking) (told : Bool) (old new : Holding) (out err : Device) (status : ℕ)
+    → ((status ≡ 0) ⊎ (status ≡ 3) → IsTrue told → EndsWhole a old new out err status) →
+        (status ≢ 0 → TookLine a told old new out err status)
+    → status ≢ 6 → IsTrue told → AreLeft a old new
+left_so a told old new out err status whole line other tells = ⊎_elim
+    (λ zero. let ends = whole (inl zero) tells in
+        inr (ends.outcome, whole_first a old new ends.outcome ends.counts ends.trims))
+    (λ some. let took = line some in fits_left a told old new out status took.text took.fits other
+        tells)
+    (zero_or status)
+
+-- an option that is not `None` holds a value
+pub some_in : {X : Type 0} (o : Option X) → IsSome o → (x : X) × (o ≡ Some x)
+some_in (Some x) is = (x, refl)
+some_in None is = absurd cc
+
+-- a property of all kinds in a list holds for each of them
+pub among_all : (P : ErrorKind → Type 0) (kind : ErrorKind) (kinds : Kinds) → IsAmong kind kinds →
+    All P kinds → P kind
+among_all P kind [] among all = absurd among
+among_all P kind (k ∷ ks) (inl same) all = subst P (sym same) (all 0 k (omega arith))
+among_all P kind (k ∷ ks) (inr more) all = among_all P kind ks more
+    (λ i d below. all (suc i) d (omega (arith, below)))

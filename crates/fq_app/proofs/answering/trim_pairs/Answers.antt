@@ -1,0 +1,109 @@
+use Rattle.std.proofs.Common.{◌≡◌, ◌≢◌, ◌⊎◌, IsTrue, inl, subst, sym, arith}
+use Rattle.fq_files_run.specs.Faults.{outcome_status}
+use Rattle.fq_app.specs.Answers.{device_of, TookLine, EndsWhole}
+use Rattle.fq_cli.specs.Requests.{asking_of}
+use Rattle.fq_files_run.specs.Judging.{wrong_with}
+use Rattle.fq_files_run.proofs.EndingLemmas.{ends_so}
+use Rattle.fq_app.proofs.AnswerLemmas.{IsRun, failed_device, is_held, is_left, left_so, not_failed, refused_answer, refused_device, refuses_fails, some_in, told_line}
+use Rattle.fq_app.proofs.answering.trim_pairs.Goals as goal
+
+pub returns-in-Ok-clause-pairs : goal.returns-in-Ok-clause-pairs
+returns-in-Ok-clause-pairs g c =
+    let a = asking_of c.args.request.now in
+    let account = c.in-Ok.completed.account in
+    let reported = c.in-Ok.completed.reported in
+    let run : IsRun a (g.T.Files.tells_bytes c.args.files.now) (g.T.Files.bytes_of c.args.files.now)
+        (g.T.Files.bytes_of c.trim_files.new.files) account.outcome account.counts reported =
+        record {
+      trims = c.in-Ok.ensures.completed.trims;
+      ended = c.in-Ok.ensures.completed.ended;
+      due = c.in-Ok.ensures.completed.due;
+      not_due = c.in-Ok.ensures.completed.not_due;
+      held = c.in-Ok.ensures.completed.report;
+    } in
+    let line : c.tell.result ≢ 0 → TookLine a _ _ _ _ _ c.tell.result =
+    λ some. told_line a _ _ _ account.outcome account.counts reported run _ _ _
+        (c.tell.ensures.line some) in
+    let whole : (c.tell.result ≡ 0) ⊎ (c.tell.result ≡ 3) →
+        IsTrue (g.T.Files.tells_bytes c.args.files.now) → EndsWhole a _ _ _ _ c.tell.result =
+    λ ends told.
+    let status = c.tell.ensures.whole ends in
+    record {
+      outcome = account.outcome;
+      counts = account.counts;
+      trims = c.in-Ok.ensures.completed.trims told
+          (ends_so account.outcome c.tell.result status ends);
+      status_is = status;
+      printed = c.tell.ensures.printed ends;
+      told = c.tell.ensures.told ends;
+    } in
+    record {
+      whole = whole;
+      wrong = λ why is. let failed = (c.in-Ok.ensures.wrong why is).0 in absurd (cc failed);
+      right = λ two. absurd (c.tell.ensures.known.1 two);
+      line = line;
+      known = c.tell.ensures.known.0;
+      left = left_so a _ _ _ _ _ _ whole line;
+      reported = λ ends told name named.
+          let is : (outcome_status account.outcome ≡ 0) ⊎ (outcome_status account.outcome ≡ 3) =
+              subst (λ n. (n ≡ 0) ⊎ (n ≡ 3)) (sym (c.tell.ensures.whole ends)) ends in
+          is_held a _ _ _ account.outcome account.counts reported run (c.tell.ensures.reported ends)
+              is told name named;
+      report_left = λ told name named. is_left a _ _ name reported
+          (c.in-Ok.ensures.completed.report told name named);
+      unopened = c.in-Ok.ensures.unopened;
+    }
+
+pub returns-in-Ok-clause-device : goal.returns-in-Ok-clause-device
+returns-in-Ok-clause-device g c = λ four.
+    let completed = c.in-Ok.ensures.completed in
+    failed_device (asking_of c.args.request.now) _ _ _ _ _
+        (device_of g.O.Outlet.state c.args.out.now c.tell.new.out) _ _
+        c.in-Ok.completed.account.outcome c.in-Ok.completed.reported
+    completed.failed completed.as_it_is completed.report_failed
+        (c.tell.ensures.line (λ zero. absurd (omega (arith, four, zero)))) four
+
+pub returns-in-Ok-clause-sound : goal.returns-in-Ok-clause-sound
+returns-in-Ok-clause-sound g c = λ ends. c.in-Ok.ensures.completed.sound
+    (ends_so c.in-Ok.completed.account.outcome c.tell.result (c.tell.ensures.whole ends) ends)
+        (not_failed c.in-Ok.completed.reported (c.tell.ensures.reported ends))
+
+pub returns-in-Ok-clause-flushed : goal.returns-in-Ok-clause-flushed
+returns-in-Ok-clause-flushed g c = λ ends.
+    let is : (outcome_status c.in-Ok.completed.account.outcome ≡ 0)
+        ⊎ (outcome_status c.in-Ok.completed.account.outcome ≡ 3) =
+        subst (λ n. (n ≡ 0) ⊎ (n ≡ 3)) (sym (c.tell.ensures.whole ends)) ends in
+    c.in-Ok.ensures.completed.flushed is (c.tell.ensures.reported ends)
+
+pub returns-in-Ok-clause-wrong : goal.returns-in-Ok-clause-wrong
+returns-in-Ok-clause-wrong g c = λ wrong.
+    let why = some_in (wrong_with (asking_of c.args.request.now)) wrong in
+    (c.in-Ok.ensures.wrong why.0 why.1).1
+
+pub returns-in-Err-clause-pairs : goal.returns-in-Err-clause-pairs
+returns-in-Err-clause-pairs g c = refused_answer _ _ _ _ _ _ _ c.in-Err.refusal c.refuse.ensures
+    (λ why is. let same = (c.in-Err.ensures.wrong why is).0 in
+        cc same) (λ none. c.in-Err.ensures.right none)
+    c.in-Err.ensures.refused.left c.in-Err.ensures.refused.report_left c.in-Err.ensures.unopened
+
+pub returns-in-Err-clause-device : goal.returns-in-Err-clause-device
+returns-in-Err-clause-device g c =
+    λ four. inl (refused_device (asking_of c.args.request.now) _ _ _ _ _ _ c.in-Err.refusal
+    c.refuse.ensures
+    c.in-Err.ensures.refused.inputs c.in-Err.ensures.refused.refused four)
+
+pub returns-in-Err-clause-spared : goal.returns-in-Err-clause-spared
+returns-in-Err-clause-spared g c = λ told name made leads.
+    (refuses_fails (asking_of c.args.request.now) c.in-Err.refusal _ _ c.refuse.ensures,
+        (c.in-Err.ensures.spared told name made leads).1)
+
+pub returns-in-Err-clause-sound : goal.returns-in-Err-clause-sound
+returns-in-Err-clause-sound g c = λ ends. c.in-Err.ensures.unfailed
+
+pub returns-in-Err-clause-flushed : goal.returns-in-Err-clause-flushed
+returns-in-Err-clause-flushed g c = λ ends. c.in-Err.ensures.flushed
+
+pub returns-in-Err-clause-wrong : goal.returns-in-Err-clause-wrong
+returns-in-Err-clause-wrong g c = λ wrong.
+    let why = some_in (wrong_with (asking_of c.args.request.now)) wrong in
+    (c.in-Err.ensures.wrong why.0 why.1).1

@@ -1,0 +1,254 @@
+-- How a call of the program ends.
+use Rattle.std.specs.Prelude.{◌≡◌, ◌≢◌, ◌⊎◌, ℕ, ◌<◌, Bool, IsTrue, IsSome, Some, None, List, [], ◌++◌, codes, length, take}
+use Rattle.std.specs.List.{All}
+use Rattle.fq_text.specs.Devices.{OutletState}
+use Rattle.fq_text.specs.Written.{line}
+use Rattle.fq_text.specs.declared.memory.MemoryRefused.{MemoryRefused}
+use Rattle.fq_files.specs.Holding.{Holding, Names, IsUnchanged, MayRefuse}
+use Rattle.fq_pair.specs.declared.counts.Counts.{Counts}
+use Rattle.fq_pair.specs.declared.side.Side.{Side}
+use Rattle.fq_pair.specs.Summaries.{summary_of}
+use Rattle.fq_run.specs.Outcome.{Outcome}
+use Rattle.fq_run.specs.Outcome.TheVariants.{Lane}
+use Rattle.clap.specs.Kinds.{Kinds}
+use Rattle.clap.specs.declared.error.kind.ErrorKind.{ErrorKind}
+use Rattle.clap.specs.declared.error.kind.ErrorKind.TheVariants.{DisplayHelp, DisplayVersion}
+use Rattle.fq_files_run.specs.declared.refusal.Refusal.{Refusal}
+use Rattle.fq_cli.specs.Requests.{Asking, input_name}
+use Rattle.fq_files_run.specs.Judging.{wrong_with}
+use Rattle.fq_files_run.specs.Refusals.{status_of}
+use Rattle.fq_files_run.specs.Faults.{memory_words, settled, outcome_status, outcome_line}
+use Rattle.fq_reasons.specs.Lines.{line_of, ending_line}
+use Rattle.fq_files_run.specs.Trimming.{IsNoOutput, TrimsFiles}
+use Rattle.fq_files_run.specs.Leaving.{RefusalLeaves, ReportLeft, HoldFirstPairs, AreLeft, TellsInputs}
+use Rattle.fq_files_run.specs.Opening.{IsRefusable}
+use Rattle.fq_files_run.specs.Completing.{Failed, HasFailed, ReportFailed}
+use Rattle.fq_files_run.specs.Reporting.{HoldsReport, BeginsReport}
+use Rattle.fq_files_run.specs.declared.reporting.Reported.{Reported}
+use Rattle.fq_files_run.specs.declared.reporting.Reported.TheVariants as report
+
+-- A device in a call: whether its bytes are known to the proof, those that it had taken before the
+-- call and has taken after it, and how often it has failed.
+pub record Device : Type 0 where
+  pub tells : Bool
+  pub before : List ℕ
+  pub after : List ℕ
+  pub failures : ℕ
+
+abbrev pub device_of : {D : Type 0} → (D → OutletState) → D → D → Device
+device_of state old new = record {
+  tells = (state old).tells;
+  before = (state old).taken;
+  after = (state new).taken;
+  failures = (state new).failures;
+}
+
+-- if it has not failed, it took this text and nothing else
+abbrev pub TookText : Device → List ℕ → Type 0
+TookText d text = IsTrue d.tells → d.failures ≡ 0 → d.after ≡ d.before ++ text
+
+-- if it has not failed, it took a line or more, and nothing else
+abbrev pub TookLines : Device → Type 0
+TookLines d = (words : List ℕ) × TookText d (line words)
+
+-- it took this text, or, if it has failed, a first part of it that is not the whole
+pub record TookPart (d : Device) (text : List ℕ) : Type 0 where
+  pub whole : TookText d text
+  pub part : IsTrue d.tells → d.failures ≢ 0 →
+      (count : ℕ) × (count < length text) × (d.after ≡ d.before ++ take count text)
+
+-- The pairs of the inputs were trimmed into the files of the outputs, up to the end of the inputs
+-- or a fault in them. The summary of their counts went to standard output. The line of the outcome,
+-- which has this status, went to standard error.
+pub record EndsWhole (a : Asking) (old new : Holding) (out err : Device) (status : ℕ) : Type 0 where
+  pub outcome : Outcome
+  pub counts : Counts
+  pub trims : TrimsFiles a old new outcome counts
+  pub status_is : outcome_status outcome ≡ status
+  pub printed : TookPart out (summary_of counts)
+  pub told : TookText err (ending_line a outcome)
+
+abbrev pub memory_line : List ℕ
+memory_line = line memory_words
+
+abbrev pub print_line : List ℕ
+print_line = line (codes "cannot print")
+
+abbrev pub report_line : List ℕ
+report_line = line (codes "write failed: report")
+
+-- memory was refused, and standard error took the line for it
+pub record LacksMemory (err : Device) (status : ℕ) : Type 0 where
+  pub status_is : status ≡ 5
+  pub told : TookText err memory_line
+
+-- What standard error takes, and what the files of the outputs hold then.
+
+-- a refusal of the request has this status and this line
+pub record IsRefusal (a : Asking) (tells : Bool)
+    (old new : Holding) (status : ℕ) (text : List ℕ) : Type 0 where
+  pub why : Refusal
+  pub status_is : status_of why ≡ status
+  pub text_is : line_of a why ≡ text
+  pub left : IsTrue tells → RefusalLeaves a why old new
+  pub report_left : IsTrue tells → (name : List ℕ) →
+      a.report ≡ Some name → IsNoOutput a name → ReportLeft why (old name) (new name)
+
+-- an outcome of the run has this status and this line
+pub record IsEnding (a : Asking) (tells : Bool)
+    (old new : Holding) (status : ℕ) (text : List ℕ) : Type 0 where
+  pub outcome : Outcome
+  pub status_is : outcome_status outcome ≡ status
+  pub text_is : ending_line a outcome ≡ text
+  pub left : IsTrue tells → outcome ≢ Lane → HoldFirstPairs a old new outcome
+  pub unreported : IsTrue tells → outcome_status outcome ≢ 0 →
+      outcome_status outcome ≢ 3 → (name : List ℕ) → a.report ≡ Some name →
+      new name ≡ Some []
+
+-- all pairs were trimmed, and standard output failed, so the summary was not printed
+pub record IsUnprinted (a : Asking) (tells : Bool)
+    (old new : Holding) (out : Device) (status : ℕ) (text : List ℕ) : Type 0 where
+  pub status_is : status ≡ 4
+  pub failed : out.failures ≢ 0
+  pub text_is : text ≡ print_line
+  pub left : IsTrue tells →
+      (outcome : Outcome) × (counts : Counts)
+      × (outcome_status outcome ≡ 0) × TrimsFiles a old new outcome counts
+  pub reported : IsTrue tells → (name : List ℕ) → a.report ≡ Some name → HoldsReport a old new name
+
+-- all pairs were trimmed, up to the end of the inputs or a fault in them, and the report could not
+-- be written
+pub record IsUnreported (a : Asking) (tells : Bool)
+    (old new : Holding) (status : ℕ) (text : List ℕ) : Type 0 where
+  pub status_is : status ≡ 4
+  pub text_is : text ≡ report_line
+  pub left : IsTrue tells →
+      (outcome : Outcome) × (counts : Counts) × TrimsFiles a old new outcome counts
+  pub begun : IsTrue tells → (name : List ℕ) → a.report ≡ Some name → BeginsReport a old new name
+
+-- the file of the report holds what it held before, or nothing, or the whole report
+abbrev pub IsReportUncut : Asking → Holding → Holding → List ℕ → Type 0
+IsReportUncut a old new name = ((new name ≡ old name) ⊎ (new name ≡ Some []))
+    ⊎ HoldsReport a old new name
+
+-- memory for the line or the summary was refused
+pub record IsUntold (a : Asking) (tells : Bool)
+    (old new : Holding) (status : ℕ) (text : List ℕ) : Type 0 where
+  pub status_is : status ≡ 5
+  pub text_is : text ≡ memory_line
+  pub left : IsTrue tells → AreLeft a old new
+  pub report_left : IsTrue tells →
+      (name : List ℕ) → a.report ≡ Some name → IsReportUncut a old new name
+
+-- standard error took the line of one of these, which has this status, and nothing else
+pub record TookLine (a : Asking) (tells : Bool)
+    (old new : Holding) (out err : Device) (status : ℕ) : Type 0 where
+  pub text : List ℕ
+  pub fits : (IsRefusal a tells old new status text ⊎ IsEnding a tells old new status text)
+      ⊎ (IsUnprinted a tells old new out status text
+      ⊎ (IsUntold a tells old new status text ⊎ IsUnreported a tells old new status text))
+  pub took : TookText err text
+
+-- standard output failed, and standard error took the line for that
+abbrev pub LacksPrint : Device → Device → ℕ → Type 0
+LacksPrint out err status = (out.failures ≢ 0) × (status ≡ 4) × TookText err print_line
+
+-- standard error took the line of the outcome, which is given; or all pairs were trimmed, and it
+-- took the line for a summary that was not printed; or memory was refused for either
+abbrev pub Reports : List ℕ → Outcome → Device → Device → ℕ → Type 0
+Reports text outcome out err status =
+    ((status ≡ outcome_status outcome) × TookText err text)
+    ⊎ (((outcome_status outcome ≡ 0) × LacksPrint out err status)
+    ⊎ ((outcome ≢ Lane) × LacksMemory err status))
+
+-- `Reports` holds if the report was written or none was due; otherwise standard error took the line
+-- for a report that was not written or for which memory was refused
+abbrev pub Tells : Asking → Outcome → Reported → Device → Device → ℕ → Type 0
+Tells a outcome reported out err status =
+    (((reported ≡ report.NotDue) ⊎ (reported ≡ report.Written))
+    × Reports (ending_line a outcome) outcome out err status)
+    ⊎ (((reported ≡ report.Failed) × (status ≡ 4) × TookText err report_line)
+    ⊎ (((refused : MemoryRefused) × (reported ≡ report.OutOfMemory refused))
+    × LacksMemory err status))
+
+-- standard error took the line of the refusal, or memory was refused for that line
+abbrev pub Refuses : Asking → Refusal → Device → ℕ → Type 0
+Refuses a why err status = ((status ≡ status_of why) × TookText err (line_of a why))
+    ⊎ LacksMemory err status
+
+-- At status 4 standard error names what was refused or has failed.
+
+-- a file was refused: an input that does not exist or is an input already, or an output or a report
+-- under a name that may be refused or led to an input before the call
+pub record NamesRefused (a : Asking) (tells : Bool)
+    (old : Holding) (refuses opened : Names) (err : Device) : Type 0 where
+  pub why : Refusal
+  pub status_is : status_of why ≡ 4
+  pub told : TookText err (line_of a why)
+  pub inputs : IsTrue tells → TellsInputs a.inputs why old refuses opened
+  pub refused : IsRefusable a (MayRefuse refuses opened) why
+
+-- a device of that name has failed, or the input of that side is endless
+pub record NamesFailed (a : Asking) (tells : Bool)
+    (old : Holding) (failed : Failed) (err : Device) : Type 0 where
+  pub outcome : Outcome
+  pub status_is : outcome_status outcome ≡ 4
+  pub told : TookText err (ending_line a outcome)
+  pub has_failed : HasFailed a tells old failed outcome
+  pub as_it_is : IsTrue tells → settled outcome ≡ outcome
+
+-- the line names a refused file, a failed device or an endless input; or standard output or the
+-- report's device has failed
+abbrev pub NamesDevice : Asking → Bool → Holding →
+    Names → Names → Failed → Device → Device → Type 0
+NamesDevice a tells old refuses opened failed out err =
+    NamesRefused a tells old refuses opened err
+    ⊎ (NamesFailed a tells old failed err
+    ⊎ (((out.failures ≢ 0) × TookText err print_line)
+    ⊎ (ReportFailed a failed × TookText err report_line)))
+
+-- the file of the report holds what it held before, or nothing, or a first part of the defined
+-- report
+abbrev pub IsReportLeft : Asking → Holding → Holding → List ℕ → Type 0
+IsReportLeft a old new name = ((new name ≡ old name) ⊎ (new name ≡ Some []))
+    ⊎ BeginsReport a old new name
+
+-- How a call with a request ends: the pairs are trimmed, or the request is refused.
+pub record PairsAnswered (a : Asking) (told : Bool)
+    (old new : Holding) (out err : Device) (status : ℕ) : Type 0 where
+  pub whole : (status ≡ 0) ⊎ (status ≡ 3) → IsTrue told →
+      EndsWhole a old new out err status
+  pub wrong : (why : Refusal) → wrong_with a ≡ Some why → Refuses a why err status
+  pub right : status ≡ 2 → IsSome (wrong_with a)
+  pub line : status ≢ 0 → TookLine a told old new out err status
+  pub known : status ≢ 1
+  pub left : status ≢ 6 → IsTrue told → AreLeft a old new
+  pub reported : (status ≡ 0) ⊎ (status ≡ 3) →
+      IsTrue told → (name : List ℕ) → a.report ≡ Some name → HoldsReport a old new name
+  pub report_left : IsTrue told →
+      (name : List ℕ) → a.report ≡ Some name → IsReportLeft a old new name
+  pub unopened : IsTrue told → (side : Side) →
+      old (input_name a.inputs side) ≡ None → IsUnchanged old new
+
+-- Why the example was not printed: standard output failed, memory was refused, a thread was
+-- refused, or a lane was not confirmed.
+abbrev pub IsUnshown : Device → Device → ℕ → Type 0
+IsUnshown out err status =
+    LacksPrint out err status
+    ⊎ (LacksMemory err status
+    ⊎ ((outcome : Outcome) × (outcome_status outcome ≡ 6)
+    × (status ≡ 6) × TookText err (outcome_line outcome)))
+
+-- a call for help or for the version
+abbrev pub IsCall : ErrorKind → Type 0
+IsCall kind = (kind ≡ DisplayHelp) ⊎ (kind ≡ DisplayVersion)
+
+-- arguments that are such a call, and nothing else
+pub record AreCalls (kinds : Kinds) : Type 0 where
+  pub some : kinds ≢ []
+  pub all : All IsCall kinds
+
+-- arguments that are refused, and are not such a call
+pub record AreRefused (kinds : Kinds) : Type 0 where
+  pub some : kinds ≢ []
+  pub no_help : All (λ kind. (kind ≢ DisplayHelp) × (kind ≢ DisplayVersion)) kinds

@@ -1,0 +1,146 @@
+//! What the program reports at its end.
+
+ghost use Rattle.std.specs.Prelude.{◌≡◌, ◌≢◌, ◌⊎◌, true, false, IfOk, OnErr};
+ghost use Rattle.std.specs.Option.{option_map};
+ghost use Rattle.std.specs.String.{string_bytes};
+ghost use Rattle.fq_pair.specs.Summaries.{summary_of};
+ghost use Rattle.fq_app.specs.Answers.{device_of, TookText, TookPart, Reports, LacksMemory, memory_line, print_line, report_line};
+ghost use Rattle.fq_files_run.specs.Faults.{outcome_status};
+ghost use Rattle.fq_cli.specs.Requests.{asking_of};
+ghost use Rattle.fq_reasons.specs.Lines.{line_for};
+
+use fq_cli::Request;
+use fq_files_run::{Account, LANE_LINE, MEMORY_LINE, fault_line, status_of};
+use fq_pair::{Counts, summary};
+use fq_reasons::ending_line;
+use fq_run::Outcome;
+use fq_text::{MemoryRefused, OutOfMemory, Outlet, send};
+use std::alloc::Global;
+
+/// Prints the summary to `out` if the run ended whole, and the line of a fault to `err`. The run is
+/// that of a request, or that of the example. Returns the exit status.
+pub(crate) fn tell_account<O: Outlet, E: Outlet>(
+    alloc: Global,
+    request: Option<&Request<'_>>,
+    account: &Account,
+    out: &mut O,
+    err: &mut E,
+) -> u8
+    requires out { (O.state out.old).failures ≡ 0 }
+    requires err { (E.state err.old).failures ≡ 0 }
+
+    // At the end of the inputs the summary was printed; at a fault in them, the summary or a part
+    // of it.
+    ensures whole { (result ≡ 0) ⊎ (result ≡ 3) → outcome_status account.now.outcome ≡ result }
+    ensures printed { (result ≡ 0) ⊎ (result ≡ 3)
+        → TookPart (device_of O.state out.old out.new) (summary_of account.now.counts) }
+    ensures finished { result ≡ 0 → ((O.state out.new).failures ≡ 0) × (err.new ≡ err.old) }
+
+    ensures status { (result ≡ outcome_status account.now.outcome) ⊎ ((result ≡ 4) ⊎ (result ≡ 5)) }
+
+    // The line of the outcome went to `err`.
+    ensures told { (result ≡ 0) ⊎ (result ≡ 3)
+        → TookText (device_of E.state err.old err.new)
+        (line_for (option_map (λ r. asking_of r.now) request.entry) account.now.outcome) }
+    ensures line { result ≢ 0 → Reports
+        (line_for (option_map (λ r. asking_of r.now) request.entry) account.now.outcome)
+        account.now.outcome
+        (device_of O.state out.old out.new) (device_of E.state err.old err.new) result }
+    ensures memory { result ≡ 5 → (out.new ≡ out.old)
+        × LacksMemory (device_of E.state err.old err.new) result }
+
+    // Unless `out` failed, nothing is printed at statuses other than 0 and 3. If it failed, the
+    // status is 3, or 4 with the line for that.
+    ensures quiet { result ≢ 0 → result ≢ 3 → (O.state out.new).failures ≡ 0 → out.new ≡ out.old }
+    ensures failed { (O.state out.new).failures ≢ 0
+        → (result ≡ 3) ⊎ ((result ≡ 4) × TookText (device_of E.state err.old err.new) print_line) }
+    ensures known { (result ≢ 1) × (result ≢ 2) }
+{
+    if matches!(account.outcome, Outcome::Lane) {
+        // This line takes no memory, because `Reports` allows refused memory for every outcome
+        // except this one.
+        let _ = send(err, LANE_LINE.as_bytes());
+        return 6;
+    }
+    let line = match told_line(alloc, request, account.outcome) {
+        Ok(line) => line,
+        Err(e) => return out_of_memory(err, MemoryRefused::from(e)),
+    };
+    let status = status_of(account.outcome);
+    if status == 0 || status == 3 {
+        let printed = match print_summary(alloc, &account.counts, out) {
+            Ok(printed) => printed,
+            Err(e) => return out_of_memory(err, MemoryRefused::from(e)),
+        };
+        if !printed && status == 0 {
+            return cannot_print(err);
+        }
+    }
+    // A failed write to `err` has nowhere to be reported.
+    let _ = send(err, line.as_bytes());
+    status
+}
+
+// The line of an outcome, with the reason if the request asks for it.
+fn told_line(
+    alloc: Global,
+    request: Option<&Request<'_>>,
+    outcome: Outcome,
+) -> Result<String, OutOfMemory>
+    ensures { IfOk result (λ text. string_bytes text
+        ≡ line_for (option_map (λ r. asking_of r.now) request.entry) outcome) }
+{
+    let Some(request) = request else {
+        let mut line = String::new(alloc);
+        fault_line(alloc, &mut line, outcome)?;
+        return Ok(line);
+    };
+    ending_line(alloc, request, outcome)
+}
+
+// Prints the summary. Returns whether `out` took all of it.
+fn print_summary<O: Outlet>(
+    alloc: Global,
+    counts: &Counts,
+    out: &mut O,
+) -> Result<bool, OutOfMemory>
+    requires { (O.state out.old).failures ≡ 0 }
+    ensures printed { IfOk result (λ printed.
+        TookPart (device_of O.state out.old out.new) (summary_of counts.now)) }
+    ensures whole { result ≡ Ok true → (O.state out.new).failures ≡ 0 }
+    ensures failed { result ≡ Ok false → (O.state out.new).failures ≡ 1 }
+    ensures memory { OnErr result (out.new ≡ out.old) }
+{
+    let text = summary(alloc, counts)?;
+    Ok(send(out, text.as_bytes()).is_ok())
+}
+
+/// Reports on `err`, by the line `out of memory`, that memory was refused, for which there must be
+/// a witness. Returns the exit status, 5.
+pub fn out_of_memory<E: Outlet>(err: &mut E, _refused: MemoryRefused) -> u8
+    requires { (E.state err.old).failures ≡ 0 }
+    ensures { LacksMemory (device_of E.state err.old err.new) result }
+{
+    let _ = send(err, MEMORY_LINE.as_bytes());
+    5
+}
+
+/// Reports on `err` that the text for standard output was not printed. Returns the exit status, 4.
+pub(crate) fn cannot_print<E: Outlet>(err: &mut E) -> u8
+    requires { (E.state err.old).failures ≡ 0 }
+    ensures status { result ≡ 4 }
+    ensures told { TookText (device_of E.state err.old err.new) print_line }
+{
+    let _ = send(err, b"cannot print\n");
+    4
+}
+
+/// Reports on `err` that the report was not written. Returns the exit status, 4.
+pub(crate) fn cannot_report<E: Outlet>(err: &mut E) -> u8
+    requires { (E.state err.old).failures ≡ 0 }
+    ensures status { result ≡ 4 }
+    ensures told { TookText (device_of E.state err.old err.new) report_line }
+{
+    let _ = send(err, b"write failed: report\n");
+    4
+}

@@ -1,0 +1,192 @@
+//! Trims pairs from input files into output files.
+
+ghost use Rattle.std.specs.Prelude.{◌≡◌, ◌≢◌, Some, None, Ok, Err, IsTrue, IsErr, IfOk, IfErr, OnErr};
+ghost use Rattle.std.specs.Option.{option_map};
+ghost use Rattle.fq_run.specs.Devices.{outlet_states, AreHealthy};
+ghost use Rattle.fq_run.specs.Endings.{ends_whole, AreTold, IsTrimmed, EveryEnding};
+ghost use Rattle.fq_files_run.specs.declared.refusal.Refusal.{Refusal as Refused};
+ghost use Rattle.fq_files_run.specs.Refusals.{status_of};
+ghost use Rattle.fq_cli.specs.Requests.{asking_of, input_name};
+ghost use Rattle.fq_files_run.specs.Judging.{settings_of, wrong_with};
+ghost use Rattle.fq_files_run.specs.Trimming.{KeepsUnnamed, opened_of, left_of, form_of, run_in, AreFresh};
+ghost use Rattle.fq_files_run.specs.Opening.{AreReady, AreOpened, IsRefused, SparesInputs};
+ghost use Rattle.fq_files_run.specs.Completing.{IsCompleted, IsWitnessed};
+ghost use Rattle.fq_files.specs.Holding.{Holding, IsUnchanged};
+
+use fq_cli::Request;
+use fq_files::Files;
+use fq_files_run::{
+    Account, Devices, Feeds, Refusal, Reported, inputs_done, judge, open, store, store_report,
+};
+use fq_pair::Side;
+use fq_run::{Outcome, Outlets, Settings, run_threads, run_threads_mixed};
+use fq_text::{Feed, MemoryRefused, OutOfMemory, Outlet};
+use fq_work::OpenGate;
+use std::alloc::Global;
+use std::sync::{Arc, Wait};
+use std::thread::Threads;
+
+/// A run that was made, and what became of its report.
+#[derive(Drop)]
+pub struct Completed {
+    /// How the run went.
+    pub account: Account,
+    /// What became of its report.
+    pub reported: Reported,
+}
+
+/// Trims the pairs of the inputs into the outputs.
+///
+/// The request is checked before a file is opened. The inputs are opened before an output is made,
+/// and an output or report that is an input under another name is refused before any output is
+/// made. Each outlet is handed back, however the run ended. The report is made after all outputs,
+/// and written after them.
+pub fn trim_files<R: Threads + Wait + Copy + Send + 'static, T: Files>(
+    alloc: Global,
+    rt: &R,
+    request: &Request<'_>,
+    files: &mut T,
+) -> Result<Completed, Refusal>
+    ensures completed { IfOk result (λ completed. IsCompleted (asking_of request.now)
+        (T.tells_bytes files.old) (T.bytes_of files.old) (T.bytes_of files.new)
+        (T.has_failed files.old) (T.has_failed files.new)
+        (T.is_unflushed files.old) (T.is_unflushed files.new)
+        completed.account.outcome completed.account.counts completed.reported) }
+    ensures refused { IfErr result (λ why.
+        IsRefused (asking_of request.now) why
+        (T.tells_bytes files.old) (T.refuses files.old) (T.is_open files.old)
+        (T.bytes_of files.old) (T.bytes_of files.new)) }
+    ensures unfailed { OnErr result (T.has_failed files.new ≡ T.has_failed files.old) }
+    ensures flushed { OnErr result (T.is_unflushed files.new ≡ T.is_unflushed files.old) }
+
+    ensures rest { IsTrue (T.tells_bytes files.old)
+        → KeepsUnnamed (asking_of request.now) (T.bytes_of files.old) (T.bytes_of files.new) }
+
+    // Refused memory and an unconfirmed lane have a witness.
+    ensures witnessed { IfOk result (λ completed. IsWitnessed completed.account) }
+
+    // If an output or the report leads to an input, no file changes.
+    ensures spared { IsTrue (T.tells_bytes files.old)
+        → SparesInputs (asking_of request.now) (T.is_open files.new)
+        (IsErr result) (T.bytes_of files.old) (T.bytes_of files.new) }
+
+    // If the request is wrong, no file is opened.
+    ensures wrong { (why : Refused) → wrong_with (asking_of request.now) ≡ Some why
+        → (result ≡ Err why) × (files.new ≡ files.old) }
+    ensures right { wrong_with (asking_of request.now) ≡ None
+        → IfErr result (λ why. status_of why ≢ 2) }
+
+    // If an input does not exist, no output is made.
+    ensures unopened { IsTrue (T.tells_bytes files.old) → (side : Side)
+        → T.bytes_of files.old (input_name (asking_of request.now).inputs side) ≡ None
+        → IsUnchanged (T.bytes_of files.old) (T.bytes_of files.new) }
+{
+    let settings = judge(request)?;
+    let gate = match Arc::new(alloc, OpenGate) {
+        Ok(gate) => gate,
+        Err(e) => return Err(Refusal::Memory(MemoryRefused::from(OutOfMemory::from(e)))),
+    };
+    let devices = open(request, files)?;
+    Ok(complete(alloc, rt, request, &settings, gate, files, devices))
+}
+
+// Trims the pairs of the inputs, and hands each feed and outlet back, however the run ended. The
+// report is written after all outputs.
+fn complete<R: Threads + Wait + Copy + Send + 'static, T: Files>(
+    alloc: Global,
+    rt: &R,
+    request: &Request<'_>,
+    settings: &Settings,
+    gate: Arc<OpenGate>,
+    files: &mut T,
+    devices: Devices<T::In, T::Target>,
+) -> Completed
+    requires ready { AreReady (asking_of request.now)
+        (T.tells_bytes files.old) (T.bytes_of files.old)
+        (opened_of T.In.state devices.feeds)
+        (outlet_states T.Target.state devices.outlets) (option_map T.Target.state devices.report) }
+    ensures completed { (start : Holding)
+        → AreOpened (asking_of request.now) (T.tells_bytes files.old) start (T.bytes_of files.old)
+        (opened_of T.In.state devices.feeds)
+        (outlet_states T.Target.state devices.outlets) (option_map T.Target.state devices.report)
+        → settings_of (asking_of request.now) ≡ Ok settings.now
+        → IsCompleted (asking_of request.now) (T.tells_bytes files.old) start (T.bytes_of files.new)
+        (T.has_failed files.old) (T.has_failed files.new)
+        (T.is_unflushed files.old) (T.is_unflushed files.new)
+        result.account.outcome result.account.counts result.reported }
+    ensures leading { T.is_open files.new ≡ T.is_open files.old }
+    ensures witnessed { IsWitnessed result.account }
+{
+    let Devices {
+        feeds,
+        mut outlets,
+        report,
+    } = devices;
+    let Ran { account, feeds } = run(alloc, rt, settings, gate, feeds, &mut outlets);
+    inputs_done(request, files, feeds);
+    store(request, files, outlets);
+    let reported = store_report(alloc, request, files, settings.encoding(), &account, report);
+    Completed { account, reported }
+}
+
+// How a run went, and the feeds that it returned.
+#[derive(Drop)]
+struct Ran<F> {
+    account: Account,
+    feeds: Feeds<Option<F>>,
+}
+
+// Trims the pairs of the inputs. The clauses pass on all that the run promises.
+fn run<R: Threads + Wait + Copy + Send + 'static, F: Feed + Drop + Send + 'static, O: Outlet>(
+    alloc: Global,
+    rt: &R,
+    settings: &Settings,
+    gate: Arc<OpenGate>,
+    feeds: Feeds<F>,
+    outlets: &mut Outlets<O>,
+) -> Ran<F>
+    requires fresh { AreFresh (opened_of F.state feeds) }
+    requires healthy { AreHealthy (outlet_states O.state outlets.old) }
+    ensures whole { let run = run_in (opened_of F.state feeds)
+        (outlet_states O.state outlets.old) (outlet_states O.state outlets.new)
+        (left_of F.state result.feeds) result.account in
+        IsTrue (ends_whole run.outcome) → AreTold run → IsTrimmed settings.now run }
+    ensures every { let run = run_in (opened_of F.state feeds)
+        (outlet_states O.state outlets.old) (outlet_states O.state outlets.new)
+        (left_of F.state result.feeds) result.account in
+        run.outcome ≢ Outcome.Lane → EveryEnding settings.now run }
+    ensures form { form_of result.feeds ≡ (opened_of F.state feeds).form }
+    ensures witnessed { IsWitnessed result.account }
+{
+    match feeds {
+        Feeds::Apart { forward, reverse } => {
+            let ending = run_threads(alloc, rt, settings, gate, forward, reverse, outlets);
+            Ran {
+                account: Account {
+                    outcome: ending.outcome,
+                    counts: ending.counts,
+                    tally: ending.tally,
+                    unended: ending.unended,
+                    refused: ending.refused,
+                },
+                feeds: Feeds::Apart {
+                    forward: ending.forward,
+                    reverse: ending.reverse,
+                },
+            }
+        }
+        Feeds::Interleaved(both) => {
+            let ending = run_threads_mixed(alloc, rt, settings, gate, both, outlets);
+            Ran {
+                account: Account {
+                    outcome: ending.outcome,
+                    counts: ending.counts,
+                    tally: ending.tally,
+                    unended: ending.unended,
+                    refused: ending.refused,
+                },
+                feeds: Feeds::Interleaved(ending.feed),
+            }
+        }
+    }
+}

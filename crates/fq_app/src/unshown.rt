@@ -1,0 +1,13 @@
+//! Why the example is not shown.
+
+use fq_files_run::Account;
+use fq_text::MemoryRefused;
+
+/// Why the example is not shown.
+#[derive(Drop)]
+pub(crate) enum Unshown {
+    /// A thread was refused, or a lane could not be confirmed.
+    Unrun(Account),
+    /// Memory was refused.
+    Memory(MemoryRefused),
+}

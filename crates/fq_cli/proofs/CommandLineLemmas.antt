@@ -1,0 +1,129 @@
+-- The words of a command, and its steps.
+use Rattle.std.proofs.Common.{◌≡◌, ◌<◌, ◌≤◌, ◌&&◌, ℕ, Bool, true, false, if◌then◌else◌, Some, None, List, [], ◌∷◌, length, codes, refl, ap, ap₂, ◌∙◌, arith, suc, ltb-true, nat_lt}
+use Rattle.std.specs.Prelude.{is_some}
+use Rattle.std.proofs.lemmas.Bool.{false_from_ne_true}
+use Rattle.clap.specs.Kinds.{Kinds, or_else, range_kinds, values_kinds}
+use Rattle.clap.specs.declared.error.kind.ErrorKind.TheVariants.{TooFewValues, TooManyValues}
+use Rattle.clap.specs.declared.builder.value_parser.ValueParser.TheVariants as parser
+use Rattle.clap.specs.Simple.{Shape, built, entered, names_of}
+use Rattle.clap.specs.Walk.{Text, Row, Walk, positional, settled, walk_from, walk, nothing_held, rows_after, finished}
+use Rattle.clap.specs.Faults.{settle_fault, walk_fault, defaults_fault, check_fault, level_fault, entered_fault}
+use Rattle.clap.specs.Words.{subcommand_of}
+use Rattle.clap.proofs.OnLiterals.{clap_on_literals}
+use Rattle.fq_cli.specs.Words.{pairs_app, interleaved_app, program_app, most, words_fault}
+use Rattle.fq_cli.proofs.PlainWordLemmas.{words_kept, kept_faultless}
+use Rattle.fq_cli.proofs.OptionLemmas.{pairs_leaf, mixed_leaf}
+
+-- Words after the name of a subcommand.
+
+-- the faults after a walk over the words of the program, if this is the fault on the way
+abbrev pub top_fault : Walk → Kinds → Kinds
+top_fault w kinds =
+    let app = built program_app in
+    let s = app.top in
+    or_else kinds (or_else (entered_fault app w.stopped) (or_else
+    (settle_fault s.rules s.args_override_self w.held)
+    (or_else (defaults_fault (settled s.rules w.held).rows s.rules)
+    (check_fault s (finished s.rules w.held) (is_some (entered app w.stopped))))))
+
+-- and after a walk over the words of a subcommand
+abbrev pub low_fault : Shape → Walk → Kinds → Kinds
+low_fault s w kinds =
+    or_else kinds (or_else [] (or_else (settle_fault s.rules s.args_override_self w.held)
+    (or_else (defaults_fault (settled s.rules w.held).rows s.rules)
+    (check_fault s (finished s.rules w.held) false))))
+
+-- the walk stops at the name of a subcommand, and keeps the words after it
+abbrev pub stopped_at : Text → List Text → Walk
+stopped_at name rest = record (walk_from nothing_held) { stopped = Some (name, rest) }
+
+pub pairs_stop : (rest : List Text) → walk (built program_app).top.rules
+    (names_of (built program_app))
+    nothing_held (codes "PE" ∷ rest)
+    ≡ stopped_at (codes "PE") rest
+unfolding clap_on_literals program_app pairs_app interleaved_app
+pairs_stop rest = words_kept (built program_app).top.rules (names_of (built program_app)) rest
+    (stopped_at (codes "PE") []) (codes "PE") [] refl
+
+pub pairs_entered : (program : Text) (rest : List Text) →
+    subcommand_of program_app (program ∷ codes "PE" ∷ rest)
+    ≡ Some (codes "PE", rows_after pairs_leaf.rules [] rest)
+unfolding clap_on_literals program_app pairs_app interleaved_app
+pairs_entered program rest = ap (λ (w : Walk). entered (built program_app) w.stopped)
+    (pairs_stop rest)
+
+pub pairs_kept : (rest : List Text) → walk_fault (built program_app).top
+    (names_of (built program_app))
+    (walk_from nothing_held) (codes "PE" ∷ rest) ≡ []
+unfolding clap_on_literals program_app pairs_app interleaved_app
+pairs_kept rest = kept_faultless (built program_app).top (names_of (built program_app)) rest
+    (stopped_at (codes "PE") []) (codes "PE") [] refl
+
+pub pairs_parse : (program : Text) (rest : List Text) →
+    level_fault pairs_leaf [] nothing_held rest false [] ≡ [] →
+    words_fault (program ∷ codes "PE" ∷ rest) ≡ []
+unfolding clap_on_literals program_app pairs_app interleaved_app words_fault
+pairs_parse program rest sound =
+    ap₂ top_fault (pairs_stop rest) (pairs_kept rest) ∙ ap (λ kinds. or_else kinds []) sound
+
+pub mixed_stop : (rest : List Text) → walk (built program_app).top.rules
+    (names_of (built program_app))
+    nothing_held (codes "IL" ∷ rest)
+    ≡ stopped_at (codes "IL") rest
+unfolding clap_on_literals program_app pairs_app interleaved_app
+mixed_stop rest = words_kept (built program_app).top.rules (names_of (built program_app)) rest
+    (stopped_at (codes "IL") []) (codes "IL") [] refl
+
+pub mixed_entered : (program : Text) (rest : List Text) →
+    subcommand_of program_app (program ∷ codes "IL" ∷ rest)
+    ≡ Some (codes "IL", rows_after mixed_leaf.rules [] rest)
+unfolding clap_on_literals program_app pairs_app interleaved_app
+mixed_entered program rest = ap (λ (w : Walk). entered (built program_app) w.stopped)
+    (mixed_stop rest)
+
+pub mixed_kept : (rest : List Text) → walk_fault (built program_app).top
+    (names_of (built program_app))
+    (walk_from nothing_held) (codes "IL" ∷ rest) ≡ []
+unfolding clap_on_literals program_app pairs_app interleaved_app
+mixed_kept rest = kept_faultless (built program_app).top (names_of (built program_app)) rest
+    (stopped_at (codes "IL") []) (codes "IL") [] refl
+
+pub mixed_parse : (program : Text) (rest : List Text) →
+    level_fault mixed_leaf [] nothing_held rest false [] ≡ [] →
+    words_fault (program ∷ codes "IL" ∷ rest) ≡ []
+unfolding clap_on_literals program_app pairs_app interleaved_app words_fault
+mixed_parse program rest sound =
+    ap₂ top_fault (mixed_stop rest) (mixed_kept rest) ∙ ap (λ kinds. or_else kinds []) sound
+
+-- Files and steps.
+
+pub not_several : (b : Bool) (kinds : Kinds) → (if b && false then [] else kinds) ≡ kinds
+not_several true kinds = refl
+not_several false kinds = refl
+
+-- the walk, if these steps have come at this position
+abbrev pub stepping : ℕ → List Row → ℕ → List Text → Walk
+stepping position rows skip steps = record {
+  held = record { rows = rows; pending = Some (codes "STEPS", steps); skip = skip };
+  waiting = positional;
+  position = position;
+  is_trailing = false;
+  stopped = None;
+}
+
+pub all_texts : (words : List Text) → values_kinds false parser.String words ≡ []
+all_texts [] = refl
+all_texts (word ∷ words) = all_texts words
+
+-- n steps are not too many
+pub in_range : (n : ℕ) → n < most → range_kinds 0 most (suc n) ≡ []
+in_range n fits =
+    let none : nat_lt (suc n) 0 ≡ false = false_from_ne_true _ (λ e. let below =
+    ltb-true (suc n) 0 e in omega arith) in
+    let all : nat_lt most (suc n) ≡ false = false_from_ne_true _ (λ e. let above =
+    ltb-true most (suc n) e in omega arith) in
+    ap₂ (λ x y. if x then TooFewValues ∷ [] else (if y then TooManyValues ∷ [] else [])) none all
+
+module _ (step : Text) (steps : List Text) (fits : length (step ∷ steps) ≤ most) where
+  pub few : range_kinds 0 most (length (step ∷ steps)) ≡ []
+  few = in_range (length steps) (omega arith)

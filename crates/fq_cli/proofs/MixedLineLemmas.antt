@@ -1,0 +1,435 @@
+-- What `IL I FP FU RP RU STEPS..` asks for.
+use Rattle.std.proofs.Common.{◌≡◌, ◌≤◌, ℕ, Bool, false, Option, Some, None, List, [], ◌∷◌, ◌++◌, length, fold, codes, refl, ap, ap₂, sym, ◌∙◌, append-nil, append_assoc, inl}
+use Rattle.std.specs.List.{All}
+use Rattle.clap.specs.Kinds.{or_else}
+use Rattle.clap.specs.Walk.{Text, Row, Walk, value, settled, walk_from, walk, nothing_held, finished, is_pending}
+use Rattle.clap.specs.Faults.{settle_fault, step_fault, walk_fault, defaults_fault, check_fault, level_fault}
+use Rattle.clap.proofs.OnLiterals.{clap_on_literals}
+use Rattle.fq_cli.specs.Requests.{interleaved_file}
+use Rattle.fq_cli.specs.Words.{most, is_own_name, asked_in, asking_in, pairs_asked}
+use Rattle.fq_cli.specs.CommandLines.{IsPlain, FitsIfGiven, Options, OutputNames, option_words, asking_with, ArePlain, MixedPairsAreAskedFor}
+use Rattle.fq_cli.proofs.DecimalLemmas.{decimal_read}
+use Rattle.fq_cli.proofs.PlainWordLemmas.{IsOpen, value_walk, value_faults, values_walked, value_faults_are}
+use Rattle.fq_cli.proofs.OptionLemmas.{mixed_input, mixed_others, mixed_leaf, opened, after_options, options_sound, options_read, options_faultless}
+use Rattle.fq_cli.proofs.CommandLineLemmas.{low_fault, mixed_entered, mixed_parse, not_several, stepping, all_texts, few}
+
+mixed_steps_walked : (rows : List Row) (skip : ℕ) (before steps : List Text) →
+    fold (value_walk mixed_leaf.rules) (stepping 6 rows skip before) steps
+    ≡ stepping 6 rows skip (before ++ steps)
+mixed_steps_walked rows skip before [] = ap (stepping 6 rows skip) (sym (append-nil before))
+mixed_steps_walked rows skip before (step ∷ steps) =
+    mixed_steps_walked rows skip (before ++ step ∷ []) steps
+    ∙ ap (stepping 6 rows skip) (append_assoc before (step ∷ []) steps)
+
+mixed_steps_sound : (rows : List Row) (skip : ℕ) (before steps : List Text) →
+    value_faults mixed_leaf (stepping 6 rows skip before) steps ≡ []
+mixed_steps_sound rows skip before [] = refl
+mixed_steps_sound rows skip before (step ∷ steps) =
+    mixed_steps_sound rows skip (before ++ step ∷ []) steps
+
+module _ (f fp fu rp ru step : Text) where
+  -- what is held of options and files after the first step
+  abbrev mixed_rows : Options → List Row
+  mixed_rows o =
+      (fold (value_walk mixed_leaf.rules) (opened (after_options mixed_leaf.rules o))
+      (f ∷ fp ∷ fu ∷ rp ∷ ru ∷ step ∷ [])).held.rows
+
+  mixed_walked : (a b c : Option Text) (d : Option ℕ) →
+      let o : Options = record { log = a; report = b; encoding = c; threads = d } in
+      fold (value_walk mixed_leaf.rules) (opened (after_options mixed_leaf.rules o))
+      (f ∷ fp ∷ fu ∷ rp ∷ ru ∷ step ∷ []) ≡ stepping 6 (mixed_rows o) 0 (step ∷ [])
+  mixed_walked None None None None = refl
+  mixed_walked None None None (Some n) = refl
+  mixed_walked None None (Some z) None = refl
+  mixed_walked None None (Some z) (Some n) = refl
+  mixed_walked None (Some y) None None = refl
+  mixed_walked None (Some y) None (Some n) = refl
+  mixed_walked None (Some y) (Some z) None = refl
+  mixed_walked None (Some y) (Some z) (Some n) = refl
+  mixed_walked (Some x) None None None = refl
+  mixed_walked (Some x) None None (Some n) = refl
+  mixed_walked (Some x) None (Some z) None = refl
+  mixed_walked (Some x) None (Some z) (Some n) = refl
+  mixed_walked (Some x) (Some y) None None = refl
+  mixed_walked (Some x) (Some y) None (Some n) = refl
+  mixed_walked (Some x) (Some y) (Some z) None = refl
+  mixed_walked (Some x) (Some y) (Some z) (Some n) = refl
+
+  mixed_names_sound : (steps : List Text) (a b c : Option Text) (d : Option ℕ) →
+      let o : Options = record { log = a; report = b; encoding = c; threads = d } in
+      value_faults mixed_leaf (value_walk mixed_leaf.rules (opened
+      (after_options mixed_leaf.rules o)) f) (fp ∷ fu ∷ rp ∷ ru ∷ step ∷ steps) ≡ []
+  mixed_names_sound steps None None None None =
+      mixed_steps_sound (mixed_rows (record {
+        log = None;
+        report = None;
+        encoding = None;
+        threads =
+            None;
+      })) 0 (step ∷ []) steps
+  mixed_names_sound steps None None None (Some n) =
+      mixed_steps_sound (mixed_rows (record {
+        log = None;
+        report = None;
+        encoding = None;
+        threads =
+            Some n;
+      })) 0 (step ∷ []) steps
+  mixed_names_sound steps None None (Some z) None =
+      mixed_steps_sound (mixed_rows (record {
+        log = None;
+        report = None;
+        encoding =
+            Some z;
+        threads = None;
+      })) 0 (step ∷ []) steps
+  mixed_names_sound steps None None (Some z) (Some n) =
+      mixed_steps_sound (mixed_rows (record {
+        log = None;
+        report = None;
+        encoding =
+            Some z;
+        threads = Some n;
+      })) 0 (step ∷ []) steps
+  mixed_names_sound steps None (Some y) None None =
+      mixed_steps_sound (mixed_rows (record {
+        log = None;
+        report = Some y;
+        encoding =
+            None;
+        threads = None;
+      })) 0 (step ∷ []) steps
+  mixed_names_sound steps None (Some y) None (Some n) =
+      mixed_steps_sound (mixed_rows (record {
+        log = None;
+        report = Some y;
+        encoding =
+            None;
+        threads = Some n;
+      })) 0 (step ∷ []) steps
+  mixed_names_sound steps None (Some y) (Some z) None =
+      mixed_steps_sound (mixed_rows (record {
+        log = None;
+        report = Some y;
+        encoding =
+            Some z;
+        threads = None;
+      })) 0 (step ∷ []) steps
+  mixed_names_sound steps None (Some y) (Some z) (Some n) =
+      mixed_steps_sound (mixed_rows (record {
+        log = None;
+        report = Some y;
+        encoding =
+            Some z;
+        threads = Some n;
+      })) 0 (step ∷ []) steps
+  mixed_names_sound steps (Some x) None None None =
+      mixed_steps_sound (mixed_rows (record {
+        log = Some x;
+        report = None;
+        encoding =
+            None;
+        threads = None;
+      })) 0 (step ∷ []) steps
+  mixed_names_sound steps (Some x) None None (Some n) =
+      mixed_steps_sound (mixed_rows (record {
+        log = Some x;
+        report = None;
+        encoding =
+            None;
+        threads = Some n;
+      })) 0 (step ∷ []) steps
+  mixed_names_sound steps (Some x) None (Some z) None =
+      mixed_steps_sound (mixed_rows (record {
+        log = Some x;
+        report = None;
+        encoding =
+            Some z;
+        threads = None;
+      })) 0 (step ∷ []) steps
+  mixed_names_sound steps (Some x) None (Some z) (Some n) =
+      mixed_steps_sound (mixed_rows (record {
+        log = Some x;
+        report = None;
+        encoding =
+            Some z;
+        threads = Some n;
+      })) 0 (step ∷ []) steps
+  mixed_names_sound steps (Some x) (Some y) None None =
+      mixed_steps_sound (mixed_rows (record {
+        log = Some x;
+        report = Some y;
+        encoding =
+            None;
+        threads = None;
+      })) 0 (step ∷ []) steps
+  mixed_names_sound steps (Some x) (Some y) None (Some n) =
+      mixed_steps_sound (mixed_rows (record {
+        log = Some x;
+        report = Some y;
+        encoding =
+            None;
+        threads = Some n;
+      })) 0 (step ∷ []) steps
+  mixed_names_sound steps (Some x) (Some y) (Some z) None =
+      mixed_steps_sound (mixed_rows (record {
+        log = Some x;
+        report = Some y;
+        encoding =
+            Some z;
+        threads = None;
+      })) 0 (step ∷ []) steps
+  mixed_names_sound steps (Some x) (Some y) (Some z) (Some n) =
+      mixed_steps_sound (mixed_rows (record {
+        log = Some x;
+        report = Some y;
+        encoding =
+            Some z;
+        threads = Some n;
+      })) 0 (step ∷ []) steps
+
+  mixed_end_sound : (steps : List Text) (a b c : Option Text) (d : Option ℕ) →
+      let o : Options = record { log = a; report = b; encoding = c; threads = d } in
+      let end = (stepping 6 (mixed_rows o) 0 (step ∷ steps)).held in
+      or_else (defaults_fault (settled mixed_leaf.rules end).rows mixed_leaf.rules)
+      (check_fault mixed_leaf (finished mixed_leaf.rules end) false) ≡ []
+  unfolding clap_on_literals
+  mixed_end_sound steps None None None None = refl
+  mixed_end_sound steps None None None (Some n) = refl
+  mixed_end_sound steps None None (Some z) None = refl
+  mixed_end_sound steps None None (Some z) (Some n) = refl
+  mixed_end_sound steps None (Some y) None None = refl
+  mixed_end_sound steps None (Some y) None (Some n) = refl
+  mixed_end_sound steps None (Some y) (Some z) None = refl
+  mixed_end_sound steps None (Some y) (Some z) (Some n) = refl
+  mixed_end_sound steps (Some x) None None None = refl
+  mixed_end_sound steps (Some x) None None (Some n) = refl
+  mixed_end_sound steps (Some x) None (Some z) None = refl
+  mixed_end_sound steps (Some x) None (Some z) (Some n) = refl
+  mixed_end_sound steps (Some x) (Some y) None None = refl
+  mixed_end_sound steps (Some x) (Some y) None (Some n) = refl
+  mixed_end_sound steps (Some x) (Some y) (Some z) None = refl
+  mixed_end_sound steps (Some x) (Some y) (Some z) (Some n) = refl
+
+  mixed_found : (own : Bool) (steps : List Text) (a b c : Option Text) (d : Option ℕ) →
+      FitsIfGiven d →
+      let o : Options = record { log = a; report = b; encoding = c; threads = d } in
+      let names : OutputNames = record {
+        forward_paired = fp;
+        forward_unpaired =
+            fu;
+        reverse_paired = rp;
+        reverse_unpaired = ru;
+      } in
+      asked_in own (Some (
+        codes "IL",
+        finished mixed_leaf.rules
+            (stepping 6 (mixed_rows o) 0 (step ∷ steps)).held,
+      ))
+      ≡ Some (asking_with own o (interleaved_file f) names (step ∷ steps))
+  unfolding clap_on_literals asking_in
+  mixed_found own steps None None None None fits = refl
+  mixed_found own steps None None None (Some n) fits =
+      ap (λ (t : ℕ). Some (asking_with own (record {
+        log = None;
+        report = None;
+        encoding =
+            None;
+        threads = Some t;
+      }) (interleaved_file f) (record {
+        forward_paired =
+            fp;
+        forward_unpaired = fu;
+        reverse_paired = rp;
+        reverse_unpaired = ru;
+      }) (step ∷ steps)))
+      (decimal_read n fits)
+  mixed_found own steps None None (Some z) None fits = refl
+  mixed_found own steps None None (Some z) (Some n) fits =
+      ap (λ (t : ℕ). Some (asking_with own (record {
+        log = None;
+        report = None;
+        encoding =
+            Some z;
+        threads = Some t;
+      }) (interleaved_file f) (record {
+        forward_paired =
+            fp;
+        forward_unpaired = fu;
+        reverse_paired = rp;
+        reverse_unpaired = ru;
+      }) (step ∷ steps)))
+      (decimal_read n fits)
+  mixed_found own steps None (Some y) None None fits = refl
+  mixed_found own steps None (Some y) None (Some n) fits =
+      ap (λ (t : ℕ). Some (asking_with own (record {
+        log = None;
+        report = Some y;
+        encoding =
+            None;
+        threads = Some t;
+      }) (interleaved_file f) (record {
+        forward_paired =
+            fp;
+        forward_unpaired = fu;
+        reverse_paired = rp;
+        reverse_unpaired = ru;
+      }) (step ∷ steps)))
+      (decimal_read n fits)
+  mixed_found own steps None (Some y) (Some z) None fits = refl
+  mixed_found own steps None (Some y) (Some z) (Some n) fits =
+      ap (λ (t : ℕ). Some (asking_with own (record {
+        log = None;
+        report = Some y;
+        encoding =
+            Some z;
+        threads = Some t;
+      }) (interleaved_file f) (record {
+        forward_paired =
+            fp;
+        forward_unpaired = fu;
+        reverse_paired = rp;
+        reverse_unpaired = ru;
+      }) (step ∷ steps)))
+      (decimal_read n fits)
+  mixed_found own steps (Some x) None None None fits = refl
+  mixed_found own steps (Some x) None None (Some n) fits =
+      ap (λ (t : ℕ). Some (asking_with own (record {
+        log = Some x;
+        report = None;
+        encoding =
+            None;
+        threads = Some t;
+      }) (interleaved_file f) (record {
+        forward_paired =
+            fp;
+        forward_unpaired = fu;
+        reverse_paired = rp;
+        reverse_unpaired = ru;
+      }) (step ∷ steps)))
+      (decimal_read n fits)
+  mixed_found own steps (Some x) None (Some z) None fits = refl
+  mixed_found own steps (Some x) None (Some z) (Some n) fits =
+      ap (λ (t : ℕ). Some (asking_with own (record {
+        log = Some x;
+        report = None;
+        encoding =
+            Some z;
+        threads = Some t;
+      }) (interleaved_file f) (record {
+        forward_paired =
+            fp;
+        forward_unpaired = fu;
+        reverse_paired = rp;
+        reverse_unpaired = ru;
+      }) (step ∷ steps)))
+      (decimal_read n fits)
+  mixed_found own steps (Some x) (Some y) None None fits = refl
+  mixed_found own steps (Some x) (Some y) None (Some n) fits =
+      ap (λ (t : ℕ). Some (asking_with own (record {
+        log = Some x;
+        report = Some y;
+        encoding =
+            None;
+        threads = Some t;
+      }) (interleaved_file f) (record {
+        forward_paired =
+            fp;
+        forward_unpaired = fu;
+        reverse_paired = rp;
+        reverse_unpaired = ru;
+      }) (step ∷ steps)))
+      (decimal_read n fits)
+  mixed_found own steps (Some x) (Some y) (Some z) None fits = refl
+  mixed_found own steps (Some x) (Some y) (Some z) (Some n) fits =
+      ap (λ (t : ℕ). Some (asking_with own (record {
+        log = Some x;
+        report = Some y;
+        encoding =
+            Some z;
+        threads = Some t;
+      }) (interleaved_file f) (record {
+        forward_paired =
+            fp;
+        forward_unpaired = fu;
+        reverse_paired = rp;
+        reverse_unpaired = ru;
+      }) (step ∷ steps)))
+      (decimal_read n fits)
+
+module _ (f fp fu rp ru : Text) (o : Options) (plain : ArePlain o) (step : Text) (steps : List Text) (fits : length (step ∷ steps) ≤ most)
+    (all : All IsPlain (f ∷ fp ∷ fu ∷ rp ∷ ru ∷ step ∷ steps)) where
+  abbrev mixed_words : List Text
+  mixed_words = f ∷ fp ∷ fu ∷ rp ∷ ru ∷ step ∷ steps
+
+  abbrev mixed_end : Walk
+  mixed_end = stepping 6 (mixed_rows f fp fu rp ru step o) 0 (step ∷ steps)
+
+  mixed_open : IsOpen (opened (after_options mixed_leaf.rules o))
+  mixed_open = record { goes = refl; rests = inl refl }
+
+  mixed_walk : walk mixed_leaf.rules [] nothing_held (option_words o ++ mixed_words) ≡ mixed_end
+  mixed_walk =
+      options_read (codes "IL") mixed_others o plain mixed_words
+      ∙ values_walked mixed_leaf.rules mixed_words (opened (after_options mixed_leaf.rules o))
+      mixed_open all
+      ∙ ap (λ w. fold (value_walk mixed_leaf.rules) w steps)
+      (mixed_walked f fp fu rp ru step o.log o.report o.encoding o.threads)
+      ∙ mixed_steps_walked (mixed_rows f fp fu rp ru step o) 0 (step ∷ []) steps
+
+  mixed_first : step_fault mixed_leaf 1 (after_options mixed_leaf.rules o) value ≡ []
+  mixed_first =
+      let h = after_options mixed_leaf.rules o in
+      not_several (is_pending mixed_input h.pending) (settle_fault mixed_leaf.rules false h)
+      ∙ options_sound (codes "IL") mixed_others o plain.threads
+
+  mixed_faultless : walk_fault mixed_leaf [] (walk_from nothing_held)
+      (option_words o ++ mixed_words) ≡ []
+  mixed_faultless =
+      let w = opened (after_options mixed_leaf.rules o) in
+      options_faultless (codes "IL") mixed_others o plain mixed_words
+      ∙ value_faults_are mixed_leaf mixed_words w mixed_open all
+      ∙ ap (λ kinds. or_else kinds (value_faults mixed_leaf (value_walk mixed_leaf.rules w f)
+      (fp ∷ fu ∷ rp ∷ ru ∷ step ∷ steps))) mixed_first
+      ∙ mixed_names_sound f fp fu rp ru step steps o.log o.report o.encoding o.threads
+
+  mixed_steps_settle : settle_fault mixed_leaf.rules false mixed_end.held ≡ []
+  mixed_steps_settle = ap₂ or_else (few step steps fits) (all_texts (step ∷ steps))
+
+  mixed_level : level_fault mixed_leaf [] nothing_held (option_words o ++ mixed_words) false [] ≡ []
+  mixed_level =
+      ap₂ (low_fault mixed_leaf) mixed_walk mixed_faultless
+      ∙ ap (λ kinds. or_else kinds (or_else (defaults_fault
+      (settled mixed_leaf.rules mixed_end.held).rows mixed_leaf.rules)
+      (check_fault mixed_leaf (finished mixed_leaf.rules mixed_end.held) false))) mixed_steps_settle
+      ∙ mixed_end_sound f fp fu rp ru step steps o.log o.report o.encoding o.threads
+
+  mixed_ask : (program : Text) →
+      pairs_asked (program ∷ codes "IL" ∷ (option_words o ++ mixed_words))
+      ≡ Some (asking_with (is_own_name program) o (interleaved_file f) (record {
+        forward_paired = fp;
+        forward_unpaired =
+            fu;
+        reverse_paired = rp;
+        reverse_unpaired = ru;
+      }) (step ∷ steps))
+  unfolding pairs_asked
+  mixed_ask program =
+      ap (asked_in (is_own_name program)) (mixed_entered program (option_words o ++ mixed_words))
+      ∙ ap (λ (w : Walk). asked_in (is_own_name program)
+          (Some (codes "IL", finished mixed_leaf.rules w.held))) mixed_walk
+      ∙ mixed_found f fp fu rp ru step (is_own_name program) steps o.log o.report o.encoding
+          o.threads plain.threads
+
+pub mixed_pairs_are_asked_for : MixedPairsAreAskedFor
+mixed_pairs_are_asked_for program f o names [] plain are all = absurd (are.some refl)
+mixed_pairs_are_asked_for program f o names (step ∷ steps) plain are all =
+    let words = mixed_words f names.forward_paired names.forward_unpaired names.reverse_paired
+    names.reverse_unpaired o plain step steps are.fit all in
+    record {
+      parse = mixed_parse program (option_words o ++ words)
+          (mixed_level f names.forward_paired names.forward_unpaired names.reverse_paired
+          names.reverse_unpaired o plain step steps are.fit all);
+      ask = mixed_ask f names.forward_paired names.forward_unpaired names.reverse_paired
+          names.reverse_unpaired o plain step steps are.fit all program;
+    }

@@ -1,0 +1,435 @@
+-- What `PE F R FP FU RP RU STEPS..` asks for.
+use Rattle.std.proofs.Common.{◌≡◌, ◌≤◌, ℕ, Bool, false, Option, Some, None, List, [], ◌∷◌, ◌++◌, length, fold, codes, refl, ap, ap₂, sym, ◌∙◌, append-nil, append_assoc, inl}
+use Rattle.std.specs.List.{All}
+use Rattle.clap.specs.Kinds.{or_else}
+use Rattle.clap.specs.Walk.{Text, Row, Walk, value, settled, walk_from, walk, nothing_held, finished, is_pending}
+use Rattle.clap.specs.Faults.{settle_fault, step_fault, walk_fault, defaults_fault, check_fault, level_fault}
+use Rattle.clap.proofs.OnLiterals.{clap_on_literals}
+use Rattle.fq_cli.specs.Requests.{two_files}
+use Rattle.fq_cli.specs.Words.{most, is_own_name, asked_in, asking_in, pairs_asked}
+use Rattle.fq_cli.specs.CommandLines.{IsPlain, FitsIfGiven, Options, OutputNames, option_words, asking_with, ArePlain, PairsAreAskedFor}
+use Rattle.fq_cli.proofs.DecimalLemmas.{decimal_read}
+use Rattle.fq_cli.proofs.PlainWordLemmas.{IsOpen, value_walk, value_faults, values_walked, value_faults_are}
+use Rattle.fq_cli.proofs.OptionLemmas.{pairs_input, pairs_others, pairs_leaf, opened, after_options, options_sound, options_read, options_faultless}
+use Rattle.fq_cli.proofs.CommandLineLemmas.{low_fault, pairs_entered, pairs_parse, not_several, stepping, all_texts, few}
+
+pairs_steps_walked : (rows : List Row) (skip : ℕ) (before steps : List Text) →
+    fold (value_walk pairs_leaf.rules) (stepping 7 rows skip before) steps
+    ≡ stepping 7 rows skip (before ++ steps)
+pairs_steps_walked rows skip before [] = ap (stepping 7 rows skip) (sym (append-nil before))
+pairs_steps_walked rows skip before (step ∷ steps) =
+    pairs_steps_walked rows skip (before ++ step ∷ []) steps
+    ∙ ap (stepping 7 rows skip) (append_assoc before (step ∷ []) steps)
+
+pairs_steps_sound : (rows : List Row) (skip : ℕ) (before steps : List Text) →
+    value_faults pairs_leaf (stepping 7 rows skip before) steps ≡ []
+pairs_steps_sound rows skip before [] = refl
+pairs_steps_sound rows skip before (step ∷ steps) =
+    pairs_steps_sound rows skip (before ++ step ∷ []) steps
+
+module _ (f r fp fu rp ru step : Text) where
+  -- what is held of options and files after the first step
+  abbrev pairs_rows : Options → List Row
+  pairs_rows o =
+      (fold (value_walk pairs_leaf.rules) (opened (after_options pairs_leaf.rules o))
+      (f ∷ r ∷ fp ∷ fu ∷ rp ∷ ru ∷ step ∷ [])).held.rows
+
+  pairs_walked : (a b c : Option Text) (d : Option ℕ) →
+      let o : Options = record { log = a; report = b; encoding = c; threads = d } in
+      fold (value_walk pairs_leaf.rules) (opened (after_options pairs_leaf.rules o))
+      (f ∷ r ∷ fp ∷ fu ∷ rp ∷ ru ∷ step ∷ []) ≡ stepping 7 (pairs_rows o) 0 (step ∷ [])
+  pairs_walked None None None None = refl
+  pairs_walked None None None (Some n) = refl
+  pairs_walked None None (Some z) None = refl
+  pairs_walked None None (Some z) (Some n) = refl
+  pairs_walked None (Some y) None None = refl
+  pairs_walked None (Some y) None (Some n) = refl
+  pairs_walked None (Some y) (Some z) None = refl
+  pairs_walked None (Some y) (Some z) (Some n) = refl
+  pairs_walked (Some x) None None None = refl
+  pairs_walked (Some x) None None (Some n) = refl
+  pairs_walked (Some x) None (Some z) None = refl
+  pairs_walked (Some x) None (Some z) (Some n) = refl
+  pairs_walked (Some x) (Some y) None None = refl
+  pairs_walked (Some x) (Some y) None (Some n) = refl
+  pairs_walked (Some x) (Some y) (Some z) None = refl
+  pairs_walked (Some x) (Some y) (Some z) (Some n) = refl
+
+  pairs_names_sound : (steps : List Text) (a b c : Option Text) (d : Option ℕ) →
+      let o : Options = record { log = a; report = b; encoding = c; threads = d } in
+      value_faults pairs_leaf (value_walk pairs_leaf.rules (opened
+      (after_options pairs_leaf.rules o)) f) (r ∷ fp ∷ fu ∷ rp ∷ ru ∷ step ∷ steps) ≡ []
+  pairs_names_sound steps None None None None =
+      pairs_steps_sound (pairs_rows (record {
+        log = None;
+        report = None;
+        encoding = None;
+        threads =
+            None;
+      })) 0 (step ∷ []) steps
+  pairs_names_sound steps None None None (Some n) =
+      pairs_steps_sound (pairs_rows (record {
+        log = None;
+        report = None;
+        encoding = None;
+        threads =
+            Some n;
+      })) 0 (step ∷ []) steps
+  pairs_names_sound steps None None (Some z) None =
+      pairs_steps_sound (pairs_rows (record {
+        log = None;
+        report = None;
+        encoding =
+            Some z;
+        threads = None;
+      })) 0 (step ∷ []) steps
+  pairs_names_sound steps None None (Some z) (Some n) =
+      pairs_steps_sound (pairs_rows (record {
+        log = None;
+        report = None;
+        encoding =
+            Some z;
+        threads = Some n;
+      })) 0 (step ∷ []) steps
+  pairs_names_sound steps None (Some y) None None =
+      pairs_steps_sound (pairs_rows (record {
+        log = None;
+        report = Some y;
+        encoding =
+            None;
+        threads = None;
+      })) 0 (step ∷ []) steps
+  pairs_names_sound steps None (Some y) None (Some n) =
+      pairs_steps_sound (pairs_rows (record {
+        log = None;
+        report = Some y;
+        encoding =
+            None;
+        threads = Some n;
+      })) 0 (step ∷ []) steps
+  pairs_names_sound steps None (Some y) (Some z) None =
+      pairs_steps_sound (pairs_rows (record {
+        log = None;
+        report = Some y;
+        encoding =
+            Some z;
+        threads = None;
+      })) 0 (step ∷ []) steps
+  pairs_names_sound steps None (Some y) (Some z) (Some n) =
+      pairs_steps_sound (pairs_rows (record {
+        log = None;
+        report = Some y;
+        encoding =
+            Some z;
+        threads = Some n;
+      })) 0 (step ∷ []) steps
+  pairs_names_sound steps (Some x) None None None =
+      pairs_steps_sound (pairs_rows (record {
+        log = Some x;
+        report = None;
+        encoding =
+            None;
+        threads = None;
+      })) 0 (step ∷ []) steps
+  pairs_names_sound steps (Some x) None None (Some n) =
+      pairs_steps_sound (pairs_rows (record {
+        log = Some x;
+        report = None;
+        encoding =
+            None;
+        threads = Some n;
+      })) 0 (step ∷ []) steps
+  pairs_names_sound steps (Some x) None (Some z) None =
+      pairs_steps_sound (pairs_rows (record {
+        log = Some x;
+        report = None;
+        encoding =
+            Some z;
+        threads = None;
+      })) 0 (step ∷ []) steps
+  pairs_names_sound steps (Some x) None (Some z) (Some n) =
+      pairs_steps_sound (pairs_rows (record {
+        log = Some x;
+        report = None;
+        encoding =
+            Some z;
+        threads = Some n;
+      })) 0 (step ∷ []) steps
+  pairs_names_sound steps (Some x) (Some y) None None =
+      pairs_steps_sound (pairs_rows (record {
+        log = Some x;
+        report = Some y;
+        encoding =
+            None;
+        threads = None;
+      })) 0 (step ∷ []) steps
+  pairs_names_sound steps (Some x) (Some y) None (Some n) =
+      pairs_steps_sound (pairs_rows (record {
+        log = Some x;
+        report = Some y;
+        encoding =
+            None;
+        threads = Some n;
+      })) 0 (step ∷ []) steps
+  pairs_names_sound steps (Some x) (Some y) (Some z) None =
+      pairs_steps_sound (pairs_rows (record {
+        log = Some x;
+        report = Some y;
+        encoding =
+            Some z;
+        threads = None;
+      })) 0 (step ∷ []) steps
+  pairs_names_sound steps (Some x) (Some y) (Some z) (Some n) =
+      pairs_steps_sound (pairs_rows (record {
+        log = Some x;
+        report = Some y;
+        encoding =
+            Some z;
+        threads = Some n;
+      })) 0 (step ∷ []) steps
+
+  pairs_end_sound : (steps : List Text) (a b c : Option Text) (d : Option ℕ) →
+      let o : Options = record { log = a; report = b; encoding = c; threads = d } in
+      let end = (stepping 7 (pairs_rows o) 0 (step ∷ steps)).held in
+      or_else (defaults_fault (settled pairs_leaf.rules end).rows pairs_leaf.rules)
+      (check_fault pairs_leaf (finished pairs_leaf.rules end) false) ≡ []
+  unfolding clap_on_literals
+  pairs_end_sound steps None None None None = refl
+  pairs_end_sound steps None None None (Some n) = refl
+  pairs_end_sound steps None None (Some z) None = refl
+  pairs_end_sound steps None None (Some z) (Some n) = refl
+  pairs_end_sound steps None (Some y) None None = refl
+  pairs_end_sound steps None (Some y) None (Some n) = refl
+  pairs_end_sound steps None (Some y) (Some z) None = refl
+  pairs_end_sound steps None (Some y) (Some z) (Some n) = refl
+  pairs_end_sound steps (Some x) None None None = refl
+  pairs_end_sound steps (Some x) None None (Some n) = refl
+  pairs_end_sound steps (Some x) None (Some z) None = refl
+  pairs_end_sound steps (Some x) None (Some z) (Some n) = refl
+  pairs_end_sound steps (Some x) (Some y) None None = refl
+  pairs_end_sound steps (Some x) (Some y) None (Some n) = refl
+  pairs_end_sound steps (Some x) (Some y) (Some z) None = refl
+  pairs_end_sound steps (Some x) (Some y) (Some z) (Some n) = refl
+
+  pairs_found : (own : Bool) (steps : List Text) (a b c : Option Text) (d : Option ℕ) →
+      FitsIfGiven d →
+      let o : Options = record { log = a; report = b; encoding = c; threads = d } in
+      let names : OutputNames = record {
+        forward_paired = fp;
+        forward_unpaired =
+            fu;
+        reverse_paired = rp;
+        reverse_unpaired = ru;
+      } in
+      asked_in own (Some (
+        codes "PE",
+        finished pairs_leaf.rules
+            (stepping 7 (pairs_rows o) 0 (step ∷ steps)).held,
+      ))
+      ≡ Some (asking_with own o (two_files f r) names (step ∷ steps))
+  unfolding clap_on_literals asking_in
+  pairs_found own steps None None None None fits = refl
+  pairs_found own steps None None None (Some n) fits =
+      ap (λ (t : ℕ). Some (asking_with own (record {
+        log = None;
+        report = None;
+        encoding =
+            None;
+        threads = Some t;
+      }) (two_files f r) (record {
+        forward_paired =
+            fp;
+        forward_unpaired = fu;
+        reverse_paired = rp;
+        reverse_unpaired = ru;
+      }) (step ∷ steps)))
+      (decimal_read n fits)
+  pairs_found own steps None None (Some z) None fits = refl
+  pairs_found own steps None None (Some z) (Some n) fits =
+      ap (λ (t : ℕ). Some (asking_with own (record {
+        log = None;
+        report = None;
+        encoding =
+            Some z;
+        threads = Some t;
+      }) (two_files f r) (record {
+        forward_paired =
+            fp;
+        forward_unpaired = fu;
+        reverse_paired = rp;
+        reverse_unpaired = ru;
+      }) (step ∷ steps)))
+      (decimal_read n fits)
+  pairs_found own steps None (Some y) None None fits = refl
+  pairs_found own steps None (Some y) None (Some n) fits =
+      ap (λ (t : ℕ). Some (asking_with own (record {
+        log = None;
+        report = Some y;
+        encoding =
+            None;
+        threads = Some t;
+      }) (two_files f r) (record {
+        forward_paired =
+            fp;
+        forward_unpaired = fu;
+        reverse_paired = rp;
+        reverse_unpaired = ru;
+      }) (step ∷ steps)))
+      (decimal_read n fits)
+  pairs_found own steps None (Some y) (Some z) None fits = refl
+  pairs_found own steps None (Some y) (Some z) (Some n) fits =
+      ap (λ (t : ℕ). Some (asking_with own (record {
+        log = None;
+        report = Some y;
+        encoding =
+            Some z;
+        threads = Some t;
+      }) (two_files f r) (record {
+        forward_paired =
+            fp;
+        forward_unpaired = fu;
+        reverse_paired = rp;
+        reverse_unpaired = ru;
+      }) (step ∷ steps)))
+      (decimal_read n fits)
+  pairs_found own steps (Some x) None None None fits = refl
+  pairs_found own steps (Some x) None None (Some n) fits =
+      ap (λ (t : ℕ). Some (asking_with own (record {
+        log = Some x;
+        report = None;
+        encoding =
+            None;
+        threads = Some t;
+      }) (two_files f r) (record {
+        forward_paired =
+            fp;
+        forward_unpaired = fu;
+        reverse_paired = rp;
+        reverse_unpaired = ru;
+      }) (step ∷ steps)))
+      (decimal_read n fits)
+  pairs_found own steps (Some x) None (Some z) None fits = refl
+  pairs_found own steps (Some x) None (Some z) (Some n) fits =
+      ap (λ (t : ℕ). Some (asking_with own (record {
+        log = Some x;
+        report = None;
+        encoding =
+            Some z;
+        threads = Some t;
+      }) (two_files f r) (record {
+        forward_paired =
+            fp;
+        forward_unpaired = fu;
+        reverse_paired = rp;
+        reverse_unpaired = ru;
+      }) (step ∷ steps)))
+      (decimal_read n fits)
+  pairs_found own steps (Some x) (Some y) None None fits = refl
+  pairs_found own steps (Some x) (Some y) None (Some n) fits =
+      ap (λ (t : ℕ). Some (asking_with own (record {
+        log = Some x;
+        report = Some y;
+        encoding =
+            None;
+        threads = Some t;
+      }) (two_files f r) (record {
+        forward_paired =
+            fp;
+        forward_unpaired = fu;
+        reverse_paired = rp;
+        reverse_unpaired = ru;
+      }) (step ∷ steps)))
+      (decimal_read n fits)
+  pairs_found own steps (Some x) (Some y) (Some z) None fits = refl
+  pairs_found own steps (Some x) (Some y) (Some z) (Some n) fits =
+      ap (λ (t : ℕ). Some (asking_with own (record {
+        log = Some x;
+        report = Some y;
+        encoding =
+            Some z;
+        threads = Some t;
+      }) (two_files f r) (record {
+        forward_paired =
+            fp;
+        forward_unpaired = fu;
+        reverse_paired = rp;
+        reverse_unpaired = ru;
+      }) (step ∷ steps)))
+      (decimal_read n fits)
+
+module _ (f r fp fu rp ru : Text) (o : Options) (plain : ArePlain o) (step : Text) (steps : List Text) (fits : length (step ∷ steps) ≤ most)
+    (all : All IsPlain (f ∷ r ∷ fp ∷ fu ∷ rp ∷ ru ∷ step ∷ steps)) where
+  abbrev pairs_words : List Text
+  pairs_words = f ∷ r ∷ fp ∷ fu ∷ rp ∷ ru ∷ step ∷ steps
+
+  abbrev pairs_end : Walk
+  pairs_end = stepping 7 (pairs_rows f r fp fu rp ru step o) 0 (step ∷ steps)
+
+  pairs_open : IsOpen (opened (after_options pairs_leaf.rules o))
+  pairs_open = record { goes = refl; rests = inl refl }
+
+  pairs_walk : walk pairs_leaf.rules [] nothing_held (option_words o ++ pairs_words) ≡ pairs_end
+  pairs_walk =
+      options_read (codes "PE") pairs_others o plain pairs_words
+      ∙ values_walked pairs_leaf.rules pairs_words (opened (after_options pairs_leaf.rules o))
+      pairs_open all
+      ∙ ap (λ w. fold (value_walk pairs_leaf.rules) w steps)
+      (pairs_walked f r fp fu rp ru step o.log o.report o.encoding o.threads)
+      ∙ pairs_steps_walked (pairs_rows f r fp fu rp ru step o) 0 (step ∷ []) steps
+
+  pairs_first : step_fault pairs_leaf 1 (after_options pairs_leaf.rules o) value ≡ []
+  pairs_first =
+      let h = after_options pairs_leaf.rules o in
+      not_several (is_pending pairs_input h.pending) (settle_fault pairs_leaf.rules false h)
+      ∙ options_sound (codes "PE") pairs_others o plain.threads
+
+  pairs_faultless : walk_fault pairs_leaf [] (walk_from nothing_held)
+      (option_words o ++ pairs_words) ≡ []
+  pairs_faultless =
+      let w = opened (after_options pairs_leaf.rules o) in
+      options_faultless (codes "PE") pairs_others o plain pairs_words
+      ∙ value_faults_are pairs_leaf pairs_words w pairs_open all
+      ∙ ap (λ kinds. or_else kinds (value_faults pairs_leaf (value_walk pairs_leaf.rules w f)
+      (r ∷ fp ∷ fu ∷ rp ∷ ru ∷ step ∷ steps))) pairs_first
+      ∙ pairs_names_sound f r fp fu rp ru step steps o.log o.report o.encoding o.threads
+
+  pairs_steps_settle : settle_fault pairs_leaf.rules false pairs_end.held ≡ []
+  pairs_steps_settle = ap₂ or_else (few step steps fits) (all_texts (step ∷ steps))
+
+  pairs_level : level_fault pairs_leaf [] nothing_held (option_words o ++ pairs_words) false [] ≡ []
+  pairs_level =
+      ap₂ (low_fault pairs_leaf) pairs_walk pairs_faultless
+      ∙ ap (λ kinds. or_else kinds (or_else (defaults_fault
+      (settled pairs_leaf.rules pairs_end.held).rows pairs_leaf.rules)
+      (check_fault pairs_leaf (finished pairs_leaf.rules pairs_end.held) false))) pairs_steps_settle
+      ∙ pairs_end_sound f r fp fu rp ru step steps o.log o.report o.encoding o.threads
+
+  pairs_ask : (program : Text) →
+      pairs_asked (program ∷ codes "PE" ∷ (option_words o ++ pairs_words))
+      ≡ Some (asking_with (is_own_name program) o (two_files f r) (record {
+        forward_paired = fp;
+        forward_unpaired =
+            fu;
+        reverse_paired = rp;
+        reverse_unpaired = ru;
+      }) (step ∷ steps))
+  unfolding pairs_asked
+  pairs_ask program =
+      ap (asked_in (is_own_name program)) (pairs_entered program (option_words o ++ pairs_words))
+      ∙ ap (λ (w : Walk). asked_in (is_own_name program)
+          (Some (codes "PE", finished pairs_leaf.rules w.held))) pairs_walk
+      ∙ pairs_found f r fp fu rp ru step (is_own_name program) steps o.log o.report o.encoding
+          o.threads plain.threads
+
+pub pairs_are_asked_for : PairsAreAskedFor
+pairs_are_asked_for program f r o names [] plain are all = absurd (are.some refl)
+pairs_are_asked_for program f r o names (step ∷ steps) plain are all =
+    let words = pairs_words f r names.forward_paired names.forward_unpaired names.reverse_paired
+    names.reverse_unpaired o plain step steps are.fit all in
+    record {
+      parse = pairs_parse program (option_words o ++ words)
+          (pairs_level f r names.forward_paired names.forward_unpaired names.reverse_paired
+          names.reverse_unpaired o plain step steps are.fit all);
+      ask = pairs_ask f r names.forward_paired names.forward_unpaired names.reverse_paired
+          names.reverse_unpaired o plain step steps are.fit all program;
+    }

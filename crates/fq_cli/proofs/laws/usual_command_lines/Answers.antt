@@ -1,0 +1,9 @@
+use Rattle.fq_cli.proofs.PairsLineLemmas.{pairs_are_asked_for}
+use Rattle.fq_cli.proofs.MixedLineLemmas.{mixed_pairs_are_asked_for}
+use Rattle.fq_cli.proofs.laws.usual_command_lines.Goals as goal
+
+pub returns-clause-pairs : goal.returns-clause-pairs
+returns-clause-pairs c = pairs_are_asked_for
+
+pub returns-clause-mixed : goal.returns-clause-mixed
+returns-clause-mixed c = mixed_pairs_are_asked_for

@@ -1,0 +1,303 @@
+-- What a refusal leaves, in the order in which inputs are opened and outputs are made.
+use Rattle.std.proofs.Common.{◌≡◌, ◌≢◌, ◌⊎◌, ◌∙◌, ℕ, Bool, true, false, IsTrue, IsSome, Option, Some, None, is_some, option_map, Ok, Err, Result, List, [], refl, sym, subst, inl, inr, ⊎_elim}
+use Rattle.std.specs.Prelude.{IfSome, if◌then◌else◌, unwrap_or}
+use Rattle.fq_text.specs.Devices.{OutletState}
+use Rattle.fq_files.specs.Holding.{Holding, Names, KeepsNames, MayRefuse}
+use Rattle.fq_pair.specs.declared.out.Out.{Out}
+use Rattle.fq_pair.specs.declared.out.Out.TheVariants.{ForwardPaired, ForwardUnpaired, ReversePaired, ReverseUnpaired, Log}
+use Rattle.fq_pair.specs.declared.side.Side.{Side}
+use Rattle.fq_pair.specs.declared.side.Side.TheVariants.{Forward, Reverse}
+use Rattle.fq_text.specs.declared.encoding.Encoding.{Encoding}
+use Rattle.fq_trim.specs.declared.step.Step.{Step}
+use Rattle.fq_trim.specs.declared.fault.StepFault.{StepFault}
+use Rattle.fq_trim.specs.Words.{steps_of}
+use Rattle.fq_run_core.specs.Choices.{Choices, checked}
+use Rattle.fq_run_core.specs.declared.settings.BadSetting.{BadSetting}
+use Rattle.fq_cli.specs.Requests.{Asking, InputNames, encoding_of, input_name, is_input, output_name, same_log, same_name, report_is_input}
+use Rattle.fq_files_run.specs.declared.refusal.Refusal.{Refusal}
+use Rattle.fq_files_run.specs.declared.refusal.Refusal.TheVariants as why
+use Rattle.fq_files_run.specs.Refusals.{status_of, IsMemory}
+use Rattle.fq_files_run.specs.Judging.{choices_of, judged, with_steps, with_encoding, settings_of, wrong_among, wrong_with}
+use Rattle.fq_files_run.specs.Trimming.{Opened, IsNoOutput, KeepsUnnamed, AreFed, IsEmptyOutlet}
+use Rattle.fq_files_run.specs.Leaving.{AreThere, RefusalLeaves, ReportLeft, is_late}
+use Rattle.fq_files_run.specs.Opening.{AreApart, IsMade, IsRefusable, IsRefused, IsUnopened, MayLead}
+use Rattle.fq_files_run.proofs.LeavingLemmas.{tells_late}
+
+some_there : (o : Option (List ℕ)) (bytes : List ℕ) → o ≡ Some bytes → IsSome o
+some_there o bytes is = let P : Option (List ℕ) → Type 0 = λ x. IsSome x in subst P (sym is) refl
+
+not_none : (o : Option (List ℕ)) (bytes : List ℕ) → o ≡ Some bytes → o ≡ None → ⊥
+not_none o bytes some none = let bad : Some bytes ≡ None = sym some ∙ none in cc
+
+pub fed_there : (inputs : Opened) (names : InputNames) (old : Holding) → AreFed inputs names old →
+    (side : Side) → old (input_name names side) ≡ None → ⊥
+fed_there inputs names old fed Forward none =
+    not_none (old names.forward) _ fed.forward.bytes_are none
+fed_there inputs names old fed Reverse none =
+    not_none (old names.reverse) _ fed.reverse.bytes_are none
+
+-- the inputs exist in files that keep every name
+pub still_there : (inputs : Opened) (names : InputNames) (old new : Holding) →
+    AreFed inputs names old → KeepsNames old new → AreThere names new
+still_there inputs names old new fed keeps =
+    (keeps names.forward (some_there _ _ fed.forward.bytes_are), keeps names.reverse
+    (some_there _ _ fed.reverse.bytes_are))
+
+-- an output was refused, or the report
+pub refused_late : (a : Asking) (refusal : Refusal) (tells : Bool) (refuses opened : Names)
+    (old new : Holding) (inputs : Opened) → IsTrue (is_late refusal) → status_of refusal ≢ 2 →
+    IsRefusable a (MayLead a.inputs refuses opened) refusal
+    → (IsTrue tells → AreFed inputs a.inputs old) → (IsTrue tells → RefusalLeaves a refusal old new)
+    → (IsTrue tells → (name : List ℕ) → a.report ≡ Some name → IsNoOutput a name →
+        ReportLeft refusal (old name) (new name)) → (IsTrue tells → KeepsUnnamed a old new) →
+        IsUnopened a refusal tells refuses opened old new
+refused_late a refusal tells refuses opened old new inputs behind late refused fed left report_left
+    rest = record {
+  late = late;
+  refused = refused;
+  inputs = λ told. tells_late a.inputs refusal old refuses opened _ _ behind
+      (fed told).forward.bytes_are (fed told).reverse.bytes_are;
+  left = left;
+  report_left = report_left;
+  rest = rest;
+  unopened = λ told side none. absurd (fed_there inputs a.inputs old (fed told) side none);
+}
+
+-- a refusal of the report, or of memory for it, comes after the inputs, and its status is not 2
+pub report_late : (refusal : Refusal) → (refusal ≡ why.Report) ⊎ IsMemory refusal →
+    IsTrue (is_late refusal)
+report_late refusal is = let P : Refusal → Type 0 = λ r. IsTrue (is_late r) in
+    ⊎_elim (λ report. subst P (sym report) refl) (λ memory. subst P (sym memory.1) refl) is
+
+pub late_status : (refusal : Refusal) → IsTrue (is_late refusal) → status_of refusal ≢ 2
+late_status (why.Target out) late e = absurd (cc e)
+late_status why.Report late e = absurd (cc e)
+late_status (why.Memory lacked) late e = absurd (cc e)
+late_status why.Encoding late e = absurd (cc late)
+late_status (why.Step fault) late e = absurd (cc late)
+late_status (why.Setting bad) late e = absurd (cc late)
+late_status (why.SameName out) late e = absurd (cc late)
+late_status (why.Source side) late e = absurd (cc late)
+late_status why.SameReport late e = absurd (cc late)
+
+-- ---- before the first file is opened
+
+-- a refusal that comes before the first file is opened
+is_first : Refusal → Bool
+is_first (why.Source side) = false
+is_first (why.Target out) = false
+is_first why.Report = false
+is_first _ = true
+
+judged_first : (r : Result Choices BadSetting) (report : Option (List ℕ)) (refusal : Refusal) →
+    judged r report ≡ Err refusal → IsTrue (is_first refusal)
+unfolding is_first
+judged_first (Ok c) None refusal e = absurd cc
+judged_first (Ok c) (Some report) refusal e = absurd cc
+judged_first (Err bad) report refusal e = let is : why.Setting bad ≡ refusal = cc in
+    subst (λ (r : Refusal). IsTrue (is_first r)) is refl
+
+steps_first : (a : Asking) (encoding : Encoding) (r : Result (List Step) StepFault)
+    (refusal : Refusal) → with_steps a encoding r ≡ Err refusal → IsTrue (is_first refusal)
+unfolding is_first
+steps_first a encoding (Ok steps) refusal e =
+    judged_first (checked (choices_of a encoding steps)) a.report refusal e
+steps_first a encoding (Err fault) refusal e = let is : why.Step fault ≡ refusal = cc in
+    subst (λ (r : Refusal). IsTrue (is_first r)) is refl
+
+encoding_first : (a : Asking) (o : Option Encoding) (refusal : Refusal) →
+    with_encoding a o ≡ Err refusal → IsTrue (is_first refusal)
+unfolding is_first
+encoding_first a (Some encoding) refusal e = steps_first a encoding (steps_of a.steps) refusal e
+encoding_first a None refusal e = let is : why.Encoding ≡ refusal = cc in
+    subst (λ (r : Refusal). IsTrue (is_first r)) is refl
+
+wrong_first : (a : Asking) (r : Result Choices Refusal) (same : Option Out) (same_report : Bool)
+    (refusal : Refusal) → settings_of a ≡ r → wrong_among r same same_report ≡ Some refusal →
+    IsTrue (is_first refusal)
+unfolding is_first
+wrong_first a (Err bad) same same_report refusal is e = let one : bad ≡ refusal = cc in
+    subst (λ (r : Refusal). IsTrue (is_first r)) one
+    (encoding_first a (encoding_of a.encoding) bad is)
+wrong_first a (Ok c) (Some out) same_report refusal is e = let one : why.SameName out ≡ refusal =
+    cc in subst (λ (r : Refusal). IsTrue (is_first r)) one refl
+wrong_first a (Ok c) None true refusal is e = let one : why.SameReport ≡ refusal = cc in
+    subst (λ (r : Refusal). IsTrue (is_first r)) one refl
+wrong_first a (Ok c) None false refusal is e = absurd (cc e)
+
+first_refused : (a : Asking) (refusal : Refusal) (tells : Bool) (refuses opened : Names)
+    (files : Holding) → IsTrue (is_first refusal) →
+    IsRefused a refusal tells refuses opened files files
+unfolding is_first
+first_refused a why.Encoding tells refuses opened files first =
+    record { refused = tt; inputs = λ told. tt; left = λ told name. refl; report_left =
+    λ told name named free. refl }
+first_refused a (why.Step fault) tells refuses opened files first =
+    record { refused = tt; inputs = λ told. tt; left = λ told name. refl; report_left =
+    λ told name named free. refl }
+first_refused a (why.Setting bad) tells refuses opened files first =
+    record { refused = tt; inputs = λ told. tt; left = λ told name. refl; report_left =
+    λ told name named free. refl }
+first_refused a (why.SameName out) tells refuses opened files first =
+    record { refused = tt; inputs = λ told. tt; left = λ told name. refl; report_left =
+    λ told name named free. refl }
+first_refused a (why.Source side) tells refuses opened files first = absurd (cc first)
+first_refused a (why.Target out) tells refuses opened files first = absurd (cc first)
+first_refused a why.SameReport tells refuses opened files first =
+    record { refused = tt; inputs = λ told. tt; left = λ told name. refl; report_left =
+    λ told name named free. refl }
+first_refused a why.Report tells refuses opened files first = absurd (cc first)
+first_refused a (why.Memory lacked) tells refuses opened files first =
+    record { refused = tt; inputs = λ told. tt; left =
+    λ told out name named. inl refl; report_left = λ told name named free. inl refl }
+
+-- the request was wrong
+pub wrong_refused : (a : Asking) (refusal : Refusal) (tells : Bool) (refuses opened : Names)
+    (files : Holding) → wrong_with a ≡ Some refusal →
+    IsRefused a refusal tells refuses opened files files
+wrong_refused a refusal tells refuses opened files wrong =
+    first_refused a refusal tells refuses opened files
+    (wrong_first a (settings_of a) (same_name a) (report_is_input a) refusal refl wrong)
+
+-- what holds of the name that was refused
+pub refusable_so : (a : Asking) (P Q : List ℕ → Type 0) (refusal : Refusal) →
+    ((name : List ℕ) → P name → Q name) → IsRefusable a P refusal → IsRefusable a Q refusal
+refusable_so a P Q (why.Target out) so refused = (refused.0, refused.1, so refused.0 refused.2)
+refusable_so a P Q why.Report so refused = (refused.0, refused.1, so refused.0 refused.2)
+refusable_so a P Q (why.Memory lacked) so refused = refused
+refusable_so a P Q why.Encoding so refused = refused
+refusable_so a P Q (why.Step fault) so refused = refused
+refusable_so a P Q (why.Setting bad) so refused = refused
+refusable_so a P Q (why.SameName out) so refused = refused
+refusable_so a P Q (why.Source side) so refused = refused
+refusable_so a P Q why.SameReport so refused = refused
+
+-- a name that may be refused after the inputs are opened
+pub refusable_since : (a : Asking) (x y : Names) (before after : Names) (refusal : Refusal) →
+    x ≡ y → ((name : List ℕ) → IsTrue (after name) → MayLead a.inputs y before name)
+    → IsRefusable a (MayRefuse x after) refusal → IsRefusable a (MayLead a.inputs y before) refusal
+refusable_since a x y before after refusal same led refused =
+    refusable_so a (MayRefuse x after) (MayLead a.inputs y before) refusal
+    (λ name. ⊎_elim (λ may. inr (inl (subst (λ (r : Names). IsTrue (r name)) same may)))
+        (λ leads. led name leads)) refused
+
+clash : (b : Bool) → IsTrue b → b ≡ false → ⊥
+clash true is none = absurd (cc none)
+clash false is none = absurd (cc is)
+
+if_none : (b : Bool) (out : Out) (rest : Option Out) → (if b then Some out else rest) ≡ None →
+    (b ≡ false) × (rest ≡ None)
+if_none true out rest none = absurd (cc none)
+if_none false out rest none = (refl, none)
+
+log_differs : (a : Asking) (log : Option (List ℕ)) (name : List ℕ) → same_log a log ≡ None →
+    log ≡ Some name → IsTrue (is_input a.inputs name) → ⊥
+log_differs a None name none named is = absurd (cc named)
+log_differs a (Some log) name none named is =
+    let equal : log ≡ name = cc in
+    clash (is_input a.inputs name) is (subst (λ (n : List ℕ). is_input a.inputs n ≡ false) equal
+        (if_none (is_input a.inputs log) Log None none).0)
+
+-- the name of an output is no input's
+differs_from : (a : Asking) (out : Out) (name : List ℕ) → same_name a ≡ None →
+    output_name a out ≡ Some name → IsTrue (is_input a.inputs name) → ⊥
+differs_from a out name none named is =
+    let one = if_none (is_input a.inputs a.forward_paired) ForwardPaired _ none in
+    let two = if_none (is_input a.inputs a.forward_unpaired) ForwardUnpaired _ one.1 in
+    let three = if_none (is_input a.inputs a.reverse_paired) ReversePaired _ two.1 in
+    let four = if_none (is_input a.inputs a.reverse_unpaired) ReverseUnpaired _ three.1 in
+    at_output out one.0 two.0 three.0 four.0 four.1 named
+  where
+    as_named : (own : List ℕ) → Some own ≡ Some name → is_input a.inputs own ≡ false → ⊥
+    as_named own same free = let equal : own ≡ name = cc in
+        clash (is_input a.inputs name) is (subst (λ (n : List ℕ). is_input a.inputs n ≡ false) equal
+        free)
+
+    at_output : (this : Out) → is_input a.inputs a.forward_paired ≡ false →
+        is_input a.inputs a.forward_unpaired ≡ false → is_input a.inputs a.reverse_paired ≡ false →
+        is_input a.inputs a.reverse_unpaired ≡ false
+        → same_log a a.log ≡ None → output_name a this ≡ Some name → ⊥
+    at_output ForwardPaired one two three four log same = as_named a.forward_paired same one
+    at_output ForwardUnpaired one two three four log same = as_named a.forward_unpaired same two
+    at_output ReversePaired one two three four log same = as_named a.reverse_paired same three
+    at_output ReverseUnpaired one two three four log same = as_named a.reverse_unpaired same four
+    at_output Log one two three four log same = log_differs a a.log name log same is
+
+-- nor is the report's
+report_differs : (a : Asking) (name : List ℕ) → report_is_input a ≡ false → a.report ≡ Some name →
+    IsTrue (is_input a.inputs name) → ⊥
+report_differs a name free named is =
+    let P : Option (List ℕ) → Type 0 = λ o. unwrap_or (option_map (is_input a.inputs) o) false
+        ≡ false in
+    clash (is_input a.inputs name) is (subst P named free)
+
+-- a name that leads to an input once the inputs are opened is no input's, if the request is right
+no_input : (a : Asking) (P : List ℕ → Type 0) (refusal : Refusal) → same_name a ≡ None →
+    report_is_input a ≡ false → IsRefusable a (λ name. IsTrue (is_input a.inputs name) ⊎ P name)
+    refusal → IsRefusable a P refusal
+no_input a P (why.Target out) outputs report refused =
+    (refused.0, refused.1, ⊎_elim (λ is. absurd (differs_from a out refused.0 outputs refused.1 is))
+    (λ other. other) refused.2)
+no_input a P why.Report outputs report refused =
+    (refused.0, refused.1, ⊎_elim (λ is. absurd (report_differs a refused.0 report refused.1 is))
+    (λ other. other) refused.2)
+no_input a P (why.Memory lacked) outputs report refused = refused
+no_input a P why.Encoding outputs report refused = refused
+no_input a P (why.Step fault) outputs report refused = refused
+no_input a P (why.Setting bad) outputs report refused = refused
+no_input a P (why.SameName out) outputs report refused = refused
+no_input a P (why.Source side) outputs report refused = refused
+no_input a P why.SameReport outputs report refused = refused
+
+right_names : (a : Asking) (r : Result Choices Refusal) (same : Option Out) (same_report : Bool) →
+    wrong_among r same same_report ≡ None → (same ≡ None) × (same_report ≡ false)
+right_names a (Err bad) same same_report right = absurd (cc right)
+right_names a (Ok c) (Some out) same_report right = absurd (cc right)
+right_names a (Ok c) None true right = absurd (cc right)
+right_names a (Ok c) None false right = (refl, refl)
+
+-- an output or the report of a right request is refused only under a name that may be refused, or
+-- led to an input before
+pub refusable_right : (a : Asking) (refuses opened : Names) (refusal : Refusal) →
+    wrong_with a ≡ None → IsRefusable a (MayLead a.inputs refuses opened) refusal →
+    IsRefusable a (MayRefuse refuses opened) refusal
+refusable_right a refuses opened refusal right refused =
+    let names = right_names a (settings_of a) (same_name a) (report_is_input a) right in
+    no_input a (MayRefuse refuses opened) refusal names.0 names.1 refused
+
+-- no output leads to an input, and nor does the report
+pub leads_nowhere : (a : Asking) (before after : Names) → after ≡ before → AreApart a before →
+    ((name : List ℕ) → a.report ≡ Some name → before name ≡ false) → (name : List ℕ) →
+    IsMade a name → IsTrue (after name) → ⊥
+leads_nowhere a before after same outputs report name made leads =
+    let led : IsTrue (before name) = subst (λ (names : Names). IsTrue (names name)) same leads in
+    ⊎_elim (λ output. clash (before name) led (outputs output.0 name output.1))
+        (λ named. clash (before name) led (report name named)) made
+
+-- ---- which files exist
+
+pub is_some_map : {X Y : Type 0} (f : X → Y) (o : Option X) → is_some (option_map f o) ≡ is_some o
+is_some_map f None = refl
+is_some_map f (Some x) = refl
+
+pub fresh_map : {X : Type 0} (state : X → OutletState) (o : Option X) →
+    IfSome o (λ x. (state x).failures ≡ 0) →
+    IfSome (option_map state o) (λ outlet. outlet.failures ≡ 0)
+fresh_map state None fresh = fresh
+fresh_map state (Some x) fresh = fresh
+
+pub empty_map : {X : Type 0} (state : X → OutletState) (o : Option X) →
+    IfSome o (λ x. IsTrue (state x).tells) → IfSome o (λ x. (state x).taken ≡ []) →
+    IfSome (option_map state o) IsEmptyOutlet
+empty_map state None tells taken = tells
+empty_map state (Some x) tells taken = record { tells = tells; taken = taken }
+
+pub tells_unmap : {X : Type 0} (state : X → OutletState) (o : Option X) →
+    IfSome (option_map state o) IsEmptyOutlet → IfSome o (λ x. IsTrue (state x).tells)
+tells_unmap state None empty = empty
+tells_unmap state (Some x) empty = empty.tells
+
+pub taken_unmap : {X : Type 0} (state : X → OutletState) (o : Option X) →
+    IfSome (option_map state o) IsEmptyOutlet → IfSome o (λ x. (state x).taken ≡ [])
+taken_unmap state None empty = empty
+taken_unmap state (Some x) empty = empty.taken

@@ -1,0 +1,113 @@
+use Rattle.std.proofs.Common.{◌∙◌, IsSome, IsTrue, Option, List, ℕ, sym, subst}
+use Rattle.std.proofs.lemmas.Result.{err_from_is_err_and}
+use Rattle.fq_files.specs.Holding.{Names}
+use Rattle.fq_cli.specs.Requests.{asking_of}
+use Rattle.fq_files_run.specs.Trimming.{opened_of}
+use Rattle.fq_files_run.proofs.LeavingLemmas.{leaves_since, report_behind, report_refused, unchanged_or_nothing}
+use Rattle.fq_files_run.proofs.MakingLemmas.{along, five_empty, five_held, report_unmade, rest_made, still_empty}
+use Rattle.fq_files_run.proofs.OpeningLemmas.{leads_nowhere, empty_map, fresh_map, is_some_map, late_status, refusable_since, refused_late, report_late, still_there}
+use Rattle.fq_files_run.proofs.opening.open.Goals as goal
+
+pub returns-in_err-outlets-clause-unopened : goal.returns-in_err-outlets-clause-unopened
+returns-in_err-outlets-clause-unopened g c =
+    let p = err_from_is_err_and c.from_residual-in_err-outlets.result
+        c.from_residual-in_err-outlets.ensures.1 in
+    let a = asking_of c.args.request.now in
+    let inputs = c.in_ok-feeds.ensures in
+    let outputs = c.in_err-outlets.ensures in
+    rw (p.1, p.2) (refused_late a _ _ _ _ _ _ (opened_of g.T.In.Feed.state c.in_ok-feeds.feeds)
+        outputs.opened outputs.late
+    (refusable_since a _ _ _ _ _ inputs.refusing inputs.linked outputs.refused) inputs.fed
+    (λ told. leaves_since a _ _ _ _ (inputs.unchanged told)
+        ((outputs.unmade (along _ _ outputs.told (along _ _ inputs.told told))).leaves))
+    (λ told name named free. report_behind _ _ _
+    ((outputs.unmade (along _ _ outputs.told (along _ _ inputs.told told))).rest name free
+        ∙ inputs.unchanged told name))
+    (λ told name free other. (outputs.unmade (along _ _ outputs.told
+        (along _ _ inputs.told told))).rest name free ∙ inputs.unchanged told name))
+
+pub returns-in_err-report-clause-unopened : goal.returns-in_err-report-clause-unopened
+returns-in_err-report-clause-unopened g c =
+    let p = err_from_is_err_and c.from_residual-in_err-report.result
+        c.from_residual-in_err-report.ensures.1 in
+    let a = asking_of c.args.request.now in
+    let inputs = c.in_ok-feeds.ensures in
+    let outputs = c.in_ok-outlets.ensures in
+    let report = c.in_err-report.ensures in
+    let behind = report_late _ report.why in
+    rw (p.1, p.2) (refused_late a _ _ _ _ _ _ (opened_of g.T.In.Feed.state c.in_ok-feeds.feeds)
+        behind (late_status _ behind)
+    (refusable_since a _ _ _ _ _ (outputs.refusing
+        ∙ inputs.refusing) (λ name leads. inputs.linked name (subst (λ (r : Names). IsTrue (r name))
+        outputs.leading leads)) report.refused) inputs.fed
+    (λ told.
+    let told_2 = along _ _ outputs.told (along _ _ inputs.told told) in
+    report_unmade a _ _ _ report.why (still_empty a _ _ (five_empty _ _ _ (outputs.made told_2))
+        (report.left told_2) (report.others told_2)))
+    (λ told name named free.
+    let told_2 = along _ _ outputs.told (along _ _ inputs.told told) in
+    let kept = rest_made _ _ _ _ (outputs.made told_2) name free ∙ inputs.unchanged told name in
+    report_refused _ _ _ report.why (unchanged_or_nothing _ _ _ kept (report.left told_2 name
+        named)))
+    (λ told name free other.
+    let told_2 = along _ _ outputs.told (along _ _ inputs.told told) in
+    report.others told_2 name other ∙ (rest_made _ _ _ _ (outputs.made told_2) name free
+        ∙ inputs.unchanged told name)))
+
+pub returns-in_err-outlets-clause-spared : goal.returns-in_err-outlets-clause-spared
+returns-in_err-outlets-clause-spared g c = λ told name made leads.
+    let told_1 = along _ _ c.in_ok-feeds.ensures.told told in
+    absurd (leads_nowhere (asking_of c.args.request.now) _ _ c.in_err-outlets.ensures.leading
+        (c.input_among_outputs.ensures.none c.in_default.is told_1)
+    (c.input_as_report.ensures.none c.if-input_as_report.false told_1) name made leads)
+
+pub returns-in_err-report-clause-spared : goal.returns-in_err-report-clause-spared
+returns-in_err-report-clause-spared g c = λ told name made leads.
+    let told_1 = along _ _ c.in_ok-feeds.ensures.told told in
+    absurd (leads_nowhere (asking_of c.args.request.now) _ _ (c.in_err-report.ensures.leading
+        ∙ c.in_ok-outlets.ensures.leading) (c.input_among_outputs.ensures.none c.in_default.is
+        told_1)
+    (c.input_as_report.ensures.none c.if-input_as_report.false told_1) name made leads)
+
+pub returns-clause-spared : goal.returns-clause-spared
+returns-clause-spared g c = λ told name made leads.
+    let told_1 = along _ _ c.in_ok-feeds.ensures.told told in
+    absurd (leads_nowhere (asking_of c.args.request.now) _ _ (c.in_ok-report.ensures.leading
+        ∙ c.in_ok-outlets.ensures.leading) (c.input_among_outputs.ensures.none c.in_default.is
+        told_1)
+    (c.input_as_report.ensures.none c.if-input_as_report.false told_1) name made leads)
+
+pub returns-clause-opened : goal.returns-clause-opened
+returns-clause-opened g c =
+    let a = asking_of c.args.request.now in
+    let inputs = c.in_ok-feeds.ensures in
+    let outputs = c.in_ok-outlets.ensures in
+    let report = c.in_ok-report.ensures in
+    record {
+      ready = record {
+        form = inputs.form;
+        fresh = inputs.fresh;
+        healthy = outputs.healthy;
+        log = is_some_map _ _ ∙ outputs.log;
+        empty = λ told. outputs.empty (along _ _ inputs.told told);
+        there = λ told. still_there _ a.inputs _ _ (inputs.fed told) (λ name some.
+            let told_1 = along _ _ inputs.told told in
+            let P : Option (List ℕ) → Type 0 = λ bytes. IsSome bytes in
+            report.held (along _ _ outputs.told told_1) name
+                (outputs.names told_1 name (subst P (sym (inputs.unchanged told name)) some)));
+        held = λ told out name named.
+            let told_2 = along _ _ outputs.told (along _ _ inputs.told told) in
+            report.held told_2 name (five_held _ _ _ (outputs.made told_2) out name named);
+        report_there = is_some_map _ _ ∙ report.there;
+        report_fresh = fresh_map _ _ report.fresh;
+        report_empty = λ told.
+            let told_2 = along _ _ outputs.told (along _ _ inputs.told told) in
+            empty_map _ _ (report.telling told_2) (report.nothing told_2);
+        report_held = λ told. report.made (along _ _ outputs.told (along _ _ inputs.told told));
+      };
+      fed = inputs.fed;
+      rest = λ told name free other.
+          let told_2 = along _ _ outputs.told (along _ _ inputs.told told) in
+          report.others told_2 name other ∙ (rest_made _ _ _ _ (outputs.made told_2) name free
+              ∙ inputs.unchanged told name);
+    }

@@ -1,0 +1,125 @@
+-- The report of a run: what it says, and what its file holds.
+use Rattle.std.specs.Prelude.{◌≡◌, ℕ, Option, Some, None, Ok, List, [], ◌++◌, codes, take}
+use Rattle.fq_text.specs.declared.encoding.Encoding.{Encoding}
+use Rattle.fq_pair.specs.declared.counts.Counts.{Counts}
+use Rattle.fq_pair.specs.Pairing.{Pairs}
+use Rattle.fq_pair.specs.Forms.{Form, TwoTexts, InterleavedText}
+use Rattle.fq_pair.specs.Outputs.{counts_of}
+use Rattle.fq_tally.specs.declared.tally.Tally.{Tally}
+use Rattle.fq_tally.specs.Courses.{alone}
+use Rattle.fq_tally.specs.Tallies.{tally_of}
+use Rattle.fq_run_core.specs.Choices.{Choices}
+use Rattle.fq_run_core.specs.declared.outcome.Outcome.{Outcome}
+use Rattle.fq_run_core.specs.declared.outcome.Outcome.TheVariants.{Input}
+use Rattle.fq_run_core.specs.Endings.{trimmed_outcome}
+use Rattle.fq_files.specs.Holding.{Holding}
+use Rattle.fq_report.specs.Facts as facts
+use Rattle.fq_report.specs.Reports.{text_of}
+use Rattle.fq_cli.specs.Requests.{Asking, InputNames}
+use Rattle.fq_files_run.specs.Faults.{settled, input_words}
+use Rattle.fq_files_run.specs.Judging.{settings_of}
+use Rattle.fq_files_run.specs.Trimming.{pairs_of}
+use Rattle.fq_files_run.specs.declared.account.Account.{Account}
+use Rattle.fq_files_run.specs.declared.reporting.Reported.{Reported}
+use Rattle.fq_files_run.specs.declared.reporting.Reported.TheVariants.{Written, Failed}
+
+-- What the report says.
+
+-- the words of a fault in the inputs, without a line end
+abbrev pub words_when : Outcome → Option (List ℕ)
+words_when (Input fault) = Some (input_words fault)
+words_when _ = None
+
+abbrev pub fault_words : Outcome → Option (List ℕ)
+fault_words outcome = words_when (settled outcome)
+
+-- the names of the inputs, in their form
+abbrev pub inputs_in : Form → List ℕ → List ℕ → facts.InputNames
+inputs_in TwoTexts forward reverse = facts.TwoFiles forward reverse
+inputs_in InterleavedText forward reverse = facts.InterleavedFile forward
+
+abbrev pub report_inputs : InputNames → facts.InputNames
+report_inputs names = inputs_in names.form names.forward names.reverse
+
+-- what was asked for and counted, and how the run ended
+abbrev pub run_facts : Asking → Encoding → Outcome → Counts → Tally → facts.Facts
+run_facts a encoding outcome counts tally = record {
+  program = codes "fq_prog";
+  version = codes "1.2.0";
+  inputs = report_inputs a.inputs;
+  forward_paired = a.forward_paired;
+  forward_unpaired = a.forward_unpaired;
+  reverse_paired = a.reverse_paired;
+  reverse_unpaired = a.reverse_unpaired;
+  log = a.log;
+  encoding = encoding;
+  check_names = a.check_names;
+  steps = a.steps;
+  fault = fault_words outcome;
+  counts = counts;
+  tally = tally;
+}
+
+-- the report of these pairs: their counts, their tally, and the fault after them
+abbrev pub report_of : Asking → Choices → Pairs → List ℕ
+report_of a c all = text_of (run_facts a c.encoding
+    (trimmed_outcome all.fault) (counts_of c.steps all.mates) (tally_of (alone c.steps) all.mates))
+
+-- the report that is defined for the bytes of the inputs and for the request
+pub record IsReport (a : Asking) (old : Holding) (text : List ℕ) : Type 0 where
+  pub choices : Choices
+  pub forward : List ℕ
+  pub reverse : List ℕ
+  pub settings : settings_of a ≡ Ok choices
+  pub forward_is : old a.inputs.forward ≡ Some forward
+  pub reverse_is : old a.inputs.reverse ≡ Some reverse
+  pub text_is : text ≡ report_of a choices (pairs_of choices a.inputs.form forward reverse)
+
+-- What the file of the report holds.
+
+-- the file holds the whole report
+pub record HoldsReport (a : Asking) (old new : Holding) (name : List ℕ) : Type 0 where
+  pub text : List ℕ
+  pub is : IsReport a old text
+  pub held : new name ≡ Some text
+
+-- the file holds a first part of the report
+pub record BeginsReport (a : Asking) (old new : Holding) (name : List ℕ) : Type 0 where
+  pub text : List ℕ
+  pub count : ℕ
+  pub is : IsReport a old text
+  pub held : new name ≡ Some (take count text)
+
+-- what the file holds; it is empty if no report was due or memory was refused
+abbrev pub ReportHeld : Reported → Asking → Holding → Holding → List ℕ → Type 0
+ReportHeld Written a old new name = HoldsReport a old new name
+ReportHeld Failed a old new name = BeginsReport a old new name
+ReportHeld _ a old new name = new name ≡ Some []
+
+-- How the report is written.
+
+-- the text of the report of a run that has a tally
+pub record IsTextOf (a : Asking) (encoding : Encoding)
+    (account : Account) (text : List ℕ) : Type 0 where
+  pub tally : Tally
+  pub tallied : account.tally ≡ Some tally
+  pub text_is : text ≡ text_of (run_facts a encoding account.outcome account.counts tally)
+
+pub record TookWhole (a : Asking) (encoding : Encoding)
+    (account : Account) (old new : List ℕ) : Type 0 where
+  pub text : List ℕ
+  pub is : IsTextOf a encoding account text
+  pub took : new ≡ old ++ text
+
+pub record TookStart (a : Asking) (encoding : Encoding)
+    (account : Account) (old new : List ℕ) : Type 0 where
+  pub text : List ℕ
+  pub count : ℕ
+  pub is : IsTextOf a encoding account text
+  pub took : new ≡ old ++ take count text
+
+-- what an outlet has taken of the report, after what it had taken before
+abbrev pub TookReport : Reported → Asking → Encoding → Account → List ℕ → List ℕ → Type 0
+TookReport Written a encoding account old new = TookWhole a encoding account old new
+TookReport Failed a encoding account old new = TookStart a encoding account old new
+TookReport _ a encoding account old new = new ≡ old

@@ -1,0 +1,134 @@
+//! Opens the inputs, and hands their feeds back after the run.
+
+ghost use Rattle.std.specs.Prelude.{◌≡◌, ◌≢◌, ◌⊎◌, ℕ, List, None, IsTrue, IfOk, IfErr};
+ghost use Rattle.std.specs.Option.{option_map};
+ghost use Rattle.fq_files.specs.Holding.{IsUnchanged, MayRefuse};
+ghost use Rattle.fq_cli.specs.Requests.{asking_of, input_name};
+ghost use Rattle.fq_files_run.specs.Refusals.{status_of, IsMemory};
+ghost use Rattle.fq_files_run.specs.Trimming.{IsFed, opened_of, left_of, form_of, AreFresh, AreFed};
+ghost use Rattle.fq_files_run.specs.Leaving.{AreThere, TellsInputs, is_early};
+ghost use Rattle.fq_files_run.specs.Opening.{MayLead};
+ghost use Rattle.fq_files_run.specs.Completing.{IsFeedCounted, AreFeedsCounted};
+
+use crate::refusal::{Refusal, file_refused};
+use fq_cli::{Inputs, Request};
+use fq_files::Files;
+use fq_pair::Side;
+use fq_text::Feed;
+
+/// The opened inputs.
+#[derive(Drop)]
+pub enum Feeds<F> {
+    /// Forward and reverse reads, each in a feed of its own.
+    Apart { forward: F, reverse: F },
+    /// One interleaved feed: each forward read comes before its reverse mate.
+    Interleaved(F),
+}
+
+/// Opens the inputs in the order of the command line. With `--sync`, each flush of an output will
+/// wait until its bytes are on stable storage.
+pub(crate) fn inputs<T: Files>(
+    request: &Request<'_>,
+    files: &mut T,
+) -> Result<Feeds<T::In>, Refusal>
+    ensures fresh { IfOk result (λ feeds. AreFresh (opened_of T.In.state feeds)) }
+    ensures form { IfOk result (λ feeds. (opened_of T.In.state feeds).form
+        ≡ (asking_of request.now).inputs.form) }
+    ensures fed { IfOk result (λ feeds. IsTrue (T.tells_bytes files.old)
+        → AreFed (opened_of T.In.state feeds)
+        (asking_of request.now).inputs (T.bytes_of files.old)) }
+    ensures unchanged { IsTrue (T.tells_bytes files.old)
+        → IsUnchanged (T.bytes_of files.old) (T.bytes_of files.new) }
+    ensures told { T.tells_bytes files.new ≡ T.tells_bytes files.old }
+    ensures refusing { T.refuses files.new ≡ T.refuses files.old }
+    ensures failed { T.has_failed files.new ≡ T.has_failed files.old }
+    ensures flushed { T.is_unflushed files.new ≡ T.is_unflushed files.old }
+    ensures linked { (name : List ℕ) → IsTrue (T.is_open files.new name)
+        → MayLead (asking_of request.now).inputs
+        (T.refuses files.old) (T.is_open files.old) name }
+    ensures inputs { IfErr result (λ why. IsTrue (T.tells_bytes files.old)
+        → TellsInputs (asking_of request.now).inputs why
+        (T.bytes_of files.old) (T.refuses files.old) (T.is_open files.old)) }
+    ensures early { IfErr result (λ why. IsTrue (is_early why)) }
+    ensures late { IfErr result (λ why. status_of why ≢ 2) }
+{
+    let feeds = match request.inputs {
+        Inputs::Apart { .. } => {
+            let forward = input(request, files, Side::Forward)?;
+            let reverse = input(request, files, Side::Reverse)?;
+            Feeds::Apart { forward, reverse }
+        }
+        Inputs::Interleaved(_) => Feeds::Interleaved(input(request, files, Side::Forward)?),
+    };
+    if request.sync {
+        files.sync_always();
+    }
+    Ok(feeds)
+}
+
+// Opens the input of a side.
+fn input<T: Files>(request: &Request<'_>, files: &mut T, side: Side) -> Result<T::In, Refusal>
+    ensures fresh { IfOk result (λ feed. (T.In.state feed).failures ≡ 0) }
+    ensures fed { IfOk result (λ feed. IsTrue (T.tells_bytes files.old)
+        → IsFed (T.In.state feed).tells (T.In.state feed).to_come
+        (T.bytes_of files.old (input_name (asking_of request.now).inputs side))) }
+    ensures unchanged { IsTrue (T.tells_bytes files.old)
+        → IsUnchanged (T.bytes_of files.old) (T.bytes_of files.new) }
+    ensures told { T.tells_bytes files.new ≡ T.tells_bytes files.old }
+    ensures refusing { T.refuses files.new ≡ T.refuses files.old }
+    ensures failed { T.has_failed files.new ≡ T.has_failed files.old }
+    ensures flushed { T.is_unflushed files.new ≡ T.is_unflushed files.old }
+    ensures linked { (other : List ℕ) → other ≢ input_name (asking_of request.now).inputs side
+        → IsTrue (T.is_open files.new other)
+        → MayRefuse (T.refuses files.old) (T.is_open files.old) other }
+    ensures missing { IfErr result (λ why. IsMemory why
+        ⊎ ((why ≡ Refusal.Source side) × (IsTrue (T.tells_bytes files.old)
+        → (T.bytes_of files.old (input_name (asking_of request.now).inputs side) ≡ None)
+        ⊎ IsTrue (T.is_open files.old (input_name (asking_of request.now).inputs side))))) }
+    ensures early { IfErr result (λ why. IsTrue (is_early why)) }
+    ensures late { IfErr result (λ why. status_of why ≢ 2) }
+{
+    files
+        .source(request.input_name(side))
+        .map_err(|fault| file_refused(fault, Refusal::Source(side)))
+}
+
+/// Hands the feeds back to their files, which count the failed ones. A feed that was lost with its
+/// thread counts as not failed.
+pub fn inputs_done<T: Files>(request: &Request<'_>, files: &mut T, feeds: Feeds<Option<T::In>>)
+    requires there { IsTrue (T.tells_bytes files.old)
+        → AreThere (asking_of request.now).inputs (T.bytes_of files.old) }
+    requires form { form_of feeds ≡ (asking_of request.now).inputs.form }
+    ensures unchanged { IsTrue (T.tells_bytes files.old)
+        → IsUnchanged (T.bytes_of files.old) (T.bytes_of files.new) }
+    ensures told { T.tells_bytes files.new ≡ T.tells_bytes files.old }
+    ensures leading { T.is_open files.new ≡ T.is_open files.old }
+    ensures counted { AreFeedsCounted (asking_of request.now).inputs
+        (left_of T.In.state feeds) (T.has_failed files.old) (T.has_failed files.new) }
+    ensures flushed { T.is_unflushed files.new ≡ T.is_unflushed files.old }
+{
+    match feeds {
+        Feeds::Apart { forward, reverse } => {
+            input_done(request, files, Side::Forward, forward);
+            input_done(request, files, Side::Reverse, reverse);
+        }
+        Feeds::Interleaved(both) => input_done(request, files, Side::Forward, both),
+    }
+}
+
+// Hands the feed of a side back, if the run returned it.
+fn input_done<T: Files>(request: &Request<'_>, files: &mut T, side: Side, feed: Option<T::In>)
+    requires { IsTrue (T.tells_bytes files.old)
+        → AreThere (asking_of request.now).inputs (T.bytes_of files.old) }
+    ensures unchanged { IsTrue (T.tells_bytes files.old)
+        → IsUnchanged (T.bytes_of files.old) (T.bytes_of files.new) }
+    ensures told { T.tells_bytes files.new ≡ T.tells_bytes files.old }
+    ensures leading { T.is_open files.new ≡ T.is_open files.old }
+    ensures counted { IsFeedCounted (input_name (asking_of request.now).inputs side)
+        (option_map T.In.state feed) (T.has_failed files.old) (T.has_failed files.new) }
+    ensures flushed { T.is_unflushed files.new ≡ T.is_unflushed files.old }
+{
+    if let Some(feed) = feed {
+        files.source_done(request.input_name(side), feed);
+    }
+}

@@ -1,0 +1,99 @@
+//! Opens the files of a run.
+
+ghost use Rattle.std.specs.Prelude.{◌≡◌, ℕ, List, false, Some, None, IsTrue, IsErr, IfSome, IfOk, IfErr};
+ghost use Rattle.std.specs.Option.{option_map};
+ghost use Rattle.fq_run_core.specs.Devices.{outlet_states};
+ghost use Rattle.fq_cli.specs.Requests.{asking_of};
+ghost use Rattle.fq_files_run.specs.Trimming.{opened_of};
+ghost use Rattle.fq_files_run.specs.Opening.{AreApart, AreOpened, IsRefusable, IsUnopened, SparesInputs};
+
+use crate::feeds::{Feeds, inputs};
+use crate::outputs::outputs;
+use crate::refusal::Refusal;
+use crate::reporting::report_target;
+use fq_cli::Request;
+use fq_files::Files;
+use fq_pair::Out;
+use fq_run_core::Outlets;
+
+/// The opened files of a run: the inputs, the outputs, and the report if one was asked for.
+#[derive(Drop)]
+pub struct Devices<F, O> {
+    pub feeds: Feeds<F>,
+    pub outlets: Outlets<O>,
+    pub report: Option<O>,
+}
+
+/// Opens the inputs, then makes the outputs, and last the report. An output or report that leads to
+/// an input is refused before any is made.
+pub fn open<T: Files>(
+    request: &Request<'_>,
+    files: &mut T,
+) -> Result<Devices<T::In, T::Target>, Refusal>
+    ensures opened { IfOk result (λ devices. AreOpened (asking_of request.now)
+        (T.tells_bytes files.old) (T.bytes_of files.old) (T.bytes_of files.new)
+        (opened_of T.In.state devices.feeds)
+        (outlet_states T.Target.state devices.outlets) (option_map T.Target.state devices.report)) }
+    ensures unopened { IfErr result (λ why.
+        IsUnopened (asking_of request.now) why
+        (T.tells_bytes files.old) (T.refuses files.old) (T.is_open files.old)
+        (T.bytes_of files.old) (T.bytes_of files.new)) }
+    ensures spared { IsTrue (T.tells_bytes files.old)
+        → SparesInputs (asking_of request.now) (T.is_open files.new)
+        (IsErr result) (T.bytes_of files.old) (T.bytes_of files.new) }
+    ensures told { T.tells_bytes files.new ≡ T.tells_bytes files.old }
+    ensures failed { T.has_failed files.new ≡ T.has_failed files.old }
+    ensures flushed { T.is_unflushed files.new ≡ T.is_unflushed files.old }
+{
+    let feeds = inputs(request, files)?;
+    if let Some(out) = input_among_outputs(request, files) {
+        return Err(Refusal::Target(out));
+    }
+    if input_as_report(request, files) {
+        return Err(Refusal::Report);
+    }
+    let outlets = outputs(request, files)?;
+    let report = report_target(request, files)?;
+    Ok(Devices {
+        feeds,
+        outlets,
+        report,
+    })
+}
+
+// Returns the first output that leads to an input.
+fn input_among_outputs<T: Files>(request: &Request<'_>, files: &T) -> Option<Out>
+    ensures none { result ≡ None → IsTrue (T.tells_bytes files.now)
+        → AreApart (asking_of request.now) (T.is_open files.now) }
+    ensures refused { IfSome result (λ out. IsRefusable (asking_of request.now)
+        (λ name. IsTrue (T.is_open files.now name)) (Refusal.Target out)) }
+{
+    if files.leads_to_input(request.forward_paired) {
+        return Some(Out::ForwardPaired);
+    }
+    if files.leads_to_input(request.forward_unpaired) {
+        return Some(Out::ForwardUnpaired);
+    }
+    if files.leads_to_input(request.reverse_paired) {
+        return Some(Out::ReversePaired);
+    }
+    if files.leads_to_input(request.reverse_unpaired) {
+        return Some(Out::ReverseUnpaired);
+    }
+    match request.log {
+        Some(log) if files.leads_to_input(log) => Some(Out::Log),
+        _ => None,
+    }
+}
+
+// Whether the report leads to an input.
+fn input_as_report<T: Files>(request: &Request<'_>, files: &T) -> bool
+    ensures none { result ≡ false → IsTrue (T.tells_bytes files.now) → (name : List ℕ)
+        → (asking_of request.now).report ≡ Some name → T.is_open files.now name ≡ false }
+    ensures refused { IsTrue result → IsRefusable (asking_of request.now)
+        (λ name. IsTrue (T.is_open files.now name)) Refusal.Report }
+{
+    request
+        .report
+        .is_some_and(|report| files.leads_to_input(report))
+}

@@ -1,0 +1,162 @@
+//! Makes the files of the outputs, and hands their outlets back after the run.
+
+ghost use Rattle.std.specs.Prelude.{◌≡◌, ◌≢◌, ◌⊎◌, [], suc, IsTrue, IsSome, IfOk, IfErr, OnOk, is_some};
+ghost use Rattle.fq_files.specs.Holding.{Holding, KeepsNames, MayRefuse};
+ghost use Rattle.fq_run_core.specs.Devices.{OutletStates, outlet_at, outlet_states, place, AreHealthy, AreFlushed};
+ghost use Rattle.fq_cli.specs.Requests.{asking_of, output_name};
+ghost use Rattle.fq_files_run.specs.declared.refusal.Refusal.{Refusal as Refused};
+ghost use Rattle.fq_files_run.specs.Refusals.{status_of, IsMemory};
+ghost use Rattle.fq_files_run.specs.Trimming.{AreHeld, AreEmpty};
+ghost use Rattle.fq_files_run.specs.Leaving.{is_late};
+ghost use Rattle.fq_files_run.specs.Making.{Made, Unmade, Stored};
+ghost use Rattle.fq_files_run.specs.Opening.{IsRefusable};
+ghost use Rattle.fq_files_run.specs.Completing.{Failed, AreCounted};
+
+use crate::refusal::{Refusal, file_refused};
+use fq_cli::Request;
+use fq_files::Files;
+use fq_pair::Out;
+use fq_run_core::Outlets;
+use fq_text::Outlet;
+
+/// Makes each output, empty, in the order of [`Out`].
+pub(crate) fn outputs<T: Files>(
+    request: &Request<'_>,
+    files: &mut T,
+) -> Result<Outlets<T::Target>, Refusal>
+    ensures healthy { IfOk result (λ outlets. AreHealthy (outlet_states T.Target.state outlets)) }
+    ensures empty { IfOk result (λ outlets. IsTrue (T.tells_bytes files.old)
+        → AreEmpty (outlet_states T.Target.state outlets)) }
+    ensures log { IfOk result (λ outlets. is_some outlets.log
+        ≡ is_some (asking_of request.now).log) }
+    ensures made { OnOk result (Made (asking_of request.now)
+        (T.bytes_of files.old) 5 (T.tells_bytes files.new) (T.bytes_of files.new)) }
+    ensures unmade { IfErr result (λ why. Unmade (asking_of request.now)
+        why (T.bytes_of files.old) (T.tells_bytes files.new) (T.bytes_of files.new)) }
+    ensures told { T.tells_bytes files.new ≡ T.tells_bytes files.old }
+    ensures names { IsTrue (T.tells_bytes files.old)
+        → KeepsNames (T.bytes_of files.old) (T.bytes_of files.new) }
+    ensures refused { IfErr result (λ why. IsRefusable (asking_of request.now)
+        (MayRefuse (T.refuses files.old) (T.is_open files.old)) why) }
+    ensures refusing { T.refuses files.new ≡ T.refuses files.old }
+    ensures leading { T.is_open files.new ≡ T.is_open files.old }
+    ensures failed { T.has_failed files.new ≡ T.has_failed files.old }
+    ensures flushed { T.is_unflushed files.new ≡ T.is_unflushed files.old }
+    ensures opened { IfErr result (λ why. IsTrue (is_late why)) }
+    ensures late { IfErr result (λ why. status_of why ≢ 2) }
+{
+    let forward_paired = output(request, files, Out::ForwardPaired)?;
+    let forward_unpaired = output(request, files, Out::ForwardUnpaired)?;
+    let reverse_paired = output(request, files, Out::ReversePaired)?;
+    let reverse_unpaired = output(request, files, Out::ReverseUnpaired)?;
+    let log = match request.log {
+        Some(_) => Some(output(request, files, Out::Log)?),
+        None => None,
+    };
+    Ok(Outlets {
+        forward_paired,
+        forward_unpaired,
+        reverse_paired,
+        reverse_unpaired,
+        log,
+    })
+}
+
+// Makes one output that was asked for, empty. The outputs before it have been made.
+fn output<T: Files>(request: &Request<'_>, files: &mut T, out: Out) -> Result<T::Target, Refusal>
+    requires { IsSome (output_name (asking_of request.now) out) }
+    ensures fresh { IfOk result (λ target. (T.Target.state target).failures ≡ 0) }
+    ensures telling { IfOk result (λ target. IsTrue (T.tells_bytes files.old)
+        → IsTrue (T.Target.state target).tells) }
+    ensures nothing { IfOk result (λ target. IsTrue (T.tells_bytes files.old)
+        → (T.Target.state target).taken ≡ []) }
+    ensures made { OnOk result ((start : Holding) → Made (asking_of request.now)
+        start (place out) (T.tells_bytes files.old) (T.bytes_of files.old)
+        → Made (asking_of request.now) start
+        (suc (place out)) (T.tells_bytes files.new) (T.bytes_of files.new)) }
+    ensures unmade { IfErr result (λ why. (start : Holding) → Made (asking_of request.now)
+        start (place out) (T.tells_bytes files.old) (T.bytes_of files.old)
+        → Unmade (asking_of request.now) why
+        start (T.tells_bytes files.new) (T.bytes_of files.new)) }
+    ensures why { IfErr result (λ why. (why ≡ Refused.Target out) ⊎ IsMemory why) }
+    ensures opened { IfErr result (λ why. IsTrue (is_late why)) }
+    ensures told { T.tells_bytes files.new ≡ T.tells_bytes files.old }
+    ensures names { IsTrue (T.tells_bytes files.old)
+        → KeepsNames (T.bytes_of files.old) (T.bytes_of files.new) }
+    ensures refused { IfErr result (λ why. IsRefusable (asking_of request.now)
+        (MayRefuse (T.refuses files.old) (T.is_open files.old)) why) }
+    ensures refusing { T.refuses files.new ≡ T.refuses files.old }
+    ensures leading { T.is_open files.new ≡ T.is_open files.old }
+    ensures failed { T.has_failed files.new ≡ T.has_failed files.old }
+    ensures flushed { T.is_unflushed files.new ≡ T.is_unflushed files.old }
+{
+    let Some(name) = request.output_name(out) else {
+        unreachable!()
+    };
+    files
+        .target(name)
+        .map_err(|fault| file_refused(fault, Refusal::Target(out)))
+}
+
+/// Hands each outlet back: its file then holds what the outlet has taken.
+pub fn store<T: Files>(request: &Request<'_>, files: &mut T, outlets: Outlets<T::Target>)
+    requires { IsTrue (T.tells_bytes files.old)
+        → AreHeld (asking_of request.now) (T.bytes_of files.old) }
+    ensures stored { Stored (asking_of request.now)
+        (T.bytes_of files.old) (outlet_states T.Target.state outlets) 5
+        (T.tells_bytes files.new) (T.bytes_of files.new) }
+    ensures names { IsTrue (T.tells_bytes files.old)
+        → KeepsNames (T.bytes_of files.old) (T.bytes_of files.new) }
+    ensures told { T.tells_bytes files.new ≡ T.tells_bytes files.old }
+    ensures leading { T.is_open files.new ≡ T.is_open files.old }
+    ensures counted { AreCounted (asking_of request.now)
+        (outlet_states T.Target.state outlets) 5 (T.has_failed files.old) (T.has_failed files.new) }
+    ensures flushed { AreFlushed (outlet_states T.Target.state outlets)
+        → T.is_unflushed files.new ≡ T.is_unflushed files.old }
+{
+    let Outlets {
+        forward_paired,
+        forward_unpaired,
+        reverse_paired,
+        reverse_unpaired,
+        log,
+    } = outlets;
+    store_one(request, files, Out::ForwardPaired, forward_paired);
+    store_one(request, files, Out::ForwardUnpaired, forward_unpaired);
+    store_one(request, files, Out::ReversePaired, reverse_paired);
+    store_one(request, files, Out::ReverseUnpaired, reverse_unpaired);
+    if let (Some(_), Some(log)) = (request.log, log) {
+        store_one(request, files, Out::Log, log);
+    }
+}
+
+// Hands one outlet back. Those of the outputs before it have been handed back.
+fn store_one<T: Files>(request: &Request<'_>, files: &mut T, out: Out, outlet: T::Target)
+    requires wanted { IsSome (output_name (asking_of request.now) out) }
+    requires held { IsTrue (T.tells_bytes files.old)
+        → AreHeld (asking_of request.now) (T.bytes_of files.old) }
+    ensures held { IsTrue (T.tells_bytes files.new)
+        → AreHeld (asking_of request.now) (T.bytes_of files.new) }
+    ensures stored { (start : Holding) (states : OutletStates)
+        → outlet_at out states ≡ Some (T.Target.state outlet)
+        → Stored (asking_of request.now) start
+        states (place out) (T.tells_bytes files.old) (T.bytes_of files.old)
+        → Stored (asking_of request.now) start
+        states (suc (place out)) (T.tells_bytes files.new) (T.bytes_of files.new) }
+    ensures names { IsTrue (T.tells_bytes files.old)
+        → KeepsNames (T.bytes_of files.old) (T.bytes_of files.new) }
+    ensures told { T.tells_bytes files.new ≡ T.tells_bytes files.old }
+    ensures leading { T.is_open files.new ≡ T.is_open files.old }
+    ensures counted { (start : Failed) (states : OutletStates)
+        → outlet_at out states ≡ Some (T.Target.state outlet)
+        → AreCounted (asking_of request.now) states (place out) start (T.has_failed files.old)
+        → AreCounted (asking_of request.now)
+        states (suc (place out)) start (T.has_failed files.new) }
+    ensures flushed { IsTrue (T.Target.state outlet).is_flushed
+        → T.is_unflushed files.new ≡ T.is_unflushed files.old }
+{
+    let Some(name) = request.output_name(out) else {
+        unreachable!()
+    };
+    files.done(name, outlet);
+}

@@ -1,0 +1,191 @@
+-- The pairs of texts that came only in part.
+use Rattle.std.proofs.Common.{◌≡◌, ℕ, suc, ◌+◌, ◌≤◌, Bool, List, [], ◌∷◌, ◌++◌, length, refl, ap, sym, subst, ◌∙◌, arith, append_assoc}
+use Rattle.std.proofs.lemmas.List.{append_cancel_right}
+use Rattle.fq_text.specs.declared.encoding.Encoding.{Encoding}
+use Rattle.fq_text.specs.Grammar.{Front, End, Faulty, Found, front}
+use Rattle.fq_pair.specs.Mates.{Mates}
+use Rattle.fq_pair.specs.Pairing.{Pairs, PairFront, Ended, Stopped, Met, meeting, pair_front}
+use Rattle.fq_pair.specs.Interleaved.{side_after, interleaved_front}
+use Rattle.fq_pair.specs.Forms.{TwoTexts, InterleavedText}
+use Rattle.fq_pair.specs.Walks.{Leads}
+use Rattle.fq_pair.proofs.PairLaws.{records_of, pairs_of-met, pairs_of-stopped, pairs_of-ended}
+use Rattle.fq_pair.proofs.InterleavedLaws.{interleaved_pairs_of-met, interleaved_pairs_of-stopped, interleaved_pairs_of-ended}
+use Rattle.fq_run_core.proofs.FormLemmas.{pairs_at}
+use Rattle.fq_pair.proofs.TakenLemmas.{front_takes, front_fewer, one_record}
+use Rattle.fq_run_core.proofs.FrontLemmas.{met_more, interleaved_met_more, meets_interleaved}
+
+module _ (check : Bool) (e : Encoding) where
+  abbrev pub mates_at : ℕ → List (List ℕ) → List (List ℕ) → List Mates
+  mates_at n forward reverse = (pairs_at TwoTexts check e n forward reverse).mates
+
+  pub no_forward : (n : ℕ) (reverse : List (List ℕ)) → mates_at n [] reverse ≡ []
+  no_forward n reverse = by_front (front e reverse) refl
+    where
+      by_front : (x : Front) → front e reverse ≡ x → mates_at n [] reverse ≡ []
+      by_front End is =
+          ap (λ (p : Pairs). p.mates) (pairs_of-ended check e n [] reverse (ap
+          (meeting check (suc n) End) is))
+      by_front (Faulty f) is =
+          ap (λ (p : Pairs). p.mates) (pairs_of-stopped check e n [] reverse _ (ap
+          (meeting check (suc n) End) is))
+      by_front (Found r rs) is = ap (λ (p : Pairs). p.mates)
+          (pairs_of-stopped check e n [] reverse _ (ap (meeting check (suc n) End) is))
+
+  pub no_reverse : (n : ℕ) (forward : List (List ℕ)) → mates_at n forward [] ≡ []
+  no_reverse n forward = by_front (front e forward) refl
+    where
+      by_front : (x : Front) → front e forward ≡ x → mates_at n forward [] ≡ []
+      by_front End is =
+          ap (λ (p : Pairs). p.mates) (pairs_of-ended check e n forward [] (ap
+          (λ x. meeting check (suc n) x End) is))
+      by_front (Faulty f) is =
+          ap (λ (p : Pairs). p.mates) (pairs_of-stopped check e n forward [] _ (ap
+          (λ x. meeting check (suc n) x End) is))
+      by_front (Found r rs) is = ap (λ (p : Pairs). p.mates)
+          (pairs_of-stopped check e n forward [] _ (ap (λ x. meeting check (suc n) x End) is))
+
+  module _ (more more' : List (List ℕ)) where
+    -- what is known of the lines that are left
+    abbrev LeavesNone : ℕ → List (List ℕ) → List (List ℕ) → Type 0
+    LeavesNone n forward reverse = (fs rs : List (List ℕ)) → fs ++ more ≡ forward →
+        rs ++ more' ≡ reverse → length (mates_at n fs rs) ≤ 0
+
+    -- one more pair, if it comes first
+    one_more : (n : ℕ) (m : Mates) (ms : List Mates)
+        (forward reverse forward' reverse' gs qs : List (List ℕ)) →
+        pair_front check e n (forward ++ more) (reverse ++ more') ≡ Met m gs qs →
+        Leads TwoTexts check e (suc n) ms gs qs forward' reverse' →
+            LeavesNone (n + length (m ∷ ms)) forward' reverse' →
+        ((fs rs : List (List ℕ)) → Leads TwoTexts check e (suc n) ms (fs ++ more) (rs ++ more')
+            forward' reverse' → LeavesNone (suc n + length ms) forward' reverse' →
+            length (mates_at (suc n) fs rs) ≤ length ms) →
+        (x : PairFront) → pair_front check e n forward reverse ≡ x →
+            length (mates_at n forward reverse) ≤ length (m ∷ ms)
+    one_more n m ms forward reverse forward' reverse' gs qs first p none then Ended is =
+        let h = ap (λ (q : Pairs). length q.mates) (pairs_of-ended check e n forward reverse is) in
+            omega arith
+    one_more n m ms forward reverse forward' reverse' gs qs first p none then (Stopped w) is =
+        let h = ap (λ (q : Pairs). length q.mates)
+            (pairs_of-stopped check e n forward reverse w is) in omega arith
+    one_more n m ms forward reverse forward' reverse' gs qs first p none then (Met x fs rs) is =
+        let longer = met_more check e n x forward reverse fs rs more more' is in
+        let both : Met x (fs ++ more) (rs ++ more') ≡ Met m gs qs = sym longer ∙ first in
+        let f : gs ≡ fs ++ more = cc in let r : qs ≡ rs ++ more' = cc in
+        let F : List (List ℕ) → Type 0 = λ ls. Leads TwoTexts check e (suc n) ms ls qs forward'
+            reverse' in
+        let R : List (List ℕ) → Type 0 = λ ls. Leads TwoTexts check e (suc n) ms (fs ++ more) ls
+            forward' reverse' in
+        let N : ℕ → Type 0 = λ k. LeavesNone k forward' reverse' in
+        let number : n + suc (length ms) ≡ suc n + length ms = omega arith in
+        let rest = then fs rs (subst R r (subst F f p)) (subst N number none) in
+        let h = ap (λ (q : Pairs). length q.mates)
+            (pairs_of-met check e n forward reverse x fs rs is) in
+        omega arith
+
+    -- the first lines of two texts have at most as many pairs as `ms`, if `ms` leads to lines that
+    -- begin with no pair
+    pub at_most : (n : ℕ) (ms : List Mates) (forward reverse forward' reverse' : List (List ℕ)) →
+        Leads TwoTexts check e n ms (forward ++ more) (reverse ++ more') forward' reverse' →
+        LeavesNone (n + length ms) forward' reverse' →
+            length (mates_at n forward reverse) ≤ length ms
+    at_most n [] forward reverse forward' reverse' p none =
+        let same : n + 0 ≡ n = omega arith in
+        let P : ℕ → Type 0 = λ k. length (mates_at k forward reverse) ≤ 0 in
+        subst P same (none forward reverse p.0 p.1)
+    at_most n (m ∷ ms) forward reverse forward' reverse' p none =
+        one_more n m ms forward reverse forward' reverse' p.0 p.1 p.2 p.3 none
+            (λ fs rs. at_most (suc n) ms fs rs forward' reverse')
+            (pair_front check e n forward reverse) refl
+
+-- An interleaved text.
+module _ (check : Bool) (e : Encoding) where
+  abbrev pub interleaved_at : ℕ → List (List ℕ) → List Mates
+  interleaved_at n ls = (pairs_at InterleavedText check e n ls ls).mates
+
+  pub no_interleaved : (n : ℕ) → interleaved_at n [] ≡ []
+  no_interleaved n = ap (λ (p : Pairs). p.mates) (interleaved_pairs_of-ended check e n [] refl)
+
+  module _ (more : List (List ℕ)) where
+    abbrev InterleavedNone : ℕ → List (List ℕ) → Type 0
+    InterleavedNone n ls = (fs : List (List ℕ)) → fs ++ more ≡ ls → length (interleaved_at n fs) ≤ 0
+
+    interleaved_one_more : (n : ℕ) (m : Mates) (ms : List Mates)
+        (ls same ls' same' gs qs : List (List ℕ)) →
+        interleaved_front check e n (ls ++ more) ≡ Met m gs qs →
+        Leads InterleavedText check e (suc n) ms gs qs ls' same' →
+            InterleavedNone (n + length (m ∷ ms)) ls' →
+        ((fs rs : List (List ℕ)) → Leads InterleavedText check e (suc n) ms (fs ++ more) rs ls'
+            same' → InterleavedNone (suc n + length ms) ls' →
+            length (interleaved_at (suc n) fs) ≤ length ms) →
+        (x : PairFront) → interleaved_front check e n ls ≡ x →
+            length (interleaved_at n ls) ≤ length (m ∷ ms)
+    interleaved_one_more n m ms ls same ls' same' gs qs first p none then Ended is =
+        let h = ap (λ (q : Pairs). length q.mates) (interleaved_pairs_of-ended check e n ls is) in
+            omega arith
+    interleaved_one_more n m ms ls same ls' same' gs qs first p none then (Stopped w) is =
+        let h = ap (λ (q : Pairs). length q.mates)
+            (interleaved_pairs_of-stopped check e n ls w is) in omega arith
+    interleaved_one_more n m ms ls same ls' same' gs qs first p none then (Met x fs rs) is =
+        let longer = interleaved_met_more check e n x ls fs rs more is in
+        let both : Met x (fs ++ more) (rs ++ more) ≡ Met m gs qs = sym longer ∙ first in
+        let f : gs ≡ fs ++ more = cc in
+        let F : List (List ℕ) → Type 0 = λ xs. Leads InterleavedText check e (suc n) ms xs qs ls'
+            same' in
+        let N : ℕ → Type 0 = λ k. InterleavedNone k ls' in
+        let number : n + suc (length ms) ≡ suc n + length ms = omega arith in
+        let rest = then fs qs (subst F f p) (subst N number none) in
+        let h = ap (λ (q : Pairs). length q.mates)
+            (interleaved_pairs_of-met check e n x ls fs rs is) in
+        omega arith
+
+    pub interleaved_at_most : (n : ℕ) (ms : List Mates) (ls same ls' same' : List (List ℕ)) →
+        Leads InterleavedText check e n ms (ls ++ more) same ls' same' →
+        InterleavedNone (n + length ms) ls' → length (interleaved_at n ls) ≤ length ms
+    interleaved_at_most n [] ls same ls' same' p none =
+        let zero_more : n + 0 ≡ n = omega arith in
+        let P : ℕ → Type 0 = λ k. length (interleaved_at k ls) ≤ 0 in
+        subst P zero_more (none ls p.0)
+    interleaved_at_most n (m ∷ ms) ls same ls' same' p none =
+        interleaved_one_more n m ms ls same ls' same' p.0 p.1 p.2 p.3 none
+            (λ fs rs. interleaved_at_most (suc n) ms fs rs ls' same')
+            (interleaved_front check e n ls) refl
+
+-- The records of the first lines of an interleaved text, up to the lines after its pairs.
+module _ (check : Bool) (e : Encoding) where
+  -- the lines that are left after the pairs are the end of the lines before
+  leads_end : (n : ℕ) (ms : List Mates) (ls same ls' same' : List (List ℕ)) →
+      Leads InterleavedText check e n ms ls same ls' same' →
+      (before : List (List ℕ)) × (ls ≡ before ++ ls')
+  leads_end n [] ls same ls' same' p = ([], p.0)
+  leads_end n (m ∷ ms) ls same ls' same' p =
+      let q = meets_interleaved check e (suc n) m p.0 p.1 (front e ls) p.2 in
+      let f = front_takes e q.f ls q.ls q.first in let r = front_takes e q.r q.ls p.0 q.second in
+      let behind = leads_end (suc n) ms p.0 p.1 ls' same' p.3 in (
+        f.taken ++ (r.taken ++ behind.0),
+        f.split ∙ ap (λ xs. f.taken ++ xs) (r.split ∙ ap (λ xs. r.taken ++ xs) behind.1
+            ∙ sym (append_assoc r.taken behind.0 ls'))
+            ∙ sym (append_assoc f.taken (r.taken ++ behind.0) ls'),
+      )
+
+  module _ (more behind : List (List ℕ)) where
+    -- two records to a pair leave the turn of the sides as it was
+    pub turn_kept : (n : ℕ) (ms : List Mates) (ls same same' : List (List ℕ)) →
+        Leads InterleavedText check e n ms (ls ++ more) same (behind ++ more) same' →
+        side_after (length (records_of e ls).reads)
+            ≡ side_after (length (records_of e behind).reads)
+    turn_kept n [] ls same same' p = ap (λ xs. side_after (length (records_of e xs).reads))
+        (append_cancel_right ls behind more p.0)
+    turn_kept n (m ∷ ms) ls same same' p =
+        let q = meets_interleaved check e (suc n) m p.0 p.1 (front e (ls ++ more)) p.2 in
+        let last = leads_end (suc n) ms p.0 p.1 (behind ++ more) same' p.3 in
+        let fs = last.0 ++ behind in
+        let left : p.0 ≡ fs ++ more = last.1 ∙ sym (append_assoc last.0 behind more) in
+        let r = front_takes e q.r q.ls p.0 q.second in
+        let rs = r.taken ++ fs in
+        let between : q.ls ≡ rs ++ more = r.split ∙ ap (λ xs. r.taken ++ xs) left
+            ∙ sym (append_assoc r.taken fs more) in
+        let first = front_fewer e q.f ls rs more (q.first ∙ ap (Found q.f) between) in
+        let P : List (List ℕ) → Type 0 = λ xs. Leads InterleavedText check e (suc n) ms xs p.1
+            (behind ++ more) same' in
+        ap side_after (one_record e q.f ls rs first ∙ ap suc (one_record e q.r rs fs (r.always fs)))
+        ∙ turn_kept (suc n) ms fs p.1 same' (subst P left p.3)

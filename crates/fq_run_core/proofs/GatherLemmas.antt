@@ -1,0 +1,156 @@
+-- A block that is being gathered.
+use Rattle.std.proofs.Common.{◌≡◌, ℕ, ◌+◌, ◌<◌, ◌≤◌, Bool, true, false, Result, Ok, Err, OnOk, OnErr, Option, Some, None, List, [], ◌∷◌, ◌++◌, length, refl, sym, ap, subst, ◌∙◌, arith}
+use Rattle.std.specs.Result.{is_err}
+use Rattle.std.specs.Option.{is_some}
+use Rattle.std.proofs.lemmas.List.{length-append}
+use Rattle.fq_trim.specs.declared.step.Step.{Step}
+use Rattle.fq_pair.specs.declared.fault.InputFault.{InputFault}
+use Rattle.fq_text.specs.Grammar.{Read}
+use Rattle.fq_pair.specs.Mates.{Mates, mates_in}
+use Rattle.fq_pair.specs.Outputs.{texts_of}
+use Rattle.fq_tally.specs.declared.tally.Tally.{Tally}
+use Rattle.fq_tally.specs.declared.done.Done.{Done}
+use Rattle.fq_tally.specs.Results.{tally_if, made_of, with_mates}
+use Rattle.fq_tally.proofs.ResultLemmas.{is_asked, made_more}
+use Rattle.fq_run_core.specs.declared.reading_end.ReadingEnd.{ReadingEnd}
+use Rattle.fq_run_core.specs.declared.reading_end.ReadingEnd.TheVariants as reading
+use Rattle.fq_pair.specs.Walks.{SourceState, Walks, MeetsEnd, MeetsFault, GoesOn}
+use Rattle.fq_run_core.specs.PairsRead.{Reads}
+use Rattle.fq_run_core.specs.Gathering.{Gathers}
+use Rattle.fq_run_core.proofs.WalkLemmas.{walks_none, walks_then}
+
+-- what a call guarantees if memory was refused, and if not
+pub err_says : {T E : Type 0} (r : Result T E) (refused : Bool) (P : Type 0) → refused ≡ is_err r →
+    refused ≡ true → OnErr r P → P
+err_says (Ok x) refused P is yes_is p = absurd (let e = sym is ∙ yes_is in cc)
+err_says (Err x) refused P is yes_is p = p
+
+pub ok_says : {T E : Type 0} (r : Result T E) (refused : Bool) (P : Type 0) → refused ≡ is_err r →
+    refused ≡ false → OnOk r P → P
+ok_says (Ok x) refused P is no_is p = p
+ok_says (Err x) refused P is no_is p = absurd (let e = sym is ∙ no_is in cc)
+
+-- this number of pairs was read and trimmed
+pub record Gathered (old now : SourceState) (tallied : Bool) (steps : List Step) (gathered : Done)
+    (n : ℕ) : Type 0 where
+  pub block : List Mates
+  pub len : length block ≡ n
+  pub made : gathered ≡ made_of tallied steps gathered.number block
+  pub walks : Walks old now block
+  pub goes : GoesOn now
+
+module _ (tallied : Bool) (steps : List Step) where
+  pub gathered_none : (s : SourceState) (done : Done) → GoesOn s →
+      done ≡ made_of tallied steps done.number [] → Gathered s s tallied steps done 0
+  gathered_none s done goes clear = record { block = []; len = refl; made = clear; walks =
+      walks_none s goes.last; goes = goes }
+
+  pub gathered_more : (old now next : SourceState) (done then : Done) (n : ℕ) (m : Mates) →
+      Gathered old now tallied steps done n → Walks now next (m ∷ []) →
+      next.forward.given ≤ next.most_bytes → (forward reverse : Read) → forward ≡ m.forward →
+          reverse ≡ m.reverse → then ≡ with_mates steps done (mates_in forward reverse) →
+      Gathered old next tallied steps then (n + 1)
+  gathered_more old now next done then n m g w within forward reverse first second added =
+      let len = g.len in
+      let is : then ≡ with_mates steps done m = added
+          ∙ ap (λ r. with_mates steps done (mates_in r reverse)) first
+          ∙ ap (λ r. with_mates steps done (mates_in m.forward r)) second in
+      let number : done.number ≡ then.number = sym (ap (λ (d : Done). d.number) is) in
+      record {
+        block = g.block ++ m ∷ [];
+        len = omega (arith, length-append g.block (m ∷ []));
+        made = is ∙ ap (λ (d : Done). with_mates steps d m) g.made
+            ∙ made_more tallied steps done.number g.block m
+            ∙ ap (λ (i : ℕ). made_of tallied steps i (g.block ++ m ∷ [])) number;
+        walks = walks_then old now next g.block (m ∷ []) g.walks w;
+        goes = record { last = w.last; within = within };
+      }
+
+  pub gathered_few : (old now : SourceState) (done : Done) (n : ℕ) →
+      Gathered old now tallied steps done n → done.texts.counts.pairs ≡ n
+  gathered_few old now done n g = ap (λ (d : Done). d.texts.counts.pairs) g.made ∙ g.len
+
+  -- its texts and its tally
+  texts_are : (old now : SourceState) (done : Done) (n : ℕ)
+      (g : Gathered old now tallied steps done n) → done.texts ≡ texts_of steps g.block
+  texts_are old now done n g = ap (λ (d : Done). d.texts) g.made
+
+  tally_is : (old now : SourceState) (done : Done) (n : ℕ)
+      (g : Gathered old now tallied steps done n) → done.tally ≡ tally_if tallied steps g.block
+  tally_is old now done n g = ap (λ (d : Done). d.tally) g.made
+
+  pub gathers_full : (old now : SourceState) (done : Done) (n most : ℕ) → n ≡ most →
+      Gathered old now tallied steps done n → Gathers old now tallied steps most done None
+  gathers_full old now done n most full g = let len = g.len in record {
+    block = g.block;
+    texts = texts_are old now done n g;
+    tally = tally_is old now done n g;
+    few = omega arith;
+    full = λ going. g.len ∙ full;
+    reads = g.walks;
+    goes = λ going. g.goes;
+  }
+
+  -- reading stopped after the block
+  gathers_stopped : (old now next : SourceState) (done : Done) (n most : ℕ) (stop : ReadingEnd) →
+      n < most → (g : Gathered old now tallied steps done n) → Reads old next g.block (Some stop) →
+      Gathers old next tallied steps most done (Some stop)
+  gathers_stopped old now next done n most stop room g reads = let len = g.len in record {
+    block = g.block;
+    texts = texts_are old now done n g;
+    tally = tally_is old now done n g;
+    few = omega arith;
+    full = λ going. absurd cc;
+    reads = reads;
+    goes = λ going. absurd cc;
+  }
+
+  pub gathers_end : (old now next : SourceState) (done : Done) (n most : ℕ) → n < most →
+      Gathered old now tallied steps done n → MeetsEnd now next →
+      Gathers old next tallied steps most done (Some reading.End)
+  gathers_end old now next done n most room g e =
+      gathers_stopped old now next done n most reading.End room g (now, g.walks, e)
+
+  pub gathers_fault : (old now next : SourceState) (done : Done) (n most : ℕ) (why : InputFault) →
+      n < most → Gathered old now tallied steps done n → MeetsFault now next why →
+      Gathers old next tallied steps most done (Some (reading.Fault why))
+  gathers_fault old now next done n most why room g e =
+      gathers_stopped old now next done n most (reading.Fault why) room g (now, g.walks, e)
+
+  pub gathers_refused : (old now next : SourceState) (done then : Done) (n most : ℕ) (m : Mates) →
+      n < most → Gathered old now tallied steps done n → Walks now next (m ∷ []) →
+      then ≡ done → Gathers old next tallied steps most then (Some reading.Memory)
+  gathers_refused old now next done then n most m room g w same =
+      let P : Done → Type 0 = λ d. Gathers old next tallied steps most d (Some reading.Memory) in
+      subst P (sym same) (gathers_stopped old now next done n most reading.Memory room g (m ∷ [],
+          walks_then old now next g.block (m ∷ []) g.walks w))
+
+-- equal flags, steps and bounds may be exchanged
+pub gathers_as : {old new : SourceState} {tallied tallied' : Bool} {steps steps' : List Step}
+    {most most' : ℕ} {done : Done} {why : Option ReadingEnd} →
+    tallied' ≡ tallied → steps' ≡ steps → most' ≡ most →
+        Gathers old new tallied' steps' most' done why → Gathers old new tallied steps most done why
+gathers_as {old} {new} {tallied} {tallied'} {steps} {steps'} {most} {most'} {done} {why} asked same
+    bound g =
+    let O : Bool → Type 0 = λ b. Gathers old new b steps most done why in
+    let P : List Step → Type 0 = λ s. Gathers old new tallied' s most done why in
+    let Q : ℕ → Type 0 = λ n. Gathers old new tallied' steps' n done why in
+    subst O asked (subst P same (subst Q bound g))
+
+-- what was gathered has a tally if one was asked for
+pub gathered_asked : (old new : SourceState) (tallied : Bool) (steps : List Step) (most : ℕ)
+    (done : Done) (why : Option ReadingEnd) → Gathers old new tallied steps most done why →
+    is_some done.tally ≡ tallied
+gathered_asked old new tallied steps most done why g = ap (λ (t : Option Tally). is_some t) g.tally
+    ∙ is_asked tallied steps g.block
+
+-- why reading stopped, if it did
+pub end_is : (why : Option ReadingEnd) (there : Bool) → there ≡ is_some why → there ≡ true →
+    why ≡ None → ⊥
+end_is None there is yes_is none = let e = sym is ∙ yes_is in cc
+end_is (Some s) there is yes_is none = cc
+
+pub end_none : (why : Option ReadingEnd) (there : Bool) → there ≡ is_some why → there ≡ false →
+    why ≡ None
+end_none None there is no_is = refl
+end_none (Some s) there is no_is = absurd (let e = sym is ∙ no_is in cc)

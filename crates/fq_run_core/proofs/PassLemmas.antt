@@ -1,0 +1,76 @@
+-- From the feeds to the outlets.
+use Rattle.std.proofs.Common.{◌≡◌, false, inr, Option, Some, None, [], ◌++◌, refl, sym, ap, subst, ◌∙◌}
+use Rattle.fq_pair.specs.declared.out.Out.{Out}
+use Rattle.fq_pair.specs.Outputs.{text_of, texts_of}
+use Rattle.fq_run_core.specs.declared.halt.Halt.{Halt}
+use Rattle.fq_run_core.specs.declared.total.Total.{Total}
+use Rattle.fq_run_core.specs.declared.written.Written.{Written}
+use Rattle.fq_run_core.specs.declared.reading_end.ReadingEnd.{ReadingEnd}
+use Rattle.fq_run_core.specs.declared.reading_end.ReadingEnd.TheVariants as reading
+use Rattle.fq_run_core.specs.Choices.{Choices}
+use Rattle.fq_text.specs.Devices.{FeedState}
+use Rattle.fq_run_core.specs.Devices.{OutletStates}
+use Rattle.fq_run_core.specs.Fates.{Unbroken}
+use Rattle.fq_pair.specs.Forms.{Form}
+use Rattle.fq_pair.specs.Walks.{SourceState}
+use Rattle.fq_run_core.specs.PairsRead.{fresh_source, feed_in}
+use Rattle.fq_run_core.specs.Totals.{no_total}
+use Rattle.fq_run_core.specs.Writing.{no_halt, nothing_written, Passes, Runs}
+use Rattle.fq_run_core.proofs.OutletLemmas.{all_took_none, all_took_same}
+use Rattle.fq_run_core.proofs.TextLemmas.{no_text}
+use Rattle.fq_run_core.proofs.WalkLemmas.{walks_none}
+
+-- memory was refused before anything was read
+pub passes_refused : (c : Choices) (old : SourceState) (o : OutletStates) (counted : Total) →
+    old.last ≡ None → counted ≡ no_total false →
+    Passes c old old o o counted no_halt (Some reading.Memory) None
+passes_refused c old o counted goes none = record {
+  whole = [];
+  fate = Unbroken;
+  missed = [];
+  counts = record { counts = ap (λ (t : Total). t.counts) none; tally =
+      inr (ap (λ (t : Total). t.tally) none, refl, refl) };
+  reads = ([], walks_none old goes);
+  took = all_took_same o o (λ out. []) _ None (λ out. sym (no_more out)) (all_took_none o);
+  failed = refl;
+  cut_short = tt;
+  over = λ going sound. absurd cc;
+  unflushed = refl;
+  missed_none = λ sound none. refl;
+}
+  where
+    no_more : (out : Out) → text_of out (texts_of c.steps []) ++ [] ≡ []
+    no_more out = let e = no_text c.steps out in rw e refl
+
+pub runs_refused : (form : Form) (c : Choices) (f r f' r' : FeedState) (o : OutletStates)
+    (counted : Total) → f' ≡ f → r' ≡ r → counted ≡ no_total false →
+    Runs form c f r f' r' o o counted no_halt (Some reading.Memory) None
+runs_refused form c f r f' r' o counted same also none =
+    record { new = fresh_source form c f r; passes =
+        passes_refused c (fresh_source form c f r) o counted refl none; forward = same; reverse =
+        also }
+
+pub passes_unasked : (c : Choices) (old : SourceState) (o : OutletStates) (total : Total)
+    (w : Written) → old.last ≡ None → w ≡ nothing_written → total ≡ w.total →
+    Passes c old old o o total no_halt w.why w.failed
+passes_unasked c old o total w goes is same =
+    let P : Written → Type 0 = λ x. Passes c old old o o total no_halt x.why x.failed in
+    subst P (sym is) (passes_refused c old o total goes (same ∙ ap (λ (x : Written). x.total) is))
+
+pub runs_nothing : (form : Form) (c : Choices) (f r f' r' : FeedState) (o : OutletStates)
+    (w : Written) → w ≡ nothing_written → f' ≡ f → r' ≡ r →
+    Runs form c f r f' r' o o w.total no_halt w.why w.failed
+runs_nothing form c f r f' r' o w is same also =
+    let P : Written → Type 0 = λ x. Runs form c f r f' r' o o x.total no_halt x.why x.failed in
+    subst P (sym is) (runs_refused form c f r f' r' o (no_total false) same also refl)
+
+-- what was read from a fresh source and written
+pub runs_passed : (form : Form) (c : Choices) (f r f' r' : FeedState) (old new : SourceState)
+    (before after : OutletStates) (counted : Total) (halt : Halt) (why : Option ReadingEnd)
+    (failed : Option Out) →
+    old ≡ fresh_source form c f r → f' ≡ feed_in new.forward → r' ≡ feed_in new.reverse →
+        Passes c old new before after counted halt why failed →
+        Runs form c f r f' r' before after counted halt why failed
+runs_passed form c f r f' r' old new before after counted halt why failed is first second p =
+    let P : SourceState → Type 0 = λ s. Passes c s new before after counted halt why failed in
+    record { new = new; passes = subst P is p; forward = first; reverse = second }

@@ -1,0 +1,240 @@
+-- Which outcome a run has, and what it implies.
+use Rattle.std.proofs.Common.{◌≡◌, ◌<◌, ◌≤◌, Bool, true, false, ◌||◌, Option, Some, None, refl, sym, ap, ◌∙◌, arith}
+use Rattle.fq_text.specs.declared.fault.TextFault.TheVariants as text
+use Rattle.fq_pair.specs.declared.out.Out.{Out}
+use Rattle.fq_pair.specs.declared.side.Side.{Side}
+use Rattle.fq_pair.specs.declared.side.Side.TheVariants.{Forward, Reverse}
+use Rattle.fq_pair.specs.declared.fault.InputFault.{InputFault}
+use Rattle.fq_pair.specs.declared.fault.InputFault.TheVariants.{Text}
+use Rattle.fq_pair.specs.PairSources.{is_from_outside, failed_on}
+use Rattle.fq_pair.specs.Forms.{Form, TwoTexts, InterleavedText, failed_at}
+use Rattle.fq_run_core.specs.declared.outcome.Outcome.{Outcome}
+use Rattle.fq_run_core.specs.declared.outcome.Outcome.TheVariants.{Spawn, Gate, Memory, Write, Read, Endless, Input, Finished}
+use Rattle.fq_run_core.specs.declared.halt.Halt.{Halt}
+use Rattle.fq_run_core.specs.declared.reading_end.ReadingEnd.{ReadingEnd}
+use Rattle.fq_run_core.specs.declared.reading_end.ReadingEnd.TheVariants as reading
+use Rattle.fq_run_core.specs.Outcomes.{rank, end_of, is_memory, outcome_of}
+use Rattle.fq_pair.specs.Walks.{faulty}
+use Rattle.fq_run_core.specs.Writing.{no_halt, wants_memory, fault_in, occurred}
+use Rattle.fq_run_core.proofs.ReadingLemmas.{failed_by}
+
+-- what a fault is
+pub data Kind (why : InputFault) : Type 0 where
+  OfText : is_from_outside why ≡ false → Kind why
+  OfRead : (side : Side) → why ≡ Text side text.Read → Kind why
+  OfEndless : (side : Side) → why ≡ Text side text.Endless → Kind why
+  OfMemory : (side : Side) → why ≡ Text side text.OutOfMemory → Kind why
+
+pub kind : (why : InputFault) → Kind why
+kind (Text side text.Read) = OfRead side refl
+kind (Text side text.Endless) = OfEndless side refl
+kind (Text side text.OutOfMemory) = OfMemory side refl
+kind _ = OfText refl
+
+-- memory was refused to a pair, or to the reading of one
+abbrev pub lacks_memory : Option ReadingEnd → Bool
+lacks_memory why = wants_memory why || is_memory (end_of (fault_in why))
+
+-- why a run whose lanes are all confirmed has its outcome
+pub data Verdict (halt : Halt) (why : Option ReadingEnd) (failed : Option Out) (o : Outcome) : Type
+    0 where
+  IsRefused : halt.gate ≡ true → o ≡ Gate → Verdict halt why failed o
+  WantsMemory : o ≡ Memory → Verdict halt why failed o
+  FailedAt : (out : Out) → failed ≡ Some out → halt ≡ no_halt → lacks_memory why ≡ false →
+      o ≡ Write out → Verdict halt why failed o
+  CannotRead : (side : Side) → failed ≡ None → halt ≡ no_halt →
+      why ≡ Some (reading.Fault (Text side text.Read)) → o ≡ Read side → Verdict halt why failed o
+  HasNoEnd : (side : Side) → failed ≡ None → halt ≡ no_halt →
+      why ≡ Some (reading.Fault (Text side text.Endless)) → o ≡ Endless side →
+      Verdict halt why failed o
+  HasFault : (fault : InputFault) → failed ≡ None → halt ≡ no_halt →
+      why ≡ Some (reading.Fault fault) → is_from_outside fault ≡ false → o ≡ Input fault →
+      Verdict halt why failed o
+  IsOver : failed ≡ None → halt ≡ no_halt → why ≡ Some reading.End → o ≡ Finished →
+      Verdict halt why failed o
+
+-- the outcome of what occurred
+abbrev outcome_at : Halt → Option ReadingEnd → Option Out → Outcome
+outcome_at halt why failed = outcome_of (occurred halt why failed)
+
+fault_verdict : (fault : InputFault) (failed : Option Out) →
+    Verdict no_halt (Some (reading.Fault fault)) failed
+    (outcome_at no_halt (Some (reading.Fault fault)) failed)
+fault_verdict (Text side text.Read) None = CannotRead side refl refl refl refl
+fault_verdict (Text side text.Read) (Some out) = FailedAt out refl refl refl refl
+fault_verdict (Text side text.Endless) None = HasNoEnd side refl refl refl refl
+fault_verdict (Text side text.Endless) (Some out) = FailedAt out refl refl refl refl
+fault_verdict (Text side text.OutOfMemory) failed = WantsMemory refl
+fault_verdict _ None = HasFault _ refl refl refl refl refl
+fault_verdict _ (Some out) = FailedAt out refl refl refl refl
+
+-- if no worker stopped
+sound_verdict : (why : Option ReadingEnd) (failed : Option Out) → (why ≡ None → failed ≡ None → ⊥) →
+    Verdict no_halt why failed (outcome_at no_halt why failed)
+sound_verdict None None over = absurd (over refl refl)
+sound_verdict None (Some out) over = FailedAt out refl refl refl refl
+sound_verdict (Some reading.End) None over = IsOver refl refl refl refl
+sound_verdict (Some reading.End) (Some out) over = FailedAt out refl refl refl refl
+sound_verdict (Some reading.Memory) failed over = WantsMemory refl
+sound_verdict (Some (reading.Fault fault)) failed over = fault_verdict fault failed
+
+abbrev halt_of : Bool → Bool → Halt
+halt_of gate memory = record { gate = gate; memory = memory }
+
+halt_verdict : (gate memory : Bool) (why : Option ReadingEnd) (failed : Option Out) →
+    (why ≡ None → failed ≡ None → ⊥) → Verdict (halt_of gate memory) why failed
+    (outcome_at (halt_of gate memory) why failed)
+halt_verdict true memory why failed over = IsRefused refl refl
+halt_verdict false true why failed over = WantsMemory refl
+halt_verdict false false why failed over = sound_verdict why failed over
+
+pub verdict : (halt : Halt) (why : Option ReadingEnd) (failed : Option Out) →
+    (why ≡ None → failed ≡ None → ⊥) → Verdict halt why failed
+    (outcome_of (occurred halt why failed))
+verdict halt why failed over = halt_verdict halt.gate halt.memory why failed over
+
+-- How often a feed failed.
+
+endless_none : (form : Form) (side other : Side) →
+    failed_at form side (faulty (Text other text.Endless)) ≡ 0
+endless_none TwoTexts Forward Forward = refl
+endless_none TwoTexts Forward Reverse = refl
+endless_none TwoTexts Reverse Forward = refl
+endless_none TwoTexts Reverse Reverse = refl
+endless_none InterleavedText side Forward = refl
+endless_none InterleavedText side Reverse = refl
+
+inside_one : (side : Side) (fault : InputFault) → is_from_outside fault ≡ false →
+    failed_on side (faulty fault) ≡ 0
+inside_one Forward (Text Forward text.Read) is = absurd cc
+inside_one Reverse (Text Reverse text.Read) is = absurd cc
+inside_one _ _ is = refl
+
+inside_none : (form : Form) (side : Side) (fault : InputFault) → is_from_outside fault ≡ false →
+    failed_at form side (faulty fault) ≡ 0
+inside_none TwoTexts side fault is = inside_one side fault is
+inside_none InterleavedText side fault is = let f = inside_one Forward fault is in let r =
+    inside_one Reverse fault is in omega arith
+
+pub read_once : (form : Form) (side : Side) →
+    failed_by form side (Some (reading.Fault (Text side text.Read))) ≡ 1
+read_once TwoTexts Forward = refl
+read_once TwoTexts Reverse = refl
+read_once InterleavedText Forward = refl
+read_once InterleavedText Reverse = refl
+
+failed_few : (form : Form) (side : Side) (fault : InputFault) →
+    failed_at form side (faulty fault) ≤ 1
+failed_few TwoTexts Forward (Text Forward text.Read) = omega arith
+failed_few TwoTexts Reverse (Text Reverse text.Read) = omega arith
+failed_few InterleavedText side (Text Forward text.Read) = omega arith
+failed_few InterleavedText side (Text Reverse text.Read) = omega arith
+failed_few _ _ _ = omega arith
+
+pub failed_once : (form : Form) (side : Side) (why : Option ReadingEnd) →
+    failed_by form side why ≤ 1
+failed_once form side None = omega arith
+failed_once form side (Some reading.End) = omega arith
+failed_once form side (Some reading.Memory) = omega arith
+failed_once form side (Some (reading.Fault fault)) = failed_few form side fault
+
+-- What an outcome implies.
+
+module _ (halt : Halt) (why : Option ReadingEnd) (failed : Option Out) (o : Outcome) where
+  pub least : Verdict halt why failed o → 3 ≤ rank o
+  least (IsRefused at is) = let e = ap rank is in omega arith
+  least (WantsMemory is) = let e = ap rank is in omega arith
+  least (FailedAt out at going enough is) = let e = ap rank is in omega arith
+  least (CannotRead side none going at is) = let e = ap rank is in omega arith
+  least (HasNoEnd side none going at is) = let e = ap rank is in omega arith
+  least (HasFault fault none going at inside is) = let e = ap rank is in omega arith
+  least (IsOver none going at is) = let e = ap rank is in omega arith
+
+  -- if no worker stopped, the outcome is not `Spawn`, `Lane` or `Gate`
+  pub is_serial : halt ≡ no_halt → Verdict halt why failed o → 4 ≤ rank o
+  is_serial sound (IsRefused at is) = absurd (let e = sym at ∙ ap (λ (h : Halt). h.gate) sound in
+      cc)
+  is_serial sound (WantsMemory is) = let e = ap rank is in omega arith
+  is_serial sound (FailedAt out at going enough is) = let e = ap rank is in omega arith
+  is_serial sound (CannotRead side none going at is) = let e = ap rank is in omega arith
+  is_serial sound (HasNoEnd side none going at is) = let e = ap rank is in omega arith
+  is_serial sound (HasFault fault none going at inside is) = let e = ap rank is in omega arith
+  is_serial sound (IsOver none going at is) = let e = ap rank is in omega arith
+
+  pub not_spawn : Verdict halt why failed o → o ≡ Spawn → ⊥
+  not_spawn v is = let e = ap rank is in let n = least v in absurd (omega arith)
+
+  -- a failed write or flush is returned if no worker stopped and no memory was refused
+  pub at_write : Verdict halt why failed o → (out : Out) → o ≡ Write out →
+      (failed ≡ Some out) × (halt ≡ no_halt) × (lacks_memory why ≡ false)
+  at_write (IsRefused there is) out at = absurd (let e = sym is ∙ at in cc)
+  at_write (WantsMemory is) out at = absurd (let e = sym is ∙ at in cc)
+  at_write (FailedAt x there going enough is) out at = let e = sym is ∙ at in let same : x ≡ out =
+      cc in (there ∙ ap Some same, going, enough)
+  at_write (CannotRead side none going there is) out at = absurd (let e = sym is ∙ at in cc)
+  at_write (HasNoEnd side none going there is) out at = absurd (let e = sym is ∙ at in cc)
+  at_write (HasFault fault none going there inside is) out at = absurd (let e = sym is ∙ at in cc)
+  at_write (IsOver none going there is) out at = absurd (let e = sym is ∙ at in cc)
+
+  pub at_read : Verdict halt why failed o → (side : Side) → o ≡ Read side →
+      (why ≡ Some (reading.Fault (Text side text.Read))) × (failed ≡ None) × (halt ≡ no_halt)
+  at_read (IsRefused there is) side at = absurd (let e = sym is ∙ at in cc)
+  at_read (WantsMemory is) side at = absurd (let e = sym is ∙ at in cc)
+  at_read (FailedAt x there going enough is) side at = absurd (let e = sym is ∙ at in cc)
+  at_read (CannotRead x none going there is) side at =
+      let e = sym is ∙ at in let same : x ≡ side = cc in
+          (there ∙ ap (λ (s : Side). Some (reading.Fault (Text s text.Read))) same, none, going)
+  at_read (HasNoEnd x none going there is) side at = absurd (let e = sym is ∙ at in cc)
+  at_read (HasFault fault none going there inside is) side at = absurd (let e = sym is ∙ at in cc)
+  at_read (IsOver none going there is) side at = absurd (let e = sym is ∙ at in cc)
+
+  pub at_endless : Verdict halt why failed o → (side : Side) → o ≡ Endless side →
+      (why ≡ Some (reading.Fault (Text side text.Endless))) × (failed ≡ None) × (halt ≡ no_halt)
+  at_endless (IsRefused there is) side at = absurd (let e = sym is ∙ at in cc)
+  at_endless (WantsMemory is) side at = absurd (let e = sym is ∙ at in cc)
+  at_endless (FailedAt x there going enough is) side at = absurd (let e = sym is ∙ at in cc)
+  at_endless (CannotRead x none going there is) side at = absurd (let e = sym is ∙ at in cc)
+  at_endless (HasNoEnd x none going there is) side at =
+      let e = sym is ∙ at in let same : x ≡ side = cc in
+          (there ∙ ap (λ (s : Side). Some (reading.Fault (Text s text.Endless))) same, none, going)
+  at_endless (HasFault fault none going there inside is) side at =
+      absurd (let e = sym is ∙ at in cc)
+  at_endless (IsOver none going there is) side at = absurd (let e = sym is ∙ at in cc)
+
+  -- if no worker stopped, memory that is refused to the reading is returned
+  pub at_refusal : halt ≡ no_halt → why ≡ Some reading.Memory → Verdict halt why failed o →
+      o ≡ Memory
+  at_refusal sound at (IsRefused there is) =
+      absurd (let e = sym there ∙ ap (λ (h : Halt). h.gate) sound in cc)
+  at_refusal sound at (WantsMemory is) = is
+  at_refusal sound at (FailedAt x there going enough is) =
+      absurd (let e = sym enough ∙ ap lacks_memory at in cc)
+  at_refusal sound at (CannotRead x none going there is) = absurd (let e = sym there ∙ at in cc)
+  at_refusal sound at (HasNoEnd x none going there is) = absurd (let e = sym there ∙ at in cc)
+  at_refusal sound at (HasFault fault none going there inside is) =
+      absurd (let e = sym there ∙ at in cc)
+  at_refusal sound at (IsOver none going there is) = absurd (let e = sym there ∙ at in cc)
+
+  pub outlet_first : Verdict halt why failed o → (out : Out) → failed ≡ Some out → rank o ≤ 5
+  outlet_first (IsRefused there is) out at = let e = ap rank is in omega arith
+  outlet_first (WantsMemory is) out at = let e = ap rank is in omega arith
+  outlet_first (FailedAt x there going enough is) out at = let e = ap rank is in omega arith
+  outlet_first (CannotRead side none going there is) out at = absurd (let e = sym none ∙ at in cc)
+  outlet_first (HasNoEnd side none going there is) out at = absurd (let e = sym none ∙ at in cc)
+  outlet_first (HasFault fault none going there inside is) out at =
+      absurd (let e = sym none ∙ at in cc)
+  outlet_first (IsOver none going there is) out at = absurd (let e = sym none ∙ at in cc)
+
+  pub feed_first : (form : Form) → Verdict halt why failed o → (side : Side) →
+      0 < failed_by form side why → rank o ≤ 6
+  feed_first form (IsRefused there is) side some = let e = ap rank is in omega arith
+  feed_first form (WantsMemory is) side some = let e = ap rank is in omega arith
+  feed_first form (FailedAt x there going enough is) side some = let e = ap rank is in omega arith
+  feed_first form (CannotRead x none going there is) side some = let e = ap rank is in omega arith
+  feed_first form (HasNoEnd x none going there is) side some =
+      absurd (let e = ap (failed_by form side) there ∙ endless_none form side x in omega arith)
+  feed_first form (HasFault fault none going there inside is) side some =
+      absurd (let e = ap (failed_by form side) there ∙ inside_none form side fault inside in
+      omega arith)
+  feed_first form (IsOver none going there is) side some =
+      absurd (let e = ap (failed_by form side) there in omega arith)

@@ -1,0 +1,66 @@
+-- Each pair that is read goes to the block's texts and tally, until memory is refused or no pair is
+-- left.
+use Rattle.std.proofs.Common.{◌≡◌, is_some, arith, refl}
+use Rattle.fq_pair.specs.Mates.{name_lengths}
+use Rattle.fq_run_core.proofs.WalkLemmas.{is_in_hand, of_in_hand, if_in_hand}
+use Rattle.fq_run_core.proofs.GatherLemmas.{gathered_none, gathered_more, gathered_few, gathers_full, gathers_end, gathers_fault, gathers_refused, err_says, ok_says}
+use Rattle.fq_run_core.proofs.gathering.gather.Goals as goal
+
+pub loop-init : goal.loop-init
+loop-init g c = gathered_none (is_some c.args.done.now.tally) c.args.steps.now _ _ c.requires.goes
+    c.requires.clear
+
+pub pair_in_hand-pair-requires : goal.pair_in_hand-pair-requires
+pair_in_hand-pair-requires g c = let i = c.loop.invariant in let goes = i.goes in
+    let asked = rw c.in-Ok-true.field-0-test at c.in-Ok-true.ensures in
+    is_in_hand _ _ (asked.advances goes.last)
+
+pub names_in_hand-names-requires : goal.names_in_hand-names-requires
+names_in_hand-names-requires g c = let i = c.loop.invariant in let goes = i.goes in
+    let asked = rw c.in-Ok-true.field-0-test at c.in-Ok-true.ensures in
+    is_in_hand _ _ (asked.advances goes.last)
+
+pub add-requires-clause-names : goal.add-requires-clause-names
+add-requires-clause-names g c = if_in_hand _ _ (λ m. c.names_in_hand-names.result ≡ name_lengths m)
+    c.pair_in_hand-pair.ensures c.names_in_hand-names.ensures
+
+pub add-requires-clause-room : goal.add-requires-clause-room
+add-requires-clause-room g c = let few = gathered_few (is_some c.args.done.now.tally)
+    c.args.steps.now _ _ _ _ c.loop.invariant in omega arith
+
+pub returns-then-is_err : goal.returns-then-is_err
+returns-then-is_err g c = let i = c.loop.invariant in let goes = i.goes in
+    let asked = rw c.in-Ok-true.field-0-test at c.in-Ok-true.ensures in
+    let read = of_in_hand _ _ _ c.pair_in_hand-pair.ensures (asked.advances goes.last) in
+    gathers_refused (is_some c.args.done.now.tally) c.args.steps.now _ _ _ _ _ _ _ _ (omega arith)
+        c.loop.invariant read
+    (err_says c.add.result c.is_err.result _ c.is_err.ensures.value c.if-is_err.true
+        c.add.ensures.err)
+
+pub returns-in-Ok-false : goal.returns-in-Ok-false
+returns-in-Ok-false g c = let i = c.loop.invariant in let goes = i.goes in
+    let asked = rw c.in-Ok-false.field-0-test at c.in-Ok-false.ensures in
+    let met = asked.advances goes.last in
+    gathers_end (is_some c.args.done.now.tally) c.args.steps.now _ _ _ _ _ _ (omega arith)
+        c.loop.invariant met.0
+
+pub returns-in-Err : goal.returns-in-Err
+returns-in-Err g c = let i = c.loop.invariant in let goes = i.goes in
+    let asked = c.in-Err.ensures in
+    let met = asked.advances goes.last in
+    gathers_fault (is_some c.args.done.now.tally) c.args.steps.now _ _ _ _ _ _ _ (omega arith)
+        c.loop.invariant met.0
+
+pub loop-preserved : goal.loop-preserved
+loop-preserved g c = let i = c.loop.invariant in let goes = i.goes in
+    let asked = rw c.in-Ok-true.field-0-test at c.in-Ok-true.ensures in
+    let pair = c.pair_in_hand-pair.result in
+    let read = of_in_hand _ _ _ c.pair_in_hand-pair.ensures (asked.advances goes.last) in
+    gathered_more (is_some c.args.done.now.tally) c.args.steps.now _ _ _ _ _ _ _ c.loop.invariant
+        read asked.within pair.forward pair.reverse refl refl
+    (ok_says c.add.result c.is_err.result _ c.is_err.ensures.value c.if-is_err.false
+        c.add.ensures.ok)
+
+pub returns : goal.returns
+returns g c = gathers_full (is_some c.args.done.now.tally) c.args.steps.now _ _ _ _ _ (omega arith)
+    c.loop.invariant

@@ -1,0 +1,27 @@
+-- What was read, written and flushed is what the run guarantees.
+use Rattle.std.proofs.Common.{refl, ap, ◌∙◌}
+use Rattle.fq_run_core.specs.Outcomes.{outcome_of}
+use Rattle.fq_run_core.proofs.RunLemmas.{runs_healthy, serial_rank, run_every, run_whole}
+use Rattle.fq_run_core.proofs.interleaved.run_serial_mixed.Goals as goal
+
+pub flush_after-failed-requires : goal.flush_after-failed-requires
+flush_after-failed-requires g c = runs_healthy _ c.args.settings.now _ _ _ _ _ _ _ _ _ _
+    c.pass-written.ensures c.requires.outlets
+
+pub returns-clause-serial : goal.returns-clause-serial
+returns-clause-serial g c =
+    serial_rank _ c.args.settings.now _ _ _ _ _ _ _ _ _ _ c.pass-written.ensures _ _ _
+        c.flush_after-failed.ensures (c.outcome.ensures
+        ∙ ap outcome_of c.new.ensures) c.requires.feed c.requires.feed refl
+
+pub returns-clause-whole : goal.returns-clause-whole
+returns-clause-whole g c =
+    run_whole _ c.args.settings.now _ _ _ _ _ _ _ _ _ _ c.pass-written.ensures _ _ _
+        c.flush_after-failed.ensures (c.outcome.ensures
+        ∙ ap outcome_of c.new.ensures) c.requires.feed c.requires.feed
+
+pub returns-clause-every : goal.returns-clause-every
+returns-clause-every g c =
+    run_every _ c.args.settings.now _ _ _ _ _ _ _ _ _ _ c.pass-written.ensures _ _ _
+        c.flush_after-failed.ensures (c.outcome.ensures
+        ∙ ap outcome_of c.new.ensures) c.requires.feed c.requires.feed

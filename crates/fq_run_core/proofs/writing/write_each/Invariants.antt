@@ -1,0 +1,17 @@
+-- All blocks so far are written completely, and there is a tally if one is asked for. Each full
+-- block brings the end nearer, since it takes bytes.
+use Rattle.std.proofs.Common.{◌≡◌, ◌-◌, is_some}
+use Rattle.fq_run_core.specs.Devices.{outlet_states}
+use Rattle.fq_run_core.proofs.BlockLemmas.{Wrote}
+use Rattle.fq_run_core.proofs.writing.write_each.Given as goal
+
+abbrev pub invariant-writing : goal.invariant-writing
+invariant-writing g l =
+    let s = g.S.PairReader in let o = g.O.Outlet in
+    Wrote l.fn.settings (s.state l.fn.source) (outlet_states o.state l.fn.outlets)
+    (s.state l.source) (outlet_states o.state l.outlets) l.total
+        × (is_some l.done.tally ≡ l.fn.settings.tallied)
+
+abbrev pub decreases-writing : goal.decreases-writing
+decreases-writing g l = let s = g.S.PairReader in
+    (s.state l.fn.source).most_bytes - (s.state l.source).forward.given

@@ -1,0 +1,97 @@
+-- How the blocks of a run are read and written.
+use Rattle.std.specs.Prelude.{◌≡◌, ◌≢◌, ◌⊎◌, Bool, true, false, ◌||◌, Option, Some, None, List, [], ◌++◌}
+use Rattle.fq_pair.specs.declared.out.Out.{Out}
+use Rattle.fq_pair.specs.declared.fault.InputFault.{InputFault}
+use Rattle.fq_pair.specs.Mates.{Mates}
+use Rattle.fq_pair.specs.Outputs.{texts_of, text_of, counts_of}
+use Rattle.fq_tally.specs.Results.{tally_if}
+use Rattle.fq_run_core.specs.declared.halt.Halt.{Halt}
+use Rattle.fq_run_core.specs.declared.occurred.Occurred.{Occurred}
+use Rattle.fq_run_core.specs.declared.total.Total.{Total}
+use Rattle.fq_run_core.specs.declared.written.Written.{Written}
+use Rattle.fq_run_core.specs.declared.reading_end.ReadingEnd.{ReadingEnd}
+use Rattle.fq_run_core.specs.declared.reading_end.ReadingEnd.TheVariants as reading
+use Rattle.fq_run_core.specs.Choices.{Choices}
+use Rattle.fq_text.specs.Devices.{FeedState}
+use Rattle.fq_run_core.specs.Devices.{OutletStates, AreFlushed, OutletsTook}
+use Rattle.fq_run_core.specs.Fates.{Fate, FlushFailed, failed_outlet, block_begun, part_begun, IsCutShort}
+use Rattle.fq_pair.specs.Forms.{Form}
+use Rattle.fq_pair.specs.Walks.{SourceState}
+use Rattle.fq_run_core.specs.PairsRead.{Reads, fresh_source, feed_in}
+use Rattle.fq_run_core.specs.Totals.{no_total}
+
+-- an outlet failed at its flush
+abbrev pub is_flush : Fate → Bool
+is_flush (FlushFailed out) = true
+is_flush _ = false
+
+-- no worker stopped early
+abbrev pub no_halt : Halt
+no_halt = record { gate = false; memory = false }
+
+-- a total is that of these pairs; if memory was refused before the first pair, there is no tally
+pub record IsCounted (c : Choices) (whole : List Mates) (halt : Halt) (why : Option ReadingEnd)
+    (total : Total) : Type 0 where
+  pub counts : total.counts ≡ counts_of c.steps whole
+  pub tally : (total.tally ≡ tally_if c.tallied c.steps whole)
+      ⊎ ((total.tally ≡ None) × (halt ≡ no_halt) × (why ≡ Some reading.Memory))
+
+-- Pairs were read until reading stopped, and written until a write failed or a worker stopped; the
+-- pairs after that were missed.
+pub record Passes (c : Choices) (old new : SourceState) (before after : OutletStates)
+    (counted : Total) (halt : Halt) (why : Option ReadingEnd) (broken : Option Out) : Type 0 where
+  pub whole : List Mates
+  pub fate : Fate
+  pub missed : List Mates
+  pub counts : IsCounted c whole halt why counted
+  pub reads : Reads old new ((whole ++ block_begun fate) ++ missed) why
+  pub took : OutletsTook before after
+      (λ out. text_of out (texts_of c.steps whole) ++ part_begun c.steps fate out)
+      (failed_outlet fate)
+  pub failed : broken ≡ failed_outlet fate
+  pub cut_short : IsCutShort c.block_pairs c.steps fate
+  pub over : why ≡ None → broken ≢ None
+  pub unflushed : is_flush fate ≡ false
+  pub missed_none : halt ≡ no_halt → broken ≡ None → missed ≡ []
+
+-- what a run on one thread wrote if memory was refused before the first pair
+abbrev pub nothing_written : Written
+nothing_written = record { total = no_total false; why = Some reading.Memory; failed = None }
+
+-- `Passes` for a run on one thread, in which no worker can stop
+abbrev pub HasWritten :
+    Choices → SourceState → SourceState → OutletStates → OutletStates → Written → Type 0
+HasWritten c old new before after written =
+    Passes c old new before after written.total no_halt written.why written.failed
+
+-- `Passes` for a source that is made from these feeds
+pub record Runs (form : Form) (c : Choices) (f r f' r' : FeedState) (before after : OutletStates)
+    (counted : Total) (halt : Halt) (why : Option ReadingEnd) (broken : Option Out) : Type 0 where
+  pub new : SourceState
+  pub passes : Passes c (fresh_source form c f r) new before after counted halt why broken
+  pub forward : f' ≡ feed_in new.forward
+  pub reverse : r' ≡ feed_in new.reverse
+
+-- if no write had failed, each outlet was flushed, up to the first whose flush failed, and all of
+-- them if none failed
+abbrev pub FlushesAfter : Option Out → OutletStates → OutletStates → Option Out → Type 0
+FlushesAfter (Some failed) before after result = (result ≡ Some failed) × (after ≡ before)
+FlushesAfter None before after result =
+    OutletsTook before after (λ out. []) result × (result ≡ None → AreFlushed after)
+
+-- what an outcome is made of: how the workers, the reading and the writing ended
+abbrev pub wants_memory : Option ReadingEnd → Bool
+wants_memory (Some reading.Memory) = true
+wants_memory _ = false
+
+abbrev pub fault_in : Option ReadingEnd → Option InputFault
+fault_in (Some (reading.Fault fault)) = Some fault
+fault_in _ = None
+
+abbrev pub occurred : Halt → Option ReadingEnd → Option Out → Occurred
+occurred halt why failed = record {
+  gate = halt.gate;
+  memory = halt.memory || wants_memory why;
+  failed = failed;
+  fault = fault_in why;
+}

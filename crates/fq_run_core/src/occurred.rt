@@ -1,0 +1,85 @@
+//! What occurred in a run.
+
+ghost use Rattle.std.specs.Prelude.{◌≡◌};
+ghost use Rattle.fq_run_core.specs.Outcomes.{end_of};
+
+use crate::halt::Halt;
+use crate::outcome::Outcome;
+use crate::reading_end::ReadingEnd;
+use fq_pair::{InputFault, Out};
+use fq_text::{MemoryRefused, OutOfMemory, TextFault};
+
+/// What occurred in a run.
+#[derive(Clone, Copy, Debug, PartialEq, Eq)]
+pub struct Occurred {
+    /// A gate didn't let a block pass.
+    pub gate: bool,
+    /// Memory was refused.
+    pub memory: bool,
+    /// The outlet whose write or flush failed.
+    pub failed: Option<Out>,
+    /// The fault that ended the reading.
+    pub fault: Option<InputFault>,
+}
+
+impl Occurred {
+    ghost use Rattle.std.specs.Prelude.{IsSome};
+    ghost use Rattle.fq_run_core.specs.Outcomes.{outcome_of};
+    ghost use Rattle.fq_run_core.specs.Writing.{occurred};
+
+    /// Combines why workers stopped, why reading stopped, and which outlet failed.
+    pub fn new(halt: Halt, why: Option<ReadingEnd>, failed: Option<Out>) -> Occurred
+        ensures { result ≡ occurred halt why failed }
+    {
+        Occurred {
+            gate: halt.gate,
+            memory: halt.memory || matches!(why, Some(ReadingEnd::Memory)),
+            failed,
+            fault: match why {
+                Some(ReadingEnd::Fault(fault)) => Some(fault),
+                _ => None,
+            },
+        }
+    }
+
+    /// Returns what occurred; of several, the first in the order of [`Outcome`].
+    pub fn outcome(self) -> Outcome
+        ensures { result ≡ outcome_of self }
+    {
+        if self.gate {
+            return Outcome::Gate;
+        }
+        let ended = end_outcome(self.fault);
+        if self.memory || matches!(ended, Outcome::Memory) {
+            return Outcome::Memory;
+        }
+        match self.failed {
+            Some(out) => Outcome::Write(out),
+            None => ended,
+        }
+    }
+
+    /// Returns the witness that memory was refused, if this is the outcome.
+    pub fn refused(self) -> Option<MemoryRefused>
+        ensures { outcome_of self ≡ Outcome.Memory → IsSome result }
+    {
+        match self.outcome() {
+            // What occurred stands for the error of std.
+            Outcome::Memory => Some(MemoryRefused::from(OutOfMemory)),
+            _ => None,
+        }
+    }
+}
+
+// The outcome of a run in which nothing occurred but this fault, or no fault.
+fn end_outcome(fault: Option<InputFault>) -> Outcome
+    ensures { result ≡ end_of fault }
+{
+    match fault {
+        None => Outcome::Finished,
+        Some(InputFault::Text(side, TextFault::Read)) => Outcome::Read(side),
+        Some(InputFault::Text(side, TextFault::Endless)) => Outcome::Endless(side),
+        Some(InputFault::Text(_, TextFault::OutOfMemory)) => Outcome::Memory,
+        Some(fault) => Outcome::Input(fault),
+    }
+}

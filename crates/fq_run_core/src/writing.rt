@@ -1,0 +1,161 @@
+//! Reads and writes the blocks of a run on one thread.
+
+ghost use Rattle.std.specs.Prelude.{◌≡◌, ◌≤◌, false, is_some, OnOk, OnErr};
+ghost use Rattle.fq_text.specs.Reading.{text_limit};
+ghost use Rattle.fq_pair.specs.Walks.{GoesOn};
+ghost use Rattle.fq_run_core.specs.Devices.{outlet_states, AreHealthy};
+ghost use Rattle.fq_run_core.specs.Gathering.{Gathers};
+ghost use Rattle.fq_run_core.specs.Sending.{Sends};
+ghost use Rattle.fq_run_core.specs.Totals.{no_total, total_plus};
+ghost use Rattle.fq_run_core.specs.Writing.{Passes, HasWritten, nothing_written, no_halt};
+
+use crate::gathering::gather;
+use crate::outlets::Outlets;
+use crate::reading_end::ReadingEnd;
+use crate::settings::Settings;
+use crate::total::Total;
+use crate::written::Written;
+use fq_pair::{Out, PairReader};
+use fq_tally::Done;
+use fq_text::{OutOfMemory, Outlet};
+use fq_trim::Steps;
+use std::alloc::Global;
+
+/// Reads and writes block by block, until reading stops or a write fails. If memory for a tally is
+/// refused, nothing is read.
+pub(crate) fn write_blocks<S: PairReader, O: Outlet>(
+    alloc: Global,
+    settings: &Settings,
+    source: &mut S,
+    outlets: &mut Outlets<O>,
+) -> Written
+    requires goes { GoesOn (S.state source.old) }
+    requires fresh { (S.state source.old).forward.given ≡ 0 }
+    requires few { (S.state source.old).most_bytes ≤ text_limit }
+    requires outlets { AreHealthy (outlet_states O.state outlets.old) }
+    ensures { HasWritten settings.now (S.state source.old) (S.state source.new)
+        (outlet_states O.state outlets.old) (outlet_states O.state outlets.new) result }
+{
+    let mut written = Written::nothing();
+    write_counted(alloc, settings, source, outlets, &mut written);
+    written
+}
+
+// Does the work of `write_blocks` on a borrowed result, which says so far that nothing was read.
+fn write_counted<S: PairReader, O: Outlet>(
+    alloc: Global,
+    settings: &Settings,
+    source: &mut S,
+    outlets: &mut Outlets<O>,
+    written: &mut Written,
+)
+    requires goes { GoesOn (S.state source.old) }
+    requires fresh { (S.state source.old).forward.given ≡ 0 }
+    requires few { (S.state source.old).most_bytes ≤ text_limit }
+    requires outlets { AreHealthy (outlet_states O.state outlets.old) }
+    requires nothing { written.old ≡ nothing_written }
+    ensures { HasWritten settings.now (S.state source.old) (S.state source.new)
+        (outlet_states O.state outlets.old) (outlet_states O.state outlets.new) written.new }
+{
+    let mut done = Done::new(alloc, 0);
+    write_with(alloc, settings, source, outlets, written, &mut done);
+}
+
+// Does the work of `write_counted` with borrowed room for the texts of a block.
+fn write_with<S: PairReader, O: Outlet>(
+    alloc: Global,
+    settings: &Settings,
+    source: &mut S,
+    outlets: &mut Outlets<O>,
+    written: &mut Written,
+    done: &mut Done,
+)
+    requires goes { GoesOn (S.state source.old) }
+    requires fresh { (S.state source.old).forward.given ≡ 0 }
+    requires few { (S.state source.old).most_bytes ≤ text_limit }
+    requires outlets { AreHealthy (outlet_states O.state outlets.old) }
+    requires nothing { written.old ≡ nothing_written }
+    ensures { HasWritten settings.now (S.state source.old) (S.state source.new)
+        (outlet_states O.state outlets.old) (outlet_states O.state outlets.new) written.new }
+{
+    let Ok(()) = ask(alloc, settings.tallied(), &mut written.total, done) else {
+        return;
+    };
+    let (why, failed) = write_each(settings, source, outlets, &mut written.total, done);
+    written.why = why;
+    written.failed = failed;
+}
+
+// Allocates the tallies of the block and of the total, if a tally is asked for.
+fn ask(alloc: Global, tallied: bool, total: &mut Total, done: &mut Done) -> Result<(), OutOfMemory>
+    requires { total.old ≡ no_total false }
+    ensures total { OnOk result (total.new ≡ no_total tallied) }
+    ensures asked { OnOk result (is_some done.new.tally ≡ tallied) }
+    ensures refused { OnErr result (total.new ≡ total.old) }
+{
+    done.ask(alloc, tallied)?;
+    total.ask(alloc, tallied)
+}
+
+// Reads and writes block by block, and counts each block that is written completely. Returns why
+// reading stopped, if it did, and the outlet whose write failed, if one did.
+fn write_each<S: PairReader, O: Outlet>(
+    settings: &Settings,
+    source: &mut S,
+    outlets: &mut Outlets<O>,
+    total: &mut Total,
+    done: &mut Done,
+) -> (Option<ReadingEnd>, Option<Out>)
+    requires goes { GoesOn (S.state source.old) }
+    requires fresh { (S.state source.old).forward.given ≡ 0 }
+    requires few { (S.state source.old).most_bytes ≤ text_limit }
+    requires outlets { AreHealthy (outlet_states O.state outlets.old) }
+    requires none { total.old ≡ no_total settings.now.tallied }
+    requires asked { is_some done.old.tally ≡ settings.now.tallied }
+    ensures { Passes settings.now (S.state source.old) (S.state source.new)
+        (outlet_states O.state outlets.old) (outlet_states O.state outlets.new)
+        total.new no_halt result.0 result.1 }
+{
+    let steps = settings.steps();
+    let most = settings.block_pairs();
+    // The label is the loop's name in its proof.
+    'writing: loop {
+        let (why, sent) = write_block(source, steps, most, outlets, total, done);
+        if let Err(out) = sent {
+            return (why, Some(out));
+        }
+        if why.is_some() {
+            return (why, None);
+        }
+    }
+}
+
+// Reads and writes the next block, of up to `most` pairs, and counts it if it is written
+// completely. Returns why reading stopped, if it did, and the result of the write.
+fn write_block<S: PairReader, O: Outlet>(
+    source: &mut S,
+    steps: &Steps,
+    most: u64,
+    outlets: &mut Outlets<O>,
+    total: &mut Total,
+    done: &mut Done,
+) -> (Option<ReadingEnd>, Result<(), Out>)
+    requires goes { GoesOn (S.state source.old) }
+    requires some { 1 ≤ most }
+    requires few { most ≤ 65536 }
+    requires outlets { AreHealthy (outlet_states O.state outlets.old) }
+    ensures gathers { Gathers (S.state source.old) (S.state source.new)
+        (is_some done.old.tally) steps.now most done.new result.0 }
+    ensures sends { Sends (outlet_states O.state outlets.old)
+        (outlet_states O.state outlets.new) done.new.texts result.1 }
+    ensures counted { OnOk result.1 (total.new ≡ total_plus total.old done.new) }
+    ensures uncounted { OnErr result.1 (total.new ≡ total.old) }
+{
+    done.clear();
+    let why = gather(source, steps, most, done);
+    let sent = outlets.write(&done.texts);
+    if sent.is_ok() {
+        total.add(done);
+    }
+    (why, sent)
+}

@@ -1,0 +1,39 @@
+//! What a run read and wrote.
+
+ghost use Rattle.std.specs.Prelude.{◌≡◌};
+
+use crate::reading_end::ReadingEnd;
+use crate::total::Total;
+use fq_pair::Out;
+
+/// What became of the pairs of a run.
+pub(crate) struct Written {
+    /// The counts and the tally of the pairs whose block was written completely.
+    pub(crate) total: Total,
+    /// Why reading stopped. `None` if a write failed before that.
+    pub(crate) why: Option<ReadingEnd>,
+    /// The outlet whose write failed.
+    pub(crate) failed: Option<Out>,
+}
+
+/// What became of the pairs of a run, and the feeds as the run left them.
+pub(crate) struct Pass<T> {
+    pub(crate) written: Written,
+    pub(crate) feeds: T,
+}
+
+impl Written {
+    ghost use Rattle.std.specs.Prelude.{◌≡◌};
+    ghost use Rattle.fq_run_core.specs.Writing.{nothing_written};
+
+    /// Nothing was read or written: memory was refused before the first pair.
+    pub(crate) fn nothing() -> Written
+        ensures { result ≡ nothing_written }
+    {
+        Written {
+            total: Total::without_tally(),
+            why: Some(ReadingEnd::Memory),
+            failed: None,
+        }
+    }
+}

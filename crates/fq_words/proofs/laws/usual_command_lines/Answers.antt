@@ -1,9 +1,0 @@
-use Rattle.fq_words.proofs.PairsLineLemmas.{pairs_are_asked_for}
-use Rattle.fq_words.proofs.MixedLineLemmas.{mixed_pairs_are_asked_for}
-use Rattle.fq_words.proofs.laws.usual_command_lines.Goals as goal
-
-pub returns-clause-pairs : goal.returns-clause-pairs
-returns-clause-pairs c = pairs_are_asked_for
-
-pub returns-clause-mixed : goal.returns-clause-mixed
-returns-clause-mixed c = mixed_pairs_are_asked_for

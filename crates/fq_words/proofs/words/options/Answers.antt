@@ -1,7 +1,0 @@
-use Rattle.std.proofs.Common.{sym, subst}
-use Rattle.fq_words.specs.Words.{AreArgs, option_rules}
-use Rattle.fq_words.proofs.words.options.Goals as goal
-
-pub returns : goal.returns
-returns c = subst (AreArgs option_rules) (sym c.in_ok-vec.ensures.items)
-    (c.number-threads.ensures, (c.number-block.ensures, (c.number-depth.ensures, (c.number-chunk.ensures, (c.encoding-encoding.ensures, (c.log-log.ensures, (c.unchecked_names-unchecked.ensures, (c.sync-sync.ensures, (c.report-report.ensures, (c.explain-explain.ensures, (c.unexplained-unexplained.ensures, tt)))))))))))

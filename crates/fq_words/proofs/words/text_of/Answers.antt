@@ -1,8 +1,0 @@
-use Rattle.std.proofs.Common.{◌∙◌, ap, rules}
-use Rattle.clap.specs.Words.{found_of}
-use Rattle.clap.proofs.WalkLemmas.{first_value-rows}
-use Rattle.fq_words.proofs.WordLemmas.{text_read}
-use Rattle.fq_words.proofs.words.text_of.Goals as goal
-
-pub returns : goal.returns
-returns c = ap (λ text. text.now) c.unwrap_or.ensures ∙ text_read _ _ _ (c.get_str.ensures ∙ first_value-rows (found_of c.args.found.now) c.args.id.now) (search rules)
