@@ -41,63 +41,92 @@ asks_this words read own a is pairs asked = let some : Some own ≡ Some a = sym
 -- the status of a refusal is neither 0 nor 1
 pub refusal_fails : (refusal : Refusal) → (status_of refusal ≢ 0) × (status_of refusal ≢ 1)
     × (status_of refusal ≢ 3)
-refusal_fails why.Encoding =
-    ((λ e. absurd (omega (arith, e))), (λ e. absurd (omega (arith, e))),
-    (λ e. absurd (omega (arith, e))))
-refusal_fails (why.Step fault) =
-    ((λ e. absurd (omega (arith, e))), (λ e. absurd (omega (arith, e))),
-    (λ e. absurd (omega (arith, e))))
-refusal_fails (why.Setting bad) =
-    ((λ e. absurd (omega (arith, e))), (λ e. absurd (omega (arith, e))),
-    (λ e. absurd (omega (arith, e))))
-refusal_fails (why.SameName out) =
-    ((λ e. absurd (omega (arith, e))), (λ e. absurd (omega (arith, e))),
-    (λ e. absurd (omega (arith, e))))
-refusal_fails (why.Source side) =
-    ((λ e. absurd (omega (arith, e))), (λ e. absurd (omega (arith, e))),
-    (λ e. absurd (omega (arith, e))))
-refusal_fails (why.Target out) =
-    ((λ e. absurd (omega (arith, e))), (λ e. absurd (omega (arith, e))),
-    (λ e. absurd (omega (arith, e))))
-refusal_fails why.SameReport =
-    ((λ e. absurd (omega (arith, e))), (λ e. absurd (omega (arith, e))),
-    (λ e. absurd (omega (arith, e))))
-refusal_fails why.Report =
-    ((λ e. absurd (omega (arith, e))), (λ e. absurd (omega (arith, e))),
-    (λ e. absurd (omega (arith, e))))
-refusal_fails (why.Memory lacked) =
-    ((λ e. absurd (omega (arith, e))), (λ e. absurd (omega (arith, e))),
-    (λ e. absurd (omega (arith, e))))
+refusal_fails why.Encoding = (
+  (λ e. absurd (omega (arith, e))),
+  (λ e. absurd (omega (arith, e))),
+  (λ e. absurd (omega (arith, e))),
+)
+refusal_fails (why.Step fault) = (
+  (λ e. absurd (omega (arith, e))),
+  (λ e. absurd (omega (arith, e))),
+  (λ e. absurd (omega (arith, e))),
+)
+refusal_fails (why.Setting bad) = (
+  (λ e. absurd (omega (arith, e))),
+  (λ e. absurd (omega (arith, e))),
+  (λ e. absurd (omega (arith, e))),
+)
+refusal_fails (why.SameName out) = (
+  (λ e. absurd (omega (arith, e))),
+  (λ e. absurd (omega (arith, e))),
+  (λ e. absurd (omega (arith, e))),
+)
+refusal_fails (why.Source side) = (
+  (λ e. absurd (omega (arith, e))),
+  (λ e. absurd (omega (arith, e))),
+  (λ e. absurd (omega (arith, e))),
+)
+refusal_fails (why.Target out) = (
+  (λ e. absurd (omega (arith, e))),
+  (λ e. absurd (omega (arith, e))),
+  (λ e. absurd (omega (arith, e))),
+)
+refusal_fails why.SameReport = (
+  (λ e. absurd (omega (arith, e))),
+  (λ e. absurd (omega (arith, e))),
+  (λ e. absurd (omega (arith, e))),
+)
+refusal_fails why.Report = (
+  (λ e. absurd (omega (arith, e))),
+  (λ e. absurd (omega (arith, e))),
+  (λ e. absurd (omega (arith, e))),
+)
+refusal_fails (why.Memory lacked) = (
+  (λ e. absurd (omega (arith, e))),
+  (λ e. absurd (omega (arith, e))),
+  (λ e. absurd (omega (arith, e))),
+)
 
 -- nor is the status at which a refusal is reported
 pub refuses_fails : (a : Asking) (refusal : Refusal) (err : Device) (status : ℕ) →
     Refuses a refusal err status → (status ≢ 0) × (status ≢ 3)
 refuses_fails a refusal err status (inl told) =
     let own = refusal_fails refusal in
-        ((λ zero. own.0 (sym told.0 ∙ zero)), (λ three. own.2 (sym told.0 ∙ three)))
+    ((λ zero. own.0 (sym told.0 ∙ zero)), (λ three. own.2 (sym told.0 ∙ three)))
 refuses_fails a refusal err status (inr lacks) =
-    let five = lacks.status_is in
-        ((λ zero. absurd (omega (arith, zero, five))),
-        (λ three. absurd (omega (arith, three, five))))
+    let five = lacks.status_is in (
+      (λ zero. absurd (omega (arith, zero, five))),
+      (λ three. absurd (omega (arith, three, five))),
+    )
 
 -- refused memory has its line
 lacks_line : (a : Asking) (told : Bool) (old new : Holding) (out err : Device) (status : ℕ) →
     LacksMemory err status → (IsTrue told → AreLeft a old new)
     → (IsTrue told → (name : List ℕ) → a.report ≡ Some name → IsReportUncut a old new name) →
-        TookLine a told old new out err status
+    TookLine a told old new out err status
 lacks_line a told old new out err status lacks left report_left = record {
   text = memory_line;
-  fits = inr (inr (inl (record { status_is = lacks.status_is; text_is = refl; left =
-      left; report_left = report_left })));
+  fits = inr (inr (inl (record {
+    status_is = lacks.status_is;
+    text_is = refl;
+    left =
+        left;
+    report_left = report_left;
+  })));
   took = lacks.told;
 }
 
 -- a whole report is a first part of itself
 whole_begins : (a : Asking) (old new : Holding) (name : List ℕ) → HoldsReport a old new name →
     IsReportLeft a old new name
-whole_begins a old new name holds = inr (record { text = holds.text; count = length holds.text; is =
-    holds.is; held = holds.held
-    ∙ ap Some (sym (take_all (length holds.text) holds.text (omega arith))) })
+whole_begins a old new name holds = inr (record {
+  text = holds.text;
+  count = length holds.text;
+  is =
+      holds.is;
+  held = holds.held
+      ∙ ap Some (sym (take_all (length holds.text) holds.text (omega arith)));
+})
 
 uncut_left : (a : Asking) (old new : Holding) (name : List ℕ) → IsReportUncut a old new name →
     IsReportLeft a old new name
@@ -109,7 +138,7 @@ pub lacks_answer : (a : Asking) (told : Bool) (old new : Holding) (out err : Dev
     LacksMemory err status → (IsTrue told → AreLeft a old new)
     → (IsTrue told → (name : List ℕ) → a.report ≡ Some name → IsReportUncut a old new name)
     → (IsTrue told → (side : Side) → old (input_name a.inputs side) ≡ None → IsUnchanged old new) →
-        PairsAnswered a told old new out err status
+    PairsAnswered a told old new out err status
 lacks_answer a told old new out err status lacks left report_left unopened =
     let five = lacks.status_is in
     record {
@@ -135,12 +164,12 @@ there_is (Some x) none = refl
 pub refused_answer : (a : Asking) (told : Bool) (old new : Holding) (out err : Device) (status : ℕ)
     (refusal : Refusal) → Refuses a refusal err status
     → ((other : Refusal) → wrong_with a ≡ Some other → refusal ≡ other) →
-        (wrong_with a ≡ None → status_of refusal ≢ 2)
+    (wrong_with a ≡ None → status_of refusal ≢ 2)
     → (IsTrue told → RefusalLeaves a refusal old new)
     → (IsTrue told → (name : List ℕ) → a.report ≡ Some name → IsNoOutput a name →
-        ReportLeft refusal (old name) (new name))
+    ReportLeft refusal (old name) (new name))
     → (IsTrue told → (side : Side) → old (input_name a.inputs side) ≡ None → IsUnchanged old new) →
-        PairsAnswered a told old new out err status
+    PairsAnswered a told old new out err status
 refused_answer a told old new out err status refusal (inl refuses) first late left report_left
     unopened =
     let own = refusal_fails refusal in
@@ -151,9 +180,19 @@ refused_answer a told old new out err status refusal (inl refuses) first late le
       wrong = λ other named. let P : Refusal → Type 0 = λ r. Refuses a r err status in
           subst P (first other named) (inl refuses);
       right = λ two. there_is (wrong_with a) (λ none. late none (sym is ∙ two));
-      line = λ other. record { text = line_of a refusal; fits =
-          inl (inl (record { why = refusal; status_is = sym is; text_is = refl; left =
-          left; report_left = report_left })); took = refuses.1 };
+      line = λ other. record {
+        text = line_of a refusal;
+        fits =
+            inl (inl (record {
+              why = refusal;
+              status_is = sym is;
+              text_is = refl;
+              left =
+                  left;
+              report_left = report_left;
+            }));
+        took = refuses.1;
+      };
       known = λ one. own.1 (sym is ∙ one);
       left = λ other tells. inl (refusal_untrimmed a refusal old new (left tells));
       reported =
@@ -167,9 +206,9 @@ refused_answer a told old new out err status refusal (inl refuses) first late le
 refused_answer a told old new out err status refusal (inr lacks) first late left report_left
     unopened =
     lacks_answer a told old new out err status lacks
-        (λ tells. inl (refusal_untrimmed a refusal old new (left tells)))
+    (λ tells. inl (refusal_untrimmed a refusal old new (left tells)))
     (λ tells name named. inl (report_untrimmed a refusal old new (left tells) (report_left tells)
-        name named)) unopened
+    name named)) unopened
 
 -- What is known of a run that was made: what its outputs hold, whether its report was due, and what
 -- the report holds.
@@ -193,7 +232,8 @@ not_lane outcome is lane =
     let six : outcome_status outcome ≡ 6 = ap outcome_status lane in
     ⊎_elim (λ zero. omega (arith, six, zero)) (λ three. omega (arith, six, three)) is
 
-module _ (a : Asking) (told : Bool) (old new : Holding) (outcome : Outcome) (counts : Counts) (reported : Reported) (run : IsRun a told old new outcome counts reported) where
+module _ (a : Asking) (told : Bool) (old new : Holding) (outcome : Outcome) (counts : Counts)
+    (reported : Reported) (run : IsRun a told old new outcome counts reported) where
   held_as : (is : Reported) → reported ≡ is → IsTrue told → (name : List ℕ) → a.report ≡ Some name →
       ReportHeld is a old new name
   held_as is same tells name named = let P : Reported → Type 0 = λ r. ReportHeld r a old new name in
@@ -231,8 +271,14 @@ module _ (a : Asking) (told : Bool) (old new : Holding) (outcome : Outcome) (cou
       TookLine a told old new out err status
   told_line out err status (inl (which, inl ending)) = record {
     text = ending_line a outcome;
-    fits = inl (inr (record { outcome = outcome; status_is = sym ending.0; text_is = refl; left =
-        run.ended; unreported = is_empty which }));
+    fits = inl (inr (record {
+      outcome = outcome;
+      status_is = sym ending.0;
+      text_is = refl;
+      left =
+          run.ended;
+      unreported = is_empty which;
+    }));
     took = ending.1;
   }
   told_line out err status (inl (which, inr (inl unprinted))) = record {
@@ -241,23 +287,32 @@ module _ (a : Asking) (told : Bool) (old new : Holding) (outcome : Outcome) (cou
       status_is = unprinted.1.1;
       failed = unprinted.1.0;
       text_is = refl;
-      left = λ tells. (outcome, counts, unprinted.0, run.trims tells
-          (done_is_whole outcome unprinted.0));
+      left = λ tells. (
+        outcome,
+        counts,
+        unprinted.0,
+        run.trims tells
+            (done_is_whole outcome unprinted.0),
+      );
       reported = is_held which (inl unprinted.0);
     }));
     took = unprinted.1.2;
   }
   told_line out err status (inl (which, inr (inr untold))) =
       lacks_line a told old new out err status untold.1
-          (λ tells. inr (outcome, run.ended tells untold.0)) (λ tells. is_uncut which tells)
+      (λ tells. inr (outcome, run.ended tells untold.0)) (λ tells. is_uncut which tells)
   told_line out err status (inr (inl failed)) =
       let due = due_as report.Failed failed.0 (λ e. absurd (cc e)) in record {
         text = report_line;
         fits = inr (inr (inr (record {
           status_is = failed.1;
           text_is = refl;
-          left = λ tells. (outcome, counts, run.trims tells
-              (ends_so outcome (outcome_status outcome) refl due));
+          left = λ tells. (
+            outcome,
+            counts,
+            run.trims tells
+                (ends_so outcome (outcome_status outcome) refl due),
+          );
           begun = held_as report.Failed failed.0;
         })));
         took = failed.2;
@@ -265,9 +320,9 @@ module _ (a : Asking) (told : Bool) (old new : Holding) (outcome : Outcome) (cou
   told_line out err status (inr (inr lacks)) =
       let due = due_as (report.OutOfMemory lacks.0.0) lacks.0.1 (λ e. absurd (cc e)) in
       lacks_line a told old new out err status lacks.1
-          (λ tells. inr (outcome, run.ended tells (not_lane outcome due)))
+      (λ tells. inr (outcome, run.ended tells (not_lane outcome due)))
       (λ tells name named. inl (inr (held_as (report.OutOfMemory lacks.0.0) lacks.0.1 tells name
-          named)))
+      named)))
 
 -- ---- the device that is named
 
@@ -278,11 +333,17 @@ four_not_five n four five = absurd (omega (arith, four, five))
 pub refused_device : (a : Asking) (tells : Bool) (old : Holding) (refuses opened : Names)
     (err : Device) (status : ℕ) (refusal : Refusal) → Refuses a refusal err status
     → (IsTrue tells → TellsInputs a.inputs refusal old refuses opened) →
-        IsRefusable a (MayRefuse refuses opened) refusal → status ≡ 4 →
-        NamesRefused a tells old refuses opened err
+    IsRefusable a (MayRefuse refuses opened) refusal → status ≡ 4 →
+    NamesRefused a tells old refuses opened err
 refused_device a tells old refuses opened err status refusal (inl refuses_so) inputs refused four =
-    record { why = refusal; status_is = sym refuses_so.0 ∙ four; told = refuses_so.1; inputs =
-        inputs; refused = refused }
+    record {
+      why = refusal;
+      status_is = sym refuses_so.0 ∙ four;
+      told = refuses_so.1;
+      inputs =
+          inputs;
+      refused = refused;
+    }
 refused_device a tells old refuses opened err status refusal (inr lacks) inputs refused four =
     absurd (four_not_five status four lacks.status_is)
 
@@ -294,15 +355,21 @@ four_not_lane outcome four lane = let six : outcome_status outcome ≡ 6 = ap ou
 pub failed_device : (a : Asking) (tells : Bool) (old : Holding) (refuses opened : Names)
     (failed : Failed) (out err : Device) (status : ℕ) (outcome : Outcome) (reported : Reported)
     → (outcome ≢ Lane → HasFailed a tells old failed outcome) →
-        (IsTrue tells → settled outcome ≡ outcome) →
-        (reported ≡ report.Failed → ReportFailed a failed)
+    (IsTrue tells → settled outcome ≡ outcome) →
+    (reported ≡ report.Failed → ReportFailed a failed)
     → Tells a outcome reported out err status → status ≡ 4 →
-        NamesDevice a tells old refuses opened failed out err
+    NamesDevice a tells old refuses opened failed out err
 failed_device a tells old refuses opened failed out err status outcome reported fails as_it_is
     report_fails (inl (which, inl ending)) four =
     let is = sym ending.0 ∙ four in
-    inr (inl (record { outcome = outcome; status_is = is; told = ending.1; has_failed =
-        fails (four_not_lane outcome is); as_it_is = as_it_is }))
+    inr (inl (record {
+      outcome = outcome;
+      status_is = is;
+      told = ending.1;
+      has_failed =
+          fails (four_not_lane outcome is);
+      as_it_is = as_it_is;
+    }))
 failed_device a tells old refuses opened failed out err status outcome reported fails as_it_is
     report_fails (inl (which, inr (inl unprinted))) four =
     inr (inr (inl (unprinted.1.0, unprinted.1.2)))
@@ -336,13 +403,16 @@ is_left a old new name (report.OutOfMemory lacked) empty = inl (inr empty)
 fits_left : (a : Asking) (told : Bool) (old new : Holding) (out : Device) (status : ℕ)
     (text : List ℕ) → (IsRefusal a told old new status text ⊎ IsEnding a told old new status text)
     ⊎ (IsUnprinted a told old new out status text
-        ⊎ (IsUntold a told old new status text ⊎ IsUnreported a told old new status text)) →
-        status ≢ 6 → IsTrue told → AreLeft a old new
+    ⊎ (IsUntold a told old new status text ⊎ IsUnreported a told old new status text)) →
+    status ≢ 6 → IsTrue told → AreLeft a old new
 fits_left a told old new out status text (inl (inl refusal)) other tells =
     inl (refusal_untrimmed a refusal.why old new (refusal.left tells))
 fits_left a told old new out status text (inl (inr ending)) other tells =
-    inr (ending.outcome, ending.left tells (λ lane. other (sym ending.status_is
-        ∙ ap outcome_status lane)))
+    inr (
+      ending.outcome,
+      ending.left tells (λ lane. other (sym ending.status_is
+          ∙ ap outcome_status lane)),
+    )
 fits_left a told old new out status text (inr (inl unprinted)) other tells =
     let all = unprinted.left tells in inr (all.0, whole_first a old new all.0 all.1 all.3)
 fits_left a told old new out status text (inr (inr (inl untold))) other tells = untold.left tells
@@ -355,13 +425,13 @@ zero_or n = grind arith
 -- what a call leaves in the files, at every status except that of an unconfirmed lane
 pub left_so : (a : Asking) (told : Bool) (old new : Holding) (out err : Device) (status : ℕ)
     → ((status ≡ 0) ⊎ (status ≡ 3) → IsTrue told → EndsWhole a old new out err status) →
-        (status ≢ 0 → TookLine a told old new out err status)
+    (status ≢ 0 → TookLine a told old new out err status)
     → status ≢ 6 → IsTrue told → AreLeft a old new
 left_so a told old new out err status whole line other tells = ⊎_elim
     (λ zero. let ends = whole (inl zero) tells in
-        inr (ends.outcome, whole_first a old new ends.outcome ends.counts ends.trims))
+    inr (ends.outcome, whole_first a old new ends.outcome ends.counts ends.trims))
     (λ some. let took = line some in fits_left a told old new out status took.text took.fits other
-        tells)
+    tells)
     (zero_or status)
 
 -- an option that is not `None` holds a value

@@ -10,7 +10,8 @@ use Rattle.fq_text.specs.Devices.{OutletState}
 use Rattle.fq_run.specs.Devices.{AreHealthy, OutletStates, Took, TookText}
 use Rattle.fq_app.specs.Example.{example_choices, example_forward, example_output, example_pairs, example_reverse, example_summary}
 
-module _ (choices : Choices) (forward reverse : List ℕ) (choices_are : choices ≡ example_choices) (forward_is : forward ≡ example_forward) (reverse_is : reverse ≡ example_reverse) where
+module _ (choices : Choices) (forward reverse : List ℕ) (choices_are : choices ≡ example_choices)
+    (forward_is : forward ≡ example_forward) (reverse_is : reverse ≡ example_reverse) where
   pub output_is : (out : Out) →
       text_of out (texts_of choices.steps (pairs choices.check_names choices.encoding 0 forward
       reverse).mates) ≡ example_output out
@@ -48,8 +49,14 @@ pub all_healthy : (o : OutletStates) → o.forward_paired.failures ≡ 0 →
     o.forward_unpaired.failures ≡ 0 → o.reverse_paired.failures ≡ 0 →
     o.reverse_unpaired.failures ≡ 0 →
     IfSome o.log (λ log. log.failures ≡ 0) → AreHealthy o
-all_healthy o fp fu rp ru log = record { forward_paired = fp; forward_unpaired =
-    fu; reverse_paired = rp; reverse_unpaired = ru; log = log }
+all_healthy o fp fu rp ru log = record {
+  forward_paired = fp;
+  forward_unpaired =
+      fu;
+  reverse_paired = rp;
+  reverse_unpaired = ru;
+  log = log;
+}
 
 -- an empty outlet that took a text holds that text
 pub log_took : {A : Type 0} (state : A → OutletState) (old new : Option A) (text left : List ℕ) →
@@ -68,6 +75,6 @@ pub six_appended : (t0 t1 t2 t3 t4 t5 t6 a b c d e f : List ℕ) → t0 ≡ [] �
 six_appended t0 t1 t2 t3 t4 t5 t6 a b c d e f e0 e1 e2 e3 e4 e5 e6 =
     let one : t1 ≡ a = e1 ∙ ap (λ t. t ++ a) e0 in
     let all : t6 ≡ ((((a ++ b) ++ c) ++ d) ++ e) ++ f = e6
-        ∙ ap (λ t. t ++ f) (e5 ∙ ap (λ t. t ++ e) (e4 ∙ ap (λ t. t ++ d) (e3
-        ∙ ap (λ t. t ++ c) (e2 ∙ ap (λ t. t ++ b) one)))) in
+    ∙ ap (λ t. t ++ f) (e5 ∙ ap (λ t. t ++ e) (e4 ∙ ap (λ t. t ++ d) (e3
+    ∙ ap (λ t. t ++ c) (e2 ∙ ap (λ t. t ++ b) one)))) in
     all ∙ simp append_assoc

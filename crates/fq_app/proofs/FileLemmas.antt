@@ -82,8 +82,8 @@ whole_files a old new out err status ends =
           subst (λ (counts : Counts). AreInStep c.check_names c.steps c.encoding ms counts texts)
           (sym trims.counts_are)
           (texts_are_in_step c.check_names c.steps c.encoding ms
-              (inputs_give_pairs a.inputs.form c.check_names c.encoding trims.forward
-              trims.reverse));
+          (inputs_give_pairs a.inputs.form c.check_names c.encoding trims.forward
+          trims.reverse));
     }
 
 -- so are those that any other run has left, for the first pairs

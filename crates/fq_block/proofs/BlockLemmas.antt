@@ -25,8 +25,8 @@ starts_from-append : (n : ℕ) (ms : List Mates) (m : Mates) →
 starts_from-append n [] m = let e : n ≡ n + 0 = omega arith in ap (λ k. k ∷ []) e
 starts_from-append n (k ∷ ks) m =
     let e : n + length (packed_pair k) + length (packed_pairs ks)
-        ≡ n + length (packed_pair k ++ packed_pairs ks) =
-        omega (arith, length-append (packed_pair k) (packed_pairs ks)) in
+    ≡ n + length (packed_pair k ++ packed_pairs ks) =
+    omega (arith, length-append (packed_pair k) (packed_pairs ks)) in
     ap (λ starts. n ∷ starts) (starts_from-append (n + length (packed_pair k)) ks m)
     ∙ ap (λ at. n ∷ (starts_from (n + length (packed_pair k)) ks ++ at ∷ [])) e
 
@@ -39,28 +39,28 @@ module _ (encoding : Encoding) where
       let bytes = front ++ (packed_pair m ++ packed_pairs ms) in
       let more = starts_from (length front + length (packed_pair m)) ms in
       let first = ap (pair_in encoding) (drop-append_seam front (packed_pair m ++ packed_pairs ms))
-          ∙ pair_in-packed_pair encoding m fit.0 (packed_pairs ms) in
+      ∙ pair_in-packed_pair encoding m fit.0 (packed_pairs ms) in
       let others =
-          ap (λ b. pairs_at encoding b more)
-          (sym (append_assoc front (packed_pair m) (packed_pairs ms)))
+      ap (λ b. pairs_at encoding b more)
+      (sym (append_assoc front (packed_pair m) (packed_pairs ms)))
       ∙ ap (λ n. pairs_at encoding ((front ++ packed_pair m) ++ packed_pairs ms) (starts_from n ms))
-          (sym (length-append front (packed_pair m)))
+      (sym (length-append front (packed_pair m)))
       ∙ pairs_at-packed (front ++ packed_pair m) ms fit.1 in
       ap (λ (k : Mates). k ∷ pairs_at encoding bytes more) first ∙ ap (λ ks. m ∷ ks) others
 
   held_from : (front : List ℕ) (ms : List Mates) (i : ℕ) → AllFit encoding ms → i < length ms
       → HoldsPair encoding (drop (slice_index (starts_from (length front) ms) i)
-          (front ++ packed_pairs ms))
+      (front ++ packed_pairs ms))
   held_from front [] i fit within = absurd (omega arith)
   held_from front (m ∷ ms) zero fit within =
       subst (HoldsPair encoding) (sym (drop-append_seam front (packed_pair m ++ packed_pairs ms)))
-          (HoldsPair-packed_pair encoding m fit.0 (packed_pairs ms))
+      (HoldsPair-packed_pair encoding m fit.0 (packed_pairs ms))
   held_from front (m ∷ ms) (suc i) fit within =
       subst (λ b. HoldsPair encoding
-          (drop (slice_index (starts_from (length front + length (packed_pair m)) ms) i) b))
-          (append_assoc front (packed_pair m) (packed_pairs ms))
+      (drop (slice_index (starts_from (length front + length (packed_pair m)) ms) i) b))
+      (append_assoc front (packed_pair m) (packed_pairs ms))
       (subst (λ n. HoldsPair encoding (drop (slice_index (starts_from n ms) i)
-          ((front ++ packed_pair m) ++ packed_pairs ms))) (length-append front (packed_pair m))
+      ((front ++ packed_pair m) ++ packed_pairs ms))) (length-append front (packed_pair m))
       (held_from (front ++ packed_pair m) ms i fit.1 (omega arith)))
 
   module _ (bytes starts : List ℕ) where
@@ -69,7 +69,7 @@ module _ (encoding : Encoding) where
         starts ≡ starts_from 0 ms → pairs_at encoding bytes starts ≡ ms
     pairs_are ms fit packed placed =
         ap (λ b. pairs_at encoding b starts) packed
-            ∙ ap (pairs_at encoding (packed_pairs ms)) placed ∙ pairs_at-packed [] ms fit
+        ∙ ap (pairs_at encoding (packed_pairs ms)) placed ∙ pairs_at-packed [] ms fit
 
     IsPacked-of : (ms : List Mates) → AllFit encoding ms → bytes ≡ packed_pairs ms →
         starts ≡ starts_from 0 ms → length starts ≤ 65536 → IsPacked encoding bytes starts
@@ -120,7 +120,7 @@ module _ (encoding : Encoding) where
           let ms = pairs_at encoding bytes starts in
           ap (λ s. s ++ length bytes ∷ []) is.placed
           ∙ ap (λ n. starts_from 0 ms ++ n ∷ []) (ap length is.packed
-              ∙ sym (zero-add (length (packed_pairs ms))))
+          ∙ sym (zero-add (length (packed_pairs ms))))
           ∙ sym (starts_from-append 0 ms m)
 
       -- one more pair
@@ -133,5 +133,5 @@ module _ (encoding : Encoding) where
           IsPacked encoding (bytes ++ packed_pair m) (starts ++ length bytes ∷ [])
       IsPacked-pushed room =
           IsPacked-of (bytes ++ packed_pair m) (starts ++ length bytes ∷ [])
-              (pairs_at encoding bytes starts ++ m ∷ []) all_fit bytes_more starts_more
+          (pairs_at encoding bytes starts ++ m ∷ []) all_fit bytes_more starts_more
           (omega (arith, length_push starts (length bytes)))

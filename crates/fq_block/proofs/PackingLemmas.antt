@@ -24,9 +24,11 @@ unfolding packed_length
 drop-packed_length n rest = refl
 
 -- The parts of bytes that begin with two lengths.
-module _ (packed title seq qual rest : List ℕ) (is : packed ≡ packed_length (length title) ++ (packed_length (length seq) ++ (title ++ (seq ++ (qual ++ rest)))))
+module _ (packed title seq qual rest : List ℕ)
+    (is : packed ≡ packed_length (length title) ++ (packed_length
+    (length seq) ++ (title ++ (seq ++ (qual ++ rest)))))
     (title_fits : length title < 2 ^ 32) (seq_fits : length seq < 2 ^ 32) (same_len : length qual
-        ≡ length seq) where
+    ≡ length seq) where
   pub title_len_is : title_len_in packed ≡ length title
   title_len_is = ap length_in is ∙ length_in-packed_length (length title) _ title_fits
 
@@ -73,7 +75,7 @@ module _ (packed title seq qual rest : List ℕ) (is : packed ≡ packed_length 
       let b = length-packed_length (length seq) in
       let c = ap length is in
       let d = length-append (packed_length (length title))
-          (packed_length (length seq) ++ (title ++ (seq ++ (qual ++ rest)))) in
+      (packed_length (length seq) ++ (title ++ (seq ++ (qual ++ rest)))) in
       let e = length-append (packed_length (length seq)) (title ++ (seq ++ (qual ++ rest))) in
       let f = length-append title (seq ++ (qual ++ rest)) in
       let g = length-append seq (qual ++ rest) in
@@ -97,18 +99,28 @@ module _ (r : Read) (lawful : IsLawful r) where
     read_in-packed_read =
         let bytes = packed_read r ++ rest in
         let title = title_is bytes r.title r.seq r.qual rest bytes_are title_small seq_small
-            lawful.same_len in
+        lawful.same_len in
         let seq = seq_is bytes r.title r.seq r.qual rest bytes_are title_small seq_small
-            lawful.same_len in
+        lawful.same_len in
         let qual = qual_is bytes r.title r.seq r.qual rest bytes_are title_small seq_small
-            lawful.same_len in
-        ap (λ (t : List ℕ). let k : Read = record { encoding = r.encoding; title = t; seq =
-            (read_in r.encoding bytes).seq; qual = (read_in r.encoding bytes).qual } in k) title
+        lawful.same_len in
+        ap (λ (t : List ℕ). let k : Read = record {
+          encoding = r.encoding;
+          title = t;
+          seq =
+              (read_in r.encoding bytes).seq;
+          qual = (read_in r.encoding bytes).qual;
+        } in k) title
         ∙ ap (λ (s : List ℕ). let k : Read =
-            record { encoding = r.encoding; title = r.title; seq = s; qual =
-            (read_in r.encoding bytes).qual } in k) seq
+        record {
+          encoding = r.encoding;
+          title = r.title;
+          seq = s;
+          qual =
+              (read_in r.encoding bytes).qual;
+        } in k) seq
         ∙ ap (λ (q : List ℕ). let k : Read =
-            record { encoding = r.encoding; title = r.title; seq = r.seq; qual = q } in k) qual
+        record { encoding = r.encoding; title = r.title; seq = r.seq; qual = q } in k) qual
 
     pub behind_read-packed_read : behind_read (packed_read r ++ rest) ≡ rest
     behind_read-packed_read = behind_is (packed_read r ++ rest) r.title r.seq r.qual rest bytes_are
@@ -144,18 +156,21 @@ module _ (encoding : Encoding) (m : Mates) (fits : Fits encoding m) (rest : List
 
   pub pair_in-packed_pair : pair_in encoding (packed_pair m ++ rest) ≡ m
   pair_in-packed_pair =
-      ap (λ (f : Read). let k : Mates = record { forward = f; reverse =
-          read_in encoding (behind_read (packed_pair m ++ rest)) } in k) forward_in
+      ap (λ (f : Read). let k : Mates = record {
+        forward = f;
+        reverse =
+            read_in encoding (behind_read (packed_pair m ++ rest));
+      } in k) forward_in
       ∙ ap (λ (r : Read). let k : Mates = record { forward = m.forward; reverse = r } in
-          k) reverse_in
+      k) reverse_in
 
   pub HoldsPair-packed_pair : HoldsPair encoding (packed_pair m ++ rest)
   HoldsPair-packed_pair = (
     subst (HoldsRead encoding) (sym pair_bytes)
         (subst (λ e. HoldsRead e (packed_read m.forward ++ (packed_read m.reverse ++ rest)))
-            fits.encodings.0
+        fits.encodings.0
         (HoldsRead-packed_read m.forward fits.forward (packed_read m.reverse ++ rest))),
     subst (HoldsRead encoding) (sym behind_forward)
         (subst (λ e. HoldsRead e (packed_read m.reverse ++ rest)) fits.encodings.1
-            (HoldsRead-packed_read m.reverse fits.reverse rest)),
+        (HoldsRead-packed_read m.reverse fits.reverse rest)),
   )

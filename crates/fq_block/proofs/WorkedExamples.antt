@@ -9,12 +9,22 @@ abbrev four_and_four : List ℕ
 four_and_four = 0 ∷ 0 ∷ 0 ∷ 4 ∷ 0 ∷ 0 ∷ 0 ∷ 4 ∷ []
 
 abbrev forward : Read
-forward = record { encoding = Sanger; title = codes "p1/1"; seq = codes "ACGT"; qual =
-    codes "#!II" }
+forward = record {
+  encoding = Sanger;
+  title = codes "p1/1";
+  seq = codes "ACGT";
+  qual =
+      codes "#!II";
+}
 
 abbrev reverse : Read
-reverse = record { encoding = Sanger; title = codes "p1/2"; seq = codes "TTTT"; qual =
-    codes "IIII" }
+reverse = record {
+  encoding = Sanger;
+  title = codes "p1/2";
+  seq = codes "TTTT";
+  qual =
+      codes "IIII";
+}
 
 forty_bytes : packed_pairs (mates_in forward reverse ∷ [])
     ≡ four_and_four ++ codes "p1/1ACGT#!II" ++ four_and_four ++ codes "p1/2TTTTIIII"

@@ -357,7 +357,8 @@ module _ (f fp fu rp ru step : Text) where
       }) (step ∷ steps)))
       (decimal_read n fits)
 
-module _ (f fp fu rp ru : Text) (o : Options) (plain : ArePlain o) (step : Text) (steps : List Text) (fits : length (step ∷ steps) ≤ most)
+module _ (f fp fu rp ru : Text) (o : Options) (plain : ArePlain o) (step : Text) (steps : List Text)
+    (fits : length (step ∷ steps) ≤ most)
     (all : All IsPlain (f ∷ fp ∷ fu ∷ rp ∷ ru ∷ step ∷ steps)) where
   abbrev mixed_words : List Text
   mixed_words = f ∷ fp ∷ fu ∷ rp ∷ ru ∷ step ∷ steps
@@ -417,9 +418,9 @@ module _ (f fp fu rp ru : Text) (o : Options) (plain : ArePlain o) (step : Text)
   mixed_ask program =
       ap (asked_in (is_own_name program)) (mixed_entered program (option_words o ++ mixed_words))
       ∙ ap (λ (w : Walk). asked_in (is_own_name program)
-          (Some (codes "IL", finished mixed_leaf.rules w.held))) mixed_walk
+      (Some (codes "IL", finished mixed_leaf.rules w.held))) mixed_walk
       ∙ mixed_found f fp fu rp ru step (is_own_name program) steps o.log o.report o.encoding
-          o.threads plain.threads
+      o.threads plain.threads
 
 pub mixed_pairs_are_asked_for : MixedPairsAreAskedFor
 mixed_pairs_are_asked_for program f o names [] plain are all = absurd (are.some refl)

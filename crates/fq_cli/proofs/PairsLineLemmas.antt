@@ -357,7 +357,8 @@ module _ (f r fp fu rp ru step : Text) where
       }) (step ∷ steps)))
       (decimal_read n fits)
 
-module _ (f r fp fu rp ru : Text) (o : Options) (plain : ArePlain o) (step : Text) (steps : List Text) (fits : length (step ∷ steps) ≤ most)
+module _ (f r fp fu rp ru : Text) (o : Options) (plain : ArePlain o) (step : Text)
+    (steps : List Text) (fits : length (step ∷ steps) ≤ most)
     (all : All IsPlain (f ∷ r ∷ fp ∷ fu ∷ rp ∷ ru ∷ step ∷ steps)) where
   abbrev pairs_words : List Text
   pairs_words = f ∷ r ∷ fp ∷ fu ∷ rp ∷ ru ∷ step ∷ steps
@@ -417,9 +418,9 @@ module _ (f r fp fu rp ru : Text) (o : Options) (plain : ArePlain o) (step : Tex
   pairs_ask program =
       ap (asked_in (is_own_name program)) (pairs_entered program (option_words o ++ pairs_words))
       ∙ ap (λ (w : Walk). asked_in (is_own_name program)
-          (Some (codes "PE", finished pairs_leaf.rules w.held))) pairs_walk
+      (Some (codes "PE", finished pairs_leaf.rules w.held))) pairs_walk
       ∙ pairs_found f r fp fu rp ru step (is_own_name program) steps o.log o.report o.encoding
-          o.threads plain.threads
+      o.threads plain.threads
 
 pub pairs_are_asked_for : PairsAreAskedFor
 pairs_are_asked_for program f r o names [] plain are all = absurd (are.some refl)

@@ -156,7 +156,7 @@ unfolding is_below
 parsed text (Ok n) h =
     let ds = without_leading_plus text in
     let digits : is_numeral ds ≡ true = rw (lt-ltb 0 (length ds) h.0.0.0)
-        (digits_pass ds h.0.0.1) in
+    (digits_pass ds h.0.0.1) in
     let small : is_below (digits_value 10 ds) ≡ true = below (digits_value 10 ds) h.0.1 in
     let test : is_unsigned_in 0 most text ≡ true = ap₂ (λ a b. a && b) digits small in
     h.1 ∙ sym (ap (λ (b : Bool). if b then digits_value 10 ds else 0) test)
@@ -173,7 +173,7 @@ pub number_read : {E : Type 0} (gives : List ℕ → Result ℕ E →
     Type 0) (text : Option Text) (r : Option ℕ) →
     ((t : Text) (res : Result ℕ E) → gives t res → ParsesUnsigned 64 10 t res)
     → (text ≡ None → r ≡ None) → ((t : List ℕ) → text ≡ Some t → ReadsOne gives t r) →
-        unwrap_or r 0 ≡ number_of (unwrap_or text [])
+    unwrap_or r 0 ≡ number_of (unwrap_or text [])
 number_read {E} gives None r parses none value = ap (λ o. unwrap_or o 0) (none refl)
 number_read {E} gives (Some t) (Some n) parses none value =
     parsed {E = E} t (Ok n) (parses t (Ok n) (value t refl))

@@ -46,7 +46,7 @@ abbrev two_files_words : List (List ℕ)
 two_files_words = codes "fq" ∷ codes "PE" ∷ codes "--threads" ∷ codes "2" ∷ codes "--block" ∷ codes
     "1" ∷ codes "--trimlog" ∷ codes "log"
     ∷ codes "f" ∷ codes "r" ∷ codes "fp" ∷ codes "fu" ∷ codes "rp" ∷ codes "ru" ∷ codes
-        "LEADING:3" ∷ []
+    "LEADING:3" ∷ []
 
 two_files_parse : words_fault two_files_words ≡ []
 unfolding clap_on_literals program_app pairs_app interleaved_app words_fault
@@ -68,9 +68,9 @@ late_parse = refl
 
 late_asked : pairs_asked late_words
     ≡ Some (record (asked 2 1024 true false None (two_files (codes "f") (codes "r"))) {
-  log = None;
-  steps = codes "LEADING:3" ∷ codes "MINLEN:2" ∷ [];
-})
+      log = None;
+      steps = codes "LEADING:3" ∷ codes "MINLEN:2" ∷ [];
+    })
 unfolding clap_on_literals program_app pairs_app interleaved_app asked pairs_asked asking_in
 late_asked = refl
 

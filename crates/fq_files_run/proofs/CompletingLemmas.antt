@@ -40,16 +40,21 @@ pub record IsHeld (a : Asking) (c : Choices) (old new : Holding) (run : Run) : T
   pub empty : AreEmpty run.outlets
   pub hold : HoldTaken a run.outlets_left new
 
-module _ (a : Asking) (c : Choices) (old new : Holding) (run : Run) (held : IsHeld a c old new run) where
+module _ (a : Asking) (c : Choices) (old new : Holding) (run : Run)
+    (held : IsHeld a c old new run) where
   trims_pairs : IsTrimmed c run →
       TrimsPairs c (pairs_of c a.inputs.form run.forward.to_come run.reverse.to_come) run.outlets
       run.outlets_left run.outcome run.counts
   trims_pairs trimmed =
       let P : Form → Type 0 =
-          λ form. TrimsPairs c (pairs_of c form run.forward.to_come run.reverse.to_come) run.outlets
-          run.outlets_left run.outcome run.counts in
-      subst P held.form (record { took = trimmed.took; counts_are = trimmed.counts; outcome_is =
-          trimmed.outcome })
+      λ form. TrimsPairs c (pairs_of c form run.forward.to_come run.reverse.to_come) run.outlets
+      run.outlets_left run.outcome run.counts in
+      subst P held.form (record {
+        took = trimmed.took;
+        counts_are = trimmed.counts;
+        outcome_is =
+            trimmed.outcome;
+      })
 
   -- a run that trimmed all pairs trimmed all pairs of the files
   pub trims_files : IsTrimmed c run → TrimsFiles a old new run.outcome run.counts
@@ -64,7 +69,7 @@ module _ (a : Asking) (c : Choices) (old new : Holding) (run : Run) (held : IsHe
         reverse_is = held.reverse_is;
         texts = texts_held a run.outlets run.outlets_left
             (λ out. text_of out (texts_of c.steps (pairs_of c a.inputs.form run.forward.to_come
-                run.reverse.to_come).mates)) None new held.log held.empty trimmed.took held.hold;
+            run.reverse.to_come).mates)) None new held.log held.empty trimmed.took held.hold;
         counts_are = trimmed.counts_are;
         outcome_is = trimmed.outcome_is;
       }
@@ -73,8 +78,8 @@ module _ (a : Asking) (c : Choices) (old new : Holding) (run : Run) (held : IsHe
   pub first_pairs : EveryEnding c run → HoldFirstPairs a old new run.outcome
   first_pairs every =
       let P : Form → Type 0 =
-          λ form. TrimsFirst c (pairs_of c form run.forward.to_come run.reverse.to_come) run.outlets
-          run.outlets_left run.outcome in
+      λ form. TrimsFirst c (pairs_of c form run.forward.to_come run.reverse.to_come) run.outlets
+      run.outlets_left run.outcome in
       let trimmed = subst P held.form (first_of c run every held.told) in
       record {
         choices = c;
@@ -87,7 +92,7 @@ module _ (a : Asking) (c : Choices) (old new : Holding) (run : Run) (held : IsHe
         reverse_is = held.reverse_is;
         texts = texts_held a run.outlets run.outlets_left
             (λ out. text_of out (texts_of c.steps trimmed.whole) ++ part_begun c.steps trimmed.fate
-                out) (failed_outlet trimmed.fate) new held.log held.empty trimmed.took held.hold;
+            out) (failed_outlet trimmed.fate) new held.log held.empty trimmed.took held.hold;
         cut_short = trimmed.cut_short;
         first = trimmed.first;
         told = trimmed.told;
@@ -97,14 +102,14 @@ module _ (a : Asking) (c : Choices) (old new : Holding) (run : Run) (held : IsHe
 pub report_of_run : (a : Asking) (c : Choices) (old new : Holding) (run : Run) (account : Account)
     (encoding : Encoding) (reported : Reported) (name bytes : List ℕ)
     → settings_of a ≡ Ok c → run.form ≡ a.inputs.form →
-        old a.inputs.forward ≡ Some run.forward.to_come →
-        old a.inputs.reverse ≡ Some run.reverse.to_come
+    old a.inputs.forward ≡ Some run.forward.to_come →
+    old a.inputs.reverse ≡ Some run.reverse.to_come
     → account.outcome ≡ run.outcome → account.counts ≡ run.counts → account.tally ≡ run.tally
     → (IsTrue (ends_whole run.outcome) → IsTrimmed c run) → encoding ≡ c.encoding
     → (reported ≢ report.NotDue → (outcome_status account.outcome ≡ 0)
-        ⊎ (outcome_status account.outcome ≡ 3))
+    ⊎ (outcome_status account.outcome ≡ 3))
     → new name ≡ Some bytes → TookReport reported a encoding account [] bytes →
-        ReportHeld reported a old new name
+    ReportHeld reported a old new name
 report_of_run a c old new run account encoding reported name bytes settings form forward_is
     reverse_is outcome counts tally trims encoding_is due at took =
     let R : Encoding → Type 0 = λ e. TookReport reported a e account [] bytes in
@@ -113,7 +118,7 @@ report_of_run a c old new run account encoding reported name bytes settings form
     let W : Outcome → Type 0 = λ o. IsTrue (ends_whole o) in
     let trimmed = trims (subst W outcome (ends_so account.outcome _ refl (due wanted))) in
     let P : Form → Type 0 =
-        λ f. text ≡ report_of a c (pairs_of c f run.forward.to_come run.reverse.to_come) in
+    λ f. text ≡ report_of a c (pairs_of c f run.forward.to_come run.reverse.to_come) in
     record {
       choices = c;
       forward = run.forward.to_come;

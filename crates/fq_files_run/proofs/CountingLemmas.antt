@@ -28,15 +28,19 @@ healthy_at states healthy Log outlet at = let P : Option OutletState → Type 0 
 pub none_counted : (a : Asking) (states : OutletStates) (failed : Failed) →
     AreCounted a states 0 failed failed
 none_counted a states failed =
-    record { failed = λ out name outlet below. absurd (omega (arith, below)); sound =
-    λ healthy. refl; still = λ name had. had }
+    record {
+      failed = λ out name outlet below. absurd (omega (arith, below));
+      sound =
+          λ healthy. refl;
+      still = λ name had. had;
+    }
 
 -- one more outlet is handed back
 pub one_counted : (a : Asking) (states : OutletStates) (this : Out) (name : List ℕ)
     (outlet : OutletState) (start old new : Failed) → output_name a this ≡ Some name →
     outlet_at this states ≡ Some outlet
     → (0 < outlet.failures → IsTrue (new name)) → (outlet.failures ≡ 0 → new ≡ old) →
-        KeepsFailed old new
+    KeepsFailed old new
     → AreCounted a states (place this) start old → AreCounted a states (suc (place this)) start new
 one_counted a states this name outlet start old new named at fails sound still first = record {
   failed = λ out n o below out_named out_at_is some. ⊎_elim
@@ -44,7 +48,7 @@ one_counted a states this name outlet start old new named at fails sound still f
       (λ equal. let is : out ≡ this = same_place out this equal in
       let same_name : Some n ≡ Some name = sym out_named ∙ (ap (output_name a) is ∙ named) in
       let same_outlet : Some o ≡ Some outlet = sym out_at_is
-          ∙ (ap (λ (x : Out). outlet_at x states) is ∙ at) in
+      ∙ (ap (λ (x : Out). outlet_at x states) is ∙ at) in
       let n_is : n ≡ name = cc in
       let o_is : o ≡ outlet = cc in
       let P : List ℕ → Type 0 = λ x. IsTrue (new x) in
@@ -58,8 +62,8 @@ one_counted a states this name outlet start old new named at fails sound still f
 -- without a log, all outlets are handed back after the fourth
 pub no_log_counted : (a : Asking) (states : OutletStates) (start failed : Failed)
     → ((name : List ℕ) (outlet : OutletState) → output_name a Log ≡ Some name →
-        outlet_at Log states ≡ Some outlet → ⊥) → AreCounted a states 4 start failed →
-        AreCounted a states 5 start failed
+    outlet_at Log states ≡ Some outlet → ⊥) → AreCounted a states 4 start failed →
+    AreCounted a states 5 start failed
 no_log_counted a states start failed none counted =
     record { failed = five; sound = counted.sound; still = counted.still }
   where

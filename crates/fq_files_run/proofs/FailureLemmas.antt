@@ -49,8 +49,13 @@ pub record HadFailed (old new : Option OutletState) : Type 0 where
 took_failed : (old new : Option OutletState) (text : List ℕ) (failed : ℕ) →
     Took old new text failed → 0 < failed → HadFailed old new
 took_failed (Some old) (Some new) text failed took some =
-    record { outlet = new; was = refl; is = refl; some =
-    let f : new.failures ≡ old.failures + failed = took.failures in omega (arith, f, some) }
+    record {
+      outlet = new;
+      was = refl;
+      is = refl;
+      some =
+          let f : new.failures ≡ old.failures + failed = took.failures in omega (arith, f, some);
+    }
 took_failed None None text failed took some = let f : failed ≡ 0 = took in
     absurd (omega (arith, f, some))
 took_failed None (Some new) text failed took some = absurd took
@@ -61,7 +66,7 @@ pub write_failed : (c : Choices) (run : Run) → EveryEnding c run → (out : Ou
 write_failed c run every out is =
     let P : Option Out → Type 0 = λ failed. 0 < failures_at failed out in
     took_failed (outlet_at out run.outlets) (outlet_at out run.outlets_left) _ _ (every.took out)
-        (subst P (sym (every.outcome.write out is)) (self_fails out))
+    (subst P (sym (every.outcome.write out is)) (self_fails out))
 
 some_in : (o : Option (List ℕ)) → is_some o ≡ true → (name : List ℕ) × (o ≡ Some name)
 some_in (Some name) is = (name, refl)
@@ -138,8 +143,8 @@ pub outlets_sound : (c : Choices) (run : Run) → EveryEnding c run →
     IsTrue (ends_whole run.outcome) → AreHealthy run.outlets → AreHealthy run.outlets_left
 outlets_sound c run every whole healthy =
     sound_behind run.outlets run.outlets_left
-        (λ out. text_of out (texts_of c.steps every.whole) ++ part_begun c.steps every.fate out)
-        (failed_outlet every.fate)
+    (λ out. text_of out (texts_of c.steps every.whole) ++ part_begun c.steps every.fate out)
+    (failed_outlet every.fate)
     (none_failed c run every whole) every.took healthy
 
 not_spawn : (o : Outcome) → IsTrue (ends_whole o) → o ≢ Spawn
@@ -193,9 +198,9 @@ unfolding IsKnown
 front_known side [] n text =
     elim text.fault as (λ found. end_of (text_fault side [] (option_map (λ f. numbered f n) found))
     ≡ trimmed_outcome (text_fault side [] (option_map (λ f. numbered f n) found))) [
-  | None ↦ refl
-  | Some found ↦ grind arith
-]
+      | None ↦ refl
+      | Some found ↦ grind arith
+    ]
 front_known side (r ∷ rs) n text = refl
 
 mate_known : (n : ℕ) (fs rs : List grammar.Read) → IsKnown (mate_fault n fs rs)
@@ -213,7 +218,7 @@ first_known None other first second = second
 known_at : (n : ℕ) (forward reverse : Records) → IsKnown (fault_at n forward reverse)
 known_at n forward reverse = first_known _ _ (front_known Forward forward.reads n forward)
     (first_known _ _ (front_known Reverse reverse.reads n reverse)
-        (mate_known n forward.reads reverse.reads))
+    (mate_known n forward.reads reverse.reads))
 
 interleaved_known : (n : ℕ) (text : Records) → IsKnown (interleaved_fault_at n text)
 interleaved_known n text = first_known _ _ (front_known Forward text.reads _ text)
@@ -223,12 +228,12 @@ pairs_known : (form : Form) (check : Bool) (encoding : Encoding) (forward revers
     IsKnown (pairs_in form check encoding 0 forward reverse).fault
 pairs_known TwoTexts check encoding forward reverse =
     let n = length (take_while (belong check) (mates_of (records encoding forward).reads
-        (records encoding reverse).reads)) in
+    (records encoding reverse).reads)) in
     known_at (suc (0 + n)) (behind n (records encoding forward))
-        (behind n (records encoding reverse))
+    (behind n (records encoding reverse))
 pairs_known InterleavedText check encoding forward reverse =
     let n = length (take_while (belong check) (interleaved_mates
-        (records encoding forward).reads)) in
+    (records encoding forward).reads)) in
     interleaved_known (suc (0 + n)) (behind (2 * n) (records encoding forward))
 
 settled_trimmed : (found : Option InputFault) → IsKnown found →
@@ -255,17 +260,17 @@ as_it_is c run trims = settled_if run.outcome (λ whole.
     let is = (trims whole).outcome in
     let P : Outcome → Type 0 = λ o. settled o ≡ o in
     subst P (sym is) (settled_trimmed (all_pairs c run).fault (pairs_known run.form c.check_names
-        c.encoding run.forward.to_come run.reverse.to_come)))
+    c.encoding run.forward.to_come run.reverse.to_come)))
 
 -- ---- the failure that is reported
 
 has_failed : (a : Asking) (tells : Bool) (old : Holding) (failed : Failed) (o : Outcome)
     → ((out : Out) → o ≡ Write out → (name : List ℕ) × (output_name a out ≡ Some name) × IsTrue
-        (failed name))
+    (failed name))
     → ((side : Side) → o ≡ Read side → IsTrue (failed (input_name a.inputs side)))
     → ((side : Side) → o ≡ Endless side → IsTrue tells →
-        (c : Choices) × (bytes : List ℕ) × (settings_of a ≡ Ok c)
-        × (old (input_name a.inputs side) ≡ Some bytes) × (c.max_reads ≤ length bytes))
+    (c : Choices) × (bytes : List ℕ) × (settings_of a ≡ Ok c)
+    × (old (input_name a.inputs side) ≡ Some bytes) × (c.max_reads ≤ length bytes))
     → HasFailed a tells old failed o
 has_failed a tells old failed Spawn write read endless = tt
 has_failed a tells old failed Lane write read endless = tt
@@ -282,13 +287,13 @@ bytes_in : (a : Asking) (old : Holding) (inputs : Opened) (run : Run) →
     run.forward ≡ inputs.forward → run.reverse ≡ inputs.reverse → AreFed inputs a.inputs old →
     (side : Side)
     → IsTrue (feed_of side run).tells × (old (input_name a.inputs side) ≡ Some
-        (feed_of side run).to_come)
+    (feed_of side run).to_come)
 bytes_in a old inputs run forward reverse fed Forward =
     let P : FeedState → Type 0 = λ f. IsTrue f.tells × (old a.inputs.forward ≡ Some f.to_come) in
-        subst P (sym forward) (fed.forward.told, fed.forward.bytes_are)
+    subst P (sym forward) (fed.forward.told, fed.forward.bytes_are)
 bytes_in a old inputs run forward reverse fed Reverse =
     let P : FeedState → Type 0 = λ f. IsTrue f.tells × (old a.inputs.reverse ≡ Some f.to_come) in
-        subst P (sym reverse) (fed.reverse.told, fed.reverse.bytes_are)
+    subst P (sym reverse) (fed.reverse.told, fed.reverse.bytes_are)
 
 one_or_more : (n : ℕ) → n ≡ 1 → 0 < n
 one_or_more n is = omega (arith, is)
@@ -298,18 +303,21 @@ one_or_more n is = omega (arith, is)
 pub fails_as_told : (a : Asking) (tells : Bool) (old : Holding) (c : Choices) (inputs : Opened)
     (run : Run) (left : Side → Option FeedState) (x y z w : Failed)
     → settings_of a ≡ Ok c → run.forward ≡ inputs.forward → run.reverse ≡ inputs.reverse →
-        is_some run.outlets.log ≡ is_some a.log
+    is_some run.outlets.log ≡ is_some a.log
     → ((side : Side) → feed_left side run ≡ left side) →
-        (IsTrue tells → AreFed inputs a.inputs old) → EveryEnding c run
+    (IsTrue tells → AreFed inputs a.inputs old) → EveryEnding c run
     → AreFeedsCounted a.inputs left x y → AreCounted a run.outlets_left 5 y z →
-        ((name : List ℕ) → IsTrue (z name) → IsTrue (w name)) → HasFailed a tells old w run.outcome
+    ((name : List ℕ) → IsTrue (z name) → IsTrue (w name)) → HasFailed a tells old w run.outcome
 fails_as_told a tells old c inputs run left x y z w settings forward reverse log sides fed every
     feeds outlets still = has_failed a tells old w run.outcome
     (λ out is.
     let had = write_failed c run every out is in
-    let name = wanted_output a run.outlets log out had.was in
-    (name.0, name.1, still name.0 (outlets.failed out name.0 had.outlet (below_five out) name.1
-        had.is had.some)))
+    let name = wanted_output a run.outlets log out had.was in (
+      name.0,
+      name.1,
+      still name.0 (outlets.failed out name.0 had.outlet (below_five out) name.1
+          had.is had.some),
+    ))
     (λ side is.
     let P : Option FeedState → Type 0 = λ feed. failures_in feed ≡ 1 in
     let some = one_or_more _ (subst P (sides side) (every.outcome.read side is)) in

@@ -44,8 +44,12 @@ first_of c run every told = record {
   took = every.took;
   cut_short = every.cut_short;
   first = every.first told;
-  told = record { spawn = every.outcome.spawn; write = every.outcome.write; outlet_failed =
-      every.outcome.outlet_failed };
+  told = record {
+    spawn = every.outcome.spawn;
+    write = every.outcome.write;
+    outlet_failed =
+        every.outcome.outlet_failed;
+  };
 }
 
 -- ---- refusals
@@ -80,7 +84,7 @@ spares_all a why.SameReport old new late same = absurd (cc late)
 pub tells_late : (inputs : InputNames) (refusal : Refusal) (old : Holding) (refuses opened : Names)
     (forward reverse : List ℕ) → IsTrue (is_late refusal)
     → old inputs.forward ≡ Some forward → old inputs.reverse ≡ Some reverse →
-        TellsInputs inputs refusal old refuses opened
+    TellsInputs inputs refusal old refuses opened
 tells_late inputs (why.Target out) old refuses opened forward reverse late first second =
     (subst IsSome (sym first) refl, subst IsSome (sym second) refl)
 tells_late inputs why.Report old refuses opened forward reverse late first second =

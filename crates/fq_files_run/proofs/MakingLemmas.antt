@@ -46,7 +46,7 @@ unmade_of a this name old new named there others = record {
   there = λ other is.
       let same = same_name (output_name a this) other name is named in
       ⊎_elim (λ kept. inl (ap new same ∙ (kept ∙ sym (ap old same)))) (λ nothing. inr (ap new same
-          ∙ nothing)) there;
+      ∙ nothing)) there;
   others = λ other free. others other (λ same. free (named ∙ ap Some (sym same)));
 }
 
@@ -122,7 +122,7 @@ first_or_later : (a : Asking) (n : ℕ) (name : List ℕ) (out : Out) →
     IsFirst a n name out ⊎ IsLater a n name out
 first_or_later a n name out = ⊎_elim
     (λ named. ⊎_elim (λ below. inl (below, named)) (λ behind. inr (λ again. behind))
-        (below_or_not (place out) n))
+    (below_or_not (place out) n))
     (λ other. inr (λ named. absurd (other named)))
     (this_or_other (output_name a out) name)
 
@@ -131,8 +131,8 @@ pub named_before : (a : Asking) (n : ℕ) (name : List ℕ) →
     ((out : Out) × IsFirst a n name out) ⊎ ((out : Out) → IsLater a n name out)
 named_before a n name =
     or_later ForwardPaired (λ one. or_later ForwardUnpaired (λ two. or_later ReversePaired
-        (λ three. or_later ReverseUnpaired (λ four. or_later Log (λ five. inr
-        (all one two three four five))))))
+    (λ three. or_later ReverseUnpaired (λ four. or_later Log (λ five. inr
+    (all one two three four five))))))
   where
     or_later : {P : Type 0} (this : Out) → (IsLater a n name this →
         ((out : Out) × IsFirst a n name out) ⊎ P) → ((out : Out) × IsFirst a n name out) ⊎ P
@@ -184,7 +184,7 @@ stops_at : (a : Asking) (start old new : Holding) (this : Out) → AreMade a sta
 stops_at a start old new this first unmade = record {
   before = λ other name named before. ⊎_elim
       (λ own. ⊎_elim (λ kept. kept ∙ first.empty other name named before) (λ nothing. nothing)
-          (unmade.there name own))
+      (unmade.there name own))
       (λ free. unmade.others name free ∙ first.empty other name named before)
       (this_or_other (output_name a this) name);
   there = λ name named. unchanged_or_empty (start name) (old name) (new name)
@@ -201,10 +201,10 @@ stops_untrimmed a this start new stops out name named = ⊎_elim
     (λ found. ⊎_elim
     (λ before. inr (stops.before found.0 name found.1.1 before))
     (λ equal. stops.there name (ap (output_name a) (sym (same_place found.0 this equal))
-        ∙ found.1.1))
+    ∙ found.1.1))
     (below_next (place found.0) (place this) found.1.0))
     (λ later. inl (stops.behind name (λ other is. let more = later other is in
-        omega (arith, more))))
+    omega (arith, more))))
     (named_before a (suc (place this)) name)
 
 -- what the files hold after an output was refused
@@ -215,19 +215,20 @@ leaves_made a start old new this refusal first unmade is =
     let stops = stops_at a start old new this first unmade in
     let P : Refusal → Type 0 = λ r. RefusalLeaves a r start new in
     ⊎_elim (λ target. subst P (sym target) (inl stops))
-        (λ memory. subst P (sym memory.1) (stops_untrimmed a this start new stops)) is
+    (λ memory. subst P (sym memory.1) (stops_untrimmed a this start new stops)) is
 
 -- A call for one more output: the output is made, or it is refused.
-module _ (a : Asking) (start : Holding) (this : Out) (name : List ℕ) (named : output_name a this ≡ Some name)
+module _ (a : Asking) (start : Holding) (this : Out) (name : List ℕ)
+    (named : output_name a this ≡ Some name)
     (old new : Holding) (told_old told_new : Bool) (told_is : told_new ≡ told_old)
-        (first : Made a start (place this) told_old old) (others : IsTrue told_old →
-        KeepsOthers old new name) where
+    (first : Made a start (place this) told_old old) (others : IsTrue told_old →
+    KeepsOthers old new name) where
   pub one_made : (IsTrue told_old → new name ≡ Some []) →
       Made a start (suc (place this)) told_new new
   one_made emptied told =
       let before = along told_old told_new (sym told_is) told in
       next_made a start old new this (first before)
-          (made_of a this name old new named (emptied before) (others before))
+      (made_of a this name old new named (emptied before) (others before))
 
   pub none_more : (refusal : Refusal) → (IsTrue told_old → (new name ≡ old name)
       ⊎ (new name ≡ Some [])) → (refusal ≡ why.Target this) ⊎ IsMemory refusal →
@@ -253,7 +254,7 @@ no_log_made a start files tells none made told = record {
     not_log : (out : Out) (name : List ℕ) → place out ≡ 4 → output_name a out ≢ Some name
     not_log out name four named =
         let bad : None ≡ Some name = sym none
-            ∙ (ap (output_name a) (sym (same_place out Log four)) ∙ named) in absurd cc
+        ∙ (ap (output_name a) (sym (same_place out Log four)) ∙ named) in absurd cc
 
 pub five_empty : (a : Asking) (start files : Holding) → AreMade a start 5 files →
     (out : Out) (name : List ℕ) → output_name a out ≡ Some name → files name ≡ Some []
@@ -275,11 +276,11 @@ five_held a start files made out name named =
 pub still_empty : (a : Asking) (old new : Holding) →
     ((out : Out) (name : List ℕ) → output_name a out ≡ Some name → old name ≡ Some [])
     → ((name : List ℕ) → a.report ≡ Some name → (new name ≡ old name) ⊎ (new name ≡ Some [])) →
-        ((name : List ℕ) → a.report ≢ Some name → new name ≡ old name)
+    ((name : List ℕ) → a.report ≢ Some name → new name ≡ old name)
     → (out : Out) (name : List ℕ) → output_name a out ≡ Some name → new name ≡ Some []
 still_empty a old new empty there others out name named = ⊎_elim
     (λ report. ⊎_elim (λ kept. kept ∙ empty out name named) (λ nothing. nothing) (there name
-        report))
+    report))
     (λ other. others name other ∙ empty out name named)
     (this_or_other a.report name)
 
@@ -287,8 +288,8 @@ still_empty a old new empty there others out name named = ⊎_elim
 pub report_unmade : (a : Asking) (refusal : Refusal) (old new : Holding) →
     (refusal ≡ why.Report) ⊎ IsMemory refusal
     → ((out : Out) (name : List ℕ) → output_name a out ≡ Some name → new name ≡ Some []) →
-        RefusalLeaves a refusal old new
+    RefusalLeaves a refusal old new
 report_unmade a refusal old new is empty =
     let P : Refusal → Type 0 = λ r. RefusalLeaves a r old new in
     ⊎_elim (λ report. subst P (sym report) (inl empty))
-        (λ memory. subst P (sym memory.1) (λ out name named. inr (empty out name named))) is
+    (λ memory. subst P (sym memory.1) (λ out name named. inr (empty out name named))) is

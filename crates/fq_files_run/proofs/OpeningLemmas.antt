@@ -39,9 +39,11 @@ fed_there inputs names old fed Reverse none =
 -- the inputs exist in files that keep every name
 pub still_there : (inputs : Opened) (names : InputNames) (old new : Holding) →
     AreFed inputs names old → KeepsNames old new → AreThere names new
-still_there inputs names old new fed keeps =
-    (keeps names.forward (some_there _ _ fed.forward.bytes_are), keeps names.reverse
-    (some_there _ _ fed.reverse.bytes_are))
+still_there inputs names old new fed keeps = (
+  keeps names.forward (some_there _ _ fed.forward.bytes_are),
+  keeps names.reverse
+      (some_there _ _ fed.reverse.bytes_are),
+)
 
 -- an output was refused, or the report
 pub refused_late : (a : Asking) (refusal : Refusal) (tells : Bool) (refuses opened : Names)
@@ -49,19 +51,19 @@ pub refused_late : (a : Asking) (refusal : Refusal) (tells : Bool) (refuses open
     IsRefusable a (MayLead a.inputs refuses opened) refusal
     → (IsTrue tells → AreFed inputs a.inputs old) → (IsTrue tells → RefusalLeaves a refusal old new)
     → (IsTrue tells → (name : List ℕ) → a.report ≡ Some name → IsNoOutput a name →
-        ReportLeft refusal (old name) (new name)) → (IsTrue tells → KeepsUnnamed a old new) →
-        IsUnopened a refusal tells refuses opened old new
+    ReportLeft refusal (old name) (new name)) → (IsTrue tells → KeepsUnnamed a old new) →
+    IsUnopened a refusal tells refuses opened old new
 refused_late a refusal tells refuses opened old new inputs behind late refused fed left report_left
     rest = record {
-  late = late;
-  refused = refused;
-  inputs = λ told. tells_late a.inputs refusal old refuses opened _ _ behind
-      (fed told).forward.bytes_are (fed told).reverse.bytes_are;
-  left = left;
-  report_left = report_left;
-  rest = rest;
-  unopened = λ told side none. absurd (fed_there inputs a.inputs old (fed told) side none);
-}
+      late = late;
+      refused = refused;
+      inputs = λ told. tells_late a.inputs refusal old refuses opened _ _ behind
+          (fed told).forward.bytes_are (fed told).reverse.bytes_are;
+      left = left;
+      report_left = report_left;
+      rest = rest;
+      unopened = λ told side none. absurd (fed_there inputs a.inputs old (fed told) side none);
+    }
 
 -- a refusal of the report, or of memory for it, comes after the inputs, and its status is not 2
 pub report_late : (refusal : Refusal) → (refusal ≡ why.Report) ⊎ IsMemory refusal →
@@ -130,26 +132,56 @@ first_refused : (a : Asking) (refusal : Refusal) (tells : Bool) (refuses opened 
     IsRefused a refusal tells refuses opened files files
 unfolding is_first
 first_refused a why.Encoding tells refuses opened files first =
-    record { refused = tt; inputs = λ told. tt; left = λ told name. refl; report_left =
-    λ told name named free. refl }
+    record {
+      refused = tt;
+      inputs = λ told. tt;
+      left = λ told name. refl;
+      report_left =
+          λ told name named free. refl;
+    }
 first_refused a (why.Step fault) tells refuses opened files first =
-    record { refused = tt; inputs = λ told. tt; left = λ told name. refl; report_left =
-    λ told name named free. refl }
+    record {
+      refused = tt;
+      inputs = λ told. tt;
+      left = λ told name. refl;
+      report_left =
+          λ told name named free. refl;
+    }
 first_refused a (why.Setting bad) tells refuses opened files first =
-    record { refused = tt; inputs = λ told. tt; left = λ told name. refl; report_left =
-    λ told name named free. refl }
+    record {
+      refused = tt;
+      inputs = λ told. tt;
+      left = λ told name. refl;
+      report_left =
+          λ told name named free. refl;
+    }
 first_refused a (why.SameName out) tells refuses opened files first =
-    record { refused = tt; inputs = λ told. tt; left = λ told name. refl; report_left =
-    λ told name named free. refl }
+    record {
+      refused = tt;
+      inputs = λ told. tt;
+      left = λ told name. refl;
+      report_left =
+          λ told name named free. refl;
+    }
 first_refused a (why.Source side) tells refuses opened files first = absurd (cc first)
 first_refused a (why.Target out) tells refuses opened files first = absurd (cc first)
 first_refused a why.SameReport tells refuses opened files first =
-    record { refused = tt; inputs = λ told. tt; left = λ told name. refl; report_left =
-    λ told name named free. refl }
+    record {
+      refused = tt;
+      inputs = λ told. tt;
+      left = λ told name. refl;
+      report_left =
+          λ told name named free. refl;
+    }
 first_refused a why.Report tells refuses opened files first = absurd (cc first)
 first_refused a (why.Memory lacked) tells refuses opened files first =
-    record { refused = tt; inputs = λ told. tt; left =
-    λ told out name named. inl refl; report_left = λ told name named free. inl refl }
+    record {
+      refused = tt;
+      inputs = λ told. tt;
+      left =
+          λ told out name named. inl refl;
+      report_left = λ told name named free. inl refl;
+    }
 
 -- the request was wrong
 pub wrong_refused : (a : Asking) (refusal : Refusal) (tells : Bool) (refuses opened : Names)
@@ -179,7 +211,7 @@ pub refusable_since : (a : Asking) (x y : Names) (before after : Names) (refusal
 refusable_since a x y before after refusal same led refused =
     refusable_so a (MayRefuse x after) (MayLead a.inputs y before) refusal
     (λ name. ⊎_elim (λ may. inr (inl (subst (λ (r : Names). IsTrue (r name)) same may)))
-        (λ leads. led name leads)) refused
+    (λ leads. led name leads)) refused
 
 clash : (b : Bool) → IsTrue b → b ≡ false → ⊥
 clash true is none = absurd (cc none)
@@ -196,7 +228,7 @@ log_differs a None name none named is = absurd (cc named)
 log_differs a (Some log) name none named is =
     let equal : log ≡ name = cc in
     clash (is_input a.inputs name) is (subst (λ (n : List ℕ). is_input a.inputs n ≡ false) equal
-        (if_none (is_input a.inputs log) Log None none).0)
+    (if_none (is_input a.inputs log) Log None none).0)
 
 -- the name of an output is no input's
 differs_from : (a : Asking) (out : Out) (name : List ℕ) → same_name a ≡ None →
@@ -228,19 +260,25 @@ report_differs : (a : Asking) (name : List ℕ) → report_is_input a ≡ false 
     IsTrue (is_input a.inputs name) → ⊥
 report_differs a name free named is =
     let P : Option (List ℕ) → Type 0 = λ o. unwrap_or (option_map (is_input a.inputs) o) false
-        ≡ false in
+    ≡ false in
     clash (is_input a.inputs name) is (subst P named free)
 
 -- a name that leads to an input once the inputs are opened is no input's, if the request is right
 no_input : (a : Asking) (P : List ℕ → Type 0) (refusal : Refusal) → same_name a ≡ None →
     report_is_input a ≡ false → IsRefusable a (λ name. IsTrue (is_input a.inputs name) ⊎ P name)
     refusal → IsRefusable a P refusal
-no_input a P (why.Target out) outputs report refused =
-    (refused.0, refused.1, ⊎_elim (λ is. absurd (differs_from a out refused.0 outputs refused.1 is))
-    (λ other. other) refused.2)
-no_input a P why.Report outputs report refused =
-    (refused.0, refused.1, ⊎_elim (λ is. absurd (report_differs a refused.0 report refused.1 is))
-    (λ other. other) refused.2)
+no_input a P (why.Target out) outputs report refused = (
+  refused.0,
+  refused.1,
+  ⊎_elim (λ is. absurd (differs_from a out refused.0 outputs refused.1 is))
+      (λ other. other) refused.2,
+)
+no_input a P why.Report outputs report refused = (
+  refused.0,
+  refused.1,
+  ⊎_elim (λ is. absurd (report_differs a refused.0 report refused.1 is))
+      (λ other. other) refused.2,
+)
 no_input a P (why.Memory lacked) outputs report refused = refused
 no_input a P why.Encoding outputs report refused = refused
 no_input a P (why.Step fault) outputs report refused = refused
@@ -272,7 +310,7 @@ pub leads_nowhere : (a : Asking) (before after : Names) → after ≡ before →
 leads_nowhere a before after same outputs report name made leads =
     let led : IsTrue (before name) = subst (λ (names : Names). IsTrue (names name)) same leads in
     ⊎_elim (λ output. clash (before name) led (outputs output.0 name output.1))
-        (λ named. clash (before name) led (report name named)) made
+    (λ named. clash (before name) led (report name named)) made
 
 -- ---- which files exist
 

@@ -46,7 +46,7 @@ not_stripped bs (Some x) h e = absurd (not_nil x.now (sym e ∙ h))
 words_are : (o : Outcome) (bs : List ℕ) (r : Option (Bor (List ℕ))) → bs ≡ line_when o →
     (status_when o ≡ 0) ⊎ (status_when o ≡ 3)
     → ((words : List ℕ) → bs ≡ line words → option_map (λ x. x.now) r ≡ Some words) →
-        (bs ≡ [] → r ≡ None) → option_map (λ x. x.now) r ≡ words_when o
+    (bs ≡ [] → r ≡ None) → option_map (λ x. x.now) r ≡ words_when o
 words_are Spawn bs r is ends some none =
     absurd (⊎_elim (λ e. omega (arith, e)) (λ e. omega (arith, e)) ends)
 words_are Lane bs r is ends some none =
@@ -67,7 +67,7 @@ words_are Finished bs r is ends some none = ap (option_map (λ x. x.now)) (none 
 pub fault_words_are : (outcome : Outcome) (bs : List ℕ) (r : Option (Bor (List ℕ))) →
     bs ≡ outcome_line outcome → (outcome_status outcome ≡ 0) ⊎ (outcome_status outcome ≡ 3)
     → ((words : List ℕ) → bs ≡ line words → option_map (λ x. x.now) r ≡ Some words) →
-        (bs ≡ [] → r ≡ None) → option_map (λ x. x.now) r ≡ fault_words outcome
+    (bs ≡ [] → r ≡ None) → option_map (λ x. x.now) r ≡ fault_words outcome
 fault_words_are outcome bs r is ends some none = words_are (settled outcome) bs r is ends some none
 
 -- if a run has a tally, it is the tally of its pairs
@@ -80,7 +80,7 @@ tally_is false c all tally e = absurd (cc e)
 pub text_is : (a : Asking) (c : Choices) (all : Pairs) (account : Account) (text : List ℕ) →
     IsTextOf a c.encoding account text
     → account.counts ≡ counts_of c.steps all.mates → account.outcome ≡ trimmed_outcome all.fault →
-        account.tally ≡ tally_if c.tallied c.steps all.mates → text ≡ report_of a c all
+    account.tally ≡ tally_if c.tallied c.steps all.mates → text ≡ report_of a c all
 text_is a c all account text is counts outcome tally =
     let same = tally_is c.tallied c all is.tally (sym is.tallied ∙ tally) in
     is.text_is ∙ (λ i. text_of (run_facts a c.encoding (outcome i) (counts i) (same i)))
@@ -89,9 +89,9 @@ text_is a c all account text is counts outcome tally =
 pub report_held : (a : Asking) (c : Choices) (old new : Holding) (account : Account)
     (reported : Reported) (name bytes : List ℕ)
     → ((text : List ℕ) → IsTextOf a c.encoding account text → reported ≢ NotDue →
-        IsReport a old text)
+    IsReport a old text)
     → new name ≡ Some bytes → TookReport reported a c.encoding account [] bytes →
-        ReportHeld reported a old new name
+    ReportHeld reported a old new name
 report_held a c old new account NotDue name bytes is held took = held ∙ ap Some took
 report_held a c old new account Written name bytes is held took = record {
   text = took.text;

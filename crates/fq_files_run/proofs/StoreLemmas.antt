@@ -44,29 +44,32 @@ below_next m n h = grind arith
 
 pub none_stored : (a : Asking) (states : OutletStates) (files : Holding) (tells : Bool) →
     Stored a files states 0 tells files
-none_stored a states files tells told = record { rest = λ name free. refl; hold =
-    λ out name outlet h. absurd (omega arith) }
+none_stored a states files tells told = record {
+  rest = λ name free. refl;
+  hold =
+      λ out name outlet h. absurd (omega arith);
+}
 
 module _ (a : Asking) (states : OutletStates) (old new : Holding) where
   -- one more outlet has been handed back
   next_first : (this : Out) (name : List ℕ) (outlet : OutletState) →
       output_name a this ≡ Some name → outlet_at this states ≡ Some outlet →
       HoldFirst (place this) a states old → (IsTrue outlet.tells → new name ≡ Some outlet.taken) →
-          KeepsOthers old new name → HoldFirst (suc (place this)) a states new
+      KeepsOthers old new name → HoldFirst (suc (place this)) a states new
   next_first this name outlet named at first stored others =
       λ out n o below own out_at_is tells. ⊎_elim
       (λ before. others n (λ same. let is : this ≡ out =
-          own.outputs this (named ∙ ap Some (sym same)) in
+      own.outputs this (named ∙ ap Some (sym same)) in
       let equal : place this ≡ place out = ap place is in absurd (omega arith))
-          ∙ first out n o before own out_at_is tells)
+      ∙ first out n o before own out_at_is tells)
       (λ equal. let is : out ≡ this = same_place out this equal in
       let same_name : Some n ≡ Some name = sym own.named ∙ (ap (output_name a) is ∙ named) in
       let same_outlet : Some o ≡ Some outlet = sym out_at_is
-          ∙ (ap (λ (x : Out). outlet_at x states) is ∙ at) in
+      ∙ (ap (λ (x : Out). outlet_at x states) is ∙ at) in
       let n_is : n ≡ name = cc in
       let o_is : o ≡ outlet = cc in
       let told : IsTrue outlet.tells = let P : OutletState → Type 0 = λ x. IsTrue x.tells in
-          subst P o_is tells in
+      subst P o_is tells in
       ap new n_is ∙ (stored told ∙ ap (λ (x : OutletState). Some x.taken) (sym o_is)))
       (below_next (place out) (place this) below)
 
@@ -75,9 +78,9 @@ pub one_stored : (a : Asking) (start : Holding) (states : OutletStates) (this : 
     (outlet : OutletState) (old new : Holding) (told_old told_new : Bool) →
     output_name a this ≡ Some name → outlet_at this states ≡ Some outlet
     → told_new ≡ told_old → (IsTrue told_old → IsTrue outlet.tells → new name ≡ Some outlet.taken) →
-        (IsTrue told_old → KeepsOthers old new name)
+    (IsTrue told_old → KeepsOthers old new name)
     → Stored a start states (place this) told_old old →
-        Stored a start states (suc (place this)) told_new new
+    Stored a start states (suc (place this)) told_new new
 one_stored a start states this name outlet old new told_old told_new named at told_is kept others
     first told =
     let before = subst IsTrue told_is told in
@@ -92,8 +95,8 @@ one_stored a start states this name outlet old new told_old told_new named at to
 pub no_log_stored : (a : Asking) (start : Holding) (states : OutletStates) (files : Holding)
     (tells : Bool)
     → ((name : List ℕ) (outlet : OutletState) → output_name a Log ≡ Some name →
-        outlet_at Log states ≡ Some outlet → ⊥) → Stored a start states 4 tells files →
-        Stored a start states 5 tells files
+    outlet_at Log states ≡ Some outlet → ⊥) → Stored a start states 4 tells files →
+    Stored a start states 5 tells files
 no_log_stored a start states files tells none stored told =
     record { rest = (stored told).rest; hold = five (stored told).hold }
   where

@@ -34,31 +34,32 @@ found_in None new text failed empty there took = absurd cc
 there_is : (l : Option (List ℕ)) (name : List ℕ) → l ≡ Some name → is_some l ≡ true
 there_is l name e = ap is_some e
 
-module _ (a : Asking) (old new : OutletStates) (texts : Out → List ℕ) (failed : Option Out) (files : Holding) where
+module _ (a : Asking) (old new : OutletStates) (texts : Out → List ℕ) (failed : Option Out)
+    (files : Holding) where
   pub texts_held : is_some old.log ≡ is_some a.log → AreEmpty old →
       OutletsTook old new texts failed → HoldTaken a new files →
       (out : Out) (name : List ℕ) → HasOwnName a out name → files name ≡ Some (texts out)
   texts_held log empty took holds ForwardPaired name own =
       let t = text_in old.forward_paired new.forward_paired (texts ForwardPaired)
-          (failures_at failed ForwardPaired) (empty ForwardPaired old.forward_paired refl)
-          (took ForwardPaired) in
+      (failures_at failed ForwardPaired) (empty ForwardPaired old.forward_paired refl)
+      (took ForwardPaired) in
       holds ForwardPaired name new.forward_paired own refl t.tells ∙ ap Some t.taken
   texts_held log empty took holds ForwardUnpaired name own =
       let t = text_in old.forward_unpaired new.forward_unpaired (texts ForwardUnpaired)
-          (failures_at failed ForwardUnpaired) (empty ForwardUnpaired old.forward_unpaired refl)
-          (took ForwardUnpaired) in
+      (failures_at failed ForwardUnpaired) (empty ForwardUnpaired old.forward_unpaired refl)
+      (took ForwardUnpaired) in
       holds ForwardUnpaired name new.forward_unpaired own refl t.tells ∙ ap Some t.taken
   texts_held log empty took holds ReversePaired name own =
       let t = text_in old.reverse_paired new.reverse_paired (texts ReversePaired)
-          (failures_at failed ReversePaired) (empty ReversePaired old.reverse_paired refl)
-          (took ReversePaired) in
+      (failures_at failed ReversePaired) (empty ReversePaired old.reverse_paired refl)
+      (took ReversePaired) in
       holds ReversePaired name new.reverse_paired own refl t.tells ∙ ap Some t.taken
   texts_held log empty took holds ReverseUnpaired name own =
       let t = text_in old.reverse_unpaired new.reverse_unpaired (texts ReverseUnpaired)
-          (failures_at failed ReverseUnpaired) (empty ReverseUnpaired old.reverse_unpaired refl)
-          (took ReverseUnpaired) in
+      (failures_at failed ReverseUnpaired) (empty ReverseUnpaired old.reverse_unpaired refl)
+      (took ReverseUnpaired) in
       holds ReverseUnpaired name new.reverse_unpaired own refl t.tells ∙ ap Some t.taken
   texts_held log empty took holds Log name own =
       let t = found_in old.log new.log (texts Log) (failures_at failed Log) (empty Log) (log
-          ∙ there_is a.log name own.named) (took Log) in
+      ∙ there_is a.log name own.named) (took Log) in
       holds Log name t.0 own t.1 t.2.tells ∙ ap Some t.2.taken

@@ -37,7 +37,7 @@ one_more test m ms = picked (test m) m (filter test ms)
 
 pub counts_add_up : (steps : List Step) (ms : List Mates) →
     let counts = counts_of steps ms in
-        counts.both + counts.forward_only + counts.reverse_only + counts.dropped ≡ counts.pairs
+    counts.both + counts.forward_only + counts.reverse_only + counts.dropped ≡ counts.pairs
 counts_add_up steps [] = refl
 counts_add_up steps (m ∷ ms) =
     let a = one_more (both_survive steps) m ms in

@@ -29,24 +29,27 @@ forward_in : (check : Bool) (e : Encoding) (ms : List Mates) → All (IsPairIn c
 forward_in check e [] all = All-nil (IsReadIn e)
 forward_in check e (m ∷ ms) all =
     All-cons (IsReadIn e) m.forward (forward_reads ms)
-        (All-head (IsPairIn check e) m ms all).forward
-        (forward_in check e ms (All-tail (IsPairIn check e) m ms all))
+    (All-head (IsPairIn check e) m ms all).forward
+    (forward_in check e ms (All-tail (IsPairIn check e) m ms all))
 
 reverse_in : (check : Bool) (e : Encoding) (ms : List Mates) → All (IsPairIn check e) ms →
     All (IsReadIn e) (reverse_reads ms)
 reverse_in check e [] all = All-nil (IsReadIn e)
 reverse_in check e (m ∷ ms) all =
     All-cons (IsReadIn e) m.reverse (reverse_reads ms)
-        (All-head (IsPairIn check e) m ms all).reverse
-        (reverse_in check e ms (All-tail (IsPairIn check e) m ms all))
+    (All-head (IsPairIn check e) m ms all).reverse
+    (reverse_in check e ms (All-tail (IsPairIn check e) m ms all))
 
 -- a text of records gives its reads, and their number
 gives : (steps : List Step) (e : Encoding) (reads : List Read) (count : ℕ) (text : List ℕ) →
     text ≡ flat_map (record_text steps) reads → length reads ≡ count →
     All (IsReadIn e) reads → IsReadAgain steps e reads count text
 gives steps e reads count text is size are plain =
-    let again : records (encoding_out steps e) text ≡ record { reads =
-        map (trimmed steps) reads; fault = None } =
+    let again : records (encoding_out steps e) text ≡ record {
+      reads =
+          map (trimmed steps) reads;
+      fault = None;
+    } =
     ap (records (encoding_out steps e)) is ∙ many_again steps e reads are plain in
     record {
       again = again;
@@ -54,10 +57,11 @@ gives steps e reads count text is size are plain =
           ∙ size;
     }
 
-module _ (check : Bool) (steps : List Step) (e : Encoding) (ms : List Mates) (all : All (IsPairIn check e) ms) where
+module _ (check : Bool) (steps : List Step) (e : Encoding) (ms : List Mates)
+    (all : All (IsPairIn check e) ms) where
   forward_gives : (test : Mates → Bool) →
       IsReadAgain steps e (forward_reads (filter test ms)) (length (filter test ms))
-          (forward_records steps test ms)
+      (forward_records steps test ms)
   forward_gives test =
       let chosen = filter test ms in
       gives steps e (forward_reads chosen) (length chosen) (forward_records steps test ms)
@@ -67,7 +71,7 @@ module _ (check : Bool) (steps : List Step) (e : Encoding) (ms : List Mates) (al
 
   reverse_gives : (test : Mates → Bool) →
       IsReadAgain steps e (reverse_reads (filter test ms)) (length (filter test ms))
-          (reverse_records steps test ms)
+      (reverse_records steps test ms)
   reverse_gives test =
       let chosen = filter test ms in
       gives steps e (reverse_reads chosen) (length chosen) (reverse_records steps test ms)
@@ -103,9 +107,9 @@ module _ (check : Bool) (steps : List Step) where
   all_taken e (m ∷ ms) all =
       take_while-cons (belong check) (trimmed_pair steps m) (map (trimmed_pair steps) ms)
       ∙ cond-true (belong check (trimmed_pair steps m)) _ _ (still_belong m
-          ∙ (All-head (IsPairIn check e) m ms all).belong)
+      ∙ (All-head (IsPairIn check e) m ms all).belong)
       ∙ ap (λ (xs : List Mates). trimmed_pair steps m ∷ xs)
-          (all_taken e ms (All-tail (IsPairIn check e) m ms all))
+      (all_taken e ms (All-tail (IsPairIn check e) m ms all))
 
 nothing_behind : {A : Type 0} (xs : List A) → drop (length xs) xs ≡ []
 nothing_behind [] = refl
@@ -119,50 +123,56 @@ no_fault : (n k : ℕ) (fs rs : List Read) → length fs ≡ k → length rs ≡
     fault_at n (behind k (whole_text fs)) (behind k (whole_text rs)) ≡ None
 no_fault n k fs rs f r =
     ap (λ (xs : List Read). fault_at n (whole_text xs) (behind k (whole_text rs)))
-        (ap (λ (j : ℕ). drop j fs) (sym f) ∙ nothing_behind fs)
+    (ap (λ (j : ℕ). drop j fs) (sym f) ∙ nothing_behind fs)
     ∙ ap (λ (xs : List Read). fault_at n (whole_text []) (whole_text xs))
-        (ap (λ (j : ℕ). drop j rs) (sym r) ∙ nothing_behind rs)
+    (ap (λ (j : ℕ). drop j rs) (sym r) ∙ nothing_behind rs)
 
 -- the pairs of two such texts, if these mates belong together
 abbrev with_mates : List Read → List Read → List Mates → Pairs
 with_mates fs rs mates =
-    record { mates = mates; fault = fault_at (suc (0 + length mates))
-    (behind (length mates) (whole_text fs)) (behind (length mates) (whole_text rs)) }
+    record {
+      mates = mates;
+      fault = fault_at (suc (0 + length mates))
+          (behind (length mates) (whole_text fs)) (behind (length mates) (whole_text rs));
+    }
 
 paired_again : (check : Bool) (steps : List Step) (e : Encoding) (ms : List Mates) →
     All (IsPairIn check e) ms →
     pairs_of check 0 (whole_text (map (trimmed steps) (forward_reads ms)))
-        (whole_text (map (trimmed steps) (reverse_reads ms)))
+    (whole_text (map (trimmed steps) (reverse_reads ms)))
     ≡ record { mates = map (trimmed_pair steps) ms; fault = None }
 paired_again check steps e ms all =
     let fs = map (trimmed steps) (forward_reads ms) in
     let rs = map (trimmed steps) (reverse_reads ms) in
     let tms = map (trimmed_pair steps) ms in
     let same : take_while (belong check) (mates_of fs rs) ≡ tms =
-        ap (take_while (belong check)) (mates_again check steps ms)
-        ∙ all_taken check steps e ms all in
+    ap (take_while (belong check)) (mates_again check steps ms)
+    ∙ all_taken check steps e ms all in
     let count = length-map ms (trimmed_pair steps) in
     let forward : length fs ≡ length tms = length-map (forward_reads ms) (trimmed steps)
-        ∙ length-map ms (λ (m : Mates). m.forward) ∙ sym count in
+    ∙ length-map ms (λ (m : Mates). m.forward) ∙ sym count in
     let reverse : length rs ≡ length tms = length-map (reverse_reads ms) (trimmed steps)
-        ∙ length-map ms (λ (m : Mates). m.reverse) ∙ sym count in
+    ∙ length-map ms (λ (m : Mates). m.reverse) ∙ sym count in
     ap (with_mates fs rs) same
     ∙ ap (λ (fault : Option InputFault). record { mates = tms; fault = fault })
-        (no_fault (suc (0 + length tms)) (length tms) fs rs forward reverse)
+    (no_fault (suc (0 + length tms)) (length tms) fs rs forward reverse)
 
 -- two texts that give the reads of pairs give the pairs
 pairs_again : (check : Bool) (steps : List Step) (e : Encoding) (ms : List Mates)
     (forward reverse : List ℕ) → All (IsPairIn check e) ms →
     IsReadAgain steps e (forward_reads ms) (length ms) forward →
-        IsReadAgain steps e (reverse_reads ms) (length ms) reverse →
+    IsReadAgain steps e (reverse_reads ms) (length ms) reverse →
     ArePairsAgain check steps e ms (length ms) forward reverse
 pairs_again check steps e ms forward reverse all f r plain_forward plain_reverse =
     let out = encoding_out steps e in
-    let again : pairs_of check 0 (records out forward) (records out reverse) ≡ record { mates =
-        map (trimmed_pair steps) ms; fault = None } =
+    let again : pairs_of check 0 (records out forward) (records out reverse) ≡ record {
+      mates =
+          map (trimmed_pair steps) ms;
+      fault = None;
+    } =
     ap (λ (x : Records). pairs_of check 0 x (records out reverse)) (f plain_forward).again
     ∙ ap (λ (x : Records). pairs_of check 0 (whole_text (map (trimmed steps) (forward_reads ms))) x)
-        (r plain_reverse).again
+    (r plain_reverse).again
     ∙ paired_again check steps e ms all in
     record {
       again = again;

@@ -54,8 +54,8 @@ more_from test n lo b on (inr is) = record {
     within = omega arith;
     before = λ k lt in_n. ⊎_elim
         (λ (below : k < n). b.before k (⊎_elim (λ (some : lo < n). absurd
-            (both_ways (test n) is (on some))) (λ (none : n ≤ lo). omega arith) (cases_lt lo n))
-            below)
+        (both_ways (test n) is (on some))) (λ (none : n ≤ lo). omega arith) (cases_lt lo n))
+        below)
         (λ (last : n ≤ k). let e : n ≡ k = omega arith in subst (λ j. test j ≡ false) e is)
         (cases_lt k n);
     inside = λ k from lt. absurd (omega arith);
@@ -86,7 +86,7 @@ from_there test zero rises = record {
 from_there test (suc n) rises =
     let others = from_there test n (fewer_rises test n rises) in
     more_from test n others.lo others.is (last_rises test n others.lo others.is rises)
-        (cases_Bool (test n))
+    (cases_Bool (test n))
 
 more_up_to : (test : ℕ → Bool) (n hi : ℕ) → IsBetween test n 0 hi → (test n ≡ true → n ≤ hi) →
     (test n ≡ true) ⊎ (test n ≡ false) → UpTo test (suc n)
@@ -125,7 +125,7 @@ last_falls : (test : ℕ → Bool) (n hi : ℕ) → IsBetween test n 0 hi → Fa
 last_falls test zero hi b falls is = omega arith
 last_falls test (suc n) hi b falls is = ⊎_elim
     (λ (less : hi < suc n). absurd (both_ways (test n) (b.behind n (omega arith) (omega arith))
-        (falls n (omega arith) is)))
+    (falls n (omega arith) is)))
     (λ (all : suc n ≤ hi). all)
     (cases_lt hi (suc n))
 
@@ -143,7 +143,7 @@ up_to_there test zero falls = record {
 up_to_there test (suc n) falls =
     let others = up_to_there test n (fewer_falls test n falls) in
     more_up_to test n others.hi others.is (last_falls test n others.hi others.is falls)
-        (cases_Bool (test n))
+    (cases_Bool (test n))
 
 -- Steps.
 
@@ -181,10 +181,10 @@ fallen {test} {n} u = record { lo = 0; hi = u.hi; is = u.is }
 window_falls : (w t : ℕ) (q : List ℕ) → Falls (keeps (SlidingWindow w t) q) (length q)
 window_falls w t q k lt is =
     let parts = and_parts (leb w (length q) && is_good_window w t q 0)
-        (list_any (is_good_end w t q) (places (suc k) (length q - suc k))) is in
+    (list_any (is_good_end w t q) (places (suc k) (length q - suc k))) is in
     let e : length q - k ≡ suc (length q - suc k) = omega arith in
     and_from _ _ parts.0 (ap (λ n. list_any (is_good_end w t q) (places k n)) e
-        ∙ any_earlier (is_good_end w t q) k (length q - suc k) parts.1)
+    ∙ any_earlier (is_good_end w t q) k (length q - suc k) parts.1)
 
 between : (step : Step) (q : List ℕ) → Between (keeps step q) (length q)
 between (Leading t) q =
@@ -211,26 +211,38 @@ pub record Span (q : List ℕ) (kept : List ℕ) : Type 0 where
   pub places_are : kept ≡ places start (stop - start)
 
 span_on : {q xs ys : List ℕ} → xs ≡ ys → Span q ys → Span q xs
-span_on e s = record { start = s.start; stop = s.stop; order = s.order; within =
-    s.within; places_are = e ∙ s.places_are }
+span_on e s = record {
+  start = s.start;
+  stop = s.stop;
+  order = s.order;
+  within =
+      s.within;
+  places_are = e ∙ s.places_are;
+}
 
 pub spans : (steps : List Step) (q : List ℕ) (start stop : ℕ) → start ≤ stop → stop ≤ length q →
     Span q (kept_of steps q (places start (stop - start)))
-spans [] q start stop order within = record { start = start; stop = stop; order = order; within =
-    within; places_are = refl }
+spans [] q start stop order within = record {
+  start = start;
+  stop = stop;
+  order = order;
+  within =
+      within;
+  places_are = refl;
+}
 spans (step ∷ steps) q start stop order within =
     let part = take (stop - start) (drop start q) in
     let size : length part ≡ stop - start = length-take-le (stop - start) (drop start q)
-        (omega (arith, length-drop start q)) in
+    (omega (arith, length-drop start q)) in
     let b = between step part in
     let is : IsBetween (keeps step part) (stop - start) b.lo b.hi =
-        subst (λ n. IsBetween (keeps step part) n b.lo b.hi) size b.is in
+    subst (λ n. IsBetween (keeps step part) n b.lo b.hi) size b.is in
     let lo_hi = is.order in
     let hi_in = is.within in
     let e : (start + b.hi) - (start + b.lo) ≡ b.hi - b.lo = omega arith in
     let next = spans steps q (start + b.lo) (start + b.hi) (omega arith) (omega arith) in
     span_on (step_keeps step steps q start stop b.lo b.hi order within is
-        ∙ ap (λ n. kept_of steps q (places (start + b.lo) n)) (sym e)) next
+    ∙ ap (λ n. kept_of steps q (places (start + b.lo) n)) (sym e)) next
 
 -- what is written for a read is its title, its bases and its quality
 written_title : (b : Bool) (e : Encoding) (r : Read) →
@@ -265,7 +277,7 @@ one_piece steps read same =
     let len = s.stop - s.start in
     let all : length q ≡ length q - 0 = omega arith in
     let kept_are : kept_places steps read ≡ places s.start len =
-        ap (λ (n : ℕ). kept_of steps q (places 0 n)) all ∙ s.places_are in
+    ap (λ (n : ℕ). kept_of steps q (places 0 n)) all ∙ s.places_are in
     let recode = recodes steps in
     record {
       start = s.start;
@@ -274,14 +286,14 @@ one_piece steps read same =
       title = written_title recode read.encoding (left_of steps read);
       bases = written_seq recode read.encoding (left_of steps read)
           ∙ (ap (λ (is : List ℕ). bytes_at is read.seq) kept_are
-              ∙ scores_at read.seq s.start len (omega arith));
+          ∙ scores_at read.seq s.start len (omega arith));
       quality = written_qual recode read.encoding (left_of steps read)
           ∙ ap (quality_out steps read.encoding)
-              (ap (λ (is : List ℕ). bytes_at is read.qual) kept_are
-              ∙ scores_at read.qual s.start len (omega arith));
+          (ap (λ (is : List ℕ). bytes_at is read.qual) kept_are
+          ∙ scores_at read.qual s.start len (omega arith));
       some = ap (λ (is : List ℕ). not (is_empty is)) kept_are ∙ some_places s.start len;
       logged = λ side.
           ap (λ (is : List ℕ). log_line side is read) kept_are
           ∙ ap (λ (ns : List ℕ). line (name_of side read.title ++ flat_map field ns))
-              (numbers_are (length read.seq) s.start len);
+          (numbers_are (length read.seq) s.start len);
     }

@@ -40,11 +40,11 @@ few_selected test j (p ∷ ps) =
     let rest = few_selected test (suc j) ps in
     ⊎_elim
     (λ is. let e =
-        ap length (cond-true (test j) (p ∷ select test (suc j) ps) (select test (suc j) ps) is) in
-        omega arith)
+    ap length (cond-true (test j) (p ∷ select test (suc j) ps) (select test (suc j) ps) is) in
+    omega arith)
     (λ is. let e =
-        ap length (cond-false (test j) (p ∷ select test (suc j) ps) (select test (suc j) ps) is) in
-        omega arith)
+    ap length (cond-false (test j) (p ∷ select test (suc j) ps) (select test (suc j) ps) is) in
+    omega arith)
     (cases_Bool (test j))
 
 few_kept : (steps : List Step) (q ps : List ℕ) → length (kept_of steps q ps) ≤ length ps
@@ -63,10 +63,10 @@ module _ (steps : List Step) (read : Read) where
   kept_below_read same =
       let q = scores read.encoding read.qual in
       let size : length q ≡ length read.seq = length-map read.qual (value_of read.encoding)
-          ∙ same in
+      ∙ same in
       subst (λ n. Below n (kept_places steps read)) size
-          (kept_below steps q (length q) (places 0 (length q))
-          (places_below (length q) 0 (length q) (omega arith)))
+      (kept_below steps q (length q) (places 0 (length q))
+      (places_below (length q) 0 (length q) (omega arith)))
 
   few_bases : length read.qual ≡ length read.seq →
       length (bytes_at (kept_places steps read) read.seq) ≤ length read.seq
@@ -87,7 +87,7 @@ module _ (steps : List Step) (read : Read) where
       let fits = lawful.seq_fits in
       let few = few_bases lawful.same_len in
       let below_qual : Below (length read.qual) (kept_places steps read) =
-          subst (λ n. Below n (kept_places steps read)) (sym lawful.same_len) below in
+      subst (λ n. Below n (kept_places steps read)) (sym lawful.same_len) below in
       record {
         one_line = lawful.one_line;
         title_fits = lawful.title_fits;
@@ -115,29 +115,32 @@ written_encoding false r = refl
 one_again : (steps : List Step) (encoding : Encoding) (read : Read) (text : List ℕ) →
     IsReadIn encoding read → IsPlain steps read →
     records (encoding_out steps encoding) (record_text steps read ++ text)
-        ≡ with_first (trimmed steps read) (records (encoding_out steps encoding) text)
+    ≡ with_first (trimmed steps read) (records (encoding_out steps encoding) text)
 one_again steps encoding read text is plain =
     let lawful = left_lawful steps read encoding is plain in
     let e : (trimmed steps read).encoding ≡ encoding_out steps encoding =
     written_encoding (recodes steps) (left_of steps read)
-        ∙ ap (λ x. cond (recodes steps) Sanger x) is.same in
+    ∙ ap (λ x. cond (recodes steps) Sanger x) is.same in
     subst (λ x. records x (record_text steps read ++ text)
-        ≡ with_first (trimmed steps read) (records x text)) e
+    ≡ with_first (trimmed steps read) (records x text)) e
     (reads_back (left_of steps read) (then_some (recodes steps) read.encoding) text lawful
-        plain.title
+    plain.title
     (can_recode (recodes steps) read.encoding (left_of steps read).qual lawful.scores))
 
 -- the records of many reads are read again
 pub many_again : (steps : List Step) (encoding : Encoding) (reads : List Read) →
     All (IsReadIn encoding) reads → All (IsPlain steps) reads →
-    records (encoding_out steps encoding) (flat_map (record_text steps) reads) ≡ record { reads =
-        map (trimmed steps) reads; fault = None }
+    records (encoding_out steps encoding) (flat_map (record_text steps) reads) ≡ record {
+      reads =
+          map (trimmed steps) reads;
+      fault = None;
+    }
 many_again steps encoding [] are plain = refl
 many_again steps encoding (read ∷ reads) are plain =
     one_again steps encoding read (flat_map (record_text steps) reads)
-        (All-head (IsReadIn encoding) read reads are) (All-head (IsPlain steps) read reads plain)
+    (All-head (IsReadIn encoding) read reads are) (All-head (IsPlain steps) read reads plain)
     ∙ ap (with_first (trimmed steps read)) (many_again steps encoding reads (All-tail
-        (IsReadIn encoding) read reads are) (All-tail (IsPlain steps) read reads plain))
+    (IsReadIn encoding) read reads are) (All-tail (IsPlain steps) read reads plain))
 
 -- Letters.
 
@@ -145,7 +148,7 @@ all_letters : (xs : List ℕ) → All (λ base. is_letter base ≡ true) xs → 
 all_letters [] all = refl
 all_letters (x ∷ xs) all =
     and_from _ _ (All-head (λ base. is_letter base ≡ true) x xs all)
-        (all_letters xs (All-tail (λ base. is_letter base ≡ true) x xs all))
+    (all_letters xs (All-tail (λ base. is_letter base ≡ true) x xs all))
 
 -- a text of letters does not begin with a mark
 letter_first : (mark : ℕ) (at xs : List ℕ) → is_letter mark ≡ false →
@@ -154,12 +157,12 @@ letter_first mark [] xs other all = refl
 letter_first mark (i ∷ is) xs other all =
     let letter = (and_parts _ _ all).0 in
     ne_eqb (get_or xs i 0) mark (λ e. both_ways (is_letter mark) other (ap is_letter (sym e)
-        ∙ letter))
+    ∙ letter))
 
 pub letters_are_plain : LettersArePlain
 letters_are_plain steps read same title letters =
     let all = hold_at is_letter read.seq (kept_places steps read) (kept_below_read steps read same)
-        (all_letters read.seq letters) in
+    (all_letters read.seq letters) in
     record {
       title = title;
       no_title = letter_first 64 (kept_places steps read) read.seq refl all;

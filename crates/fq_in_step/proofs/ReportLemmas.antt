@@ -91,15 +91,27 @@ Goes n m c = ((survives c.left ≡ true) × (c.dropped ≡ [])) ⊎ IsDropped n 
 
 goes_after : (n m : ℕ) (at : List ℕ) (part : Part) (c : Course) →
     (is_empty at ≡ false → Goes (suc n) m c) → Goes n (suc m) (after n at part c)
-goes_after n m [] part c on = inr (record { by = n; from = omega arith; below = omega arith; gone =
-    refl; dropped = refl })
+goes_after n m [] part c on = inr (record {
+  by = n;
+  from = omega arith;
+  below = omega arith;
+  gone =
+      refl;
+  dropped = refl;
+})
 goes_after n m (start ∷ others) part c on = ⊎_elim
     (λ whole. inl whole)
     (λ one.
     let from = one.from in
     let below = one.below in
-    inr (record { by = one.by; from = omega arith; below = omega arith; gone = one.gone; dropped =
-        one.dropped }))
+    inr (record {
+      by = one.by;
+      from = omega arith;
+      below = omega arith;
+      gone = one.gone;
+      dropped =
+          one.dropped;
+    }))
     (on refl)
 
 goes : (n : ℕ) (lists : List (List Step)) (part : Part) →
@@ -113,7 +125,7 @@ goes n (steps ∷ lists) part some =
     let at = kept steps (scores part.encoding part.qual) in
     goes_after n (length lists) at part (course_of (suc n) lists (part_at at part))
     (λ base. goes (suc n) lists (part_at at part)
-        (inl (not_empty (λ (i : ℕ). get_or part.seq i 0) at ∙ base)))
+    (inl (not_empty (λ (i : ℕ). get_or part.seq i 0) at ∙ base)))
 
 -- steps, each in a list of its own
 some_step : (steps : List Step) → steps ≢ [] → 0 < length steps
@@ -125,7 +137,7 @@ by_steps : (steps : List Step) (read : Read) → 0 < length steps →
 by_steps steps read some =
     let size = alone_length steps in
     subst (λ (n : ℕ). Goes 0 n (course (alone steps) read)) size
-        (goes 0 (alone steps) (whole read) (inr (omega arith)))
+    (goes 0 (alone steps) (whole read) (inr (omega arith)))
 
 once : (n m : ℕ) (c : Course) → Goes n m c → length c.dropped ≡ cond (survives c.left) 0 1
 once n m c way = ⊎_elim
@@ -136,7 +148,7 @@ once n m c way = ⊎_elim
 pub dropped_once : ReadsAreDroppedOnce
 dropped_once steps read some same =
     once 0 (length steps) (course (alone steps) read) (by_steps steps read (some_step steps some))
-        ∙ ap (λ (x : Bool). cond x 0 1) (survives_as_kept steps read same)
+    ∙ ap (λ (x : Bool). cond x 0 1) (survives_as_kept steps read same)
 
 -- One side.
 
@@ -166,12 +178,13 @@ few_rows : (row by : ℕ) (xs : List ℕ) (n : ℕ) → row ≤ by → by < n �
 few_rows row by xs n least below few = let size = length-with_one row xs in omega arith
 
 -- one more read is counted, with this course
-module _ (steps : List Step) (t : SideTally) (all both only gone : ℕ) (counts : Counts steps t all both only gone) where
+module _ (steps : List Step) (t : SideTally) (all both only gone : ℕ)
+    (counts : Counts steps t all both only gone) where
   one_counted : (read : Read) (c : Course) (mate : Bool) → Goes 0 (length steps) c →
       all < 18446744073709551615 →
       Counts steps (with_read read c mate t) (1 + all)
       (bit (survives c.left && mate) + both) (bit (survives c.left && not mate) + only)
-          (bit (not (survives c.left)) + gone)
+      (bit (not (survives c.left)) + gone)
   one_counted read c mate goes few =
       let s = survives c.left in
       let old = t.steps.dropped in
@@ -202,12 +215,12 @@ module _ (steps : List Step) (t : SideTally) (all both only gone : ℕ) (counts 
             goes;
         rows = ⊎_elim
             (λ whole. let none = ap (λ (ns : List ℕ). length (counted_all ns old)) whole.1 in
-                omega arith)
+            omega arith)
             (λ by.
             let one_row = ap (λ (ns : List ℕ). length (counted_all ns old)) by.dropped in
             let below = by.below in
             let few = few_rows (row_of by.by) by.by old (length steps) (omega arith) (omega arith)
-                r in
+            r in
             omega arith)
             goes;
         sum_is = omega arith;
@@ -218,17 +231,17 @@ module _ (steps : List Step) (t : SideTally) (all both only gone : ℕ) (counts 
       length read.qual ≡ length read.seq → all < 18446744073709551615 → mate ≡ with_mate →
       let s = outputs.survives steps read in
       Counts steps (with_read read (course (alone steps) read) mate t) (1 + all)
-          (bit (s && with_mate) + both) (bit (s && not with_mate) + only) (bit (not s) + gone)
+      (bit (s && with_mate) + both) (bit (s && not with_mate) + only) (bit (not s) + gone)
   read_counted read mate with_mate some same few is =
       let c = course (alone steps) read in
       let raw = one_counted read c mate (by_steps steps read some) few in
       let mated =
-          subst (λ (x : Bool). Counts steps (with_read read c mate t) (1 + all)
-          (bit (survives c.left && x) + both) (bit (survives c.left && not x) + only)
-          (bit (not (survives c.left)) + gone)) is raw in
+      subst (λ (x : Bool). Counts steps (with_read read c mate t) (1 + all)
+      (bit (survives c.left && x) + both) (bit (survives c.left && not x) + only)
+      (bit (not (survives c.left)) + gone)) is raw in
       subst (λ (s : Bool). Counts steps (with_read read c mate t) (1 + all)
-          (bit (s && with_mate) + both) (bit (s && not with_mate) + only) (bit (not s) + gone))
-          (survives_as_kept steps read same) mated
+      (bit (s && with_mate) + both) (bit (s && not with_mate) + only) (bit (not s) + gone))
+      (survives_as_kept steps read same) mated
 
 counted_as : (steps : List Step) (t : SideTally) (a b o g a' b' o' g' : ℕ) →
     Counts steps t a b o g → a ≡ a' → b ≡ b' → o ≡ o' → g ≡ g' → Counts steps t a' b' o' g'
@@ -246,11 +259,11 @@ counted_as steps t a b o g a' b' o' g' c same_a same_b same_o same_g =
 -- Both sides.
 
 record BothSides (steps : List Step) (t : Tally) (all both forward_only reverse_only : ℕ) : Type 0
-    where
-  forward_gone : ℕ
-  reverse_gone : ℕ
-  forward : Counts steps t.forward all both forward_only forward_gone
-  reverse : Counts steps t.reverse all both reverse_only reverse_gone
+  where
+    forward_gone : ℕ
+    reverse_gone : ℕ
+    forward : Counts steps t.forward all both forward_only forward_gone
+    reverse : Counts steps t.reverse all both reverse_only reverse_gone
 
 and_comm_bit : (f r : Bool) → bit (r && f) ≡ bit (f && r)
 and_comm_bit true true = refl
@@ -260,19 +273,19 @@ and_comm_bit false false = refl
 
 pair_counted : (steps : List Step) (t : Tally) (a b f r : ℕ) (m : Mates) → 0 < length steps →
     length m.forward.qual ≡ length m.forward.seq → length m.reverse.qual ≡ length m.reverse.seq →
-        a < 18446744073709551615 → BothSides steps t a b f r →
+    a < 18446744073709551615 → BothSides steps t a b f r →
     BothSides steps (with_pair (alone steps) t m) (1 + a) (bit (both_survive steps m) + b)
-        (bit (forward_alone steps m) + f) (bit (reverse_alone steps m) + r)
+    (bit (forward_alone steps m) + f) (bit (reverse_alone steps m) + r)
 pair_counted steps t a b f r m some same_f same_r few sides =
     let lists = alone steps in
     let sf = outputs.survives steps m.forward in
     let sr = outputs.survives steps m.reverse in
     let front = read_counted steps t.forward a b f sides.forward_gone sides.forward m.forward
     (survives (course lists m.reverse).left) sr some same_f few
-        (survives_as_kept steps m.reverse same_r) in
+    (survives_as_kept steps m.reverse same_r) in
     let back = read_counted steps t.reverse a b r sides.reverse_gone sides.reverse m.reverse
     (survives (course lists m.forward).left) sf some same_r few
-        (survives_as_kept steps m.forward same_f) in
+    (survives_as_kept steps m.forward same_f) in
     let swap = and_comm_bit sf sr in
     let swap_not = and_comm_bit (not sf) sr in
     record {
@@ -282,14 +295,14 @@ pair_counted steps t a b f r m some same_f same_r few sides =
       reverse = counted_as steps (with_pair lists t m).reverse (1 + a) (bit (sr && sf) + b)
           (bit (sr && not sf) + r) (bit (not sr) + sides.reverse_gone)
           (1 + a) (bit (sf && sr) + b) (bit (not sf && sr) + r) (bit (not sr) + sides.reverse_gone)
-              back refl (omega arith) (omega arith) refl;
+          back refl (omega arith) (omega arith) refl;
     }
 
 all_counted : (check : Bool) (e : Encoding) (steps : List Step) (ms : List Mates) (t : Tally)
     (a b f r : ℕ) → 0 < length steps →
     All (IsPairIn check e) ms → a + length ms ≤ 18446744073709551615 → BothSides steps t a b f r →
     BothSides steps (fold (with_pair (alone steps)) t ms) (length ms + a)
-        (length (filter (both_survive steps) ms) + b)
+    (length (filter (both_survive steps) ms) + b)
     (length (filter (forward_alone steps) ms) + f) (length (filter (reverse_alone steps) ms) + r)
 all_counted check e steps [] t a b f r some are few sides = record {
   forward_gone = sides.forward_gone;
@@ -302,10 +315,10 @@ all_counted check e steps [] t a b f r some are few sides = record {
 all_counted check e steps (m ∷ ms) t a b f r some are few sides =
     let pair = All-head (IsPairIn check e) m ms are in
     let next = pair_counted steps t a b f r m some pair.forward.lawful.same_len
-        pair.reverse.lawful.same_len (omega arith) sides in
+    pair.reverse.lawful.same_len (omega arith) sides in
     let rest = all_counted check e steps ms (with_pair (alone steps) t m) (1 + a)
-        (bit (both_survive steps m) + b) (bit (forward_alone steps m) + f)
-        (bit (reverse_alone steps m) + r)
+    (bit (both_survive steps m) + b) (bit (forward_alone steps m) + f)
+    (bit (reverse_alone steps m) + r)
     some (All-tail (IsPairIn check e) m ms are) (omega arith) next in
     let both = one_more (both_survive steps) m ms in
     let alone_f = one_more (forward_alone steps) m ms in
@@ -316,11 +329,11 @@ all_counted check e steps (m ∷ ms) t a b f r some are few sides =
       reverse_gone = rest.reverse_gone;
       forward = counted_as steps end.forward _ _ _ rest.forward_gone
           (length (m ∷ ms) + a) (length (filter (both_survive steps) (m ∷ ms)) + b)
-              (length (filter (forward_alone steps) (m ∷ ms)) + f) rest.forward_gone
+          (length (filter (forward_alone steps) (m ∷ ms)) + f) rest.forward_gone
           rest.forward (omega arith) (omega arith) (omega arith) refl;
       reverse = counted_as steps end.reverse _ _ _ rest.reverse_gone
           (length (m ∷ ms) + a) (length (filter (both_survive steps) (m ∷ ms)) + b)
-              (length (filter (reverse_alone steps) (m ∷ ms)) + r) rest.reverse_gone
+          (length (filter (reverse_alone steps) (m ∷ ms)) + r) rest.reverse_gone
           rest.reverse (omega arith) (omega arith) (omega arith) refl;
     }
 
@@ -347,13 +360,27 @@ reports_add_up check e steps ms are some few =
     let start : BothSides steps no_tally 0 0 0 0 = record {
       forward_gone = 0;
       reverse_gone = 0;
-      forward = record { before = refl; paired = refl; unpaired = refl; dropped = refl; rows =
-          omega arith; sum_is = refl };
-      reverse = record { before = refl; paired = refl; unpaired = refl; dropped = refl; rows =
-          omega arith; sum_is = refl };
+      forward = record {
+        before = refl;
+        paired = refl;
+        unpaired = refl;
+        dropped = refl;
+        rows =
+            omega arith;
+        sum_is = refl;
+      };
+      reverse = record {
+        before = refl;
+        paired = refl;
+        unpaired = refl;
+        dropped = refl;
+        rows =
+            omega arith;
+        sum_is = refl;
+      };
     } in
     let end = all_counted check e steps ms no_tally 0 0 0 0 (some_step steps some) are (omega arith)
-        start in
+    start in
     let t = fold (with_pair (alone steps)) no_tally ms in (
       adds_up steps t.forward _ _ _ end.forward_gone _ _ _ end.forward (omega arith) (omega arith)
           (omega arith),

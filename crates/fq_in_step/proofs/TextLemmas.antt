@@ -34,9 +34,9 @@ clean_pieces : (text : List ℕ) → list_all clean (pieces text) ≡ true
 clean_pieces [] = refl
 clean_pieces (b ∷ bs) = ⊎_elim
     (λ is. ap (list_all clean) (cond-true (eqb b 10) ([] ∷ pieces bs) (before_first_piece b
-        (pieces bs)) is) ∙ clean_pieces bs)
+    (pieces bs)) is) ∙ clean_pieces bs)
     (λ is. ap (list_all clean) (cond-false (eqb b 10) ([] ∷ pieces bs) (before_first_piece b
-        (pieces bs)) is) ∙ clean_first b (pieces bs) is (clean_pieces bs))
+    (pieces bs)) is) ∙ clean_first b (pieces bs) is (clean_pieces bs))
     (cases_Bool (eqb b 10))
 
 clean_without_cr : (l : List ℕ) → clean l ≡ true → clean (without_cr l) ≡ true
@@ -64,7 +64,7 @@ text_of_lines [] all = refl
 text_of_lines (l ∷ ls) all =
     let parts = and_parts _ _ all in
     ends_in_cr_lf l parts.0 (flat_map (λ (m : List ℕ). m ++ 13 ∷ 10 ∷ []) ls)
-        ∙ ap (λ (ms : List (List ℕ)). l ∷ ms) (text_of_lines ls parts.1)
+    ∙ ap (λ (ms : List (List ℕ)). l ∷ ms) (text_of_lines ls parts.1)
 
 -- Reads.
 
@@ -81,17 +81,17 @@ clean_rest : (e : Encoding) (ls : List (List ℕ)) (r : Read) (rest : List (List
 clean_rest e ls r rest all is =
     let takes = front_takes e r ls rest is in
     (and_parts _ _ (sym (list_all-append clean takes.taken rest)
-        ∙ ap (list_all clean) (sym takes.split) ∙ all)).1
+    ∙ ap (list_all clean) (sym takes.split) ∙ all)).1
 
 reads_of_front : (n : ℕ) (e : Encoding) (ls : List (List ℕ)) → list_all clean ls ≡ true →
     ((rest : List (List ℕ)) → list_all clean rest ≡ true →
-        All (IsReadIn e) (records_within n e rest).reads) →
+    All (IsReadIn e) (records_within n e rest).reads) →
     (f : Front) → front e ls ≡ f → All (IsReadIn e) (from_front (records_within n e) f).reads
 reads_of_front n e ls all others End is = All-nil (IsReadIn e)
 reads_of_front n e ls all others (Faulty fault) is = All-nil (IsReadIn e)
 reads_of_front n e ls all others (Found r rest) is =
     All-cons (IsReadIn e) r (records_within n e rest).reads (front_is_read e ls r rest all is)
-        (others rest (clean_rest e ls r rest all is))
+    (others rest (clean_rest e ls r rest all is))
 
 reads_within : (n : ℕ) (e : Encoding) (ls : List (List ℕ)) → list_all clean ls ≡ true →
     All (IsReadIn e) (records_within n e ls).reads
@@ -129,7 +129,7 @@ interleaved_are_in e (f ∷ []) all = All-nil (AreReadsIn e)
 interleaved_are_in e (f ∷ r ∷ rs) all =
     let others = All-tail (IsReadIn e) f (r ∷ rs) all in
     both_in e f r (interleaved_mates rs) (All-head (IsReadIn e) f (r ∷ rs) all)
-        (All-head (IsReadIn e) r rs others)
+    (All-head (IsReadIn e) r rs others)
     (interleaved_are_in e rs (All-tail (IsReadIn e) r rs others))
 
 -- the pairs up to the first one whose names differ
@@ -141,19 +141,23 @@ taken_are_pairs check e (m ∷ ms) all = subst (All (IsPairIn check e))
     (λ is.
     let here = All-head (AreReadsIn e) m ms all in
     subst (All (IsPairIn check e)) (sym (cond-true (belong check m)
-        (m ∷ take_while (belong check) ms) [] is))
-    (All-cons (IsPairIn check e) m (take_while (belong check) ms) (record { forward =
-        here.forward; reverse = here.reverse; belong = is })
+    (m ∷ take_while (belong check) ms) [] is))
+    (All-cons (IsPairIn check e) m (take_while (belong check) ms) (record {
+      forward =
+          here.forward;
+      reverse = here.reverse;
+      belong = is;
+    })
     (taken_are_pairs check e ms (All-tail (AreReadsIn e) m ms all))))
     (λ is. subst (All (IsPairIn check e)) (sym (cond-false (belong check m)
-        (m ∷ take_while (belong check) ms) [] is)) (All-nil (IsPairIn check e)))
+    (m ∷ take_while (belong check) ms) [] is)) (All-nil (IsPairIn check e)))
     (cases_Bool (belong check m)))
 
 pub inputs_give_pairs : InputsGivePairs
 inputs_give_pairs TwoTexts check e forward reverse =
     taken_are_pairs check e (mates_of (records e forward).reads (records e reverse).reads)
     (mates_are_in e (records e forward).reads (records e reverse).reads (reads_of_text e forward)
-        (reads_of_text e reverse))
+    (reads_of_text e reverse))
 inputs_give_pairs InterleavedText check e text same =
     taken_are_pairs check e (interleaved_mates (records e text).reads)
-        (interleaved_are_in e (records e text).reads (reads_of_text e text))
+    (interleaved_are_in e (records e text).reads (reads_of_text e text))

@@ -43,10 +43,16 @@ mixed = codes
     "@p1/1\nACGT\n+\n#!II\n@p1/2\nTTTT\n+\nIIII\n@p2/1\nGGCC\n+\nIIII\n@p2/2\nAAAA\n+\n!!!\"\n"
 
 abbrev both : List Mates
-both = record { forward = read (codes "p1/1") (codes "ACGT") (codes "#!II"); reverse =
-    read (codes "p1/2") (codes "TTTT") (codes "IIII") }
-    ∷ record { forward = read (codes "p2/1") (codes "GGCC") (codes "IIII"); reverse =
-        read (codes "p2/2") (codes "AAAA") (codes "!!!\"") }
+both = record {
+  forward = read (codes "p1/1") (codes "ACGT") (codes "#!II");
+  reverse =
+      read (codes "p1/2") (codes "TTTT") (codes "IIII");
+}
+    ∷ record {
+      forward = read (codes "p2/1") (codes "GGCC") (codes "IIII");
+      reverse =
+          read (codes "p2/2") (codes "AAAA") (codes "!!!\"");
+    }
     ∷ []
 
 two_pairs : pairs true Sanger 0 forward reverse ≡ record { mates = both; fault = None }
@@ -95,8 +101,14 @@ forward_log = refl
 reverse_log : map numbers (reverse_reads both) ≡ (4 ∷ 0 ∷ 4 ∷ 0 ∷ []) ∷ (0 ∷ 0 ∷ 0 ∷ 0 ∷ []) ∷ []
 reverse_log = refl
 
-counts : counts_of steps both ≡ record { pairs = 2; both = 1; forward_only = 1; reverse_only =
-    0; dropped = 0 }
+counts : counts_of steps both ≡ record {
+  pairs = 2;
+  both = 1;
+  forward_only = 1;
+  reverse_only =
+      0;
+  dropped = 0;
+}
 counts = refl
 
 -- Outputs that are read again.
@@ -104,12 +116,21 @@ counts = refl
 -- One pair is read, because both mates survive in one pair. The forward mate has lost its first two
 -- bases; the reverse mate is whole.
 in_step : pairs true Sanger 0 (codes "@p1/1\nGT\n+\nII\n") (codes "@p1/2\nTTTT\n+\nIIII\n")
-    ≡ record { mates = record { forward = read (codes "p1/1") (codes "GT") (codes "II"); reverse =
-        read (codes "p1/2") (codes "TTTT") (codes "IIII") } ∷ []; fault = None }
+    ≡ record {
+      mates = record {
+        forward = read (codes "p1/1") (codes "GT") (codes "II");
+        reverse =
+            read (codes "p1/2") (codes "TTTT") (codes "IIII");
+      } ∷ [];
+      fault = None;
+    }
 in_step = refl
 
-alone_again : records Sanger (codes "@p2/1\nGGCC\n+\nIIII\n") ≡ record { reads =
-    read (codes "p2/1") (codes "GGCC") (codes "IIII") ∷ []; fault = None }
+alone_again : records Sanger (codes "@p2/1\nGGCC\n+\nIIII\n") ≡ record {
+  reads =
+      read (codes "p2/1") (codes "GGCC") (codes "IIII") ∷ [];
+  fault = None;
+}
 alone_again = refl
 
 none_again : records Sanger [] ≡ record { reads = []; fault = None }
@@ -129,8 +150,13 @@ plain_alone = All-cons (IsPlain steps) (read (codes "p2/1") (codes "GGCC") (code
     (record { title = refl; no_title = refl; no_plus = refl }) (All-nil (IsPlain steps))
 
 -- with TOPHRED33 an output is in Sanger's encoding
-recoded : map (trimmed (Leading 3 ∷ ToPhred33 ∷ [])) (record { encoding = Illumina13; title =
-    codes "i"; seq = codes "ACG"; qual = codes "AhD" } ∷ [])
+recoded : map (trimmed (Leading 3 ∷ ToPhred33 ∷ [])) (record {
+  encoding = Illumina13;
+  title =
+      codes "i";
+  seq = codes "ACG";
+  qual = codes "AhD";
+} ∷ [])
     ≡ read (codes "i") (codes "CG") (codes "I%") ∷ []
 recoded = refl
 

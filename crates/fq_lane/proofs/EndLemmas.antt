@@ -26,18 +26,22 @@ module _ {T A P : Type 0} where
   pub receiver_item : (b c : Consumer (Slot T) A P) (x : T) → SameConsumer b c →
       IsHistory (received b) false → received c ≡ received b ++ Item x ∷ []
       → IsHistory (received c) false × (receiver_history c false ≡ with_item
-          (receiver_history b false) x)
-  receiver_item b c x same history is =
-      (item_history (received b) (received c) x history is, history_is _ _ _ _ _ _
-          (same_name b.end c.end same.0) (item_items (received b) (received c) x history is) refl)
+      (receiver_history b false) x)
+  receiver_item b c x same history is = (
+    item_history (received b) (received c) x history is,
+    history_is _ _ _ _ _ _
+        (same_name b.end c.end same.0) (item_items (received b) (received c) x history is) refl,
+  )
 
   pub receiver_mark : (b c : Consumer (Slot T) A P) → SameConsumer b c →
       IsHistory (received b) false → received c ≡ received b ++ Mark ∷ []
       → IsHistory (received c) true × (receiver_history c true ≡ with_mark
-          (receiver_history b false))
-  receiver_mark b c same history is =
-      (mark_history (received b) (received c) history is, history_is _ _ _ _ _ _
-          (same_name b.end c.end same.0) (mark_items (received b) (received c) history is) refl)
+      (receiver_history b false))
+  receiver_mark b c same history is = (
+    mark_history (received b) (received c) history is,
+    history_is _ _ _ _ _ _
+        (same_name b.end c.end same.0) (mark_items (received b) (received c) history is) refl,
+  )
 
   pub receiver_whole : (f : Finished (Slot T) A P) (b c : Consumer (Slot T) A P) →
       finished_name f ≡ consumer_name b → SameConsumer b c → IsHistory (received c) true →
@@ -45,4 +49,4 @@ module _ {T A P : Type 0} where
       → receiver_history c true ≡ end_history f
   receiver_whole f b c named same got sent fifo =
       history_is _ _ _ _ _ _ (same_name b.end c.end same.0
-          ∙ sym named) (whole_items (received c) (known_items c) (all_sent f) got sent fifo) refl
+      ∙ sym named) (whole_items (received c) (known_items c) (all_sent f) got sent fifo) refl

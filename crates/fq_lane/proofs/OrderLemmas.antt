@@ -34,8 +34,11 @@ module _ {T : Type 0} where
   prefix_pushed : (b : Bool) (got sent : List (Slot T)) (s : Slot T) → IsPrefix got sent →
       IsPrefix got (pushed_unless b sent s)
   prefix_pushed true got sent s p = p
-  prefix_pushed false got sent s p = (p.0 ++ s ∷ [], sym (append_assoc got p.0 (s ∷ []))
-      ∙ ap (λ us. us ++ s ∷ []) p.1)
+  prefix_pushed false got sent s p = (
+    p.0 ++ s ∷ [],
+    sym (append_assoc got p.0 (s ∷ []))
+        ∙ ap (λ us. us ++ s ∷ []) p.1,
+  )
 
   drop_prefix : (got rest : List (Slot T)) → drop (length got) (got ++ rest) ≡ rest
   drop_prefix [] rest = refl
@@ -49,18 +52,26 @@ module _ {T : Type 0} where
       IsPrefix (got ++ take 1 (drop (length got) sent)) sent
   prefix_popped got sent p =
       let here : drop (length got) sent ≡ p.0 = ap (drop (length got)) (sym p.1)
-          ∙ drop_prefix got p.0 in
-      (drop 1 p.0, ap (λ us. (got ++ take 1 us) ++ drop 1 p.0) here
-          ∙ append_assoc got (take 1 p.0) (drop 1 p.0) ∙ ap (λ us. got ++ us) (first_and_rest p.0)
-          ∙ p.1)
+      ∙ drop_prefix got p.0 in (
+        drop 1 p.0,
+        ap (λ us. (got ++ take 1 us) ++ drop 1 p.0) here
+            ∙ append_assoc got (take 1 p.0) (drop 1 p.0) ∙ ap (λ us. got ++ us) (first_and_rest p.0)
+            ∙ p.1,
+      )
 
   kept_event : (l : Lane T) (e : Event T) → Kept l → Kept (after_event l e)
   kept_event l (push_item x) k =
-      record { prefix = prefix_pushed (has_mark l.sent) l.got l.sent (Item x) k.prefix; ends =
-      ends_pushed (has_mark l.sent) l.sent (Item x) refl k.ends }
+      record {
+        prefix = prefix_pushed (has_mark l.sent) l.got l.sent (Item x) k.prefix;
+        ends =
+            ends_pushed (has_mark l.sent) l.sent (Item x) refl k.ends;
+      }
   kept_event l push_mark k =
-      record { prefix = prefix_pushed (has_mark l.sent) l.got l.sent Mark k.prefix; ends =
-      ends_pushed (has_mark l.sent) l.sent Mark refl k.ends }
+      record {
+        prefix = prefix_pushed (has_mark l.sent) l.got l.sent Mark k.prefix;
+        ends =
+            ends_pushed (has_mark l.sent) l.sent Mark refl k.ends;
+      }
   kept_event l pop k = record { prefix = prefix_popped l.got l.sent k.prefix; ends = k.ends }
   kept_event l give_end k = k
 
@@ -88,7 +99,7 @@ module _ {T : Type 0} where
       let k : Kept l = kept_events new_lane es kept_new in
       let p = k.prefix in
       let none : p.0 ≡ [] = whole l.got p.0 (let P : List (Slot T) → Type 0 = EndsAtMark in
-          subst P (sym p.1) k.ends) m in
+      subst P (sym p.1) k.ends) m in
       sym (append-nil l.got) ∙ ap (λ us. l.got ++ us) (sym none) ∙ p.1
 
   -- items alone have no mark
@@ -112,7 +123,7 @@ module _ {T : Type 0} where
       ≡ slots_of (with_item l x).items (with_item l x).marked
   open_item l x unmarked =
       ap (λ b. slots_of l.items b ++ Item x ∷ []) unmarked ∙ slots-item l.items x
-          ∙ ap (slots_of (l.items ++ x ∷ [])) (sym unmarked)
+      ∙ ap (slots_of (l.items ++ x ∷ [])) (sym unmarked)
 
   open_mark : (l : History T) → l.marked ≡ false →
       slots_of l.items l.marked ++ Mark ∷ [] ≡ slots_of (with_mark l).items (with_mark l).marked
@@ -125,24 +136,24 @@ module _ {T : Type 0} where
       after_event (lane_of sent got) (push_item x) ≡ lane_of (with_item sent x) got
   item_sent sent got x unmarked =
       lane_is _ _ _ _ (pushed_open _ (slots_of sent.items sent.marked) (Item x) (open_has_none sent
-          unmarked) ∙ open_item sent x unmarked) refl
+      unmarked) ∙ open_item sent x unmarked) refl
 
   pub mark_sent : (sent got : History T) → sent.marked ≡ false →
       after_event (lane_of sent got) push_mark ≡ lane_of (with_mark sent) got
   mark_sent sent got unmarked =
       lane_is _ _ _ _ (pushed_open _ (slots_of sent.items sent.marked) Mark (open_has_none sent
-          unmarked) ∙ open_mark sent unmarked) refl
+      unmarked) ∙ open_mark sent unmarked) refl
 
   pub item_got : (sent got : History T) (x : T) → got.marked ≡ false →
       next_slot (lane_of sent got) ≡ Item x ∷ [] →
       after_event (lane_of sent got) pop ≡ lane_of sent (with_item got x)
   item_got sent got x unmarked next =
       lane_is _ _ _ _ refl (ap (λ ss. slots_of got.items got.marked ++ ss) next
-          ∙ open_item got x unmarked)
+      ∙ open_item got x unmarked)
 
   pub mark_got : (sent got : History T) → got.marked ≡ false →
       next_slot (lane_of sent got) ≡ Mark ∷ [] →
       after_event (lane_of sent got) pop ≡ lane_of sent (with_mark got)
   mark_got sent got unmarked next =
       lane_is _ _ _ _ refl (ap (λ ss. slots_of got.items got.marked ++ ss) next
-          ∙ open_mark got unmarked)
+      ∙ open_mark got unmarked)

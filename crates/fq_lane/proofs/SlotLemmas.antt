@@ -37,7 +37,7 @@ module _ {T : Type 0} where
       IsHistory ts false
   item_history ss ts x history is =
       is ∙ ap (λ us. us ++ Item x ∷ []) history ∙ slots-item (items_of ss) x
-          ∙ ap (λ ys. slots_of ys false) (sym (item_items ss ts x history is))
+      ∙ ap (λ ys. slots_of ys false) (sym (item_items ss ts x history is))
 
   -- the mark after the items
   pub mark_items : (ss ts : List (Slot T)) → IsHistory ss false → ts ≡ ss ++ Mark ∷ [] →
@@ -49,7 +49,7 @@ module _ {T : Type 0} where
       IsHistory ts true
   mark_history ss ts history is =
       is ∙ ap (λ us. us ++ Mark ∷ []) history ∙ slots-mark (items_of ss)
-          ∙ ap (λ ys. slots_of ys true) (sym (mark_items ss ts history is))
+      ∙ ap (λ ys. slots_of ys true) (sym (mark_items ss ts history is))
 
   -- nothing comes after the mark
   whole : (xs ys : List T) (rest : List (Slot T)) → slots_of xs true ++ rest ≡ slots_of ys true →
@@ -73,7 +73,7 @@ module _ {T : Type 0} where
 
   pub history_is : (m n : Name) (xs ys : List T) (b c : Bool) → m ≡ n → xs ≡ ys → b ≡ c
       → (let l : History T = record { name = m; items = xs; marked = b } in l)
-          ≡ (let l : History T = record { name = n; items = ys; marked = c } in l)
+      ≡ (let l : History T = record { name = n; items = ys; marked = c } in l)
   history_is m n xs ys b c p q r = cc
 
 module _ {T A P : Type 0} where

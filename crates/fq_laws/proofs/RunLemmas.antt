@@ -18,12 +18,12 @@ use Rattle.fq_app.proofs.FileLemmas.{still_first, first_are_pairs}
 -- an outlet that began empty has taken its text
 has_taken : (old new : Option OutletState) (text : List ℕ) (failed : ℕ) → Took old new text failed →
     ((outlet : OutletState) → old ≡ Some outlet → IsEmptyOutlet outlet) → (outlet : OutletState) →
-        new ≡ Some outlet → outlet.taken ≡ text
+    new ≡ Some outlet → outlet.taken ≡ text
 has_taken (Some old) (Some new) text failed took empty outlet is =
     let e : new ≡ outlet = cc in
     let began = empty old refl in
     ap (λ (o : OutletState). o.taken) (sym e) ∙ took.bytes began.tells
-        ∙ ap (λ (xs : List ℕ). xs ++ text) began.taken
+    ∙ ap (λ (xs : List ℕ). xs ++ text) began.taken
 has_taken (Some old) None text failed took empty outlet is = absurd took
 has_taken None (Some new) text failed took empty outlet is = absurd took
 has_taken None None text failed took empty outlet is =
@@ -33,7 +33,7 @@ have_taken : (old new : OutletStates) (texts : Out → List ℕ) (failed : Optio
     OutletsTook old new texts failed → AreEmpty old → HaveTaken new texts
 have_taken old new texts failed took empty out outlet is =
     has_taken (outlet_at out old) (outlet_at out new) (texts out) _ (took out)
-        (λ o at. empty out o at) outlet is
+    (λ o at. empty out o at) outlet is
 
 pub whole_runs : WholeRunsAreInStep
 whole_runs c run trimmed empty =
@@ -46,8 +46,8 @@ whole_runs c run trimmed empty =
           subst (λ (counts : Counts). AreInStep c.check_names c.steps c.encoding ms counts texts)
           (sym trimmed.counts)
           (texts_are_in_step c.check_names c.steps c.encoding ms
-              (inputs_give_pairs run.form c.check_names c.encoding run.forward.to_come
-              run.reverse.to_come));
+          (inputs_give_pairs run.form c.check_names c.encoding run.forward.to_come
+          run.reverse.to_come));
     }
 
 -- Other endings.
@@ -66,7 +66,7 @@ endings c run every told empty =
     let texts : Out → List ℕ = λ out. text_of out (texts_of c.steps whole) in
     let first = still_first whole (block_begun every.fate) all (every.first told) in
     let are = inputs_give_pairs run.form c.check_names c.encoding run.forward.to_come
-        run.reverse.to_come in
+    run.reverse.to_come in
     record {
       whole = whole;
       fate = every.fate;
@@ -80,5 +80,5 @@ endings c run every told empty =
           subst (λ (counts : Counts). AreInStep c.check_names c.steps c.encoding whole counts texts)
           (sym every.counts)
           (texts_are_in_step c.check_names c.steps c.encoding whole
-              (first_are_pairs (IsPairIn c.check_names c.encoding) whole all first are));
+          (first_are_pairs (IsPairIn c.check_names c.encoding) whole all first are));
     }

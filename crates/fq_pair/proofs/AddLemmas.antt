@@ -57,20 +57,20 @@ same_outputs s t a b c d e f =
 pub text_with : (old room new : List ℕ) (recode : Bool) (steps : List Step) (o : Option Kept)
     (k : Kept) (read : Read) → room ≡ old → new ≡ room ++ record_at recode (places_of (Some k)) read
     → recode ≡ recodes steps → kept_places steps read ≡ places_of o → o ≡ Some k →
-        new ≡ old ++ record_text steps read
+    new ≡ old ++ record_text steps read
 text_with old room new recode steps o k read same put recodes_is is some_is =
     put ∙ ap (λ (xs : List ℕ). xs ++ record_at recode (places_of (Some k)) read) same
     ∙ ap (λ (b : Bool). old ++ record_at b (places_of (Some k)) read) recodes_is
     ∙ ap (λ (xs : List ℕ). old ++ record_at (recodes steps) xs read) (sym (is
-        ∙ ap places_of some_is))
+    ∙ ap places_of some_is))
 
 -- a log after a line was appended
 pub log_with : (old room new : List ℕ) (side : Side) (steps : List Step) (o : Option Kept)
     (read : Read) (name : List ℕ) (bases : ℕ) → room ≡ old →
     new ≡ room ++ log_line_of name bases (places_of o)
     → name ≡ name_of side read.title → bases ≡ length read.seq →
-        kept_places steps read ≡ places_of o →
-        new ≡ old ++ log_line side (kept_places steps read) read
+    kept_places steps read ≡ places_of o →
+    new ≡ old ++ log_line side (kept_places steps read) read
 log_with old room new side steps o read name bases same put named counted is =
     put ∙ ap (λ (xs : List ℕ). xs ++ log_line_of name bases (places_of o)) same
     ∙ ap (λ (xs : List ℕ). old ++ log_line_of xs bases (places_of o)) named
@@ -119,7 +119,7 @@ module _ (steps : List Step) (m : Mates) (old : Outputs) where
       let nil_1 = append-nil old.reverse_unpaired in
       let lines = append-nil (log_lines steps m) in
       let log = append_assoc old.log (log_line Forward (kept_places steps m.forward) m.forward)
-          (log_line Reverse (kept_places steps m.reverse) m.reverse) in
+      (log_line Reverse (kept_places steps m.reverse) m.reverse) in
       let zero_0 = add-zero old.counts.forward_only in
       let zero_1 = add-zero old.counts.reverse_only in
       let zero_2 = add-zero old.counts.dropped in
@@ -156,7 +156,7 @@ module _ (steps : List Step) (m : Mates) (old : Outputs) where
       let nil_2 = append-nil old.reverse_unpaired in
       let lines = append-nil (log_lines steps m) in
       let log = append_assoc old.log (log_line Forward (kept_places steps m.forward) m.forward)
-          (log_line Reverse (kept_places steps m.reverse) m.reverse) in
+      (log_line Reverse (kept_places steps m.reverse) m.reverse) in
       let zero_0 = add-zero old.counts.both in
       let zero_1 = add-zero old.counts.reverse_only in
       let zero_2 = add-zero old.counts.dropped in
@@ -193,7 +193,7 @@ module _ (steps : List Step) (m : Mates) (old : Outputs) where
       let nil_2 = append-nil old.forward_unpaired in
       let lines = append-nil (log_lines steps m) in
       let log = append_assoc old.log (log_line Forward (kept_places steps m.forward) m.forward)
-          (log_line Reverse (kept_places steps m.reverse) m.reverse) in
+      (log_line Reverse (kept_places steps m.reverse) m.reverse) in
       let zero_0 = add-zero old.counts.both in
       let zero_1 = add-zero old.counts.forward_only in
       let zero_2 = add-zero old.counts.dropped in
@@ -231,7 +231,7 @@ module _ (steps : List Step) (m : Mates) (old : Outputs) where
       let nil_3 = append-nil old.reverse_unpaired in
       let lines = append-nil (log_lines steps m) in
       let log = append_assoc old.log (log_line Forward (kept_places steps m.forward) m.forward)
-          (log_line Reverse (kept_places steps m.reverse) m.reverse) in
+      (log_line Reverse (kept_places steps m.reverse) m.reverse) in
       let zero_0 = add-zero old.counts.both in
       let zero_1 = add-zero old.counts.forward_only in
       let zero_2 = add-zero old.counts.reverse_only in

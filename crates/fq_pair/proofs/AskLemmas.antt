@@ -46,12 +46,12 @@ module _ {F G : Type 0} (state : F → FeedState) (state' : G → FeedState) whe
       IfErr r (StopsPairs state state' old new) →
       (state new.forward.feed).failures ≡ (state old.forward.feed).failures + failed_on Forward r →
       (state' new.reverse.feed).failures ≡ (state' old.reverse.feed).failures + failed_on Reverse
-          r →
+      r →
       KeepsCounts state state' old new →
       Advances (source_state state state' old) (source_state state state' new) r
   advances old new (Ok true) found end fault ff fr k =
       some_and new.current (GivesPair state state' old new)
-          (λ m. Walks (source_state state state' old) (source_state state state' new) (m ∷ []))
+      (λ m. Walks (source_state state state' old) (source_state state state' new) (m ∷ []))
       (λ m given. let f = given.forward in let r = given.reverse in record {
         same = same_settings old new k;
         given = given.given;
@@ -62,8 +62,12 @@ module _ {F G : Type 0} (state : F → FeedState) (state' : G → FeedState) whe
         reverse = drawn state' old.reverse new.reverse 0 k.reverse fr;
         forward_used = λ told. used state old.forward new.forward (f.tail told);
         reverse_used = λ told. used state' old.reverse new.reverse (r.tail told);
-        leads = λ tf tr. (lines (rest_in state new.forward), lines (rest_in state' new.reverse),
-            given.pair_is tf tr, (refl, refl));
+        leads = λ tf tr. (
+          lines (rest_in state new.forward),
+          lines (rest_in state' new.reverse),
+          given.pair_is tf tr,
+          (refl, refl),
+        );
       }) (found refl)
   advances old new (Ok false) found end fault ff fr k =
       let e = end refl in (
@@ -94,13 +98,13 @@ module _ {F G : Type 0} (state : F → FeedState) (state' : G → FeedState) whe
       (r ≡ Ok false → EndsPairs state state' old new) →
       IfErr r (StopsPairs state state' old new) →
       IfSome new.current (λ m. (m.forward.encoding ≡ old.forward.encoding)
-          × (m.reverse.encoding ≡ old.forward.encoding))
+      × (m.reverse.encoding ≡ old.forward.encoding))
   encoded old new (Ok true) is found end fault =
       if_some new.current (GivesPair state state' old new)
-          (λ m. (m.forward.encoding ≡ old.forward.encoding)
-          × (m.reverse.encoding ≡ old.forward.encoding))
+      (λ m. (m.forward.encoding ≡ old.forward.encoding)
+      × (m.reverse.encoding ≡ old.forward.encoding))
       (λ m given. let f = given.forward in let r = given.reverse in
-          (f.encoding, r.encoding ∙ sym is)) (found refl)
+      (f.encoding, r.encoding ∙ sym is)) (found refl)
   encoded old new (Ok false) is found end fault = let e = end refl in
       if_none new.current _ e.current
   encoded old new (Err why) is found end fault = if_none new.current _ fault.current
@@ -124,15 +128,15 @@ module _ {F : Type 0} (state : F → FeedState) where
       (r ≡ Ok false → interleaved.EndsPairs state old new) →
       IfErr r (interleaved.StopsPairs state old new) →
       (state new.source.feed).failures ≡ (state old.source.feed).failures + interleaved.failed_in
-          r →
+      r →
       interleaved.KeepsCounts state old new →
       Advances (interleaved_state state old) (interleaved_state state new) r
   advances_interleaved old new (Ok true) found end fault failed k =
       let at : Draws (side_state state old.source) (side_state state new.source) 0 =
-          drawn state old.source new.source 0 k.source failed in
+      drawn state old.source new.source 0 k.source failed in
       let ls = lines (rest_in state new.source) in
       some_and new.current (interleaved.GivesPair state old new)
-          (λ m. Walks (interleaved_state state old) (interleaved_state state new) (m ∷ []))
+      (λ m. Walks (interleaved_state state old) (interleaved_state state new) (m ∷ []))
       (λ m given. let two = given.records in record {
         same = same_interleaved old new k;
         given = given.given;
@@ -148,7 +152,7 @@ module _ {F : Type 0} (state : F → FeedState) where
   advances_interleaved old new (Ok false) found end fault failed k =
       let e = end refl in
       let at : Draws (side_state state old.source) (side_state state new.source) 0 =
-          drawn state old.source new.source 0 k.source failed in
+      drawn state old.source new.source 0 k.source failed in
       (record { forward = at; reverse = at; end_is = λ told same. e.end_is told }, e.current)
   advances_interleaved old new (Err why) found end fault failed k = (
     record {
@@ -168,13 +172,13 @@ module _ {F : Type 0} (state : F → FeedState) where
       (r ≡ Ok false → interleaved.EndsPairs state old new) →
       IfErr r (interleaved.StopsPairs state old new) →
       IfSome new.current (λ m. (m.forward.encoding ≡ old.source.encoding)
-          × (m.reverse.encoding ≡ old.source.encoding))
+      × (m.reverse.encoding ≡ old.source.encoding))
   encoded_interleaved old new (Ok true) found end fault =
       if_some new.current (interleaved.GivesPair state old new)
-          (λ m. (m.forward.encoding ≡ old.source.encoding)
-          × (m.reverse.encoding ≡ old.source.encoding))
+      (λ m. (m.forward.encoding ≡ old.source.encoding)
+      × (m.reverse.encoding ≡ old.source.encoding))
       (λ m given. let two = given.records in
-          (two.forward_encoding, two.reverse_encoding)) (found refl)
+      (two.forward_encoding, two.reverse_encoding)) (found refl)
   encoded_interleaved old new (Ok false) found end fault = let e = end refl in
       if_none new.current _ e.current
   encoded_interleaved old new (Err why) found end fault = if_none new.current _ fault.current

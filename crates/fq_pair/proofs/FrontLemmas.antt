@@ -10,9 +10,11 @@ module _ (more : List (List ℕ)) where
   pub no_quality : (n : ℕ) (ls : List (List ℕ)) → eqb n 0 ≡ true →
       (quality_lines n ls ≡ []) × (after_quality n ls ≡ Some ls)
   no_quality n [] none = (refl, cond-true (eqb n 0) (Some []) None none)
-  no_quality n (l ∷ ls) none =
-      (cond-true (eqb n 0) [] (l ∷ quality_lines (n - length l) ls) none, cond-true (eqb n 0)
-      (Some (l ∷ ls)) (after_quality (n - length l) ls) none)
+  no_quality n (l ∷ ls) none = (
+    cond-true (eqb n 0) [] (l ∷ quality_lines (n - length l) ls) none,
+    cond-true (eqb n 0)
+        (Some (l ∷ ls)) (after_quality (n - length l) ls) none,
+  )
 
   quality_more : (n : ℕ) (ls rest : List (List ℕ)) → after_quality n ls ≡ Some rest →
       (quality_lines n (ls ++ more) ≡ quality_lines n ls)
@@ -28,16 +30,16 @@ module _ (more : List (List ℕ)) where
   quality_more n (l ∷ ls) rest is = ⊎_elim
       (λ none.
       let same : Some (l ∷ ls) ≡ Some rest =
-          sym (cond-true (eqb n 0) (Some (l ∷ ls)) (after_quality (n - length l) ls) none) ∙ is in
+      sym (cond-true (eqb n 0) (Some (l ∷ ls)) (after_quality (n - length l) ls) none) ∙ is in
       let e : l ∷ ls ≡ rest = cc in
       let all = no_quality n (l ∷ (ls ++ more)) none in
       let first = no_quality n (l ∷ ls) none in
       (all.0 ∙ sym first.0, all.1 ∙ ap (λ ls. Some (ls ++ more)) e))
       (λ some.
       let rest_of =
-          quality_more (n - length l) ls rest
-          (sym (cond-false (eqb n 0) (Some (l ∷ ls)) (after_quality (n - length l) ls) some)
-          ∙ is) in (
+      quality_more (n - length l) ls rest
+      (sym (cond-false (eqb n 0) (Some (l ∷ ls)) (after_quality (n - length l) ls) some)
+      ∙ is) in (
         cond-false (eqb n 0) [] (l ∷ quality_lines (n - length l) (ls ++ more)) some
             ∙ ap (λ ms. l ∷ ms) rest_of.0
             ∙ sym (cond-false (eqb n 0) [] (l ∷ quality_lines (n - length l) ls) some),
@@ -75,16 +77,21 @@ module _ (more : List (List ℕ)) where
         from_quality_lines e title bases (ls ++ more) ≡ Found r (rest ++ more)
     quality_lines_more title bases ls is =
         let n = length bases in
-        let read : List (List ℕ) → Read = λ qs. record { encoding = e; title = title; seq =
-            bases; qual = concat qs } in
+        let read : List (List ℕ) → Read = λ qs. record {
+          encoding = e;
+          title = title;
+          seq =
+              bases;
+          qual = concat qs;
+        } in
         let first = passed (quality_faults e n 0 (quality_lines n ls))
-            (completed (read (quality_lines n ls)) (after_quality n ls)) r rest is in
+        (completed (read (quality_lines n ls)) (after_quality n ls)) r rest is in
         let second = complete (read (quality_lines n ls)) r (after_quality n ls) rest first.1 in
         let longer = quality_more n ls rest second.0 in
         ap (λ qs. unless_faulty (quality_faults e n 0 qs)
-            (completed (read qs) (after_quality n (ls ++ more)))) longer.0
+        (completed (read qs) (after_quality n (ls ++ more)))) longer.0
         ∙ ap (λ o. unless_faulty (quality_faults e n 0 (quality_lines n ls))
-            (completed (read (quality_lines n ls)) o)) longer.1
+        (completed (read (quality_lines n ls)) o)) longer.1
         ∙ ap (λ o. unless_faulty o (Found (read (quality_lines n ls)) (rest ++ more))) first.0
         ∙ ap (λ s. Found s (rest ++ more)) second.1
 
@@ -94,9 +101,9 @@ module _ (more : List (List ℕ)) where
     plus_line_more title bases [] is = absurd cc
     plus_line_more title bases (plus ∷ ls) is =
         let first = passed (plus_fault title plus) (from_quality_lines e title bases ls) r rest
-            is in
+        is in
         ap (λ o. unless_faulty o (from_quality_lines e title bases (ls ++ more))) first.0
-            ∙ quality_lines_more title bases ls first.1
+        ∙ quality_lines_more title bases ls first.1
 
     plus_there : (title bases : List ℕ) (ps : List (List ℕ)) →
         from_plus_line e title bases ps ≡ Found r rest → 0 < length ps
@@ -110,14 +117,14 @@ module _ (more : List (List ℕ)) where
         let first = passed (title_fault (b ∷ bs)) _ r rest is in
         let second = passed (sequence_faults 0 (before_plus ls)) _ r rest first.1 in
         let longer =
-            from_plus_more ls (plus_there bs (concat (before_plus ls)) (from_plus ls) second.1) in
+        from_plus_more ls (plus_there bs (concat (before_plus ls)) (from_plus ls) second.1) in
         ap (λ o. unless_faulty o (unless_faulty (sequence_faults 0 (before_plus (ls ++ more)))
-            (from_plus_line e bs (concat (before_plus (ls ++ more))) (from_plus (ls ++ more)))))
-            first.0
+        (from_plus_line e bs (concat (before_plus (ls ++ more))) (from_plus (ls ++ more)))))
+        first.0
         ∙ ap (λ qs. unless_faulty (sequence_faults 0 qs)
-            (from_plus_line e bs (concat qs) (from_plus (ls ++ more)))) longer.0
+        (from_plus_line e bs (concat qs) (from_plus (ls ++ more)))) longer.0
         ∙ ap (λ o. unless_faulty o (from_plus_line e bs (concat (before_plus ls)) (from_plus
-            (ls ++ more)))) second.0
+        (ls ++ more)))) second.0
         ∙ ap (from_plus_line e bs (concat (before_plus ls))) longer.1
         ∙ plus_line_more bs (concat (before_plus ls)) (from_plus ls) second.1
 

@@ -20,8 +20,11 @@ use Rattle.fq_pair.proofs.PairLaws.{records_of, from_pair_front, records_of-fron
 -- the pairs of a text, if these mates belong together
 abbrev up_to : List Mates → ℕ → Records → Pairs
 up_to mates k text =
-    record { mates = mates; fault = interleaved_fault_at (suc (k + length mates))
-    (behind (2 * length mates) text) }
+    record {
+      mates = mates;
+      fault = interleaved_fault_at (suc (k + length mates))
+          (behind (2 * length mates) text);
+    }
 
 -- no pair, and this fault at number n
 abbrev none_at : ℕ → Records → Pairs
@@ -35,8 +38,11 @@ one_up_to : (m : Mates) (ms : List Mates) (k : ℕ) (f r : Read) (text : Records
 one_up_to m ms k f r text =
     let number : k + suc (length ms) ≡ suc k + length ms = omega arith in
     let records : 2 * suc (length ms) ≡ suc (suc (2 * length ms)) = omega arith in
-    let P : ℕ → ℕ → Pairs = λ n b. record { mates = m ∷ ms; fault =
-        interleaved_fault_at (suc n) (behind b (with_first f (with_first r text))) } in
+    let P : ℕ → ℕ → Pairs = λ n b. record {
+      mates = m ∷ ms;
+      fault =
+          interleaved_fault_at (suc n) (behind b (with_first f (with_first r text)));
+    } in
     ap (λ (n : ℕ). P n (2 * suc (length ms))) number ∙ ap (P (suc k + length ms)) records
 
 module _ (check : Bool) (k : ℕ) (T : List (List ℕ) → Records) where
@@ -55,11 +61,11 @@ module _ (check : Bool) (k : ℕ) (T : List (List ℕ) → Records) where
       (λ together. ap P (cond-true (belong check m) (m ∷ take_while (belong check) ms) [] together)
       ∙ one_up_to m (take_while (belong check) ms) k f r (T ls)
       ∙ ap Q (sym (cond-true (belong check m) (Met m ls ls) (Stopped (NamesDiffer (suc k)))
-          together)))
+      together)))
       (λ apart. ap P (cond-false (belong check m) (m ∷ take_while (belong check) ms) [] apart)
       ∙ none_up_to k (with_first f (with_first r (T ls)))
       ∙ ap Q (sym (cond-false (belong check m) (Met m ls ls) (Stopped (NamesDiffer (suc k)))
-          apart)))
+      apart)))
       (cases_Bool (belong check m))
 
   -- after a forward mate
@@ -116,11 +122,11 @@ module _ {F : Type 0} (state : F → FeedState) (old : InterleavedSourced F) whe
       new.source.encoding ≡ old.source.encoding → new.check_names ≡ old.check_names →
       new.given ≡ old.given + 1 →
       (let ls = lines (rest_in state new.source) in front_of state old ≡ Met m ls ls) →
-          pairs_left state old ≡ with_pair m (pairs_left state new)
+      pairs_left state old ≡ with_pair m (pairs_left state new)
   interleaved_left_met new m encoding check_names given front =
       let ls = lines (rest_in state new.source) in
       let P : Bool → Encoding → ℕ → Pairs = λ check e n. with_pair m
-          (interleaved_pairs_of check n (records_of e ls)) in
+      (interleaved_pairs_of check n (records_of e ls)) in
       interleaved_pairs_of-met old.check_names old.source.encoding old.given m text ls ls front
       ∙ ap (λ e. P old.check_names e (suc old.given)) (sym encoding)
       ∙ ap (λ check. P check new.source.encoding (suc old.given)) (sym check_names)

@@ -26,14 +26,23 @@ use Rattle.fq_pair.proofs.SideLemmas.{draws_then, uses_then, more_lines, lines_b
 use Rattle.fq_pair.proofs.InterleavedLaws.{interleaved_pairs_of-stopped, interleaved_pairs_of-ended, interleaved_left_met, interleaved_left_stopped}
 
 -- Three states of a source: what its feed gave up to the second and up to the third.
-module _ {F : Type 0} (state : F → FeedState) (a b c : Sourced F) (p : KeepsCount state a b) (q : KeepsCount state b c) where
+module _ {F : Type 0} (state : F → FeedState) (a b c : Sourced F) (p : KeepsCount state a b)
+    (q : KeepsCount state b c) where
   -- the source as a side, whose failures don't count here
   abbrev side : Sourced F → SideState
   side s = record (side_state state s) { failures = 0 }
 
   abbrev drawn_in : (old new : Sourced F) → KeepsCount state old new → Draws (side old) (side new) 0
-  drawn_in old new k = record { told = k.told; max_reads = k.max_reads; grows = k.grows; ended =
-      k.ended; bytes = k.fed; size = k.length; failures = refl }
+  drawn_in old new k = record {
+    told = k.told;
+    max_reads = k.max_reads;
+    grows = k.grows;
+    ended =
+        k.ended;
+    bytes = k.fed;
+    size = k.length;
+    failures = refl;
+  }
 
   abbrev used_in : (old new : Sourced F) → IsTail (rest_in state old) (rest_in state new)
       new.ended → Uses (side old) (side new)
@@ -60,9 +69,14 @@ module _ {F : Type 0} (state : F → FeedState) (a b c : Sourced F) (p : KeepsCo
   tail_then t u =
       let both = uses_then (side a) (side b) (side c) q.ended (used_in a b t) (used_in b c u) in
       let some = t.some in
-      record { before = t.before ++ u.before; some =
-          omega (arith, length-append t.before u.before); split = both.split; at_line =
-          both.at_line }
+      record {
+        before = t.before ++ u.before;
+        some =
+            omega (arith, length-append t.before u.before);
+        split = both.split;
+        at_line =
+            both.at_line;
+      }
 
   -- two records that were given make a pair if their names allow it
   pub two_given : (kept now_kept : Read) (check : Bool) (given : ℕ) (before now : Bool) (f r : Read)
@@ -71,18 +85,18 @@ module _ {F : Type 0} (state : F → FeedState) (a b c : Sourced F) (p : KeepsCo
       GivesPair state (asked a kept check given before) (asked c now_kept check (given + 1) now) m
   two_given kept now_kept check given before now f r m is first second together =
       let P : Mates → Type 0 = GivesPair state (asked a kept check given before)
-          (asked c now_kept check (given + 1) now) in
+      (asked c now_kept check (given + 1) now) in
       let one = first.given in let two = second.given in
       let ls = lines (rest_in state c) in
       let n = suc given in
       let pair_is : IsTrue (state a.feed).tells →
-          front_of state (asked a kept check given before) ≡ Met (mates_in f r) ls ls = λ told.
+      front_of state (asked a kept check given before) ≡ Met (mates_in f r) ls ls = λ told.
       ap (interleaved_meeting check a.encoding n) (first.record_is told)
       ∙ ap (λ (e : Encoding). meeting_after check n f (front e (lines (rest_in state b))))
-          (sym p.encoding)
+      (sym p.encoding)
       ∙ ap (meeting_after check n f) (second.record_is (p.told ∙ told))
       ∙ cond-true (belong check (mates_in f r)) (Met (mates_in f r) ls ls) (Stopped (NamesDiffer n))
-          together in
+      together in
       subst P (sym is) (record {
         pair_is = pair_is;
         left = λ told. interleaved_left_met state (asked a kept check given before)
@@ -103,7 +117,8 @@ module _ {F : Type 0} (state : F → FeedState) (a b c : Sourced F) (p : KeepsCo
         last = refl;
       })
 
-  module _ (told : IsTrue (state a.feed).tells) (t : IsTail (rest_in state a) (rest_in state b) b.ended) where
+  module _ (told : IsTrue (state a.feed).tells)
+      (t : IsTail (rest_in state a) (rest_in state b) b.ended) where
     abbrev came : List ℕ
     came = held state a c
 
@@ -120,7 +135,9 @@ module _ {F : Type 0} (state : F → FeedState) (a b c : Sourced F) (p : KeepsCo
     left = lines_left (side a) (side b) (side c) 0 (drawn_in a b p) (drawn_in b c q) told
         (used_in a b t)
 
-    module _ (check : Bool) (given : ℕ) (f : Read) (first : front a.encoding (lines (rest_in state a)) ≡ Found f (lines (rest_in state b))) (lacks : LacksRecord state b c) where
+    module _ (check : Bool) (given : ℕ) (f : Read)
+        (first : front a.encoding (lines (rest_in state a)) ≡ Found f (lines (rest_in state b)))
+        (lacks : LacksRecord state b c) where
       abbrev whole_lines : List (List ℕ)
       whole_lines = lines (whole_part came)
 
@@ -135,15 +152,15 @@ module _ {F : Type 0} (state : F → FeedState) (a b c : Sourced F) (p : KeepsCo
           front a.encoding whole_lines ≡ Found x ls → front a.encoding ls ≡ Found y rest → ⊥
       none_behind x y ls rest one two =
           let longer : Found x (ls ++ more) ≡ Found f (lines (rest_in state b)) =
-              sym (front_more more a.encoding x ls whole_lines one)
-              ∙ ap (front a.encoding) (sym before) ∙ first in
+          sym (front_more more a.encoding x ls whole_lines one)
+          ∙ ap (front a.encoding) (sym before) ∙ first in
           let same : ls ++ more ≡ lines (rest_in state b) = cc in
           ⊎_elim
           (λ these. lacks (p.told
-              ∙ told) y rest (ap (λ (e : Encoding). front e (lines (whole_part (held state b c))))
-              p.encoding ∙ ap (front a.encoding) (sym these) ∙ two))
+          ∙ told) y rest (ap (λ (e : Encoding). front e (lines (whole_part (held state b c))))
+          p.encoding ∙ ap (front a.encoding) (sym these) ∙ two))
           (λ none. absurd (let h : End ≡ Found y rest = ap (front a.encoding) (sym none) ∙ two in
-              cc))
+          cc))
           (left ls same)
 
       by_second : (x : Read) (ls : List (List ℕ)) → front a.encoding whole_lines ≡ Found x ls →
@@ -174,14 +191,14 @@ module _ {F : Type 0} (state : F → FeedState) (a b c : Sourced F) (p : KeepsCo
       one_came going =
           let behind = lines (whole_part (held state b c)) in
           let left_is : lines (rest_in state b) ≡ behind ++ more =
-              lines_behind (side a) (side b) (side c) 0 (drawn_in a b p) (drawn_in b c q) told
-              (used_in a b t) going in
+          lines_behind (side a) (side b) (side c) 0 (drawn_in a b p) (drawn_in b c q) told
+          (used_in a b t) going in
           let found : front a.encoding whole_lines ≡ Found f behind =
           front_fewer a.encoding f whole_lines behind more (ap (front a.encoding) (sym before)
-              ∙ first ∙ ap (Found f) left_is) in
+          ∙ first ∙ ap (Found f) left_is) in
           one_record a.encoding f whole_lines behind found
           ∙ ap suc (no_records a.encoding behind (λ r rest is. lacks (p.told ∙ told) r rest
-              (ap (λ (e : Encoding). front e behind) p.encoding ∙ is)))
+          (ap (λ (e : Encoding). front e behind) p.encoding ∙ is)))
 
 -- a fault of the text is that of the record that comes first, with its number
 stops_behind : (check : Bool) (n : ℕ) (f : Read) (x : Front) (k : ℕ) (why : TextFault) → k ≡ 2 * n →
@@ -254,23 +271,25 @@ not_before : {before later : Bool} → (before ≡ true → later ≡ true) → 
 not_before {before} {later} stays none = ⊎_elim (λ over. absurd (let h = sym (stays over) ∙ none in
     cc)) (λ going. going) (cases_Bool before)
 
-module _ {F : Type 0} (state : F → FeedState) (a b c : Sourced F) (p : KeepsCount state a b) (q : KeepsCount state b c) (kept : Read) (check : Bool) (given : ℕ) (before : Bool) (f : Read) (first : GivesRecord state a b f) where
+module _ {F : Type 0} (state : F → FeedState) (a b c : Sourced F) (p : KeepsCount state a b)
+    (q : KeepsCount state b c) (kept : Read) (check : Bool) (given : ℕ) (before : Bool) (f : Read)
+    (first : GivesRecord state a b f) where
   -- a fault after a forward mate
   second_stops : (why : TextFault) → a.given ≡ 2 * given → StopsText state b c why →
       StopsPairs state (asked a kept check given before)
-          (stopped c check given (Err (Text Reverse why))) (Text Reverse why)
+      (stopped c check given (Err (Text Reverse why))) (Text Reverse why)
   second_stops why even stops =
       let one = first.given in
       let n = suc given in
       let number : b.given + 1 ≡ 2 * n = omega arith in
       let fault_is : IsTrue (state a.feed).tells → is_outside why ≡ false →
-          front_of state (asked a kept check given before) ≡ Stopped (Text Reverse why) =
-          λ told inside.
+      front_of state (asked a kept check given before) ≡ Stopped (Text Reverse why) =
+      λ told inside.
       ap (interleaved_meeting check a.encoding n) (first.record_is told)
       ∙ ap (λ (e : Encoding). meeting_after check n f (front e (lines (rest_in state b))))
-          (sym p.encoding)
+      (sym p.encoding)
       ∙ stops_behind check n f (front b.encoding (lines (rest_in state b))) (b.given + 1) why number
-          inside (stops.fault_is (p.told ∙ told)) in
+      inside (stops.fault_is (p.told ∙ told)) in
       record {
         fault_is = fault_is;
         left = λ told inside. interleaved_left_stopped state (asked a kept check given before)
@@ -279,8 +298,8 @@ module _ {F : Type 0} (state : F → FeedState) (a b c : Sourced F) (p : KeepsCo
             (first.record_is told) (cut_lacks _ why cut stops.lacks);
         next = cut_side (IsNext state a c) Reverse why (λ cut told.
             ap side_after (one_came state a b c p q told (first.tail told) check given f
-                (first.record_is told) (cut_lacks _ why cut stops.lacks)
-                (cut_lacks _ why cut stops.going)));
+            (first.record_is told) (cut_lacks _ why cut stops.lacks)
+            (cut_lacks _ why cut stops.going)));
         going = λ cut. not_before p.ended (cut_lacks _ why cut stops.going);
         endless = endless_behind _ why stops.endless;
         reading = (stops.last, stops.given ∙ first.given);
@@ -292,15 +311,15 @@ module _ {F : Type 0} (state : F → FeedState) (a b c : Sourced F) (p : KeepsCo
   -- if the text ends after a forward mate, the reverse mate is missing
   pub mate_missing : EndsText state b c →
       (let why = MateMissing Reverse (given + 1) in
-          StopsPairs state (asked a kept check given before) (stopped c check given (Err why)) why)
+      StopsPairs state (asked a kept check given before) (stopped c check given (Err why)) why)
   mate_missing ends =
       let n = suc given in
       let fault_is : IsTrue (state a.feed).tells → false ≡ false →
-          front_of state (asked a kept check given before)
-          ≡ Stopped (MateMissing Reverse (given + 1)) = λ told inside.
+      front_of state (asked a kept check given before)
+      ≡ Stopped (MateMissing Reverse (given + 1)) = λ told inside.
       ap (interleaved_meeting check a.encoding n) (first.record_is told)
       ∙ ap (λ (e : Encoding). meeting_after check n f (front e (lines (rest_in state b))))
-          (sym p.encoding)
+      (sym p.encoding)
       ∙ ap (meeting_after check n f) (ends.end_is (p.told ∙ told))
       ∙ ap (λ k. Stopped (MateMissing Reverse k)) (sym (add-one given)) in
       record {
@@ -324,17 +343,17 @@ module _ {F : Type 0} (state : F → FeedState) (a b c : Sourced F) (p : KeepsCo
   names_differ r why is second apart =
       let n = suc given in
       let P : InputFault → Type 0 = λ y. StopsPairs state (asked a kept check given before)
-          (stopped c check given (Err y)) y in
+      (stopped c check given (Err y)) y in
       let ls = lines (rest_in state c) in
       let fault_is : IsTrue (state a.feed).tells → false ≡ false →
-          front_of state (asked a kept check given before) ≡ Stopped (NamesDiffer (given + 1)) =
-          λ told inside.
+      front_of state (asked a kept check given before) ≡ Stopped (NamesDiffer (given + 1)) =
+      λ told inside.
       ap (interleaved_meeting check a.encoding n) (first.record_is told)
       ∙ ap (λ (e : Encoding). meeting_after check n f (front e (lines (rest_in state b))))
-          (sym p.encoding)
+      (sym p.encoding)
       ∙ ap (meeting_after check n f) (second.record_is (p.told ∙ told))
       ∙ cond-false (belong check (mates_in f r)) (Met (mates_in f r) ls ls)
-          (Stopped (NamesDiffer n)) apart
+      (Stopped (NamesDiffer n)) apart
       ∙ ap (λ k. Stopped (NamesDiffer k)) (sym (add-one given)) in
       subst P (sym is) (record {
         fault_is = fault_is;
@@ -354,10 +373,10 @@ module _ {F : Type 0} (state : F → FeedState) (a b c : Sourced F) (p : KeepsCo
 pub second_fails : {F : Type 0} (state : F → FeedState) (a b c : Sourced F) → KeepsCount state a b →
     KeepsCount state b c → (kept : Read) (check : Bool) (given : ℕ) (before : Bool) (f : Read) →
     IsReady a given → (a.last ≡ None → GivesRecord state a b f) → (why : TextFault) →
-        (b.last ≡ None → StopsText state b c why) →
+    (b.last ≡ None → StopsText state b c why) →
     StopsPairs state (asked a kept check given before)
-        (stopped c check given (Err (Text Reverse why))) (Text Reverse why)
+    (stopped c check given (Err (Text Reverse why))) (Text Reverse why)
 second_fails state a b c p q kept check given before f ready gives why stops =
     let first = gives ready.last in
     second_stops state a b c p q kept check given before f first why ready.records
-        (stops first.last)
+    (stops first.last)

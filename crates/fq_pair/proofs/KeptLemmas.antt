@@ -50,7 +50,7 @@ kept_within_read steps read (Some k) same is =
     let size : length q ≡ length read.qual = length-map read.qual (value_of read.encoding) in
     let order = k.some in
     let below : Below (length q) (places k.start (k.stop - k.start)) =
-        subst (Below (length q)) is (kept_below steps q (length q) (places 0 (length q))
-        (places_below (length q) 0 (length q) (omega arith))) in
+    subst (Below (length q)) is (kept_below steps q (length q) (places 0 (length q))
+    (places_below (length q) 0 (length q) (omega arith))) in
     let last = last_below (length q) k.start (k.stop - k.start) (omega arith) below in
     let within : k.stop ≤ length read.seq = omega arith in within

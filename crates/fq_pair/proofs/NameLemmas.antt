@@ -23,12 +23,12 @@ word_end : (title : List ℕ) (r : Option ℕ) → IsFirstByte (is_byte2 32 9) t
 word_end title None none =
     position_or_len_is is_gap title (length title) 0 (omega arith)
     (λ k lt. false_from_ne_true (is_gap (get_or title k 0)) (none k (zero-le {n = k}) lt))
-        (λ lt. absurd (omega arith))
+    (λ lt. absurd (omega arith))
 word_end title (Some end) is =
     let high = is.0.high in
     position_or_len_is is_gap title end 0 (omega arith)
     (λ k lt. false_from_ne_true (is_gap (get_or title k 0)) (is.0.before k (zero-le {n = k}) lt))
-        (λ lt. is.1)
+    (λ lt. is.1)
 
 pub word_is : (title : List ℕ) (r : Option ℕ) (end : ℕ) → IsFirstByte (is_byte2 32 9) title r →
     end ≡ unwrap_or r (length title) → take end title ≡ before_first is_gap title
@@ -61,7 +61,7 @@ no_gap word is k lt =
 pub word_beside : (title word : List ℕ) → before_first is_gap word ≡ word → 0 < length word →
     length word ≤ length title
     → take (length word - 1) title ≡ take (length word - 1) word →
-        is_gap (get_or title (length word - 1) 0) ≡ false
+    is_gap (get_or title (length word - 1) 0) ≡ false
     → (length word < length title → is_gap (get_or title (length word) 0) ≡ true)
     → take (length word) title ≡ before_first is_gap title
 word_beside title word is some within like last end =
@@ -80,8 +80,8 @@ eqb_sym : (a b : ℕ) → eqb a b ≡ eqb b a
 eqb_sym a b = ⊎_elim
     (λ same. same ∙ sym (eq-eqb b a (sym (eqb-true a b same))))
     (λ other. other
-        ∙ sym (false_from_ne_true (eqb b a) (λ same. absurd (let h =
-        eq-eqb a b (sym (eqb-true b a same)) in cc))))
+    ∙ sym (false_from_ne_true (eqb b a) (λ same. absurd (let h =
+    eq-eqb a b (sym (eqb-true b a same)) in cc))))
     (cases_Bool (eqb a b))
 
 pointwise_sym : (xs ys : List ℕ) → pointwise nat_eq xs ys ≡ pointwise nat_eq ys xs
@@ -94,15 +94,15 @@ pointwise_sym (x ∷ xs) (y ∷ ys) = let a = eqb_sym x y in let b = pointwise_s
 pub stripped : (mark word : List ℕ) (r : Option (Bor (List ℕ))) (d : Bor (List ℕ)) → d.now ≡ word →
     MatchOption r (pointwise nat_eq (drop (length word - length mark) word) mark ≡ false)
     (λ x. (pointwise nat_eq (drop (length word - length mark) word) mark ≡ true)
-        × (x.now ≡ take (length word - length mark) word)
-        × (length x.now + length mark ≡ length word)) →
+    × (x.now ≡ take (length word - length mark) word)
+    × (length x.now + length mark ≡ length word)) →
     (unwrap_or r d).now ≡ without_end mark word
 stripped mark word None d is cases =
     is ∙ sym (cond-false _ (take (length word - length mark) word) word (pointwise_sym mark
-        (drop (length word - length mark) word) ∙ cases))
+    (drop (length word - length mark) word) ∙ cases))
 stripped mark word (Some x) d is cases =
     cases.1 ∙ sym (cond-true _ (take (length word - length mark) word) word (pointwise_sym mark
-        (drop (length word - length mark) word) ∙ cases.0))
+    (drop (length word - length mark) word) ∙ cases.0))
 
 -- A word without an ending is a prefix of it.
 get_or-without_end : (ending word : List ℕ) (k : ℕ) → k < length (without_end ending word) →
@@ -110,14 +110,14 @@ get_or-without_end : (ending word : List ℕ) (k : ℕ) → k < length (without_
 get_or-without_end ending word k =
     let short = length-take (length word - length ending) word in
     cond_both (ends_with nat_eq word ending) (take (length word - length ending) word) word
-        (λ (name : List ℕ). k < length name → get_or name k 0 ≡ get_or word k 0)
+    (λ (name : List ℕ). k < length name → get_or name k 0 ≡ get_or word k 0)
     (λ ends lt. get_or-take (length word - length ending) word k 0 (omega arith))
     (λ other lt. refl)
 
 length-without_end : (ending word : List ℕ) → length (without_end ending word) ≤ length word
 length-without_end ending word =
     cond_both (ends_with nat_eq word ending) (take (length word - length ending) word) word
-        (λ (name : List ℕ). length name ≤ length word)
+    (λ (name : List ℕ). length name ≤ length word)
     (λ ends. omega (arith, length-take (length word - length ending) word))
     (λ other. omega arith)
 
@@ -132,7 +132,7 @@ without_end_front : (ending word : List ℕ) →
 without_end_front ending word =
     let short = take (length word - length ending) word in
     cond_both (ends_with nat_eq word ending) short word (λ (name : List ℕ). take (length name) word
-        ≡ name)
+    ≡ name)
     (λ ends. take_front (length word - length ending) word)
     (λ other. take-length word)
 
@@ -147,8 +147,12 @@ name_front side title =
     let n = position_or_len is_gap title in
     let word = take n title in
     let len = length (without_end (mark_of side) word) in
-    sym (take-take len n title (omega (arith, length-without_end (mark_of side) word, length-take n
-        title)))
+    sym (take-take len n title (omega (
+      arith,
+      length-without_end (mark_of side) word,
+      length-take n
+          title,
+    )))
     ∙ without_end_front (mark_of side) word
 
 -- a name is a prefix of an equal title, too
@@ -162,12 +166,16 @@ pub same_lengths : (n : NameLengths) (forward reverse : List ℕ) →
     n.forward ≡ length (name_of Forward forward) → n.reverse ≡ length (name_of Reverse reverse) →
     n ≡ lengths_of forward reverse
 same_lengths n forward reverse one other =
-    let parts : NameLengths → NameLengths = λ (k : NameLengths). record { forward =
-        k.forward; reverse = k.reverse } in
+    let parts : NameLengths → NameLengths = λ (k : NameLengths). record {
+      forward =
+          k.forward;
+      reverse = k.reverse;
+    } in
     let same : parts n ≡ lengths_of forward reverse = cc in same
 
 -- The names in two words that differ at most in their last bytes.
-module _ (word mate : List ℕ) (some : 0 < length word) (like : take (length word - 1) mate ≡ take (length word - 1) word) where
+module _ (word mate : List ℕ) (some : 0 < length word)
+    (like : take (length word - 1) mate ≡ take (length word - 1) word) where
   abbrev forward_name : List ℕ
   forward_name = without_end (mark_of Forward) word
 
@@ -178,7 +186,7 @@ module _ (word mate : List ℕ) (some : 0 < length word) (like : take (length wo
   front_like k lt =
       let last = length word - 1 in
       sym (get_or-take last word k 0 lt) ∙ ap (λ (bytes : List ℕ). get_or bytes k 0) (sym like)
-          ∙ get_or-take last mate k 0 lt
+      ∙ get_or-take last mate k 0 lt
 
   -- names of one length are the same if the words are alike so far
   same_names : length forward_name ≡ length reverse_name →
@@ -186,7 +194,7 @@ module _ (word mate : List ℕ) (some : 0 < length word) (like : take (length wo
       forward_name ≡ reverse_name
   same_names long alike = same_number_lists forward_name reverse_name long
       (λ k lt. get_or-without_end (mark_of Forward) word k lt ∙ alike k lt
-          ∙ sym (get_or-without_end (mark_of Reverse) mate k (omega arith)))
+      ∙ sym (get_or-without_end (mark_of Reverse) mate k (omega arith)))
 
   -- names shorter than the words
   pub short_names : length forward_name ≡ length reverse_name →
@@ -198,14 +206,14 @@ module _ (word mate : List ℕ) (some : 0 < length word) (like : take (length wo
   pub whole_names : length forward_name ≡ length reverse_name →
       length word - 1 < length forward_name →
       eqb (get_or word (length word - 1) 0) (get_or mate (length word - 1) 0)
-          ≡ bytes_eq forward_name reverse_name
+      ≡ bytes_eq forward_name reverse_name
   whole_names long whole =
       let last = length word - 1 in
       same_from_decides _ _ (Decides-eqb (get_or word last 0) (get_or mate last 0))
       (Decides-like (bytes_eq forward_name reverse_name)
       (λ same. sym (get_or-without_end (mark_of Forward) word last whole)
-          ∙ ap (λ (name : List ℕ). get_or name last 0) same
-          ∙ get_or-without_end (mark_of Reverse) mate last (omega arith))
+      ∙ ap (λ (name : List ℕ). get_or name last 0) same
+      ∙ get_or-without_end (mark_of Reverse) mate last (omega arith))
       (λ one. same_names long (λ k lt. elim (cases_lt k last) [
         | inl front ↦ front_like k front
         | inr past ↦ let at : k ≡ last = omega (arith, length-without_end (mark_of Forward) word) in

@@ -14,11 +14,11 @@ filter-append test (x ∷ xs) ys = ⊎_elim
     (λ passes. cond-true (test x) (x ∷ filter test (xs ++ ys)) (filter test (xs ++ ys)) passes
     ∙ ap (λ zs. x ∷ zs) (filter-append test xs ys)
     ∙ ap (λ zs. zs ++ filter test ys) (sym (cond-true (test x) (x ∷ filter test xs) (filter test xs)
-        passes)))
+    passes)))
     (λ fails. cond-false (test x) (x ∷ filter test (xs ++ ys)) (filter test (xs ++ ys)) fails
     ∙ filter-append test xs ys
     ∙ ap (λ zs. zs ++ filter test ys) (sym (cond-false (test x) (x ∷ filter test xs)
-        (filter test xs) fails)))
+    (filter test xs) fails)))
     (cases_Bool (test x))
 
 module _ (steps : List Step) (xs ys : List Mates) where
@@ -28,7 +28,7 @@ module _ (steps : List Step) (xs ys : List Mates) where
   forward_records-append test =
       let text = λ (m : Mates). record_text steps m.forward in
       ap (flat_map text) (filter-append test xs ys)
-          ∙ flat_map-append text (filter test xs) (filter test ys)
+      ∙ flat_map-append text (filter test xs) (filter test ys)
 
   reverse_records-append : (test : Mates → Bool) →
       reverse_records steps test (xs ++ ys) ≡ reverse_records steps test xs ++ reverse_records steps
@@ -36,7 +36,7 @@ module _ (steps : List Step) (xs ys : List Mates) where
   reverse_records-append test =
       let text = λ (m : Mates). record_text steps m.reverse in
       ap (flat_map text) (filter-append test xs ys)
-          ∙ flat_map-append text (filter test xs) (filter test ys)
+      ∙ flat_map-append text (filter test xs) (filter test ys)
 
   count-append : (test : Mates → Bool) → length (filter test (xs ++ ys)) ≡ length
       (filter test xs) + length (filter test ys)

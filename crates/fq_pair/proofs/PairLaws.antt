@@ -37,8 +37,11 @@ module _ (e : Encoding) (ls : List (List ℕ)) where
 -- the pairs of two texts, if these mates belong together
 abbrev up_to : List Mates → ℕ → Records → Records → Pairs
 up_to mates k forward reverse =
-    record { mates = mates; fault = fault_at (suc (k + length mates))
-        (behind (length mates) forward) (behind (length mates) reverse) }
+    record {
+      mates = mates;
+      fault = fault_at (suc (k + length mates))
+          (behind (length mates) forward) (behind (length mates) reverse);
+    }
 
 -- no pair, and this fault at number n
 abbrev none_at : ℕ → Records → Records → Pairs
@@ -54,29 +57,32 @@ one_up_to : (m : Mates) (ms : List Mates) (k : ℕ) (f r : Read) (forward revers
     ≡ with_pair m (up_to ms (suc k) forward reverse)
 one_up_to m ms k f r forward reverse =
     let number : k + suc (length ms) ≡ suc k + length ms = omega arith in
-    ap (λ (n : ℕ). with_pair m (record { mates = ms; fault =
-        fault_at (suc n) (behind (length ms) forward) (behind (length ms) reverse) })) number
+    ap (λ (n : ℕ). with_pair m (record {
+      mates = ms;
+      fault =
+          fault_at (suc n) (behind (length ms) forward) (behind (length ms) reverse);
+    })) number
 
 module _ (check : Bool) (k : ℕ) (F G : List (List ℕ) → Records) where
   two_found : (f r : Read) (fls rls : List (List ℕ)) →
       pairs_of check k (with_first f (F fls)) (with_first r (G rls))
       ≡ from_pair_front (λ fs rs. pairs_of check (suc k) (F fs) (G rs))
-          (met check (suc k) (mates_in f r) fls rls)
+      (met check (suc k) (mates_in f r) fls rls)
   two_found f r fls rls =
       let m = mates_in f r in
       let ms = mates_of (F fls).reads (G rls).reads in
       let P : List Mates → Pairs = λ mates. up_to mates k (with_first f (F fls))
-          (with_first r (G rls)) in
+      (with_first r (G rls)) in
       let Q : PairFront → Pairs = from_pair_front (λ fs rs. pairs_of check (suc k) (F fs) (G rs)) in
       ap P (take_while-cons (belong check) m ms) ∙ ⊎_elim
       (λ together. ap P (cond-true (belong check m) (m ∷ take_while (belong check) ms) [] together)
       ∙ one_up_to m (take_while (belong check) ms) k f r (F fls) (G rls)
       ∙ ap Q (sym (cond-true (belong check m) (Met m fls rls) (Stopped (NamesDiffer (suc k)))
-          together)))
+      together)))
       (λ apart. ap P (cond-false (belong check m) (m ∷ take_while (belong check) ms) [] apart)
       ∙ none_up_to k (with_first f (F fls)) (with_first r (G rls))
       ∙ ap Q (sym (cond-false (belong check m) (Met m fls rls) (Stopped (NamesDiffer (suc k)))
-          apart)))
+      apart)))
       (cases_Bool (belong check m))
 
   by_fronts : (A B : Front) → pairs_of check k (from_front F A) (from_front G B) ≡ from_pair_front
@@ -97,18 +103,18 @@ module _ (check : Bool) (e : Encoding) (k : ℕ) (forward reverse : List (List �
   -- the pairs of two texts are what comes first in them, and the pairs of what comes after that
   pub pairs_of-front : pairs_of check k (records_of e forward) (records_of e reverse)
       ≡ from_pair_front (λ fs rs. pairs_of check (suc k) (records_of e fs) (records_of e rs))
-          (pair_front check e k forward reverse)
+      (pair_front check e k forward reverse)
   pairs_of-front =
       ap (λ (x : Records). pairs_of check k x (records_of e reverse)) (records_of-front e forward)
       ∙ ap (λ (x : Records). pairs_of check k (from_front (records_of e) (front e forward)) x)
-          (records_of-front e reverse)
+      (records_of-front e reverse)
       ∙ by_fronts check k (records_of e) (records_of e) (front e forward) (front e reverse)
 
   -- a pair that comes first is the first one
   pub pairs_of-met : (m : Mates) (fs rs : List (List ℕ)) →
       pair_front check e k forward reverse ≡ Met m fs rs →
       pairs_of check k (records_of e forward) (records_of e reverse)
-          ≡ with_pair m (pairs_of check (suc k) (records_of e fs) (records_of e rs))
+      ≡ with_pair m (pairs_of check (suc k) (records_of e fs) (records_of e rs))
   pairs_of-met m fs rs is = pairs_of-front
       ∙ ap (from_pair_front (λ fs rs. pairs_of check (suc k) (records_of e fs) (records_of e rs)))
       is
@@ -116,16 +122,22 @@ module _ (check : Bool) (e : Encoding) (k : ℕ) (forward reverse : List (List �
   -- if a fault comes first, there is no pair, and the fault ends them
   pub pairs_of-stopped : (fault : InputFault) →
       pair_front check e k forward reverse ≡ Stopped fault →
-      pairs_of check k (records_of e forward) (records_of e reverse) ≡ record { mates = []; fault =
-          Some fault }
+      pairs_of check k (records_of e forward) (records_of e reverse) ≡ record {
+        mates = [];
+        fault =
+            Some fault;
+      }
   pairs_of-stopped fault is = pairs_of-front
       ∙ ap (from_pair_front (λ fs rs. pairs_of check (suc k) (records_of e fs) (records_of e rs)))
       is
 
   -- if nothing comes first, there is no pair and no fault
   pub pairs_of-ended : pair_front check e k forward reverse ≡ Ended →
-      pairs_of check k (records_of e forward) (records_of e reverse) ≡ record { mates = []; fault =
-          None }
+      pairs_of check k (records_of e forward) (records_of e reverse) ≡ record {
+        mates = [];
+        fault =
+            None;
+      }
   pairs_of-ended is = pairs_of-front
       ∙ ap (from_pair_front (λ fs rs. pairs_of check (suc k) (records_of e fs) (records_of e rs)))
       is

@@ -16,8 +16,16 @@ module _ {F : Type 0} (state : F → FeedState) (old new : Sourced F) where
   pub drawn : (n : ℕ) → KeepsCount state old new →
       (state new.feed).failures ≡ (state old.feed).failures + n →
       Draws (side_state state old) (side_state state new) n
-  drawn n k failed = record { told = k.told; max_reads = k.max_reads; grows = k.grows; ended =
-      k.ended; bytes = k.fed; size = k.length; failures = failed }
+  drawn n k failed = record {
+    told = k.told;
+    max_reads = k.max_reads;
+    grows = k.grows;
+    ended =
+        k.ended;
+    bytes = k.fed;
+    size = k.length;
+    failures = failed;
+  }
 
   -- the bytes that a record was
   abbrev pub used : IsTail (rest_in state old) (rest_in state new) new.ended →
@@ -29,13 +37,13 @@ pub fed_then : (a b c : SideState) (n : ℕ) → Draws a b 0 → Draws b c n →
     fed a c ≡ fed a b ++ fed b c
 fed_then a b c n p q told =
     let up = p.grows in let then = q.grows in let fits = p.size told in let more =
-        q.size (p.told ∙ told) in
+    q.size (p.told ∙ told) in
     let j = length-take-le (b.taken - a.taken) a.to_come fits in
     let k = length-take-le (c.taken - b.taken) b.to_come more in
     let sum : length (fed a b ++ fed b c) ≡ c.taken - a.taken =
-        omega (arith, length-append (fed a b) (fed b c)) in
+    omega (arith, length-append (fed a b) (fed b c)) in
     ap (take (c.taken - a.taken)) (p.bytes told ∙ ap (λ xs. fed a b ++ xs) (q.bytes (p.told ∙ told))
-        ∙ sym (append_assoc (fed a b) (fed b c) c.to_come))
+    ∙ sym (append_assoc (fed a b) (fed b c) c.to_come))
     ∙ take_at (fed a b ++ fed b c) c.to_come (c.taken - a.taken) sum
 
 pub draws_then : (a b c : SideState) (n : ℕ) → Draws a b 0 → Draws b c n → Draws a c n
@@ -51,7 +59,7 @@ draws_then a b c n p q =
           ∙ ap (λ xs. xs ++ c.to_come) (sym (fed_then a b c n p q told));
       size = λ told.
           let first = ap length (p.bytes told) in let fits = p.size told in let more =
-              q.size (p.told ∙ told) in let m = length-take-le (b.taken - a.taken) a.to_come fits in
+          q.size (p.told ∙ told) in let m = length-take-le (b.taken - a.taken) a.to_come fits in
           omega (arith, length-append (fed a b) b.to_come);
       failures = omega arith;
     }
@@ -68,10 +76,10 @@ uses_then a b c stays p q = record {
   split = p.split ∙ ap (λ xs. p.used ++ xs) q.split ∙ sym (append_assoc p.used q.used (rest c));
   at_line = ⊎_elim
       (λ (whole : is_whole p.used ≡ true). ⊎_elim
-          (λ (then : is_whole q.used ≡ true). inl (whole-append p.used q.used whole then))
-          (λ (over : (rest c ≡ []) × (c.ended ≡ true)). inr over) q.at_line)
+      (λ (then : is_whole q.used ≡ true). inl (whole-append p.used q.used whole then))
+      (λ (over : (rest c ≡ []) × (c.ended ≡ true)). inr over) q.at_line)
       (λ (over : (rest b ≡ []) × (b.ended ≡ true)). inr
-          (nothing_left q.used (rest c) (rest b) over.0 q.split, stays over.1))
+      (nothing_left q.used (rest c) (rest b) over.0 q.split, stays over.1))
       p.at_line;
 }
 
@@ -80,7 +88,8 @@ none_before xs ys is = let len = ap length is in
     nil_from_length xs (omega (arith, length-append xs ys))
 
 -- A side that was read up to a record, and then further.
-module _ (old mid new : SideState) (n : ℕ) (a : Draws old mid 0) (b : Draws mid new n) (told : IsTrue old.tells) (u : Uses old mid) where
+module _ (old mid new : SideState) (n : ℕ) (a : Draws old mid 0) (b : Draws mid new n)
+    (told : IsTrue old.tells) (u : Uses old mid) where
   rest_is : rest old ≡ came old new ++ new.to_come
   rest_is = let d = draws_then old mid new n a b in ap (λ xs. old.in_hand ++ xs) (d.bytes told)
       ∙ sym (append_assoc old.in_hand (fed old new) new.to_come)
@@ -92,7 +101,7 @@ module _ (old mid new : SideState) (n : ℕ) (a : Draws old mid 0) (b : Draws mi
   came_is : came old new ≡ u.used ++ came mid new
   came_is = append_cancel_right (came old new) (u.used ++ came mid new) new.to_come
       (sym rest_is ∙ u.split ∙ ap (λ xs. u.used ++ xs) rest_then
-          ∙ sym (append_assoc u.used (came mid new) new.to_come))
+      ∙ sym (append_assoc u.used (came mid new) new.to_come))
 
   -- the lines that did not come whole, and those to come
   abbrev pub more_lines : List (List ℕ)
@@ -105,14 +114,14 @@ module _ (old mid new : SideState) (n : ℕ) (a : Draws old mid 0) (b : Draws mi
   pub lines_before : lines (rest old) ≡ lines (whole_part (came old new)) ++ more_lines
   lines_before = split_lines (came old new) (behind_whole (came old new) ++ new.to_come) (rest old)
       (rest_is ∙ ap (λ xs. xs ++ new.to_come) (whole_split (came old new))
-          ∙ append_assoc (whole_part (came old new)) (behind_whole (came old new)) new.to_come)
+      ∙ append_assoc (whole_part (came old new)) (behind_whole (came old new)) new.to_come)
 
   came_whole : is_whole u.used ≡ true → came mid new ≡ whole_part (came mid new) ++ behind_whole
       (came old new)
   came_whole whole = append_cancel_left u.used (came mid new)
       (whole_part (came mid new) ++ behind_whole (came old new))
       (sym came_is ∙ whole_split (came old new)
-          ∙ ap (λ xs. whole_part xs ++ behind_whole (came old new)) came_is
+      ∙ ap (λ xs. whole_part xs ++ behind_whole (came old new)) came_is
       ∙ ap (λ xs. xs ++ behind_whole (came old new)) (whole_part-whole u.used (came mid new) whole)
       ∙ append_assoc u.used (whole_part (came mid new)) (behind_whole (came old new)))
 
@@ -121,17 +130,17 @@ module _ (old mid new : SideState) (n : ℕ) (a : Draws old mid 0) (b : Draws mi
   behind_used whole = split_lines (came mid new) (behind_whole (came old new) ++ new.to_come)
       (rest mid)
       (rest_then ∙ ap (λ xs. xs ++ new.to_come) (came_whole whole)
-          ∙ append_assoc (whole_part (came mid new)) (behind_whole (came old new)) new.to_come)
+      ∙ append_assoc (whole_part (came mid new)) (behind_whole (came old new)) new.to_come)
 
   -- what is left of the lines that came whole, after those that were used
   pub lines_left : (ls : List (List ℕ)) → ls ++ more_lines ≡ lines (rest mid) →
       (ls ≡ lines (whole_part (came mid new))) ⊎ (ls ≡ [])
   lines_left ls is = ⊎_elim
       (λ (whole : is_whole u.used ≡ true). inl
-          (append_cancel_right ls (lines (whole_part (came mid new))) more_lines (is
-          ∙ behind_used whole)))
+      (append_cancel_right ls (lines (whole_part (came mid new))) more_lines (is
+      ∙ behind_used whole)))
       (λ (over : (rest mid ≡ []) × (mid.ended ≡ true)). inr (none_before ls more_lines (is
-          ∙ ap lines over.0)))
+      ∙ ap lines over.0)))
       u.at_line
 
   -- if the end had not been reported, they are the whole lines that came after it

@@ -15,7 +15,8 @@ use Rattle.fq_pair.specs.Pairing.{Pairs, Stopped, Met, belong, meeting, pairs_of
 use Rattle.fq_pair.specs.PairSources.{PairSourced, front_of, pairs_left, GivesPair, pair_of, asked, stopped, IsReady, StopsPairs}
 use Rattle.fq_pair.proofs.PairLaws.{records_of, pairs_of-met}
 
-module _ {F G : Type 0} (state : F → FeedState) (state' : G → FeedState) (old : PairSourced F G) where
+module _ {F G : Type 0} (state : F → FeedState) (state' : G → FeedState)
+    (old : PairSourced F G) where
   abbrev forward : List (List ℕ)
   forward = lines (rest_in state old.forward)
 
@@ -27,13 +28,13 @@ module _ {F G : Type 0} (state : F → FeedState) (state' : G → FeedState) (ol
       new.forward.encoding ≡ old.forward.encoding → new.check_names ≡ old.check_names →
       new.given ≡ old.given + 1 →
       front_of state state' old ≡ Met m (lines (rest_in state new.forward)) (lines
-          (rest_in state' new.reverse)) →
+      (rest_in state' new.reverse)) →
       pairs_left state state' old ≡ with_pair m (pairs_left state state' new)
   pairs_left_met new m encoding check_names given front =
       let fs = lines (rest_in state new.forward) in
       let rs = lines (rest_in state' new.reverse) in
       let P : Bool → Encoding → ℕ → Pairs = λ check e n. with_pair m
-          (pairs_of check n (records_of e fs) (records_of e rs)) in
+      (pairs_of check n (records_of e fs) (records_of e rs)) in
       pairs_of-met old.check_names old.forward.encoding old.given forward reverse m fs rs front
       ∙ ap (λ e. P old.check_names e (suc old.given)) (sym encoding)
       ∙ ap (λ check. P check new.forward.encoding (suc old.given)) (sym check_names)
@@ -43,26 +44,26 @@ module _ {F G : Type 0} (state : F → FeedState) (state' : G → FeedState) (ol
 pub two_given : {F G : Type 0} (state : F → FeedState) (state' : G →
     FeedState) (a b : Sourced F) (a' b' : Sourced G) (check : Bool) (given : ℕ)
     (before now : Bool) (f r : Read) (m : Mates) → m ≡ mates_in f r → a.encoding ≡ a'.encoding →
-        b.encoding ≡ a.encoding → GivesRecord state a b f → GivesRecord state' a' b' r →
+    b.encoding ≡ a.encoding → GivesRecord state a b f → GivesRecord state' a' b' r →
     belong check (mates_in f r) ≡ true → GivesPair state state' (asked a a' check given before)
-        (asked b b' check (given + 1) now) m
+    (asked b b' check (given + 1) now) m
 two_given state state' a b a' b' check given before now f r m is encoding kept first second
     together =
     let P : Mates → Type 0 = GivesPair state state' (asked a a' check given before)
-        (asked b b' check (given + 1) now) in
+    (asked b b' check (given + 1) now) in
     let fs = lines (rest_in state b) in
     let rs = lines (rest_in state' b') in
     let n = suc given in
     let pair_is : IsTrue (state a.feed).tells → IsTrue (state' a'.feed).tells →
-        front_of state state' (asked a a' check given before) ≡ Met (mates_in f r) fs rs =
-        λ told told'.
+    front_of state state' (asked a a' check given before) ≡ Met (mates_in f r) fs rs =
+    λ told told'.
     ap (λ (x : Front). meeting check n x (front a.encoding (lines (rest_in state' a'))))
-        (first.record_is told)
+    (first.record_is told)
     ∙ ap (λ (e : Encoding). meeting check n (Found f fs) (front e (lines (rest_in state' a'))))
-        encoding
+    encoding
     ∙ ap (meeting check n (Found f fs)) (second.record_is told')
     ∙ cond-true (belong check (mates_in f r)) (Met (mates_in f r) fs rs) (Stopped (NamesDiffer n))
-        together in
+    together in
     subst P (sym is) (record {
       pair_is = pair_is;
       left = λ told told'. pairs_left_met state state' (asked a a' check given before)
@@ -84,7 +85,7 @@ pub of_pair : (o p : Option Read) (x y : Read) (P : Mates → Type 0) → o ≡ 
     P (mates_in x y) → IsSomeAnd (pair_of true o p) P
 of_pair o p x y P first second held =
     subst (λ q. IsSomeAnd (pair_of true q p) P) (sym first)
-        (subst (λ q. IsSomeAnd (pair_of true (Some x) q) P) (sym second) held)
+    (subst (λ q. IsSomeAnd (pair_of true (Some x) q) P) (sym second) held)
 
 -- two current records that are a pair for which something holds
 pub is_pair : (has_pair : Bool) (o p : Option Read) (P : Mates → Type 0) → has_pair ≡ true →
@@ -100,16 +101,16 @@ pub of_titles : (check b : Bool) (f r : Read) (title title' : List ℕ) → titl
     belong check (mates_in f r) ≡ b
 of_titles check b f r title title' first second found =
     ap (λ t. not check || names_match t r.title) (sym first)
-        ∙ ap (λ t. not check || names_match title t) (sym second) ∙ sym found
+    ∙ ap (λ t. not check || names_match title t) (sym second) ∙ sym found
 
 -- the reverse text stopped by a fault after the forward text had given a record
 pub fault_after_record : {F G : Type 0} (state : F → FeedState) (state' : G →
     FeedState) (a b : Sourced F) (a' b' : Sourced G) (check : Bool) (given : ℕ) (before : Bool)
     (o : Option Read) (why : TextFault) →
     IsReady a a' given → a.encoding ≡ a'.encoding → KeepsCount state a b →
-        MatchOption o ⊥ (GivesRecord state a b) → StopsText state' a' b' why →
+    MatchOption o ⊥ (GivesRecord state a b) → StopsText state' a' b' why →
     StopsPairs state state' (asked a a' check given before)
-        (stopped b b' check given (Err (Text Reverse why))) (Text Reverse why)
+    (stopped b b' check given (Err (Text Reverse why))) (Text Reverse why)
 fault_after_record state state' a b a' b' check given before None why ready encoding kept first
     stops = absurd first
 fault_after_record state state' a b a' b' check given before (Some f) why ready encoding kept first
@@ -120,9 +121,9 @@ pub fault_after_end : {F G : Type 0} (state : F → FeedState) (state' : G →
     FeedState) (a b : Sourced F) (a' b' : Sourced G) (check : Bool) (given : ℕ) (before : Bool)
     (why : TextFault) →
     IsReady a a' given → a.encoding ≡ a'.encoding → KeepsCount state a b → EndsText state a b →
-        StopsText state' a' b' why →
+    StopsText state' a' b' why →
     StopsPairs state state' (asked a a' check given before)
-        (stopped b b' check given (Err (Text Reverse why))) (Text Reverse why)
+    (stopped b b' check given (Err (Text Reverse why))) (Text Reverse why)
 fault_after_end state state' a b a' b' check given before why ready encoding kept first stops =
     search rules
 
@@ -131,15 +132,15 @@ pub fault_after : {F G : Type 0} (state : F → FeedState) (state' : G →
     FeedState) (a b : Sourced F) (a' b' : Sourced G) (check : Bool) (given : ℕ) (before : Bool)
     (o : Option Read) (why : TextFault) →
     IsReady a a' given → a.encoding ≡ a'.encoding → KeepsCount state a b →
-        IfSome o (GivesRecord state a b) → (o ≡ None → EndsText state a b) →
-        StopsText state' a' b' why →
+    IfSome o (GivesRecord state a b) → (o ≡ None → EndsText state a b) →
+    StopsText state' a' b' why →
     StopsPairs state state' (asked a a' check given before)
-        (stopped b b' check given (Err (Text Reverse why))) (Text Reverse why)
+    (stopped b b' check given (Err (Text Reverse why))) (Text Reverse why)
 fault_after state state' a b a' b' check given before None why ready encoding kept gives ends
     stops =
     fault_after_end state state' a b a' b' check given before why ready encoding kept (ends refl)
-        stops
+    stops
 fault_after state state' a b a' b' check given before (Some f) why ready encoding kept gives ends
     stops =
     fault_after_record state state' a b a' b' check given before (Some f) why ready encoding kept
-        gives stops
+    gives stops

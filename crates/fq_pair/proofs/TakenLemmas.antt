@@ -13,7 +13,7 @@ use Rattle.fq_pair.proofs.PairLaws.{records_of, records_of-front}
 quality_taken : (n : ℕ) (ls rest : List (List ℕ)) → after_quality n ls ≡ Some rest →
     (ls ≡ quality_lines n ls ++ rest)
     × ((others : List (List ℕ)) → (quality_lines n (quality_lines n ls ++ others)
-        ≡ quality_lines n ls) × (after_quality n (quality_lines n ls ++ others) ≡ Some others))
+    ≡ quality_lines n ls) × (after_quality n (quality_lines n ls ++ others) ≡ Some others))
 quality_taken n [] rest is = ⊎_elim
     (λ none.
     let same : Some [] ≡ Some rest = sym (cond-true (eqb n 0) (Some []) None none) ∙ is in
@@ -35,10 +35,10 @@ quality_taken n (l ∷ ls) rest is = ⊎_elim
     (λ some.
     let m = n - length l in
     let q : quality_lines n (l ∷ ls) ≡ l ∷ quality_lines m ls =
-        cond-false (eqb n 0) [] (l ∷ quality_lines m ls) some in
+    cond-false (eqb n 0) [] (l ∷ quality_lines m ls) some in
     let behind =
-        quality_taken m ls rest (sym (cond-false (eqb n 0) (Some (l ∷ ls)) (after_quality m ls)
-        some) ∙ is) in (
+    quality_taken m ls rest (sym (cond-false (eqb n 0) (Some (l ∷ ls)) (after_quality m ls)
+    some) ∙ is) in (
       ap (λ xs. l ∷ xs) behind.0 ∙ ap (λ qs. qs ++ rest) (sym q),
       λ others. let there = behind.1 others in (
         ap (λ qs. quality_lines n (qs ++ others)) q
@@ -46,19 +46,19 @@ quality_taken n (l ∷ ls) rest is = ⊎_elim
             ∙ ap (λ qs. l ∷ qs) there.0 ∙ sym q,
         ap (λ qs. after_quality n (qs ++ others)) q
             ∙ cond-false (eqb n 0) (Some (l ∷ (quality_lines m ls ++ others)))
-                (after_quality m (quality_lines m ls ++ others)) some ∙ there.1,
+            (after_quality m (quality_lines m ls ++ others)) some ∙ there.1,
       ),
     ))
     (cases_Bool (eqb n 0))
 
 -- the lines from a plus line on
 record TakesPlus (e : Encoding) (title bases : List ℕ) (r : Read) (ps rest : List (List ℕ)) : Type 0
-    where
-  plus : List ℕ
-  scores : List (List ℕ)
-  split : ps ≡ plus ∷ (scores ++ rest)
-  always : (others : List (List ℕ)) → from_plus_line e title bases (plus ∷ (scores ++ others))
-      ≡ Found r others
+  where
+    plus : List ℕ
+    scores : List (List ℕ)
+    split : ps ≡ plus ∷ (scores ++ rest)
+    always : (others : List (List ℕ)) → from_plus_line e title bases (plus ∷ (scores ++ others))
+        ≡ Found r others
 
 plus_taken : (e : Encoding) (title bases : List ℕ) (r : Read) (ps rest : List (List ℕ)) →
     from_plus_line e title bases ps ≡ Found r rest → TakesPlus e title bases r ps rest
@@ -66,11 +66,16 @@ plus_taken e title bases r [] rest is = absurd cc
 plus_taken e title bases r (plus ∷ ls) rest is =
     let n = length bases in
     let scores = quality_lines n ls in
-    let read : List (List ℕ) → Read = λ qs. record { encoding = e; title = title; seq =
-        bases; qual = concat qs } in
+    let read : List (List ℕ) → Read = λ qs. record {
+      encoding = e;
+      title = title;
+      seq =
+          bases;
+      qual = concat qs;
+    } in
     let first = passed (plus_fault title plus) (from_quality_lines e title bases ls) r rest is in
     let second = passed (quality_faults e n 0 scores) (completed (read scores) (after_quality n ls))
-        r rest first.1 in
+    r rest first.1 in
     let third = complete (read scores) r (after_quality n ls) rest second.1 in
     let all = quality_taken n ls rest third.0 in
     record {
@@ -80,9 +85,9 @@ plus_taken e title bases r (plus ∷ ls) rest is =
       always = λ others. let there = all.1 others in
           ap (λ o. unless_faulty o (from_quality_lines e title bases (scores ++ others))) first.0
           ∙ ap (λ qs. unless_faulty (quality_faults e n 0 qs)
-              (completed (read qs) (after_quality n (scores ++ others)))) there.0
+          (completed (read qs) (after_quality n (scores ++ others)))) there.0
           ∙ ap (λ o. unless_faulty (quality_faults e n 0 scores) (completed (read scores) o))
-              there.1
+          there.1
           ∙ ap (λ o. unless_faulty o (Found (read scores) others)) second.0
           ∙ ap (λ s. Found s others) third.1;
     }
@@ -91,14 +96,14 @@ sequence_taken : (ls : List (List ℕ)) (plus : List ℕ) (ps : List (List ℕ))
     from_plus ls ≡ plus ∷ ps →
     (ls ≡ before_plus ls ++ (plus ∷ ps))
     × ((others : List (List ℕ)) → (before_plus (before_plus ls ++ (plus ∷ others)) ≡ before_plus ls)
-        × (from_plus (before_plus ls ++ (plus ∷ others)) ≡ plus ∷ others))
+    × (from_plus (before_plus ls ++ (plus ∷ others)) ≡ plus ∷ others))
 sequence_taken [] plus ps is = absurd cc
 sequence_taken (l ∷ ls) plus ps is = ⊎_elim
     (λ mark.
     let none : before_plus (l ∷ ls) ≡ [] = cond-true (begins_with 43 l) [] (l ∷ before_plus ls)
-        mark in
+    mark in
     let same : l ∷ ls ≡ plus ∷ ps = sym (cond-true (begins_with 43 l) (l ∷ ls) (from_plus ls) mark)
-        ∙ is in
+    ∙ is in
     let first : l ≡ plus = cc in
     let marked : begins_with 43 plus ≡ true = ap (begins_with 43) (sym first) ∙ mark in (
       same ∙ ap (λ qs. qs ++ (plus ∷ ps)) (sym none),
@@ -111,18 +116,18 @@ sequence_taken (l ∷ ls) plus ps is = ⊎_elim
     ))
     (λ plain.
     let some : before_plus (l ∷ ls) ≡ l ∷ before_plus ls =
-        cond-false (begins_with 43 l) [] (l ∷ before_plus ls) plain in
+    cond-false (begins_with 43 l) [] (l ∷ before_plus ls) plain in
     let behind =
-        sequence_taken ls plus ps (sym (cond-false (begins_with 43 l) (l ∷ ls) (from_plus ls) plain)
-        ∙ is) in (
+    sequence_taken ls plus ps (sym (cond-false (begins_with 43 l) (l ∷ ls) (from_plus ls) plain)
+    ∙ is) in (
       ap (λ xs. l ∷ xs) behind.0 ∙ ap (λ qs. qs ++ (plus ∷ ps)) (sym some),
       λ others. let there = behind.1 others in (
         ap (λ qs. before_plus (qs ++ (plus ∷ others))) some
             ∙ cond-false (begins_with 43 l) [] (l ∷ before_plus (before_plus ls ++ (plus ∷ others)))
-                plain ∙ ap (λ qs. l ∷ qs) there.0 ∙ sym some,
+            plain ∙ ap (λ qs. l ∷ qs) there.0 ∙ sym some,
         ap (λ qs. from_plus (qs ++ (plus ∷ others))) some
             ∙ cond-false (begins_with 43 l) (l ∷ (before_plus ls ++ (plus ∷ others)))
-                (from_plus (before_plus ls ++ (plus ∷ others))) plain ∙ there.1,
+            (from_plus (before_plus ls ++ (plus ∷ others))) plain ∙ there.1,
       ),
     ))
     (cases_Bool (begins_with 43 l))
@@ -137,8 +142,12 @@ pub front_takes : (e : Encoding) (r : Read) (ls rest : List (List ℕ)) → fron
     TakesLines e r ls rest
 front_takes e r [] rest is = absurd cc
 front_takes e r ([] ∷ ls) rest is =
-    let t = front_takes e r ls rest is in record { taken = [] ∷ t.taken; split =
-        ap (λ xs. [] ∷ xs) t.split; always = t.always }
+    let t = front_takes e r ls rest is in record {
+      taken = [] ∷ t.taken;
+      split =
+          ap (λ xs. [] ∷ xs) t.split;
+      always = t.always;
+    }
 front_takes e r ((b ∷ bs) ∷ ls) rest is =
     let first = passed (title_fault (b ∷ bs)) _ r rest is in
     let second = passed (sequence_faults 0 (before_plus ls)) _ r rest first.1 in
@@ -152,14 +161,14 @@ front_takes e r ((b ∷ bs) ∷ ls) rest is =
           let lines_then = before_plus ls ++ (t.plus ∷ (t.scores ++ others)) in
           let there = all.1 (t.scores ++ others) in
           ap (λ xs. front e ((b ∷ bs) ∷ xs))
-              (append_assoc (before_plus ls) (t.plus ∷ t.scores) others)
+          (append_assoc (before_plus ls) (t.plus ∷ t.scores) others)
           ∙ ap (λ o. unless_faulty o (unless_faulty (sequence_faults 0 (before_plus lines_then))
-              (from_plus_line e bs (concat (before_plus lines_then)) (from_plus lines_then))))
-              first.0
+          (from_plus_line e bs (concat (before_plus lines_then)) (from_plus lines_then))))
+          first.0
           ∙ ap (λ qs. unless_faulty (sequence_faults 0 qs)
-              (from_plus_line e bs (concat qs) (from_plus lines_then))) there.0
+          (from_plus_line e bs (concat qs) (from_plus lines_then))) there.0
           ∙ ap (λ o. unless_faulty o (from_plus_line e bs (concat (before_plus ls))
-              (from_plus lines_then))) second.0
+          (from_plus lines_then))) second.0
           ∙ ap (from_plus_line e bs (concat (before_plus ls))) there.1
           ∙ t.always others;
     }
@@ -170,7 +179,7 @@ pub front_fewer : (e : Encoding) (r : Read) (ls rest more : List (List ℕ)) →
 front_fewer e r ls rest more is =
     let t = front_takes e r (ls ++ more) (rest ++ more) is in
     let same : ls ≡ t.taken ++ rest = append_cancel_right ls (t.taken ++ rest) more (t.split
-        ∙ sym (append_assoc t.taken rest more)) in
+    ∙ sym (append_assoc t.taken rest more)) in
     ap (front e) same ∙ t.always rest
 
 -- How many records some lines hold.

@@ -14,7 +14,7 @@ pub log_numbers-places : (n start m : ℕ) → 0 < m →
 log_numbers-places n start zero some = absurd (omega arith)
 log_numbers-places n start (suc m) some =
     ap (λ (k : ℕ). suc k ∷ start ∷ (start + suc k) ∷ (n - start - suc k) ∷ [])
-        (length-places (suc start) m)
+    (length-places (suc start) m)
 
 module _ (read : Read) (k : Kept) where
   -- the kept quality can be recoded
@@ -32,15 +32,15 @@ module _ (read : Read) (k : Kept) where
   -- the record of the kept bases
   pub record_of_kept : (recode : Bool) → IsLawful read → IsWithin (length read.seq) (Some k) →
       written read.title (take (k.stop - k.start) (drop k.start read.seq))
-          (written_quality (then_some recode read.encoding)
-          (take (k.stop - k.start) (drop k.start read.qual)))
+      (written_quality (then_some recode read.encoding)
+      (take (k.stop - k.start) (drop k.start read.qual)))
       ≡ record_at recode (places_of (Some k)) read
   record_of_kept recode lawful within =
       let same = lawful.same_len in
       let seq = kept_bytes read.seq within in
       let qual = kept_bytes read.qual (omega arith) in
       ap (λ (bytes : List ℕ). written read.title bytes
-          (written_quality (then_some recode read.encoding)
-          (take (k.stop - k.start) (drop k.start read.qual)))) (sym seq)
+      (written_quality (then_some recode read.encoding)
+      (take (k.stop - k.start) (drop k.start read.qual)))) (sym seq)
       ∙ ap (λ (bytes : List ℕ). written read.title (bytes_at (places_of (Some k)) read.seq)
-          (written_quality (then_some recode read.encoding) bytes)) (sym qual)
+      (written_quality (then_some recode read.encoding) bytes)) (sym qual)

@@ -17,14 +17,14 @@ pub whole_split : (text : List ℕ) → text ≡ whole_part text ++ behind_whole
 whole_split [] = refl
 whole_split (b ∷ bs) = ⊎_elim
     (λ some. ap (λ xs. b ∷ xs) (whole_split bs)
-        ∙ ap (λ xs. xs ++ behind_whole bs) (sym (cond-true (list_any is_lf (b ∷ bs))
-        (b ∷ whole_part bs) [] some))
+    ∙ ap (λ xs. xs ++ behind_whole bs) (sym (cond-true (list_any is_lf (b ∷ bs))
+    (b ∷ whole_part bs) [] some))
     ∙ ap (λ xs. whole_part (b ∷ bs) ++ xs) (sym (cond-true (list_any is_lf (b ∷ bs))
-        (behind_whole bs) (b ∷ bs) some)))
+    (behind_whole bs) (b ∷ bs) some)))
     (λ none. ap (λ xs. xs ++ (b ∷ bs)) (sym (cond-false (list_any is_lf (b ∷ bs))
-        (b ∷ whole_part bs) [] none))
+    (b ∷ whole_part bs) [] none))
     ∙ ap (λ xs. whole_part (b ∷ bs) ++ xs) (sym (cond-false (list_any is_lf (b ∷ bs))
-        (behind_whole bs) (b ∷ bs) none)))
+    (behind_whole bs) (b ∷ bs) none)))
     (cases_Bool (list_any is_lf (b ∷ bs)))
 
 no_whole : (text : List ℕ) → list_any is_lf text ≡ false → whole_part text ≡ []
@@ -38,12 +38,12 @@ whole_before b [] some then = ⊎_elim (λ lf. lf) (λ other. absurd (let h = sy
     ∙ or_from (is_lf b) false other refl in cc)) (cases_Bool (is_lf b))
 whole_before b (c ∷ cs) some then = ⊎_elim
     (λ more. ap (λ xs. is_whole (b ∷ xs)) (cond-true (list_any is_lf (c ∷ cs)) (c ∷ whole_part cs)
-        [] more)
+    [] more)
     ∙ ap is_whole (sym (cond-true (list_any is_lf (c ∷ cs)) (c ∷ whole_part cs) [] more))
-        ∙ then more)
+    ∙ then more)
     (λ none. ap (λ xs. is_whole (b ∷ xs)) (no_whole (c ∷ cs) none)
     ∙ ⊎_elim (λ lf. lf) (λ other. absurd (let h = sym some
-        ∙ or_from (is_lf b) (list_any is_lf (c ∷ cs)) other none in cc)) (cases_Bool (is_lf b)))
+    ∙ or_from (is_lf b) (list_any is_lf (c ∷ cs)) other none in cc)) (cases_Bool (is_lf b)))
     (cases_Bool (list_any is_lf (c ∷ cs)))
 
 some_whole : (text : List ℕ) → list_any is_lf text ≡ true → is_whole (whole_part text) ≡ true
@@ -67,5 +67,5 @@ whole_part-whole [] ys whole = refl
 whole_part-whole (b ∷ []) ys whole = cond-true _ (b ∷ whole_part ys) [] (or_left _ _ whole)
 whole_part-whole (b ∷ c ∷ bs) ys whole =
     cond-true _ (b ∷ whole_part ((c ∷ bs) ++ ys)) []
-        (or_right _ _ (list_any-append is_lf (c ∷ bs) ys ∙ or_left _ _ (has_lf c bs whole)))
+    (or_right _ _ (list_any-append is_lf (c ∷ bs) ys ∙ or_left _ _ (has_lf c bs whole)))
     ∙ ap (λ zs. b ∷ zs) (whole_part-whole (c ∷ bs) ys whole)

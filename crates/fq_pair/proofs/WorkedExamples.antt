@@ -42,17 +42,40 @@ abbrev reverse : List ℕ
 reverse = codes "@p1/2\nTTTT\n+\nIIII\n@p2/2\nAAAA\n+\n!!!\"\n"
 
 abbrev first : Mates
-first = mates_in (record { encoding = Sanger; title = codes "p1/1"; seq = codes "ACGT"; qual =
-    codes "#!II" }) (record { encoding = Sanger; title = codes "p1/2"; seq = codes "TTTT"; qual =
-    codes "IIII" })
+first = mates_in (record {
+  encoding = Sanger;
+  title = codes "p1/1";
+  seq = codes "ACGT";
+  qual =
+      codes "#!II";
+}) (record {
+  encoding = Sanger;
+  title = codes "p1/2";
+  seq = codes "TTTT";
+  qual =
+      codes "IIII";
+})
 
 abbrev second : Mates
-second = mates_in (record { encoding = Sanger; title = codes "p2/1"; seq = codes "GGCC"; qual =
-    codes "IIII" }) (record { encoding = Sanger; title = codes "p2/2"; seq = codes "AAAA"; qual =
-    codes "!!!\"" })
+second = mates_in (record {
+  encoding = Sanger;
+  title = codes "p2/1";
+  seq = codes "GGCC";
+  qual =
+      codes "IIII";
+}) (record {
+  encoding = Sanger;
+  title = codes "p2/2";
+  seq = codes "AAAA";
+  qual =
+      codes "!!!\"";
+})
 
-two_pairs : pairs true Sanger 0 forward reverse ≡ record { mates = first ∷ second ∷ []; fault =
-    None }
+two_pairs : pairs true Sanger 0 forward reverse ≡ record {
+  mates = first ∷ second ∷ [];
+  fault =
+      None;
+}
 two_pairs = refl
 
 two_empty_texts : pairs true Sanger 0 [] [] ≡ record { mates = []; fault = None }
@@ -93,11 +116,21 @@ missing_forward = refl
 
 other_names : pairs true Sanger 0 (codes "@a/1\nA\n+\nI\n@b/1\nA\n+\nI\n")
     (codes "@a/2 x\nA\n+\nI\n@c/2\nA\n+\nI\n") ≡ record {
-  mates = mates_in (record { encoding = Sanger; title = codes "a/1"; seq = codes "A"; qual =
-      codes "I" }) (record { encoding = Sanger; title = codes "a/2 x"; seq = codes "A"; qual =
-      codes "I" }) ∷ [];
-  fault = Some (NamesDiffer 2);
-}
+      mates = mates_in (record {
+        encoding = Sanger;
+        title = codes "a/1";
+        seq = codes "A";
+        qual =
+            codes "I";
+      }) (record {
+        encoding = Sanger;
+        title = codes "a/2 x";
+        seq = codes "A";
+        qual =
+            codes "I";
+      }) ∷ [];
+      fault = Some (NamesDiffer 2);
+    }
 other_names = refl
 
 names_unchecked : (pairs false Sanger 0 (codes "@a/1\nA\n+\nI\n@b/1\nA\n+\nI\n")
@@ -111,8 +144,11 @@ abbrev two_pairs_with : List ℕ → List ℕ
 two_pairs_with plus =
     codes "@p1/1\nACGT\n+\n#!II\n@p1/2\nTTTT\n+\nIIII\n@p2/1\nGGCC\n+\nIIII\n@p2/2\nAAAA\n" ++ (plus ++ codes "\n!!!\"\n")
 
-two_interleaved : interleaved_pairs true Sanger 0 (two_pairs_with (codes "+")) ≡ record { mates =
-    first ∷ second ∷ []; fault = None }
+two_interleaved : interleaved_pairs true Sanger 0 (two_pairs_with (codes "+")) ≡ record {
+  mates =
+      first ∷ second ∷ [];
+  fault = None;
+}
 two_interleaved = refl
 
 -- the fourth record has the fault
@@ -122,20 +158,29 @@ fault_of_second_mate = refl
 
 -- the third record has the fault
 fault_of_first_mate : interleaved_pairs true Sanger 0
-    (codes "@p1/1\nACGT\n+\n#!II\n@p1/2\nTTTT\n+\nIIII\np2/1\n") ≡ record { mates =
-    first ∷ []; fault = Some (Text Forward (NoTitle 3)) }
+    (codes "@p1/1\nACGT\n+\n#!II\n@p1/2\nTTTT\n+\nIIII\np2/1\n") ≡ record {
+      mates =
+          first ∷ [];
+      fault = Some (Text Forward (NoTitle 3));
+    }
 fault_of_first_mate = refl
 
 empty_text : interleaved_pairs true Sanger 0 [] ≡ record { mates = []; fault = None }
 empty_text = refl
 
-one_record : interleaved_pairs true Sanger 0 (codes "@p1/1\nACGT\n+\n#!II\n") ≡ record { mates =
-    []; fault = Some (MateMissing Reverse 1) }
+one_record : interleaved_pairs true Sanger 0 (codes "@p1/1\nACGT\n+\n#!II\n") ≡ record {
+  mates =
+      [];
+  fault = Some (MateMissing Reverse 1);
+}
 one_record = refl
 
 three_records : interleaved_pairs true Sanger 0
-    (codes "@p1/1\nACGT\n+\n#!II\n@p1/2\nTTTT\n+\nIIII\n@p2/1\nGGCC\n+\nIIII\n") ≡ record { mates =
-    first ∷ []; fault = Some (MateMissing Reverse 2) }
+    (codes "@p1/1\nACGT\n+\n#!II\n@p1/2\nTTTT\n+\nIIII\n@p2/1\nGGCC\n+\nIIII\n") ≡ record {
+      mates =
+          first ∷ [];
+      fault = Some (MateMissing Reverse 2);
+    }
 three_records = refl
 
 -- after five pairs come records 11 and 12, of pair 6
@@ -168,10 +213,20 @@ interleaved_names_unchecked = refl
 -- Logs.
 
 cut_by_a_window : (texts_of (SlidingWindow 4 15 ∷ []) (mates_in
-    (record { encoding = Sanger; title = codes "r1"; seq = codes "ACGTACGT"; qual =
-        codes "????####" })
-    (record { encoding = Sanger; title = codes "r2"; seq = codes "ACG"; qual =
-        codes "III" }) ∷ [])).log
+    (record {
+      encoding = Sanger;
+      title = codes "r1";
+      seq = codes "ACGTACGT";
+      qual =
+          codes "????####";
+    })
+    (record {
+      encoding = Sanger;
+      title = codes "r2";
+      seq = codes "ACG";
+      qual =
+          codes "III";
+    }) ∷ [])).log
     ≡ codes "r1 4 0 4 4\nr2 0 0 0 0\n"
 unfolding digits
 cut_by_a_window = refl
@@ -202,28 +257,58 @@ six_and_five : let left =
     pairs true Sanger 0
     (codes "@n1/1\nACGT\n+\nIIII\n@n2/1\nACGT\n+\n##II\n@n3/1\nACGT\n+\nIIII\n@n4/1\nACGT\n+\n##II\n@n5/1\nACGT\n+\nIIII\n@n6/1\nACGT\n+\n##II\n") (codes "@n1/2\nTTTT\n+\nII##\n@n2/2\nTTTT\n+\nII##\n@n3/2\nTTTT\n+\n!!!!\n@n4/2\nTTTT\n+\nII##\n@n5/2\nTTTT\n+\nII##\n") in
     (left.fault ≡ Some (MateMissing Reverse 6))
-        × (counts_of trimming left.mates ≡ record { pairs = 5; both = 4; forward_only =
-        1; reverse_only = 0; dropped = 0 })
+    × (counts_of trimming left.mates ≡ record {
+      pairs = 5;
+      both = 4;
+      forward_only =
+          1;
+      reverse_only = 0;
+      dropped = 0;
+    })
 six_and_five = (refl, refl)
 
 eleven_interleaved : let left = interleaved_pairs true Sanger 0
     (codes "@n1/1\nACGT\n+\nIIII\n@n1/2\nTTTT\n+\nII##\n@n2/1\nACGT\n+\n##II\n@n2/2\nTTTT\n+\nII##\n@n3/1\nACGT\n+\nIIII\n@n3/2\nTTTT\n+\n!!!!\n@n4/1\nACGT\n+\n##II\n@n4/2\nTTTT\n+\nII##\n@n5/1\nACGT\n+\nIIII\n@n5/2\nTTTT\n+\nII##\n@n6/1\nACGT\n+\n##II\n") in
     (left.fault ≡ Some (MateMissing Reverse 6))
-        × (counts_of trimming left.mates ≡ record { pairs = 5; both = 4; forward_only =
-        1; reverse_only = 0; dropped = 0 })
+    × (counts_of trimming left.mates ≡ record {
+      pairs = 5;
+      both = 4;
+      forward_only =
+          1;
+      reverse_only = 0;
+      dropped = 0;
+    })
 eleven_interleaved = (refl, refl)
 
 -- The summary.
 
-seven_pairs : summary_of (record { pairs = 7; both = 5; forward_only = 2; reverse_only =
-    0; dropped = 0 })
+seven_pairs : summary_of (record {
+  pairs = 7;
+  both = 5;
+  forward_only = 2;
+  reverse_only =
+      0;
+  dropped = 0;
+})
     ≡ codes "Input Read Pairs: 7\nBoth Surviving: 5\nForward Only Surviving: 2\nReverse Only Surviving: 0\nDropped: 0\n"
 unfolding digits
 seven_pairs = refl
 
-capped_pairs : (capped (record { pairs = 18446744073709551615; both = 0; forward_only =
-    0; reverse_only = 0; dropped = 0 })
+capped_pairs : (capped (record {
+  pairs = 18446744073709551615;
+  both = 0;
+  forward_only =
+      0;
+  reverse_only = 0;
+  dropped = 0;
+})
     (record { pairs = 1; both = 2; forward_only = 3; reverse_only = 4; dropped = 5 }))
-    ≡ record { pairs = 18446744073709551615; both = 2; forward_only = 3; reverse_only = 4; dropped =
-        5 }
+    ≡ record {
+      pairs = 18446744073709551615;
+      both = 2;
+      forward_only = 3;
+      reverse_only = 4;
+      dropped =
+          5;
+    }
 capped_pairs = refl

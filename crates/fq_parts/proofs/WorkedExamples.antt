@@ -51,8 +51,11 @@ reverse_rest = codes "@p2/2\nAAAA\n+\n!!!\"\n"
 is_part : IsPart TwoTexts true Sanger 0 forward reverse
 is_part = record { forward_whole = refl; reverse_whole = refl; sound = refl }
 
-first_pair : pairs_in TwoTexts true Sanger 0 forward reverse ≡ record { mates = first; fault =
-    None }
+first_pair : pairs_in TwoTexts true Sanger 0 forward reverse ≡ record {
+  mates = first;
+  fault =
+      None;
+}
 first_pair = refl
 
 second_pair : pairs_in TwoTexts true Sanger 1 forward_rest reverse_rest

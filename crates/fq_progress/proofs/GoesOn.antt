@@ -56,7 +56,7 @@ dealer_by p s mark within awaits_start e = inl (start_by p s e mark s.start_item
 dealer_by p s mark within deals e =
     ⊎_elim
     (λ more. ⊎_elim (λ room. inl (deal, (e, more, within, room), refl))
-        (λ full. inr (for_turn e full)) (order (s.seats s.deal_turn).blocks p.depth))
+    (λ full. inr (for_turn e full)) (order (s.seats s.deal_turn).blocks p.depth))
     (λ none. inl (end_reading, (e, none), refl))
     (order s.dealt p.blocks)
 dealer_by p s mark within passes_start e = inl (pass_start, (e, mark), refl)
@@ -77,7 +77,7 @@ all_written p s run kept holds few = ⊎_elim
     (λ e. e)
     (⊎_elim
     (λ h. (let less = share_less p.workers s.written s.dealt h in let less' =
-        rw (← kept.turn) at less in absurd (omega (arith, less', few))))
+    rw (← kept.turn) at less in absurd (omega (arith, less', few))))
     (λ h. (let less = share_less p.workers s.dealt s.written h in
     let t = turn_at p.workers s.dealt in
     let most = (holds t (turn_below p.workers s.dealt run.some_workers)).most in
@@ -94,12 +94,12 @@ starves : (p : Run) (s : State) → IsRun p → IsKept p s → s.turn < p.worker
     ≡ empties) → (s.seats s.turn).blocks ≡ 0 → p.depth ≤ (s.seats s.deal_turn).blocks → ⊥
 starves p s run kept here ph is doing none full =
     let nothing : in_seat (s.seats s.turn) ≡ 0 =
-        omega (arith, ap length is, idle_hand (s.seats s.turn).doing doing, none) in
+    omega (arith, ap length is, idle_hand (s.seats s.turn).doing doing, none) in
     ⊎_elim
     (λ stopped. (let a = ap has_stop is in cc))
     (λ all. (let same : s.turn ≡ s.deal_turn = kept.turn
-        ∙ ap (turn_at p.workers) (all_written p s run kept ph.1 (omega (arith, all, nothing)))
-        ∙ sym kept.deal_turn in
+    ∙ ap (turn_at p.workers) (all_written p s run kept ph.1 (omega (arith, all, nothing)))
+    ∙ sym kept.deal_turn in
     omega (arith, full, none, ap (λ t. (s.seats t).blocks) same, run.some_room)))
     (ph.1 s.turn here).all
 
@@ -114,8 +114,11 @@ writes_on p s run kept e here there ph [] is =
   where
     waits : Waiting p s s.turn → CanGoOn p s
     waits (for_block doing none unmarked) = ⊎_elim (λ can. can)
-        (elim [ for_turn d full ↦ absurd (starves p s run kept here ph is doing none full) | over h
-        ↦ absurd (omega (arith, h, unmarked, here)) ]) (dealer p s ph.2 there)
+        (elim [
+          | for_turn d full ↦ absurd (starves p s run kept here ph is doing none full)
+          | over h
+              ↦ absurd (omega (arith, h, unmarked, here))
+        ]) (dealer p s ph.2 there)
     waits (for_room r doing full) = absurd (omega (arith, full, ap length is, run.some_room))
     waits (gone doing) = (find_mark, (e, here, record { empty = is; closed = doing }), refl)
 
@@ -124,7 +127,7 @@ writes_on p s run kept e here there ph [] is =
 unmarked_by : (n : ℕ) (seats : ℕ → Seat) (all : (j : ℕ) → j < n → (seats j).marked ≡ true) →
     (b : Bool) → (seats n).marked ≡ b
     → ((j : ℕ) → j < suc n → (seats j).marked ≡ true)
-        ⊎ ((j : ℕ) × (j < suc n) × ((seats j).marked ≡ false))
+    ⊎ ((j : ℕ) × (j < suc n) × ((seats j).marked ≡ false))
 unmarked_by n seats all true e = inl (below_next (λ j. (seats j).marked ≡ true) n all e)
 unmarked_by n seats all false e = inr (n, omega arith, e)
 
@@ -141,8 +144,16 @@ drains_turn p s run kept e ph within d full =
     ⊎_elim (λ can. can)
     (elim [
       | for_block doing none unmarked ↦ absurd (omega (arith, none, full, run.some_room))
-      | for_room r doing packed ↦ (drop_reply s.deal_turn, (e, within, omega
-          (arith, packed, run.some_room)), refl)
+      | for_room r doing packed ↦ (
+        drop_reply s.deal_turn,
+        (
+          e,
+          within,
+          omega
+              (arith, packed, run.some_room),
+        ),
+        refl,
+      )
       | gone doing ↦ absurd (let c = (kept.marks s.deal_turn within).over doing in
           omega (arith, c, ap closed_lanes d))
     ])
@@ -158,8 +169,11 @@ drains_at p s run kept e ph there j within open_yet [] is =
   where
     waits : Waiting p s j → CanGoOn p s
     waits (for_block doing none unmarked) = ⊎_elim (λ can. can)
-        (elim [ for_turn d full ↦ drains_turn p s run kept e ph there d full | over h ↦ absurd
-        (omega (arith, h, unmarked, within)) ]) (dealer p s ph.1 there)
+        (elim [
+          | for_turn d full ↦ drains_turn p s run kept e ph there d full
+          | over h ↦ absurd
+              (omega (arith, h, unmarked, within))
+        ]) (dealer p s ph.1 there)
     waits (for_room r doing full) = absurd (omega (arith, full, ap length is, run.some_room))
     waits (gone doing) =
         (drop_mark j, (e, within, open_yet, record { empty = is; closed = doing }), refl)
@@ -177,8 +191,15 @@ joins_dealer : (p : Run) (s : State) → IsKept p s → s.caller ≡ awaits_deal
 joins_dealer p s kept e ph = ⊎_elim
     (λ h. (find_no_start, (h.0, h.1, ph.2), refl))
     (λ h. ⊎_elim (λ more. (close_blocks h.0, (h.1, more), refl))
-        (λ all. (join_dealer, (e, h.1 ∙ ap closes (let few = kept.closed in
-        omega (arith, all, few, ap closed_lanes h.1))), refl)) (order h.0 p.workers))
+    (λ all. (
+      join_dealer,
+      (
+        e,
+        h.1 ∙ ap closes (let few = kept.closed in
+            omega (arith, all, few, ap closed_lanes h.1)),
+      ),
+      refl,
+    )) (order h.0 p.workers))
     ph.0
 
 joins_workers : (p : Run) (s : State) (k : ℕ) → IsRun p → s.caller ≡ awaits_workers k →
@@ -186,11 +207,18 @@ joins_workers : (p : Run) (s : State) (k : ℕ) → IsRun p → s.caller ≡ awa
 joins_workers p s k run e ph = ⊎_elim
     (λ more. (let within : k < p.workers = omega (arith, more, run.few_threads) in
     ⊎_elim (λ doing. inr (join_worker k, (e, more, doing), refl))
-        (λ h. inr (leave k, (more, inl h.0, h.1, omega (arith, within, ap closed_lanes ph.0)),
-        refl)) (ph.1 k within)))
+    (λ h. inr (
+      leave k,
+      (more, inl h.0, h.1, omega (arith, within, ap closed_lanes ph.0)),
+      refl,
+    )) (ph.1 k within)))
     (λ all. (let same : k ≡ p.started = omega (arith, all, ph.2) in
-    inl (record { caller = e ∙ ap awaits_workers same; dealer = ph.0; workers =
-        λ j h. ph.3 j (omega (arith, h, same)) })))
+    inl (record {
+      caller = e ∙ ap awaits_workers same;
+      dealer = ph.0;
+      workers =
+          λ j h. ph.3 j (omega (arith, h, same));
+    })))
     (order k p.started)
 
 -- All together.
@@ -203,13 +231,13 @@ by_caller p s run kept begins e ph = ⊎_elim (λ few. inr (give_up, (e, few), r
 by_caller p s run kept closes_start e ph = inr (close_start, e, refl)
 by_caller p s run kept writes e ph =
     let here : s.turn < p.workers =
-        rw kept.turn (turn_below p.workers s.written run.some_workers) in
+    rw kept.turn (turn_below p.workers s.written run.some_workers) in
     let there : s.deal_turn < p.workers = rw kept.deal_turn
-        (turn_below p.workers s.dealt run.some_workers) in
+    (turn_below p.workers s.dealt run.some_workers) in
     inr (writes_on p s run kept e here there ph (s.seats s.turn).replies refl)
 by_caller p s run kept drains e ph =
     let there : s.deal_turn < p.workers = rw kept.deal_turn
-        (turn_below p.workers s.dealt run.some_workers) in
+    (turn_below p.workers s.dealt run.some_workers) in
     inr (drains_on p s run kept e ph there)
 by_caller p s run kept awaits_dealer e ph = inr (joins_dealer p s kept e ph)
 by_caller p s run kept (awaits_workers k) e ph = joins_workers p s k run e ph

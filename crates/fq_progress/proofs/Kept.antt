@@ -72,7 +72,7 @@ Phase p s awaits_dealer = DealsNoMore s.dealer s.start_item × AreQuiet p s.seat
     ≡ true)
 Phase p s (awaits_workers k) =
     (s.dealer ≡ closes p.workers) × AreQuiet p s.seats × (k ≤ p.started) × ((i : ℕ) → i < k →
-        (s.seats i).doing ≡ left)
+    (s.seats i).doing ≡ left)
 
 pub record IsKept (p : Run) (s : State) : Type 0 where
   pub deal_turn : s.deal_turn ≡ turn_at p.workers s.dealt
@@ -99,25 +99,37 @@ worker_phase : (p : Run) (s : State) (j : ℕ) (q : Seat) → j < p.workers → 
     → (IsQuiet (s.seats j) → IsQuiet q)
     → ((s.seats j).doing ≡ left → q.doing ≡ left)
     → (caller : Caller) → Phase p s caller →
-        Phase p (record s { seats = changed j q s.seats }) caller
+    Phase p (record s { seats = changed j q s.seats }) caller
 worker_phase p s j q within begun holds quiet stays begins ph = absurd (begun ph)
-worker_phase p s j q within begun holds quiet stays closes_start ph =
-    (ph.0, changed_each (λ i seat. i < p.workers →
-    Holds (share p.workers s.written i) (share p.workers s.dealt i) seat) j q s.seats
-    (λ h. holds _ _ (ph.1 j h)) (λ i other. ph.1 i))
-worker_phase p s j q within begun holds quiet stays writes ph =
-    (ph.0, changed_each (λ i seat. i < p.workers →
-    Holds (share p.workers s.written i) (share p.workers s.dealt i) seat) j q s.seats
-    (λ h. holds _ _ (ph.1 j h)) (λ i other. ph.1 i), ph.2)
+worker_phase p s j q within begun holds quiet stays closes_start ph = (
+  ph.0,
+  changed_each (λ i seat. i < p.workers →
+      Holds (share p.workers s.written i) (share p.workers s.dealt i) seat) j q s.seats
+      (λ h. holds _ _ (ph.1 j h)) (λ i other. ph.1 i),
+)
+worker_phase p s j q within begun holds quiet stays writes ph = (
+  ph.0,
+  changed_each (λ i seat. i < p.workers →
+      Holds (share p.workers s.written i) (share p.workers s.dealt i) seat) j q s.seats
+      (λ h. holds _ _ (ph.1 j h)) (λ i other. ph.1 i),
+  ph.2,
+)
 worker_phase p s j q within begun holds quiet stays drains ph = ph
-worker_phase p s j q within begun holds quiet stays awaits_dealer ph =
-    (ph.0, changed_each (λ i seat. i < p.workers →
-    IsQuiet seat) j q s.seats (λ h. quiet (ph.1 j h)) (λ i other. ph.1 i), ph.2)
-worker_phase p s j q within begun holds quiet stays (awaits_workers k) ph =
-    (ph.0, changed_each (λ i seat. i < p.workers →
-        IsQuiet seat) j q s.seats (λ h. quiet (ph.1 j h)) (λ i other. ph.1 i), ph.2, changed_each
-        (λ i seat. i < k → seat.doing ≡ left) j q s.seats (λ h. stays (ph.3 j h)) (λ i other. ph.3
-        i))
+worker_phase p s j q within begun holds quiet stays awaits_dealer ph = (
+  ph.0,
+  changed_each (λ i seat. i < p.workers →
+      IsQuiet seat) j q s.seats (λ h. quiet (ph.1 j h)) (λ i other. ph.1 i),
+  ph.2,
+)
+worker_phase p s j q within begun holds quiet stays (awaits_workers k) ph = (
+  ph.0,
+  changed_each (λ i seat. i < p.workers →
+      IsQuiet seat) j q s.seats (λ h. quiet (ph.1 j h)) (λ i other. ph.1 i),
+  ph.2,
+  changed_each
+      (λ i seat. i < k → seat.doing ≡ left) j q s.seats (λ h. stays (ph.3 j h)) (λ i other. ph.3
+      i),
+)
 
 worker_moves : (p : Run) (s : State) (j : ℕ) (q : Seat) → IsKept p s → j < p.workers →
     ((s ≡ start) → ⊥)
@@ -162,8 +174,11 @@ dealer_moves p s d kept begun on few more no_more ended = record {
   deal_turn = kept.deal_turn;
   turn = kept.turn;
   closed = few;
-  marks = λ i within. record { over = λ e. (let h = (kept.marks i within).over e in
-      omega (arith, h, more)); told = (kept.marks i within).told };
+  marks = λ i within. record {
+    over = λ e. (let h = (kept.marks i within).over e in
+        omega (arith, h, more));
+    told = (kept.marks i within).told;
+  };
   phase = dealer_phase p s d begun on no_more ended s.caller kept.phase;
 }
 
@@ -173,8 +188,12 @@ taken_holds : (c d : ℕ) (q : Seat) (r : Reply) → q.doing ≡ takes → 0 < q
     Holds c d (with_block_taken q (answers r))
 taken_holds c d q r e some h =
     let same : in_seat (with_block_taken q (answers r)) ≡ in_seat q = omega (arith, ap in_hand e) in
-    record { most = omega (arith, same, h.most); all =
-        ⊎_elim (λ x. inl x) (λ x. inr (omega (arith, same, x))) h.all; stopped = λ x. cc }
+    record {
+      most = omega (arith, same, h.most);
+      all =
+          ⊎_elim (λ x. inl x) (λ x. inr (omega (arith, same, x))) h.all;
+      stopped = λ x. cc;
+    }
 
 stop_stays : (rs : List Reply) (r : Reply) → has_stop rs ≡ true → has_stop (rs ++ r ∷ []) ≡ true
 stop_stays [] r h = cc
@@ -190,20 +209,32 @@ answered_holds : (c d : ℕ) (q : Seat) (r : Reply) → q.doing ≡ answers r �
     Holds c d (with_reply q r)
 answered_holds c d q texts e h =
     let same : in_seat (with_reply q texts) ≡ in_seat q =
-        omega (arith, ap in_hand e, length-append q.replies (texts ∷ [])) in
-    record { most = omega (arith, same, h.most); all =
-        ⊎_elim (λ x. inl (stop_stays q.replies texts x)) (λ x. inr (omega (arith, same, x))) h.all;
-        stopped = λ x. cc }
+    omega (arith, ap in_hand e, length-append q.replies (texts ∷ [])) in
+    record {
+      most = omega (arith, same, h.most);
+      all =
+          ⊎_elim (λ x. inl (stop_stays q.replies texts x)) (λ x. inr (omega (arith, same, x)))
+          h.all;
+      stopped = λ x. cc;
+    }
 answered_holds c d q stop e h =
     let same : in_seat (with_reply q stop) ≡ in_seat q =
-        omega (arith, ap in_hand e, length-append q.replies (stop ∷ [])) in
-    record { most = omega (arith, same, h.most); all = inl (stop_comes q.replies); stopped =
-        λ x. stop_comes q.replies }
+    omega (arith, ap in_hand e, length-append q.replies (stop ∷ [])) in
+    record {
+      most = omega (arith, same, h.most);
+      all = inl (stop_comes q.replies);
+      stopped =
+          λ x. stop_comes q.replies;
+    }
 
 emptied_holds : (c d : ℕ) (q : Seat) → q.doing ≡ empties → 0 < q.blocks → Holds c d q →
     Holds c d (with_block_taken q empties)
-emptied_holds c d q e some h = record { most = omega (arith, ap in_hand e, h.most); all =
-    inl (h.stopped e); stopped = λ x. h.stopped e }
+emptied_holds c d q e some h = record {
+  most = omega (arith, ap in_hand e, h.most);
+  all =
+      inl (h.stopped e);
+  stopped = λ x. h.stopped e;
+}
 
 in_hand_none : (x : Doing) → (x ≡ takes) ⊎ (x ≡ empties) → in_hand x ≡ 0
 in_hand_none x (inl e) = ap in_hand e
@@ -213,9 +244,13 @@ left_holds : (c d : ℕ) (q : Seat) → (q.doing ≡ takes) ⊎ (q.doing ≡ emp
     Holds c d (record q { doing = left })
 left_holds c d q e h =
     let same : in_seat (record q { doing = left }) ≡ in_seat q =
-        omega (arith, in_hand_none q.doing e) in
-    record { most = omega (arith, same, h.most); all =
-        ⊎_elim (λ x. inl x) (λ x. inr (omega (arith, same, x))) h.all; stopped = λ x. cc }
+    omega (arith, in_hand_none q.doing e) in
+    record {
+      most = omega (arith, same, h.most);
+      all =
+          ⊎_elim (λ x. inl x) (λ x. inr (omega (arith, same, x))) h.all;
+      stopped = λ x. cc;
+    }
 
 -- a worker that has neither left nor leaves now
 working_closes : (k i : ℕ) (q q' : Seat) → (q.doing ≡ left → ⊥) → (q'.doing ≡ left → ⊥) →
@@ -232,8 +267,12 @@ answered_closes k i q stop e h = working_closes k i q (with_reply q stop) (λ x.
 -- Moves of the dealer and the collector.
 
 dealt_holds : (c d : ℕ) (q : Seat) → Holds c d q → Holds c (suc d) (with_block q)
-dealt_holds c d q h = record { most = omega (arith, h.most); all =
-    ⊎_elim (λ x. inl x) (λ x. inr (omega (arith, x))) h.all; stopped = h.stopped }
+dealt_holds c d q h = record {
+  most = omega (arith, h.most);
+  all =
+      ⊎_elim (λ x. inl x) (λ x. inr (omega (arith, x))) h.all;
+  stopped = h.stopped;
+}
 
 stop_behind : (rs : List Reply) → next_reply rs ≡ Some texts → has_stop (drop 1 rs) ≡ has_stop rs
 stop_behind [] e = cc
@@ -245,9 +284,13 @@ wrote_holds : (c d : ℕ) (q : Seat) → next_reply q.replies ≡ Some texts →
 wrote_holds c d q e h =
     let less = one_less q.replies (some_reply texts q.replies e) in
     let behind = stop_behind q.replies e in
-    record { most = omega (arith, less, h.most); all =
-        ⊎_elim (λ x. inl (behind ∙ x)) (λ x. inr (omega (arith, less, x))) h.all; stopped =
-        λ x. behind ∙ h.stopped x }
+    record {
+      most = omega (arith, less, h.most);
+      all =
+          ⊎_elim (λ x. inl (behind ∙ x)) (λ x. inr (omega (arith, less, x))) h.all;
+      stopped =
+          λ x. behind ∙ h.stopped x;
+    }
 
 share_next : (workers n t : ℕ) → t ≡ turn_at workers n →
     share workers (suc n) t ≡ suc (share workers n t)
@@ -263,10 +306,10 @@ deals_all : (p : Run) (s : State) → s.deal_turn ≡ turn_at p.workers s.dealt 
     (changed s.deal_turn (with_block (s.seats s.deal_turn)) s.seats)
 deals_all p s turn all =
     changed_each (λ i seat. i < p.workers → Holds (share p.workers s.written i)
-        (share p.workers (suc s.dealt) i) seat) s.deal_turn (with_block (s.seats s.deal_turn))
-        s.seats
+    (share p.workers (suc s.dealt) i) seat) s.deal_turn (with_block (s.seats s.deal_turn))
+    s.seats
     (λ h. rw (share_next p.workers s.dealt s.deal_turn turn)
-        (dealt_holds _ _ (s.seats s.deal_turn) (all s.deal_turn h)))
+    (dealt_holds _ _ (s.seats s.deal_turn) (all s.deal_turn h)))
     (λ i other h. rw (share_same p.workers s.dealt s.deal_turn i turn other) (all i h))
 
 writes_all : (p : Run) (s : State) → s.turn ≡ turn_at p.workers s.written →
@@ -274,9 +317,9 @@ writes_all : (p : Run) (s : State) → s.turn ≡ turn_at p.workers s.written �
     HoldAll p (suc s.written) s.dealt (changed s.turn (with_reply_taken (s.seats s.turn)) s.seats)
 writes_all p s turn next all =
     changed_each (λ i seat. i < p.workers → Holds (share p.workers (suc s.written) i)
-        (share p.workers s.dealt i) seat) s.turn (with_reply_taken (s.seats s.turn)) s.seats
+    (share p.workers s.dealt i) seat) s.turn (with_reply_taken (s.seats s.turn)) s.seats
     (λ h. rw (share_next p.workers s.written s.turn turn)
-        (wrote_holds _ _ (s.seats s.turn) next (all s.turn h)))
+    (wrote_holds _ _ (s.seats s.turn) next (all s.turn h)))
     (λ i other h. rw (share_same p.workers s.written s.turn i turn other) (all i h))
 
 no_more_deals : (d : Dealer) (item : Bool) → d ≡ deals → DealsNoMore d item → ⊥
@@ -327,8 +370,14 @@ start_share workers i = start_holds
 caller_moves : (p : Run) (s : State) (c : Caller) (item mark : Bool) → IsKept p s →
     Phase p (record s { caller = c; start_item = item; start_mark = mark }) c →
     IsKept p (record s { caller = c; start_item = item; start_mark = mark })
-caller_moves p s c item mark kept ph = record { deal_turn = kept.deal_turn; turn =
-    kept.turn; closed = kept.closed; marks = kept.marks; phase = ph }
+caller_moves p s c item mark kept ph = record {
+  deal_turn = kept.deal_turn;
+  turn =
+      kept.turn;
+  closed = kept.closed;
+  marks = kept.marks;
+  phase = ph;
+}
 
 takes_from : (p : Run) (s : State) (c : Caller) (j : ℕ) (q : Seat) → IsKept p s →
     (Closes (closed_lanes s.dealer) j (s.seats j) → Closes (closed_lanes s.dealer) j q) →
@@ -348,14 +397,19 @@ pub keeps : (p : Run) (s : State) (m : Move) → IsRun p → IsKept p s → May 
     IsKept p (after p s m)
 keeps p s put_start run kept may =
     let e : s ≡ start = subst (Phase p s) may.0 kept.phase in
-    caller_moves p s closes_start true s.start_mark kept
-    (record { all = may.1; starts = λ x. refl }, subst (λ (x : State). HoldAll p x.written x.dealt
-        x.seats) (sym e) (λ i h. start_share p.workers i))
+    caller_moves p s closes_start true s.start_mark kept (
+      record { all = may.1; starts = λ x. refl },
+      subst (λ (x : State). HoldAll p x.written x.dealt
+          x.seats) (sym e) (λ i h. start_share p.workers i),
+    )
 keeps p s give_up run kept may =
     let e : s ≡ start = subst (Phase p s) may.0 kept.phase in
-    caller_moves p s awaits_dealer s.start_item true kept
-    (inl (ap (λ (x : State). x.dealer) e, ap (λ (x : State). x.start_item) e), subst
-        (λ (x : State). AreQuiet p x.seats) (sym e) (λ i h. inr (refl, refl)), refl)
+    caller_moves p s awaits_dealer s.start_item true kept (
+      inl (ap (λ (x : State). x.dealer) e, ap (λ (x : State). x.start_item) e),
+      subst
+          (λ (x : State). AreQuiet p x.seats) (sym e) (λ i h. inr (refl, refl)),
+      refl,
+    )
 keeps p s close_start run kept may =
     let ph : Phase p s closes_start = subst (Phase p s) may kept.phase in
     caller_moves p s writes s.start_item true kept (ph.0, ph.1, refl)
@@ -374,24 +428,24 @@ keeps p s write run kept may =
 keeps p s fail_to_write run kept may =
     let ph : Phase p s writes = subst (Phase p s) may.0 kept.phase in
     takes_from p s drains s.turn (with_reply_taken (s.seats s.turn)) kept
-        (taken_closes _ _ (s.seats s.turn)) (ph.0, ph.2)
+    (taken_closes _ _ (s.seats s.turn)) (ph.0, ph.2)
 keeps p s hear_stop run kept may =
     let ph : Phase p s writes = subst (Phase p s) may.0 kept.phase in
     takes_from p s drains s.turn (with_reply_taken (s.seats s.turn)) kept
-        (taken_closes _ _ (s.seats s.turn)) (ph.0, ph.2)
+    (taken_closes _ _ (s.seats s.turn)) (ph.0, ph.2)
 keeps p s find_mark run kept may =
     let ph : Phase p s writes = subst (Phase p s) may.0 kept.phase in
     takes_from p s drains s.turn (record (s.seats s.turn) { marked = true }) kept
-        (marked_closes _ _ (s.seats s.turn) may.2.closed) (ph.0, ph.2)
+    (marked_closes _ _ (s.seats s.turn) may.2.closed) (ph.0, ph.2)
 keeps p s (drop_reply j) run kept may =
     takes_from p s s.caller j (with_reply_taken (s.seats j)) kept (taken_closes _ _ (s.seats j))
     (subst (Phase p (after p s (drop_reply j))) (sym may.0) (let ph : Phase p s drains =
-        subst (Phase p s) may.0 kept.phase in ph))
+    subst (Phase p s) may.0 kept.phase in ph))
 keeps p s (drop_mark j) run kept may =
     takes_from p s s.caller j (record (s.seats j) { marked = true }) kept
-        (marked_closes _ _ (s.seats j) may.3.closed)
+    (marked_closes _ _ (s.seats j) may.3.closed)
     (subst (Phase p (after p s (drop_mark j))) (sym may.0) (let ph : Phase p s drains =
-        subst (Phase p s) may.0 kept.phase in ph))
+    subst (Phase p s) may.0 kept.phase in ph))
 keeps p s end_drain run kept may =
     let ph : Phase p s drains = subst (Phase p s) may.0 kept.phase in
     let first : 0 < p.workers = omega (arith, run.some_workers) in
@@ -401,19 +455,19 @@ keeps p s end_drain run kept may =
 keeps p s join_dealer run kept may =
     let ph : Phase p s awaits_dealer = subst (Phase p s) may.0 kept.phase in
     caller_moves p s (awaits_workers 0) s.start_item s.start_mark kept
-        (may.1, ph.1, omega arith, λ i h. absurd (omega arith))
+    (may.1, ph.1, omega arith, λ i h. absurd (omega arith))
 keeps p s (join_worker k) run kept may =
     let ph : Phase p s (awaits_workers k) = subst (Phase p s) may.0 kept.phase in
     caller_moves p s (awaits_workers (suc k)) s.start_item s.start_mark kept
-        (ph.0, ph.1, may.1, below_next (λ i. (s.seats i).doing ≡ left) k ph.3 may.2)
+    (ph.0, ph.1, may.1, below_next (λ i. (s.seats i).doing ≡ left) k ph.3 may.2)
 keeps p s take_start run kept may =
     dealer_moves p s deals kept (λ e. (let a = ap (λ (x : State). x.start_item) e in let b =
-        may.1 in cc)) (λ e. cc) (omega arith) (omega (arith, ap closed_lanes may.0))
+    may.1 in cc)) (λ e. cc) (omega arith) (omega (arith, ap closed_lanes may.0))
     (⊎_elim (λ h. (let a = h.1 in let b = may.1 in cc)) (λ h. (let a = h.1 in let b = may.0 in cc)))
-        (λ e. (let b = may.0 in cc))
+    (λ e. (let b = may.0 in cc))
 keeps p s find_no_start run kept may =
     dealer_moves p s (closes 0) kept (λ e. (let a = ap (λ (x : State). x.start_mark) e in let b =
-        may.2 in cc)) (λ e. cc) (omega arith) (omega (arith, ap closed_lanes may.0))
+    may.2 in cc)) (λ e. cc) (omega arith) (omega (arith, ap closed_lanes may.0))
     (λ h. inr (0, refl)) (λ e. (let b = may.0 in cc))
 keeps p s deal run kept may =
     record {
@@ -426,30 +480,30 @@ keeps p s deal run kept may =
     }
 keeps p s end_reading run kept may =
     dealer_moves p s passes_start kept (λ e. (let a = ap (λ (x : State). x.dealer) e in let b =
-        may.0 in cc)) (λ e. cc) (omega arith) (omega (arith, ap closed_lanes may.0))
+    may.0 in cc)) (λ e. cc) (omega arith) (omega (arith, ap closed_lanes may.0))
     (λ h. absurd (no_more_deals s.dealer s.start_item may.0 h)) (λ e. (let b = may.0 in cc))
 keeps p s pass_start run kept may =
     dealer_moves p s (closes 0) kept (λ e. (let a = ap (λ (x : State). x.dealer) e in let b =
-        may.0 in cc)) (λ e. cc) (omega arith) (omega (arith, ap closed_lanes may.0))
+    may.0 in cc)) (λ e. cc) (omega arith) (omega (arith, ap closed_lanes may.0))
     (λ h. inr (0, refl)) (λ e. (let b = may.0 in cc))
 keeps p s (close_blocks k) run kept may =
     dealer_moves p s (closes (suc k)) kept (λ e. (let a = ap (λ (x : State). x.dealer) e in let b =
-        may.0 in cc)) (λ e. cc) (omega (arith, may.1)) (omega (arith, ap closed_lanes may.0))
+    may.0 in cc)) (λ e. cc) (omega (arith, may.1)) (omega (arith, ap closed_lanes may.0))
     (λ h. inr (suc k, refl))
-        (λ e. absurd (omega (arith, may.1, ap closed_lanes may.0, ap closed_lanes e)))
+    (λ e. absurd (omega (arith, may.1, ap closed_lanes may.0, ap closed_lanes e)))
 keeps p s (take_block j r) run kept may =
     let q = s.seats j in
     worker_moves p s j (with_block_taken q (answers r)) kept (omega (arith, may.0, run.few_threads))
-        (λ e. absurd (omega (arith, may.2, ap (λ (x : State). (x.seats j).blocks) e)))
+    (λ e. absurd (omega (arith, may.2, ap (λ (x : State). (x.seats j).blocks) e)))
     (working_closes _ j q (with_block_taken q (answers r)) (λ e. (let b = may.1 in cc)) (λ e. cc)
-        refl)
+    refl)
     (λ c d. taken_holds c d q r may.1 may.2)
     (⊎_elim (λ e. (let b = may.1 in cc)) (λ h. absurd (omega (arith, h.1, may.2))))
     (λ e. (let b = may.1 in cc))
 keeps p s (put_reply j r) run kept may =
     let q = s.seats j in
     worker_moves p s j (with_reply q r) kept (omega (arith, may.0, run.few_threads)) (λ e. (let a =
-        ap (λ (x : State). (x.seats j).doing) e in let b = may.1 in cc))
+    ap (λ (x : State). (x.seats j).doing) e in let b = may.1 in cc))
     (answered_closes _ j q r may.1)
     (λ c d. answered_holds c d q r may.1)
     (⊎_elim (λ e. (let b = may.1 in cc)) (λ h. (let a = h.0 in let b = may.1 in cc)))
@@ -457,7 +511,7 @@ keeps p s (put_reply j r) run kept may =
 keeps p s (empty_block j) run kept may =
     let q = s.seats j in
     worker_moves p s j (with_block_taken q empties) kept (omega (arith, may.0, run.few_threads))
-        (λ e. absurd (omega (arith, may.2, ap (λ (x : State). (x.seats j).blocks) e)))
+    (λ e. absurd (omega (arith, may.2, ap (λ (x : State). (x.seats j).blocks) e)))
     (working_closes _ j q (with_block_taken q empties) (λ e. (let b = may.1 in cc)) (λ e. cc) refl)
     (λ c d. emptied_holds c d q may.1 may.2)
     (⊎_elim (λ e. (let b = may.1 in cc)) (λ h. absurd (omega (arith, h.1, may.2))))
@@ -465,7 +519,7 @@ keeps p s (empty_block j) run kept may =
 keeps p s (leave j) run kept may =
     let q = s.seats j in
     worker_moves p s j (record q { doing = left }) kept (omega (arith, may.0, run.few_threads))
-        (λ e. absurd (omega (arith, may.3, ap (λ (x : State). closed_lanes x.dealer) e)))
+    (λ e. absurd (omega (arith, may.3, ap (λ (x : State). closed_lanes x.dealer) e)))
     (λ h. record { over = λ e. may.3; told = λ e. refl })
     (λ c d. left_holds c d q may.1)
     (λ h. inl refl)

@@ -51,30 +51,41 @@ leaves_less p s close_start run may = omega (arith, ap (caller_left p) may)
 leaves_less p s write run may =
     let q = s.seats s.turn in
     let less = seat_less p s.turn (with_reply_taken q) s.seats may.1
-        (omega (arith, reply_less q (some_reply texts q.replies may.2))) in
+    (omega (arith, reply_less q (some_reply texts q.replies may.2))) in
     omega (arith, less, ap (caller_left p) may.0)
 leaves_less p s fail_to_write run may =
     let q = s.seats s.turn in
     let less = seat_less p s.turn (with_reply_taken q) s.seats may.1
-        (omega (arith, reply_less q (some_reply texts q.replies may.2))) in
+    (omega (arith, reply_less q (some_reply texts q.replies may.2))) in
     omega (arith, less, ap (caller_left p) may.0)
 leaves_less p s hear_stop run may =
     let q = s.seats s.turn in
     let less = seat_less p s.turn (with_reply_taken q) s.seats may.1
-        (omega (arith, reply_less q (some_reply stop q.replies may.2))) in
+    (omega (arith, reply_less q (some_reply stop q.replies may.2))) in
     omega (arith, less, ap (caller_left p) may.0)
 leaves_less p s find_mark run may =
     let q = s.seats s.turn in
     let same : seat_left (record q { marked = true }) ≤ seat_left q =
-        omega (arith, no_mark_more q.marked) in
-    omega (arith, left_changed p.workers s.turn (record q { marked = true }) s.seats may.1, same, ap
-        (caller_left p) may.0)
+    omega (arith, no_mark_more q.marked) in
+    omega (
+      arith,
+      left_changed p.workers s.turn (record q { marked = true }) s.seats may.1,
+      same,
+      ap
+          (caller_left p) may.0,
+    )
 leaves_less p s (drop_reply j) run may =
-    omega (arith, seat_less p j (with_reply_taken (s.seats j)) s.seats may.1
-    (omega (arith, reply_less (s.seats j) may.2)))
+    omega (
+      arith,
+      seat_less p j (with_reply_taken (s.seats j)) s.seats may.1
+          (omega (arith, reply_less (s.seats j) may.2)),
+    )
 leaves_less p s (drop_mark j) run may =
-    omega (arith, seat_less p j (record (s.seats j) { marked = true }) s.seats may.1
-    (omega (arith, mark_less (s.seats j) may.2)))
+    omega (
+      arith,
+      seat_less p j (record (s.seats j) { marked = true }) s.seats may.1
+          (omega (arith, mark_less (s.seats j) may.2)),
+    )
 leaves_less p s end_drain run may = omega (arith, ap (caller_left p) may.0)
 leaves_less p s join_dealer run may = omega (arith, ap (caller_left p) may.0)
 leaves_less p s (join_worker k) run may = omega (arith, ap (caller_left p) may.0)
@@ -88,19 +99,37 @@ leaves_less p s end_reading run may = omega (arith, ap (dealer_left p) may.0)
 leaves_less p s pass_start run may = omega (arith, ap (dealer_left p) may.0)
 leaves_less p s (close_blocks k) run may = omega (arith, ap (dealer_left p) may.0)
 leaves_less p s (take_block j r) run may =
-    omega (arith, seat_less p j (with_block_taken (s.seats j) (answers r)) s.seats
-    (omega (arith, run.few_threads)) (omega (arith, block_less (s.seats j) (answers r) may.2
-    (omega (arith, ap doing_left may.1)))))
+    omega (
+      arith,
+      seat_less p j (with_block_taken (s.seats j) (answers r)) s.seats
+          (omega (arith, run.few_threads)) (omega (
+            arith,
+            block_less (s.seats j) (answers r) may.2
+                (omega (arith, ap doing_left may.1)),
+          )),
+    )
 leaves_less p s (put_reply j r) run may =
-    omega (arith, seat_less p j (with_reply (s.seats j) r) s.seats (omega (arith, run.few_threads))
-    (omega (arith, answered (s.seats j) r may.1)))
+    omega (
+      arith,
+      seat_less p j (with_reply (s.seats j) r) s.seats (omega (arith, run.few_threads))
+          (omega (arith, answered (s.seats j) r may.1)),
+    )
 leaves_less p s (empty_block j) run may =
-    omega (arith, seat_less p j (with_block_taken (s.seats j) empties) s.seats
-    (omega (arith, run.few_threads)) (omega (arith, block_less (s.seats j) empties may.2
-    (omega (arith, ap doing_left may.1)))))
+    omega (
+      arith,
+      seat_less p j (with_block_taken (s.seats j) empties) s.seats
+          (omega (arith, run.few_threads)) (omega (
+            arith,
+            block_less (s.seats j) empties may.2
+                (omega (arith, ap doing_left may.1)),
+          )),
+    )
 leaves_less p s (leave j) run may =
-    omega (arith, seat_less p j (record (s.seats j) { doing = left }) s.seats
-    (omega (arith, run.few_threads)) (omega (arith, leaving (s.seats j) may.1)))
+    omega (
+      arith,
+      seat_less p j (record (s.seats j) { doing = left }) s.seats
+          (omega (arith, run.few_threads)) (omega (arith, leaving (s.seats j) may.1)),
+    )
 
 -- Runs.
 

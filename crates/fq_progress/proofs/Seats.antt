@@ -41,19 +41,19 @@ left_by : (n j : ℕ) (q : Seat) (seats : ℕ → Seat) → j < suc n →
     ((j < n) → seats_left n (changed j q seats) + seat_left (seats j) ≡ seats_left n
     seats + seat_left q)
     → (b : Bool) → (n == j) ≡ b → seats_left (suc n) (changed j q seats) + seat_left (seats j)
-        ≡ seats_left (suc n) seats + seat_left q
+    ≡ seats_left (suc n) seats + seat_left q
 left_by n j q seats h below true e =
     let same : n ≡ j = eqb-true n j e in
     let rest = left_outside n j q seats (omega (arith, same)) in
     let here : seat_left (changed j q seats n) ≡ seat_left q =
-        ap (λ k. seat_left (changed j q seats k)) same ∙ ap seat_left (changed_here j q seats) in
+    ap (λ k. seat_left (changed j q seats k)) same ∙ ap seat_left (changed_here j q seats) in
     let there : seat_left (seats n) ≡ seat_left (seats j) = ap (λ k. seat_left (seats k)) same in
     omega (arith, rest, here, there)
 left_by n j q seats h below false e =
     let other : n ≡ j → ⊥ = eqb-false n j e in
     let rest = below (omega (arith, other)) in
     let here : seat_left (changed j q seats n) ≡ seat_left (seats n) =
-        ap seat_left (changed_away j q seats n other) in
+    ap seat_left (changed_away j q seats n other) in
     omega (arith, rest, here)
 
 -- a seat that is changed changes the sum

@@ -13,11 +13,11 @@ two = record { workers = 2; started = 2; depth = 1; blocks = 3 }
 abbrev ordinary : List Move
 ordinary =
     put_start ∷ close_start ∷ take_start ∷ deal ∷ take_block 0
-        texts ∷ deal ∷ deal ∷ end_reading ∷ pass_start ∷ close_blocks 0 ∷ close_blocks 1
+    texts ∷ deal ∷ deal ∷ end_reading ∷ pass_start ∷ close_blocks 0 ∷ close_blocks 1
     ∷ put_reply 0 texts ∷ write ∷ take_block 1 texts ∷ put_reply 1 texts ∷ write ∷ take_block 0
-        texts ∷ put_reply 0 texts ∷ write
+    texts ∷ put_reply 0 texts ∷ write
     ∷ leave 0 ∷ leave 1 ∷ find_mark ∷ drop_mark 0 ∷ end_drain ∷ join_dealer ∷ join_worker
-        0 ∷ join_worker 1 ∷ []
+    0 ∷ join_worker 1 ∷ []
 
 all_written : (after_all two start ordinary).written ≡ 3
 all_written = refl
@@ -31,8 +31,12 @@ of_two P first second (suc zero) h = second
 of_two P first second (suc (suc j)) h = absurd (omega arith)
 
 has_ended : HasEnded two (after_all two start ordinary)
-has_ended = record { caller = refl; dealer = refl; workers =
-    of_two (λ j. ((after_all two start ordinary).seats j).doing ≡ left) refl refl }
+has_ended = record {
+  caller = refl;
+  dealer = refl;
+  workers =
+      of_two (λ j. ((after_all two start ordinary).seats j).doing ≡ left) refl refl;
+}
 
 -- it has 27 moves, of at most 28
 moves : length ordinary ≡ 27
@@ -46,17 +50,21 @@ most = refl
 abbrev stopped : List Move
 stopped =
     put_start ∷ close_start ∷ take_start ∷ deal ∷ take_block 0 stop ∷ deal ∷ deal ∷ put_reply 0
-        stop ∷ hear_stop ∷ empty_block 0
+    stop ∷ hear_stop ∷ empty_block 0
     ∷ end_reading ∷ pass_start ∷ close_blocks 0 ∷ close_blocks 1 ∷ leave 0 ∷ take_block 1
-        texts ∷ put_reply 1 texts ∷ drop_mark 0 ∷ drop_reply 1
+    texts ∷ put_reply 1 texts ∷ drop_mark 0 ∷ drop_reply 1
     ∷ leave 1 ∷ drop_mark 1 ∷ end_drain ∷ join_dealer ∷ join_worker 0 ∷ join_worker 1 ∷ []
 
 stopped_moves : AreMoves two start stopped
 stopped_moves = search rules
 
 stopped_ended : HasEnded two (after_all two start stopped)
-stopped_ended = record { caller = refl; dealer = refl; workers =
-    of_two (λ j. ((after_all two start stopped).seats j).doing ≡ left) refl refl }
+stopped_ended = record {
+  caller = refl;
+  dealer = refl;
+  workers =
+      of_two (λ j. ((after_all two start stopped).seats j).doing ≡ left) refl refl;
+}
 
 none_written : (after_all two start stopped).written ≡ 0
 none_written = refl
@@ -64,17 +72,21 @@ none_written = refl
 abbrev failed : List Move
 failed =
     put_start ∷ close_start ∷ take_start ∷ deal ∷ take_block 0 texts ∷ deal ∷ deal ∷ put_reply 0
-        texts ∷ fail_to_write ∷ take_block 0 texts ∷ put_reply 0 texts ∷ drop_reply 0
+    texts ∷ fail_to_write ∷ take_block 0 texts ∷ put_reply 0 texts ∷ drop_reply 0
     ∷ end_reading ∷ pass_start ∷ close_blocks 0 ∷ close_blocks 1 ∷ leave 0 ∷ take_block 1
-        texts ∷ put_reply 1 texts ∷ drop_mark 0 ∷ drop_reply 1
+    texts ∷ put_reply 1 texts ∷ drop_mark 0 ∷ drop_reply 1
     ∷ leave 1 ∷ drop_mark 1 ∷ end_drain ∷ join_dealer ∷ join_worker 0 ∷ join_worker 1 ∷ []
 
 failed_moves : AreMoves two start failed
 failed_moves = search rules
 
 failed_ended : HasEnded two (after_all two start failed)
-failed_ended = record { caller = refl; dealer = refl; workers =
-    of_two (λ j. ((after_all two start failed).seats j).doing ≡ left) refl refl }
+failed_ended = record {
+  caller = refl;
+  dealer = refl;
+  workers =
+      of_two (λ j. ((after_all two start failed).seats j).doing ≡ left) refl refl;
+}
 
 -- The second worker's thread is refused.
 
@@ -89,9 +101,13 @@ given_up_moves : AreMoves refused start given_up
 given_up_moves = search rules
 
 given_up_ended : HasEnded refused (after_all refused start given_up)
-given_up_ended = record { caller = refl; dealer = refl; workers = λ j h. of_two (λ i. i < 1 →
-    ((after_all refused start given_up).seats i).doing ≡ left) (λ k. refl)
-    (λ k. absurd (omega arith)) j (omega arith) h }
+given_up_ended = record {
+  caller = refl;
+  dealer = refl;
+  workers = λ j h. of_two (λ i. i < 1 →
+      ((after_all refused start given_up).seats i).doing ≡ left) (λ k. refl)
+      (λ k. absurd (omega arith)) j (omega arith) h;
+}
 
 -- Broken rules: no thread has a move, and the run hasn't ended.
 
@@ -179,7 +195,7 @@ abbrev full_beside : List Move
 full_beside =
     put_start ∷ close_start ∷ take_start ∷ deal ∷ take_block 0 stop ∷ put_reply 0 stop ∷ hear_stop
     ∷ deal ∷ take_block 1 texts ∷ put_reply 1 texts ∷ deal ∷ empty_block 0 ∷ deal ∷ take_block 1
-        texts ∷ deal ∷ empty_block 0
+    texts ∷ deal ∷ empty_block 0
     ∷ deal ∷ deal ∷ empty_block 0 ∷ []
 
 full_beside_moves : AreMoves eight start full_beside

@@ -69,15 +69,23 @@ no_stop_more (texts ∷ rs) e = no_stop_more rs e
 no_stop_more (stop ∷ rs) e = cc
 
 calm_taken : (q : Seat) → IsCalm q → IsCalm (with_reply_taken q)
-calm_taken q c = record { doing = c.doing; replies = no_stop_behind q.replies c.replies; empty =
-    c.empty }
+calm_taken q c = record {
+  doing = c.doing;
+  replies = no_stop_behind q.replies c.replies;
+  empty =
+      c.empty;
+}
 
 calm_marked : (q : Seat) → IsCalm q → IsCalm (record q { marked = true })
 calm_marked q c = record { doing = c.doing; replies = c.replies; empty = c.empty }
 
 calm_answered : (q : Seat) (r : Reply) → q.doing ≡ answers r → IsCalm q → IsCalm (with_reply q r)
-calm_answered q texts e c = record { doing = refl; replies =
-    no_stop_more q.replies c.replies; empty = λ x. cc }
+calm_answered q texts e c = record {
+  doing = refl;
+  replies =
+      no_stop_more q.replies c.replies;
+  empty = λ x. cc;
+}
 calm_answered q stop e c = absurd (let a = ap is_calm e in let b = c.doing in cc)
 
 not_next : (rs : List Reply) → has_stop rs ≡ false → next_reply rs ≡ Some stop → ⊥
@@ -101,18 +109,23 @@ written_at_mark p s run kept sound may =
     let q = s.seats s.turn in
     let c = sound.calm s.turn may.1 in
     let nothing : in_seat q ≡ 0 =
-        omega (arith, ap length may.2.empty, ap in_hand may.2.closed, c.empty may.2.closed) in
+    omega (arith, ap length may.2.empty, ap in_hand may.2.closed, c.empty may.2.closed) in
     let few : share p.workers s.dealt s.turn ≤ share p.workers s.written s.turn =
-        ⊎_elim (λ stopped. absurd (let a = c.replies in cc)) (λ all. omega (arith, all, nothing))
-        (ph.1 s.turn may.1).all in
+    ⊎_elim (λ stopped. absurd (let a = c.replies in cc)) (λ all. omega (arith, all, nothing))
+    (ph.1 s.turn may.1).all in
     all_written p s run kept ph.1 few ∙ all_dealt p s.dealer s.dealt s.turn sound.dealt
-        ((kept.marks s.turn may.1).over may.2.closed)
+    ((kept.marks s.turn may.1).over may.2.closed)
 
 -- the same caller and dealer, and one seat changed
 sound_at : (p : Run) (s : State) (j : ℕ) (q : Seat) → IsSound p s →
     (IsCalm (s.seats j) → IsCalm q) → IsSound p (record s { seats = changed j q s.seats })
-sound_at p s j q sound here = record { calm = calm_all p j q s.seats sound.calm here; begun =
-    sound.begun; dealt = sound.dealt; written = sound.written }
+sound_at p s j q sound here = record {
+  calm = calm_all p j q s.seats sound.calm here;
+  begun =
+      sound.begun;
+  dealt = sound.dealt;
+  written = sound.written;
+}
 
 -- the start was put, where the caller isn't at its beginning
 item_put : (s : State) (c : Caller) → s.caller ≡ c → (c ≡ begins → ⊥) →
@@ -126,8 +139,12 @@ stays_sound p s put_start run all kept sound may safe =
     record { calm = sound.calm; begun = inr refl; dealt = sound.dealt; written = tt }
 stays_sound p s give_up run all kept sound may safe = absurd (omega (arith, may.1, all))
 stays_sound p s close_start run all kept sound may safe =
-    record { calm = sound.calm; begun = inr (item_put s closes_start may (λ e. cc) sound.begun);
-    dealt = sound.dealt; written = tt }
+    record {
+      calm = sound.calm;
+      begun = inr (item_put s closes_start may (λ e. cc) sound.begun);
+      dealt = sound.dealt;
+      written = tt;
+    }
 stays_sound p s write run all kept sound may safe = record {
   calm = calm_all p s.turn (with_reply_taken (s.seats s.turn)) s.seats sound.calm
       (calm_taken (s.seats s.turn));
@@ -150,45 +167,87 @@ stays_sound p s (drop_reply j) run all kept sound may safe =
 stays_sound p s (drop_mark j) run all kept sound may safe =
     sound_at p s j (record (s.seats j) { marked = true }) sound (calm_marked (s.seats j))
 stays_sound p s end_drain run all kept sound may safe =
-    record { calm = sound.calm; begun = inr (item_put s drains may.0 (λ e. cc) sound.begun); dealt =
-    sound.dealt; written = subst (λ c. Written p c s.written) may.0 sound.written }
+    record {
+      calm = sound.calm;
+      begun = inr (item_put s drains may.0 (λ e. cc) sound.begun);
+      dealt =
+          sound.dealt;
+      written = subst (λ c. Written p c s.written) may.0 sound.written;
+    }
 stays_sound p s join_dealer run all kept sound may safe =
-    record { calm = sound.calm; begun = inr (item_put s awaits_dealer may.0 (λ e. cc) sound.begun);
-    dealt = sound.dealt; written = subst (λ c. Written p c s.written) may.0 sound.written }
+    record {
+      calm = sound.calm;
+      begun = inr (item_put s awaits_dealer may.0 (λ e. cc) sound.begun);
+      dealt = sound.dealt;
+      written = subst (λ c. Written p c s.written) may.0 sound.written;
+    }
 stays_sound p s (join_worker k) run all kept sound may safe =
-    record { calm = sound.calm; begun =
-    inr (item_put s (awaits_workers k) may.0 (λ e. cc) sound.begun); dealt = sound.dealt; written =
-    subst (λ c. Written p c s.written) may.0 sound.written }
+    record {
+      calm = sound.calm;
+      begun =
+          inr (item_put s (awaits_workers k) may.0 (λ e. cc) sound.begun);
+      dealt = sound.dealt;
+      written =
+          subst (λ c. Written p c s.written) may.0 sound.written;
+    }
 stays_sound p s take_start run all kept sound may safe =
-    record { calm = sound.calm; begun = sound.begun; dealt =
-    subst (λ d. Dealt p d s.dealt) may.0 sound.dealt; written = sound.written }
+    record {
+      calm = sound.calm;
+      begun = sound.begun;
+      dealt =
+          subst (λ d. Dealt p d s.dealt) may.0 sound.dealt;
+      written = sound.written;
+    }
 stays_sound p s find_no_start run all kept sound may safe = absurd (⊎_elim
     (λ e. (let same : s ≡ start = subst (Phase p s) e kept.phase in let a =
-        ap (λ (x : State). x.start_mark) same in let b = may.2 in cc))
+    ap (λ (x : State). x.start_mark) same in let b = may.2 in cc))
     (λ e. (let b = may.1 in cc))
     sound.begun)
 stays_sound p s deal run all kept sound may safe = record {
   calm = calm_all p s.deal_turn (with_block (s.seats s.deal_turn)) s.seats sound.calm
-      (λ c. record { doing = c.doing; replies = c.replies; empty =
-      λ e. absurd (let h = (kept.marks s.deal_turn may.2).over e in
-      omega (arith, h, ap closed_lanes may.0)) });
+      (λ c. record {
+        doing = c.doing;
+        replies = c.replies;
+        empty =
+            λ e. absurd (let h = (kept.marks s.deal_turn may.2).over e in
+            omega (arith, h, ap closed_lanes may.0));
+      });
   begun = sound.begun;
   dealt = subst (λ d. Dealt p d (suc s.dealt)) (sym may.0) (omega (arith, may.1));
   written = sound.written;
 }
 stays_sound p s end_reading run all kept sound may safe =
-    record { calm = sound.calm; begun = sound.begun; dealt =
-    (let h : s.dealt ≤ p.blocks = subst (λ d. Dealt p d s.dealt) may.0 sound.dealt in
-    omega (arith, h, may.1)); written = sound.written }
+    record {
+      calm = sound.calm;
+      begun = sound.begun;
+      dealt =
+          (let h : s.dealt ≤ p.blocks = subst (λ d. Dealt p d s.dealt) may.0 sound.dealt in
+          omega (arith, h, may.1));
+      written = sound.written;
+    }
 stays_sound p s pass_start run all kept sound may safe =
-    record { calm = sound.calm; begun = sound.begun; dealt =
-    subst (λ d. Dealt p d s.dealt) may.0 sound.dealt; written = sound.written }
+    record {
+      calm = sound.calm;
+      begun = sound.begun;
+      dealt =
+          subst (λ d. Dealt p d s.dealt) may.0 sound.dealt;
+      written = sound.written;
+    }
 stays_sound p s (close_blocks k) run all kept sound may safe =
-    record { calm = sound.calm; begun = sound.begun; dealt =
-    subst (λ d. Dealt p d s.dealt) may.0 sound.dealt; written = sound.written }
+    record {
+      calm = sound.calm;
+      begun = sound.begun;
+      dealt =
+          subst (λ d. Dealt p d s.dealt) may.0 sound.dealt;
+      written = sound.written;
+    }
 stays_sound p s (take_block j texts) run all kept sound may safe =
-    sound_at p s j (with_block_taken (s.seats j) (answers texts)) sound (λ c. record { doing =
-    refl; replies = c.replies; empty = λ e. cc })
+    sound_at p s j (with_block_taken (s.seats j) (answers texts)) sound (λ c. record {
+      doing =
+          refl;
+      replies = c.replies;
+      empty = λ e. cc;
+    })
 stays_sound p s (take_block j stop) run all kept sound may safe = absurd cc
 stays_sound p s (put_reply j r) run all kept sound may safe =
     sound_at p s j (with_reply (s.seats j) r) sound (calm_answered (s.seats j) r may.1)
@@ -196,8 +255,12 @@ stays_sound p s (empty_block j) run all kept sound may safe =
     sound_at p s j (with_block_taken (s.seats j) empties) sound (λ c. absurd (let a =
     ap is_calm may.1 in let b = c.doing in cc))
 stays_sound p s (leave j) run all kept sound may safe =
-    sound_at p s j (record (s.seats j) { doing = left }) sound (λ c. record { doing =
-    refl; replies = c.replies; empty = λ e. may.2 })
+    sound_at p s j (record (s.seats j) { doing = left }) sound (λ c. record {
+      doing =
+          refl;
+      replies = c.replies;
+      empty = λ e. may.2;
+    })
 
 -- The end of a run.
 

@@ -71,15 +71,28 @@ known_ending a Spawn text e is = absurd (cc is)
 known_ending a Lane text e is = absurd (cc is)
 known_ending a Gate text e is = absurd (cc is)
 known_ending a Memory text e is = absurd (cc is)
-known_ending a (Write out) text e is = record { plain = refl; whole =
-    sym (ap line (known a.explain (outcome_words (Write out)) (ending_reason a (Write out)) text e
-    is)) }
-known_ending a (Read side) text e is = record { plain = refl; whole =
-    sym (ap line (known a.explain (outcome_words (Read side)) (ending_reason a (Read side)) text e
-    is)) }
-known_ending a (Endless side) text e is = record { plain = refl; whole =
-    sym (ap line (known a.explain (outcome_words (Endless side)) (ending_reason a (Endless side))
-    text e is)) }
-known_ending a (Input fault) text e is = record { plain = refl; whole =
-    sym (ap line (known a.explain (outcome_words (Input fault)) (ending_reason a (Input fault)) text
-    e is)) }
+known_ending a (Write out) text e is = record {
+  plain = refl;
+  whole =
+      sym (ap line (known a.explain (outcome_words (Write out)) (ending_reason a (Write out)) text e
+      is));
+}
+known_ending a (Read side) text e is = record {
+  plain = refl;
+  whole =
+      sym (ap line (known a.explain (outcome_words (Read side)) (ending_reason a (Read side)) text e
+      is));
+}
+known_ending a (Endless side) text e is = record {
+  plain = refl;
+  whole =
+      sym (ap line (known a.explain (outcome_words (Endless side)) (ending_reason a (Endless side))
+      text e is));
+}
+known_ending a (Input fault) text e is = record {
+  plain = refl;
+  whole =
+      sym (ap line (known a.explain (outcome_words (Input fault)) (ending_reason a (Input fault))
+      text
+      e is));
+}

@@ -48,7 +48,7 @@ rows_no_float : (number : ℕ) (rows : List ℕ) →
 rows_no_float number [] = refl
 rows_no_float number (reads ∷ rows) =
     row_no_float (reads == 0) (list (count number ∷ count reads ∷ [])) (rows_from (suc number) rows)
-        refl (rows_no_float (suc number) rows)
+    refl (rows_no_float (suc number) rows)
 
 numbers_no_float : (ns : List ℕ) → items_have_float (items_of (map count ns)) ≡ false
 numbers_no_float [] = refl
@@ -57,23 +57,41 @@ numbers_no_float (n ∷ ns) = numbers_no_float ns
 positions_no_float : (columns : Columns) → has_float (positions_value columns) ≡ false
 unfolding positions_value
 positions_no_float columns =
-    rw (numbers_no_float columns.a, numbers_no_float columns.bases, numbers_no_float columns.c,
-    numbers_no_float columns.g, numbers_no_float columns.n, numbers_no_float columns.q30_bases,
-    numbers_no_float columns.score_sum, numbers_no_float columns.t) refl
+    rw (
+      numbers_no_float columns.a,
+      numbers_no_float columns.bases,
+      numbers_no_float columns.c,
+      numbers_no_float columns.g,
+      numbers_no_float columns.n,
+      numbers_no_float columns.q30_bases,
+      numbers_no_float columns.score_sum,
+      numbers_no_float columns.t,
+    ) refl
 
 reads_no_float : (t : ReadsTally) (columns : Columns) → has_float (reads_value t columns) ≡ false
 unfolding reads_value
 reads_no_float t columns =
-    rw (rows_no_float 0 t.gc_percents, rows_no_float 0 t.lengths, rows_no_float 0 t.mean_scores,
-    length_no_float t.reads t.longest, length_no_float t.reads t.shortest, positions_no_float
-    columns) refl
+    rw (
+      rows_no_float 0 t.gc_percents,
+      rows_no_float 0 t.lengths,
+      rows_no_float 0 t.mean_scores,
+      length_no_float t.reads t.longest,
+      length_no_float t.reads t.shortest,
+      positions_no_float
+          columns,
+    ) refl
 
 side_no_float : (t : SideTally) → has_float (side_value t) ≡ false
 unfolding side_value removed_value
 side_no_float t =
-    rw (reads_no_float t.before t.positions.before, reads_no_float t.paired t.positions.paired,
-    rows_no_float 0 t.removed_behind, rows_no_float 0 t.removed_front, reads_no_float t.unpaired
-    t.positions.unpaired) refl
+    rw (
+      reads_no_float t.before t.positions.before,
+      reads_no_float t.paired t.positions.paired,
+      rows_no_float 0 t.removed_behind,
+      rows_no_float 0 t.removed_front,
+      reads_no_float t.unpaired
+          t.positions.unpaired,
+    ) refl
 
 sides_no_float : (t : Tally) → has_float (sides_value t) ≡ false
 unfolding sides_value
@@ -93,5 +111,12 @@ steps_no_float number (word ∷ words) t = rw (step_no_float number word t)
 pub report_no_float : (f : Facts) → has_float (report_value f) ≡ false
 unfolding report_value
 report_no_float f =
-    rw (text_no_float f.fault, inputs_no_float f.inputs, outputs_no_float f, pairs_no_float
-    f.counts, sides_no_float f.tally, steps_no_float 0 f.steps f.tally) refl
+    rw (
+      text_no_float f.fault,
+      inputs_no_float f.inputs,
+      outputs_no_float f,
+      pairs_no_float
+          f.counts,
+      sides_no_float f.tally,
+      steps_no_float 0 f.steps f.tally,
+    ) refl

@@ -10,7 +10,7 @@ use Rattle.fq_report.specs.Reports.{step_value, steps_from}
 pub next_step : (steps : List Value) (step : Value) (number : ℕ) (words : List (List ℕ)) (t : Tally)
     → number < length words → view step ≡ step_value number (get_or words number []) t
     → map view (steps ++ step ∷ []) ++ steps_from (number + 1) (drop (number + 1) words) t
-        ≡ map view steps ++ steps_from number (drop number words) t
+    ≡ map view steps ++ steps_from number (drop number words) t
 next_step steps step number words t within is =
     rw (add-one, drop-cons words number [], map-append view steps (step ∷ []), is, append_assoc)
     refl
@@ -18,7 +18,7 @@ next_step steps step number words t within is =
 -- after the last
 pub all_steps : (steps : List Value) (number : ℕ) (words : List (List ℕ)) (t : Tally)
     → length words ≤ number → map view steps ++ steps_from number (drop number words) t ≡ steps_from
-        0 words t → map view steps ≡ steps_from 0 words t
+    0 words t → map view steps ≡ steps_from 0 words t
 all_steps steps number words t behind so_far = sym (append-nil (map view steps))
     ∙ ap (λ (rest : List (List ℕ)). map view steps ++ steps_from number rest t)
     (sym (drop_all number words behind)) ∙ so_far

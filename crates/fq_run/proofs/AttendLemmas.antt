@@ -39,105 +39,119 @@ started_some (Ok e) s start some ended same =
     subst (λ (l : History (Unit {0})). 0 < length l.items) (sym (same ∙ ended)) some
 started_some (Err e) s start some ended same = absurd same
 
-module _ {S : Type 0} (state : S → SourceState) (c : Choices) (s : SourceState) (fresh : IsFresh c s) (before mid after : OutletStates)
+module _ {S : Type 0} (state : S → SourceState) (c : Choices) (s : SourceState)
+    (fresh : IsFresh c s) (before mid after : OutletStates)
     (started : Result (History (Unit {0})) NotEnded) (starter start : History (Unit {0}))
-        (dealt : Dealt S) (worked : List Worked) (k : Collector) (failed : Option Out)
-        (ending : Conclusion S) (to : List (History Numbered)) (w : ℕ)
+    (dealt : Dealt S) (worked : List Worked) (k : Collector) (failed : Option Out)
+    (ending : Conclusion S) (to : List (History Numbered)) (w : ℕ)
     (ends : Concludes started dealt worked k failed ending)
-        (h : HasDealt c s (state dealt.source) start dealt.start to dealt.closings.items dealt.why)
+    (h : HasDealt c s (state dealt.source) start dealt.start to dealt.closings.items dealt.why)
     (some : 0 < length starter.items) (closed : IfOk started (λ e. e ≡ with_mark starter))
-        (matched : Each3 Confirmed dealt.closings.items worked k.replies.items →
-        AllZip (Matched c.tallied c.steps) dealt.closings.items k.replies.items)
+    (matched : Each3 Confirmed dealt.closings.items worked k.replies.items →
+    AllZip (Matched c.tallied c.steps) dealt.closings.items k.replies.items)
     (lanes : length to ≡ w) (pos : 0 < w) (collects : Collects c.tallied w before mid k)
-        (over : k.phase ≡ Writing → ⊥) (flushed : FlushesAfter (failed_in k.phase) mid after failed)
-        where
-  -- the run
-  abbrev the_run : Run
-  the_run = run_from state s before after ending
+    (over : k.phase ≡ Writing → ⊥) (flushed : FlushesAfter (failed_in k.phase) mid after failed)
+  where
+    -- the run
+    abbrev the_run : Run
+    the_run = run_from state s before after ending
 
-  -- the sides of the source that is handed back
-  abbrev forward_of : S → FeedState
-  forward_of x = feed_in (state x).forward
+    -- the sides of the source that is handed back
+    abbrev forward_of : S → FeedState
+    forward_of x = feed_in (state x).forward
 
-  abbrev reverse_of : S → FeedState
-  reverse_of x = feed_in (state x).reverse
+    abbrev reverse_of : S → FeedState
+    reverse_of x = feed_in (state x).reverse
 
-  -- the run, with the total and the feeds named otherwise
-  abbrev run_as : Total → Option FeedState → Option FeedState → Run
-  run_as total x y = record { form = s.form; forward = feed_in s.forward; reverse =
-      feed_in s.reverse; outlets = before; forward_left = x; reverse_left = y; outlets_left =
-      after; outcome = ending.outcome; counts = total.counts; tally = total.tally }
+    -- the run, with the total and the feeds named otherwise
+    abbrev run_as : Total → Option FeedState → Option FeedState → Run
+    run_as total x y = record {
+      form = s.form;
+      forward = feed_in s.forward;
+      reverse =
+          feed_in s.reverse;
+      outlets = before;
+      forward_left = x;
+      reverse_left = y;
+      outlets_left =
+          after;
+      outcome = ending.outcome;
+      counts = total.counts;
+      tally = total.tally;
+    }
 
-  run_is : run_as k.total (Some (forward_of dealt.source)) (Some (reverse_of dealt.source))
-      ≡ the_run
-  run_is =
-      ap (λ n. run_as n (Some (forward_of dealt.source)) (Some (reverse_of dealt.source)))
-          (sym ends.total)
-      ∙ ap (λ x. run_as ending.total x (Some (reverse_of dealt.source)))
-          (sym (ap (option_map forward_of) ends.source))
-      ∙ ap (λ y. run_as ending.total (option_map forward_of ending.source) y)
-          (sym (ap (option_map reverse_of) ends.source))
+    run_is : run_as k.total (Some (forward_of dealt.source)) (Some (reverse_of dealt.source))
+        ≡ the_run
+    run_is =
+        ap (λ n. run_as n (Some (forward_of dealt.source)) (Some (reverse_of dealt.source)))
+        (sym ends.total)
+        ∙ ap (λ x. run_as ending.total x (Some (reverse_of dealt.source)))
+        (sym (ap (option_map forward_of) ends.source))
+        ∙ ap (λ y. run_as ending.total (option_map forward_of ending.source) y)
+        (sym (ap (option_map reverse_of) ends.source))
 
-  module _ (none : ending.unended ≡ None) where
-    read_on : dealt.why ≡ None → ⊥
-    read_on = h.started (started_some started starter dealt.start some closed (ends.start none))
+    module _ (none : ending.unended ≡ None) where
+      read_on : dealt.why ≡ None → ⊥
+      read_on = h.started (started_some started starter dealt.start some closed (ends.start none))
 
-    runs : Runs s.form c (feed_in s.forward) (feed_in s.reverse) (forward_of dealt.source)
-        (reverse_of dealt.source) before mid k.total k.halt dealt.why (failed_in k.phase)
-    runs = runs_threaded s.form c _ _ s _ to dealt.closings.items dealt.why w before mid k
-        fresh.fresh h.deals.sent h.deals.out h.deals.ends (matched (ends.workers none)) read_on
-        lanes pos collects over
+      runs : Runs s.form c (feed_in s.forward) (feed_in s.reverse) (forward_of dealt.source)
+          (reverse_of dealt.source) before mid k.total k.halt dealt.why (failed_in k.phase)
+      runs = runs_threaded s.form c _ _ s _ to dealt.closings.items dealt.why w before mid k
+          fresh.fresh h.deals.sent h.deals.out h.deals.ends (matched (ends.workers none)) read_on
+          lanes pos collects over
 
-    rank_is : 3 ≤ rank ending.outcome
-    rank_is = run_rank s.form c _ _ _ _ before mid k.total k.halt dealt.why _ runs after failed
-        ending.outcome flushed (ends.outcome_is none) fresh.forward fresh.reverse
+      rank_is : 3 ≤ rank ending.outcome
+      rank_is = run_rank s.form c _ _ _ _ before mid k.total k.halt dealt.why _ runs after failed
+          ending.outcome flushed (ends.outcome_is none) fresh.forward fresh.reverse
 
-    every_is : EveryEnding c the_run
-    every_is =
-        let P : Run → Type 0 = λ r. EveryEnding c r in
-        subst P run_is (run_every s.form c _ _ _ _ before mid k.total k.halt dealt.why _ runs after
-            failed ending.outcome flushed (ends.outcome_is none) fresh.forward fresh.reverse)
+      every_is : EveryEnding c the_run
+      every_is =
+          let P : Run → Type 0 = λ r. EveryEnding c r in
+          subst P run_is (run_every s.form c _ _ _ _ before mid k.total k.halt dealt.why _ runs
+          after
+          failed ending.outcome flushed (ends.outcome_is none) fresh.forward fresh.reverse)
 
-    whole_is : IsTrue (ends_whole ending.outcome) → AreTold the_run → IsTrimmed c the_run
-    whole_is ends_so told =
-        let P : Run → Type 0 = λ r. IsTrimmed c r in
-        subst P run_is (run_whole s.form c _ _ _ _ before mid k.total k.halt dealt.why _ runs after
-            failed ending.outcome flushed (ends.outcome_is none) fresh.forward fresh.reverse
-        ends_so (record { forward = told.forward; reverse = told.reverse }))
+      whole_is : IsTrue (ends_whole ending.outcome) → AreTold the_run → IsTrimmed c the_run
+      whole_is ends_so told =
+          let P : Run → Type 0 = λ r. IsTrimmed c r in
+          subst P run_is (run_whole s.form c _ _ _ _ before mid k.total k.halt dealt.why _ runs
+          after
+          failed ending.outcome flushed (ends.outcome_is none) fresh.forward fresh.reverse
+          ends_so (record { forward = told.forward; reverse = told.reverse }))
 
-  forward_there : option_map forward_of ending.source ≡ None → ⊥
-  forward_there gone = let e = sym (ap (option_map forward_of) ends.source) ∙ gone in cc
+    forward_there : option_map forward_of ending.source ≡ None → ⊥
+    forward_there gone = let e = sym (ap (option_map forward_of) ends.source) ∙ gone in cc
 
-  reverse_there : option_map reverse_of ending.source ≡ None → ⊥
-  reverse_there gone = let e = sym (ap (option_map reverse_of) ends.source) ∙ gone in cc
+    reverse_there : option_map reverse_of ending.source ≡ None → ⊥
+    reverse_there gone = let e = sym (ap (option_map reverse_of) ends.source) ∙ gone in cc
 
-  by_end : (u : Option NotEnded) → ending.unended ≡ u → IsThreaded c the_run u ending.refused
-  by_end None none = record {
-    lane = λ at. absurd (let r = rank_is none in let e = ap rank at in omega arith);
-    no_other = λ there. absurd cc;
-    memory = ends.memory;
-    forward = λ gone. absurd (forward_there gone);
-    reverse = λ gone. absurd (reverse_there gone);
-    together = of_one forward_of reverse_of ending.source;
-    untouched = λ at. absurd (let r = rank_is none in let e = ap rank at in omega arith);
-    whole = whole_is none;
-    every = λ sound. every_is none;
-  }
-  by_end (Some unended) there =
-      let P : Option NotEnded → Type 0 = λ u. IfSome u (λ x. ending.outcome ≡ outcome.Lane) in
-      let lane : ending.outcome ≡ outcome.Lane = subst P there ends.lane in
-      record {
-        lane = λ at. refl;
-        no_other = λ u. lane;
-        memory = ends.memory;
-        forward = λ gone. absurd (forward_there gone);
-        reverse = λ gone. absurd (reverse_there gone);
-        together = of_one forward_of reverse_of ending.source;
-        untouched = λ at. absurd (let e = sym lane ∙ at in cc);
-        whole = λ ends_so told. absurd (let e : IsTrue false =
-            subst IsTrue (ap ends_whole lane) ends_so in cc);
-        every = λ sound. absurd (sound lane);
-      }
+    by_end : (u : Option NotEnded) → ending.unended ≡ u → IsThreaded c the_run u ending.refused
+    by_end None none = record {
+      lane = λ at. absurd (let r = rank_is none in let e = ap rank at in omega arith);
+      no_other = λ there. absurd cc;
+      memory = ends.memory;
+      forward = λ gone. absurd (forward_there gone);
+      reverse = λ gone. absurd (reverse_there gone);
+      together = of_one forward_of reverse_of ending.source;
+      untouched = λ at. absurd (let r = rank_is none in let e = ap rank at in omega arith);
+      whole = whole_is none;
+      every = λ sound. every_is none;
+    }
+    by_end (Some unended) there =
+        let P : Option NotEnded → Type 0 = λ u. IfSome u (λ x. ending.outcome ≡ outcome.Lane) in
+        let lane : ending.outcome ≡ outcome.Lane = subst P there ends.lane in
+        record {
+          lane = λ at. refl;
+          no_other = λ u. lane;
+          memory = ends.memory;
+          forward = λ gone. absurd (forward_there gone);
+          reverse = λ gone. absurd (reverse_there gone);
+          together = of_one forward_of reverse_of ending.source;
+          untouched = λ at. absurd (let e = sym lane ∙ at in cc);
+          whole = λ ends_so told. absurd (let e : IsTrue false =
+              subst IsTrue (ap ends_whole lane) ends_so in cc);
+          every = λ sound. absurd (sound lane);
+        }
 
-  pub threaded : IsThreaded c the_run ending.unended ending.refused
-  threaded = by_end ending.unended refl
+    pub threaded : IsThreaded c the_run ending.unended ending.refused
+    threaded = by_end ending.unended refl

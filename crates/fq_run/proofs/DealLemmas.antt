@@ -69,7 +69,7 @@ module _ {T : Type 0} where
       let l : suc n - 1 ≡ n = omega arith in
       ap (gather_turns (suc (length xs))) (dealt_more n (suc n) x xs)
       ∙ ap (λ ys. x ∷ ys) (ap (λ k. gather_turns (length xs)
-          (dealt_to n (suc n) xs ++ every k (suc n) xs ∷ [])) l ∙ gathered xs n)
+      (dealt_to n (suc n) xs ++ every k (suc n) xs ∷ [])) l ∙ gathered xs n)
 
   pub gather-deal : (xs : List T) (w : ℕ) → 0 < w → gather (deal xs w) ≡ xs
   gather-deal xs zero pos = absurd (omega arith)
@@ -97,7 +97,7 @@ module _ {T : Type 0} where
   every_there (y ∷ xs) x zero w lt e =
       let pos : 0 < w = omega arith in
       ap (λ ys. y ∷ ys) (every_there xs x (w - 1) w (omega arith) (λ h. e
-          (last_after (length xs) w pos h)))
+      (last_after (length xs) w pos h)))
   every_there (y ∷ xs) x (suc k) w lt e = every_there xs x k w (omega arith)
       (λ h. e (inner_after (length xs) w k lt h))
 
@@ -120,8 +120,11 @@ module _ {T : Type 0} where
       let tail : every (w - 1) w xs ++ p.0 ≡ every (w - 1) w ys = cc in
       let pre' : (j : ℕ) → j < w → IsPrefix (every j w xs) (every j w ys) = λ j lt.
       (let P : ℕ → Type 0 = λ k. IsPrefix (every k w xs) (every k w ys) in
-      elim (cases_lt (suc j) w) [ inl more ↦ pre (suc j) more | inr last ↦ subst P (let e : w - 1
-          ≡ j = omega arith in e) (p.0, tail) ]) in
+      elim (cases_lt (suc j) w) [
+        | inl more ↦ pre (suc j) more
+        | inr last ↦ subst P (let e : w - 1
+            ≡ j = omega arith in e) (p.0, tail)
+      ]) in
       let end' : every (length xs % w) w ys ≡ every (length xs % w) w xs =
       (let P : ℕ → Type 0 = λ k. every k w (y ∷ ys) ≡ every k w (x ∷ xs) in
       let Q : ℕ → Type 0 = λ k. every k w ys ≡ every k w xs in
@@ -151,8 +154,11 @@ module _ {T : Type 0} where
       let tail : every (w - 1) w xs ++ p.0 ≡ every (w - 1) w ys = cc in
       let pre' : (j : ℕ) → j < w → IsPrefix (every j w xs) (every j w ys) = λ j lt.
       (let P : ℕ → Type 0 = λ k. IsPrefix (every k w xs) (every k w ys) in
-      elim (cases_lt (suc j) w) [ inl more ↦ pre (suc j) more | inr last ↦ subst P (let e : w - 1
-          ≡ j = omega arith in e) (p.0, tail) ]) in
+      elim (cases_lt (suc j) w) [
+        | inl more ↦ pre (suc j) more
+        | inr last ↦ subst P (let e : w - 1
+            ≡ j = omega arith in e) (p.0, tail)
+      ]) in
       let rest = prefix_from_turns xs ys w pos pre' in
       (rest.0, ap (λ z. z ∷ (xs ++ rest.0)) head ∙ ap (λ zs. y ∷ zs) rest.1)
 
@@ -167,5 +173,5 @@ pub turn_more : {T : Type 0} (xs : List T) (x : T) (turn next w : ℕ) → turn 
     next ≡ suc turn % w → next ≡ length (xs ++ x ∷ []) % w
 turn_more xs x turn next w here is =
     let grown : length (xs ++ x ∷ []) ≡ suc (length xs) =
-        omega (arith, length-append xs (x ∷ [])) in
+    omega (arith, length-append xs (x ∷ [])) in
     is ∙ ap (λ n. suc n % w) here ∙ sym (suc-mod (length xs) w) ∙ ap (λ n. n % w) (sym grown)

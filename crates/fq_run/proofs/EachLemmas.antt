@@ -32,9 +32,9 @@ module _ {A B C : Type 0} (R : A → B → C → Type 0) where
       Each3 R xs' ys' zs'
   each3_pushed xs xs' ys ys' zs zs' x y z h r e f k =
       subst (λ us. Each3 R us ys' zs') (sym e)
-          (subst (λ us. Each3 R (xs ++ x ∷ []) us zs') (sym f)
-          (subst (λ us. Each3 R (xs ++ x ∷ []) (ys ++ y ∷ []) us) (sym k)
-          (each3_push xs ys zs x y z h r)))
+      (subst (λ us. Each3 R (xs ++ x ∷ []) us zs') (sym f)
+      (subst (λ us. Each3 R (xs ++ x ∷ []) (ys ++ y ∷ []) us) (sym k)
+      (each3_push xs ys zs x y z h r)))
 
 module _ {A B C : Type 0} (R Q : A → B → C → Type 0) where
   -- what holds of nothing
@@ -53,7 +53,7 @@ pub fresh_is : {T : Type 0} (l : History T) (n : Name) → l.name ≡ n → l.it
 fresh_is {T = T} l n p q r =
     ap (λ m. let k : History T = record { name = m; items = l.items; marked = l.marked } in k) p
     ∙ ap (λ xs. let k : History T = record { name = n; items = xs; marked = l.marked } in k) q
-        ∙ ap (λ b. let k : History T = record { name = n; items = []; marked = b } in k) r
+    ∙ ap (λ b. let k : History T = record { name = n; items = []; marked = b } in k) r
 
 pub weaker : {A E : Type 0} (P Q : A → Type 0) → ((x : A) → P x → Q x) → (r : Result A E) →
     IfOk r P → IfOk r Q

@@ -60,9 +60,11 @@ module _ (tallied : Bool) (steps : List Step) where
       let q : done d ∷ (map done ds ++ p.0) ≡ done x ∷ rs = p.1 in
       let same : d ≡ x = cc in
       let tail : map done ds ++ p.0 ≡ rs = cc in
-      let rest = answers_first ds bs rs cause (p.0, tail) h.1 in
-      (rest.0, ap (λ y. y ∷ (ds ++ rest.0)) (same ∙ h.0)
-          ∙ ap (λ ys. done_of tallied steps b ∷ ys) rest.1)
+      let rest = answers_first ds bs rs cause (p.0, tail) h.1 in (
+        rest.0,
+        ap (λ y. y ∷ (ds ++ rest.0)) (same ∙ h.0)
+            ∙ ap (λ ys. done_of tallied steps b ∷ ys) rest.1,
+      )
   answers_first (d ∷ ds) (b ∷ bs) (Stop why ∷ rs) cause p h =
       let q : done d ∷ (map done ds ++ p.0) ≡ Stop why ∷ rs = p.1 in cc
 
@@ -79,7 +81,7 @@ module _ (tallied : Bool) (steps : List Step) where
       let same : x ≡ d = cc in
       let tail : rs ≡ map done ds = cc in
       ap (λ y. y ∷ answered bs) (sym h.0 ∙ same)
-          ∙ ap (λ ys. d ∷ ys) (answers_all ds bs rs cause tail h.1)
+      ∙ ap (λ ys. d ∷ ys) (answers_all ds bs rs cause tail h.1)
   answers_all (d ∷ ds) (b ∷ bs) (Stop why ∷ rs) cause e h = cc
 
   matched_one : (t : History Numbered) (c : Result (History Numbered) NotEnded)
@@ -93,7 +95,7 @@ module _ (tallied : Bool) (steps : List Step) where
       (fs : List (History Reply)) → AllZip Closed ts cs → AllZip (Matched tallied steps) cs fs →
       (j : ℕ) (d : History Numbered) (e : History Reply) → j < length fs →
       (cause : Option Cause) × Answers tallied steps (get_or ts j d).items (get_or fs j e).items
-          cause
+      cause
   matched_at (t ∷ ts) (c ∷ cs) (f ∷ fs) h m zero d e lt = matched_one t c f h.0 m.0
   matched_at (t ∷ ts) (c ∷ cs) (f ∷ fs) h m (suc j) d e lt =
       matched_at ts cs fs h.1 m.1 j d e (omega arith)
@@ -101,9 +103,10 @@ module _ (tallied : Bool) (steps : List Step) where
   matched_at ts [] (f ∷ fs) h m j d e lt = absurd m
   matched_at [] (c ∷ cs) (f ∷ fs) h m j d e lt = absurd h
 
-  module _ (w : ℕ) (bs : List Numbered) (ts : List (History Numbered)) (cs : List (Result (History Numbered) NotEnded)) (fs : List (History Reply))
+  module _ (w : ℕ) (bs : List Numbered) (ts : List (History Numbered))
+      (cs : List (Result (History Numbered) NotEnded)) (fs : List (History Reply))
       (dealt : IsDealt w bs ts) (closed : AllZip Closed ts cs)
-          (matched : AllZip (Matched tallied steps) cs fs) (some : 0 < w) where
+      (matched : AllZip (Matched tallied steps) cs fs) (some : 0 < w) where
     no_history : {T : Type 0} → History T
     no_history = record { name = (null_ptr, (null_ptr, (0, (0, 0)))); items = []; marked = false }
 
@@ -112,9 +115,11 @@ module _ (tallied : Bool) (steps : List Step) where
         (cause : Option Cause) × Answers tallied steps (every j w bs) (get_or fs j no_history).items
         cause
     replied lanes j lt =
-        let m = matched_at ts cs fs closed matched j no_history no_history (omega (arith, lanes)) in
-        (m.0, subst (λ xs. Answers tallied steps xs (get_or fs j no_history).items m.0)
-            (dealt.items j no_history lt) m.1)
+        let m = matched_at ts cs fs closed matched j no_history no_history (omega (arith, lanes)) in (
+          m.0,
+          subst (λ xs. Answers tallied steps xs (get_or fs j no_history).items m.0)
+              (dealt.items j no_history lt) m.1,
+        )
 
     first_at : (ds : List Done) → length fs ≡ w → (j : ℕ) → j < w →
         IsPrefix (every j w (map done ds)) (get_or fs j no_history).items →
@@ -122,10 +127,10 @@ module _ (tallied : Bool) (steps : List Step) where
     first_at ds lanes j lt begins =
         let r = replied lanes j lt in
         let p : IsPrefix (map done (every j w ds)) (get_or fs j no_history).items =
-            subst (λ rs. IsPrefix rs (get_or fs j no_history).items) (every-map done j w ds)
-            begins in
+        subst (λ rs. IsPrefix rs (get_or fs j no_history).items) (every-map done j w ds)
+        begins in
         subst (λ ys. IsPrefix (every j w ds) ys) (sym (every-map (done_of tallied steps) j w bs))
-            (answers_first (every j w ds) (every j w bs) (get_or fs j no_history).items r.0 p r.1)
+        (answers_first (every j w ds) (every j w bs) (get_or fs j no_history).items r.0 p r.1)
 
     -- what was written in turn are the replies to the first blocks
     pub begun_first : (ds : List Done) → IsBegun w (map done ds) fs → IsPrefix ds (answered bs)
@@ -138,12 +143,12 @@ module _ (tallied : Bool) (steps : List Step) where
         let turn = mod_below (length ds) w some in
         let r = replied k.lanes (length ds % w) turn in
         let ends : (get_or fs (length ds % w) no_history).items
-            ≡ every (length ds % w) w (map done ds) =
+        ≡ every (length ds % w) w (map done ds) =
         (let P : ℕ → Type 0 = λ i. (get_or fs (i % w) no_history).items ≡ every (i % w) w
-            (map done ds) in subst P (length-map ds done) (k.ends no_history)) in
+        (map done ds) in subst P (length-map ds done) (k.ends no_history)) in
         whole_from_turns ds (answered bs) w some
-            (λ j lt. first_at ds k.lanes j lt (k.begins j no_history lt))
+        (λ j lt. first_at ds k.lanes j lt (k.begins j no_history lt))
         (every-map (done_of tallied steps) (length ds % w) w bs
         ∙ answers_all (every (length ds % w) w ds) (every (length ds % w) w bs)
-            (get_or fs (length ds % w) no_history).items r.0 (ends
-            ∙ every-map done (length ds % w) w ds) r.1)
+        (get_or fs (length ds % w) no_history).items r.0 (ends
+        ∙ every-map done (length ds % w) w ds) r.1)

@@ -46,7 +46,7 @@ of_one f h (Some x) = (λ gone. absurd cc, λ gone. absurd cc)
 pub unread : {S : Type 0} (state : S → SourceState) (s : SourceState) (o : Option S) →
     IfSome o (λ x. state x ≡ s) →
     IfSome (option_map (λ x. feed_in (state x).forward) o) (λ left. left ≡ feed_in s.forward)
-        × IfSome (option_map (λ x. feed_in (state x).reverse) o) (λ left. left ≡ feed_in s.reverse)
+    × IfSome (option_map (λ x. feed_in (state x).reverse) o) (λ left. left ≡ feed_in s.reverse)
 unread state s None same = (tt, tt)
 unread state s (Some x) same = (ap (λ z. feed_in z.forward) same, ap (λ z. feed_in z.reverse) same)
 
@@ -60,7 +60,7 @@ pub idle : {S : Type 0} (state : S → SourceState) (c : Choices) (s old new : S
     (closings : List (Result (History Numbered) NotEnded)) (why : Option ReadingEnd) (x : S)
     (o : Option S) →
     old ≡ s → state x ≡ new → HasDealt c old new start start_left to closings why →
-        IfSome o (λ y. (y ≡ x) × (why ≡ None)) → IfSome o (λ y. state y ≡ s)
+    IfSome o (λ y. (y ≡ x) × (why ≡ None)) → IfSome o (λ y. state y ≡ s)
 idle state c s old new start start_left to closings why x None same is h unread = tt
 idle state c s old new start start_left to closings why x (Some y) same is h unread =
     let none = no_items start_left.items (λ some. h.started some unread.1) in
@@ -80,8 +80,16 @@ back_as_it_was : (old : FeedState) (left : Option FeedState) → IfSome left (λ
 back_as_it_was old None same = tt
 back_as_it_was old (Some new) same =
     let P : FeedState → Type 0 = λ x. IsHandedBack old (Some x) in
-    subst P (sym same) (0, omega arith, record { told = refl; bytes =
-        λ tells. sym (gave_nothing (length old.to_come) old.to_come); failures = omega arith })
+    subst P (sym same) (
+      0,
+      omega arith,
+      record {
+        told = refl;
+        bytes =
+            λ tells. sym (gave_nothing (length old.to_come) old.to_come);
+        failures = omega arith;
+      },
+    )
 
 -- if a thread was refused, the outcome is no other
 apart : (run : Run) → run.outcome ≡ outcome.Spawn → (o : Outcome) → (rank o ≡ 1 → ⊥) →
@@ -91,7 +99,9 @@ apart run e o other is = other (sym (ap rank is) ∙ ap rank e)
 partial : (run : Run) → run.outcome ≡ outcome.Spawn → IsTrue (ends_whole run.outcome) → ⊥
 partial run is whole = let e : IsTrue false = subst IsTrue (ap ends_whole is) whole in absurd cc
 
-module _ (c : Choices) (run : Run) (e : run.outcome ≡ outcome.Spawn) (none : run.counts ≡ no_counts) (empty : run.tally ≡ tally_if c.tallied [] []) (same : IsUntouched run) (both : (run.forward_left ≡ None) ↔ (run.reverse_left ≡ None)) where
+module _ (c : Choices) (run : Run) (e : run.outcome ≡ outcome.Spawn) (none : run.counts ≡ no_counts)
+    (empty : run.tally ≡ tally_if c.tallied [] []) (same : IsUntouched run)
+    (both : (run.forward_left ≡ None) ↔ (run.reverse_left ≡ None)) where
   nothing : (out : Out) → text_of out (texts_of c.steps []) ++ [] ≡ []
   nothing out = let q = no_text c.steps out in rw q refl
 
@@ -99,9 +109,9 @@ module _ (c : Choices) (run : Run) (e : run.outcome ≡ outcome.Spawn) (none : r
       (λ out. text_of out (texts_of c.steps []) ++ []) None
   unwritten =
       let P : OutletStates → Type 0 = λ o. OutletsTook run.outlets o
-          (λ out. text_of out (texts_of c.steps []) ++ []) None in
+      (λ out. text_of out (texts_of c.steps []) ++ []) None in
       subst P (sym same.outlets) (all_took_same run.outlets run.outlets (λ out. []) _ None
-          (λ out. sym (nothing out)) (all_took_none run.outlets))
+      (λ out. sym (nothing out)) (all_took_none run.outlets))
 
   every : EveryEnding c run
   every = record {
@@ -149,9 +159,20 @@ pub refused : (form : Form) (c : Choices) (f r f' r' : FeedState) (before after 
     (counted : Total) (failed : Option Out) (lacked : Option MemoryRefused) → IsSome lacked →
     f' ≡ f → r' ≡ r → counted ≡ no_total false → FlushesAfter None before after failed →
     f.failures ≡ 0 → r.failures ≡ 0 →
-    IsThreaded c (record { form = form; forward = f; reverse = r; outlets = before; forward_left =
-        Some f'; reverse_left = Some r'; outlets_left = after; outcome = outcome.Memory; counts =
-        counted.counts; tally = counted.tally }) None lacked
+    IsThreaded c (record {
+      form = form;
+      forward = f;
+      reverse = r;
+      outlets = before;
+      forward_left =
+          Some f';
+      reverse_left = Some r';
+      outlets_left = after;
+      outcome = outcome.Memory;
+      counts =
+          counted.counts;
+      tally = counted.tally;
+    }) None lacked
 refused form c f r f' r' before after counted failed lacked some same also none flushed sound
     sound' =
     let p = runs_refused form c f r f' r' before counted same also none in
@@ -179,23 +200,45 @@ left_as feed fs side same (Some x) a is = ap Some (sym (same x)) ∙ sym (ap (op
 pub closed : {S F G : Type 0} (state : S → SourceState) (fs : F → FeedState) (gs : G →
     FeedState) (forward_of : S → F) (reverse_of : S → G) →
     ((x : S) → fs (forward_of x) ≡ feed_in (state x).forward) →
-        ((x : S) → gs (reverse_of x) ≡ feed_in (state x).reverse) →
+    ((x : S) → gs (reverse_of x) ≡ feed_in (state x).reverse) →
     (form : Form) (c : Choices) (s : SourceState) (f : F) (r : G) →
-        s ≡ fresh_source form c (fs f) (gs r) → (before after : OutletStates) (e : Conclusion S) →
+    s ≡ fresh_source form c (fs f) (gs r) → (before after : OutletStates) (e : Conclusion S) →
     (o : Outcome) (counted : Total) (f' : Option F) (r' : Option G) (u : Option NotEnded)
-        (lacked : Option MemoryRefused) → o ≡ e.outcome → counted ≡ e.total → u ≡ e.unended →
-        lacked ≡ e.refused → f' ≡ option_map forward_of e.source →
-        r' ≡ option_map reverse_of e.source →
+    (lacked : Option MemoryRefused) → o ≡ e.outcome → counted ≡ e.total → u ≡ e.unended →
+    lacked ≡ e.refused → f' ≡ option_map forward_of e.source →
+    r' ≡ option_map reverse_of e.source →
     IsThreaded c (run_from state s before after e) e.unended e.refused →
-    IsThreaded c (record { form = form; forward = fs f; reverse = gs r; outlets =
-        before; forward_left = option_map fs f'; reverse_left = option_map gs r'; outlets_left =
-        after; outcome = o; counts = counted.counts; tally = counted.tally }) u lacked
+    IsThreaded c (record {
+      form = form;
+      forward = fs f;
+      reverse = gs r;
+      outlets =
+          before;
+      forward_left = option_map fs f';
+      reverse_left = option_map gs r';
+      outlets_left =
+          after;
+      outcome = o;
+      counts = counted.counts;
+      tally = counted.tally;
+    }) u lacked
 closed state fs gs forward_of reverse_of first second form c s f r is before after e o counted f' r'
     u lacked outcome_is counts_are ended lacked_is left right t =
     let R : SourceState → Outcome → Total → Option FeedState → Option FeedState → Run =
-    λ z x n p q. record { form = z.form; forward = feed_in z.forward; reverse =
-        feed_in z.reverse; outlets = before; forward_left = p; reverse_left = q; outlets_left =
-        after; outcome = x; counts = n.counts; tally = n.tally } in
+    λ z x n p q. record {
+      form = z.form;
+      forward = feed_in z.forward;
+      reverse =
+          feed_in z.reverse;
+      outlets = before;
+      forward_left = p;
+      reverse_left = q;
+      outlets_left =
+          after;
+      outcome = x;
+      counts = n.counts;
+      tally = n.tally;
+    } in
     let p = option_map (λ x. feed_in (state x).forward) e.source in
     let q = option_map (λ x. feed_in (state x).reverse) e.source in
     let fresh = fresh_source form c (fs f) (gs r) in
@@ -204,14 +247,14 @@ closed state fs gs forward_of reverse_of first second form c s f r is before aft
     ∙ ap (λ x. R fresh x e.total p q) (sym outcome_is)
     ∙ ap (λ n. R fresh o n p q) (sym counts_are)
     ∙ ap (λ x. R fresh o counted x q) (left_as forward_of fs (λ x. feed_in (state x).forward) first
-        e.source f' left)
+    e.source f' left)
     ∙ ap (λ x. R fresh o counted (option_map fs f') x)
-        (left_as reverse_of gs (λ x. feed_in (state x).reverse) second e.source r' right) in
+    (left_as reverse_of gs (λ x. feed_in (state x).reverse) second e.source r' right) in
     subst (λ (v : Run). IsThreaded c v u lacked) same
     (subst (λ (v : Option MemoryRefused). IsThreaded c (run_from state s before after e) u v)
-        (sym lacked_is)
+    (sym lacked_is)
     (subst (λ (v : Option NotEnded). IsThreaded c (run_from state s before after e) v e.refused)
-        (sym ended) t))
+    (sym ended) t))
 
 -- a dealer whose lanes are new, over a source that nothing was read from
 pub can_deal : {S : Type 0} (workers : ℕ) (c : Choices) (s : SourceState) (dealer : Dealer S)

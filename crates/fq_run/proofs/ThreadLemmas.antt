@@ -75,8 +75,8 @@ module _ (tallied : Bool) (steps : List Step) where
       let more = length-append b.pairs (pairs_in bs) in
       let all = length-append ms b.pairs in
       counts_in bs (ms ++ b.pairs) (total_plus total (done_of tallied steps b))
-          (total_added tallied steps ms b.pairs total (done_of tallied steps b) is refl refl
-          (omega arith)) (omega arith)
+      (total_added tallied steps ms b.pairs total (done_of tallied steps b) is refl refl
+      (omega arith)) (omega arith)
       ∙ ap (total_of tallied steps) (append_assoc ms b.pairs (pairs_in bs))
 
   -- the first replies are those to the first blocks
@@ -107,10 +107,11 @@ module _ (tallied : Bool) (steps : List Step) where
       let tail : (ds ++ es) ++ p.0 ≡ answered tallied steps bs = cc in
       splits_more d b ds es bs same (splits ds es bs (p.0, tail))
 
-module _ (c : Choices) (old new : SourceState) (mates : List Mates) (why : Option ReadingEnd) (bs : List Numbered) (before mid : OutletStates)
+module _ (c : Choices) (old new : SourceState) (mates : List Mates) (why : Option ReadingEnd)
+    (bs : List Numbered) (before mid : OutletStates)
     (reads : Reads old new mates why) (few : length mates ≤ 2 ^ 60)
-        (cut : IsCut c.block_pairs mates (map (λ (b : Numbered). b.pairs) bs)) (stopped : why
-        ≡ None → ⊥) where
+    (cut : IsCut c.block_pairs mates (map (λ (b : Numbered). b.pairs) bs)) (stopped : why
+    ≡ None → ⊥) where
   -- the pairs that were read are those of the first blocks and those of the others
   read_is : (first rest : List Numbered) → bs ≡ first ++ rest →
       mates ≡ pairs_in first ++ pairs_in rest
@@ -123,7 +124,7 @@ module _ (c : Choices) (old new : SourceState) (mates : List Mates) (why : Optio
       let len = ap length (read_is first rest all) in
       let sum = length-append (pairs_in first) (pairs_in rest) in
       ap (counted c.tallied) is ∙ counts_in c.tallied c.steps first [] (no_total c.tallied)
-          (no_total_is c.tallied c.steps) (omega arith)
+      (no_total_is c.tallied c.steps) (omega arith)
 
   -- no write failed: the texts of the first blocks were sent, and no others
   passes_first : (ds : List Done) (counts : Total) (halt : Halt) (first rest : List Numbered) →
@@ -142,7 +143,7 @@ module _ (c : Choices) (old new : SourceState) (mates : List Mates) (why : Optio
             ∙ ap (λ ms. ms ++ pairs_in rest) (sym (append-nil (pairs_in first)))) reads;
         took = all_took_same before mid _ _ None
             (λ out. ap (written_text out) is ∙ texts_in c.tallied c.steps out first
-                ∙ sym (append-nil (text_of out (texts_of c.steps (pairs_in first))))) took;
+            ∙ sym (append-nil (text_of out (texts_of c.steps (pairs_in first))))) took;
         failed = refl;
         cut_short = tt;
         over = λ going sound. stopped going;
@@ -155,16 +156,16 @@ module _ (c : Choices) (old new : SourceState) (mates : List Mates) (why : Optio
       (sent : ℕ) (first rest : List Numbered) (b : Numbered) → bs ≡ first ++ (b ∷ rest) →
       ds ≡ answered c.tallied c.steps first → next ≡ done_of c.tallied c.steps b →
       counts ≡ counted c.tallied ds → sent < length (text_of failed next.texts) →
-          OutletsTook before mid (λ out. written_text out ds ++ part_at failed sent out (text_of out
-          next.texts)) (Some failed) →
+      OutletsTook before mid (λ out. written_text out ds ++ part_at failed sent out (text_of out
+      next.texts)) (Some failed) →
       Passes c old new before mid counts halt why (Some failed)
   passes_broken failed ds counts halt next sent first rest b all is next_is totals short took =
       let P : List Mates → Type 0 = λ ms. Reads old new ms why in
       let Q : Done → Type 0 = λ d. sent < length (text_of failed d.texts) in
       let R : List Numbered → Type 0 = λ xs. AreEven c.block_pairs
-          (map (λ (x : Numbered). x.pairs) xs) in
+      (map (λ (x : Numbered). x.pairs) xs) in
       let cut_at : sent < length (text_of failed (texts_of c.steps b.pairs)) =
-          subst Q next_is short in
+      subst Q next_is short in
       record {
         whole = pairs_in first;
         fate = fate.WriteFailed failed sent b.pairs;
@@ -175,13 +176,16 @@ module _ (c : Choices) (old new : SourceState) (mates : List Mates) (why : Optio
             ∙ sym (append_assoc (pairs_in first) b.pairs (pairs_in rest))) reads;
         took = all_took_same before mid _ _ (Some failed)
             (λ out. ap (λ text. text ++ part_at failed sent out (text_of out next.texts))
-                (ap (written_text out) is ∙ texts_in c.tallied c.steps out first)
+            (ap (written_text out) is ∙ texts_in c.tallied c.steps out first)
             ∙ ap (λ (d : Done). text_of out (texts_of c.steps (pairs_in first)) ++ part_at failed
-                sent out (text_of out d.texts)) next_is) took;
+            sent out (text_of out d.texts)) next_is) took;
         failed = refl;
-        cut_short =
-            (some_pair c.steps failed b.pairs sent cut_at, even_at c.block_pairs first b rest
-            (subst R all cut.even), cut_at);
+        cut_short = (
+          some_pair c.steps failed b.pairs sent cut_at,
+          even_at c.block_pairs first b rest
+              (subst R all cut.even),
+          cut_at,
+        );
         over = λ going sound. stopped going;
         unflushed = refl;
         missed_none = λ sound unbroken. absurd cc;
@@ -193,14 +197,14 @@ module _ (c : Choices) (old new : SourceState) (mates : List Mates) (why : Optio
       ds ≡ answered c.tallied c.steps first →
       IsPrefix (next ∷ []) (answered c.tallied c.steps rest) →
       counts ≡ counted c.tallied ds → sent < length (text_of failed next.texts) →
-          OutletsTook before mid (λ out. written_text out ds ++ part_at failed sent out (text_of out
-          next.texts)) (Some failed) →
+      OutletsTook before mid (λ out. written_text out ds ++ part_at failed sent out (text_of out
+      next.texts)) (Some failed) →
       Passes c old new before mid counts halt why (Some failed)
   passes_behind failed ds counts halt next sent first [] all is p totals short took =
       absurd (let q = p.1 in cc)
   passes_behind failed ds counts halt next sent first (b ∷ rest) all is p totals short took =
       let q : next ∷ ([] ++ p.0) ≡ done_of c.tallied c.steps b ∷ answered c.tallied c.steps rest =
-          p.1 in
+      p.1 in
       let same : next ≡ done_of c.tallied c.steps b = cc in
       passes_broken failed ds counts halt next sent first rest b all is same totals short took
 
@@ -209,11 +213,13 @@ halted : (why : Cause) (k : Collector) → IsHeard why k → k.halt ≡ no_halt 
 halted cause.Gate k heard sound = let e = sym heard ∙ ap (λ (h : Halt). h.gate) sound in cc
 halted cause.Memory k heard sound = let e = sym heard ∙ ap (λ (h : Halt). h.memory) sound in cc
 
-module _ (form : Form) (c : Choices) (f r : FeedState) (old new : SourceState) (to : List (History Numbered)) (closings : List (Result (History Numbered) NotEnded)) (why : Option ReadingEnd) (w : ℕ) (before mid : OutletStates) (k : Collector)
+module _ (form : Form) (c : Choices) (f r : FeedState) (old new : SourceState)
+    (to : List (History Numbered)) (closings : List (Result (History Numbered) NotEnded))
+    (why : Option ReadingEnd) (w : ℕ) (before mid : OutletStates) (k : Collector)
     (is : old ≡ fresh_source form c f r) (sent : List (History Numbered))
-        (d : DealsOut c old new to sent why) (ends : AllZip Closed sent closings)
-        (matched : AllZip (Matched c.tallied c.steps) closings k.replies.items) (stopped : why
-        ≡ None → ⊥) (lanes : length to ≡ w) (some : 0 < w) where
+    (d : DealsOut c old new to sent why) (ends : AllZip Closed sent closings)
+    (matched : AllZip (Matched c.tallied c.steps) closings k.replies.items) (stopped : why
+    ≡ None → ⊥) (lanes : length to ≡ w) (some : 0 < w) where
   dealt_to : IsDealt w d.blocks sent
   dealt_to = subst (λ n. IsDealt n d.blocks sent) lanes d.dealt
 
@@ -225,28 +231,28 @@ module _ (form : Form) (c : Choices) (f r : FeedState) (old new : SourceState) (
   passes_by AtMark ds totals writes over =
       let cut = d.cut in
       let all = at_mark_all c.tallied c.steps w d.blocks sent closings k.replies.items dealt_to ends
-          matched some ds writes.0 in
+      matched some ds writes.0 in
       passes_first c old new d.mates why d.blocks before mid d.reads d.few cut.cut stopped ds
-          k.total k.halt d.blocks [] (sym (append-nil d.blocks)) all totals writes.1 (λ sound. refl)
+      k.total k.halt d.blocks [] (sym (append-nil d.blocks)) all totals writes.1 (λ sound. refl)
   passes_by Stopped ds totals writes over =
       let cut = d.cut in
       let begun = begun_first c.tallied c.steps w d.blocks sent closings k.replies.items dealt_to
-          ends matched some ds (begun_before w (map done ds) (Stop writes.why ∷ []) k.replies.items
-          writes.begun) in
+      ends matched some ds (begun_before w (map done ds) (Stop writes.why ∷ []) k.replies.items
+      writes.begun) in
       let s = splits c.tallied c.steps ds [] d.blocks
-          (subst (λ xs. IsPrefix xs (answered c.tallied c.steps d.blocks)) (sym (append-nil ds))
-          begun) in
+      (subst (λ xs. IsPrefix xs (answered c.tallied c.steps d.blocks)) (sym (append-nil ds))
+      begun) in
       passes_first c old new d.mates why d.blocks before mid d.reads d.few cut.cut stopped ds
-          k.total k.halt s.first s.rest s.all s.answers totals writes.took
-          (λ sound. absurd (halted writes.why k writes.heard sound))
+      k.total k.halt s.first s.rest s.all s.answers totals writes.took
+      (λ sound. absurd (halted writes.why k writes.heard sound))
   passes_by (WriteFailed failed) ds totals writes over =
       let cut = d.cut in
       let begun = begun_first c.tallied c.steps w d.blocks sent closings k.replies.items dealt_to
-          ends matched some (ds ++ writes.next ∷ []) writes.begun in
+      ends matched some (ds ++ writes.next ∷ []) writes.begun in
       let s = splits c.tallied c.steps ds (writes.next ∷ []) d.blocks begun in
       passes_behind c old new d.mates why d.blocks before mid d.reads d.few cut.cut stopped failed
-          ds k.total k.halt writes.next writes.sent s.first s.rest s.all s.answers s.others totals
-          writes.short writes.took
+      ds k.total k.halt writes.next writes.sent s.first s.rest s.all s.answers s.others totals
+      writes.short writes.took
 
   -- what the run read and wrote
   pub runs_threaded : Collects c.tallied w before mid k → (k.phase ≡ Writing → ⊥) →
@@ -254,4 +260,4 @@ module _ (form : Form) (c : Choices) (f r : FeedState) (old new : SourceState) (
       (failed_in k.phase)
   runs_threaded collects over =
       runs_passed form c f r _ _ old new before mid k.total k.halt why (failed_in k.phase) is refl
-          refl (passes_by k.phase collects.written collects.total collects.writes over)
+      refl (passes_by k.phase collects.written collects.total collects.writes over)

@@ -42,20 +42,21 @@ module _ (c : Choices) (old : SourceState) (before : OutletStates) where
     goes = goes;
   }
 
-  module _ {now next : SourceState} {after : OutletStates} {counted : Total} {done : Done} {why : Option ReadingEnd} where
+  module _ {now next : SourceState} {after : OutletStates} {counted : Total} {done : Done}
+      {why : Option ReadingEnd} where
     -- a write failed in a block
     pub passes_broken : {then : OutletStates} (failed : Out) → Wrote now after counted →
         Gathers now next c.tallied c.steps c.block_pairs done why →
         BreaksAt after then done.texts failed →
         (total : Total) → total ≡ counted → Passes c old next before then total no_halt why
-            (Some failed)
+        (Some failed)
     passes_broken {then} failed w g p total is =
         let P : List Mates → Type 0 = λ ms. Reads old next ms why in
         let same =
-            λ (out : Out). ap (λ (t : Outputs). text_of out (texts_of c.steps w.whole) ++ part_at
-            failed p.sent out (text_of out t)) g.texts in
+        λ (out : Out). ap (λ (t : Outputs). text_of out (texts_of c.steps w.whole) ++ part_at
+        failed p.sent out (text_of out t)) g.texts in
         let short : p.sent < length (text_of failed (texts_of c.steps g.block)) = let Q : Outputs →
-            Type 0 = λ t. p.sent < length (text_of failed t) in subst Q g.texts p.short in
+        Type 0 = λ t. p.sent < length (text_of failed t) in subst Q g.texts p.short in
         record {
           whole = w.whole;
           fate = WriteFailed failed p.sent g.block;
@@ -65,8 +66,8 @@ module _ (c : Choices) (old : SourceState) (before : OutletStates) where
               (reads_then old now next w.whole g.block why w.walks g.reads);
           took = all_took_same before then _ _ (Some failed) same
               (all_took_then before after then (λ out. text_of out (texts_of c.steps w.whole))
-                  (λ out. part_at failed p.sent out (text_of out done.texts)) (Some failed) w.took
-                  p.took);
+              (λ out. part_at failed p.sent out (text_of out done.texts)) (Some failed) w.took
+              p.took);
           failed = refl;
           cut_short = (some_pair c.steps failed g.block p.sent short, g.few, short);
           over = λ going sound. absurd cc;
@@ -81,11 +82,11 @@ module _ (c : Choices) (old : SourceState) (before : OutletStates) where
         OutletsTook before then (λ out. text_of out (texts_of c.steps (w.whole ++ g.block))) None
     took_block {then} w g p =
         let same =
-            λ (out : Out). ap (λ (t : Outputs). text_of out (texts_of c.steps w.whole) ++ text_of
-            out t) g.texts ∙ sym (text_then c.steps w.whole g.block out) in
+        λ (out : Out). ap (λ (t : Outputs). text_of out (texts_of c.steps w.whole) ++ text_of
+        out t) g.texts ∙ sym (text_then c.steps w.whole g.block out) in
         all_took_same before then _ _ None same
-            (all_took_then before after then (λ out. text_of out (texts_of c.steps w.whole))
-            (λ out. text_of out done.texts) None w.took p)
+        (all_took_then before after then (λ out. text_of out (texts_of c.steps w.whole))
+        (λ out. text_of out done.texts) None w.took p)
 
     counts_block : (w : Wrote now after counted)
         (g : Gathers now next c.tallied c.steps c.block_pairs done why) → old.forward.given ≡ 0 →
@@ -93,17 +94,17 @@ module _ (c : Choices) (old : SourceState) (before : OutletStates) where
         total_plus counted done ≡ total_of c.tallied c.steps (w.whole ++ g.block)
     counts_block w g none few most =
         let walks = w.walks in let records = walked_records old now w.whole walks in let same =
-            walks.same in let bytes = same.most_bytes in let goes = w.goes in let within =
-            goes.within in let block = g.few in
+        walks.same in let bytes = same.most_bytes in let goes = w.goes in let within =
+        goes.within in let block = g.few in
         total_added c.tallied c.steps w.whole g.block counted done w.counts g.texts g.tally
-            (omega arith)
+        (omega arith)
 
     -- the last block is written
     pub passes_whole : {then : OutletStates} → Wrote now after counted →
         Gathers now next c.tallied c.steps c.block_pairs done why →
         OutletsTook after then (λ out. text_of out done.texts) None →
         old.forward.given ≡ 0 → old.most_bytes ≤ 2 ^ 60 → c.block_pairs ≤ 65536 → (why ≡ None → ⊥) →
-            (total : Total) → total ≡ total_plus counted done →
+        (total : Total) → total ≡ total_plus counted done →
         Passes c old next before then total no_halt why None
     passes_whole {then} w g p none few most stopped total is =
         let P : List Mates → Type 0 = λ ms. Reads old next ms why in
@@ -131,7 +132,7 @@ module _ (c : Choices) (old : SourceState) (before : OutletStates) where
         Gathers now next c.tallied c.steps c.block_pairs done why →
         OutletsTook after then (λ out. text_of out done.texts) None →
         old.forward.given ≡ 0 → old.most_bytes ≤ 2 ^ 60 → c.block_pairs ≤ 65536 → why ≡ None →
-            (total : Total) → total ≡ total_plus counted done →
+        (total : Total) → total ≡ total_plus counted done →
         Wrote next then total
     wrote_more {then} w g p none few most going total is =
         let P : Option ReadingEnd → Type 0 = λ o. Reads now next g.block o in
@@ -148,12 +149,12 @@ module _ (c : Choices) (old : SourceState) (before : OutletStates) where
       {why : Option ReadingEnd} → Wrote now after counted →
       Gathers now next c.tallied c.steps c.block_pairs done why →
       1 ≤ c.block_pairs → why ≡ None → old.most_bytes - next.forward.given < old.most_bytes -
-          now.forward.given
+      now.forward.given
   nearer {now} {next} {after} {counted} {done} {why} w g some going =
       let P : Option ReadingEnd → Type 0 = λ o. Reads now next g.block o in
       let reads : Walks now next g.block = subst P going g.reads in
       let full = g.full going in let goes = g.goes going in let within = goes.within in
-          let records = walked_records now next g.block reads in
+      let records = walked_records now next g.block reads in
       let walks = w.walks in let first = walks.same in let second = reads.same in let a =
-          first.most_bytes in let b = second.most_bytes in
+      first.most_bytes in let b = second.most_bytes in
       omega arith

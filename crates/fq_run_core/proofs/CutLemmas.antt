@@ -55,31 +55,31 @@ module _ (check : Bool) (e : Encoding) where
         (forward reverse forward' reverse' gs qs : List (List ℕ)) →
         pair_front check e n (forward ++ more) (reverse ++ more') ≡ Met m gs qs →
         Leads TwoTexts check e (suc n) ms gs qs forward' reverse' →
-            LeavesNone (n + length (m ∷ ms)) forward' reverse' →
+        LeavesNone (n + length (m ∷ ms)) forward' reverse' →
         ((fs rs : List (List ℕ)) → Leads TwoTexts check e (suc n) ms (fs ++ more) (rs ++ more')
-            forward' reverse' → LeavesNone (suc n + length ms) forward' reverse' →
-            length (mates_at (suc n) fs rs) ≤ length ms) →
+        forward' reverse' → LeavesNone (suc n + length ms) forward' reverse' →
+        length (mates_at (suc n) fs rs) ≤ length ms) →
         (x : PairFront) → pair_front check e n forward reverse ≡ x →
-            length (mates_at n forward reverse) ≤ length (m ∷ ms)
+        length (mates_at n forward reverse) ≤ length (m ∷ ms)
     one_more n m ms forward reverse forward' reverse' gs qs first p none then Ended is =
         let h = ap (λ (q : Pairs). length q.mates) (pairs_of-ended check e n forward reverse is) in
-            omega arith
+        omega arith
     one_more n m ms forward reverse forward' reverse' gs qs first p none then (Stopped w) is =
         let h = ap (λ (q : Pairs). length q.mates)
-            (pairs_of-stopped check e n forward reverse w is) in omega arith
+        (pairs_of-stopped check e n forward reverse w is) in omega arith
     one_more n m ms forward reverse forward' reverse' gs qs first p none then (Met x fs rs) is =
         let longer = met_more check e n x forward reverse fs rs more more' is in
         let both : Met x (fs ++ more) (rs ++ more') ≡ Met m gs qs = sym longer ∙ first in
         let f : gs ≡ fs ++ more = cc in let r : qs ≡ rs ++ more' = cc in
         let F : List (List ℕ) → Type 0 = λ ls. Leads TwoTexts check e (suc n) ms ls qs forward'
-            reverse' in
+        reverse' in
         let R : List (List ℕ) → Type 0 = λ ls. Leads TwoTexts check e (suc n) ms (fs ++ more) ls
-            forward' reverse' in
+        forward' reverse' in
         let N : ℕ → Type 0 = λ k. LeavesNone k forward' reverse' in
         let number : n + suc (length ms) ≡ suc n + length ms = omega arith in
         let rest = then fs rs (subst R r (subst F f p)) (subst N number none) in
         let h = ap (λ (q : Pairs). length q.mates)
-            (pairs_of-met check e n forward reverse x fs rs is) in
+        (pairs_of-met check e n forward reverse x fs rs is) in
         omega arith
 
     -- the first lines of two texts have at most as many pairs as `ms`, if `ms` leads to lines that
@@ -87,15 +87,15 @@ module _ (check : Bool) (e : Encoding) where
     pub at_most : (n : ℕ) (ms : List Mates) (forward reverse forward' reverse' : List (List ℕ)) →
         Leads TwoTexts check e n ms (forward ++ more) (reverse ++ more') forward' reverse' →
         LeavesNone (n + length ms) forward' reverse' →
-            length (mates_at n forward reverse) ≤ length ms
+        length (mates_at n forward reverse) ≤ length ms
     at_most n [] forward reverse forward' reverse' p none =
         let same : n + 0 ≡ n = omega arith in
         let P : ℕ → Type 0 = λ k. length (mates_at k forward reverse) ≤ 0 in
         subst P same (none forward reverse p.0 p.1)
     at_most n (m ∷ ms) forward reverse forward' reverse' p none =
         one_more n m ms forward reverse forward' reverse' p.0 p.1 p.2 p.3 none
-            (λ fs rs. at_most (suc n) ms fs rs forward' reverse')
-            (pair_front check e n forward reverse) refl
+        (λ fs rs. at_most (suc n) ms fs rs forward' reverse')
+        (pair_front check e n forward reverse) refl
 
 -- An interleaved text.
 module _ (check : Bool) (e : Encoding) where
@@ -113,29 +113,29 @@ module _ (check : Bool) (e : Encoding) where
         (ls same ls' same' gs qs : List (List ℕ)) →
         interleaved_front check e n (ls ++ more) ≡ Met m gs qs →
         Leads InterleavedText check e (suc n) ms gs qs ls' same' →
-            InterleavedNone (n + length (m ∷ ms)) ls' →
+        InterleavedNone (n + length (m ∷ ms)) ls' →
         ((fs rs : List (List ℕ)) → Leads InterleavedText check e (suc n) ms (fs ++ more) rs ls'
-            same' → InterleavedNone (suc n + length ms) ls' →
-            length (interleaved_at (suc n) fs) ≤ length ms) →
+        same' → InterleavedNone (suc n + length ms) ls' →
+        length (interleaved_at (suc n) fs) ≤ length ms) →
         (x : PairFront) → interleaved_front check e n ls ≡ x →
-            length (interleaved_at n ls) ≤ length (m ∷ ms)
+        length (interleaved_at n ls) ≤ length (m ∷ ms)
     interleaved_one_more n m ms ls same ls' same' gs qs first p none then Ended is =
         let h = ap (λ (q : Pairs). length q.mates) (interleaved_pairs_of-ended check e n ls is) in
-            omega arith
+        omega arith
     interleaved_one_more n m ms ls same ls' same' gs qs first p none then (Stopped w) is =
         let h = ap (λ (q : Pairs). length q.mates)
-            (interleaved_pairs_of-stopped check e n ls w is) in omega arith
+        (interleaved_pairs_of-stopped check e n ls w is) in omega arith
     interleaved_one_more n m ms ls same ls' same' gs qs first p none then (Met x fs rs) is =
         let longer = interleaved_met_more check e n x ls fs rs more is in
         let both : Met x (fs ++ more) (rs ++ more) ≡ Met m gs qs = sym longer ∙ first in
         let f : gs ≡ fs ++ more = cc in
         let F : List (List ℕ) → Type 0 = λ xs. Leads InterleavedText check e (suc n) ms xs qs ls'
-            same' in
+        same' in
         let N : ℕ → Type 0 = λ k. InterleavedNone k ls' in
         let number : n + suc (length ms) ≡ suc n + length ms = omega arith in
         let rest = then fs qs (subst F f p) (subst N number none) in
         let h = ap (λ (q : Pairs). length q.mates)
-            (interleaved_pairs_of-met check e n x ls fs rs is) in
+        (interleaved_pairs_of-met check e n x ls fs rs is) in
         omega arith
 
     pub interleaved_at_most : (n : ℕ) (ms : List Mates) (ls same ls' same' : List (List ℕ)) →
@@ -147,8 +147,8 @@ module _ (check : Bool) (e : Encoding) where
         subst P zero_more (none ls p.0)
     interleaved_at_most n (m ∷ ms) ls same ls' same' p none =
         interleaved_one_more n m ms ls same ls' same' p.0 p.1 p.2 p.3 none
-            (λ fs rs. interleaved_at_most (suc n) ms fs rs ls' same')
-            (interleaved_front check e n ls) refl
+        (λ fs rs. interleaved_at_most (suc n) ms fs rs ls' same')
+        (interleaved_front check e n ls) refl
 
 -- The records of the first lines of an interleaved text, up to the lines after its pairs.
 module _ (check : Bool) (e : Encoding) where
@@ -172,7 +172,7 @@ module _ (check : Bool) (e : Encoding) where
     pub turn_kept : (n : ℕ) (ms : List Mates) (ls same same' : List (List ℕ)) →
         Leads InterleavedText check e n ms (ls ++ more) same (behind ++ more) same' →
         side_after (length (records_of e ls).reads)
-            ≡ side_after (length (records_of e behind).reads)
+        ≡ side_after (length (records_of e behind).reads)
     turn_kept n [] ls same same' p = ap (λ xs. side_after (length (records_of e xs).reads))
         (append_cancel_right ls behind more p.0)
     turn_kept n (m ∷ ms) ls same same' p =
@@ -183,9 +183,9 @@ module _ (check : Bool) (e : Encoding) where
         let r = front_takes e q.r q.ls p.0 q.second in
         let rs = r.taken ++ fs in
         let between : q.ls ≡ rs ++ more = r.split ∙ ap (λ xs. r.taken ++ xs) left
-            ∙ sym (append_assoc r.taken fs more) in
+        ∙ sym (append_assoc r.taken fs more) in
         let first = front_fewer e q.f ls rs more (q.first ∙ ap (Found q.f) between) in
         let P : List (List ℕ) → Type 0 = λ xs. Leads InterleavedText check e (suc n) ms xs p.1
-            (behind ++ more) same' in
+        (behind ++ more) same' in
         ap side_after (one_record e q.f ls rs first ∙ ap suc (one_record e q.r rs fs (r.always fs)))
         ∙ turn_kept (suc n) ms fs p.1 same' (subst P left p.3)

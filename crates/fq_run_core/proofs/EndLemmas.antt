@@ -59,13 +59,14 @@ pub record Closes (c : Choices) (old new : SourceState) (before after : OutletSt
   pub stopped : is_flush fate ≡ true → why ≡ None → ⊥
   pub missed_none : halt ≡ no_halt → block_begun fate ≡ [] → missed ≡ []
 
-module _ (c : Choices) (old new : SourceState) (before mid after : OutletStates) (counted : Total) (halt : Halt) (why : Option ReadingEnd) where
+module _ (c : Choices) (old new : SourceState) (before mid after : OutletStates) (counted : Total)
+    (halt : Halt) (why : Option ReadingEnd) where
   -- if no write failed
   flushed : (whole missed : List Mates) → IsCounted c whole halt why counted →
       Reads old new ((whole ++ []) ++ missed) why →
       OutletsTook before mid (λ out. text_of out (texts_of c.steps whole) ++ []) None →
       (why ≡ None → ⊥) → (halt ≡ no_halt → missed ≡ []) → (failed : Option Out) →
-          FlushesAfter None mid after failed → Closes c old new before after counted halt why failed
+      FlushesAfter None mid after failed → Closes c old new before after counted halt why failed
   flushed whole missed counts reads took over none None p = record {
     whole = whole;
     fate = Unbroken;
@@ -75,7 +76,7 @@ module _ (c : Choices) (old new : SourceState) (before mid after : OutletStates)
     took = all_took_same before after (λ out. (text_of out (texts_of c.steps whole) ++ []) ++ []) _
         None (λ out. append-nil (text_of out (texts_of c.steps whole) ++ []))
         (all_took_then before mid after (λ out. text_of out (texts_of c.steps whole) ++ [])
-            (λ out. []) None took p.0);
+        (λ out. []) None took p.0);
     failed = refl;
     flushed = p.1;
     cut_short = tt;
@@ -92,7 +93,7 @@ module _ (c : Choices) (old new : SourceState) (before mid after : OutletStates)
     took = all_took_same before after (λ out. (text_of out (texts_of c.steps whole) ++ []) ++ []) _
         (Some out) (λ out. append-nil (text_of out (texts_of c.steps whole) ++ []))
         (all_took_then before mid after (λ out. text_of out (texts_of c.steps whole) ++ [])
-            (λ out. []) (Some out) took p.0);
+        (λ out. []) (Some out) took p.0);
     failed = refl;
     flushed = p.1;
     cut_short = tt;
@@ -105,14 +106,14 @@ module _ (c : Choices) (old new : SourceState) (before mid after : OutletStates)
       IsCounted c whole halt why counted → Reads old new ((whole ++ block_begun fate) ++ missed)
       why →
       OutletsTook before mid (λ out. text_of out (texts_of c.steps whole) ++ part_begun c.steps fate
-          out) (failed_outlet fate) → broken ≡ failed_outlet fate →
+      out) (failed_outlet fate) → broken ≡ failed_outlet fate →
       IsCutShort c.block_pairs c.steps fate → (why ≡ None → broken ≡ None → ⊥) →
-          is_flush fate ≡ false → (halt ≡ no_halt → broken ≡ None → missed ≡ []) →
+      is_flush fate ≡ false → (halt ≡ no_halt → broken ≡ None → missed ≡ []) →
       FlushesAfter broken mid after failed → Closes c old new before after counted halt why failed
   by_fate Unbroken broken failed whole missed counts reads took is short over unflushed none p =
       let P : Option Out → Type 0 = λ b. FlushesAfter b mid after failed in
       flushed whole missed counts reads took (λ going. over going is) (λ sound. none sound is)
-          failed (subst P is p)
+      failed (subst P is p)
   by_fate (FlushFailed out) broken failed whole missed counts reads took is short over unflushed
       none p = absurd cc
   by_fate (WriteFailed out sent block) broken failed whole missed counts reads took is short over
@@ -120,8 +121,8 @@ module _ (c : Choices) (old new : SourceState) (before mid after : OutletStates)
       let P : Option Out → Type 0 = λ b. FlushesAfter b mid after failed in
       let q : (failed ≡ Some out) × (after ≡ mid) = subst P is p in
       let T : OutletStates → Type 0 = λ o. OutletsTook before o
-          (λ x. text_of x (texts_of c.steps whole) ++ part_begun c.steps
-          (WriteFailed out sent block) x) (Some out) in
+      (λ x. text_of x (texts_of c.steps whole) ++ part_begun c.steps
+      (WriteFailed out sent block) x) (Some out) in
       record {
         whole = whole;
         fate = WriteFailed out sent block;
@@ -152,14 +153,27 @@ unbroken (WriteFailed out sent block) is = absurd cc
 first_of : (ms ns all : List Mates) → AreFirst (ms ++ ns) all → AreFirst ms all
 first_of ms ns all p = (ns ++ p.0, p.1 ∙ append_assoc ms ns p.0)
 
-module _ (form : Form) (c : Choices) (f r : FeedState) (new : SourceState) (before after : OutletStates) (counted : Total) (halt : Halt) (why : Option ReadingEnd) (failed : Option Out) (o : Outcome)
+module _ (form : Form) (c : Choices) (f r : FeedState) (new : SourceState)
+    (before after : OutletStates) (counted : Total) (halt : Halt) (why : Option ReadingEnd)
+    (failed : Option Out) (o : Outcome)
     (p : Closes c (fresh_source form c f r) new before after counted halt why failed)
-        (v : Verdict halt why failed o) (sound : f.failures ≡ 0) (sound' : r.failures ≡ 0) where
+    (v : Verdict halt why failed o) (sound : f.failures ≡ 0) (sound' : r.failures ≡ 0) where
   -- the run
   abbrev pub run : Run
-  run = record { form = form; forward = f; reverse = r; outlets = before; forward_left =
-      Some (feed_in new.forward); reverse_left = Some (feed_in new.reverse); outlets_left =
-      after; outcome = o; counts = counted.counts; tally = counted.tally }
+  run = record {
+    form = form;
+    forward = f;
+    reverse = r;
+    outlets = before;
+    forward_left =
+        Some (feed_in new.forward);
+    reverse_left = Some (feed_in new.reverse);
+    outlets_left =
+        after;
+    outcome = o;
+    counts = counted.counts;
+    tally = counted.tally;
+  }
 
   -- all pairs that were read
   abbrev all_read : List Mates
@@ -189,12 +203,12 @@ module _ (form : Form) (c : Choices) (f r : FeedState) (new : SourceState) (befo
       (gave_to (feed_of side run) (feed_left side run))
   endless_bytes Forward is told =
       let q = reads_at (reading.Fault (Text Forward text.Endless)) is in let e = q.2 in let most =
-          e.endless in
+      e.endless in
       let d = reads_forward form c f r new all_read why p.reads in let same = d.max_reads in
       let len = gave_length c f new.forward _ d told in omega arith
   endless_bytes Reverse is told =
       let q = reads_at (reading.Fault (Text Reverse text.Endless)) is in let e = q.2 in let most =
-          e.endless in
+      e.endless in
       let d = reads_reverse form c f r new all_read why p.reads in let same = d.max_reads in
       let len = gave_length c r new.reverse _ d told in omega arith
 
@@ -203,12 +217,12 @@ module _ (form : Form) (c : Choices) (f r : FeedState) (new : SourceState) (befo
       is_cut_short fault ≡ true → length (pairs_given c run) ≤ length all_read
   cut_pairs told fault is short =
       let most = reads_cut c f r form new all_read fault (reads_at (reading.Fault fault) is) short
-          told.forward told.reverse in
+      told.forward told.reverse in
       let F = ap (λ xs. length (pairs_in form c.check_names c.encoding 0 (whole_part xs)
-          (whole_part (gave r (feed_in new.reverse)))).mates) (forward_gave told.forward) in
+      (whole_part (gave r (feed_in new.reverse)))).mates) (forward_gave told.forward) in
       let R = ap (λ xs. length (pairs_in form c.check_names c.encoding 0
-          (whole_part (fed (fresh_side c f) new.forward)) (whole_part xs)).mates)
-          (reverse_gave told.reverse) in
+      (whole_part (fed (fresh_side c f) new.forward)) (whole_part xs)).mates)
+      (reverse_gave told.reverse) in
       omega arith
 
   whole_is : halt ≡ no_halt → (fate : Fate) → p.fate ≡ fate → block_begun fate ≡ [] →
@@ -216,8 +230,8 @@ module _ (form : Form) (c : Choices) (f r : FeedState) (new : SourceState) (befo
   whole_is going fate is none =
       let empty : block_begun p.fate ≡ [] = ap block_begun is ∙ none in
       ap (λ ms. (p.whole ++ block_begun p.fate) ++ ms) (p.missed_none going empty)
-          ∙ append-nil (p.whole ++ block_begun p.fate) ∙ ap (λ ms. p.whole ++ ms) empty
-          ∙ append-nil p.whole
+      ∙ append-nil (p.whole ++ block_begun p.fate) ∙ ap (λ ms. p.whole ++ ms) empty
+      ∙ append-nil p.whole
 
   sound_fate : failed ≡ None → p.fate ≡ Unbroken
   sound_fate none = unbroken p.fate (sym none ∙ p.failed)
@@ -233,21 +247,21 @@ module _ (form : Form) (c : Choices) (f r : FeedState) (new : SourceState) (befo
       ((P : Side → Type 0) → if_cut P (Text side fault) → P side) → IsNext c run side
   next_side one told side fault is cut of_side =
       let R : Form → Type 0 = λ x. Reads (fresh_source x c f r) new all_read
-          (Some (reading.Fault (Text side fault))) in
+      (Some (reading.Fault (Text side fault))) in
       ap (λ xs. side_after (length (records c.encoding (whole_part xs)).reads))
-          (forward_gave told.forward)
+      (forward_gave told.forward)
       ∙ reads_next c f r new all_read side fault
-          (subst R one (reads_at (reading.Fault (Text side fault)) is)) cut of_side told.forward
-          told.reverse
+      (subst R one (reads_at (reading.Fault (Text side fault)) is)) cut of_side told.forward
+      told.reverse
 
   -- what was written if a flush failed
   came_by : (fault : InputFault) → Kind fault → why ≡ Some (reading.Fault fault) → AreTold run →
       all_read ≡ p.whole → (out : Out) → o ≡ outcome.Write out → IsAllThatCame c run p.whole
   came_by fault (OfText inside) is told whole out at =
       inl (sym whole
-          ∙ sym (ap (λ (q : Pairs). q.mates)
-          (reads_fault form c f r new all_read fault (reads_at (reading.Fault fault) is) inside
-          told.forward told.reverse)))
+      ∙ sym (ap (λ (q : Pairs). q.mates)
+      (reads_fault form c f r new all_read fault (reads_at (reading.Fault fault) is) inside
+      told.forward told.reverse)))
   came_by fault (OfRead side same) is told whole out at =
       let here = is ∙ ap (λ w. Some (reading.Fault w)) same in
       inr (failing side here, cut_whole told (Text side text.Read) here refl whole)
@@ -268,15 +282,15 @@ module _ (form : Form) (c : Choices) (f r : FeedState) (new : SourceState) (befo
       endless Reverse at_fault = inr (inr (endless_bytes Reverse at_fault told.reverse))
   came_by fault (OfMemory side same) is told whole out at =
       absurd (let e = sym (ap lacks_memory (is ∙ ap (λ w. Some (reading.Fault w)) same))
-          ∙ (at_write halt why failed o v out at).2 in cc)
+      ∙ (at_write halt why failed o v out at).2 in cc)
 
   came : (w : Option ReadingEnd) → why ≡ w → AreTold run → is_flush p.fate ≡ true →
       all_read ≡ p.whole → (out : Out) → o ≡ outcome.Write out → IsAllThatCame c run p.whole
   came None is told flush whole out at = absurd (p.stopped flush is)
   came (Some reading.End) is told flush whole out at =
       inl (sym whole
-          ∙ sym (ap (λ (q : Pairs). q.mates)
-          (reads_end form c f r new all_read (reads_at reading.End is) told.forward told.reverse)))
+      ∙ sym (ap (λ (q : Pairs). q.mates)
+      (reads_end form c f r new all_read (reads_at reading.End is) told.forward told.reverse)))
   came (Some reading.Memory) is told flush whole out at =
       absurd (let e = sym (ap lacks_memory is) ∙ (at_write halt why failed o v out at).2 in cc)
   came (Some (reading.Fault fault)) is told flush whole out at =
@@ -334,15 +348,15 @@ module _ (form : Form) (c : Choices) (f r : FeedState) (new : SourceState) (befo
       let sound_is = sound_fate none in
       let whole = whole_is going Unbroken sound_is refl in
       let same : p.whole ≡ (all_pairs c run).mates = sym whole
-          ∙ sym (ap (λ (q : Pairs). q.mates) all) in
+      ∙ sym (ap (λ (q : Pairs). q.mates) all) in
       let P : Fate → Type 0 = λ x. OutletsTook before after
-          (λ out. text_of out (texts_of c.steps p.whole) ++ part_begun c.steps x out)
-          (failed_outlet x) in
+      (λ out. text_of out (texts_of c.steps p.whole) ++ part_begun c.steps x out)
+      (failed_outlet x) in
       record {
         took = all_took_same before after (λ out. text_of out (texts_of c.steps p.whole) ++ []) _
             None
             (λ out. append-nil (text_of out (texts_of c.steps p.whole))
-                ∙ ap (λ ms. text_of out (texts_of c.steps ms)) same) (subst P sound_is p.took);
+            ∙ ap (λ ms. text_of out (texts_of c.steps ms)) same) (subst P sound_is p.took);
         flushed = p.flushed none;
         counts = p.counts.counts ∙ ap (counts_of c.steps) same;
         tally = counted_same (tally_if c.tallied c.steps) counted.tally p.whole
@@ -362,12 +376,12 @@ module _ (form : Form) (c : Choices) (f r : FeedState) (new : SourceState) (befo
       absurd (let e = sym (ap ends_whole is) ∙ ends in cc)
   trimmed_by (HasFault fault none going there inside is) ends told =
       trimmed_all told none going (λ at. let e = sym there ∙ at in
-          cc) (Some fault) (reads_fault form c f r new all_read fault (reads_at
-          (reading.Fault fault) there) inside told.forward told.reverse) is
+      cc) (Some fault) (reads_fault form c f r new all_read fault (reads_at
+      (reading.Fault fault) there) inside told.forward told.reverse) is
   trimmed_by (IsOver none going there is) ends told =
       trimmed_all told none going (λ at. let e = sym there ∙ at in
-          cc) None (reads_end form c f r new all_read (reads_at reading.End there) told.forward
-          told.reverse) is
+      cc) None (reads_end form c f r new all_read (reads_at reading.End there) told.forward
+      told.reverse) is
 
   pub trimmed : IsTrue (ends_whole o) → AreTold run → IsTrimmed c run
   trimmed ends told = trimmed_by v ends told

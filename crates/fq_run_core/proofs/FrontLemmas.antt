@@ -11,27 +11,34 @@ use Rattle.fq_pair.proofs.FrontLemmas.{front_more}
 
 -- two records that make a pair
 record Meets (check : Bool) (m : Mates) (fs rs : List (List ℕ)) (forward reverse : Front) : Type 0
-    where
-  f : Read
-  r : Read
-  first : forward ≡ Found f fs
-  second : reverse ≡ Found r rs
-  together : belong check (mates_in f r) ≡ true
-  pair : mates_in f r ≡ m
+  where
+    f : Read
+    r : Read
+    first : forward ≡ Found f fs
+    second : reverse ≡ Found r rs
+    together : belong check (mates_in f r) ≡ true
+    pair : mates_in f r ≡ m
 
 found_met : (check : Bool) (n : ℕ) (m : Mates) (f r : Read) (gs qs fs rs : List (List ℕ)) →
     met check n (mates_in f r) gs qs ≡ Met m fs rs → Meets check m fs rs (Found f gs) (Found r qs)
 found_met check n m f r gs qs fs rs is = ⊎_elim
     (λ together.
     let same : Met (mates_in f r) gs qs ≡ Met m fs rs =
-        sym (cond-true (belong check (mates_in f r)) (Met (mates_in f r) gs qs)
-        (Stopped (NamesDiffer n)) together) ∙ is in
+    sym (cond-true (belong check (mates_in f r)) (Met (mates_in f r) gs qs)
+    (Stopped (NamesDiffer n)) together) ∙ is in
     let g : gs ≡ fs = cc in let q : qs ≡ rs = cc in let p : mates_in f r ≡ m = cc in
-    record { f = f; r = r; first = ap (Found f) g; second = ap (Found r) q; together =
-        together; pair = p })
+    record {
+      f = f;
+      r = r;
+      first = ap (Found f) g;
+      second = ap (Found r) q;
+      together =
+          together;
+      pair = p;
+    })
     (λ apart. absurd (let h =
-        sym (cond-false (belong check (mates_in f r)) (Met (mates_in f r) gs qs)
-        (Stopped (NamesDiffer n)) apart) ∙ is in cc))
+    sym (cond-false (belong check (mates_in f r)) (Met (mates_in f r) gs qs)
+    (Stopped (NamesDiffer n)) apart) ∙ is in cc))
     (cases_Bool (belong check (mates_in f r)))
 
 meets : (check : Bool) (n : ℕ) (m : Mates) (fs rs : List (List ℕ)) (forward reverse : Front) →
@@ -54,12 +61,12 @@ pub met_more : (check : Bool) (e : Encoding) (n : ℕ) (m : Mates)
 met_more check e n m forward reverse fs rs more more' is =
     let p = meets check (suc n) m fs rs (front e forward) (front e reverse) is in
     ap (λ x. meeting check (suc n) x (front e (reverse ++ more')))
-        (front_more more e p.f fs forward p.first)
+    (front_more more e p.f fs forward p.first)
     ∙ ap (meeting check (suc n) (Found p.f (fs ++ more)))
-        (front_more more' e p.r rs reverse p.second)
+    (front_more more' e p.r rs reverse p.second)
     ∙ cond-true (belong check (mates_in p.f p.r))
-        (Met (mates_in p.f p.r) (fs ++ more) (rs ++ more')) (Stopped (NamesDiffer (suc n)))
-        p.together
+    (Met (mates_in p.f p.r) (fs ++ more) (rs ++ more')) (Stopped (NamesDiffer (suc n)))
+    p.together
     ∙ ap (λ x. Met x (fs ++ more) (rs ++ more')) p.pair
 
 -- two records that make a pair, one after the other
@@ -81,14 +88,23 @@ found_interleaved : (check : Bool) (e : Encoding) (n : ℕ) (m : Mates) (f r : R
 found_interleaved check e n m f r ls qs fs rs second is = ⊎_elim
     (λ together.
     let same : Met (mates_in f r) qs qs ≡ Met m fs rs =
-        sym (cond-true (belong check (mates_in f r)) (Met (mates_in f r) qs qs)
-        (Stopped (NamesDiffer n)) together) ∙ is in
+    sym (cond-true (belong check (mates_in f r)) (Met (mates_in f r) qs qs)
+    (Stopped (NamesDiffer n)) together) ∙ is in
     let g : qs ≡ fs = cc in let q : qs ≡ rs = cc in let p : mates_in f r ≡ m = cc in
-    record { f = f; r = r; ls = ls; first = refl; second = second ∙ ap (Found r) g; same = sym q
-        ∙ g; together = together; pair = p })
+    record {
+      f = f;
+      r = r;
+      ls = ls;
+      first = refl;
+      second = second ∙ ap (Found r) g;
+      same = sym q
+          ∙ g;
+      together = together;
+      pair = p;
+    })
     (λ apart. absurd (let h =
-        sym (cond-false (belong check (mates_in f r)) (Met (mates_in f r) qs qs)
-        (Stopped (NamesDiffer n)) apart) ∙ is in cc))
+    sym (cond-false (belong check (mates_in f r)) (Met (mates_in f r) qs qs)
+    (Stopped (NamesDiffer n)) apart) ∙ is in cc))
     (cases_Bool (belong check (mates_in f r)))
 
 pub meets_interleaved : (check : Bool) (e : Encoding) (n : ℕ) (m : Mates) (fs rs : List (List ℕ))
@@ -112,6 +128,6 @@ interleaved_met_more check e n m ls fs rs more is =
     ap (interleaved_meeting check e (suc n)) (front_more more e p.f p.ls ls p.first)
     ∙ ap (meeting_after check (suc n) p.f) (front_more more e p.r fs p.ls p.second)
     ∙ cond-true (belong check (mates_in p.f p.r)) (Met (mates_in p.f p.r) (fs ++ more) (fs ++ more))
-        (Stopped (NamesDiffer (suc n))) p.together
+    (Stopped (NamesDiffer (suc n))) p.together
     ∙ ap (λ x. Met x (fs ++ more) (fs ++ more)) p.pair
     ∙ ap (λ xs. Met m (fs ++ more) (xs ++ more)) (sym p.same)

@@ -42,19 +42,25 @@ pub record Gathered (old now : SourceState) (tallied : Bool) (steps : List Step)
 module _ (tallied : Bool) (steps : List Step) where
   pub gathered_none : (s : SourceState) (done : Done) → GoesOn s →
       done ≡ made_of tallied steps done.number [] → Gathered s s tallied steps done 0
-  gathered_none s done goes clear = record { block = []; len = refl; made = clear; walks =
-      walks_none s goes.last; goes = goes }
+  gathered_none s done goes clear = record {
+    block = [];
+    len = refl;
+    made = clear;
+    walks =
+        walks_none s goes.last;
+    goes = goes;
+  }
 
   pub gathered_more : (old now next : SourceState) (done then : Done) (n : ℕ) (m : Mates) →
       Gathered old now tallied steps done n → Walks now next (m ∷ []) →
       next.forward.given ≤ next.most_bytes → (forward reverse : Read) → forward ≡ m.forward →
-          reverse ≡ m.reverse → then ≡ with_mates steps done (mates_in forward reverse) →
+      reverse ≡ m.reverse → then ≡ with_mates steps done (mates_in forward reverse) →
       Gathered old next tallied steps then (n + 1)
   gathered_more old now next done then n m g w within forward reverse first second added =
       let len = g.len in
       let is : then ≡ with_mates steps done m = added
-          ∙ ap (λ r. with_mates steps done (mates_in r reverse)) first
-          ∙ ap (λ r. with_mates steps done (mates_in m.forward r)) second in
+      ∙ ap (λ r. with_mates steps done (mates_in r reverse)) first
+      ∙ ap (λ r. with_mates steps done (mates_in m.forward r)) second in
       let number : done.number ≡ then.number = sym (ap (λ (d : Done). d.number) is) in
       record {
         block = g.block ++ m ∷ [];
@@ -122,14 +128,16 @@ module _ (tallied : Bool) (steps : List Step) where
       then ≡ done → Gathers old next tallied steps most then (Some reading.Memory)
   gathers_refused old now next done then n most m room g w same =
       let P : Done → Type 0 = λ d. Gathers old next tallied steps most d (Some reading.Memory) in
-      subst P (sym same) (gathers_stopped old now next done n most reading.Memory room g (m ∷ [],
-          walks_then old now next g.block (m ∷ []) g.walks w))
+      subst P (sym same) (gathers_stopped old now next done n most reading.Memory room g (
+        m ∷ [],
+        walks_then old now next g.block (m ∷ []) g.walks w,
+      ))
 
 -- equal flags, steps and bounds may be exchanged
 pub gathers_as : {old new : SourceState} {tallied tallied' : Bool} {steps steps' : List Step}
     {most most' : ℕ} {done : Done} {why : Option ReadingEnd} →
     tallied' ≡ tallied → steps' ≡ steps → most' ≡ most →
-        Gathers old new tallied' steps' most' done why → Gathers old new tallied steps most done why
+    Gathers old new tallied' steps' most' done why → Gathers old new tallied steps most done why
 gathers_as {old} {new} {tallied} {tallied'} {steps} {steps'} {most} {most'} {done} {why} asked same
     bound g =
     let O : Bool → Type 0 = λ b. Gathers old new b steps most done why in

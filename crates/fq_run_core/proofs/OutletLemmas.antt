@@ -11,8 +11,12 @@ use Rattle.fq_run_core.specs.Sending.{BreaksAt, Sends, FailsIn}
 
 -- nothing
 pub took_nothing : (o : OutletState) → TookText o o [] 0
-took_nothing o = record { told = refl; bytes = λ told. sym (append-nil o.taken); failures =
-    omega arith }
+took_nothing o = record {
+  told = refl;
+  bytes = λ told. sym (append-nil o.taken);
+  failures =
+      omega arith;
+}
 
 pub took_none : (o : Option OutletState) → Took o o [] 0
 took_none None = refl
@@ -63,15 +67,21 @@ module _ (old new : OutletStates) (texts : Outputs) where
       texts.forward_paired 0 → TookText old.forward_unpaired new.forward_unpaired
       texts.forward_unpaired 0 →
       TookText old.reverse_paired new.reverse_paired texts.reverse_paired 0 →
-          FailsIn old.reverse_unpaired new.reverse_unpaired texts.reverse_unpaired →
-          BreaksAt old new texts ReverseUnpaired
+      FailsIn old.reverse_unpaired new.reverse_unpaired texts.reverse_unpaired →
+      BreaksAt old new texts ReverseUnpaired
   fourth_breaks log a b c d =
       let P : Option OutletState → Type 0 = λ o. Took old.log o [] 0 in
       record {
         sent = d.sent;
         short = d.short;
-        took = elim [ ForwardPaired ↦ a | ForwardUnpaired ↦ b | ReversePaired ↦ c | ReverseUnpaired
-            ↦ d.took | Log ↦ subst P (sym log) (took_none old.log) ];
+        took = elim [
+          | ForwardPaired ↦ a
+          | ForwardUnpaired ↦ b
+          | ReversePaired ↦ c
+          | ReverseUnpaired
+              ↦ d.took
+          | Log ↦ subst P (sym log) (took_none old.log)
+        ];
       }
 
   pub broken : (failed : Out) (r : Result (Unit {0}) Out) → r ≡ Err failed →

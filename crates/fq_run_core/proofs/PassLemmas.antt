@@ -28,8 +28,11 @@ passes_refused c old o counted goes none = record {
   whole = [];
   fate = Unbroken;
   missed = [];
-  counts = record { counts = ap (λ (t : Total). t.counts) none; tally =
-      inr (ap (λ (t : Total). t.tally) none, refl, refl) };
+  counts = record {
+    counts = ap (λ (t : Total). t.counts) none;
+    tally =
+        inr (ap (λ (t : Total). t.tally) none, refl, refl);
+  };
   reads = ([], walks_none old goes);
   took = all_took_same o o (λ out. []) _ None (λ out. sym (no_more out)) (all_took_none o);
   failed = refl;
@@ -46,9 +49,14 @@ pub runs_refused : (form : Form) (c : Choices) (f r f' r' : FeedState) (o : Outl
     (counted : Total) → f' ≡ f → r' ≡ r → counted ≡ no_total false →
     Runs form c f r f' r' o o counted no_halt (Some reading.Memory) None
 runs_refused form c f r f' r' o counted same also none =
-    record { new = fresh_source form c f r; passes =
-        passes_refused c (fresh_source form c f r) o counted refl none; forward = same; reverse =
-        also }
+    record {
+      new = fresh_source form c f r;
+      passes =
+          passes_refused c (fresh_source form c f r) o counted refl none;
+      forward = same;
+      reverse =
+          also;
+    }
 
 pub passes_unasked : (c : Choices) (old : SourceState) (o : OutletStates) (total : Total)
     (w : Written) → old.last ≡ None → w ≡ nothing_written → total ≡ w.total →
@@ -69,8 +77,8 @@ pub runs_passed : (form : Form) (c : Choices) (f r f' r' : FeedState) (old new :
     (before after : OutletStates) (counted : Total) (halt : Halt) (why : Option ReadingEnd)
     (failed : Option Out) →
     old ≡ fresh_source form c f r → f' ≡ feed_in new.forward → r' ≡ feed_in new.reverse →
-        Passes c old new before after counted halt why failed →
-        Runs form c f r f' r' before after counted halt why failed
+    Passes c old new before after counted halt why failed →
+    Runs form c f r f' r' before after counted halt why failed
 runs_passed form c f r f' r' old new before after counted halt why failed is first second p =
     let P : SourceState → Type 0 = λ s. Passes c s new before after counted halt why failed in
     record { new = new; passes = subst P is p; forward = first; reverse = second }

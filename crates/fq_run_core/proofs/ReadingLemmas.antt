@@ -38,11 +38,11 @@ pub leads_all : (form : Form) (check : Bool) (e : Encoding) (n : ℕ) (ms : List
 leads_all form check e n [] f r f' r' p =
     let same : n ≡ n + 0 = omega arith in
     ap (λ ls. pairs_at form check e n ls r) p.0 ∙ ap (λ ls. pairs_at form check e n f' ls) p.1
-        ∙ ap (λ (k : ℕ). pairs_at form check e k f' r') same
+    ∙ ap (λ (k : ℕ). pairs_at form check e k f' r') same
 leads_all form check e n (m ∷ ms) f r f' r' p =
     let number : suc n + length ms ≡ n + suc (length ms) = omega arith in
     pairs_at-met check e n form f r m p.0 p.1 p.2
-        ∙ ap (with_pair m) (leads_all form check e (suc n) ms p.0 p.1 f' r' p.3)
+    ∙ ap (with_pair m) (leads_all form check e (suc n) ms p.0 p.1 f' r' p.3)
     ∙ ap (λ (k : ℕ). put_before (m ∷ ms) (pairs_at form check e k f' r')) number
 
 -- how often a side's feed failed
@@ -52,7 +52,8 @@ failed_by form side _ = 0
 
 -- One side.
 
-module _ (c : Choices) (f : FeedState) (s : SideState) (n : ℕ) (d : Draws (fresh_side c f) s n) where
+module _ (c : Choices) (f : FeedState) (s : SideState) (n : ℕ)
+    (d : Draws (fresh_side c f) s n) where
   fed_length : IsTrue f.tells → length (fed (fresh_side c f) s) ≡ s.taken
   fed_length told = let fits = d.size told in length-take-le (s.taken - 0) f.to_come fits
       ∙ omega arith
@@ -62,15 +63,19 @@ module _ (c : Choices) (f : FeedState) (s : SideState) (n : ℕ) (d : Draws (fre
       let all = ap length (d.bytes told) in
       let len = fed_length told in
       let same : length f.to_come - length s.to_come ≡ s.taken - 0 =
-          omega (arith, length-append (fed (fresh_side c f) s) s.to_come) in
+      omega (arith, length-append (fed (fresh_side c f) s) s.to_come) in
       ap (λ k. take k f.to_come) same
 
   pub gave_length : IsTrue f.tells → length (gave f (feed_in s)) ≡ s.taken
   gave_length told = ap length (gave_is told) ∙ fed_length told
 
   pub fed_back : Fed f (feed_in s) n
-  fed_back = record { told = d.told; bytes = λ told. d.bytes told
-      ∙ ap (λ xs. xs ++ s.to_come) (sym (gave_is told)); failures = d.failures }
+  fed_back = record {
+    told = d.told;
+    bytes = λ told. d.bytes told
+        ∙ ap (λ xs. xs ++ s.to_come) (sym (gave_is told));
+    failures = d.failures;
+  }
 
 -- Both sides.
 
@@ -85,34 +90,36 @@ module _ (form : Form) (c : Choices) (f r : FeedState) where
   walked : (s : SourceState) (ms : List Mates) → Walks (fresh_source form c f r) s ms →
       IsTrue f.tells → IsTrue r.tells →
       all_of ≡ put_before ms (pairs_at form c.check_names c.encoding (length ms) (lines
-          (rest s.forward)) (lines (rest s.reverse)))
+      (rest s.forward)) (lines (rest s.reverse)))
   walked s ms w tf tr =
       let number : 0 + length ms ≡ length ms = omega arith in
       pairs_in-lines c.check_names c.encoding 0 form f.to_come r.to_come
       ∙ leads_all form c.check_names c.encoding 0 ms _ _ _ _ (w.leads tf tr)
       ∙ ap (λ (k : ℕ). put_before ms (pairs_at form c.check_names c.encoding k (lines
-          (rest s.forward)) (lines (rest s.reverse)))) number
+      (rest s.forward)) (lines (rest s.reverse)))) number
 
   front_as : (s : SourceState) (ms : List Mates) (x : PairFront) →
       Walks (fresh_source form c f r) s ms → next_front s ≡ x →
       front_in form c.check_names c.encoding (length ms) (lines (rest s.forward))
-          (lines (rest s.reverse)) ≡ x
+      (lines (rest s.reverse)) ≡ x
   front_as s ms x w is =
       let same = w.same in let given = w.given in let number : length ms ≡ s.given = omega arith in
       ap (λ (o : Form). front_in o c.check_names c.encoding (length ms) (lines (rest s.forward))
-          (lines (rest s.reverse))) (sym same.form)
+      (lines (rest s.reverse))) (sym same.form)
       ∙ ap (λ (b : Bool). front_in s.form b c.encoding (length ms) (lines (rest s.forward))
-          (lines (rest s.reverse))) (sym same.check_names)
+      (lines (rest s.reverse))) (sym same.check_names)
       ∙ ap (λ (e : Encoding). front_in s.form s.check_names e (length ms) (lines (rest s.forward))
-          (lines (rest s.reverse))) (sym same.encoding)
+      (lines (rest s.reverse))) (sym same.encoding)
       ∙ ap (λ (k : ℕ). front_in s.form s.check_names s.encoding k (lines (rest s.forward))
-          (lines (rest s.reverse))) number ∙ is
+      (lines (rest s.reverse))) number ∙ is
 
   is_first : (s : SourceState) (ms : List Mates) → Walks (fresh_source form c f r) s ms →
       IsTrue f.tells → IsTrue r.tells → AreFirst ms all_of.mates
-  is_first s ms w tf tr =
-      ((pairs_at form c.check_names c.encoding (length ms) (lines (rest s.forward))
-      (lines (rest s.reverse))).mates, ap (λ (p : Pairs). p.mates) (walked s ms w tf tr))
+  is_first s ms w tf tr = (
+    (pairs_at form c.check_names c.encoding (length ms) (lines (rest s.forward))
+        (lines (rest s.reverse))).mates,
+    ap (λ (p : Pairs). p.mates) (walked s ms w tf tr),
+  )
 
   -- the pairs that were read are the first of all pairs
   pub reads_first : (s : SourceState) (ms : List Mates) (why : Option ReadingEnd) →
@@ -131,11 +138,11 @@ module _ (form : Form) (c : Choices) (f r : FeedState) where
   reads_end s ms p tf tr =
       let m = p.0 in let w = p.1 in let e = p.2 in let d = w.forward in let d' = w.reverse in
       walked p.0 ms w tf tr
-          ∙ ap (put_before ms) (pairs_at-ended c.check_names c.encoding (length ms) form (lines
-          (rest m.forward)) (lines (rest m.reverse))
-          (front_as p.0 ms Ended w (e.end_is (d.told ∙ tf) (d'.told ∙ tr))))
+      ∙ ap (put_before ms) (pairs_at-ended c.check_names c.encoding (length ms) form (lines
+      (rest m.forward)) (lines (rest m.reverse))
+      (front_as p.0 ms Ended w (e.end_is (d.told ∙ tf) (d'.told ∙ tr))))
       ∙ ap (λ (xs : List Mates). let q : Pairs = record { mates = xs; fault = None } in
-          q) (append-nil ms)
+      q) (append-nil ms)
 
   -- at a fault in the texts they are all pairs too, and this is the fault
   pub reads_fault : (s : SourceState) (ms : List Mates) (why : InputFault) →
@@ -145,11 +152,11 @@ module _ (form : Form) (c : Choices) (f r : FeedState) where
   reads_fault s ms why p inside tf tr =
       let m = p.0 in let w = p.1 in let e = p.2 in let d = w.forward in let d' = w.reverse in
       walked p.0 ms w tf tr
-          ∙ ap (put_before ms) (pairs_at-stopped c.check_names c.encoding (length ms) form (lines
-          (rest m.forward)) (lines (rest m.reverse)) why
-          (front_as p.0 ms (Stopped why) w (e.fault_is (d.told ∙ tf) (d'.told ∙ tr) inside)))
+      ∙ ap (put_before ms) (pairs_at-stopped c.check_names c.encoding (length ms) form (lines
+      (rest m.forward)) (lines (rest m.reverse)) why
+      (front_as p.0 ms (Stopped why) w (e.fault_is (d.told ∙ tf) (d'.told ∙ tr) inside)))
       ∙ ap (λ (xs : List Mates). let q : Pairs = record { mates = xs; fault = Some why } in
-          q) (append-nil ms)
+      q) (append-nil ms)
 
   -- the failures of a side, by the form of the source at the fault
   failed_as : (m : SourceState) (old new : SideState) (side : Side) (why : InputFault) →
@@ -185,19 +192,19 @@ module _ (form : Form) (c : Choices) (f r : FeedState) where
       (pairs_in s.form s.check_names s.encoding s.given (whole_part xs) (whole_part ys)).mates
       ≡ [] →
       (pairs_at form c.check_names c.encoding (0 + length ms) (lines (whole_part xs))
-          (lines (whole_part ys))).mates ≡ []
+      (lines (whole_part ys))).mates ≡ []
   lacks_as s ms xs ys w is =
       let same = w.same in
       ap (λ (p : Pairs). p.mates) (sym (pairs_in-lines c.check_names c.encoding (0 + length ms) form
-          (whole_part xs) (whole_part ys))
+      (whole_part xs) (whole_part ys))
       ∙ ap (λ (o : Form). pairs_in o c.check_names c.encoding (0 + length ms) (whole_part xs)
-          (whole_part ys)) (sym same.form)
+      (whole_part ys)) (sym same.form)
       ∙ ap (λ (b : Bool). pairs_in s.form b c.encoding (0 + length ms) (whole_part xs)
-          (whole_part ys)) (sym same.check_names)
+      (whole_part ys)) (sym same.check_names)
       ∙ ap (λ (e : Encoding). pairs_in s.form s.check_names e (0 + length ms) (whole_part xs)
-          (whole_part ys)) (sym same.encoding)
+      (whole_part ys)) (sym same.encoding)
       ∙ ap (λ (k : ℕ). pairs_in s.form s.check_names s.encoding k (whole_part xs) (whole_part ys))
-          (sym w.given)) ∙ is
+      (sym w.given)) ∙ is
 
 -- If reading was cut short, the complete lines that came have no more pairs.
 module _ (c : Choices) (f r : FeedState) where
@@ -205,85 +212,85 @@ module _ (c : Choices) (f r : FeedState) where
       Reads (fresh_source TwoTexts c f r) s ms (Some (reading.Fault why)) →
       is_cut_short why ≡ true → IsTrue f.tells → IsTrue r.tells →
       length (pairs_in TwoTexts c.check_names c.encoding 0
-          (whole_part (fed (fresh_side c f) s.forward))
-          (whole_part (fed (fresh_side c r) s.reverse))).mates ≤ length ms
+      (whole_part (fed (fresh_side c f) s.forward))
+      (whole_part (fed (fresh_side c r) s.reverse))).mates ≤ length ms
   cut_two s ms why p short tf tr =
       let m = p.0 in let w = p.1 in let e = p.2 in let d = w.forward in let d' = w.reverse in
       let F = lines_before (fresh_side c f) m.forward s.forward _ w.forward e.forward tf
-          (w.forward_used tf) in
+      (w.forward_used tf) in
       let R = lines_before (fresh_side c r) m.reverse s.reverse _ w.reverse e.reverse tr
-          (w.reverse_used tr) in
+      (w.reverse_used tr) in
       let P : List (List ℕ) → Type 0 = λ ls. Leads TwoTexts c.check_names c.encoding 0 ms ls
-          (lines (rest (fresh_side c r))) (lines (rest m.forward)) (lines (rest m.reverse)) in
+      (lines (rest (fresh_side c r))) (lines (rest m.forward)) (lines (rest m.reverse)) in
       let Q : List (List ℕ) → Type 0 = λ ls. Leads TwoTexts c.check_names c.encoding 0 ms
-          (lines (whole_part (fed (fresh_side c f) s.forward)) ++ lines
-          (behind_whole (fed (fresh_side c f) s.forward) ++ s.forward.to_come)) ls
-          (lines (rest m.forward)) (lines (rest m.reverse)) in
+      (lines (whole_part (fed (fresh_side c f) s.forward)) ++ lines
+      (behind_whole (fed (fresh_side c f) s.forward) ++ s.forward.to_come)) ls
+      (lines (rest m.forward)) (lines (rest m.reverse)) in
       let lacks = lacks_as TwoTexts c f r m ms (m.forward.in_hand ++ fed m.forward s.forward)
-          (m.reverse.in_hand ++ fed m.reverse s.reverse) w (e.lacks short (d.told ∙ tf) (d'.told
-          ∙ tr)) in
+      (m.reverse.in_hand ++ fed m.reverse s.reverse) w (e.lacks short (d.told ∙ tf) (d'.told
+      ∙ tr)) in
       at_most c.check_names c.encoding (lines (behind_whole
-          (fed (fresh_side c f) s.forward) ++ s.forward.to_come))
-          (lines (behind_whole (fed (fresh_side c r) s.reverse) ++ s.reverse.to_come)) 0 ms
+      (fed (fresh_side c f) s.forward) ++ s.forward.to_come))
+      (lines (behind_whole (fed (fresh_side c r) s.reverse) ++ s.reverse.to_come)) 0 ms
       (lines (whole_part (fed (fresh_side c f) s.forward)))
-          (lines (whole_part (fed (fresh_side c r) s.reverse))) (lines (rest m.forward))
-          (lines (rest m.reverse))
+      (lines (whole_part (fed (fresh_side c r) s.reverse))) (lines (rest m.forward))
+      (lines (rest m.reverse))
       (subst Q R (subst P F (w.leads tf tr)))
       (λ fs rs first second. ⊎_elim
       (λ came. ⊎_elim
       (λ also.
       let none : mates_at c.check_names c.encoding (0 + length ms) fs rs ≡ [] =
       ap (λ ls. mates_at c.check_names c.encoding (0 + length ms) ls rs) came
-          ∙ ap (mates_at c.check_names c.encoding (0 + length ms)
-          (lines (whole_part (m.forward.in_hand ++ fed m.forward s.forward)))) also ∙ lacks in
+      ∙ ap (mates_at c.check_names c.encoding (0 + length ms)
+      (lines (whole_part (m.forward.in_hand ++ fed m.forward s.forward)))) also ∙ lacks in
       let len = ap length none in omega arith)
       (λ nothing_left.
       let none = ap (mates_at c.check_names c.encoding (0 + length ms) fs) nothing_left
-          ∙ no_reverse c.check_names c.encoding (0 + length ms) fs in
+      ∙ no_reverse c.check_names c.encoding (0 + length ms) fs in
       let len = ap length none in omega arith)
       (lines_left (fresh_side c r) m.reverse s.reverse _ w.reverse e.reverse tr (w.reverse_used tr)
-          rs second))
+      rs second))
       (λ nothing_left.
       let none = ap (λ ls. mates_at c.check_names c.encoding (0 + length ms) ls rs) nothing_left
-          ∙ no_forward c.check_names c.encoding (0 + length ms) rs in
+      ∙ no_forward c.check_names c.encoding (0 + length ms) rs in
       let len = ap length none in omega arith)
       (lines_left (fresh_side c f) m.forward s.forward _ w.forward e.forward tf (w.forward_used tf)
-          fs first))
+      fs first))
 
   cut_one : (s : SourceState) (ms : List Mates) (why : InputFault) →
       Reads (fresh_source InterleavedText c f r) s ms (Some (reading.Fault why)) →
       is_cut_short why ≡ true → IsTrue f.tells → IsTrue r.tells →
       length (pairs_in InterleavedText c.check_names c.encoding 0
-          (whole_part (fed (fresh_side c f) s.forward))
-          (whole_part (fed (fresh_side c r) s.reverse))).mates ≤ length ms
+      (whole_part (fed (fresh_side c f) s.forward))
+      (whole_part (fed (fresh_side c r) s.reverse))).mates ≤ length ms
   cut_one s ms why p short tf tr =
       let m = p.0 in let w = p.1 in let e = p.2 in let d = w.forward in let d' = w.reverse in
       let F = lines_before (fresh_side c f) m.forward s.forward _ w.forward e.forward tf
-          (w.forward_used tf) in
+      (w.forward_used tf) in
       let P : List (List ℕ) → Type 0 = λ ls. Leads InterleavedText c.check_names c.encoding 0 ms ls
-          (lines (rest (fresh_side c r))) (lines (rest m.forward)) (lines (rest m.reverse)) in
+      (lines (rest (fresh_side c r))) (lines (rest m.forward)) (lines (rest m.reverse)) in
       let lacks = lacks_as InterleavedText c f r m ms (m.forward.in_hand ++ fed m.forward s.forward)
-          (m.reverse.in_hand ++ fed m.reverse s.reverse) w (e.lacks short (d.told ∙ tf) (d'.told
-          ∙ tr)) in
+      (m.reverse.in_hand ++ fed m.reverse s.reverse) w (e.lacks short (d.told ∙ tf) (d'.told
+      ∙ tr)) in
       interleaved_at_most c.check_names c.encoding
-          (lines (behind_whole (fed (fresh_side c f) s.forward) ++ s.forward.to_come)) 0 ms
+      (lines (behind_whole (fed (fresh_side c f) s.forward) ++ s.forward.to_come)) 0 ms
       (lines (whole_part (fed (fresh_side c f) s.forward))) (lines (rest (fresh_side c r)))
-          (lines (rest m.forward)) (lines (rest m.reverse))
+      (lines (rest m.forward)) (lines (rest m.reverse))
       (subst P F (w.leads tf tr))
       (λ fs first. ⊎_elim
       (λ came. let none = ap (interleaved_at c.check_names c.encoding (0 + length ms)) came
-          ∙ lacks in let len = ap length none in omega arith)
+      ∙ lacks in let len = ap length none in omega arith)
       (λ nothing_left. let none = ap (interleaved_at c.check_names c.encoding (0 + length ms))
-          nothing_left ∙ no_interleaved c.check_names c.encoding (0 + length ms) in let len =
-          ap length none in omega arith)
+      nothing_left ∙ no_interleaved c.check_names c.encoding (0 + length ms) in let len =
+      ap length none in omega arith)
       (lines_left (fresh_side c f) m.forward s.forward _ w.forward e.forward tf (w.forward_used tf)
-          fs first))
+      fs first))
 
   pub reads_cut : (form : Form) (s : SourceState) (ms : List Mates) (why : InputFault) →
       Reads (fresh_source form c f r) s ms (Some (reading.Fault why)) → is_cut_short why ≡ true →
       IsTrue f.tells → IsTrue r.tells →
       length (pairs_in form c.check_names c.encoding 0 (whole_part (fed (fresh_side c f) s.forward))
-          (whole_part (fed (fresh_side c r) s.reverse))).mates ≤ length ms
+      (whole_part (fed (fresh_side c r) s.reverse))).mates ≤ length ms
   reads_cut TwoTexts = cut_two
   reads_cut InterleavedText = cut_one
 
@@ -292,27 +299,27 @@ module _ (c : Choices) (f r : FeedState) where
       Reads (fresh_source InterleavedText c f r) s ms (Some (reading.Fault (Text side fault))) →
       is_cut fault ≡ true →
       ((P : Side → Type 0) → if_cut P (Text side fault) → P side) → IsTrue f.tells →
-          IsTrue r.tells →
-          side_after
-          (length (records c.encoding (whole_part (fed (fresh_side c f) s.forward))).reads) ≡ side
+      IsTrue r.tells →
+      side_after
+      (length (records c.encoding (whole_part (fed (fresh_side c f) s.forward))).reads) ≡ side
   reads_next s ms side fault p cut of_side tf tr =
       let m = p.0 in let w = p.1 in let e = p.2 in let d = w.forward in let same = w.same in
       let F = lines_before (fresh_side c f) m.forward s.forward _ w.forward e.forward tf
-          (w.forward_used tf) in
+      (w.forward_used tf) in
       let B = lines_behind (fresh_side c f) m.forward s.forward _ w.forward e.forward tf
-          (w.forward_used tf) (e.going same.form cut) in
+      (w.forward_used tf) (e.going same.form cut) in
       let more = lines (behind_whole (fed (fresh_side c f) s.forward) ++ s.forward.to_come) in
       let behind = lines (whole_part (came m.forward s.forward)) in
       let P : List (List ℕ) → Type 0 = λ ls. Leads InterleavedText c.check_names c.encoding 0 ms ls
-          (lines (rest (fresh_side c r))) (lines (rest m.forward)) (lines (rest m.reverse)) in
+      (lines (rest (fresh_side c r))) (lines (rest m.forward)) (lines (rest m.reverse)) in
       let Q : List (List ℕ) → Type 0 =
       λ ls. Leads InterleavedText c.check_names c.encoding 0 ms
-          (lines (whole_part (fed (fresh_side c f) s.forward)) ++ more)
-          (lines (rest (fresh_side c r))) ls (lines (rest m.reverse)) in
+      (lines (whole_part (fed (fresh_side c f) s.forward)) ++ more)
+      (lines (rest (fresh_side c r))) ls (lines (rest m.reverse)) in
       turn_kept c.check_names c.encoding more behind 0 ms
-          (lines (whole_part (fed (fresh_side c f) s.forward))) (lines (rest (fresh_side c r)))
-          (lines (rest m.reverse))
+      (lines (whole_part (fed (fresh_side c f) s.forward))) (lines (rest (fresh_side c r)))
+      (lines (rest m.reverse))
       (subst Q B (subst P F (w.leads tf tr)))
       ∙ ap (λ (x : Encoding). side_after (length (records x
-          (whole_part (came m.forward s.forward))).reads)) (sym same.encoding)
+      (whole_part (came m.forward s.forward))).reads)) (sym same.encoding)
       ∙ of_side (IsNext m s) (e.next same.form) (d.told ∙ tf)

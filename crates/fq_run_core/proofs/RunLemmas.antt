@@ -19,22 +19,36 @@ use Rattle.fq_run_core.proofs.OutletLemmas.{still_healthy}
 use Rattle.fq_run_core.proofs.VerdictLemmas.{Verdict, verdict, least, is_serial}
 use Rattle.fq_run_core.proofs.EndLemmas.{Closes, closes, every, trimmed}
 
-module _ (form : Form) (c : Choices) (f r f' r' : FeedState) (before mid : OutletStates) (counted : Total) (halt : Halt) (why : Option ReadingEnd) (broken : Option Out)
+module _ (form : Form) (c : Choices) (f r f' r' : FeedState) (before mid : OutletStates)
+    (counted : Total) (halt : Halt) (why : Option ReadingEnd) (broken : Option Out)
     (p : Runs form c f r f' r' before mid counted halt why broken) where
   -- outlets that did not fail have no failures yet
   pub runs_healthy : AreHealthy before → broken ≡ None → AreHealthy mid
   runs_healthy h none =
       let q = p.passes in
       let P : Option Out → Type 0 = λ b. OutletsTook before mid
-          (λ out. text_of out (texts_of c.steps q.whole) ++ part_begun c.steps q.fate out) b in
+      (λ out. text_of out (texts_of c.steps q.whole) ++ part_begun c.steps q.fate out) b in
       still_healthy before mid _ h (subst P (sym q.failed ∙ none) q.took)
 
-  module _ (after : OutletStates) (failed : Option Out) (o : Outcome) (q : FlushesAfter broken mid after failed) (is : o ≡ outcome_of (occurred halt why failed)) (sound : f.failures ≡ 0) (sound' : r.failures ≡ 0) where
+  module _ (after : OutletStates) (failed : Option Out) (o : Outcome)
+      (q : FlushesAfter broken mid after failed) (is : o ≡ outcome_of (occurred halt why failed))
+      (sound : f.failures ≡ 0) (sound' : r.failures ≡ 0) where
     -- the run
     abbrev pub run_with : FeedState → FeedState → Run
-    run_with x y = record { form = form; forward = f; reverse = r; outlets = before; forward_left =
-        Some x; reverse_left = Some y; outlets_left = after; outcome = o; counts =
-        counted.counts; tally = counted.tally }
+    run_with x y = record {
+      form = form;
+      forward = f;
+      reverse = r;
+      outlets = before;
+      forward_left =
+          Some x;
+      reverse_left = Some y;
+      outlets_left = after;
+      outcome = o;
+      counts =
+          counted.counts;
+      tally = counted.tally;
+    }
 
     closed : Closes c (fresh_source form c f r) p.new before after counted halt why failed
     closed = closes c (fresh_source form c f r) p.new before mid after counted halt why broken
@@ -54,15 +68,18 @@ module _ (form : Form) (c : Choices) (f r f' r' : FeedState) (before mid : Outle
     run_every =
         let new = p.new in
         let P : FeedState → Type 0 = λ x. EveryEnding c (run_with x r') in let Q : FeedState →
-            Type 0 = λ y. EveryEnding c (run_with (feed_in new.forward) y) in
+        Type 0 = λ y. EveryEnding c (run_with (feed_in new.forward) y) in
         subst P (sym p.forward) (subst Q (sym p.reverse) (every form c f r p.new before after
-            counted halt why failed o closed judged sound sound'))
+        counted halt why failed o closed judged sound sound'))
 
     pub run_whole : IsTrue (ends_whole o) → AreTold (run_with f' r') → IsTrimmed c (run_with f' r')
     run_whole ends told =
         let new = p.new in
         let P : FeedState → Type 0 = λ x. IsTrimmed c (run_with x r') in let Q : FeedState →
-            Type 0 = λ y. IsTrimmed c (run_with (feed_in new.forward) y) in
+        Type 0 = λ y. IsTrimmed c (run_with (feed_in new.forward) y) in
         subst P (sym p.forward) (subst Q (sym p.reverse) (trimmed form c f r p.new before after
-            counted halt why failed o closed judged sound sound' ends (record { forward =
-            told.forward; reverse = told.reverse })))
+        counted halt why failed o closed judged sound sound' ends (record {
+          forward =
+              told.forward;
+          reverse = told.reverse;
+        })))

@@ -43,9 +43,9 @@ fewer test (m ∷ ms) =
     let rest = fewer test ms in
     ⊎_elim
     (λ passes. let e =
-        ap length (cond-true (test m) (m ∷ filter test ms) (filter test ms) passes) in omega arith)
+    ap length (cond-true (test m) (m ∷ filter test ms) (filter test ms) passes) in omega arith)
     (λ fails. let e = ap length (cond-false (test m) (m ∷ filter test ms) (filter test ms) fails) in
-        omega arith)
+    omega arith)
     (cases_Bool (test m))
 
 capped_small : (a b : ℕ) → a + b < 2 ^ 62 → capped_sum a b ≡ a + b
@@ -57,13 +57,13 @@ pub counts_added : (steps : List Step) (ms ns : List Mates) (a b : Counts) →
     capped a b ≡ counts_of steps (ms ++ ns)
 counts_added steps ms ns a b first second small =
     let test = λ (t : Mates → Bool). capped_small (length (filter t ms)) (length (filter t ns))
-        (let m = fewer t ms in let n = fewer t ns in omega arith) in
+    (let m = fewer t ms in let n = fewer t ns in omega arith) in
     let all = capped_small (length ms) (length ns) small in
     let both = test (both_survive steps) in
     let forward = test (forward_alone steps) in
     let reverse = test (reverse_alone steps) in
     let none = test (none_survive steps) in
     let sums : capped (counts_of steps ms) (counts_of steps ns)
-        ≡ sum_of (counts_of steps ms) (counts_of steps ns) = cc in
+    ≡ sum_of (counts_of steps ms) (counts_of steps ns) = cc in
     ap (λ (x : Counts). capped x b) first ∙ ap (capped (counts_of steps ms)) second ∙ sums
-        ∙ sym (counts_then steps ms ns)
+    ∙ sym (counts_then steps ms ns)

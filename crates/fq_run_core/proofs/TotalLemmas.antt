@@ -25,8 +25,11 @@ no_tally_is false steps = refl
 
 pub no_total_is : (tallied : Bool) (steps : List Step) →
     no_total tallied ≡ total_of tallied steps []
-no_total_is tallied steps = ap (λ (t : Option Tally). let x : Total = record { counts =
-    counts_of steps []; tally = t } in x) (no_tally_is tallied steps)
+no_total_is tallied steps = ap (λ (t : Option Tally). let x : Total = record {
+  counts =
+      counts_of steps [];
+  tally = t;
+} in x) (no_tally_is tallied steps)
 
 -- tallies add up
 tally_added : (tallied : Bool) (steps : List Step) (ms ns : List Mates) →
@@ -44,16 +47,19 @@ pub total_added : (tallied : Bool) (steps : List Step) (ms ns : List Mates) (tot
 total_added tallied steps ms ns total done first texts tally small =
     let with : Counts → Option Tally → Total = λ n t. record { counts = n; tally = t } in
     let counts = counts_added steps ms ns total.counts done.texts.counts
-        (ap (λ (t : Total). t.counts) first) (ap (λ (t : Outputs). t.counts) texts) small in
+    (ap (λ (t : Total). t.counts) first) (ap (λ (t : Outputs). t.counts) texts) small in
     ap (λ (n : Counts). with n (tally_plus total.tally done.tally)) counts
     ∙ ap (λ (t : Option Tally). with (counts_of steps (ms ++ ns)) (tally_plus t done.tally))
-        (ap (λ (t : Total). t.tally) first)
+    (ap (λ (t : Total). t.tally) first)
     ∙ ap (λ (t : Option Tally). with (counts_of steps (ms ++ ns))
-        (tally_plus (tally_if tallied steps ms) t)) tally
+    (tally_plus (tally_if tallied steps ms) t)) tally
     ∙ ap (with (counts_of steps (ms ++ ns))) (tally_added tallied steps ms ns)
 
 -- a total of pairs counts them, whatever was read and whichever worker stopped
 pub is_counted : (c : Choices) (whole : List Mates) (halt : Halt) (why : Option ReadingEnd)
     (total : Total) → total ≡ total_of c.tallied c.steps whole → IsCounted c whole halt why total
-is_counted c whole halt why total is = record { counts = ap (λ (t : Total). t.counts) is; tally =
-    inl (ap (λ (t : Total). t.tally) is) }
+is_counted c whole halt why total is = record {
+  counts = ap (λ (t : Total). t.counts) is;
+  tally =
+      inl (ap (λ (t : Total). t.tally) is);
+}

@@ -183,7 +183,7 @@ module _ (halt : Halt) (why : Option ReadingEnd) (failed : Option Out) (o : Outc
   at_read (FailedAt x there going enough is) side at = absurd (let e = sym is ∙ at in cc)
   at_read (CannotRead x none going there is) side at =
       let e = sym is ∙ at in let same : x ≡ side = cc in
-          (there ∙ ap (λ (s : Side). Some (reading.Fault (Text s text.Read))) same, none, going)
+      (there ∙ ap (λ (s : Side). Some (reading.Fault (Text s text.Read))) same, none, going)
   at_read (HasNoEnd x none going there is) side at = absurd (let e = sym is ∙ at in cc)
   at_read (HasFault fault none going there inside is) side at = absurd (let e = sym is ∙ at in cc)
   at_read (IsOver none going there is) side at = absurd (let e = sym is ∙ at in cc)
@@ -196,7 +196,7 @@ module _ (halt : Halt) (why : Option ReadingEnd) (failed : Option Out) (o : Outc
   at_endless (CannotRead x none going there is) side at = absurd (let e = sym is ∙ at in cc)
   at_endless (HasNoEnd x none going there is) side at =
       let e = sym is ∙ at in let same : x ≡ side = cc in
-          (there ∙ ap (λ (s : Side). Some (reading.Fault (Text s text.Endless))) same, none, going)
+      (there ∙ ap (λ (s : Side). Some (reading.Fault (Text s text.Endless))) same, none, going)
   at_endless (HasFault fault none going there inside is) side at =
       absurd (let e = sym is ∙ at in cc)
   at_endless (IsOver none going there is) side at = absurd (let e = sym is ∙ at in cc)

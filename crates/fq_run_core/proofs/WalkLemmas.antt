@@ -19,8 +19,16 @@ fed_none s = let none : s.taken - s.taken ≡ 0 = omega arith in
     ap (λ n. take n s.to_come ++ s.to_come) (sym none)
 
 draws_none : (s : SideState) → Draws s s 0
-draws_none s = record { told = refl; max_reads = refl; grows = omega arith; ended =
-    λ over. over; bytes = λ told. fed_none s; size = λ told. omega arith; failures = omega arith }
+draws_none s = record {
+  told = refl;
+  max_reads = refl;
+  grows = omega arith;
+  ended =
+      λ over. over;
+  bytes = λ told. fed_none s;
+  size = λ told. omega arith;
+  failures = omega arith;
+}
 
 uses_none : (s : SideState) → Uses s s
 uses_none s = record { used = []; split = refl; at_line = inl refl }
@@ -30,33 +38,42 @@ uses_none s = record { used = []; split = refl; at_line = inl refl }
 leads_then : (form : Form) (check : Bool) (e : Encoding) (m n : ℕ) (ms ns : List Mates)
     (f r f' r' f'' r'' : List (List ℕ)) → n ≡ m + length ms →
     Leads form check e m ms f r f' r' → Leads form check e n ns f' r' f'' r'' →
-        Leads form check e m (ms ++ ns) f r f'' r''
+    Leads form check e m (ms ++ ns) f r f'' r''
 leads_then form check e m n [] ns f r f' r' f'' r'' is p q =
     let same : n ≡ m = omega arith in
     let P : ℕ → Type 0 = λ k. Leads form check e k ns f r f'' r'' in
     let Q : List (List ℕ) → Type 0 = λ ls. Leads form check e n ns ls r f'' r'' in
     let R : List (List ℕ) → Type 0 = λ ls. Leads form check e n ns f' ls f'' r'' in
     subst P same (subst Q (sym p.0) (subst R (sym p.1) q))
-leads_then form check e m n (x ∷ ms) ns f r f' r' f'' r'' is p q =
-    (p.0, p.1, p.2, leads_then form check e (suc m) n ms ns p.0 p.1 f' r' f'' r'' (omega arith) p.3
-    q)
+leads_then form check e m n (x ∷ ms) ns f r f' r' f'' r'' is p q = (
+  p.0,
+  p.1,
+  p.2,
+  leads_then form check e (suc m) n ms ns p.0 p.1 f' r' f'' r'' (omega arith) p.3
+      q,
+)
 
 leads_as : (form form' : Form) (check check' : Bool) (e e' : Encoding) (n : ℕ) (ms : List Mates)
     (f r f' r' : List (List ℕ)) → form' ≡ form → check' ≡ check → e' ≡ e →
     Leads form' check' e' n ms f r f' r' → Leads form check e n ms f r f' r'
 leads_as form form' check check' e e' n ms f r f' r' formed is encoded p =
     let P : Bool → Type 0 = λ c. Leads form c e n ms f r f' r' in let Q : Encoding → Type 0 =
-        λ d. Leads form check' d n ms f r f' r' in
+    λ d. Leads form check' d n ms f r f' r' in
     let R : Form → Type 0 = λ x. Leads x check' e' n ms f r f' r' in
-        subst P is (subst Q encoded (subst R formed p))
+    subst P is (subst Q encoded (subst R formed p))
 
 same_none : (s : SourceState) → KeepsSettings s s
 same_none s = record { form = refl; encoding = refl; check_names = refl; most_bytes = refl }
 
 pub same_then : (a b c : SourceState) → KeepsSettings a b → KeepsSettings b c → KeepsSettings a c
-same_then a b c p q = record { form = q.form ∙ p.form; encoding = q.encoding
-    ∙ p.encoding; check_names = q.check_names ∙ p.check_names; most_bytes = q.most_bytes
-    ∙ p.most_bytes }
+same_then a b c p q = record {
+  form = q.form ∙ p.form;
+  encoding = q.encoding
+      ∙ p.encoding;
+  check_names = q.check_names ∙ p.check_names;
+  most_bytes = q.most_bytes
+      ∙ p.most_bytes;
+}
 
 records_none : (form : Form) (given : ℕ) → given ≡ given + records_of_pairs form 0
 records_none TwoTexts given = omega arith
@@ -68,7 +85,7 @@ records_both : (form form' : Form) (a b c : ℕ) (ms ns : List Mates) → form' 
 records_both form form' a b c ms ns same p q =
     let there = ap (λ (x : Form). records_of_pairs x (length ns)) same in
     let len = ap (records_of_pairs form) (length-append ms ns)
-        ∙ records_then form (length ms) (length ns) in
+    ∙ records_then form (length ms) (length ns) in
     omega arith
 
 pub walks_none : (s : SourceState) → s.last ≡ None → Walks s s []
@@ -89,7 +106,7 @@ pub walks_then : (a b c : SourceState) (ms ns : List Mates) → Walks a b ms →
     Walks a c (ms ++ ns)
 walks_then a b c ms ns p q =
     let given = p.given in let more = q.given in let s = p.same in let f = p.forward in let r =
-        p.reverse in let f' = q.forward in let r' = q.reverse in
+    p.reverse in let f' = q.forward in let r' = q.reverse in
     record {
       same = same_then a b c p.same q.same;
       given = omega (arith, length-append ms ns);
@@ -107,7 +124,7 @@ walks_then a b c ms ns p q =
       leads = λ tf tr. leads_then a.form a.check_names a.encoding a.given b.given ms ns _ _
           (lines (rest b.forward)) (lines (rest b.reverse)) _ _ p.given (p.leads tf tr)
           (leads_as a.form b.form a.check_names b.check_names a.encoding b.encoding b.given ns _ _ _
-              _ s.form s.check_names s.encoding (q.leads (f.told ∙ tf) (r.told ∙ tr)));
+          _ s.form s.check_names s.encoding (q.leads (f.told ∙ tf) (r.told ∙ tr)));
     }
 
 -- a reading after a walk
@@ -118,7 +135,7 @@ reads_then a b c ms ns (Some reading.End) p q = (q.0, walks_then a b q.0 ms ns p
 reads_then a b c ms ns (Some (reading.Fault fault)) p q = (q.0, walks_then a b q.0 ms ns p q.1, q.2)
 reads_then a b c ms ns (Some reading.Memory) p q =
     let P : List Mates → Type 0 = λ xs. Walks a c xs in
-        (q.0, subst P (sym (append_assoc ms ns q.0)) (walks_then a b c ms (ns ++ q.0) p q.1))
+    (q.0, subst P (sym (append_assoc ms ns q.0)) (walks_then a b c ms (ns ++ q.0) p q.1))
 
 -- The pair in hand.
 

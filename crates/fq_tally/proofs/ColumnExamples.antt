@@ -8,15 +8,15 @@ use Rattle.fq_tally.specs.Columns.{by_position, columns_of, columns_from, column
 -- The scores 30, 29 and 2.
 three_bases : columns_of (record { encoding = Sanger; seq = codes "aGN"; qual = codes "?>#" })
     ≡ record {
-  bases = 1 ∷ 1 ∷ 1 ∷ [];
-  score_sum = 30 ∷ 29 ∷ 2 ∷ [];
-  q30_bases = 1 ∷ 0 ∷ 0 ∷ [];
-  a = 1 ∷ 0 ∷ 0 ∷ [];
-  c = 0 ∷ 0 ∷ 0 ∷ [];
-  g = 0 ∷ 1 ∷ 0 ∷ [];
-  t = 0 ∷ 0 ∷ 0 ∷ [];
-  n = 0 ∷ 0 ∷ 1 ∷ [];
-}
+      bases = 1 ∷ 1 ∷ 1 ∷ [];
+      score_sum = 30 ∷ 29 ∷ 2 ∷ [];
+      q30_bases = 1 ∷ 0 ∷ 0 ∷ [];
+      a = 1 ∷ 0 ∷ 0 ∷ [];
+      c = 0 ∷ 0 ∷ 0 ∷ [];
+      g = 0 ∷ 1 ∷ 0 ∷ [];
+      t = 0 ∷ 0 ∷ 0 ∷ [];
+      n = 0 ∷ 0 ∷ 1 ∷ [];
+    }
 three_bases = refl
 
 -- Byte 59 is the Solexa score -5, the Phred score 1. An S is a base and no letter that is counted.
@@ -46,7 +46,7 @@ beyond : (front behind : List ℕ) → length front ≡ 10000 → 0 < length beh
     by_position (front ++ behind) ≡ front ++ (sum behind ∷ [])
 beyond front behind is some =
     cond-false (nat_le (length (front ++ behind)) 10000) _ _
-        (lt-leb (length (front ++ behind)) 10000 (omega (arith, length-append front behind)))
+    (lt-leb (length (front ++ behind)) 10000 (omega (arith, length-append front behind)))
     ∙ ap₂ (λ x y. x ++ (sum y ∷ [])) (take_at front behind 10000 is) (drop_at front behind 10000 is)
 
 one_beyond : (front : List ℕ) → length front ≡ 10000 →

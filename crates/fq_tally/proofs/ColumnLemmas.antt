@@ -54,7 +54,7 @@ grown_behind [] n m small size = ap (λ k. replicate k 0) (omega arith)
 grown_behind (x ∷ xs) zero m small size = absurd (omega arith)
 grown_behind (x ∷ xs) (suc n) m small size =
     ap₂ (λ y ys. y ∷ ys) (sym (none_more x (first_small x xs small)))
-        (grown_behind xs n m (λ k. small (suc k)) (omega arith))
+    (grown_behind xs n m (λ k. small (suc k)) (omega arith))
 
 pub grown_within : (xs : List ℕ) (n : ℕ) → Small xs → n ≤ length xs →
     xs ≡ rows_plus xs (replicate n 0)
@@ -62,13 +62,13 @@ grown_within xs zero small within = sym (plus_none xs)
 grown_within [] (suc n) small within = absurd (omega arith)
 grown_within (x ∷ xs) (suc n) small within =
     ap₂ (λ y ys. y ∷ ys) (sym (none_more x (first_small x xs small)))
-        (grown_within xs n (λ k. small (suc k)) (omega arith))
+    (grown_within xs n (λ k. small (suc k)) (omega arith))
 
 -- a number more in a row, which is there
 pub more_at : (xs : List ℕ) (row a : ℕ) → a ≤ 18446744073709551615 →
     set (rows_plus xs (replicate (suc row) 0)) row
-        (capped_sum (get_or (rows_plus xs (replicate (suc row) 0)) row 0) a)
-        ≡ rows_plus xs (replicate row 0 ++ (a ∷ []))
+    (capped_sum (get_or (rows_plus xs (replicate (suc row) 0)) row 0) a)
+    ≡ rows_plus xs (replicate row 0 ++ (a ∷ []))
 more_at [] zero a small = ap (λ n. n ∷ []) (omega arith)
 more_at [] (suc row) a small = ap (λ ns. 0 ∷ ns) (more_at [] row a small)
 more_at (x ∷ xs) zero a small = ap (λ n. n ∷ rows_plus xs []) (omega arith)
@@ -98,9 +98,9 @@ cut_is : (most : ℕ) (ns : List ℕ) → cond (nat_le (length ns) most) ns
     (take most ns ++ (sum (drop most ns) ∷ [])) ≡ cut_at most ns
 cut_is most ns = ⊎_elim
     (λ (long : most < length ns). cond-false (nat_le (length ns) most) _ _
-        (lt-leb (length ns) most long) ∙ cut_long most ns long)
+    (lt-leb (length ns) most long) ∙ cut_long most ns long)
     (λ (short : length ns ≤ most). cond-true (nat_le (length ns) most) _ _
-        (le-leb (length ns) most short) ∙ cut_short most ns short)
+    (le-leb (length ns) most short) ∙ cut_short most ns short)
     (cases_lt most (length ns))
 
 -- no number of a list is above its sum
@@ -118,14 +118,14 @@ sum-zeros k = let e = sum_by-replicate (λ (x : ℕ). x) k 0 in omega arith
 
 cut_joined : (most : ℕ) (us vs : List ℕ) → Bounded (us ++ vs) →
     rows_plus (cut_at most us) (cut_at most (replicate (length us) 0 ++ vs))
-        ≡ cut_at most (us ++ vs)
+    ≡ cut_at most (us ++ vs)
 unfolding cut_at
 cut_joined most [] vs small = refl
 cut_joined zero (u ∷ us) vs small =
     let left = sum-cons u us in
     let right : sum (0 ∷ (replicate (length us) 0 ++ vs)) ≡ sum vs =
     sum-cons 0 (replicate (length us) 0 ++ vs)
-        ∙ omega (arith, sum-append (replicate (length us) 0) vs, sum-zeros (length us)) in
+    ∙ omega (arith, sum-append (replicate (length us) 0) vs, sum-zeros (length us)) in
     let whole = sum-append (u ∷ us) vs in
     ap (λ n. n ∷ []) (omega arith)
 cut_joined (suc most) (u ∷ us) vs small =
@@ -134,7 +134,7 @@ cut_joined (suc most) (u ∷ us) vs small =
 
 pub joined : (us vs : List ℕ) → sum us + sum vs ≤ 18446744073709551615 →
     rows_plus (by_position us) (by_position (replicate (length us) 0 ++ vs))
-        ≡ by_position (us ++ vs)
+    ≡ by_position (us ++ vs)
 joined us vs small =
     ap₂ rows_plus (cut_is 10000 us) (cut_is 10000 (replicate (length us) 0 ++ vs))
     ∙ cut_joined 10000 us vs (omega (arith, sum-append us vs))
@@ -147,7 +147,7 @@ pub placed_joined : (at k : ℕ) (us vs : List ℕ) → k ≡ at + length us →
 placed_joined at k us vs behind small =
     let front : List ℕ = replicate at 0 ++ us in
     let long : k ≡ length front = behind
-        ∙ omega (arith, length-append (replicate at 0) us, length-replicate {A = ℕ} at 0) in
+    ∙ omega (arith, length-append (replicate at 0) us, length-replicate {A = ℕ} at 0) in
     let sums = sum-append (replicate at 0) us in
     let none = sum-zeros at in
     ap (λ n. rows_plus (placed at us) (placed n vs)) long
@@ -159,7 +159,7 @@ unfolding cut_at
 cut_none most zero = let none : 0 ≡ min 0 (suc most) = omega arith in ap (λ n. replicate n 0) none
 cut_none zero (suc at) =
     let e : sum (0 ∷ (replicate at 0 ++ [])) ≡ 0 = sum-cons 0 (replicate at 0 ++ [])
-        ∙ omega (arith, sum-append (replicate at 0) [], sum-zeros at) in
+    ∙ omega (arith, sum-append (replicate at 0) [], sum-zeros at) in
     let f : 1 ≡ min (suc at) 1 = omega arith in
     ap (λ n. n ∷ []) e ∙ ap (λ n. replicate n 0) f
 cut_none (suc most) (suc at) =
@@ -184,7 +184,7 @@ cut_one (suc most) zero a = let f : 0 ≡ min 0 (suc most) = omega arith in
 cut_one zero (suc at) a =
     let one = sum-cons a [] in
     let e : sum (0 ∷ (replicate at 0 ++ (a ∷ []))) ≡ a = sum-cons 0 (replicate at 0 ++ (a ∷ []))
-        ∙ omega (arith, sum-append (replicate at 0) (a ∷ []), sum-zeros at) in
+    ∙ omega (arith, sum-append (replicate at 0) (a ∷ []), sum-zeros at) in
     let f : 0 ≡ min (suc at) 0 = omega arith in
     ap (λ n. n ∷ []) e ∙ ap (λ n. replicate n 0 ++ (a ∷ [])) f
 cut_one (suc most) (suc at) a =
@@ -199,8 +199,17 @@ placed_one at row a is = ap (λ n. replicate n 0 ++ (a ∷ [])) is ∙ sym (cut_
 
 -- Columns that are the same in each part are the same.
 abbrev columns_parts : Columns → Columns
-columns_parts x = record { bases = x.bases; score_sum = x.score_sum; q30_bases = x.q30_bases; a =
-    x.a; c = x.c; g = x.g; t = x.t; n = x.n }
+columns_parts x = record {
+  bases = x.bases;
+  score_sum = x.score_sum;
+  q30_bases = x.q30_bases;
+  a =
+      x.a;
+  c = x.c;
+  g = x.g;
+  t = x.t;
+  n = x.n;
+}
 
 pub columns_same : (x y : Columns) → x.bases ≡ y.bases → x.score_sum ≡ y.score_sum →
     x.q30_bases ≡ y.q30_bases → x.a ≡ y.a → x.c ≡ y.c → x.g ≡ y.g → x.t ≡ y.t → x.n ≡ y.n → x ≡ y
@@ -212,23 +221,23 @@ pub columns_assoc : (x y z : Columns) → columns_plus (columns_plus x y) z ≡ 
 columns_assoc x y z =
     columns_same (columns_plus (columns_plus x y) z) (columns_plus x (columns_plus y z))
     (rows_assoc x.bases y.bases z.bases) (rows_assoc x.score_sum y.score_sum z.score_sum)
-        (rows_assoc x.q30_bases y.q30_bases z.q30_bases)
+    (rows_assoc x.q30_bases y.q30_bases z.q30_bases)
     (rows_assoc x.a y.a z.a) (rows_assoc x.c y.c z.c) (rows_assoc x.g y.g z.g)
-        (rows_assoc x.t y.t z.t) (rows_assoc x.n y.n z.n)
+    (rows_assoc x.t y.t z.t) (rows_assoc x.n y.n z.n)
 
 pub columns_comm : (x y : Columns) → columns_plus x y ≡ columns_plus y x
 columns_comm x y =
     columns_same (columns_plus x y) (columns_plus y x)
     (rows_comm x.bases y.bases) (rows_comm x.score_sum y.score_sum)
-        (rows_comm x.q30_bases y.q30_bases)
+    (rows_comm x.q30_bases y.q30_bases)
     (rows_comm x.a y.a) (rows_comm x.c y.c) (rows_comm x.g y.g) (rows_comm x.t y.t)
-        (rows_comm x.n y.n)
+    (rows_comm x.n y.n)
 
 pub columns_none : (x : Columns) → columns_plus x no_columns ≡ x
 columns_none x =
     columns_same (columns_plus x no_columns) x
     (plus_none x.bases) (plus_none x.score_sum) (plus_none x.q30_bases) (plus_none x.a)
-        (plus_none x.c) (plus_none x.g) (plus_none x.t) (plus_none x.n)
+    (plus_none x.c) (plus_none x.g) (plus_none x.t) (plus_none x.n)
 
 pub none_columns : (x : Columns) → columns_plus no_columns x ≡ x
 none_columns x = columns_same (columns_plus no_columns x) x refl refl refl refl refl refl refl refl
@@ -266,24 +275,29 @@ ones_joined f small at k xs ys behind few less =
     let right = ones_small f small ys in
     let long : k ≡ at + length (map f xs) = omega (arith, length-map xs f) in
     placed_joined at k (map f xs) (map f ys) long (omega arith)
-        ∙ ap (placed at) (sym (map-append f xs ys))
+    ∙ ap (placed at) (sym (map-append f xs ys))
 
 scores_small : (e : Encoding) (qual : List ℕ) → list_all (is_scored e) qual ≡ true →
     sum (scores e qual) ≤ 93 * length qual
 scores_small e [] all = omega arith
 scores_small e (b ∷ bs) all =
     let parts = and_parts (is_scored e b) (list_all (is_scored e) bs) all in
-    omega (arith, sum-cons (value_of e b) (scores e bs), value_small e b parts.0, scores_small e bs
-        parts.1)
+    omega (
+      arith,
+      sum-cons (value_of e b) (scores e bs),
+      value_small e b parts.0,
+      scores_small e bs
+          parts.1,
+    )
 
 -- The columns of bases are those of the first of them and of the others together.
 pub columns_joined : (at k : ℕ) (e : Encoding) (seq qual others bytes : List ℕ) →
     k ≡ at + length seq →
     length qual ≡ length seq → length bytes ≡ length others → length seq ≤ 1048576 →
-        length others ≤ 1048576 →
+    length others ≤ 1048576 →
     list_all (is_scored e) qual ≡ true → list_all (is_scored e) bytes ≡ true →
     columns_plus (columns_from at e seq qual) (columns_from k e others bytes)
-        ≡ columns_from at e (seq ++ others) (qual ++ bytes)
+    ≡ columns_from at e (seq ++ others) (qual ++ bytes)
 columns_joined at k e seq qual others bytes behind same alike few less scored all =
     let first = scores_small e qual scored in
     let second = scores_small e bytes all in
@@ -292,13 +306,13 @@ columns_joined at k e seq qual others bytes behind same alike few less scored al
     let more : length (scores e bytes) ≤ 1048576 = omega (arith, length-map bytes (value_of e)) in
     let whole = sym (map-append (value_of e) qual bytes) in
     let letters = λ (p : ℕ → Bool). ones_joined (one_if p) (one_if_small p) at k seq others behind
-        few less in
+    few less in
     columns_same (columns_plus (columns_from at e seq qual) (columns_from k e others bytes))
-        (columns_from at e (seq ++ others) (qual ++ bytes))
+    (columns_from at e (seq ++ others) (qual ++ bytes))
     (ones_joined (λ _. 1) (λ _. omega arith) at k seq others behind few less)
     (placed_joined at k (scores e qual) (scores e bytes) long (omega arith) ∙ ap (placed at) whole)
     (ones_joined (one_if (nat_le 30)) (one_if_small (nat_le 30)) at k (scores e qual)
-        (scores e bytes) long some more ∙ ap (λ q. placed at (map (one_if (nat_le 30)) q)) whole)
+    (scores e bytes) long some more ∙ ap (λ q. placed at (map (one_if (nat_le 30)) q)) whole)
     (letters is_a) (letters is_c) (letters is_g) (letters is_t) (letters is_n)
 
 -- no bases, after a place
@@ -316,17 +330,17 @@ columns_one at row base byte e is =
     columns_same (one_in row base (value_of e byte)) (columns_from at e (base ∷ []) (byte ∷ []))
     (one 1) (one (value_of e byte)) (one (one_if (nat_le 30) (value_of e byte)))
     (one (one_if is_a base)) (one (one_if is_c base)) (one (one_if is_g base))
-        (one (one_if is_t base)) (one (one_if is_n base))
+    (one (one_if is_t base)) (one (one_if is_n base))
 
 -- one more of several bases is counted
 pub counted_next : (start now new : Columns) (at i row score : ℕ) (e : Encoding)
     (seq qual : List ℕ) →
     now ≡ columns_plus start (columns_from at e (take i seq) (take i qual)) →
-        row ≡ min (at + i) 10000 →
+    row ≡ min (at + i) 10000 →
     score ≡ value_of e (get_or qual i 0) → i < length seq → length qual ≡ length seq →
-        length seq ≤ 1048576 →
+    length seq ≤ 1048576 →
     list_all (is_scored e) qual ≡ true → new ≡ columns_plus now
-        (one_in row (get_or seq i 0) score) →
+    (one_in row (get_or seq i 0) score) →
     new ≡ columns_plus start (columns_from at e (take (i + 1) seq) (take (i + 1) qual))
 counted_next start now new at i row score e seq qual so_far row_is score_is within same few scored
     here =
@@ -336,14 +350,14 @@ counted_next start now new at i row score e seq qual so_far row_is score_is with
     let size = length-take-le i seq (omega arith) in
     let sizes = length-take-le i qual (omega arith) in
     let one : list_all (is_scored e) (byte ∷ []) ≡ true =
-        and_from (is_scored e byte) true (at_place (is_scored e) qual i scored long) refl in
+    and_from (is_scored e byte) true (at_place (is_scored e) qual i scored long) refl in
     here
     ∙ ap (λ x. columns_plus now (one_in row base x)) score_is
     ∙ ap₂ columns_plus so_far (columns_one (at + i) row base byte e row_is)
     ∙ columns_assoc start (columns_from at e (take i seq) (take i qual))
-        (columns_from (at + i) e (base ∷ []) (byte ∷ []))
+    (columns_from (at + i) e (base ∷ []) (byte ∷ []))
     ∙ ap (columns_plus start) (columns_joined at (at + i) e (take i seq) (take i qual) (base ∷ [])
-        (byte ∷ []) (omega arith) (omega arith) refl (omega arith) (omega arith)
-        (all_taken (is_scored e) qual i scored) one)
+    (byte ∷ []) (omega arith) (omega arith) refl (omega arith) (omega arith)
+    (all_taken (is_scored e) qual i scored) one)
     ∙ ap₂ (λ s t. columns_plus start (columns_from at e s t)) (sym (take_more seq i 0 within))
-        (sym (take_more qual i 0 long))
+    (sym (take_more qual i 0 long))

@@ -15,8 +15,12 @@ part encoding seq qual = record { encoding = encoding; seq = seq; qual = qual }
 
 -- the part from a place on
 abbrev pub cut : ℕ → ℕ → Part → Part
-cut start n p = record { encoding = p.encoding; seq = take n (drop start p.seq); qual =
-    take n (drop start p.qual) }
+cut start n p = record {
+  encoding = p.encoding;
+  seq = take n (drop start p.seq);
+  qual =
+      take n (drop start p.qual);
+}
 
 abbrev pub kept_course : ℕ → ℕ → ℕ → Part → Course → Course
 kept_course number start n p course = record {
@@ -36,9 +40,9 @@ after_places number start (suc n) p course some =
 pub course_kept : (number : ℕ) (steps : List Step) (others : List (List Step)) (p : Part)
     (k : Kept) →
     kept steps (scores p.encoding p.qual) ≡ places k.start (k.stop - k.start) →
-        k.stop ≤ length p.qual → length p.qual ≡ length p.seq →
+    k.stop ≤ length p.qual → length p.qual ≡ length p.seq →
     course_of number (steps ∷ others) p ≡ kept_course number k.start (k.stop - k.start) p (course_of
-        (suc number) others (cut k.start (k.stop - k.start) p))
+    (suc number) others (cut k.start (k.stop - k.start) p))
 course_kept number steps others p k is within same =
     let some = k.some in
     let n = k.stop - k.start in
@@ -46,17 +50,22 @@ course_kept number steps others p k is within same =
     let qual = scores_at p.qual k.start n (omega arith) in
     ap (λ (at : List ℕ). after number at p (course_of (suc number) others (part_at at p))) is
     ∙ after_places number k.start n p (course_of (suc number) others (part_at (places k.start n) p))
-        (omega arith)
+    (omega arith)
     ∙ ap (λ (s : List ℕ). kept_course number k.start n p
-        (course_of (suc number) others (part p.encoding s (part_at (places k.start n) p).qual))) seq
+    (course_of (suc number) others (part p.encoding s (part_at (places k.start n) p).qual))) seq
     ∙ ap (λ (q : List ℕ). kept_course number k.start n p
-        (course_of (suc number) others (part p.encoding (take n (drop k.start p.seq)) q))) qual
+    (course_of (suc number) others (part p.encoding (take n (drop k.start p.seq)) q))) qual
 
 -- a list of steps that keeps nothing
 pub course_dropped : (number : ℕ) (steps : List Step) (others : List (List Step)) (p : Part) →
     kept steps (scores p.encoding p.qual) ≡ [] →
-    course_of number (steps ∷ others) p ≡ record { left = part p.encoding [] []; front =
-        0; shortened = []; dropped = number ∷ [] }
+    course_of number (steps ∷ others) p ≡ record {
+      left = part p.encoding [] [];
+      front =
+          0;
+      shortened = [];
+      dropped = number ∷ [];
+    }
 course_dropped number steps others p is =
     ap (λ (at : List ℕ). after number at p (course_of (suc number) others (part_at at p))) is
 
@@ -64,34 +73,44 @@ course_dropped number steps others p is =
 pub next_kept : (number : ℕ) (lists : List (List Step)) (encoding : Encoding) (seq qual : List ℕ)
     (k : Kept) → number < length lists →
     kept (get_or lists number []) (scores encoding qual) ≡ places k.start (k.stop - k.start) →
-        k.stop ≤ length qual → length qual ≡ length seq →
+    k.stop ≤ length qual → length qual ≡ length seq →
     course_of number (drop number lists) (part encoding seq qual)
     ≡ kept_course number k.start (k.stop - k.start) (part encoding seq qual)
-        (course_of (number + 1) (drop (number + 1) lists)
-        (cut k.start (k.stop - k.start) (part encoding seq qual)))
+    (course_of (number + 1) (drop (number + 1) lists)
+    (cut k.start (k.stop - k.start) (part encoding seq qual)))
 next_kept number lists encoding seq qual k lt is within same =
     let p = part encoding seq qual in
     let n = k.stop - k.start in
     ap (λ (ls : List (List Step)). course_of number ls p) (drop_more lists number [] lt)
     ∙ course_kept number (get_or lists number []) (drop (number + 1) lists) p k is within same
     ∙ ap (λ (m : ℕ). kept_course number k.start n p
-        (course_of m (drop (number + 1) lists) (cut k.start n p))) (sym (add-one number))
+    (course_of m (drop (number + 1) lists) (cut k.start n p))) (sym (add-one number))
 
 pub next_dropped : (number : ℕ) (lists : List (List Step)) (encoding : Encoding)
     (seq qual : List ℕ) → number < length lists →
     kept (get_or lists number []) (scores encoding qual) ≡ [] →
-    course_of number (drop number lists) (part encoding seq qual) ≡ record { left =
-        part encoding [] []; front = 0; shortened = []; dropped = number ∷ [] }
+    course_of number (drop number lists) (part encoding seq qual) ≡ record {
+      left =
+          part encoding [] [];
+      front = 0;
+      shortened = [];
+      dropped = number ∷ [];
+    }
 next_dropped number lists encoding seq qual lt is =
     ap (λ (ls : List (List Step)). course_of number ls (part encoding seq qual))
-        (drop_more lists number [] lt)
+    (drop_more lists number [] lt)
     ∙ course_dropped number (get_or lists number []) (drop (number + 1) lists)
-        (part encoding seq qual) is
+    (part encoding seq qual) is
 
 -- after the last list
 pub none_next : (number : ℕ) (lists : List (List Step)) (p : Part) → length lists ≤ number →
-    course_of number (drop number lists) p ≡ record { left = p; front = 0; shortened = []; dropped =
-    [] }
+    course_of number (drop number lists) p ≡ record {
+      left = p;
+      front = 0;
+      shortened = [];
+      dropped =
+          [];
+    }
 none_next number lists p all = ap (λ (ls : List (List Step)). course_of number ls p)
     (drop_all number lists all)
 
@@ -138,7 +157,9 @@ steps_split : (number : ℕ) (steps : List Step) →
 steps_split number steps = sym (take-append-drop 1 (drop number steps))
     ∙ ap (λ (ss : List Step). only number steps ++ ss) (drop-drop 1 number steps)
 
-module _ (steps : List Step) (read : Read) (number start stop : ℕ) (in_steps : number < length steps) (order : start ≤ stop) (within : stop ≤ length read.qual) (same : length read.qual ≡ length read.seq) where
+module _ (steps : List Step) (read : Read) (number start stop : ℕ)
+    (in_steps : number < length steps) (order : start ≤ stop) (within : stop ≤ length read.qual)
+    (same : length read.qual ≡ length read.seq) where
   abbrev at_hand : Part
   at_hand = cut start (stop - start) (whole read)
 
@@ -153,33 +174,33 @@ module _ (steps : List Step) (read : Read) (number start stop : ℕ) (in_steps :
 
   one_more : (ns : List ℕ) → kept (only number steps) (scores read.encoding at_hand.qual) ≡ ns →
       kept_of (drop number steps) read_scores (places start (stop - start))
-          ≡ kept_of (drop (number + 1) steps) read_scores
-          (map (at (places start (stop - start))) ns)
+      ≡ kept_of (drop (number + 1) steps) read_scores
+      (map (at (places start (stop - start))) ns)
   one_more ns is =
       let ps = places start (stop - start) in
       ap (λ (ss : List Step). kept_of ss read_scores ps) (steps_split number steps)
       ∙ kept_append (only number steps) (drop (number + 1) steps) read_scores ps
       ∙ ap (kept_of (drop (number + 1) steps) read_scores)
-          (kept_within (only number steps) read_scores ps
-          ∙ ap (λ (xs : List ℕ). map (at ps) (kept (only number steps) xs)) (sym hand_scores)
-          ∙ ap (map (at ps)) is)
+      (kept_within (only number steps) read_scores ps
+      ∙ ap (λ (xs : List ℕ). map (at ps) (kept (only number steps) xs)) (sym hand_scores)
+      ∙ ap (map (at ps)) is)
 
   -- a step that keeps something
   pub places_kept : (k : Kept) → kept (only number steps) (scores read.encoding at_hand.qual)
       ≡ places k.start (k.stop - k.start) → k.stop ≤ length at_hand.qual →
       kept_of (drop number steps) read_scores (places start (stop - start))
-          ≡ kept_of (drop (number + 1) steps) read_scores
-          (places (start + k.start) (start + k.stop - (start + k.start)))
+      ≡ kept_of (drop (number + 1) steps) read_scores
+      (places (start + k.start) (start + k.stop - (start + k.start)))
   places_kept k is fits =
       let some = k.some in
       let size : length at_hand.qual ≡ stop - start =
-          length-take-le (stop - start) (drop start read.qual)
-          (omega (arith, length-drop start read.qual)) in
+      length-take-le (stop - start) (drop start read.qual)
+      (omega (arith, length-drop start read.qual)) in
       let n : k.stop - k.start ≡ start + k.stop - (start + k.start) = omega arith in
       one_more (places k.start (k.stop - k.start)) is
       ∙ ap (kept_of (drop (number + 1) steps) read_scores)
-          (places_at start (stop - start) k.start (k.stop - k.start) (omega arith)
-          ∙ ap (places (start + k.start)) n)
+      (places_at start (stop - start) k.start (k.stop - k.start) (omega arith)
+      ∙ ap (places (start + k.start)) n)
 
   -- a step that keeps nothing
   pub places_dropped : kept (only number steps) (scores read.encoding at_hand.qual) ≡ [] →
@@ -191,36 +212,41 @@ module _ (steps : List Step) (read : Read) (number start stop : ℕ) (in_steps :
       k.start (k.stop - k.start) → k.stop ≤ length at_hand.qual →
       course_of number (drop number (alone steps)) at_hand
       ≡ kept_course number k.start (k.stop - k.start) at_hand
-          (course_of (number + 1) (drop (number + 1) (alone steps))
-          (cut (start + k.start) (start + k.stop - (start + k.start)) (whole read)))
+      (course_of (number + 1) (drop (number + 1) (alone steps))
+      (cut (start + k.start) (start + k.stop - (start + k.start)) (whole read)))
   cut_kept k is fits =
       let some = k.some in
       let m = stop - start in
       let count = k.stop - k.start in
       let size : length at_hand.qual ≡ m = length-take-le m (drop start read.qual)
-          (omega (arith, length-drop start read.qual)) in
+      (omega (arith, length-drop start read.qual)) in
       let seq_size : length at_hand.seq ≡ m =
-          length-take-le m (drop start read.seq) (omega (arith, length-drop start read.seq)) in
+      length-take-le m (drop start read.seq) (omega (arith, length-drop start read.seq)) in
       let all = alone_length steps in
       let n : count ≡ start + k.stop - (start + k.start) = omega arith in
       let seq = part_again read.seq start m k.start count (omega arith) in
       let qual = part_again read.qual start m k.start count (omega arith) in
       let to : Part → Course = λ p. kept_course number k.start count at_hand
-          (course_of (number + 1) (drop (number + 1) (alone steps)) p) in
+      (course_of (number + 1) (drop (number + 1) (alone steps)) p) in
       next_kept number (alone steps) read.encoding at_hand.seq at_hand.qual k (omega arith)
-          (ap (λ (s : List Step). kept s (scores read.encoding at_hand.qual))
-          (alone_at steps number in_steps) ∙ is) fits (omega arith)
+      (ap (λ (s : List Step). kept s (scores read.encoding at_hand.qual))
+      (alone_at steps number in_steps) ∙ is) fits (omega arith)
       ∙ ap (λ (xs : List ℕ). to (part read.encoding xs (take count (drop k.start at_hand.qual))))
-          seq
+      seq
       ∙ ap (λ (xs : List ℕ). to (part read.encoding (take count (drop (start + k.start) read.seq))
-          xs)) qual
+      xs)) qual
       ∙ ap (λ (i : ℕ). to (cut (start + k.start) i (whole read))) n
 
   pub cut_dropped : kept (only number steps) (scores read.encoding at_hand.qual) ≡ [] →
-      course_of number (drop number (alone steps)) at_hand ≡ record { left =
-          part read.encoding [] []; front = 0; shortened = []; dropped = number ∷ [] }
+      course_of number (drop number (alone steps)) at_hand ≡ record {
+        left =
+            part read.encoding [] [];
+        front = 0;
+        shortened = [];
+        dropped = number ∷ [];
+      }
   cut_dropped is =
       let all = alone_length steps in
       next_dropped number (alone steps) read.encoding at_hand.seq at_hand.qual (omega arith)
-          (ap (λ (s : List Step). kept s (scores read.encoding at_hand.qual))
-          (alone_at steps number in_steps) ∙ is)
+      (ap (λ (s : List Step). kept s (scores read.encoding at_hand.qual))
+      (alone_at steps number in_steps) ∙ is)

@@ -35,7 +35,7 @@ stored_first (x ∷ xs) (y ∷ ys) few small (suc n) is room =
     let b : y ≤ 65535 = small 0 in
     let both : x + y ≡ capped_sum x y = omega arith in
     ap₂ (λ z zs. z ∷ zs) both (stored_first xs ys (λ k. few (suc k)) (λ k. small (suc k)) n
-        (omega arith) (omega arith))
+    (omega arith) (omega arith))
 
 pub stored_plus : (at : ℕ) (xs ys : List ℕ) → AtMost 65535 xs → AtMost 65535 ys → (n : ℕ) →
     n ≡ length ys → at + n ≤ length xs →
@@ -54,16 +54,16 @@ pub byte_sums : (at : ℕ) (xs ys : List ℕ) → AtMost 254 xs → AtMost 1 ys 
     Each2 (λ x y. Fits w8 (x + y)) (chunk at 32 xs) ys
 byte_sums at xs ys few ones =
     Each2-of (λ x. x ≤ 254) (λ y. y ≤ 1) (λ x y. Fits w8 (x + y))
-        (λ x y p q. let fits : x + y < 256 = omega arith in record { fits = fits })
+    (λ x y p q. let fits : x + y < 256 = omega arith in record { fits = fits })
     (chunk at 32 xs) ys (Each1-chunk (λ x. x ≤ 254) at 32 xs (each_at_most 254 xs few))
-        (each_at_most 1 ys ones)
+    (each_at_most 1 ys ones)
 
 pub word_sums : (at : ℕ) (xs ys : List ℕ) → AtMost 65280 xs → Each1 (λ y. y ≤ 255) ys →
     Each2 (λ x y. Fits w16 (x + y)) (chunk at 32 xs) (map (λ (x : ℕ). x) ys)
 word_sums at xs ys few bytes =
     subst (λ zs. Each2 (λ x y. Fits w16 (x + y)) (chunk at 32 xs) zs) (sym (map-id ys)) (
     Each2-of (λ x. x ≤ 65280) (λ y. y ≤ 255) (λ x y. Fits w16 (x + y))
-        (λ x y p q. let fits : x + y < 65536 = omega arith in record { fits = fits })
+    (λ x y p q. let fits : x + y < 65536 = omega arith in record { fits = fits })
     (chunk at 32 xs) ys (Each1-chunk (λ x. x ≤ 65280) at 32 xs (each_at_most 65280 xs few)) bytes)
 
 bytes_small : (ys : List ℕ) → Each1 (λ y. y ≤ 255) ys → AtMost 65535 ys
@@ -77,16 +77,16 @@ pub stored_bytes : (at : ℕ) (xs ys : List ℕ) → AtMost 254 xs → AtMost 1 
     put_chunk at xs (zip2 (λ a b. a + b) (chunk at 32 xs) ys) ≡ rows_plus xs (replicate at 0 ++ ys)
 stored_bytes at xs ys few ones long room =
     stored_plus at xs ys (λ k. let one = few k in omega arith) (λ k. let one = ones k in
-        omega arith) 32 (sym long) room
+    omega arith) 32 (sym long) room
 
 pub stored_words : (at : ℕ) (xs ys : List ℕ) → AtMost 65280 xs → Each1 (λ y. y ≤ 255) ys →
     length ys ≡ 32 → at + 32 ≤ length xs →
     put_chunk at xs (zip2 (λ a b. a + b) (chunk at 32 xs) (map (λ (x : ℕ). x) ys))
-        ≡ rows_plus xs (replicate at 0 ++ ys)
+    ≡ rows_plus xs (replicate at 0 ++ ys)
 stored_words at xs ys few bytes long room =
     ap (λ zs. put_chunk at xs (zip2 (λ a b. a + b) (chunk at 32 xs) zs)) (map-id ys)
     ∙ stored_plus at xs ys (λ k. let one = few k in
-        omega arith) (bytes_small ys bytes) 32 (sym long) room
+    omega arith) (bytes_small ys bytes) 32 (sym long) room
 
 -- Rows are added to others, one after the other.
 
@@ -105,21 +105,21 @@ taken_small : (i : ℕ) (xs : List ℕ) → AtMost 65535 xs → Small (take i xs
 taken_small i xs few k = ⊎_elim
     (λ (below : k < i). let at = get_or-take i xs k 0 below in let most = few k in omega arith)
     (λ (from : i ≤ k). let none = get_or_past (take i xs) k 0
-        (omega (arith, length-take-most i xs)) in omega arith)
+    (omega (arith, length-take-most i xs)) in omega arith)
     (cases_lt k i)
 
 pub next_added : (start now new xs : List ℕ) (i x : ℕ) → AtMost 65535 xs → i < length xs →
     x ≡ get_or xs i x →
     now ≡ rows_plus start (take i xs) → new ≡ rows_plus now (replicate i 0 ++ (x ∷ [])) →
-        new ≡ rows_plus start (take (i + 1) xs)
+    new ≡ rows_plus start (take (i + 1) xs)
 next_added start now new xs i x few within read so_far here =
     let size : i ≡ length (take i xs) = sym (length-take-le i xs (omega arith)) in
     here
     ∙ ap₂ (λ ys n. rows_plus ys (replicate n 0 ++ (x ∷ []))) so_far size
     ∙ rows_assoc start (take i xs) (replicate (length (take i xs)) 0 ++ (x ∷ []))
     ∙ ap (rows_plus start) (joined_plain (take i xs) (x ∷ []) (taken_small i xs few)
-        ∙ ap (λ y. take i xs ++ (y ∷ [])) (get_or_read xs i x within read 0)
-        ∙ sym (take_more xs i 0 within))
+    ∙ ap (λ y. take i xs ++ (y ∷ [])) (get_or_read xs i x within read 0)
+    ∙ sym (take_more xs i 0 within))
 
 -- Sums of rows of a few reads.
 
@@ -175,10 +175,10 @@ cut_plus (x ∷ xs) (z ∷ zs) zero (suc len') behind small is room =
     let few : z ≤ 18446744073709551615 = small 0 in
     let first : capped_sum x z ≡ z = omega arith in
     ap₂ (λ n ns. n ∷ ns) first (cut_plus xs zs zero len' (λ k _. behind (suc k) (omega arith))
-        (λ k. small (suc k)) (omega arith) (omega arith))
+    (λ k. small (suc k)) (omega arith) (omega arith))
 cut_plus (x ∷ xs) (z ∷ zs) (suc len) (suc len') behind small is room =
     ap (λ ns. capped_sum x z ∷ ns) (cut_plus xs zs len len' (λ k from. behind (suc k) (omega arith))
-        (λ k. small (suc k)) (omega arith) (omega arith))
+    (λ k. small (suc k)) (omega arith) (omega arith))
 
 row_cut : (rows len len' most more at n : ℕ) (xs ys : List ℕ) → IsFew rows len most xs →
     AtMost more ys → length ys ≡ n → more ≤ 255 → len' ≡ max len (at + n) → len' ≤ rows →
@@ -189,7 +189,7 @@ row_cut rows len len' most more at n xs ys few small long bound is room =
     let long_zs = length-shifted at ys in
     let most_zs = shifted_at_most at more ys small in
     cut_plus xs zs len len' few.behind (λ k. let one = most_zs k in
-        omega arith) (omega arith) (omega arith)
+    omega arith) (omega arith) (omega arith)
 
 -- zeros after a vector change nothing
 plus_zeros_behind : (xs ys : List ℕ) (k : ℕ) → Small xs → length ys + k ≤ length xs →
@@ -205,7 +205,7 @@ plus_zeros_behind (x ∷ xs) (y ∷ ys) k small room =
 placed_short : (at : ℕ) (ns : List ℕ) → at + length ns ≤ 10000 → placed at ns ≡ replicate at 0 ++ ns
 placed_short at ns short =
     cond-true (nat_le (length (replicate at 0 ++ ns)) 10000) _ _
-        (le-leb (length (replicate at 0 ++ ns)) 10000 (omega (arith, length-shifted at ns)))
+    (le-leb (length (replicate at 0 ++ ns)) 10000 (omega (arith, length-shifted at ns)))
 
 scored_low : (e : Encoding) (b : ℕ) → is_scored e b ≡ true → 33 ≤ b
 scored_low Sanger b is = let low : 33 ≤ b =
@@ -224,7 +224,7 @@ lanes_scores e [] all = refl
 lanes_scores e (b ∷ bs) all =
     let parts = and_parts (is_scored e b) (list_all (is_scored e) bs) all in
     ap₂ (λ n ns. n ∷ ns) (cond-false (eqb b 0) 0 (value_of e b) (not_none e b parts.0))
-        (lanes_scores e bs parts.1)
+    (lanes_scores e bs parts.1)
 
 lanes_bases : (e : Encoding) (q s : List ℕ) → list_all (is_scored e) q ≡ true →
     length q ≡ length s → map (one_if (nat_le 1)) q ≡ map (λ _. 1) s
@@ -235,7 +235,7 @@ lanes_bases e (b ∷ q) (c ∷ s) all same =
     let parts = and_parts (is_scored e b) (list_all (is_scored e) q) all in
     let low = scored_low e b parts.0 in
     ap₂ (λ n ns. n ∷ ns) (cond-true (nat_le 1 b) 1 0 (le-leb 1 b (omega arith)))
-        (lanes_bases e q s parts.1 (omega arith))
+    (lanes_bases e q s parts.1 (omega arith))
 
 pub lanes_are_columns : (at : ℕ) (e : Encoding) (s q : List ℕ) → list_all (is_scored e) q ≡ true →
     length q ≡ length s → at + length s ≤ 10000 →
@@ -244,15 +244,15 @@ lanes_are_columns at e s q all same near =
     let shift = λ (ns : List ℕ). replicate at 0 ++ ns in
     let sc = lanes_scores e q all in
     let letters =
-        λ (p : ℕ → Bool). sym (placed_short at (map (one_if p) s)
-        (omega (arith, length-map s (one_if p)))) in
+    λ (p : ℕ → Bool). sym (placed_short at (map (one_if p) s)
+    (omega (arith, length-map s (one_if p)))) in
     columns_same (lanes_at at e s q) (columns_from at e s q)
     (ap shift (lanes_bases e q s all same)
-        ∙ sym (placed_short at (map (λ _. 1) s) (omega (arith, length-map {B = ℕ} s (λ _. 1)))))
+    ∙ sym (placed_short at (map (λ _. 1) s) (omega (arith, length-map {B = ℕ} s (λ _. 1)))))
     (ap shift sc ∙ sym (placed_short at (scores e q) (omega (arith, length-map q (value_of e)))))
     (ap (λ ns. shift (map (one_if (nat_le 30)) ns)) sc
-        ∙ sym (placed_short at (map (one_if (nat_le 30)) (scores e q))
-        (omega (arith, length-map (scores e q) (one_if (nat_le 30)), length-map q (value_of e)))))
+    ∙ sym (placed_short at (map (one_if (nat_le 30)) (scores e q))
+    (omega (arith, length-map (scores e q) (one_if (nat_le 30)), length-map q (value_of e)))))
     (letters is_a) (letters is_c) (letters is_g) (letters is_t) (letters is_n)
 
 -- a vector that begins with zeros
@@ -264,7 +264,7 @@ zeros_in_front : (f : ℕ → ℕ) → f 0 ≡ 0 → (at k : ℕ) (xs : List ℕ
     replicate at 0 ++ map f (replicate k 0 ++ xs) ≡ replicate (at + k) 0 ++ map f xs
 zeros_in_front f none at k xs =
     ap (λ ns. replicate at 0 ++ ns) (map-append f (replicate k 0) xs
-        ∙ ap (λ ns. ns ++ map f xs) (zeros_mapped f none k))
+    ∙ ap (λ ns. ns ++ map f xs) (zeros_mapped f none k))
     ∙ sym (append_assoc (replicate at 0) (replicate k 0) (map f xs))
     ∙ ap (λ ns. ns ++ map f xs) (replicate-append-replicate at k 0)
 
@@ -273,47 +273,47 @@ pub lanes_moved : (at k : ℕ) (e : Encoding) (s q : List ℕ) →
 lanes_moved at k e s q =
     let letters = λ (p : ℕ → Bool) (none : one_if p 0 ≡ 0). zeros_in_front (one_if p) none at k s in
     let first = map-append (lane_score e) (replicate k 0) q
-        ∙ ap (λ ns. ns ++ map (lane_score e) q) (zeros_mapped (lane_score e) refl k) in
+    ∙ ap (λ ns. ns ++ map (lane_score e) q) (zeros_mapped (lane_score e) refl k) in
     columns_same (lanes_at at e (replicate k 0 ++ s) (replicate k 0 ++ q)) (lanes_at (at + k) e s q)
     (zeros_in_front (one_if (nat_le 1)) refl at k q)
     (zeros_in_front (lane_score e) refl at k q)
     (ap (λ ns. replicate at 0 ++ map (one_if (nat_le 30)) ns) first
-        ∙ zeros_in_front (one_if (nat_le 30)) refl at k (map (lane_score e) q))
+    ∙ zeros_in_front (one_if (nat_le 30)) refl at k (map (lane_score e) q))
     (letters is_a refl) (letters is_c refl) (letters is_g refl) (letters is_t refl)
-        (letters is_n refl)
+    (letters is_n refl)
 
 -- and one that ends with zeros
 row_behind : (f : ℕ → ℕ) → f 0 ≡ 0 → (rows len most at k : ℕ) (xs ys : List ℕ) →
     IsFew rows len most xs → most ≤ 65535 → at + (length ys + k) ≤ rows →
     rows_plus xs (replicate at 0 ++ map f (ys ++ replicate k 0))
-        ≡ rows_plus xs (replicate at 0 ++ map f ys)
+    ≡ rows_plus xs (replicate at 0 ++ map f ys)
 row_behind f none rows len most at k xs ys few bound room =
     let size = few.size in
     let small : Small xs = λ j. let one = few.small j in omega arith in
     ap (λ ns. rows_plus xs (replicate at 0 ++ ns)) (map-append f ys (replicate k 0)
-        ∙ ap (λ ns. map f ys ++ ns) (zeros_mapped f none k))
+    ∙ ap (λ ns. map f ys ++ ns) (zeros_mapped f none k))
     ∙ ap (rows_plus xs) (sym (append_assoc (replicate at 0) (map f ys) (replicate k 0)))
     ∙ plus_zeros_behind xs (replicate at 0 ++ map f ys) k small
-        (omega (arith, length-shifted at (map f ys), length-map ys f))
+    (omega (arith, length-shifted at (map f ys), length-map ys f))
 
 pub lanes_behind : (x : Columns) (rows len reads at k : ℕ) (e : Encoding) (s q : List ℕ) →
     AreFew rows len reads x → reads ≤ 254 → length q ≡ length s → at + (length s + k) ≤ rows →
     columns_plus x (lanes_at at e (s ++ replicate k 0) (q ++ replicate k 0))
-        ≡ columns_plus x (lanes_at at e s q)
+    ≡ columns_plus x (lanes_at at e s q)
 lanes_behind x rows len reads at k e s q few bound same room =
     let wide : at + (length q + k) ≤ rows = omega arith in
     let scored : at + (length (map (lane_score e) q) + k) ≤ rows =
-        omega (arith, length-map q (lane_score e)) in
+    omega (arith, length-map q (lane_score e)) in
     let first = map-append (lane_score e) q (replicate k 0)
-        ∙ ap (λ ns. map (lane_score e) q ++ ns) (zeros_mapped (lane_score e) refl k) in
+    ∙ ap (λ ns. map (lane_score e) q ++ ns) (zeros_mapped (lane_score e) refl k) in
     columns_same (columns_plus x (lanes_at at e (s ++ replicate k 0) (q ++ replicate k 0)))
-        (columns_plus x (lanes_at at e s q))
+    (columns_plus x (lanes_at at e s q))
     (row_behind (one_if (nat_le 1)) refl rows len reads at k x.bases q few.bases (omega arith) wide)
     (row_behind (lane_score e) refl rows len (93 * reads) at k x.score_sum q few.score_sum
-        (omega arith) wide)
+    (omega arith) wide)
     (ap (λ ns. rows_plus x.q30_bases (replicate at 0 ++ map (one_if (nat_le 30)) ns)) first
-        ∙ row_behind (one_if (nat_le 30)) refl rows len reads at k x.q30_bases
-        (map (lane_score e) q) few.q30_bases (omega arith) scored)
+    ∙ row_behind (one_if (nat_le 30)) refl rows len reads at k x.q30_bases
+    (map (lane_score e) q) few.q30_bases (omega arith) scored)
     (row_behind (one_if is_a) refl rows len reads at k x.a s few.a (omega arith) room)
     (row_behind (one_if is_c) refl rows len reads at k x.c s few.c (omega arith) room)
     (row_behind (one_if is_g) refl rows len reads at k x.g s few.g (omega arith) room)
@@ -338,7 +338,9 @@ scores_at_most e (b ∷ bs) all (suc k) = scores_at_most e bs
     (and_parts (is_scored e b) (list_all (is_scored e) bs) all).1 k
 
 -- One more read among a few.
-module _ (x : Columns) (rows len len' reads at : ℕ) (e : Encoding) (s q : List ℕ) (few : AreFew rows len reads x) (all : list_all (is_scored e) q ≡ true) (same : length q ≡ length s) where
+module _ (x : Columns) (rows len len' reads at : ℕ) (e : Encoding) (s q : List ℕ)
+    (few : AreFew rows len reads x) (all : list_all (is_scored e) q ≡ true)
+    (same : length q ≡ length s) where
   ones : (p : ℕ → Bool) (xs : List ℕ) → AtMost 1 (map (one_if p) xs)
   ones p xs = mapped_at_most (one_if p) 1 (one_if_small p) xs
 
@@ -349,8 +351,8 @@ module _ (x : Columns) (rows len len' reads at : ℕ) (e : Encoding) (s q : List
       AreFew rows len' (reads + 1) (columns_plus x (lanes_at at e s q))
   lanes_more order within room =
       let letter = λ (p : ℕ → Bool) (xs : List ℕ) (old : IsFew rows len reads xs). row_more rows len
-          len' reads 1 (reads + 1) at (length s) xs (map (one_if p) s) old (ones p s)
-          (length-map s (one_if p)) order within room (omega arith) in
+      len' reads 1 (reads + 1) at (length s) xs (map (one_if p) s) old (ones p s)
+      (length-map s (one_if p)) order within room (omega arith) in
       record {
         bases = row_more rows len len' reads 1 (reads + 1) at (length s) x.bases
             (map (one_if (nat_le 1)) q) few.bases (ones (nat_le 1) q)
@@ -375,17 +377,17 @@ module _ (x : Columns) (rows len len' reads at : ℕ) (e : Encoding) (s q : List
       ≡ columns_plus (first_rows len x) (lanes_at at e s q)
   lanes_cut is room =
       let letter = λ (p : ℕ → Bool) (xs : List ℕ) (old : IsFew rows len reads xs). row_cut rows len
-          len' reads 1 at (length s) xs (map (one_if p) s) old (ones p s) (length-map s (one_if p))
-          (omega arith) is room in
+      len' reads 1 at (length s) xs (map (one_if p) s) old (ones p s) (length-map s (one_if p))
+      (omega arith) is room in
       columns_same (first_rows len' (columns_plus x (lanes_at at e s q)))
-          (columns_plus (first_rows len x) (lanes_at at e s q))
+      (columns_plus (first_rows len x) (lanes_at at e s q))
       (row_cut rows len len' reads 1 at (length s) x.bases (map (one_if (nat_le 1)) q) few.bases
-          (ones (nat_le 1) q) (length-map q (one_if (nat_le 1)) ∙ same) (omega arith) is room)
+      (ones (nat_le 1) q) (length-map q (one_if (nat_le 1)) ∙ same) (omega arith) is room)
       (row_cut rows len len' (93 * reads) 93 at (length s) x.score_sum (map (lane_score e) q)
-          few.score_sum (scores_at_most e q all) size_q (omega arith) is room)
+      few.score_sum (scores_at_most e q all) size_q (omega arith) is room)
       (row_cut rows len len' reads 1 at (length s) x.q30_bases
-          (map (one_if (nat_le 30)) (map (lane_score e) q)) few.q30_bases
-          (ones (nat_le 30) (map (lane_score e) q))
-          (length-map (map (lane_score e) q) (one_if (nat_le 30)) ∙ size_q) (omega arith) is room)
+      (map (one_if (nat_le 30)) (map (lane_score e) q)) few.q30_bases
+      (ones (nat_le 30) (map (lane_score e) q))
+      (length-map (map (lane_score e) q) (one_if (nat_le 30)) ∙ size_q) (omega arith) is room)
       (letter is_a x.a few.a) (letter is_c x.c few.c) (letter is_g x.g few.g)
-          (letter is_t x.t few.t) (letter is_n x.n few.n)
+      (letter is_t x.t few.t) (letter is_n x.n few.n)

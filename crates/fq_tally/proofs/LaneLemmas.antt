@@ -80,25 +80,26 @@ lanes_nothing : (x : Columns) (rows len reads at : ℕ) (e : Encoding) → AreFe
 lanes_nothing x rows len reads at e few bound within =
     columns_same x (columns_plus x (lanes_at at e [] []))
     (row_nothing rows len reads at x.bases few.bases (omega arith) within)
-        (row_nothing rows len (93 * reads) at x.score_sum few.score_sum (omega arith) within)
+    (row_nothing rows len (93 * reads) at x.score_sum few.score_sum (omega arith) within)
     (row_nothing rows len reads at x.q30_bases few.q30_bases (omega arith) within)
-        (row_nothing rows len reads at x.a few.a (omega arith) within)
+    (row_nothing rows len reads at x.a few.a (omega arith) within)
     (row_nothing rows len reads at x.c few.c (omega arith) within)
-        (row_nothing rows len reads at x.g few.g (omega arith) within)
+    (row_nothing rows len reads at x.g few.g (omega arith) within)
     (row_nothing rows len reads at x.t few.t (omega arith) within)
-        (row_nothing rows len reads at x.n few.n (omega arith) within)
+    (row_nothing rows len reads at x.n few.n (omega arith) within)
 
 pub nothing_counted : (x : Columns) (rows len reads at : ℕ) (e : Encoding) →
     AreFew rows len reads x → reads ≤ 254 → at ≤ 10000 → at ≤ rows →
     x ≡ columns_plus x (columns_from at e [] [])
 nothing_counted x rows len reads at e few bound near within =
     lanes_nothing x rows len reads at e few bound within
-        ∙ ap (columns_plus x) (lanes_are_columns at e [] [] refl refl (omega arith))
+    ∙ ap (columns_plus x) (lanes_are_columns at e [] [] refl refl (omega arith))
 
 -- What is counted of one read.
-module _ (start now : Columns) (at from : ℕ) (e : Encoding) (seq qual : List ℕ) (so_far : now ≡ columns_plus start (columns_from at e (take from seq) (take from qual)))
+module _ (start now : Columns) (at from : ℕ) (e : Encoding) (seq qual : List ℕ)
+    (so_far : now ≡ columns_plus start (columns_from at e (take from seq) (take from qual)))
     (same : length qual ≡ length seq) (near : at + length qual ≤ 10000)
-        (scored : list_all (is_scored e) qual ≡ true) (within : from ≤ length seq) where
+    (scored : list_all (is_scored e) qual ≡ true) (within : from ≤ length seq) where
   front_s : length (take from seq) ≡ from
   front_s = length-take-le from seq within
 
@@ -122,14 +123,14 @@ module _ (start now : Columns) (at from : ℕ) (e : Encoding) (seq qual : List �
       let all = all_taken (is_scored e) (drop from qual) 32 rest_scored in
       here
       ∙ ap₂ columns_plus so_far (lanes_are_columns (at + from) e (chunk from 32 seq) (chunk from 32
-          qual) all (omega arith) (omega arith))
+      qual) all (omega arith) (omega arith))
       ∙ columns_assoc start (columns_from at e (take from seq) (take from qual))
-          (columns_from (at + from) e (chunk from 32 seq) (chunk from 32 qual))
+      (columns_from (at + from) e (chunk from 32 seq) (chunk from 32 qual))
       ∙ ap (columns_plus start) (columns_joined at (at + from) e (take from seq) (take from qual)
-          (chunk from 32 seq) (chunk from 32 qual) (omega arith) (omega arith) (omega arith)
-          (omega arith) (omega arith) front_scored all)
+      (chunk from 32 seq) (chunk from 32 qual) (omega arith) (omega arith) (omega arith)
+      (omega arith) (omega arith) front_scored all)
       ∙ ap₂ (λ x y. columns_plus start (columns_from at e x y)) (sym (take-add from 32 seq))
-          (sym (take-add from 32 qual))
+      (sym (take-add from 32 qual))
 
   pub rest_next : (new : Columns) →
       new ≡ columns_plus now (columns_from (at + from) e (drop from seq) (drop from qual)) →
@@ -141,14 +142,14 @@ module _ (start now : Columns) (at from : ℕ) (e : Encoding) (seq qual : List �
       let fq = front_q in
       here
       ∙ ap (λ x. columns_plus x (columns_from (at + from) e (drop from seq) (drop from qual)))
-          so_far
+      so_far
       ∙ columns_assoc start (columns_from at e (take from seq) (take from qual))
-          (columns_from (at + from) e (drop from seq) (drop from qual))
+      (columns_from (at + from) e (drop from seq) (drop from qual))
       ∙ ap (columns_plus start) (columns_joined at (at + from) e (take from seq) (take from qual)
-          (drop from seq) (drop from qual) (omega arith) (omega arith) (omega arith) (omega arith)
-          (omega arith) front_scored rest_scored)
+      (drop from seq) (drop from qual) (omega arith) (omega arith) (omega arith) (omega arith)
+      (omega arith) front_scored rest_scored)
       ∙ ap₂ (λ x y. columns_plus start (columns_from at e x y)) (take-append-drop from seq)
-          (take-append-drop from qual)
+      (take-append-drop from qual)
 
   pub all_counted : length seq ≤ from → now ≡ columns_plus start (columns_from at e seq qual)
   all_counted done = so_far ∙ ap₂ (λ x y. columns_plus start (columns_from at e x y))
@@ -160,42 +161,42 @@ module _ (start now : Columns) (at from : ℕ) (e : Encoding) (seq qual : List �
       let fs = front_s in
       let fq = front_q in
       let more = lanes_more start rows 10032 10032 253 at e (take from seq) (take from qual) few
-          front_scored (omega arith) (omega arith) (omega arith) (omega arith) in
+      front_scored (omega arith) (omega arith) (omega arith) (omega arith) in
       subst (λ x. AreFew rows 10032 254 x) (ap (columns_plus start) (lanes_are_columns at e
-          (take from seq) (take from qual) front_scored (omega arith) (omega arith))
-          ∙ sym so_far) more
+      (take from seq) (take from qual) front_scored (omega arith) (omega arith))
+      ∙ sym so_far) more
 
 -- The last bases of a read, in the last lanes of a vector and in the first.
 pub rest_in_last : (old new : Columns) (at from start k : ℕ) (e : Encoding)
     (seq qual bases bytes : List ℕ) → start + k ≡ from →
     bases ≡ replicate k 0 ++ drop k (drop start seq) →
-        bytes ≡ replicate k 0 ++ drop k (drop start qual) →
+    bytes ≡ replicate k 0 ++ drop k (drop start qual) →
     length qual ≡ length seq → at + length qual ≤ 10000 → from ≤ length seq →
-        list_all (is_scored e) qual ≡ true →
+    list_all (is_scored e) qual ≡ true →
     new ≡ columns_plus old (lanes_at (at + start) e bases bytes) →
-        new ≡ columns_plus old (columns_from (at + from) e (drop from seq) (drop from qual))
+    new ≡ columns_plus old (columns_from (at + from) e (drop from seq) (drop from qual))
 rest_in_last old new at from start k e seq qual bases bytes place s q same near within scored here =
     let ls = length-drop from seq in
     let lq = length-drop from qual in
     here
     ∙ ap₂ (λ x y. columns_plus old (lanes_at (at + start) e x y)) s q
     ∙ ap (columns_plus old) (lanes_moved (at + start) k e (drop k (drop start seq)) (drop k
-        (drop start qual)))
+    (drop start qual)))
     ∙ ap₂ (λ x y. columns_plus old (lanes_at (at + start + k) e x y)) (drop-drop k start seq
-        ∙ ap (λ n. drop n seq) place) (drop-drop k start qual ∙ ap (λ n. drop n qual) place)
+    ∙ ap (λ n. drop n seq) place) (drop-drop k start qual ∙ ap (λ n. drop n qual) place)
     ∙ ap (λ n. columns_plus old (lanes_at n e (drop from seq) (drop from qual))) (omega arith)
     ∙ ap (columns_plus old) (lanes_are_columns (at + from) e (drop from seq) (drop from qual)
-        (all_dropped (is_scored e) qual from scored) (omega arith) (omega arith))
+    (all_dropped (is_scored e) qual from scored) (omega arith) (omega arith))
 
 pub rest_in_first : (old new : Columns) (rows at from k m : ℕ) (e : Encoding)
     (seq qual bases bytes : List ℕ) →
     bases ≡ drop from seq ++ replicate k 0 → bytes ≡ drop from qual ++ replicate m 0 →
-        k ≡ 32 - length (drop from seq) → m ≡ 32 - length (drop from qual) →
+    k ≡ 32 - length (drop from seq) → m ≡ 32 - length (drop from qual) →
     length qual ≡ length seq → at + length qual ≤ 10000 → from ≤ length seq →
-        length seq ≤ from + 32 → list_all (is_scored e) qual ≡ true → at + (from + 32) ≤ rows →
-        AreFew rows 10032 254 old →
+    length seq ≤ from + 32 → list_all (is_scored e) qual ≡ true → at + (from + 32) ≤ rows →
+    AreFew rows 10032 254 old →
     new ≡ columns_plus old (lanes_at (at + from) e bases bytes) →
-        new ≡ columns_plus old (columns_from (at + from) e (drop from seq) (drop from qual))
+    new ≡ columns_plus old (columns_from (at + from) e (drop from seq) (drop from qual))
 rest_in_first old new rows at from k m e seq qual bases bytes s q k_is m_is same near within less
     scored room few here =
     let ls = length-drop from seq in
@@ -203,40 +204,40 @@ rest_in_first old new rows at from k m e seq qual bases bytes s q k_is m_is same
     let equal : m ≡ k = omega arith in
     here
     ∙ ap₂ (λ x y. columns_plus old (lanes_at (at + from) e x y)) s (q
-        ∙ ap (λ n. drop from qual ++ replicate n 0) equal)
+    ∙ ap (λ n. drop from qual ++ replicate n 0) equal)
     ∙ lanes_behind old rows 10032 254 (at + from) k e (drop from seq) (drop from qual) few
-        (omega arith) (omega arith) (omega arith)
+    (omega arith) (omega arith) (omega arith)
     ∙ ap (columns_plus old) (lanes_are_columns (at + from) e (drop from seq) (drop from qual)
-        (all_dropped (is_scored e) qual from scored) (omega arith) (omega arith))
+    (all_dropped (is_scored e) qual from scored) (omega arith) (omega arith))
 
 -- One more read among a few.
 pub read_added : (totals x y : Columns) (rows reached reads at end : ℕ) (e : Encoding)
     (seq qual : List ℕ) → AreFew rows reached reads x → reached ≤ rows → end ≤ rows →
     y ≡ columns_plus x (columns_from at e seq qual) → length qual ≡ length seq →
-        end ≡ at + length seq → end ≤ 10000 → list_all (is_scored e) qual ≡ true →
+    end ≡ at + length seq → end ≤ 10000 → list_all (is_scored e) qual ≡ true →
     columns_plus totals (first_rows (max reached end) y)
-        ≡ columns_plus (columns_plus totals (first_rows reached x)) (columns_from at e seq qual)
+    ≡ columns_plus (columns_plus totals (first_rows reached x)) (columns_from at e seq qual)
 read_added totals x y rows reached reads at end e seq qual few near room here same end_is within
     scored =
     let as_lanes = lanes_are_columns at e seq qual scored same (omega arith) in
     ap (λ z. columns_plus totals (first_rows (max reached end) z)) (here
-        ∙ ap (columns_plus x) (sym as_lanes))
+    ∙ ap (columns_plus x) (sym as_lanes))
     ∙ ap (columns_plus totals) (lanes_cut x rows reached (max reached end) reads at e seq qual few
-        scored same (omega arith) (omega arith))
+    scored same (omega arith) (omega arith))
     ∙ ap (λ z. columns_plus totals (columns_plus (first_rows reached x) z)) as_lanes
     ∙ sym (columns_assoc totals (first_rows reached x) (columns_from at e seq qual))
 
 pub read_few : (x y : Columns) (rows reached reads at end : ℕ) (e : Encoding) (seq qual : List ℕ) →
     AreFew rows reached reads x → end ≤ rows →
     y ≡ columns_plus x (columns_from at e seq qual) → length qual ≡ length seq →
-        end ≡ at + length seq → end ≤ 10000 → list_all (is_scored e) qual ≡ true →
+    end ≡ at + length seq → end ≤ 10000 → list_all (is_scored e) qual ≡ true →
     AreFew rows (max reached end) (reads + 1) y
 read_few x y rows reached reads at end e seq qual few room here same end_is within scored =
     let as_lanes = lanes_are_columns at e seq qual scored same (omega arith) in
     subst (λ z. AreFew rows (max reached end) (reads + 1) z) (ap (columns_plus x) as_lanes
-        ∙ sym here)
+    ∙ sym here)
     (lanes_more x rows reached (max reached end) reads at e seq qual few scored same (omega arith)
-        (omega arith) (omega arith))
+    (omega arith) (omega arith))
 
 -- One more byte is converted.
 pub converted_next : (f : ℕ → ℕ) (bytes scores : List ℕ) (i r : ℕ) →
@@ -247,11 +248,11 @@ converted_next f bytes scores i r so_far within here =
     let rest : List ℕ = drop (i + 1) bytes in
     let b = get_or bytes i 0 in
     let size : length front ≡ i = length-map (take i bytes) f
-        ∙ length-take-le i bytes (omega arith) in
+    ∙ length-take-le i bytes (omega arith) in
     let parts : scores ≡ front ++ (b ∷ rest) = so_far
-        ∙ ap (λ xs. front ++ xs) (drop_more bytes i 0 within) in
+    ∙ ap (λ xs. front ++ xs) (drop_more bytes i 0 within) in
     let value : r ≡ f b = here ∙ ap (λ xs. f (get_or xs i 0)) parts
-        ∙ ap f (get_or_at front b rest 0 i size) in
+    ∙ ap f (get_or_at front b rest 0 i size) in
     ap₂ (λ xs x. set xs i x) parts value
     ∙ set_at front b rest (f b) i size
     ∙ sym (append_assoc front (f b ∷ []) rest)

@@ -41,11 +41,11 @@ select_map test j f (i ∷ is) =
     let rest = select_map test (suc j) f is in
     ⊎_elim
     (λ yes. cond-true (test j) _ _ yes ∙ ap (λ ns. f i ∷ ns) rest
-        ∙ ap (map f) (sym (cond-true (test j) (i ∷ select test (suc j) is) (select test (suc j) is)
-        yes)))
+    ∙ ap (map f) (sym (cond-true (test j) (i ∷ select test (suc j) is) (select test (suc j) is)
+    yes)))
     (λ no. cond-false (test j) _ _ no ∙ rest
-        ∙ ap (map f) (sym (cond-false (test j) (i ∷ select test (suc j) is) (select test (suc j) is)
-        no)))
+    ∙ ap (map f) (sym (cond-false (test j) (i ∷ select test (suc j) is) (select test (suc j) is)
+    no)))
     (cases_Bool (test j))
 
 all_places : (xs : List ℕ) (n : ℕ) → n ≡ length xs → map (at xs) (places 0 n) ≡ xs
@@ -58,7 +58,7 @@ kept_map [] q ps is below = refl
 kept_map (step ∷ steps) q ps is below =
     let test : ℕ → Bool = keeps step (map (at (map (at q) ps)) is) in
     ap (λ (ns : List ℕ). kept_of steps q (select (keeps step ns) 0 (map (at ps) is)))
-        (map_at (at q) ps is below)
+    (map_at (at q) ps is below)
     ∙ ap (kept_of steps q) (select_map test 0 (at ps) is)
     ∙ kept_map steps q ps (select test 0 is) (select_below test 0 (length ps) is below)
 
@@ -69,7 +69,7 @@ kept_within steps q ps =
     let size = length-map ps (at q) in
     ap (kept_of steps q) (sym (all_places ps (length ps) refl))
     ∙ kept_map steps q ps (places 0 (length ps))
-        (places_below (length ps) 0 (length ps) (omega arith))
+    (places_below (length ps) 0 (length ps) (omega arith))
     ∙ ap (λ (n : ℕ). map (at ps) (kept_of steps (map (at q) ps) (places 0 n))) (sym size)
 
 pub kept_append : (steps others : List Step) (q ps : List ℕ) →
@@ -102,32 +102,32 @@ left_in_turn [] n p same =
     let seq = all_places p.seq (length (scores e p.qual)) (omega arith) in
     let qual = all_places p.qual (length (scores e p.qual)) (omega arith) in
     let is : record { encoding = p.encoding; seq = p.seq; qual = p.qual }
-        ≡ part_at (kept [] (scores e p.qual)) p = cc in is
+    ≡ part_at (kept [] (scores e p.qual)) p = cc in is
 left_in_turn (steps ∷ lists) n p same =
     let e = p.encoding in
     let q = scores e p.qual in
     let size = length-map p.qual (value_of e) in
     let ps = kept steps q in
     let below = kept_below steps q (length q) (places 0 (length q))
-        (places_below (length q) 0 (length q) (omega arith)) in
+    (places_below (length q) 0 (length q) (omega arith)) in
     let in_qual : Below (length p.qual) ps = subst (λ (m : ℕ). Below m ps) size below in
     let rest = one_list lists in
     let next = part_at ps p in
     let r : List ℕ → Part = λ xs. part_at (kept_of rest q xs) p in
     let next_size : length next.qual ≡ length next.seq = length-map ps (at p.qual)
-        ∙ sym (length-map ps (at p.seq)) in
+    ∙ sym (length-map ps (at p.seq)) in
     let values : scores e next.qual ≡ map (at q) ps = map_at (value_of e) p.qual ps in_qual in
     let k_size = length-map ps (at q) in
     let k_below : Below (length ps) (kept rest (map (at q) ps)) =
-        kept_below rest (map (at q) ps) (length ps) _
-        (places_below (length ps) 0 (length (map (at q) ps)) (omega arith)) in
+    kept_below rest (map (at q) ps) (length ps) _
+    (places_below (length ps) 0 (length (map (at q) ps)) (omega arith)) in
     let left : (course_of (suc n) lists next).left ≡ r ps =
     left_in_turn lists (suc n) next next_size
     ∙ ap (λ (ns : List ℕ). part_at (kept rest ns) next) values
     ∙ part_of_part p ps (kept rest (map (at q) ps)) k_below
     ∙ ap (λ (ns : List ℕ). part_at ns p) (sym (kept_within rest q ps)) in
     left_after n ps p (course_of (suc n) lists next) r left
-        (ap (λ (ns : List ℕ). part_at ns p) (kept_none rest q))
+    (ap (λ (ns : List ℕ). part_at ns p) (kept_none rest q))
     ∙ ap (λ (ns : List ℕ). part_at ns p) (sym (kept_append steps rest q (places 0 (length q))))
 
 pub not_empty : (f : ℕ → ℕ) (xs : List ℕ) → is_empty (map f xs) ≡ is_empty xs
@@ -139,7 +139,7 @@ pub survives_in_turn : (lists : List (List Step)) (read : Read) →
     (one_list lists) read
 survives_in_turn lists read same =
     ap survives (left_in_turn lists 0 (whole read) same)
-        ∙ ap not (not_empty (at read.seq) (kept_places (one_list lists) read))
+    ∙ ap not (not_empty (at read.seq) (kept_places (one_list lists) read))
 
 -- the same of steps, each in a list of its own
 pub left_as_kept : (steps : List Step) (read : Read) → length read.qual ≡ length read.seq →

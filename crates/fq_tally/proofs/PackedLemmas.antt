@@ -53,15 +53,15 @@ joined_whole (h ∷ hs) ts b w l b' w' l' whole more =
     let v = h.width in
     let le = whole.1 in
     let rest = joined_whole hs ts (bytes_after v n b) (words_after v n w) (longs_after v n l) b' w'
-        l' whole.2 more in (
+    l' whole.2 more in (
       whole.0,
       longer b w l b' w' l' v n le,
       subst (λ x. AreWhole (hs ++ ts) x (words_after v n (w ++ w')) (longs_after v n (l ++ l')))
           (sym (bytes_left b w l b' w' l' v n le))
           (subst (λ y. AreWhole (hs ++ ts) (bytes_after v n b ++ b') y (longs_after v n (l ++ l')))
-              (sym (words_left b w l b' w' l' v n le))
+          (sym (words_left b w l b' w' l' v n le))
           (subst (λ z. AreWhole (hs ++ ts) (bytes_after v n b ++ b') (words_after v n w ++ w') z)
-              (sym (longs_left b w l b' w' l' v n le)) rest)),
+          (sym (longs_left b w l b' w' l' v n le)) rest)),
     )
 
 pub joined_tables : (hs ts : List Head) (b w l b' w' l' : List ℕ) → AreWhole hs b w l →
@@ -75,14 +75,14 @@ joined_tables (h ∷ hs) ts b w l b' w' l' whole =
     let v = h.width in
     let le = whole.1 in
     let rest = joined_tables hs ts (bytes_after v n b) (words_after v n w) (longs_after v n l) b' w'
-        l' whole.2 in
+    l' whole.2 in
     ap₂ (λ t us. t ∷ us) (taken b w l b' w' l' v n le)
     (ap (λ x. tables_in (hs ++ ts) x (words_after v n (w ++ w')) (longs_after v n (l ++ l')))
-        (bytes_left b w l b' w' l' v n le)
+    (bytes_left b w l b' w' l' v n le)
     ∙ ap (λ y. tables_in (hs ++ ts) (bytes_after v n b ++ b') y (longs_after v n (l ++ l')))
-        (words_left b w l b' w' l' v n le)
+    (words_left b w l b' w' l' v n le)
     ∙ ap (λ z. tables_in (hs ++ ts) (bytes_after v n b ++ b') (words_after v n w ++ w') z)
-        (longs_left b w l b' w' l' v n le)
+    (longs_left b w l b' w' l' v n le)
     ∙ rest)
 
 -- One table.
@@ -127,7 +127,7 @@ pub written_all : (old counts : List ℕ) → length old ≡ length counts → (
     take n counts ++ drop n old ≡ counts
 written_all old counts same n is =
     ap₂ (λ xs ys. xs ++ ys) (take_all n counts (omega arith)) (drop_all n old (omega arith))
-        ∙ append-nil counts
+    ∙ append-nil counts
 
 -- The first table is read, which has this width.
 pub record Reads (h : Head) (rest : List Head) (v : Width) (b w l : List ℕ)
@@ -142,15 +142,21 @@ pub record Reads (h : Head) (rest : List Head) (v : Width) (b w l : List ℕ)
 
 first_reads : (rest : List Head) (h : Head) (b w l : List ℕ) → AreWhole (h ∷ rest) b w l →
     Reads h rest h.width b w l (tables_in (h ∷ rest) b w l)
-first_reads rest h b w l whole = record { few = whole.0; room = whole.1; table = refl; left =
-    refl; whole = whole.2 }
+first_reads rest h b w l whole = record {
+  few = whole.0;
+  room = whole.1;
+  table = refl;
+  left =
+      refl;
+  whole = whole.2;
+}
 
 pub reads_first : (hs rest : List Head) (h : Head) (v : Width) (b w l : List ℕ) → hs ≡ h ∷ rest →
     h.width ≡ v → AreWhole hs b w l → Reads h rest v b w l (tables_in hs b w l)
 reads_first hs rest h v b w l is width whole =
     subst (λ (u : Width). Reads h rest u b w l (tables_in hs b w l)) width
     (subst (λ (gs : List Head). AreWhole gs b w l →
-        Reads h rest h.width b w l (tables_in gs b w l)) (sym is) (first_reads rest h b w l) whole)
+    Reads h rest h.width b w l (tables_in gs b w l)) (sym is) (first_reads rest h b w l) whole)
 
 -- No count is above the largest.
 pub all_at_most : (counts : List ℕ) (n most limit : ℕ) → length counts ≤ n → most ≤ limit →
@@ -162,17 +168,18 @@ all_at_most counts n most limit size within below k =
     (cases_lt k n)
 
 -- One table more.
-module _ (hs hs' : List Head) (b b' w w' l l' counts : List ℕ) (n : ℕ) (v : Width) (whole : AreWhole hs b w l) (heads : hs' ≡ hs ++ (head_of n v ∷ []))
+module _ (hs hs' : List Head) (b b' w w' l l' counts : List ℕ) (n : ℕ) (v : Width)
+    (whole : AreWhole hs b w l) (heads : hs' ≡ hs ++ (head_of n v ∷ []))
     (bytes : b' ≡ b ++ bytes_of v counts) (words : w' ≡ w ++ words_of v counts) (longs : l'
-        ≡ l ++ longs_of v counts) (is : n ≡ length counts) where
+    ≡ l ++ longs_of v counts) (is : n ≡ length counts) where
   pub pushed_whole : length counts ≤ 10002 → AreWhole hs' b' w' l'
   pushed_whole few =
       rw (heads, bytes, words, longs) (joined_whole hs (head_of n v ∷ []) b w l (bytes_of v counts)
-          (words_of v counts) (longs_of v counts) whole (one_whole v n counts is few))
+      (words_of v counts) (longs_of v counts) whole (one_whole v n counts is few))
 
   pub pushed_tables : tables_in hs' b' w' l' ≡ tables_in hs b w l ++ (counts ∷ [])
   pushed_tables =
       rw (heads, bytes, words, longs)
       (joined_tables hs (head_of n v ∷ []) b w l (bytes_of v counts) (words_of v counts)
-          (longs_of v counts) whole
+      (longs_of v counts) whole
       ∙ ap (λ ts. tables_in hs b w l ++ ts) (one_table v n counts is))

@@ -22,13 +22,13 @@ columns_packed (u ∷ ts) t = ap (λ us. u ∷ us) (columns_packed ts t)
 
 pub reads_packed : (ts : List (List ℕ)) (t : ReadsTally) →
     ts ++ ((t.reads ∷ []) ∷ []) ++ bases_tables
-        t.bases ++ ((t.shortest ∷ []) ∷ []) ++ ((t.longest ∷ []) ∷ []) ++ (t.lengths ∷ []) ++ (t.mean_scores ∷ []) ++ (t.gc_percents ∷ []) ≡ ts ++ reads_tables t
+    t.bases ++ ((t.shortest ∷ []) ∷ []) ++ ((t.longest ∷ []) ∷ []) ++ (t.lengths ∷ []) ++ (t.mean_scores ∷ []) ++ (t.gc_percents ∷ []) ≡ ts ++ reads_tables t
 reads_packed [] t = refl
 reads_packed (u ∷ ts) t = ap (λ us. u ∷ us) (reads_packed ts t)
 
 pub side_columns_packed : (ts : List (List ℕ)) (t : SideColumns) →
     ts ++ columns_tables t.before ++ columns_tables t.paired ++ columns_tables t.unpaired
-        ≡ ts ++ side_columns_tables t
+    ≡ ts ++ side_columns_tables t
 side_columns_packed [] t = refl
 side_columns_packed (u ∷ ts) t = ap (λ us. u ∷ us) (side_columns_packed ts t)
 
@@ -39,14 +39,14 @@ three_packed ts ts₁ ts₂ ts₃ x y z t first second third before paired unpai
     third ∙ ap (λ us. us ++ columns_tables z) (second ∙ ap (λ us. us ++ columns_tables y) first)
     ∙ ap (λ (c : Columns). ts ++ columns_tables c ++ columns_tables y ++ columns_tables z) before
     ∙ ap (λ (c : Columns). ts ++ columns_tables t.before ++ columns_tables c ++ columns_tables z)
-        paired
+    paired
     ∙ ap (λ (c : Columns). ts ++ columns_tables t.before ++ columns_tables
-        t.paired ++ columns_tables c) unpaired
+    t.paired ++ columns_tables c) unpaired
     ∙ side_columns_packed ts t
 
 pub side_packed : (ts : List (List ℕ)) (t : SideTally) →
     ts ++ reads_tables t.before ++ reads_tables t.paired ++ reads_tables
-        t.unpaired ++ ((t.front ∷ []) ∷ []) ++ ((t.behind ∷ []) ∷ []) ++ (t.removed_front ∷ []) ++ (t.removed_behind ∷ [])
+    t.unpaired ++ ((t.front ∷ []) ∷ []) ++ ((t.behind ∷ []) ∷ []) ++ (t.removed_front ∷ []) ++ (t.removed_behind ∷ [])
     ++ side_columns_tables t.positions ++ steps_tables t.steps ≡ ts ++ side_tables t
 side_packed [] t = refl
 side_packed (u ∷ ts) t = ap (λ us. u ∷ us) (side_packed ts t)
@@ -66,4 +66,4 @@ pub tally_read : (t : Tally) → tally_in (tally_tables t) ≡ t
 tally_read t =
     let two : SideTally → SideTally → Tally = λ f r. record { forward = f; reverse = r } in
     ap₂ two (side_read t.forward (side_tables t.reverse))
-        (ap side_in (left_read t.forward (side_tables t.reverse)) ∙ side_alone t.reverse)
+    (ap side_in (left_read t.forward (side_tables t.reverse)) ∙ side_alone t.reverse)

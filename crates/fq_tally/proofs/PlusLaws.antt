@@ -103,8 +103,15 @@ bases_assoc a b c =
     let u = capped_assoc a.n b.n c.n in cc
 
 abbrev bases_parts : BaseTally → BaseTally
-bases_parts t = record { bases = t.bases; at_least_20 = t.at_least_20; at_least_30 =
-    t.at_least_30; score_sum = t.score_sum; gc = t.gc; n = t.n }
+bases_parts t = record {
+  bases = t.bases;
+  at_least_20 = t.at_least_20;
+  at_least_30 =
+      t.at_least_30;
+  score_sum = t.score_sum;
+  gc = t.gc;
+  n = t.n;
+}
 
 bases_none : (t : BaseTally) → SmallBases t → bases_plus t no_bases ≡ t
 bases_none t small =
@@ -140,9 +147,23 @@ part_small p t small = let short = small.shortest in record {
 
 none_small : SmallReads no_reads
 unfolding SmallRows
-none_small = record { reads = omega arith; bases = record { bases = omega arith; at_least_20 =
-    omega arith; at_least_30 = omega arith; score_sum = omega arith; gc = omega arith; n =
-    omega arith }; shortest = omega arith; lengths = tt; mean_scores = tt; gc_percents = tt }
+none_small = record {
+  reads = omega arith;
+  bases = record {
+    bases = omega arith;
+    at_least_20 =
+        omega arith;
+    at_least_30 = omega arith;
+    score_sum = omega arith;
+    gc = omega arith;
+    n =
+        omega arith;
+  };
+  shortest = omega arith;
+  lengths = tt;
+  mean_scores = tt;
+  gc_percents = tt;
+}
 
 min_assoc : (a b c : ℕ) → min (min a b) c ≡ min a (min b c)
 min_assoc a b c = omega arith
@@ -165,13 +186,21 @@ reads_part p a b small =
     let u = max_assoc a.longest b.longest (length p.seq) in
     let v = rows_one (row_of (length p.seq)) a.lengths b.lengths small.lengths in
     let w = rows_if (nat_lt 0 (length p.seq)) (mean_score (bases_of p)) a.mean_scores b.mean_scores
-        small.mean_scores in
+    small.mean_scores in
     let x = rows_if (nat_lt 0 (length p.seq)) (gc_percent (bases_of p)) a.gc_percents b.gc_percents
-        small.gc_percents in cc
+    small.gc_percents in cc
 
 abbrev reads_parts : ReadsTally → ReadsTally
-reads_parts t = record { reads = t.reads; bases = t.bases; shortest = t.shortest; longest =
-    t.longest; lengths = t.lengths; mean_scores = t.mean_scores; gc_percents = t.gc_percents }
+reads_parts t = record {
+  reads = t.reads;
+  bases = t.bases;
+  shortest = t.shortest;
+  longest =
+      t.longest;
+  lengths = t.lengths;
+  mean_scores = t.mean_scores;
+  gc_percents = t.gc_percents;
+}
 
 reads_none : (t : ReadsTally) → SmallReads t → reads_plus t no_reads ≡ t
 reads_none t small =
@@ -218,9 +247,19 @@ sum_if false n s t = refl
 
 no_side_small : SmallSide no_side
 unfolding SmallRows
-no_side_small = record { before = none_small; paired = none_small; unpaired = none_small; front =
-    omega arith; behind = omega arith; removed_front = tt; removed_behind = tt; shortened =
-    tt; dropped = tt }
+no_side_small = record {
+  before = none_small;
+  paired = none_small;
+  unpaired = none_small;
+  front =
+      omega arith;
+  behind = omega arith;
+  removed_front = tt;
+  removed_behind = tt;
+  shortened =
+      tt;
+  dropped = tt;
+}
 
 read_small : (read : Read) (c : Course) (mate_survives : Bool) (t : SideTally) → SmallSide t →
     SmallSide (with_read read c mate_survives t)
@@ -243,13 +282,13 @@ side_read read c mate_survives s t small =
     let before = reads_part (whole read) s.before t.before small.before in
     let paired = part_if (survives c.left && mate_survives) c.left s.paired t.paired small.paired in
     let unpaired = part_if (survives c.left && not mate_survives) c.left s.unpaired t.unpaired
-        small.unpaired in
+    small.unpaired in
     let front = sum_if (survives c.left) c.front s.front t.front in
     let behind = sum_if (survives c.left) (behind_of read c.left c.front) s.behind t.behind in
     let removed_front = rows_if (survives c.left) c.front s.removed_front t.removed_front
-        small.removed_front in
+    small.removed_front in
     let removed_behind = rows_if (survives c.left) (behind_of read c.left c.front) s.removed_behind
-        t.removed_behind small.removed_behind in
+    t.removed_behind small.removed_behind in
     let positions = side_columns_read read c.left mate_survives s.positions t.positions in
     let shortened = rows_all c.shortened s.steps.shortened t.steps.shortened small.shortened in
     let dropped = rows_all c.dropped s.steps.dropped t.steps.dropped small.dropped in cc
@@ -303,14 +342,14 @@ module _ (lists : List (List Step)) where
       with_pair lists (plus s t) m ≡ plus s (with_pair lists t m)
   plus_pair s t m small =
       let forward = side_read m.forward (course lists m.forward)
-          (survives (course lists m.reverse).left) s.forward t.forward small.forward in
+      (survives (course lists m.reverse).left) s.forward t.forward small.forward in
       let reverse = side_read m.reverse (course lists m.reverse)
-          (survives (course lists m.forward).left) s.reverse t.reverse small.reverse in
+      (survives (course lists m.forward).left) s.reverse t.reverse small.reverse in
       let two : SideTally → SideTally → Tally = λ f r. record { forward = f; reverse = r } in
       ap (λ (f : SideTally). two f (with_read m.reverse (course lists m.reverse) (survives
-          (course lists m.forward).left) (side_plus s.reverse t.reverse))) forward
+      (course lists m.forward).left) (side_plus s.reverse t.reverse))) forward
       ∙ ap (two (side_plus s.forward (with_read m.forward (course lists m.forward)
-          (survives (course lists m.reverse).left) t.forward))) reverse
+      (survives (course lists m.reverse).left) t.forward))) reverse
 
   plus_pairs : (s t : Tally) (ms : List Mates) → SmallTally s →
       fold (with_pair lists) (plus s t) ms ≡ plus s (fold (with_pair lists) t ms)
@@ -323,12 +362,15 @@ module _ (lists : List (List Step)) where
       tally_of lists (front ++ behind) ≡ plus (tally_of lists front) (tally_of lists behind)
   tally_of-append front behind =
       let s = tally_of lists front in
-      let small : SmallTally s = pairs_small no_tally front (record { forward =
-          no_side_small; reverse = no_side_small }) in
+      let small : SmallTally s = pairs_small no_tally front (record {
+        forward =
+            no_side_small;
+        reverse = no_side_small;
+      }) in
       let two : SideTally → SideTally → Tally = λ f r. record { forward = f; reverse = r } in
       let none : plus s no_tally ≡ s = ap (λ (f : SideTally). two f (side_plus s.reverse no_side))
-          (side_none s.forward small.forward)
-          ∙ ap (two s.forward) (side_none s.reverse small.reverse) in
+      (side_none s.forward small.forward)
+      ∙ ap (two s.forward) (side_none s.reverse small.reverse) in
       fold-append (with_pair lists) no_tally front behind
       ∙ ap (λ (u : Tally). fold (with_pair lists) u behind) (sym none)
       ∙ plus_pairs s no_tally behind small

@@ -21,17 +21,17 @@ is_asked false steps ms = refl
 -- with one more pair
 tally_more : (tallied : Bool) (steps : List Step) (ms : List Mates) (m : Mates) →
     option_map (λ (t : Tally). with_pair (alone steps) t m) (tally_if tallied steps ms)
-        ≡ tally_if tallied steps (ms ++ m ∷ [])
+    ≡ tally_if tallied steps (ms ++ m ∷ [])
 tally_more true steps ms m = ap (λ (t : Tally). let s : Option Tally = Some t in s)
     (sym (fold-append (with_pair (alone steps)) no_tally ms (m ∷ [])))
 tally_more false steps ms m = refl
 
 pub made_more : (tallied : Bool) (steps : List Step) (number : ℕ) (ms : List Mates) (m : Mates) →
     with_mates steps (made_of tallied steps number ms) m
-        ≡ made_of tallied steps number (ms ++ m ∷ [])
+    ≡ made_of tallied steps number (ms ++ m ∷ [])
 made_more tallied steps number ms m =
     let with : Outputs → Option Tally → Done =
-        λ o t. record { number = number; texts = o; tally = t } in
+    λ o t. record { number = number; texts = o; tally = t } in
     ap (λ (o : Outputs). with o (option_map (λ (t : Tally). with_pair (alone steps) t m) (tally_if
-        tallied steps ms))) (sym (texts_of-append steps ms (m ∷ [])))
+    tallied steps ms))) (sym (texts_of-append steps ms (m ∷ [])))
     ∙ ap (with (texts_of steps (ms ++ m ∷ []))) (tally_more tallied steps ms m)

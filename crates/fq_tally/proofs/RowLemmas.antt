@@ -19,11 +19,11 @@ one_first (suc row) = ap (λ ns. 0 ∷ ns) (one_first row)
 -- One more in a row after those that are there.
 pub one_behind : (row : ℕ) (xs : List ℕ) (n : ℕ) → length xs ≤ row → length xs + n ≡ suc row →
     with_one row xs ≡ set (xs ++ replicate n 0) row (capped_sum (get_or (xs ++ replicate n 0) row 0)
-        1)
+    1)
 one_behind row [] n le is =
     let same : suc row ≡ n = omega arith in
     one_first row ∙ ap (λ m. set (replicate m 0) row (capped_sum (get_or (replicate m 0) row 0) 1))
-        same
+    same
 one_behind zero (x ∷ xs) n le is = absurd (omega arith)
 one_behind (suc row) (x ∷ xs) n le is =
     ap (λ ns. x ∷ ns) (one_behind row xs n (omega arith) (omega arith))
@@ -41,21 +41,26 @@ pub counted_at : (xs : List ℕ) (number row x y : ℕ) → row ≡ min number 1
 counted_at xs number row x y row_is lt read sum =
     let value = get_or_read xs row x lt read 0 in
     ap (set xs row) (sum ∙ ap (λ n. capped_sum n 1) value) ∙ sym (one_at row xs lt)
-        ∙ ap (λ r. with_one r xs) row_is
+    ∙ ap (λ r. with_one r xs) row_is
 
 pub counted_behind : (xs zs : List ℕ) (number row x y : ℕ) → row ≡ min number 10001 →
     length xs ≤ row →
     zs ≡ take (row + 1) xs ++ replicate (row + 1 - length xs) 0 → x ≡ get_or zs row x →
-        y ≡ min (x + 1) 18446744073709551615 →
+    y ≡ min (x + 1) 18446744073709551615 →
     set zs row y ≡ counted number xs
 counted_behind xs zs number row x y row_is le grown read sum =
     let n : ℕ = row + 1 - length xs in
     let size : length xs + n ≡ suc row = omega arith in
     let whole : zs ≡ xs ++ replicate n 0 = grown
-        ∙ ap (λ ys. ys ++ replicate n 0) (take_all (row + 1) xs (omega arith)) in
+    ∙ ap (λ ys. ys ++ replicate n 0) (take_all (row + 1) xs (omega arith)) in
     let long : row < length zs =
-        omega (arith, ap length whole, length-append xs (replicate n 0), length-replicate {A =
-        ℕ} n 0) in
+    omega (
+      arith,
+      ap length whole,
+      length-append xs (replicate n 0),
+      length-replicate {A =
+          ℕ} n 0,
+    ) in
     let value = get_or_read zs row x long read 0 in
     ap (set zs row) (sum ∙ ap (λ m. capped_sum m 1) value)
     ∙ ap (λ ys. set ys row (capped_sum (get_or ys row 0) 1)) whole
@@ -74,7 +79,7 @@ length-rows_plus (x ∷ xs) (y ∷ ys) = let more = length-rows_plus xs ys in om
 -- one row more is added
 pub plus_more : (xs ys : List ℕ) (i : ℕ) → i < length xs → i < length ys →
     rows_plus xs (take (suc i) ys) ≡ set (rows_plus xs (take i ys)) i (capped_sum
-        (get_or (rows_plus xs (take i ys)) i 0) (get_or ys i 0))
+    (get_or (rows_plus xs (take i ys)) i 0) (get_or ys i 0))
 plus_more [] ys i lx ly = absurd (omega arith)
 plus_more (x ∷ xs) [] i lx ly = absurd (omega arith)
 plus_more (x ∷ xs) (y ∷ ys) zero lx ly = ap (λ ns. capped_sum x y ∷ ns) (plus_none xs)
@@ -114,23 +119,28 @@ pub grown_long : (xs ys zs : List ℕ) (i : ℕ) →
     i < length zs
 grown_long xs ys zs i is below =
     let n = length ys in
-    omega (arith, ap length is, length-rows_plus (rows_plus xs (replicate n 0)) (take i ys),
-        length-rows_plus xs (replicate n 0), length-replicate {A = ℕ} n 0)
+    omega (
+      arith,
+      ap length is,
+      length-rows_plus (rows_plus xs (replicate n 0)) (take i ys),
+      length-rows_plus xs (replicate n 0),
+      length-replicate {A = ℕ} n 0,
+    )
 
 pub grown_next : (xs ys zs : List ℕ) (i x w : ℕ) → i < length ys →
     zs ≡ rows_plus (rows_plus xs (replicate (length ys) 0)) (take i ys) → x ≡ get_or zs i x →
     w ≡ min (x + get_or ys i 0) 18446744073709551615 →
-        set zs i w ≡ rows_plus (rows_plus xs (replicate (length ys) 0)) (take (i + 1) ys)
+    set zs i w ≡ rows_plus (rows_plus xs (replicate (length ys) 0)) (take (i + 1) ys)
 grown_next xs ys zs i x w below so_far read sum =
     let n = length ys in
     let grown = rows_plus xs (replicate n 0) in
     let size : n ≤ length grown =
-        omega (arith, length-rows_plus xs (replicate n 0), length-replicate {A = ℕ} n 0) in
+    omega (arith, length-rows_plus xs (replicate n 0), length-replicate {A = ℕ} n 0) in
     let a = get_or_read zs i x (grown_long xs ys zs i so_far below) read 0 in
     ap (set zs i) (sum ∙ ap (λ m. capped_sum m (get_or ys i 0)) a)
     ∙ ap (λ ns. set ns i (capped_sum (get_or ns i 0) (get_or ys i 0))) so_far
     ∙ sym (plus_more grown ys i (omega arith) below)
-        ∙ ap (λ m. rows_plus grown (take m ys)) (sym (add-one i))
+    ∙ ap (λ m. rows_plus grown (take m ys)) (sym (add-one i))
 
 pub grown_plus : (xs ys : List ℕ) → ((k : ℕ) → get_or ys k 0 ≤ 18446744073709551615) →
     rows_plus (rows_plus xs (replicate (length ys) 0)) (take (length ys) ys) ≡ rows_plus xs ys

@@ -62,11 +62,11 @@ module _ (p u r v w x : Columns) where
 -- sides added up
 pub side_of_both : (p u r v w p' u' r' v' w' : Columns) →
     side_of (columns_plus p p') (columns_plus u u') (columns_plus r r') (columns_plus v v')
-        (columns_plus w w') ≡ side_columns_plus (side_of p u r v w) (side_of p' u' r' v' w')
+    (columns_plus w w') ≡ side_columns_plus (side_of p u r v w) (side_of p' u' r' v' w')
 side_of_both p u r v w p' u' r' v' w' =
     three_are
     (ap (columns_plus (columns_plus r r')) (columns_four p p' u u')
-        ∙ columns_four r r' (columns_plus p u) (columns_plus p' u'))
+    ∙ columns_four r r' (columns_plus p u) (columns_plus p' u'))
     (columns_four p p' v v')
     (columns_four u u' w w')
 
@@ -81,7 +81,7 @@ side_more p u r v w x y z = three_are (columns_swap r x (columns_plus p u))
 pub in_place : (x rest all : Columns) (mate_survives : Bool) (t : SideColumns) →
     columns_plus x rest ≡ all →
     with_before x (with_after x mate_survives (with_before rest t))
-        ≡ with_before all (with_after x mate_survives t)
+    ≡ with_before all (with_after x mate_survives t)
 in_place x rest all mate_survives t is =
     let before : columns_plus (columns_plus t.before rest) x ≡ columns_plus t.before all =
     columns_swap t.before rest x ∙ columns_assoc t.before x rest ∙ ap (columns_plus t.before) is in
@@ -90,23 +90,23 @@ in_place x rest all mate_survives t is =
 -- a read of which bases are kept
 pub survivor_columns : (read : Read) (k : Kept) (mate_survives : Bool) (t : SideColumns) →
     with_columns read (part_at (places_of (Some k)) (whole read)) mate_survives t
-        ≡ with_before (columns_of (whole read))
-        (with_after (columns_of (part_at (places_of (Some k)) (whole read))) mate_survives t)
+    ≡ with_before (columns_of (whole read))
+    (with_after (columns_of (part_at (places_of (Some k)) (whole read))) mate_survives t)
 survivor_columns read k mate_survives t =
     let left = part_at (places_of (Some k)) (whole read) in
     ap (λ (b : Bool). with_before (columns_of (whole read))
-        (cond b (with_after (columns_of left) mate_survives t) t)) (kept_is_left read k)
+    (cond b (with_after (columns_of left) mate_survives t) t)) (kept_is_left read k)
 
 -- a read that lost nothing at its start, and is cut after what is left
 pub cut_columns : (read : Read) (k : Kept) (e : Encoding) (seq qual : List ℕ) → e ≡ read.encoding →
     seq ≡ read.seq → qual ≡ read.qual →
     k.stop ≤ length read.seq → length read.qual ≡ length read.seq → length read.seq ≤ 1048576 →
-        list_all (is_scored read.encoding) read.qual ≡ true → k.start ≡ 0 →
+    list_all (is_scored read.encoding) read.qual ≡ true → k.start ≡ 0 →
     columns_plus
     (columns_from 0 e (take (k.stop - k.start) (drop k.start seq))
-        (take (k.stop - k.start) (drop k.start qual)))
+    (take (k.stop - k.start) (drop k.start qual)))
     (columns_from k.stop e (take (length seq - k.stop) (drop k.stop seq))
-        (take (length qual - k.stop) (drop k.stop qual))) ≡ columns_of (whole read)
+    (take (length qual - k.stop) (drop k.stop qual))) ≡ columns_of (whole read)
 cut_columns read k e seq qual e_is seq_is qual_is within same few scored start =
     let seq_len = ap length seq_is in
     let qual_len = ap length qual_is in
@@ -118,22 +118,22 @@ cut_columns read k e seq qual e_is seq_is qual_is within same few scored start =
     let all : list_all (is_scored e) qual ≡ true = rw (e_is, qual_is) scored in
     let read_is : part e seq qual ≡ whole read = cc in
     let behind = columns_from k.stop e (take (length seq - k.stop) (drop k.stop seq))
-        (take (length qual - k.stop) (drop k.stop qual)) in
+    (take (length qual - k.stop) (drop k.stop qual)) in
     let left : Columns = columns_from 0 e (take k.stop seq) (take k.stop qual) in
     ap (λ (n : ℕ). columns_plus (columns_from 0 e (take n (drop k.start seq)) (take n
-        (drop k.start qual))) behind) size
+    (drop k.start qual))) behind) size
     ∙ ap (λ (n : ℕ). columns_plus (columns_from 0 e (take k.stop (drop n seq)) (take k.stop
-        (drop n qual))) behind) start
+    (drop n qual))) behind) start
     ∙ ap (λ (xs : List ℕ). columns_plus left
-        (columns_from k.stop e xs (take (length qual - k.stop) (drop k.stop qual))))
-        (take_rest seq k.stop)
+    (columns_from k.stop e xs (take (length qual - k.stop) (drop k.stop qual))))
+    (take_rest seq k.stop)
     ∙ ap (λ (xs : List ℕ). columns_plus left (columns_from k.stop e (drop k.stop seq) xs))
-        (take_rest qual k.stop)
+    (take_rest qual k.stop)
     ∙ columns_joined 0 k.stop e (take k.stop seq) (take k.stop qual) (drop k.stop seq)
-        (drop k.stop qual) (omega arith) (omega arith) (omega arith) (omega arith) (omega arith)
+    (drop k.stop qual) (omega arith) (omega arith) (omega arith) (omega arith) (omega arith)
     (all_taken (is_scored e) qual k.stop all) (all_dropped (is_scored e) qual k.stop all)
     ∙ ap (λ (xs : List ℕ). columns_from 0 e xs (take k.stop qual ++ drop k.stop qual))
-        (take-append-drop k.stop seq)
+    (take-append-drop k.stop seq)
     ∙ ap (columns_from 0 e seq) (take-append-drop k.stop qual)
     ∙ ap columns_of read_is
 
@@ -142,7 +142,7 @@ pub all_columns : (read : Read) (k : Kept) (e : Encoding) (seq qual : List ℕ) 
     seq ≡ read.seq → qual ≡ read.qual →
     length read.seq ≤ k.stop → length read.qual ≡ length read.seq → k.start ≡ 0 →
     columns_from 0 e (take (k.stop - k.start) (drop k.start seq))
-        (take (k.stop - k.start) (drop k.start qual)) ≡ columns_of (whole read)
+    (take (k.stop - k.start) (drop k.start qual)) ≡ columns_of (whole read)
 all_columns read k e seq qual e_is seq_is qual_is all same start =
     let seq_len = ap length seq_is in
     let qual_len = ap length qual_is in
@@ -151,7 +151,7 @@ all_columns read k e seq qual e_is seq_is qual_is all same start =
     ap (λ (n : ℕ). columns_from 0 e (take n (drop k.start seq)) (take n (drop k.start qual))) size
     ∙ ap (λ (n : ℕ). columns_from 0 e (take k.stop (drop n seq)) (take k.stop (drop n qual))) start
     ∙ ap (λ (xs : List ℕ). columns_from 0 e xs (take k.stop qual))
-        (take_all k.stop seq (omega arith))
+    (take_all k.stop seq (omega arith))
     ∙ ap (columns_from 0 e seq) (take_all k.stop qual (omega arith))
     ∙ ap columns_of read_is
 
@@ -159,7 +159,7 @@ all_columns read k e seq qual e_is seq_is qual_is all same start =
 pub between_are_bases : (read : Read) (e : Encoding) (seq qual : List ℕ) (from n at : ℕ) →
     IsLawful read → e ≡ read.encoding → seq ≡ read.seq → qual ≡ read.qual →
     from + n ≤ length read.seq → at ≤ from →
-        AreBases e (take n (drop from seq)) (take n (drop from qual)) at
+    AreBases e (take n (drop from seq)) (take n (drop from qual)) at
 between_are_bases read e seq qual from n at lawful e_is seq_is qual_is within order =
     let seq_len = ap length seq_is in
     let qual_len = ap length qual_is in

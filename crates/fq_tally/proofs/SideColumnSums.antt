@@ -45,15 +45,15 @@ after_read x false s t = let unpaired = columns_assoc s.unpaired t.unpaired x in
 
 after_if : (b : Bool) (x : Columns) (mate_survives : Bool) (s t : SideColumns) →
     cond b (with_after x mate_survives (side_columns_plus s t)) (side_columns_plus s t)
-        ≡ side_columns_plus s (cond b (with_after x mate_survives t) t)
+    ≡ side_columns_plus s (cond b (with_after x mate_survives t) t)
 after_if true x mate_survives s t = after_read x mate_survives s t
 after_if false x mate_survives s t = refl
 
 pub side_columns_read : (read : Read) (left : Part) (mate_survives : Bool) (s t : SideColumns) →
     with_columns read left mate_survives (side_columns_plus s t)
-        ≡ side_columns_plus s (with_columns read left mate_survives t)
+    ≡ side_columns_plus s (with_columns read left mate_survives t)
 side_columns_read read left mate_survives s t =
     ap (with_before (columns_of (whole read)))
-        (after_if (survives left) (columns_of left) mate_survives s t)
+    (after_if (survives left) (columns_of left) mate_survives s t)
     ∙ before_read (columns_of (whole read)) s
-        (cond (survives left) (with_after (columns_of left) mate_survives t) t)
+    (cond (survives left) (with_after (columns_of left) mate_survives t) t)

@@ -27,15 +27,15 @@ use Rattle.fq_tally.proofs.LeftLaws.{at, not_empty}
 -- a sum over a list is that over its front, its middle and its end
 three : (f : ℕ → ℕ) (xs : List ℕ) (a b n : ℕ) → a ≤ b → n ≡ length xs →
     sum_by f (take a xs) + sum_by f (take (b - a) (drop a xs)) + sum_by f (take (n - b) (drop b xs))
-        ≡ sum_by f xs
+    ≡ sum_by f xs
 three f xs a b n order size =
     let first = sum_by-take-drop f xs a in
     let next = sum_by-take-drop f (drop a xs) (b - a) in
     let place : a + (b - a) ≡ b = omega arith in
     let rest : sum_by f (drop (b - a) (drop a xs)) ≡ sum_by f (drop b xs) =
-        ap (sum_by f) (drop-drop (b - a) a xs ∙ ap (λ i. drop i xs) place) in
+    ap (sum_by f) (drop-drop (b - a) a xs ∙ ap (λ i. drop i xs) place) in
     let last : sum_by f (take (n - b) (drop b xs)) ≡ sum_by f (drop b xs) =
-        ap (λ m. sum_by f (take (m - b) (drop b xs))) size ∙ ap (sum_by f) (take_rest xs b) in
+    ap (λ m. sum_by f (take (m - b) (drop b xs))) size ∙ ap (sum_by f) (take_rest xs b) in
     omega arith
 
 -- sums of so little are exact
@@ -50,7 +50,8 @@ abbrev pub part_from : Encoding → List ℕ → List ℕ → ℕ → Part
 part_from e seq qual b = part e (take (length seq - b) (drop b seq))
     (take (length qual - b) (drop b qual))
 
-module _ (e : Encoding) (seq qual : List ℕ) (a b : ℕ) (order : a ≤ b) (within : b ≤ length seq) (same : length qual ≡ length seq) (few : length seq ≤ 1048576) where
+module _ (e : Encoding) (seq qual : List ℕ) (a b : ℕ) (order : a ≤ b) (within : b ≤ length seq)
+    (same : length qual ≡ length seq) (few : length seq ≤ 1048576) where
   abbrev left_part : Part
   left_part = cut a (b - a) (part e seq qual)
 
@@ -62,7 +63,7 @@ module _ (e : Encoding) (seq qual : List ℕ) (a b : ℕ) (order : a ≤ b) (wit
       let parts = three (λ (x : ℕ). cond (test x) 1 0) seq a b (length seq) order refl in
       let most = count_by-le-length test seq in
       exact (count_by test (part_before e seq qual a).seq) (count_by test left_part.seq)
-          (count_by test (part_from e seq qual b).seq) (count_by test seq) parts (omega arith)
+      (count_by test (part_from e seq qual b).seq) (count_by test seq) parts (omega arith)
 
   in_scores : (f : ℕ → ℕ) → sum_by f (scores e (part_before e seq qual a).qual) + sum_by f
       (scores e left_part.qual) + sum_by f (scores e (part_from e seq qual b).qual)
@@ -85,9 +86,9 @@ module _ (e : Encoding) (seq qual : List ℕ) (a b : ℕ) (order : a ≤ b) (wit
       let most = count_by-le-length (nat_le least) (scores e qual) in
       let parts = in_scores (λ (x : ℕ). cond (nat_le least x) 1 0) in
       exact (count_by (nat_le least) (scores e (part_before e seq qual a).qual))
-          (count_by (nat_le least) (scores e left_part.qual))
-          (count_by (nat_le least) (scores e (part_from e seq qual b).qual))
-          (count_by (nat_le least) (scores e qual)) parts (omega arith)
+      (count_by (nat_le least) (scores e left_part.qual))
+      (count_by (nat_le least) (scores e (part_from e seq qual b).qual))
+      (count_by (nat_le least) (scores e qual)) parts (omega arith)
 
   -- what is counted before what is left, of it, and after it is what is counted of all
   pub counted_in_parts : list_all (is_scored e) qual ≡ true →
@@ -98,14 +99,14 @@ module _ (e : Encoding) (seq qual : List ℕ) (a b : ℕ) (order : a ≤ b) (wit
       let front_len = length-take-le a seq (omega arith) in
       let left_len = length-take-le (b - a) (drop a seq) (omega (arith, length-drop a seq)) in
       let behind_len = length-take-le (length seq - b) (drop b seq)
-          (omega (arith, length-drop b seq)) in
+      (omega (arith, length-drop b seq)) in
       let lens = exact (length (part_before e seq qual a).seq) (length left_part.seq)
-          (length (part_from e seq qual b).seq) (length seq) (omega arith) (omega arith) in
+      (length (part_from e seq qual b).seq) (length seq) (omega arith) (omega arith) in
       let low = over 20 in
       let high = over 30 in
       let sums = exact (sum (scores e (part_before e seq qual a).qual))
-          (sum (scores e left_part.qual)) (sum (scores e (part_from e seq qual b).qual))
-          (sum (scores e qual)) (in_scores (λ (x : ℕ). x)) (omega arith) in
+      (sum (scores e left_part.qual)) (sum (scores e (part_from e seq qual b).qual))
+      (sum (scores e qual)) (in_scores (λ (x : ℕ). x)) (omega arith) in
       let gc = letters is_gc in
       let n = letters is_n in
       cc
@@ -132,9 +133,9 @@ kept_part read k e seq qual e_is seq_is qual_is within same =
     ∙ ap (λ (xs : List ℕ). cut k.start (k.stop - k.start) (part read.encoding xs qual)) seq_is
     ∙ ap (λ (xs : List ℕ). cut k.start (k.stop - k.start) (part read.encoding read.seq xs)) qual_is
     ∙ ap (λ (xs : List ℕ). part read.encoding xs (take (k.stop - k.start) (drop k.start read.qual)))
-        (sym s)
+    (sym s)
     ∙ ap (λ (xs : List ℕ). part read.encoding (part_at (places_of (Some k)) (whole read)).seq xs)
-        (sym q)
+    (sym q)
 
 pub kept_length : (k : Kept) (p : Part) → length (part_at (places_of (Some k)) p).seq ≡ k.stop -
     k.start
@@ -149,27 +150,28 @@ kept_is_left read k = ap not (not_empty (at read.seq) (places_of (Some k))
 -- a read of which bases are kept
 pub survivor : (read : Read) (k : Kept) (mate_survives : Bool) (t : SideTally) →
     with_left read (part_at (places_of (Some k)) (whole read)) k.start mate_survives t ≡ record {
-  before = with_part (whole read) t.before;
-  paired = cond mate_survives (with_part (part_at (places_of (Some k)) (whole read)) t.paired)
-      t.paired;
-  unpaired =
-      cond (not mate_survives) (with_part (part_at (places_of (Some k)) (whole read)) t.unpaired)
-      t.unpaired;
-  front = capped_sum t.front k.start;
-  behind = capped_sum t.behind (length read.seq - k.stop);
-  removed_front = counted k.start t.removed_front;
-  removed_behind = counted (length read.seq - k.stop) t.removed_behind;
-  positions = with_columns read (part_at (places_of (Some k)) (whole read)) mate_survives
-      t.positions;
-  steps = t.steps;
-}
+      before = with_part (whole read) t.before;
+      paired = cond mate_survives (with_part (part_at (places_of (Some k)) (whole read)) t.paired)
+          t.paired;
+      unpaired =
+          cond (not mate_survives) (with_part (part_at (places_of (Some k)) (whole read))
+          t.unpaired)
+          t.unpaired;
+      front = capped_sum t.front k.start;
+      behind = capped_sum t.behind (length read.seq - k.stop);
+      removed_front = counted k.start t.removed_front;
+      removed_behind = counted (length read.seq - k.stop) t.removed_behind;
+      positions = with_columns read (part_at (places_of (Some k)) (whole read)) mate_survives
+          t.positions;
+      steps = t.steps;
+    }
 survivor read k mate_survives t =
     let left = part_at (places_of (Some k)) (whole read) in
     let order = k.some in
     let size = kept_length k (whole read) in
     let is = kept_is_left read k in
     let removed : length read.seq - k.start - length left.seq ≡ length read.seq - k.stop =
-        omega arith in
+    omega arith in
     let made : Bool → ℕ → SideTally = λ b behind. record {
       before = with_part (whole read) t.before;
       paired = cond (b && mate_survives) (with_part left t.paired) t.paired;
@@ -182,7 +184,7 @@ survivor read k mate_survives t =
       steps = t.steps;
     } in
     ap (λ (b : Bool). made b (length read.seq - k.start - length left.seq)) is
-        ∙ ap (made true) removed
+    ∙ ap (made true) removed
 
 abbrev pub made_of : ReadsTally → ReadsTally → ReadsTally → ℕ → ℕ → List ℕ → List ℕ → SideColumns →
     StepsTally → SideTally
@@ -203,7 +205,7 @@ pub parts_are : {before before' paired paired' unpaired unpaired' : ReadsTally}
     {front front' behind behind' : ℕ} {f f' b b' : List ℕ} {p p' : SideColumns}
     {steps steps' : StepsTally} →
     before ≡ before' → paired ≡ paired' → unpaired ≡ unpaired' → front ≡ front' → behind ≡ behind' →
-        f ≡ f' → b ≡ b' → p ≡ p' → steps ≡ steps' →
+    f ≡ f' → b ≡ b' → p ≡ p' → steps ≡ steps' →
     made_of before paired unpaired front behind f b p steps
-        ≡ made_of before' paired' unpaired' front' behind' f' b' p' steps'
+    ≡ made_of before' paired' unpaired' front' behind' f' b' p' steps'
 parts_are a b c d e f g h i = cc

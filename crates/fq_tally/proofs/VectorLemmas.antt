@@ -105,7 +105,7 @@ first_kept f nothing [] (suc c) k fits long = absurd (omega arith)
 first_kept f nothing (x ∷ xs) (suc c) k fits long =
     sum_by-cons f (bit_and x 255) (zip2 bit_and xs (replicate c 255 ++ replicate k 0))
     ∙ ap₂ (λ y rest. f y + rest) (all_bits x fits.0)
-        (first_kept f nothing xs c k fits.1 (omega arith))
+    (first_kept f nothing xs c k fits.1 (omega arith))
     ∙ sym (sum_by-cons f x (take c xs))
 
 -- the last bytes are kept
@@ -126,11 +126,11 @@ pub filled_up : (bytes filled : List ℕ) → filled ≡ bytes ++ replicate (32 
 filled_up bytes filled is f nothing =
     let filler : List ℕ = replicate (32 - length bytes) 0 in
     let joined : sum_by f (bytes ++ filler) ≡ sum_by f bytes + sum_by f filler =
-        sum_by-append f bytes filler in
+    sum_by-append f bytes filler in
     let none : sum_by f filler ≡ (32 - length bytes) * f 0 =
-        sum_by-replicate f (32 - length bytes) 0 in
+    sum_by-replicate f (32 - length bytes) 0 in
     let no : (32 - length bytes) * f 0 ≡ (32 - length bytes) * 0 =
-        ap (λ n. (32 - length bytes) * n) nothing in
+    ap (λ n. (32 - length bytes) * n) nothing in
     let same : sum_by f filled ≡ sum_by f (bytes ++ filler) = ap (sum_by f) is in
     omega arith
 
@@ -138,27 +138,27 @@ filled_up bytes filled is f nothing =
 pub summed_on : (f : ℕ → ℕ) → f 0 ≡ 0 → (bytes vector : List ℕ) (from at stop n m : ℕ) → from ≤ at →
     at ≤ stop → Holds (take (stop - at) (drop at bytes)) vector →
     m ≡ sum_by f vector → n ≡ sum_by f (take (at - from) (drop from bytes)) →
-        n + m ≡ sum_by f (take (stop - from) (drop from bytes))
+    n + m ≡ sum_by f (take (stop - from) (drop from bytes))
 summed_on f nothing bytes vector from at stop n m begun order holds here so_far =
     let more : m ≡ sum_by f (take (stop - at) (drop at bytes)) = here ∙ holds f nothing in
     let behind : drop (at - from) (drop from bytes) ≡ drop at bytes =
-        drop-drop (at - from) from bytes ∙ ap (λ k. drop k bytes) (omega arith) in
+    drop-drop (at - from) from bytes ∙ ap (λ k. drop k bytes) (omega arith) in
     let parts : take (stop - from) (drop from bytes)
-        ≡ take (at - from) (drop from bytes) ++ take (stop - at) (drop at bytes) =
+    ≡ take (at - from) (drop from bytes) ++ take (stop - at) (drop at bytes) =
     ap (λ k. take k (drop from bytes)) (omega arith)
     ∙ take-add (at - from) (stop - at) (drop from bytes)
     ∙ ap (λ xs. take (at - from) (drop from bytes) ++ take (stop - at) xs) behind in
     let both : sum_by f (take (stop - from) (drop from bytes))
-        ≡ sum_by f (take (at - from) (drop from bytes)) + sum_by f
-        (take (stop - at) (drop at bytes)) =
+    ≡ sum_by f (take (at - from) (drop from bytes)) + sum_by f
+    (take (stop - at) (drop at bytes)) =
     ap (sum_by f) parts ∙ sum_by-append f (take (at - from) (drop from bytes))
-        (take (stop - at) (drop at bytes)) in
+    (take (stop - at) (drop at bytes)) in
     omega arith
 
 pub counted_on : (p : ℕ → Bool) → p 0 ≡ false → (bytes vector : List ℕ) (from at stop n m : ℕ) →
     from ≤ at → at ≤ stop → Holds (take (stop - at) (drop at bytes)) vector →
     m ≡ count_by p vector → n ≡ count_by p (take (at - from) (drop from bytes)) →
-        n + m ≡ count_by p (take (stop - from) (drop from bytes))
+    n + m ≡ count_by p (take (stop - from) (drop from bytes))
 counted_on p never = summed_on (λ x. cond (p x) 1 0) (ap (λ b. cond b 1 0) never)
 
 -- Letters in either case: those of upper case lack one bit.
@@ -172,7 +172,7 @@ below_at zero p k all lt = absurd (omega arith)
 below_at (suc n) p k all lt =
     let parts = and_parts _ _ all in
     ⊎_elim (λ less. below_at n p k parts.1 less) (λ from. let last : k ≡ n = omega arith in
-        ap p last ∙ parts.0) (cases_lt k n)
+    ap p last ∙ parts.0) (cases_lt k n)
 
 same_answer : Bool → Bool → Bool
 same_answer a b = cond a b (not b)
@@ -199,23 +199,23 @@ one_letter letter x low high small =
     let whole : 97 + l ≡ letter = omega arith in
     let upper : 65 + l ≡ letter - 32 = omega arith in
     let same =
-        same_from _ _ (below_at 256 (in_case l) x (below_at 26 (λ k. all_below 256 (in_case k)) l
-        cases_below (omega arith)) small) in
+    same_from _ _ (below_at 256 (in_case l) x (below_at 26 (λ k. all_below 256 (in_case k)) l
+    cases_below (omega arith)) small) in
     ap (λ n. eqb (bit_or x 32) n) (sym whole) ∙ same ∙ ap₂ (λ m n. eqb x m || eqb x n) upper whole
 
 each_letter : (letter : ℕ) (v : List ℕ) → 97 ≤ letter → letter ≤ 122 → Each1 (Fits w8) v →
     map (λ x. flag (eqb (bit_or x 32) letter)) v
-        ≡ map (λ x. flag (eqb x (letter - 32) || eqb x letter)) v
+    ≡ map (λ x. flag (eqb x (letter - 32) || eqb x letter)) v
 each_letter letter [] low high fits = refl
 each_letter letter (x ∷ xs) low high fits =
     let small : x < 256 = fits.0.fits in
     ap₂ (λ b ys. flag b ∷ ys) (one_letter letter x low high small)
-        (each_letter letter xs low high fits.1)
+    (each_letter letter xs low high fits.1)
 
 pub either_case : (letter : ℕ) (v : List ℕ) → 97 ≤ letter → letter ≤ 122 → length v ≡ 32 →
     Each1 (Fits w8) v →
     zip2 (λ a b. flag (eqb a b)) (zip2 bit_or v (replicate 32 32)) (replicate 32 letter)
-        ≡ map (λ x. flag (eqb x (letter - 32) || eqb x letter)) v
+    ≡ map (λ x. flag (eqb x (letter - 32) || eqb x letter)) v
 either_case letter v low high long fits =
     let lower = zip2_splat bit_or v 32 32 long in
     let size : length (map (λ x. bit_or x 32) v) ≡ 32 = length-map v (λ x. bit_or x 32) ∙ long in

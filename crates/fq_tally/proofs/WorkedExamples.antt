@@ -51,8 +51,15 @@ some_bases : bases_of (record { encoding = Sanger; seq = codes "GcANn"; qual = c
 some_bases = refl
 
 abbrev scored : ℕ → ℕ → ℕ → BaseTally
-scored bases score_sum gc = record { bases = bases; at_least_20 = 0; at_least_30 = 0; score_sum =
-    score_sum; gc = gc; n = 0 }
+scored bases score_sum gc = record {
+  bases = bases;
+  at_least_20 = 0;
+  at_least_30 = 0;
+  score_sum =
+      score_sum;
+  gc = gc;
+  n = 0;
+}
 
 -- 119 / 4 is 29.75
 mean_is_cut : mean_score (scored 4 119 0) ≡ 29
@@ -76,19 +83,34 @@ read_of seq qual = record { encoding = Sanger; title = codes "r"; seq = seq; qua
 abbrev ends : List (List Step)
 ends = (Leading 3 ∷ []) ∷ (Trailing 3 ∷ []) ∷ (MinLen 2 ∷ []) ∷ []
 
-both_ends : course ends (read_of (codes "ACGT") (codes "#II#")) ≡ record { left =
-    record { encoding = Sanger; seq = codes "CG"; qual = codes "II" }; front = 1; shortened =
-    0 ∷ 1 ∷ []; dropped = [] }
+both_ends : course ends (read_of (codes "ACGT") (codes "#II#")) ≡ record {
+  left =
+      record { encoding = Sanger; seq = codes "CG"; qual = codes "II" };
+  front = 1;
+  shortened =
+      0 ∷ 1 ∷ [];
+  dropped = [];
+}
 both_ends = refl
 
 both_ends_pass : passage (Leading 3 ∷ Trailing 3 ∷ MinLen 2 ∷ [])
-    (read_of (codes "ACGT") (codes "#II#")) ≡ record { kept = 1 ∷ 2 ∷ []; front = 1; shortened =
-    0 ∷ 1 ∷ []; dropped = [] }
+    (read_of (codes "ACGT") (codes "#II#")) ≡ record {
+      kept = 1 ∷ 2 ∷ [];
+      front = 1;
+      shortened =
+          0 ∷ 1 ∷ [];
+      dropped = [];
+    }
 both_ends_pass = refl
 
 short_pass : passage (Leading 3 ∷ Trailing 3 ∷ MinLen 2 ∷ [])
-    (read_of (codes "ACGT") (codes "##I#")) ≡ record { kept = []; front = 2; shortened =
-    0 ∷ 1 ∷ []; dropped = 2 ∷ [] }
+    (read_of (codes "ACGT") (codes "##I#")) ≡ record {
+      kept = [];
+      front = 2;
+      shortened =
+          0 ∷ 1 ∷ [];
+      dropped = 2 ∷ [];
+    }
 short_pass = refl
 
 too_short : (course ends (read_of (codes "ACGT") (codes "##I#"))).dropped ≡ 2 ∷ []
@@ -100,9 +122,14 @@ low_throughout = refl
 no_bases_to_drop : (course ends (read_of [] [])).dropped ≡ 0 ∷ []
 no_bases_to_drop = refl
 
-untouched : course ends (read_of (codes "AC") (codes "II")) ≡ record { left =
-    record { encoding = Sanger; seq = codes "AC"; qual = codes "II" }; front = 0; shortened =
-    []; dropped = [] }
+untouched : course ends (read_of (codes "AC") (codes "II")) ≡ record {
+  left =
+      record { encoding = Sanger; seq = codes "AC"; qual = codes "II" };
+  front = 0;
+  shortened =
+      [];
+  dropped = [];
+}
 untouched = refl
 
 -- Pairs.
@@ -128,8 +155,15 @@ reads_of reads bases shortest longest lengths mean_scores gc_percents = record {
 }
 
 abbrev good : ℕ → ℕ → BaseTally
-good bases gc = record { bases = bases; at_least_20 = bases; at_least_30 = bases; score_sum =
-    40 * bases; gc = gc; n = 0 }
+good bases gc = record {
+  bases = bases;
+  at_least_20 = bases;
+  at_least_30 = bases;
+  score_sum =
+      40 * bases;
+  gc = gc;
+  n = 0;
+}
 
 abbrev score_20 : BaseTally
 score_20 = record { bases = 1; at_least_20 = 1; at_least_30 = 0; score_sum = 20; gc = 0; n = 0 }

@@ -14,7 +14,7 @@ use Rattle.fq_text.proofs.LineLemmas.{piece_to, piece_all, whole_to, lines-appen
 pub judged_as : (r : Result Bool ReadError) (P : Bool → Type 0) (Q : ReadError → Type 0) (n : ℕ) →
     IfOk r (λ more. (more ≡ true) × (n ≤ limit)) →
     IfErr r (λ e. (e ≡ error.Fault fault.TooLong) × (limit < n)) → (n ≤ limit → P true) →
-        (limit < n → Q (error.Fault fault.TooLong)) → MatchResult r P Q
+    (limit < n → Q (error.Fault fault.TooLong)) → MatchResult r P Q
 judged_as (Ok more) P Q n ok err short long = subst P (sym ok.0) (short ok.1)
 judged_as (Err e) P Q n ok err short long = subst Q (sym err.0) (long err.1)
 
@@ -57,7 +57,7 @@ module _ {F : Type 0} (state : F → FeedState) where
   rest_is a b used p told = ap (λ xs. a.in_hand ++ xs) (p.fed told)
       ∙ sym (append_assoc a.in_hand p.gave (state b.feed).to_come)
       ∙ ap (λ xs. xs ++ (state b.feed).to_come) p.hand
-          ∙ append_assoc used b.in_hand (state b.feed).to_come
+      ∙ append_assoc used b.in_hand (state b.feed).to_come
 
   -- the lines that were left before are those of what was used, and those that are left now
   pub lines_left : (a b : Lined F) (used : List ℕ) → Reads state a b used → Closed b used →
@@ -69,15 +69,18 @@ module _ {F : Type 0} (state : F → FeedState) where
       (λ whole. lines-append used (rest_of state b) whole)
       (λ (end : (b.ended ≡ true) × (b.in_hand ≡ [])).
       let none : rest_of state b ≡ [] = ap (λ xs. xs ++ (state b.feed).to_come) end.1
-          ∙ sound.nothing end.0 (p.told ∙ told) in
+      ∙ sound.nothing end.0 (p.told ∙ told) in
       ap (λ xs. lines (used ++ xs)) none ∙ ap lines (append-nil used)
-          ∙ sym (append-nil (lines used)) ∙ ap (λ xs. lines used ++ lines xs) (sym none))
+      ∙ sym (append-nil (lines used)) ∙ ap (λ xs. lines used ++ lines xs) (sym none))
       closed
 
   -- the state after a line was taken out of the bytes in hand
   abbrev pub behind_line : Lined F → ℕ → ℕ → Lined F
-  behind_line r len used = record r { line = without_cr (take len r.in_hand); in_hand =
-      drop used r.in_hand }
+  behind_line r len used = record r {
+    line = without_cr (take len r.in_hand);
+    in_hand =
+        drop used r.in_hand;
+  }
 
   pub behind_reads : (a b : Lined F) (len used : ℕ) → Reads state a b [] →
       Reads state a (behind_line b len used) (take used b.in_hand)
@@ -127,7 +130,7 @@ module _ {F : Type 0} (state : F → FeedState) where
   takes_all a b c n is whole some ended p none =
       let all : take n b.in_hand ≡ b.in_hand = take_all n b.in_hand (omega arith) in
       let left : c.in_hand ≡ [] = ap (λ (r : Lined F). r.in_hand) is
-          ∙ drop_all n b.in_hand (omega arith) in
+      ∙ drop_all n b.in_hand (omega arith) in
       let gone : length c.in_hand ≡ 0 = ap length left in
       let same : c.chunk ≡ b.chunk = ap (λ (r : Lined F). r.chunk) is in
       let same2 = p.chunk in

@@ -28,9 +28,9 @@ clean_pieces : (text : List ℕ) → list_all clean (pieces text) ≡ true
 clean_pieces [] = refl
 clean_pieces (b ∷ bs) = ⊎_elim
     (λ yes_is. ap (list_all clean) (cond-true (eqb b 10) ([] ∷ pieces bs) (before_first_piece b
-        (pieces bs)) yes_is) ∙ clean_pieces bs)
+    (pieces bs)) yes_is) ∙ clean_pieces bs)
     (λ no_is. ap (list_all clean) (cond-false (eqb b 10) ([] ∷ pieces bs) (before_first_piece b
-        (pieces bs)) no_is) ∙ clean_first b (pieces bs) no_is (clean_pieces bs))
+    (pieces bs)) no_is) ∙ clean_first b (pieces bs) no_is (clean_pieces bs))
     (cases_Bool (eqb b 10))
 
 clean_without_cr : (l : List ℕ) → clean l ≡ true → clean (without_cr l) ≡ true
@@ -97,10 +97,10 @@ no_plus_before : (ls : List (List ℕ)) → begins_with 43 (concat (before_plus 
 no_plus_before [] = refl
 no_plus_before (l ∷ ls) = ⊎_elim
     (λ plus. ap (λ ms. begins_with 43 (concat ms))
-        (cond-true (begins_with 43 l) [] (l ∷ before_plus ls) plus))
+    (cond-true (begins_with 43 l) [] (l ∷ before_plus ls) plus))
     (λ plain. ap (λ ms. begins_with 43 (concat ms))
-        (cond-false (begins_with 43 l) [] (l ∷ before_plus ls) plain)
-        ∙ begins-append 43 l (concat (before_plus ls)) plain (no_plus_before ls))
+    (cond-false (begins_with 43 l) [] (l ∷ before_plus ls) plain)
+    ∙ begins-append 43 l (concat (before_plus ls)) plain (no_plus_before ls))
     (cases_Bool (begins_with 43 l))
 
 record Scored (encoding : Encoding) (bases n : ℕ) (quals : List ℕ) : Type 0 where
@@ -134,19 +134,22 @@ enough n (l ∷ ls) behind is = ⊎_elim
     (λ none. let e = eqb-true n 0 none in omega arith)
     (λ some.
     let rest =
-        enough (n - length l) ls behind (sym (cond-false (eqb n 0) (Some (l ∷ ls))
-        (after_quality (n - length l) ls) some) ∙ is) in
+    enough (n - length l) ls behind (sym (cond-false (eqb n 0) (Some (l ∷ ls))
+    (after_quality (n - length l) ls) some) ∙ is) in
     let same =
-        ap (λ ms. length (concat ms)) (cond-false (eqb n 0) [] (l ∷ quality_lines (n - length l) ls)
-        some) in
+    ap (λ ms. length (concat ms)) (cond-false (eqb n 0) [] (l ∷ quality_lines (n - length l) ls)
+    some) in
     omega (arith, length-append l (concat (quality_lines (n - length l) ls)), same))
     (cases_Bool (eqb n 0))
 
 pub complete : (r s : Read) (o : Option (List (List ℕ))) (ls : List (List ℕ)) →
     completed r o ≡ Found s ls → (o ≡ Some ls) × (r ≡ s)
 complete r s None ls is = absurd (let h : Faulty fault.QualityShort ≡ Found s ls = is in cc)
-complete r s (Some ms) ls is = (let h : Found r ms ≡ Found s ls = is in cc, let h : Found r ms
-    ≡ Found s ls = is in cc)
+complete r s (Some ms) ls is = (
+  let h : Found r ms ≡ Found s ls = is in cc,
+  let h : Found r ms
+      ≡ Found s ls = is in cc,
+)
 
 module _ (encoding : Encoding) where
   record Quality (title bases : List ℕ) (r : Read) : Type 0 where
@@ -161,13 +164,23 @@ module _ (encoding : Encoding) where
       absurd (let h : Faulty fault.NoPlus ≡ Found r behind = is in cc)
   found_quality title bases (plus ∷ ls) r behind is =
       let first = passed (plus_fault title plus) (from_quality_lines encoding title bases ls) r
-          behind is in
+      behind is in
       let scores = quality_lines (length bases) ls in
       let second = passed (quality_faults encoding (length bases) 0 scores)
-          (completed (record { encoding = encoding; title = title; seq = bases; qual =
-          concat scores }) (after_quality (length bases) ls)) r behind first.1 in
-      let third = complete (record { encoding = encoding; title = title; seq = bases; qual =
-          concat scores }) r (after_quality (length bases) ls) behind second.1 in
+      (completed (record {
+        encoding = encoding;
+        title = title;
+        seq = bases;
+        qual =
+            concat scores;
+      }) (after_quality (length bases) ls)) r behind first.1 in
+      let third = complete (record {
+        encoding = encoding;
+        title = title;
+        seq = bases;
+        qual =
+            concat scores;
+      }) r (after_quality (length bases) ls) behind second.1 in
       let sound = sound_quality encoding (length bases) 0 scores (omega arith) second.0 in
       let most = sound.fits in
       let least = enough (length bases) ls behind third.0 in
@@ -182,8 +195,8 @@ module _ (encoding : Encoding) where
       let fits = bases.fits in
       let quality = found_quality bs (concat (before_plus ls)) (from_plus ls) r behind second.1 in
       let short =
-          ltb-false limit (length (b ∷ bs)) (unfaulted (is_too_long (b ∷ bs)) fault.TooLong _
-          first.0).0 in
+      ltb-false limit (length (b ∷ bs)) (unfaulted (is_too_long (b ∷ bs)) fault.TooLong _
+      first.0).0 in
       subst IsLawful (sym quality.is) (record {
         one_line = (and_parts _ _ one).1;
         title_fits = omega arith;
@@ -215,4 +228,4 @@ module _ (encoding : Encoding) where
       let first = passed (title_fault (b ∷ bs)) _ r behind is in
       let second = passed (sequence_faults 0 (before_plus ls)) _ r behind first.1 in
       ap (λ (s : Read). s.encoding) (found_quality bs (concat (before_plus ls)) (from_plus ls) r
-          behind second.1).is
+      behind second.1).is

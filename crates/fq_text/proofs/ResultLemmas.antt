@@ -6,7 +6,7 @@ use Rattle.std.specs.Result.{MatchResult, IsErrAnd}
 pub err_mapped : {T E D : Type 0} (before : Result T E) (after : Result T D) (f : E → D) (Gave : E →
     D → Type 0) → MatchResult before (λ x. after ≡ Ok x) (λ e. IsErrAnd after (Gave e)) →
     ((e : E) (d : D) → Gave e d → d ≡ f e) → (d : D) → after ≡ Err d →
-        (e : E) × (before ≡ Err e) × (d ≡ f e)
+    (e : E) × (before ≡ Err e) × (d ≡ f e)
 err_mapped (Ok x) after f Gave cases form d is = cc
 err_mapped (Err e) (Ok y) f Gave cases form d is = cc
 err_mapped (Err e) (Err v) f Gave cases form d is =
@@ -17,7 +17,7 @@ pub cases_mapped : {T E D : Type 0} (before : Result T E) (after : Result T D) (
     Type 0) (P : T → Type 0) (Q : D → Type 0) →
     MatchResult before (λ x. after ≡ Ok x) (λ e. IsErrAnd after (Gave e)) →
     ((x : T) → before ≡ Ok x → P x) → ((e : E) (d : D) → before ≡ Err e → Gave e d → Q d) →
-        MatchResult after P Q
+    MatchResult after P Q
 cases_mapped (Ok x) (Ok y) Gave P Q cases ok err = let same : x ≡ y = cc in subst P same (ok x refl)
 cases_mapped (Ok x) (Err d) Gave P Q cases ok err = cc
 cases_mapped (Err e) (Ok y) Gave P Q cases ok err = absurd cases

@@ -21,7 +21,7 @@ at_place p xs i all within = ⊎_elim
 low_small : (k : ℕ) → get_or low_solexa k 0 ≤ 93
 low_small k = ⊎_elim
     (λ within. leb-true (get_or low_solexa k 0) 93
-        (at_place (λ s. nat_le s 93) low_solexa k refl within))
+    (at_place (λ s. nat_le s 93) low_solexa k refl within))
     (λ beyond. let none = get_or_past low_solexa k 0 beyond in omega arith)
     (cases_lt k (length low_solexa))
 
@@ -32,11 +32,11 @@ value_small Illumina13 b is = let most : b ≤ 126 =
     leb-true b 126 (and_parts (nat_le (lowest Illumina13) b) (nat_le b 126) is).1 in omega arith
 value_small Solexa b is =
     let most : b ≤ 126 =
-        leb-true b 126 (and_parts (nat_le (lowest Solexa) b) (nat_le b 126) is).1 in
+    leb-true b 126 (and_parts (nat_le (lowest Solexa) b) (nat_le b 126) is).1 in
     let low = low_small (b - 59) in
     ⊎_elim
     (λ below. let e : phred_of_solexa b ≡ get_or low_solexa (b - 59) 0 =
-        cond-true (nat_lt b 74) _ _ below in omega arith)
+    cond-true (nat_lt b 74) _ _ below in omega arith)
     (λ from. let e : phred_of_solexa b ≡ b - 64 = cond-false (nat_lt b 74) _ _ from in omega arith)
     (cases_Bool (nat_lt b 74))
 
@@ -51,7 +51,7 @@ below_at zero p k all lt = absurd (omega arith)
 below_at (suc n) p k all lt =
     let parts = and_parts _ _ all in
     ⊎_elim (λ less. below_at n p k parts.1 less) (λ from. let last : k ≡ n = omega arith in
-        ap p last ∙ parts.0) (cases_lt k n)
+    ap p last ∙ parts.0) (cases_lt k n)
 
 -- the table in the code, from byte 59 on, is that of the definition
 table_below : all_below 68 (λ k. eqb (get_or PHRED_OF_SOLEXA k 0) (phred_of_solexa (k + 59))) ≡ true

@@ -43,7 +43,7 @@ whole_part-append (b ∷ []) ys whole none =
     cond-true _ (b ∷ whole_part ys) [] (or_left _ _ whole) ∙ ap (λ zs. b ∷ zs) (none_whole ys none)
 whole_part-append (b ∷ c ∷ bs) ys whole none =
     cond-true _ (b ∷ whole_part ((c ∷ bs) ++ ys)) []
-        (or_right _ _ (list_any-append is_lf (c ∷ bs) ys ∙ or_left _ _ (whole_has_lf c bs whole)))
+    (or_right _ _ (list_any-append is_lf (c ∷ bs) ys ∙ or_left _ _ (whole_has_lf c bs whole)))
     ∙ ap (λ zs. b ∷ zs) (whole_part-append (c ∷ bs) ys whole none)
 
 some_used : (e : Encoding) (r : Read) (used : List ℕ) → front e (lines used ++ []) ≡ Found r [] →
@@ -74,13 +74,13 @@ module _ {F : Type 0} (state : F → FeedState) (e : Encoding) where
       let taken = p.taken in
       let n : b.taken - a.taken ≡ length p.gave = omega arith in
       ap (λ m. take m (state a.feed).to_come) n ∙ ap (take (length p.gave)) (p.fed told)
-          ∙ take_at p.gave (state b.feed).to_come (length p.gave) refl
+      ∙ take_at p.gave (state b.feed).to_come (length p.gave) refl
 
   pub counted : (a b : Lined F) (used : List ℕ) (k : ℕ) → Reads state a b used →
       k + length a.in_hand ≤ a.taken → k + length used + length b.in_hand ≤ b.taken
   counted a b used k p le =
       let taken = p.taken in let hand = ap length p.hand in
-          omega (arith, length-append a.in_hand p.gave, length-append used b.in_hand)
+      omega (arith, length-append a.in_hand p.gave, length-append used b.in_hand)
 
   -- the record at the front is valid
   pub found_lawful : (a b : Lined F) (r : Read) → Goes state a b (front e) (Found r) → IsLawful r
@@ -102,9 +102,11 @@ module _ {F : Type 0} (state : F → FeedState) (e : Encoding) where
       some = some_used e r p.used (p.answer []);
       split = rest_is state a b p.used p.reads told;
       at_line = ⊎_elim (λ whole. inl whole)
-          (λ (end : (b.ended ≡ true) × (b.in_hand ≡ [])). inr
-              (ap (λ xs. xs ++ (state b.feed).to_come) end.1
-              ∙ sound.nothing end.0 (p.reads.told ∙ told), end.0)) p.closed;
+          (λ (end : (b.ended ≡ true) × (b.in_hand ≡ [])). inr (
+            ap (λ xs. xs ++ (state b.feed).to_come) end.1
+                ∙ sound.nothing end.0 (p.reads.told ∙ told),
+            end.0,
+          )) p.closed;
     };
     given = refl;
     last = none;
@@ -121,8 +123,8 @@ module _ {F : Type 0} (state : F → FeedState) (e : Encoding) where
       LacksRecord state (source_of a k l before) (source_of b m n after)
   lacks_record a b k m l n before after p = λ told read ls is. p.answer read ls
       (ap (λ xs. front e (lines xs))
-          (sym (ap whole_part (ap (λ xs. a.in_hand ++ xs) (gave_is a b p.used p.reads told)
-          ∙ p.reads.hand) ∙ whole_part-append p.used b.in_hand p.whole p.no_line)) ∙ is)
+      (sym (ap whole_part (ap (λ xs. a.in_hand ++ xs) (gave_is a b p.used p.reads told)
+      ∙ p.reads.hand) ∙ whole_part-append p.used b.in_hand p.whole p.no_line)) ∙ is)
 
   -- a feed that has ended stays at its end, so it had not ended before
   still_going : (a b : Lined F) → Waits state a b (front e) → a.ended ≡ false
@@ -160,7 +162,7 @@ module _ {F : Type 0} (state : F → FeedState) (e : Encoding) where
   pub stops_text : (a b : Lined F) (k : ℕ) (l : Option (Result (Unit {0}) TextFault))
       (before : Option Read) (why : ReadError) → Stops state a b (front e) why →
       StopsText state (source_of a k l before)
-          (source_of b k (Some (Err (text_fault why (k + 1)))) None) (text_fault why (k + 1))
+      (source_of b k (Some (Err (text_fault why (k + 1)))) None) (text_fault why (k + 1))
   stops_text a b k l before (error.Fault f) p = record {
     fault_is = λ told. fault_is _ (k + 1) f (p.answer told);
     given = refl;
@@ -170,12 +172,36 @@ module _ {F : Type 0} (state : F → FeedState) (e : Encoding) where
     going = (no_device (a.ended ≡ false) (k + 1) f).0;
     endless = (no_device _ (k + 1) f).1;
   }
-  stops_text a b k l before error.Read p = record { fault_is = λ told. tt; given = refl; last =
-      refl; current = refl; lacks = lacks_record a b k k l None before None p; going =
-      still_going a b p; endless = tt }
+  stops_text a b k l before error.Read p = record {
+    fault_is = λ told. tt;
+    given = refl;
+    last =
+        refl;
+    current = refl;
+    lacks = lacks_record a b k k l None before None p;
+    going =
+        still_going a b p;
+    endless = tt;
+  }
   stops_text a b k l before error.Endless p =
-      record { fault_is = λ told. tt; given = refl; last = refl; current = refl; lacks =
-      lacks_record a b k k l None before None p.0; going = still_going a b p.0; endless = p.1 }
+      record {
+        fault_is = λ told. tt;
+        given = refl;
+        last = refl;
+        current = refl;
+        lacks =
+            lacks_record a b k k l None before None p.0;
+        going = still_going a b p.0;
+        endless = p.1;
+      }
   stops_text a b k l before error.OutOfMemory p =
-      record { fault_is = λ told. tt; given = refl; last = refl; current = refl; lacks = tt; going =
-      tt; endless = tt }
+      record {
+        fault_is = λ told. tt;
+        given = refl;
+        last = refl;
+        current = refl;
+        lacks = tt;
+        going =
+            tt;
+        endless = tt;
+      }

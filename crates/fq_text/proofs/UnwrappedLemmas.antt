@@ -42,13 +42,13 @@ end_at : (hand : List ℕ) (i e : ℕ) (is : IsEnd e) → i + e ≤ length hand 
     take e (drop i hand) ≡ bytes_of is
 end_at hand i e (inl one) within p =
     ap (λ m. take m (drop i hand)) one ∙ one_at hand i 10 (omega arith)
-        (ap (λ m. get_or hand m 0) (omega arith) ∙ p.lf)
+    (ap (λ m. get_or hand m 0) (omega arith) ∙ p.lf)
 end_at hand i e (inr two) within p =
     let cr : get_or hand i 0 ≡ 13 = ⊎_elim (λ one. absurd (omega arith)) (λ at. at) p.cr in
     parted hand i (i + 1) 1 1 e (omega arith) refl
     ∙ ap (λ ys. ys ++ take 1 (drop (i + 1) hand)) (one_at hand i 13 (omega arith) cr)
     ∙ ap (λ ys. 13 ∷ ys) (one_at hand (i + 1) 10 (omega arith) (ap (λ m. get_or hand m 0)
-        (omega arith) ∙ p.lf))
+    (omega arith) ∙ p.lf))
 
 -- a line of k bytes at index i, with its line end
 line_at : (hand : List ℕ) (i k j e c : ℕ) (is : IsEnd e) → i + k ≡ j → k + e ≡ c →
@@ -56,7 +56,7 @@ line_at : (hand : List ℕ) (i k j e c : ℕ) (is : IsEnd e) → i + k ≡ j →
     take c (drop i hand) ≡ take k (drop i hand) ++ bytes_of is
 line_at hand i k j e c is place sum within p =
     parted hand i j k e c sum place ∙ ap (λ ys. take k (drop i hand) ++ ys)
-        (end_at hand j e is within p)
+    (end_at hand j e is within p)
 
 -- a line after a mark
 marked_at : (hand : List ℕ) (i b k j e c : ℕ) (is : IsEnd e) → get_or hand i 0 ≡ b → i + 1 + k ≡ j →
@@ -71,7 +71,8 @@ marked_at hand i b k j e c is mark place sum within p =
 abbrev pub four_len : Shape → ℕ
 four_len s = s.title + s.bases + s.bases + s.again + 4 * s.end + 2
 
-module _ (encoding : Encoding) (hand : List ℕ) (s : Shape) (p : IsFourLines hand s) (is : IsEnd s.end) where
+module _ (encoding : Encoding) (hand : List ℕ) (s : Shape) (p : IsFourLines hand s)
+    (is : IsEnd s.end) where
   -- the bytes in hand begin with the four lines of the record
   lines_first : take (four_len s) hand ≡ four (bytes_of is) (take s.again (drop 1 hand)) (unwrapped
       encoding s (drop 1 hand)) []
@@ -86,50 +87,50 @@ module _ (encoding : Encoding) (hand : List ℕ) (s : Shape) (p : IsFourLines ha
       let seq = take n (drop (t + e + 1) hand) in
       let qual = take n (drop (t + n + a + 3 * e + 2) hand) in
       let first : take (t + e + 1) (drop 0 hand) ≡ (64 ∷ title) ++ end =
-          marked_at hand 0 64 t (t + 1) e (t + e + 1) is p.mark (omega arith) (omega arith)
-          (omega arith) p.ends.title in
+      marked_at hand 0 64 t (t + 1) e (t + e + 1) is p.mark (omega arith) (omega arith)
+      (omega arith) p.ends.title in
       let second : take (n + e) (drop (t + e + 1) hand) ≡ seq ++ end =
-          line_at hand (t + e + 1) n (t + n + e + 1) e (n + e) is (omega arith) refl (omega arith)
-          p.ends.seq in
+      line_at hand (t + e + 1) n (t + n + e + 1) e (n + e) is (omega arith) refl (omega arith)
+      p.ends.seq in
       let third : take (a + e + 1) (drop (t + n + 2 * e + 1) hand)
-          ≡ (43 ∷ take a (drop (t + n + 2 * e + 1 + 1) hand)) ++ end =
+      ≡ (43 ∷ take a (drop (t + n + 2 * e + 1 + 1) hand)) ++ end =
       marked_at hand (t + n + 2 * e + 1) 43 a (t + n + a + 2 * e + 2) e (a + e + 1) is p.plus
-          (omega arith) (omega arith) (omega arith) p.ends.plus in
+      (omega arith) (omega arith) (omega arith) p.ends.plus in
       let fourth : take (n + e) (drop (t + n + a + 3 * e + 2) hand) ≡ qual ++ end =
-          line_at hand (t + n + a + 3 * e + 2) n (t + n + n + a + 3 * e + 2) e (n + e) is
-          (omega arith) refl (omega arith) p.ends.qual in
+      line_at hand (t + n + a + 3 * e + 2) n (t + n + n + a + 3 * e + 2) e (n + e) is
+      (omega arith) refl (omega arith) p.ends.qual in
       let again : take a (drop (t + n + 2 * e + 1 + 1) hand) ≡ take a (drop 1 hand) = p.repeats in
       let from_third : take (a + n + 2 * e + 1) (drop (t + n + 2 * e + 1) hand)
-          ≡ ((43 ∷ take a (drop 1 hand)) ++ end) ++ (qual ++ end) =
+      ≡ ((43 ∷ take a (drop 1 hand)) ++ end) ++ (qual ++ end) =
       parted hand (t + n + 2 * e + 1) (t + n + a + 3 * e + 2) (a + e + 1) (n + e)
-          (a + n + 2 * e + 1) (omega arith) (omega arith)
+      (a + n + 2 * e + 1) (omega arith) (omega arith)
       ∙ ap (λ ys. ys ++ take (n + e) (drop (t + n + a + 3 * e + 2) hand)) (third
-          ∙ ap (λ ys. (43 ∷ ys) ++ end) again)
+      ∙ ap (λ ys. (43 ∷ ys) ++ end) again)
       ∙ ap (λ ys. ((43 ∷ take a (drop 1 hand)) ++ end) ++ ys) fourth in
       let from_second : take (n + a + n + 3 * e + 1) (drop (t + e + 1) hand)
-          ≡ (seq ++ end) ++ (((43 ∷ take a (drop 1 hand)) ++ end) ++ (qual ++ end)) =
+      ≡ (seq ++ end) ++ (((43 ∷ take a (drop 1 hand)) ++ end) ++ (qual ++ end)) =
       parted hand (t + e + 1) (t + n + 2 * e + 1) (n + e) (a + n + 2 * e + 1)
-          (n + a + n + 3 * e + 1) (omega arith) (omega arith)
+      (n + a + n + 3 * e + 1) (omega arith) (omega arith)
       ∙ ap (λ ys. ys ++ take (a + n + 2 * e + 1) (drop (t + n + 2 * e + 1) hand)) second
       ∙ ap (λ ys. (seq ++ end) ++ ys) from_third in
       let place_seq : drop (t + e) (drop 1 hand) ≡ drop (t + e + 1) hand = drop-drop (t + e) 1 hand
-          ∙ ap (λ m. drop m hand) (omega arith) in
+      ∙ ap (λ m. drop m hand) (omega arith) in
       let place_qual : drop (t + n + a + 3 * e + 1) (drop 1 hand)
-          ≡ drop (t + n + a + 3 * e + 2) hand = drop-drop (t + n + a + 3 * e + 1) 1 hand
-          ∙ ap (λ m. drop m hand) (omega arith) in
+      ≡ drop (t + n + a + 3 * e + 2) hand = drop-drop (t + n + a + 3 * e + 1) 1 hand
+      ∙ ap (λ m. drop m hand) (omega arith) in
       parted hand 0 (t + e + 1) (t + e + 1) (n + a + n + 3 * e + 1) (four_len s) (omega arith)
-          (omega arith)
+      (omega arith)
       ∙ ap (λ ys. ys ++ take (n + a + n + 3 * e + 1) (drop (t + e + 1) hand)) first
       ∙ ap (λ ys. ((64 ∷ title) ++ end) ++ ys) from_second
       ∙ ap (λ ys.
-          ((64 ∷ title) ++ end) ++ ((seq ++ end) ++ (((43 ∷ take a (drop 1 hand)) ++ end) ++ ys)))
-          (sym (append-nil (qual ++ end)))
+      ((64 ∷ title) ++ end) ++ ((seq ++ end) ++ (((43 ∷ take a (drop 1 hand)) ++ end) ++ ys)))
+      (sym (append-nil (qual ++ end)))
       ∙ ap (λ ys.
-          ((64 ∷ title) ++ end) ++ ((take n ys ++ end) ++ (((43 ∷ take a
-          (drop 1 hand)) ++ end) ++ ((qual ++ end) ++ [])))) (sym place_seq)
+      ((64 ∷ title) ++ end) ++ ((take n ys ++ end) ++ (((43 ∷ take a
+      (drop 1 hand)) ++ end) ++ ((qual ++ end) ++ [])))) (sym place_seq)
       ∙ ap (λ ys. ((64 ∷ title) ++ end) ++ ((take n (drop (t + e)
-          (drop 1 hand)) ++ end) ++ (((43 ∷ take a (drop 1 hand)) ++ end) ++ ((take n
-          ys ++ end) ++ [])))) (sym place_qual)
+      (drop 1 hand)) ++ end) ++ (((43 ∷ take a (drop 1 hand)) ++ end) ++ ((take n
+      ys ++ end) ++ [])))) (sym place_qual)
 
   -- the bytes used up to the end of such lines are complete lines
   whole_first : is_whole (take (four_len s) hand) ≡ true
@@ -148,7 +149,7 @@ plus_is_sound title again fits (inr same) =
     let short = cond-false _ _ _ (le-ltb limit (length (43 ∷ title)) (omega arith)) in
     let equal = (bytes_eq-Decides (43 ∷ title) (43 ∷ title)).1 refl in
     ap (λ xs. plus_fault title (43 ∷ xs)) same ∙ short
-        ∙ cond-false _ _ _ (ap not (or_right (bytes_eq (43 ∷ title) (43 ∷ [])) _ equal))
+    ∙ cond-false _ _ _ (ap not (or_right (bytes_eq (43 ∷ title) (43 ∷ [])) _ equal))
 
 ends_plus : (end title again : List ℕ) → (again ≡ []) ⊎ (again ≡ title) → Ends end (43 ∷ []) →
     Ends end (43 ∷ title) → Ends end (43 ∷ again)
@@ -190,25 +191,31 @@ its_lines : (encoding : Encoding) (hand : List ℕ) (s : Shape)
     (unwrapped encoding s (drop 1 hand))
 its_lines encoding hand s p =
     let again : (take s.again (drop 1 hand) ≡ [])
-        ⊎ (take s.again (drop 1 hand) ≡ take s.title (drop 1 hand)) =
+    ⊎ (take s.again (drop 1 hand) ≡ take s.title (drop 1 hand)) =
     ⊎_elim (λ none. inl (ap (λ (m : ℕ). take m (drop 1 hand)) none))
-        (λ same. inr (ap (λ (m : ℕ). take m (drop 1 hand)) same)) p.shape.again in
+    (λ same. inr (ap (λ (m : ℕ). take m (drop 1 hand)) same)) p.shape.again in
     lawful_lines p.shape.end (unwrapped encoding s (drop 1 hand)) (take s.again (drop 1 hand))
-        p.lawful p.plain again
+    p.lawful p.plain again
 
 -- such a record is the one at the front, whatever lines follow
 pub found_in_hand : (encoding : Encoding) (hand : List ℕ) (s : Shape) (ls : List (List ℕ)) →
     BeginsWithRecord encoding hand s →
     front encoding (lines (take (four_len s) hand) ++ ls)
-        ≡ Found (unwrapped encoding s (drop 1 hand)) ls
+    ≡ Found (unwrapped encoding s (drop 1 hand)) ls
 found_in_hand encoding hand s ls p =
     let r = unwrapped encoding s (drop 1 hand) in
     let fits = p.lines.fits in
     ap (λ xs. front encoding (lines xs ++ ls)) (lines_first encoding hand s p.lines p.shape.end)
     ∙ found_first (bytes_of p.shape.end) (take s.again (drop 1 hand)) r ls
-        (its_lines encoding hand s p)
-    (omega (arith, length-take s.bases (drop (s.title + s.end) (drop 1 hand)), length-drop
-        (s.title + s.end) (drop 1 hand), length-drop 1 hand, p.some))
+    (its_lines encoding hand s p)
+    (omega (
+      arith,
+      length-take s.bases (drop (s.title + s.end) (drop 1 hand)),
+      length-drop
+          (s.title + s.end) (drop 1 hand),
+      length-drop 1 hand,
+      p.some,
+    ))
 
 -- a first part of the bytes in hand that is long enough holds the same record
 pub unwrapped_front : (encoding : Encoding) (bytes : List ℕ) (s : Shape) (k : ℕ) →
@@ -218,7 +225,7 @@ unwrapped_front encoding bytes s k le =
     let part : (a m : ℕ) → a + m ≤ k → take m (drop a (take k bytes)) ≡ take m (drop a bytes) =
     λ a m within. let sum : a + (k - a) ≡ k = omega arith in
     ap (λ j. take m (drop a (take j bytes))) (sym sum) ∙ ap (take m) (drop-take a (k - a) bytes)
-        ∙ take-take m (k - a) (drop a bytes) (omega arith) in
+    ∙ take-take m (k - a) (drop a bytes) (omega arith) in
     let title = take-take s.title k bytes (omega arith) in
     let seq = part (s.title + s.end) s.bases (omega arith) in
     let qual = part (s.title + s.bases + s.again + 3 * s.end + 1) s.bases (omega arith) in
@@ -232,7 +239,7 @@ module _ {F : Type 0} (state : F → FeedState) where
   goes_first a b encoding s k is p =
       let len = four_len s in
       subst (λ (r : Lined F). Goes state a r (front encoding)
-          (Found (unwrapped encoding s (drop 1 a.in_hand)))) (sym is) (record {
+      (Found (unwrapped encoding s (drop 1 a.in_hand)))) (sym is) (record {
         used = take len a.in_hand;
         reads = behind_reads state a a k len (reads_none state a);
         closed = inl (whole_first encoding a.in_hand s p.lines p.shape.end);
@@ -248,7 +255,7 @@ not_at : (test : ℕ → Bool) (b n : ℕ) (xs : List ℕ) → test b ≡ false 
 not_at test b n xs fails within passes k lt is =
     let here : get_or (take n xs) k 0 ≡ b = get_or-take n xs k 0 lt ∙ is in
     let none : list_all test (take n xs) ≡ false =
-        list_all_at test (take n xs) k 0 (omega (arith, length-take n xs)) (ap test here ∙ fails) in
+    list_all_at test (take n xs) k 0 (omega (arith, length-take n xs)) (ap test here ∙ fails) in
     cc
 
 -- if no LF is below index n, every byte there is another one
@@ -259,7 +266,7 @@ one_line_to (suc n) [] none = refl
 one_line_to (suc n) (x ∷ xs) none = ⊎_elim
     (λ here. absurd (none 0 (omega arith) (eqb-true x 10 here)))
     (λ off. and_from _ _ (not_from_false _ off)
-        (one_line_to n xs (λ k lt is. none (suc k) (omega arith) is)))
+    (one_line_to n xs (λ k lt is. none (suc k) (omega arith) is)))
     (cases_Bool (eqb x 10))
 
 -- there is one first LF
@@ -268,7 +275,7 @@ one_end : (xs : List ℕ) (a b : ℕ) → NoLf xs a → get_or xs a 0 ≡ 10 →
 one_end xs a b none_a at_a none_b at_b = ⊎_elim
     (λ (lt : a < b). absurd (none_b a lt at_a))
     (λ (le : b ≤ a). ⊎_elim (λ (lt : b < a). absurd (none_a b lt at_b))
-        (λ (ge : a ≤ b). omega arith) (cases_lt b a))
+    (λ (ge : a ≤ b). omega arith) (cases_lt b a))
     (cases_lt a b)
 
 -- a line end after an index
@@ -317,7 +324,7 @@ plain_to xs (suc n) le none =
     let last : suc n - 1 ≡ n = omega arith in
     let size : length (take (suc n) xs) ≡ suc n = omega (arith, length-take (suc n) xs) in
     without_cr_no (take (suc n) xs) n size (λ is. none (omega arith) (ap (λ m. get_or xs m 0) last
-        ∙ sym (get_or-take (suc n) xs n 0 (omega arith)) ∙ is))
+    ∙ sym (get_or-take (suc n) xs n 0 (omega arith)) ∙ is))
 
 -- there is one first line, and it has one line end
 one_end_of : (xs : List ℕ) (k e k' e' : ℕ) → IsFirstLine xs k e → IsFirstLine xs k' e' →
@@ -333,13 +340,13 @@ same_line xs k e k' e' p q =
     let some = some_end p in
     let some' = some_end q in
     let place : k + e - 1 ≡ k' + e' - 1 = one_end xs (k + e - 1) (k' + e' - 1)
-        (no_lf_to_end xs k e p) p.ends.lf (no_lf_to_end xs k' e' q) q.ends.lf in
+    (no_lf_to_end xs k e p) p.ends.lf (no_lf_to_end xs k' e' q) q.ends.lf in
     let same : k + e ≡ k' + e' = omega arith in
     let ends : e ≡ e' = ⊎_elim
     (λ (one : e ≡ 1). ⊎_elim (λ (one' : e' ≡ 1). omega arith)
-        (λ (two' : e' ≡ 2). absurd (one_end_of xs k e k' e' p q same one two')) q.end_is)
+    (λ (two' : e' ≡ 2). absurd (one_end_of xs k e k' e' p q same one two')) q.end_is)
     (λ (two : e ≡ 2). ⊎_elim (λ (one' : e' ≡ 1). absurd (one_end_of xs k' e' k e q p (sym same) one'
-        two)) (λ (two' : e' ≡ 2). omega arith) q.end_is)
+    two)) (λ (two' : e' ≡ 2). omega arith) q.end_is)
     p.end_is in
     (omega arith, ends)
 
@@ -350,7 +357,8 @@ first_line_ends xs k e p none =
     let fits = p.fits in
     none (k + e - 1) (omega arith) p.ends.lf
 
-module _ (encoding : Encoding) (hand : List ℕ) (s : Shape) (p : BeginsWithRecord encoding hand s) where
+module _ (encoding : Encoding) (hand : List ℕ) (s : Shape)
+    (p : BeginsWithRecord encoding hand s) where
   -- the last of these bytes has a score, so it is not CR
   lines_plain : without_cr (take (lines_len s) hand) ≡ take (lines_len s) hand
   lines_plain =
@@ -359,14 +367,14 @@ module _ (encoding : Encoding) (hand : List ℕ) (s : Shape) (p : BeginsWithReco
       let start = s.title + s.bases + s.again + 3 * s.end + 2 in
       let behind : 1 + (s.title + s.bases + s.again + 3 * s.end + 1) ≡ start = omega arith in
       let qual : drop (s.title + s.bases + s.again + 3 * s.end + 1) (drop 1 hand)
-          ≡ drop start hand = drop-drop (s.title + s.bases + s.again + 3 * s.end + 1) 1 hand
-          ∙ ap (λ m. drop m hand) behind in
+      ≡ drop start hand = drop-drop (s.title + s.bases + s.again + 3 * s.end + 1) 1 hand
+      ∙ ap (λ m. drop m hand) behind in
       let bases = subst (λ xs. list_all is_base (take s.bases xs) ≡ true) qual
-          (quals_are_bases (unwrapped encoding s (drop 1 hand)) p.lawful) in
+      (quals_are_bases (unwrapped encoding s (drop 1 hand)) p.lawful) in
       let last : start + (s.bases - 1) ≡ lines_len s - 1 = omega arith in
       plain_to hand (lines_len s) (omega arith)
       (λ _ cr. not_at is_base 13 s.bases (drop start hand) refl
-          (omega (arith, length-drop start hand)) bases (s.bases - 1) (omega arith)
+      (omega (arith, length-drop start hand)) bases (s.bases - 1) (omega arith)
       (get_or-drop start hand (s.bases - 1) 0 ∙ ap (λ m. get_or hand m 0) last ∙ cr))
 
   -- what is taken up to the end of the last line holds the same record
@@ -375,7 +383,7 @@ module _ (encoding : Encoding) (hand : List ℕ) (s : Shape) (p : BeginsWithReco
   taken_same taken is =
       let len : 1 + (lines_len s - 1) ≡ lines_len s = omega arith in
       ap (λ xs. unwrapped encoding s (drop 1 xs)) (is ∙ lines_plain
-          ∙ ap (λ m. take m hand) (sym len))
+      ∙ ap (λ m. take m hand) (sym len))
       ∙ ap (unwrapped encoding s) (drop-take 1 (lines_len s - 1) hand)
       ∙ unwrapped_front encoding (drop 1 hand) s (lines_len s - 1) (omega arith)
 
@@ -414,7 +422,7 @@ module _ (encoding : Encoding) (hand : List ℕ) (s : Shape) (p : BeginsWithReco
       let place : s.title + s.bases + s.end + 1 ≡ s.title + s.end + 1 + s.bases = omega arith in
       let behind : 1 + (s.title + s.end) ≡ s.title + s.end + 1 = omega arith in
       let seq : drop (s.title + s.end) (drop 1 hand) ≡ drop (s.title + s.end + 1) hand =
-          drop-drop (s.title + s.end) 1 hand ∙ ap (λ m. drop m hand) behind in
+      drop-drop (s.title + s.end) 1 hand ∙ ap (λ m. drop m hand) behind in
       let bases = subst (λ xs. list_all is_base (take s.bases xs) ≡ true) seq p.lawful.bases in
       record {
         end_is = p.shape.end;
@@ -439,5 +447,5 @@ pub shape_is : (s : Shape) (t n e : ℕ) → t ≡ s.title → n ≡ s.bases →
     s ≡ record { title = t; bases = n; end = e; again = s.again }
 shape_is s t n e title bases end =
     ap (λ (m : ℕ). record s { title = m }) (sym title)
-        ∙ ap (λ (m : ℕ). record s { title = t; bases = m }) (sym bases)
-        ∙ ap (λ (m : ℕ). record s { title = t; bases = n; end = m }) (sym end)
+    ∙ ap (λ (m : ℕ). record s { title = t; bases = m }) (sym bases)
+    ∙ ap (λ (m : ℕ). record s { title = t; bases = n; end = m }) (sym end)

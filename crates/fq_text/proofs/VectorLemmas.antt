@@ -101,15 +101,15 @@ smaller : (low x y : ℕ) → leb low (cond (top 7 (flag (ltb x y))) x y) ≡ le
 smaller low x y = ⊎_elim
     (λ (less : x < y). ap (λ b. leb low (cond (top 7 (flag b)) x y)) (lt-ltb x y less) ∙ ⊎_elim
     (λ (below : x < low). lt-leb low x below
-        ∙ sym (and_left (leb low x) (leb low y) (lt-leb low x below)))
+    ∙ sym (and_left (leb low x) (leb low y) (lt-leb low x below)))
     (λ (from : low ≤ x). le-leb low x from
-        ∙ sym (and_from (leb low x) (leb low y) (le-leb low x from) (le-leb low y (omega arith))))
+    ∙ sym (and_from (leb low x) (leb low y) (le-leb low x from) (le-leb low y (omega arith))))
     (cases_lt x low))
     (λ (more : y ≤ x). ap (λ b. leb low (cond (top 7 (flag b)) x y)) (le-ltb x y more) ∙ ⊎_elim
     (λ (below : y < low). lt-leb low y below
-        ∙ sym (and_right (leb low x) (leb low y) (lt-leb low y below)))
+    ∙ sym (and_right (leb low x) (leb low y) (lt-leb low y below)))
     (λ (from : low ≤ y). le-leb low y from
-        ∙ sym (and_from (leb low x) (leb low y) (le-leb low x (omega arith)) (le-leb low y from)))
+    ∙ sym (and_from (leb low x) (leb low y) (le-leb low x (omega arith)) (le-leb low y from)))
     (cases_lt y low))
     (cases_lt x y)
 
@@ -118,17 +118,17 @@ larger : (high x y : ℕ) → leb (cond (top 7 (flag (ltb x y))) y x) high ≡ l
 larger high x y = ⊎_elim
     (λ (less : x < y). ap (λ b. leb (cond (top 7 (flag b)) y x) high) (lt-ltb x y less) ∙ ⊎_elim
     (λ (above : high < y). lt-leb y high above
-        ∙ sym (and_right (leb x high) (leb y high) (lt-leb y high above)))
+    ∙ sym (and_right (leb x high) (leb y high) (lt-leb y high above)))
     (λ (within : y ≤ high). le-leb y high within
-        ∙ sym (and_from (leb x high) (leb y high) (le-leb x high (omega arith))
-        (le-leb y high within)))
+    ∙ sym (and_from (leb x high) (leb y high) (le-leb x high (omega arith))
+    (le-leb y high within)))
     (cases_lt high y))
     (λ (more : y ≤ x). ap (λ b. leb (cond (top 7 (flag b)) y x) high) (le-ltb x y more) ∙ ⊎_elim
     (λ (above : high < x). lt-leb x high above
-        ∙ sym (and_left (leb x high) (leb y high) (lt-leb x high above)))
+    ∙ sym (and_left (leb x high) (leb y high) (lt-leb x high above)))
     (λ (within : x ≤ high). le-leb x high within
-        ∙ sym (and_from (leb x high) (leb y high) (le-leb x high within)
-        (le-leb y high (omega arith))))
+    ∙ sym (and_from (leb x high) (leb y high) (le-leb x high within)
+    (le-leb y high (omega arith))))
     (cases_lt high x))
     (cases_lt x y)
 
@@ -147,8 +147,8 @@ all_smallest low [] (y ∷ ys) long = absurd (omega arith)
 all_smallest low (x ∷ xs) [] long = absurd (omega arith)
 all_smallest low (x ∷ xs) (y ∷ ys) long =
     ap₂ (λ c d. c && d) (smaller low x y) (all_smallest low xs ys (omega arith))
-        ∙ both_in (leb low x) (leb low y) (list_all (λ z. leb low z) xs)
-        (list_all (λ z. leb low z) ys)
+    ∙ both_in (leb low x) (leb low y) (list_all (λ z. leb low z) xs)
+    (list_all (λ z. leb low z) ys)
 
 all_largest : (high : ℕ) (a b : List ℕ) → length a ≡ length b →
     list_all (λ x. leb x high) (largest a b)
@@ -158,8 +158,8 @@ all_largest high [] (y ∷ ys) long = absurd (omega arith)
 all_largest high (x ∷ xs) [] long = absurd (omega arith)
 all_largest high (x ∷ xs) (y ∷ ys) long =
     ap₂ (λ c d. c && d) (larger high x y) (all_largest high xs ys (omega arith))
-        ∙ both_in (leb x high) (leb y high) (list_all (λ z. leb z high) xs)
-        (list_all (λ z. leb z high) ys)
+    ∙ both_in (leb x high) (leb y high) (list_all (λ z. leb z high) xs)
+    (list_all (λ z. leb z high) ys)
 
 -- Parts of which each byte passes.
 module _ (p : ℕ → Bool) where
@@ -183,8 +183,8 @@ module _ (p : ℕ → Bool) where
       list_all p (take start xs) ≡ true → list_all p (chunk last n xs) ≡ list_all p xs
   by_the_last start last n xs whole passed front =
       let before : list_all p (take last xs) ≡ true =
-          ap (list_all p) (sym (take-take last start xs passed))
-          ∙ all_of_front last (take start xs) front in
+      ap (list_all p) (sym (take-take last start xs passed))
+      ∙ all_of_front last (take start xs) front in
       ap (list_all p) (take_all n (drop last xs) (omega (arith, length-drop last xs)))
       ∙ sym (in_parts last xs ∙ ap (λ b. b && list_all p (drop last xs)) before)
 
@@ -193,19 +193,19 @@ module _ (p : ℕ → Bool) where
       list_all p (take start xs) && list_all p (chunk last n xs) ≡ list_all p xs
   with_the_last start last n xs whole passed = ⊎_elim
       (λ (front : list_all p (take start xs) ≡ true). ap (λ b. b && list_all p (chunk last n xs))
-          front ∙ by_the_last start last n xs whole passed front)
+      front ∙ by_the_last start last n xs whole passed front)
       (λ (bad : list_all p (take start xs) ≡ false). ap (λ b. b && list_all p (chunk last n xs)) bad
-          ∙ sym (in_parts start xs ∙ ap (λ b. b && list_all p (drop start xs)) bad))
+      ∙ sym (in_parts start xs ∙ ap (λ b. b && list_all p (drop start xs)) bad))
       (cases_Bool (list_all p (take start xs)))
 
 -- The least and the greatest bytes so far, and those of one more vector.
 pub one_more : (low high start n : ℕ) (xs least most : List ℕ) (last : Bool) → length least ≡ n →
     length most ≡ n → start + n ≤ length xs →
     list_all (λ x. leb low x) least && list_all (λ x. leb x high) most
-        ≡ list_all (λ x. leb low x && leb x high) (take start xs) && last →
+    ≡ list_all (λ x. leb low x && leb x high) (take start xs) && last →
     list_all (λ x. leb low x) (smallest least (chunk start n xs)) && list_all (λ x. leb x high)
-        (largest most (chunk start n xs)) ≡ list_all (λ x. leb low x && leb x high) (take
-        (start + n) xs) && last
+    (largest most (chunk start n xs)) ≡ list_all (λ x. leb low x && leb x high) (take
+    (start + n) xs) && last
 one_more low high start n xs least most last long most_long room so_far =
     let p : ℕ → Bool = λ x. leb low x && leb x high in
     let from : ℕ → Bool = λ x. leb low x in
@@ -213,7 +213,7 @@ one_more low high start n xs least most last long most_long room so_far =
     let next = chunk start n xs in
     let size : length next ≡ n = length-chunk start n xs room in
     ap₂ (λ a b. a && b) (all_smallest low least next (omega arith))
-        (all_largest high most next (omega arith))
+    (all_largest high most next (omega arith))
     ∙ both_in (list_all from least) (list_all from next) (list_all to most) (list_all to next)
     ∙ ap₂ (λ a b. a && b) so_far (sym (in_both from to next))
     ∙ last_in_front (list_all p (take start xs)) last (list_all p next)

@@ -23,7 +23,7 @@ pieces_line : (l ys : List ℕ) → list_all not_lf l ≡ true → pieces (l ++ 
 pieces_line [] ys clean = refl
 pieces_line (x ∷ xs) ys clean = let parts = and_parts _ _ clean in
     cond-false (eqb x 10) _ _ (not-true _ parts.0)
-        ∙ ap (before_first_piece x) (pieces_line xs ys parts.1)
+    ∙ ap (before_first_piece x) (pieces_line xs ys parts.1)
 
 -- bytes from 33 on hold neither line end
 base_high : (b : ℕ) → is_base b ≡ true → 33 ≤ b
@@ -33,7 +33,7 @@ pub clean_bases : (l : List ℕ) → list_all is_base l ≡ true → list_all no
 clean_bases [] all = refl
 clean_bases (b ∷ bs) all = let parts = and_parts _ _ all in let high = base_high b parts.0 in
     and_from _ _ (not_from_false _ (ne_eqb b 10 (λ e. absurd (omega arith))))
-        (clean_bases bs parts.1)
+    (clean_bases bs parts.1)
 
 pub plain_bases : (l : List ℕ) → list_all is_base l ≡ true → without_cr l ≡ l
 plain_bases [] all = refl
@@ -81,10 +81,10 @@ without_last_cr (b ∷ c ∷ bs) = ap (λ xs. b ∷ xs) (without_last_cr (c ∷ 
 pub ends_in_cr_lf : (l : List ℕ) → list_all not_lf l ≡ true → Ends (13 ∷ 10 ∷ []) l
 ends_in_cr_lf l clean ys =
     let all : list_all not_lf (l ++ 13 ∷ []) ≡ true = list_all-append not_lf l (13 ∷ [])
-        ∙ ap (λ b. b && true) clean in
+    ∙ ap (λ b. b && true) clean in
     ap lines (append_assoc l (13 ∷ 10 ∷ []) ys ∙ sym (append_assoc l (13 ∷ []) (10 ∷ ys)))
     ∙ ap (map without_cr) (pieces_line (l ++ 13 ∷ []) ys all)
-        ∙ ap (λ m. m ∷ lines ys) (without_last_cr l)
+    ∙ ap (λ m. m ∷ lines ys) (without_last_cr l)
 
 -- a record as four lines with this line end, these bytes after the `+`, and a text after them
 abbrev pub four : List ℕ → List ℕ → Read → List ℕ → List ℕ
@@ -106,8 +106,8 @@ four_lines end again r text p =
     let qual = ap (λ ls. (43 ∷ again) ∷ ls) (p.qual text) in
     let plus = ap (λ ls. r.seq ∷ ls) (p.plus ((r.qual ++ end) ++ text) ∙ qual) in
     let seq =
-        ap (λ ls. (64 ∷ r.title) ∷ ls) (p.seq (((43 ∷ again) ++ end) ++ ((r.qual ++ end) ++ text))
-        ∙ plus) in
+    ap (λ ls. (64 ∷ r.title) ∷ ls) (p.seq (((43 ∷ again) ++ end) ++ ((r.qual ++ end) ++ text))
+    ∙ plus) in
     p.title ((r.seq ++ end) ++ (((43 ∷ again) ++ end) ++ ((r.qual ++ end) ++ text))) ∙ seq
 
 -- a record is written as such lines
@@ -140,26 +140,26 @@ sound_seq : (seq : List ℕ) → length seq ≤ limit → list_all is_base seq �
     begins_with 64 seq ≡ false → sequence_fault 0 seq ≡ None
 sound_seq seq fits bases plain =
     cond-false _ _ _ (le-ltb limit (length seq) fits) ∙ cond-false _ _ _ plain
-        ∙ cond-false _ _ _ (le-ltb limit (0 + length seq) (omega arith))
+    ∙ cond-false _ _ _ (le-ltb limit (0 + length seq) (omega arith))
     ∙ cond-false _ _ _ (not_from_true _ bases)
 
 sound_qual : (e : Encoding) (bases : ℕ) (qual : List ℕ) → bases ≤ limit → length qual ≡ bases →
     list_all (is_scored e) qual ≡ true → quality_fault e bases 0 qual ≡ None
 sound_qual e bases qual fits same scores =
     cond-false _ _ _ (le-ltb limit (length qual) (omega arith))
-        ∙ cond-false _ _ _ (le-ltb bases (0 + length qual) (omega arith))
-        ∙ cond-false _ _ _ (not_from_true _ scores)
+    ∙ cond-false _ _ _ (le-ltb bases (0 + length qual) (omega arith))
+    ∙ cond-false _ _ _ (not_from_true _ scores)
 
 -- the way to the quality
 to_quality : (end again : List ℕ) (r : Read) (ls : List (List ℕ)) → AreItsLines end again r →
     front r.encoding ((64 ∷ r.title) ∷ r.seq ∷ (43 ∷ again) ∷ ls)
-        ≡ in_quality r.encoding r.title r.seq [] ls
+    ≡ in_quality r.encoding r.title r.seq [] ls
 to_quality end again r ls p =
     let lawful = p.lawful in
     title_goes r.encoding 64 r.title (r.seq ∷ (43 ∷ again) ∷ ls)
-        (sound_title r.title lawful.title_fits)
+    (sound_title r.title lawful.title_fits)
     ∙ sequence_goes r.encoding r.title [] r.seq ((43 ∷ again) ∷ ls) (not-true _ lawful.no_plus)
-        (sound_seq r.seq lawful.seq_fits lawful.bases (not-true _ lawful.no_title))
+    (sound_seq r.seq lawful.seq_fits lawful.bases (not-true _ lawful.no_title))
     ∙ sequence_ends r.encoding r.title r.seq (43 ∷ again) ls refl
     ∙ plus_goes r.encoding r.title r.seq (43 ∷ again) ls p.same
 
@@ -181,16 +181,21 @@ stands_before r text lawful plain =
     let fits = lawful.seq_fits in
     let its = its_lines r lawful plain in
     let four = ap (λ xs. front r.encoding (lines xs)) (written_four r text)
-        ∙ ap (front r.encoding) (four_lines (10 ∷ []) [] r text its)
-        ∙ to_quality (10 ∷ []) [] r (r.qual ∷ lines text) its in
+    ∙ ap (front r.encoding) (four_lines (10 ∷ []) [] r text its)
+    ∙ to_quality (10 ∷ []) [] r (r.qual ∷ lines text) its in
     ⊎_elim
     (λ none.
     let empty : r.qual ≡ [] = nil_qual r.qual (omega arith) in
     record {
       rest = r.qual ∷ lines text;
       found = four ∙ quality_ends r.encoding r.title r.seq [] (r.qual ∷ lines text) (omega arith)
-          ∙ ap (λ q. Found (record { encoding = r.encoding; title = r.title; seq = r.seq; qual =
-          q }) (r.qual ∷ lines text)) (sym empty);
+          ∙ ap (λ q. Found (record {
+            encoding = r.encoding;
+            title = r.title;
+            seq = r.seq;
+            qual =
+                q;
+          }) (r.qual ∷ lines text)) (sym empty);
       then = ap (λ q. front r.encoding (q ∷ lines text)) empty;
     })
     (λ some.
@@ -213,7 +218,7 @@ found_first end again r ls p some =
     ap (λ xs. front r.encoding (xs ++ ls)) (four_lines end again r [] p)
     ∙ to_quality end again r (r.qual ∷ ls) p
     ∙ quality_goes r.encoding r.title r.seq [] r.qual ls (omega arith)
-        (sound_qual r.encoding (length r.seq) r.qual lawful.seq_fits same lawful.scores)
+    (sound_qual r.encoding (length r.seq) r.qual lawful.seq_fits same lawful.scores)
     ∙ quality_ends r.encoding r.title r.seq r.qual ls (omega arith)
 
 -- the records of lines that begin with one: that record, and then those of the lines after it
@@ -224,20 +229,24 @@ records_of n e r ls others fewer stands =
     ap (from_front (records_within (suc n) e)) stands.found
     ∙ ap (λ f. with_first r (from_front (records_within n e) f)) stands.then
     ∙ ap (with_first r) (room_enough (suc n) (suc (length others)) e others (omega arith)
-        (omega arith))
+    (omega arith))
 
 -- a valid record reads back
 reads_lawful : (r : Read) (text : List ℕ) → IsLawful r → without_cr r.title ≡ r.title →
     records r.encoding (written r.title r.seq r.qual ++ text)
-        ≡ with_first r (records r.encoding text)
+    ≡ with_first r (records r.encoding text)
 reads_lawful r text lawful plain =
     let whole = lines (written r.title r.seq r.qual ++ text) in
     let len : suc (length whole) ≡ suc (suc (length (lines text) + 3)) =
-        omega (arith, ap (λ xs. length (lines xs)) (written_four r text), ap length
-        (four_lines (10 ∷ []) [] r text (its_lines r lawful plain))) in
+    omega (
+      arith,
+      ap (λ xs. length (lines xs)) (written_four r text),
+      ap length
+          (four_lines (10 ∷ []) [] r text (its_lines r lawful plain)),
+    ) in
     ap (λ n. records_within n r.encoding whole) len
     ∙ records_of (length (lines text) + 3) r.encoding r whole (lines text) (omega arith)
-        (stands_before r text lawful plain)
+    (stands_before r text lawful plain)
 
 -- recoding keeps a record valid
 lawful_as_written : (recode : Option Encoding) (r : Read) → IsLawful r → CanRecode recode r.qual →

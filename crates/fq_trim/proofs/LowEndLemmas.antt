@@ -28,7 +28,8 @@ turned_at v k long lt =
     ∙ get_or_append_left v v 0 (15 - k) (omega arith)
 
 -- How many of the reversed scores are before the first that is high.
-module _ (v turned : List ℕ) (score r : ℕ) (long : length turned ≡ 16) (each : (k : ℕ) → k < 16 → get_or turned k 0 ≡ get_or v (15 - k) 0)
+module _ (v turned : List ℕ) (score r : ℕ) (long : length turned ≡ 16)
+    (each : (k : ℕ) → k < 16 → get_or turned k 0 ≡ get_or v (15 - k) 0)
     (counted : r ≡ prefix_len (λ x. not (leb score x)) turned) where
   of_all : r ≡ prefix_len (λ x. not (leb score x)) (take 16 turned)
   of_all = counted ∙ ap (prefix_len (λ x. not (leb score x)))
@@ -40,7 +41,7 @@ module _ (v turned : List ℕ) (score r : ℕ) (long : length turned ≡ 16) (ea
   pub low : (k : ℕ) → 16 ≤ k + r → k < 16 → get_or v k 0 < score
   low k from lt =
       let fails = run_in_chunk_fails (leb score) turned 0 16 r 0 (omega arith) of_all (15 - k)
-          (omega arith) (omega arith) in
+      (omega arith) (omega arith) in
       let small = leb-false score (get_or turned (15 - k) 0) fails in
       let same = each (15 - k) (omega arith) in
       let place : 15 - (15 - k) ≡ k = omega arith in
@@ -54,7 +55,7 @@ part_at : (offset start k : ℕ) (qual part : List ℕ) → start + 16 ≤ lengt
 part_at offset start k qual part room lt is =
     let lent = take 16 (drop start qual) in
     let here : length lent ≡ 16 = length-take-le 16 (drop start qual)
-        (omega (arith, length-drop start qual)) in
+    (omega (arith, length-drop start qual)) in
     ap (λ s. get_or s k 0) is
     ∙ get_or-map (λ byte. byte - offset) lent k 0 0 (omega arith)
     ∙ ap (λ byte. byte - offset) (get_or-chunk start 16 qual k 0 lt)
@@ -64,7 +65,7 @@ part_at offset start k qual part room lt is =
 pub lower : (offset score stop r : ℕ) (qual part : List ℕ) → 16 ≤ stop → stop ≤ length qual →
     part ≡ map (λ byte. byte - offset) (take 16 (drop (stop - 16) qual)) →
     ((k : ℕ) → 16 ≤ k + r → k < 16 → get_or part k 0 < score) →
-        ((k : ℕ) → stop ≤ k → k < length qual → get_or (distances offset qual) k 0 < score) →
+    ((k : ℕ) → stop ≤ k → k < length qual → get_or (distances offset qual) k 0 < score) →
     r ≤ 16 → (k : ℕ) → stop - r ≤ k → k < length qual → get_or (distances offset qual) k 0 < score
 lower offset score stop r qual part room within is here behind few k from lt = ⊎_elim
     (λ before.

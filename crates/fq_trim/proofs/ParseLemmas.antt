@@ -16,23 +16,24 @@ put_all-push : (steps : List Step) (step : Step) (rest : Result (List Step) Step
 put_all-push steps step (Ok others) = ap Ok (sym (append_assoc steps (step ∷ []) others))
 put_all-push steps step (Err fault) = refl
 
-module _ (words : List (List ℕ)) (held : List Step) (i : ℕ) (lt : i < length words) (so_far : steps_from 1 words ≡ put_all (take i held) (steps_from (suc i) (drop i words))) where
+module _ (words : List (List ℕ)) (held : List Step) (i : ℕ) (lt : i < length words)
+    (so_far : steps_from 1 words ≡ put_all (take i held) (steps_from (suc i) (drop i words))) where
   next : steps_from (suc i) (drop i words) ≡ steps_from (suc i) (get_or words i [] ∷ drop (i + 1)
       words)
   next = ap (steps_from (suc i)) (drop_more words i [] lt)
 
   pub step_put : (step : Step) → i < length held → step_of (get_or words i []) ≡ Ok step →
       steps_from 1 words ≡ put_all (take (i + 1) (set held i step)) (steps_from (suc (i + 1))
-          (drop (i + 1) words))
+      (drop (i + 1) words))
   step_put step room is =
       so_far
       ∙ ap (put_all (take i held)) (next
-          ∙ ap (λ r. put_before (suc i) r (steps_from (suc (suc i)) (drop (i + 1) words))) is)
+      ∙ ap (λ r. put_before (suc i) r (steps_from (suc (suc i)) (drop (i + 1) words))) is)
       ∙ put_all-push (take i held) step (steps_from (suc (suc i)) (drop (i + 1) words))
       ∙ ap (λ n. put_all (take i held ++ (step ∷ [])) (steps_from n (drop (i + 1) words)))
-          (ap suc (sym (add-one i)))
+      (ap suc (sym (add-one i)))
       ∙ ap (λ steps. put_all steps (steps_from (suc (i + 1)) (drop (i + 1) words)))
-          (sym (take_more_set held i step room))
+      (sym (take_more_set held i step room))
 
   pub fault_found : (kind : StepFaultKind) → step_of (get_or words i []) ≡ Err kind →
       steps_from 1 words ≡ Err (record { place = i + 1; kind = kind })
@@ -40,7 +41,7 @@ module _ (words : List (List ℕ)) (held : List Step) (i : ℕ) (lt : i < length
       let fault : ℕ → Result (List Step) StepFault = λ n. Err (record { place = n; kind = kind }) in
       so_far
       ∙ ap (put_all (take i held)) (next
-          ∙ ap (λ r. put_before (suc i) r (steps_from (suc (suc i)) (drop (i + 1) words))) is)
+      ∙ ap (λ r. put_before (suc i) r (steps_from (suc (suc i)) (drop (i + 1) words))) is)
       ∙ ap fault (sym (add-one i))
 
 -- after the last argument
@@ -82,9 +83,9 @@ all_steps place (word ∷ words) steps is =
     let put = put_parts place (step_of word) (steps_from (suc place) words) steps is in
     let rest = all_steps (suc place) words put.others put.behind in
     let list : Step → List Step → List (Result Step StepFaultKind) =
-        λ step others. Ok step ∷ map Ok others in
+    λ step others. Ok step ∷ map Ok others in
     ap (map Ok) put.both ∙ ap (λ r. r ∷ map Ok put.others) (sym put.first)
-        ∙ ap (λ rs. step_of word ∷ rs) rest
+    ∙ ap (λ rs. step_of word ∷ rs) rest
 
 -- the index of the first faulty argument, counted from 0
 record FirstAt (place : ℕ) (words : List (List ℕ)) (fault : StepFault) : Type 0 where
@@ -101,9 +102,15 @@ later place word words fault good first =
     let at = first.at in
     let within = first.within in
     let passed : (k : ℕ) → k < suc first.index →
-        is_ok (step_of (get_or (word ∷ words) k [])) ≡ true = below first.before in
-    record { index = suc first.index; within = omega arith; at = omega arith; found =
-        first.found; before = passed }
+    is_ok (step_of (get_or (word ∷ words) k [])) ≡ true = below first.before in
+    record {
+      index = suc first.index;
+      within = omega arith;
+      at = omega arith;
+      found =
+          first.found;
+      before = passed;
+    }
   where
     below : ((k : ℕ) → k < first.index → is_ok (step_of (get_or words k [])) ≡ true) → (k : ℕ) →
         k < suc first.index → is_ok (step_of (get_or (word ∷ words) k [])) ≡ true
@@ -123,8 +130,14 @@ first_at place (word ∷ words) fault is = at_word (first_at (suc place) words f
     at_word deeper (Err kind) one_is rest rest_is is =
         let same : place ≡ fault.place = cc in
         let kinds : kind ≡ fault.kind = cc in
-        record { index = 0; within = omega arith; at = omega arith; found = one_is
-            ∙ ap Err kinds; before = λ k lt. absurd (omega arith) }
+        record {
+          index = 0;
+          within = omega arith;
+          at = omega arith;
+          found = one_is
+              ∙ ap Err kinds;
+          before = λ k lt. absurd (omega arith);
+        }
     at_word deeper (Ok step) one_is (Ok others) rest_is is = cc
     at_word deeper (Ok step) one_is (Err other) rest_is is =
         later place word words fault (ap is_ok one_is) (deeper (rest_is ∙ is))

@@ -29,14 +29,14 @@ select_append test j [] ys = let e : j + 0 ≡ j = omega arith in rw e refl
 select_append test j (x ∷ xs) ys =
     let e : j + suc (length xs) ≡ suc j + length xs = omega arith in
     let rest = select_append test (suc j) xs ys
-        ∙ ap (λ n. select test (suc j) xs ++ select test n ys) (sym e) in
+    ∙ ap (λ n. select test (suc j) xs ++ select test n ys) (sym e) in
     ⊎_elim
     (λ is. cond-true (test j) _ _ is ∙ ap (λ zs. x ∷ zs) rest
-        ∙ ap (λ zs. zs ++ select test (j + suc (length xs)) ys)
-        (sym (cond-true (test j) (x ∷ select test (suc j) xs) (select test (suc j) xs) is)))
+    ∙ ap (λ zs. zs ++ select test (j + suc (length xs)) ys)
+    (sym (cond-true (test j) (x ∷ select test (suc j) xs) (select test (suc j) xs) is)))
     (λ is. cond-false (test j) _ _ is ∙ rest
-        ∙ ap (λ zs. zs ++ select test (j + suc (length xs)) ys)
-        (sym (cond-false (test j) (x ∷ select test (suc j) xs) (select test (suc j) xs) is)))
+    ∙ ap (λ zs. zs ++ select test (j + suc (length xs)) ys)
+    (sym (cond-false (test j) (x ∷ select test (suc j) xs) (select test (suc j) xs) is)))
     (cases_Bool (test j))
 
 select_all : (test : ℕ → Bool) (j : ℕ) (xs : List ℕ) →
@@ -62,19 +62,19 @@ select_between test a n lo hi b =
     let l3 = length-places (a + lo + (hi - lo)) (n - hi) in
     ap (λ m. select test 0 (places a m)) e
     ∙ ap (select test 0) (places-append a lo ((hi - lo) + (n - hi))
-        ∙ ap (λ ps. places a lo ++ ps) (places-append (a + lo) (hi - lo) (n - hi)))
+    ∙ ap (λ ps. places a lo ++ ps) (places-append (a + lo) (hi - lo) (n - hi)))
     ∙ select_append test 0 (places a lo) _
     ∙ ap (λ ps. ps ++ select test (0 + length (places a lo))
-        (places (a + lo) (hi - lo) ++ places (a + lo + (hi - lo)) (n - hi)))
-        (select_none test 0 (places a lo) (λ k le lt. b.before k (omega arith) (omega arith)))
+    (places (a + lo) (hi - lo) ++ places (a + lo + (hi - lo)) (n - hi)))
+    (select_none test 0 (places a lo) (λ k le lt. b.before k (omega arith) (omega arith)))
     ∙ select_append test (0 + length (places a lo)) (places (a + lo) (hi - lo)) _
     ∙ ap (λ ps. ps ++ select test (0 + length (places a lo) + length (places (a + lo) (hi - lo)))
-        (places (a + lo + (hi - lo)) (n - hi)))
-        (select_all test (0 + length (places a lo)) (places (a + lo) (hi - lo))
-        (λ k le lt. b.inside k (omega arith) (omega arith)))
+    (places (a + lo + (hi - lo)) (n - hi)))
+    (select_all test (0 + length (places a lo)) (places (a + lo) (hi - lo))
+    (λ k le lt. b.inside k (omega arith) (omega arith)))
     ∙ ap (λ ps. places (a + lo) (hi - lo) ++ ps)
-        (select_none test (0 + length (places a lo) + length (places (a + lo) (hi - lo)))
-        (places (a + lo + (hi - lo)) (n - hi)) (λ k le lt. b.behind k (omega arith) (omega arith)))
+    (select_none test (0 + length (places a lo) + length (places (a + lo) (hi - lo)))
+    (places (a + lo + (hi - lo)) (n - hi)) (λ k le lt. b.behind k (omega arith) (omega arith)))
     ∙ append-nil _
 
 -- the scores at consecutive indices
@@ -84,17 +84,17 @@ scores_at q a zero le = refl
 scores_at q a (suc n) le =
     ap (λ xs. get_or q a 0 ∷ xs) (scores_at q (suc a) n (omega arith))
     ∙ sym (ap (take (suc n)) (drop_more q a 0 (omega arith)
-        ∙ ap (λ m. get_or q a 0 ∷ drop m q) (add-one a)))
+    ∙ ap (λ m. get_or q a 0 ∷ drop m q) (add-one a)))
 
 -- one step of several, if it keeps the indices between two
 pub step_keeps : (step : Step) (steps : List Step) (q : List ℕ) (start stop lo hi : ℕ) →
     start ≤ stop → stop ≤ length q →
     IsBetween (keeps step (take (stop - start) (drop start q))) (stop - start) lo hi →
     kept_of (step ∷ steps) q (places start (stop - start))
-        ≡ kept_of steps q (places (start + lo) (hi - lo))
+    ≡ kept_of steps q (places (start + lo) (hi - lo))
 step_keeps step steps q start stop lo hi le within b =
     ap (λ xs. kept_of steps q (select (keeps step xs) 0 (places start (stop - start))))
-        (scores_at q start (stop - start) (omega arith))
+    (scores_at q start (stop - start) (omega arith))
     ∙ ap (kept_of steps q) (select_between _ start (stop - start) lo hi b)
 
 -- one step alone, applied to all bases
@@ -105,7 +105,7 @@ step_alone step e qual lo hi b =
     let q = scores e qual in
     let len = length-map qual (value_of e) in
     ap (λ xs. select (keeps step xs) 0 (places 0 (length q)))
-        (scores_at q 0 (length q) (omega arith) ∙ take_all (length q) q (omega arith))
+    (scores_at q 0 (length q) (omega arith) ∙ take_all (length q) q (omega arith))
     ∙ ap (λ n. select (keeps step q) 0 (places 0 n)) len
     ∙ select_between (keeps step q) 0 (length qual) lo hi b
     ∙ ap (λ a. places a (hi - lo)) (omega arith)
@@ -143,7 +143,7 @@ any_behind : (t : ℕ) (q : List ℕ) (k j : ℕ) → k ≤ j → j < length q �
 any_behind t q k j le lt at =
     let there : k + (j - k) ≡ j = omega arith in
     let is : get_or (drop k q) (j - k) 0 ≡ get_or q j 0 = get_or-drop k q (j - k) 0
-        ∙ ap (λ n. get_or q n 0) there in
+    ∙ ap (λ n. get_or q n 0) there in
     let len = length-drop k q in
     list_any_at (leb t) (drop k q) (j - k) 0 (omega arith) (le-leb t _ (omega arith))
 
@@ -158,7 +158,7 @@ none_behind : (t : ℕ) (q : List ℕ) (k : ℕ) → ((j : ℕ) → k ≤ j → 
 none_behind t q k none =
     let len = length-drop k q in
     none_in t (drop k q) (λ i lt. let is = get_or-drop k q i 0 in let low =
-        none (k + i) (omega arith) (omega arith) in omega arith)
+    none (k + i) (omega arith) (omega arith) in omega arith)
 
 pub trailing_between : (t : ℕ) (q : List ℕ) (hi : ℕ) → hi ≤ length q →
     (0 < hi → t ≤ get_or q (hi - 1) 0) → ((k : ℕ) → hi ≤ k → k < length q → get_or q k 0 < t) →
@@ -213,7 +213,7 @@ none_places test a (suc n) none = or_from _ _ (none a (omega arith) (omega arith
 pub window_between : (w t : ℕ) (q : List ℕ) (last : ℕ) → w ≤ length q →
     is_good_window w t q 0 ≡ true → last ≤ length q →
     (0 < last → is_good_end w t q (last - 1) ≡ true) →
-        ((k : ℕ) → last ≤ k → k < length q → is_good_end w t q k ≡ false) →
+    ((k : ℕ) → last ≤ k → k < length q → is_good_end w t q k ≡ false) →
     IsBetween (keeps (SlidingWindow w t) q) (length q) 0 last
 window_between w t q last fits first within good none =
     let ready = and_from _ _ (le-leb w (length q) fits) first in
@@ -254,9 +254,9 @@ module _ (e : Encoding) (qual : List ℕ) where
   leading_scores t lo le none at =
       let len = length-scores in
       subst (λ n. IsBetween (keeps (Leading t) (scores e qual)) n lo n) len
-          (leading_between t (scores e qual) lo (omega arith) none
+      (leading_between t (scores e qual) lo (omega arith) none
       (λ lt. let in_qual : lo < length qual = omega arith in let same = score_at lo in_qual in
-          let h = at in_qual in omega arith))
+      let h = at in_qual in omega arith))
 
   pub trailing_scores : (t hi : ℕ) → hi ≤ length qual →
       (0 < hi → t ≤ get_or (scores e qual) (hi - 1) 0) →
@@ -265,20 +265,20 @@ module _ (e : Encoding) (qual : List ℕ) where
   trailing_scores t hi within at low =
       let len = length-scores in
       subst (λ n. IsBetween (keeps (Trailing t) (scores e qual)) n 0 hi) len
-          (trailing_between t (scores e qual) hi (omega arith) at
-          (λ k from lt. low k from (omega arith)))
+      (trailing_between t (scores e qual) hi (omega arith) at
+      (λ k from lt. low k from (omega arith)))
 
   pub part_between : (step : Step) (start stop lo hi : ℕ) → start ≤ stop → stop ≤ length qual →
       IsBetween (keeps step (scores e (take (stop - start) (drop start qual))))
-          (length (take (stop - start) (drop start qual))) lo hi →
+      (length (take (stop - start) (drop start qual))) lo hi →
       IsBetween (keeps step (take (stop - start) (drop start (scores e qual)))) (stop - start) lo hi
   part_between step start stop lo hi le within b =
       let n : length (take (stop - start) (drop start qual)) ≡ stop - start =
-          length-take-le (stop - start) (drop start qual) (omega (arith, length-drop start qual)) in
+      length-take-le (stop - start) (drop start qual) (omega (arith, length-drop start qual)) in
       subst (λ m. IsBetween (keeps step (take (stop - start) (drop start (scores e qual)))) m lo hi)
-          n
+      n
       (subst (λ xs. IsBetween (keeps step xs) (length (take (stop - start) (drop start qual))) lo
-          hi) (scores_of_part start (stop - start)) b)
+      hi) (scores_of_part start (stop - start)) b)
 
 -- Ends of windows.
 low_end : (w t : ℕ) (q : List ℕ) (k : ℕ) → get_or q k 0 < t → is_good_end w t q k ≡ false
@@ -300,12 +300,12 @@ good_end w t q k at good = and_from _ _ (le-leb t (get_or q k 0) at)
 pub window_kept : (w t : ℕ) (q : List ℕ) (good last : ℕ) → 0 < w → w ≤ length q → w ≤ good →
     good ≤ length q → last ≤ good →
     ((s : ℕ) → s + w ≤ good → w * t ≤ sum (take w (drop s q))) →
-        (good < length q → sum (take w (drop (good + 1 - w) q)) < w * t) →
+    (good < length q → sum (take w (drop (good + 1 - w) q)) < w * t) →
     (0 < last → t ≤ get_or q (last - 1) 0) → ((k : ℕ) → last ≤ k → k < good → get_or q k 0 < t) →
     IsBetween (keeps (SlidingWindow w t) q) (length q) 0 last
 window_kept w t q good last some fits first within under windows bad high low =
     window_between w t q last fits (le-leb (w * t) (sum (take w q)) (windows 0 (omega arith)))
-        (omega arith)
+    (omega arith)
     (λ has. good_end w t q (last - 1) (high has) (λ s le. windows s (omega arith)))
     (λ k from lt. ⊎_elim
     (λ (below : k < good). low_end w t q k (low k from below))
@@ -320,16 +320,16 @@ window_moves (suc w) q s some lt =
     let rest = drop (s + 1) q in
     let len = length-drop (s + 1) q in
     let old : sum (take (suc w) (drop s q)) ≡ get_or q s 0 + sum (take w rest) =
-        ap (λ xs. sum (take (suc w) xs)) (drop_more q s 0 (omega arith))
-        ∙ sum_by-cons (λ x. x) (get_or q s 0) (take w rest) in
+    ap (λ xs. sum (take (suc w) xs)) (drop_more q s 0 (omega arith))
+    ∙ sum_by-cons (λ x. x) (get_or q s 0) (take w rest) in
     let more : take (w + 1) rest ≡ take w rest ++ (get_or rest w 0 ∷ []) =
-        take_more rest w 0 (omega arith) in
+    take_more rest w 0 (omega arith) in
     let new : sum (take (suc w) rest) ≡ sum (take w rest) + get_or rest w 0 =
-        ap (λ n. sum (take n rest)) (sym (add-one w)) ∙ ap sum more
-        ∙ sum_by_push (λ x. x) (take w rest) (get_or rest w 0) in
+    ap (λ n. sum (take n rest)) (sym (add-one w)) ∙ ap sum more
+    ∙ sum_by_push (λ x. x) (take w rest) (get_or rest w 0) in
     let place : s + 1 + w ≡ s + suc w = omega arith in
     let entering : get_or rest w 0 ≡ get_or q (s + suc w) 0 = get_or-drop (s + 1) q w 0
-        ∙ ap (λ n. get_or q n 0) place in
+    ∙ ap (λ n. get_or q n 0) place in
     omega arith
 
 -- Tests of each member.
@@ -367,9 +367,9 @@ pub high_window : (w t front s : ℕ) (q : List ℕ) → front ≤ length q →
 high_window w t front s q within high le =
     let window = take w (drop s q) in
     let fits = ap (list_all (leb t)) (sym (take-take (s + w) front q le))
-        ∙ all_taken (leb t) (take front q) (s + w) high in
+    ∙ all_taken (leb t) (take front q) (s + w) high in
     let all : list_all (leb t) window ≡ true = ap (list_all (leb t)) (sym (drop-take s w q))
-        ∙ all_dropped (leb t) (take (s + w) q) s fits in
+    ∙ all_dropped (leb t) (take (s + w) q) s fits in
     let len : length window ≡ w = length-take-le w (drop s q) (omega (arith, length-drop s q)) in
     subst (λ n. n * t ≤ sum window) len (high_sum t window all)
 
@@ -390,8 +390,8 @@ module _ (e : Encoding) (qual : List ℕ) where
   part_small s n all =
       let part = take n (drop s qual) in
       let small =
-          sum_small e part (all_taken (is_scored e) (drop s qual) n (all_dropped (is_scored e) qual
-          s all)) in
+      sum_small e part (all_taken (is_scored e) (drop s qual) n (all_dropped (is_scored e) qual
+      s all)) in
       let same = ap sum (scores_of_part e qual s n) in
       let len : length part ≤ n = omega (arith, length-take n (drop s qual)) in
       omega arith
@@ -399,7 +399,7 @@ module _ (e : Encoding) (qual : List ℕ) where
   -- the window that ends at an index, after the window that ends before it
   pub next_window : (w end : ℕ) → 0 < w → w ≤ end → end < length qual →
       sum (take w (drop (end + 1 - w) (scores e qual))) + value_of e (get_or qual (end - w) 0)
-          ≡ sum (take w (drop (end - w) (scores e qual))) + value_of e (get_or qual end 0)
+      ≡ sum (take w (drop (end - w) (scores e qual))) + value_of e (get_or qual end 0)
   next_window w end some from lt =
       let q = scores e qual in
       let len = length-scores e qual in
@@ -408,7 +408,7 @@ module _ (e : Encoding) (qual : List ℕ) where
       let new = ap (λ s. sum (take w (drop s q))) start in
       let stop : end - w + w ≡ end = omega arith in
       let entering : get_or q (end - w + w) 0 ≡ value_of e (get_or qual end 0) =
-          ap (λ n. get_or q n 0) stop ∙ score_at e qual end lt in
+      ap (λ n. get_or q n 0) stop ∙ score_at e qual end lt in
       let leaving = score_at e qual (end - w) (omega arith) in
       omega arith
 
@@ -417,18 +417,18 @@ module _ (e : Encoding) (qual : List ℕ) where
   pub window_scores : (w t least good last : ℕ) → least ≡ w * t → 0 < w → w ≤ length qual →
       w ≤ good → good ≤ length qual → last ≤ length (take good qual) →
       ((s : ℕ) → s + w ≤ good → least ≤ sum (take w (drop s (scores e qual)))) →
-          (good < length qual → sum (take w (drop (good + 1 - w) (scores e qual))) < least) →
+      (good < length qual → sum (take w (drop (good + 1 - w) (scores e qual))) < least) →
       (0 < last → t ≤ get_or (scores e (take good qual)) (last - 1) 0) →
-          ((k : ℕ) → last ≤ k → k < length (take good qual) →
-          get_or (scores e (take good qual)) k 0 < t) →
+      ((k : ℕ) → last ≤ k → k < length (take good qual) →
+      get_or (scores e (take good qual)) k 0 < t) →
       IsBetween (keeps (SlidingWindow w t) (scores e qual)) (length qual) 0 last
   window_scores w t least good last least_is some fits first within under windows bad high low =
       let q = scores e qual in
       let len = length-scores e qual in
       let taken = length-take-le good qual within in
       let same : (k : ℕ) → k < good → get_or (scores e (take good qual)) k 0 ≡ get_or q k 0 =
-          λ k lt. ap (λ xs. get_or xs k 0) (sym (take-map (value_of e) good qual))
-          ∙ get_or-take good q k 0 lt in
+      λ k lt. ap (λ xs. get_or xs k 0) (sym (take-map (value_of e) good qual))
+      ∙ get_or-take good q k 0 lt in
       subst (λ n. IsBetween (keeps (SlidingWindow w t) q) n 0 last) len
       (window_kept w t q good last some (omega arith) first (omega arith) (omega arith)
       (λ s le. subst (λ n. n ≤ sum (take w (drop s q))) least_is (windows s le))
@@ -438,9 +438,10 @@ module _ (e : Encoding) (qual : List ℕ) where
 
 -- The first window that is summed is the one that ends at `from`. Each of the first `front` scores
 -- is at least t.
-module _ (e : Encoding) (qual : List ℕ) (w t score front from total : ℕ) (score_is : score ≡ t) (fits : w ≤ length qual) (within : front ≤ length qual)
+module _ (e : Encoding) (qual : List ℕ) (w t score front from total : ℕ) (score_is : score ≡ t)
+    (fits : w ≤ length qual) (within : front ≤ length qual)
     (high : list_all (leb t) (take front (scores e qual)) ≡ true) (from_is : from ≡ max front w)
-        (total_is : total ≡ sum (scores e (take (from - (from - w)) (drop (from - w) qual)))) where
+    (total_is : total ≡ sum (scores e (take (from - (from - w)) (drop (from - w) qual)))) where
   least_is : w * score ≡ w * t
   least_is = ap (λ n. w * n) score_is
 
@@ -448,15 +449,15 @@ module _ (e : Encoding) (qual : List ℕ) (w t score front from total : ℕ) (sc
   from_sum =
       let size : from - (from - w) ≡ w = omega arith in
       total_is ∙ ap sum (scores_of_part e qual (from - w) (from - (from - w)))
-          ∙ ap (λ n. sum (take n (drop (from - w) (scores e qual)))) size
+      ∙ ap (λ n. sum (take n (drop (from - w) (scores e qual)))) size
 
   -- a window up to there is good, or it is the first of all
   window_up_to : (s : ℕ) → s + w ≤ from → (w * score ≤ sum (take w (drop s (scores e qual))))
       ⊎ (from ≡ w)
   window_up_to s le = ⊎_elim
       (λ skips. let least = least_is in let len = length-scores e qual in let good =
-          high_window w t front s (scores e qual) (omega arith) high (omega arith) in
-          inl (omega arith))
+      high_window w t front s (scores e qual) (omega arith) high (omega arith) in
+      inl (omega arith))
       (λ none. inr (omega arith))
       (cases_lt w front)
 
@@ -465,7 +466,7 @@ module _ (e : Encoding) (qual : List ℕ) (w t score front from total : ℕ) (sc
   from_good good s le = ⊎_elim
       (λ is. is)
       (λ first. let here = from_sum in let start : from - w ≡ s = omega arith in let is =
-          ap (λ n. sum (take w (drop n (scores e qual)))) start in omega arith)
+      ap (λ n. sum (take w (drop n (scores e qual)))) start in omega arith)
       (window_up_to s le)
 
   pub from_bad : total < w * score → sum (take w (drop 0 (scores e qual))) < w * score
@@ -475,5 +476,5 @@ module _ (e : Encoding) (qual : List ℕ) (w t score front from total : ℕ) (sc
       ⊎_elim
       (λ good. absurd (omega arith))
       (λ first. let start : from - w ≡ 0 = omega arith in let is =
-          ap (λ n. sum (take w (drop n q))) start in omega arith)
+      ap (λ n. sum (take w (drop n q))) start in omega arith)
       (window_up_to (from - w) (omega arith))

@@ -28,9 +28,9 @@ less_one x o small off =
     let lt = ltb-true x o is in
     let whole : o + (256 - o) ≡ 256 = omega arith in
     ap (λ v. (v + (256 - o)) % 256) (cond-true (ltb x o) o x is) ∙ ap (λ v. v % 256) whole
-        ∙ omega arith)
+    ∙ omega arith)
     (λ is. let le = ltb-false x o is in ap (λ v. (v + (256 - o)) % 256)
-        (cond-false (ltb x o) o x is) ∙ omega arith)
+    (cond-false (ltb x o) o x is) ∙ omega arith)
     (cases_Bool (ltb x o))
 
 -- a byte plus the smaller of another byte and what is left of 255
@@ -41,35 +41,35 @@ plus_one x y small other =
     let fy = other.fits in
     ⊎_elim
     (λ is. let lt = ltb-true y (255 - x) is in
-        ap (λ v. (x + v) % 256) (cond-true (ltb y (255 - x)) y (255 - x) is)
-        ∙ mod-eq_of_lt (omega arith) ∙ omega arith)
+    ap (λ v. (x + v) % 256) (cond-true (ltb y (255 - x)) y (255 - x) is)
+    ∙ mod-eq_of_lt (omega arith) ∙ omega arith)
     (λ is. let le = ltb-false y (255 - x) is in
-        ap (λ v. (x + v) % 256) (cond-false (ltb y (255 - x)) y (255 - x) is)
-        ∙ mod-eq_of_lt (omega arith) ∙ omega arith)
+    ap (λ v. (x + v) % 256) (cond-false (ltb y (255 - x)) y (255 - x) is)
+    ∙ mod-eq_of_lt (omega arith) ∙ omega arith)
     (cases_Bool (ltb y (255 - x)))
 
 -- each byte minus the same number
 pub each_less : (v : List ℕ) (o n : ℕ) → length v ≡ n → Each1 (Fits w8) v → Fits w8 o →
     zip2 (λ a b. (a + (256 - b)) % 256) (sel_l (map (top 7)
-        (zip2 (λ a b. cond (ltb a b) 255 0) v (replicate n o))) (replicate n o) v) (replicate n o)
-        ≡ map (λ x. x - o) v
+    (zip2 (λ a b. cond (ltb a b) 255 0) v (replicate n o))) (replicate n o) v) (replicate n o)
+    ≡ map (λ x. x - o) v
 each_less [] o n long fits off = refl
 each_less (x ∷ xs) o zero long fits off = absurd (omega arith)
 each_less (x ∷ xs) o (suc n) long fits off =
     ap₂ (λ y ys. y ∷ ys) (ap (λ v. (v + (256 - o)) % 256) (chosen (ltb x o) o x)
-        ∙ less_one x o fits.0 off) (each_less xs o n (omega arith) fits.1 off)
+    ∙ less_one x o fits.0 off) (each_less xs o n (omega arith) fits.1 off)
 
 -- the pair of bytes at an index of two vectors
 pub each_plus : (v u : List ℕ) → length v ≡ length u → Each1 (Fits w8) v → Each1 (Fits w8) u →
     zip2 (λ a b. (a + b) % 256) v
-        (sel_l (map (top 7) (zip2 (λ a b. cond (ltb a b) 255 0) u (map (λ a. 255 - a) v))) u
-        (map (λ a. 255 - a) v)) ≡ zip2 (λ x y. min 255 (x + y)) v u
+    (sel_l (map (top 7) (zip2 (λ a b. cond (ltb a b) 255 0) u (map (λ a. 255 - a) v))) u
+    (map (λ a. 255 - a) v)) ≡ zip2 (λ x y. min 255 (x + y)) v u
 each_plus [] [] long fits others = refl
 each_plus [] (y ∷ ys) long fits others = refl
 each_plus (x ∷ xs) [] long fits others = absurd (omega arith)
 each_plus (x ∷ xs) (y ∷ ys) long fits others =
     ap₂ (λ z zs. z ∷ zs) (ap (λ v. (x + v) % 256) (chosen (ltb y (255 - x)) y (255 - x))
-        ∙ plus_one x y fits.0 others.0) (each_plus xs ys (omega arith) fits.1 others.1)
+    ∙ plus_one x y fits.0 others.0) (each_plus xs ys (omega arith) fits.1 others.1)
 
 -- the lower of each two bytes
 pub each_lower : (v u : List ℕ) → sel_l (map (top 7) (zip2 (λ a b. cond (ltb a b) 255 0) v u)) v u
@@ -90,14 +90,14 @@ both_high : (score o x y : ℕ) → leb score (min x y - o) ≡ leb score (x - o
 both_high score o x y = ⊎_elim
     (λ (low : min x y - o < score). lt-leb score (min x y - o) low ∙ ⊎_elim
     (λ (left : x < y). sym (and_left (leb score (x - o)) (leb score (y - o)) (lt-leb score (x - o)
-        (omega arith))))
+    (omega arith))))
     (λ (right : y ≤ x). sym (and_right (leb score (x - o)) (leb score (y - o)) (lt-leb score (y - o)
-        (omega arith))))
+    (omega arith))))
     (cases_lt x y))
     (λ (high : score ≤ min x y - o).
     le-leb score (min x y - o) high
-        ∙ sym (and_from (leb score (x - o)) (leb score (y - o)) (le-leb score (x - o) (omega arith))
-        (le-leb score (y - o) (omega arith))))
+    ∙ sym (and_from (leb score (x - o)) (leb score (y - o)) (le-leb score (x - o) (omega arith))
+    (le-leb score (y - o) (omega arith))))
     (cases_lt (min x y - o) score)
 
 in_pairs : (a b c d : Bool) → ((a && b) && (c && d)) ≡ ((a && c) && (b && d))
@@ -115,7 +115,7 @@ all_both_high score o (x ∷ xs) [] long = absurd (omega arith)
 all_both_high score o (x ∷ xs) (y ∷ ys) long =
     ap₂ (λ a b. a && b) (both_high score o x y) (all_both_high score o xs ys (omega arith))
     ∙ in_pairs (leb score (x - o)) (leb score (y - o)) (list_all (leb score) (distances o xs))
-        (list_all (leb score) (distances o ys))
+    (list_all (leb score) (distances o ys))
 
 -- so of 32 bytes, only the lower of two that are 16 apart is compared
 pub all_high_by_lower : (offset score : ℕ) (qual : List ℕ) {lower scores : List ℕ} →
@@ -127,17 +127,18 @@ all_high_by_lower offset score qual room lower_is scores_is =
     let left = length-take-le 16 qual (omega arith) in
     let right = length-take-le 16 (drop 16 qual) (omega (arith, length-drop 16 qual)) in
     let behind : distances offset (take 16 (drop 16 qual)) ≡ take 16 (drop 16 q) =
-        sym (take-map (λ byte. byte - offset) 16 (drop 16 qual))
-        ∙ ap (take 16) (sym (drop-map (λ byte. byte - offset) 16 qual)) in
+    sym (take-map (λ byte. byte - offset) 16 (drop 16 qual))
+    ∙ ap (take 16) (sym (drop-map (λ byte. byte - offset) 16 qual)) in
     ap (list_all (leb score)) (scores_is ∙ ap (distances offset) lower_is)
     ∙ all_both_high score offset (take 16 qual) (take 16 (drop 16 qual)) (omega arith)
     ∙ ap₂ (λ v u. list_all (leb score) v && list_all (leb score) u)
-        (sym (take-map (λ byte. byte - offset) 16 qual)) behind
+    (sym (take-map (λ byte. byte - offset) 16 qual)) behind
     ∙ sym (ap (list_all (leb score)) (take-add 16 16 q)
-        ∙ list_all-append (leb score) (take 16 q) (take 16 (drop 16 q)))
+    ∙ list_all-append (leb score) (take 16 q) (take 16 (drop 16 q)))
 
 -- The first sum that is too small.
-module _ (sums : List ℕ) (least r : ℕ) (counted : r ≡ prefix_len (λ x. not (ltb x least)) sums) where
+module _ (sums : List ℕ) (least r : ℕ)
+    (counted : r ≡ prefix_len (λ x. not (ltb x least)) sums) where
   room : 0 + length sums ≤ length sums
   room = omega arith
 
@@ -164,7 +165,7 @@ each_bit : (b : Bool) (m full : ℕ) → 0 < full →
 each_bit true m full some = ⊎_elim
     (λ is. eq-eqb (1 + 2 * m) (2 * full - 1) (omega arith) ∙ sym (eq-eqb m (full - 1) is))
     (λ other. ne_eqb (1 + 2 * m) (2 * full - 1) (λ e. other (omega arith))
-        ∙ sym (ne_eqb m (full - 1) other))
+    ∙ sym (ne_eqb m (full - 1) other))
     (cases_eq m (full - 1))
 each_bit false m full some = ne_eqb (0 + 2 * m) (2 * full - 1) (λ e. omega arith)
 
@@ -198,12 +199,12 @@ pub lane_more : (offset i k : ℕ) (qual sums scores : List ℕ) → length sums
     scores ≡ map (λ byte. byte - offset) (take 32 (drop i qual)) →
     get_or sums k 0 ≡ min 255 (sum (take i (drop k (distances offset qual)))) →
     get_or (zip2 (λ x y. min 255 (x + y)) sums scores) k 0
-        ≡ min 255 (sum (take (i + 1) (drop k (distances offset qual))))
+    ≡ min 255 (sum (take (i + 1) (drop k (distances offset qual))))
 lane_more offset i k qual sums scores long room lt is so_far =
     let q = distances offset qual in
     let part = take 32 (drop i qual) in
     let here : length part ≡ 32 = length-take-le 32 (drop i qual)
-        (omega (arith, length-drop i qual)) in
+    (omega (arith, length-drop i qual)) in
     let size : length scores ≡ 32 = ap length is ∙ length-map part (λ byte. byte - offset) ∙ here in
     let all : length q ≡ length qual = length-map qual (λ byte. byte - offset) in
     let place : i + k ≡ k + i = omega arith in
@@ -215,7 +216,7 @@ lane_more offset i k qual sums scores long room lt is so_far =
     ∙ sym (get_or-map (λ byte. byte - offset) qual (k + i) 0 0 (omega arith)) in
     let next = one_more q i k (omega arith) in
     let both = get_or-zip2 (λ x y. min 255 (x + y)) sums scores k 0 0 0 (omega arith)
-        (omega arith) in
+    (omega arith) in
     omega arith
 
 -- a window of the scores from `start` on
@@ -227,10 +228,10 @@ window_behind : (offset start k w : ℕ) (qual : List ℕ) →
     ≡ sum (take w (drop (start + k) (distances offset qual)))
 window_behind offset start k w qual =
     ap (λ xs. sum (take w (drop k (distances offset xs))))
-        (take_all (length qual - start) (drop start qual) (omega (arith, length-drop start qual)))
+    (take_all (length qual - start) (drop start qual) (omega (arith, length-drop start qual)))
     ∙ ap (λ xs. sum (take w (drop k xs))) (sym (drop-map (λ byte. byte - offset) start qual))
     ∙ ap (λ xs. sum (take w xs)) (drop-drop k start (distances offset qual)
-        ∙ ap (λ n. drop n (distances offset qual)) (omega arith))
+    ∙ ap (λ n. drop n (distances offset qual)) (omega arith))
 
 -- windows of scores that are all high, after others that are good
 pub good_over_high : (offset w score least start : ℕ) (qual : List ℕ) → least ≡ w * score →
@@ -243,24 +244,24 @@ good_over_high offset w score least start qual least_is fits high before s le = 
     (λ here.
     let part = behind qual start in
     let len : length part ≡ length qual - start =
-        length-take-le (length qual - start) (drop start qual)
-        (omega (arith, length-drop start qual)) in
+    length-take-le (length qual - start) (drop start qual)
+    (omega (arith, length-drop start qual)) in
     let all = length-map part (λ byte. byte - offset) in
     let good = high_window w score 32 (s - start) (distances offset part) (omega arith) high
-        (omega arith) in
+    (omega arith) in
     let is = window_behind offset start (s - start) w qual in
     let same : sum (take w (drop (start + (s - start)) (distances offset qual)))
-        ≡ sum (take w (drop s (distances offset qual))) =
-        ap (λ n. sum (take w (drop n (distances offset qual)))) (omega arith) in
+    ≡ sum (take w (drop s (distances offset qual))) =
+    ap (λ n. sum (take w (drop n (distances offset qual)))) (omega arith) in
     omega arith)
     (cases_lt s start)
 
 -- Windows from `start` on, the first `good` of which are good, after others that are.
 module _ (offset w least start good : ℕ) (qual sums : List ℕ) (small : least < 256)
     (each : (k : ℕ) → k < 32 →
-        get_or sums k 0 ≡ min 255 (sum (take w (drop k (distances offset (behind qual start))))))
+    get_or sums k 0 ≡ min 255 (sum (take w (drop k (distances offset (behind qual start))))))
     (few : good ≤ 32) (before : (s : ℕ) → s < start →
-        least ≤ sum (take w (drop s (distances offset qual))))
+    least ≤ sum (take w (drop s (distances offset qual))))
     (high : (k : ℕ) → k < good → least ≤ get_or sums k 0) where
   pub good_up_to : (s : ℕ) → s < start + good →
       least ≤ sum (take w (drop s (distances offset qual)))
@@ -272,8 +273,8 @@ module _ (offset w least start good : ℕ) (qual sums : List ℕ) (small : least
       let enough = high k (omega arith) in
       let is = window_behind offset start k w qual in
       let same : sum (take w (drop (start + k) (distances offset qual)))
-          ≡ sum (take w (drop s (distances offset qual))) =
-          ap (λ n. sum (take w (drop n (distances offset qual)))) (omega arith) in
+      ≡ sum (take w (drop s (distances offset qual))) =
+      ap (λ n. sum (take w (drop n (distances offset qual)))) (omega arith) in
       omega arith)
       (cases_lt s start)
 
@@ -293,8 +294,8 @@ module _ (offset w least start good : ℕ) (qual sums : List ℕ) (small : least
         good = λ s le. good_up_to s (omega arith);
         bad = λ within.
             let is : sum (take w (drop (start + good + w - 1 + 1 - w) (distances offset qual)))
-                ≡ sum (take w (drop (start + good) (distances offset qual))) =
-                ap (λ n. sum (take w (drop n (distances offset qual)))) (omega arith) in
+            ≡ sum (take w (drop (start + good) (distances offset qual))) =
+            ap (λ n. sum (take w (drop n (distances offset qual)))) (omega arith) in
             let low_there = bad_there lt low in
             omega arith;
       }

@@ -18,7 +18,7 @@ pub pieces_none : (word : List ℕ) → position_or_len (λ b. eqb b 58) word �
 pieces_none word none =
     slice_split_none (λ b. eqb b 58) word
     (All-from_get_or (λ b. eqb b 58 ≡ Bool.false) word 0
-        (λ i lt. fails_before_first (λ b. eqb b 58) word i 0 (omega arith)))
+    (λ i lt. fails_before_first (λ b. eqb b 58) word i 0 (omega arith)))
 
 -- an argument has a piece
 pieces_some : (word : List ℕ) → 0 < length (pieces word)

@@ -133,5 +133,5 @@ all_kinds : steps_of (codes "LEADING:3" ∷ codes "TRAILING:03" ∷ codes "CROP:
     "HEADCROP:0" ∷ codes "SLIDINGWINDOW:4:15" ∷ codes "AVGQUAL:20" ∷ codes
     "MINLEN:000000036" ∷ codes "TOPHRED33" ∷ [])
     ≡ Ok (Leading 3 ∷ Trailing 3 ∷ Crop 999999999 ∷ HeadCrop 0 ∷ SlidingWindow 4 15 ∷ AverageQuality
-        20 ∷ MinLen 36 ∷ ToPhred33 ∷ [])
+    20 ∷ MinLen 36 ∷ ToPhred33 ∷ [])
 all_kinds = refl

@@ -43,22 +43,34 @@ module _ (tallied : Bool) (steps : List Step) where
 
 module _ {T : Type 0} where
   pub with_none : (l : History T) → l ≡ with_items l [] l.marked
-  with_none l = ap (λ xs. let k : History T = record { name = l.name; items = xs; marked =
-      l.marked } in k) (sym (append-nil l.items))
+  with_none l = ap (λ xs. let k : History T = record {
+    name = l.name;
+    items = xs;
+    marked =
+        l.marked;
+  } in k) (sym (append-nil l.items))
 
   -- one item after some
   pub with_more : (l k n : History T) (xs : List T) (x : T) (m : Bool) → k ≡ with_items l xs m →
       n ≡ with_item k x → n ≡ with_items l (xs ++ x ∷ []) m
   with_more l k n xs x m e f =
-      f ∙ ap (λ j. with_item j x) e ∙ ap (λ ys. let j : History T = record { name = l.name; items =
-          ys; marked = m } in j) (append_assoc l.items xs (x ∷ []))
+      f ∙ ap (λ j. with_item j x) e ∙ ap (λ ys. let j : History T = record {
+        name = l.name;
+        items =
+            ys;
+        marked = m;
+      } in j) (append_assoc l.items xs (x ∷ []))
 
   -- some items after some, and the mark
   pub with_both : (l k n : History T) (xs ys : List T) (m : Bool) → k ≡ with_items l xs m →
       n ≡ with_items k ys true → n ≡ with_items l (xs ++ ys) true
   with_both l k n xs ys m e f =
-      f ∙ ap (λ j. with_items j ys true) e ∙ ap (λ zs. let j : History T = record { name =
-          l.name; items = zs; marked = true } in j) (append_assoc l.items xs ys)
+      f ∙ ap (λ j. with_items j ys true) e ∙ ap (λ zs. let j : History T = record {
+        name =
+            l.name;
+        items = zs;
+        marked = true;
+      } in j) (append_assoc l.items xs ys)
 
 -- what was taken and answered in all: up to a mark, or drained up to it after a Stop
 module _ (tallied : Bool) (steps : List Step) where
@@ -74,10 +86,16 @@ module _ (tallied : Bool) (steps : List Step) where
       (tx tx1 tx2 : History Reply) → b ≡ is_some cause →
       HasAnswered tallied steps cause rx rx1 tx tx1
       → (b ≡ true → HasDrained rx1 rx2 × (tx2 ≡ tx1)) → (b ≡ false → (rx2 ≡ rx1) × (tx2 ≡ tx1)) →
-          HasWorked cause rx rx2 tx tx2
+      HasWorked cause rx rx2 tx tx2
   worked None b rx rx1 rx2 tx tx1 tx2 is h more same =
-      record { took = h.took; replies = h.replies; received = (same is).0 ∙ h.received; sent =
-          (same is).1 ∙ h.sent; answers = h.answers }
+      record {
+        took = h.took;
+        replies = h.replies;
+        received = (same is).0 ∙ h.received;
+        sent =
+            (same is).1 ∙ h.sent;
+        answers = h.answers;
+      }
   worked (Some c) b rx rx1 rx2 tx tx1 tx2 is h more same =
       let d = more is in record {
         took = h.took ++ d.0.took;

@@ -65,12 +65,12 @@ pub written_gathers : (w : ℕ) (p : Phase) (before now : OutletStates) (ds : Li
 written_gathers w Writing before now ds k pos over none h = absurd (over refl)
 written_gathers w AtMark before now ds k pos over none h =
     let e : before_stop (gather (lists_of k.replies.items)) ≡ ds =
-        ap before_stop (at_mark_gather w (map done ds) k.replies.items pos h.0) ∙ before_none ds in
+    ap before_stop (at_mark_gather w (map done ds) k.replies.items pos h.0) ∙ before_none ds in
     subst (λ es. TookAll before now es) (sym e) h.1
 written_gathers w Stopped before now ds k pos over none h =
     let p = begun_gather w (map done ds ++ Stop h.why ∷ []) k.replies.items pos h.begun in
     let e : before_stop (gather (lists_of k.replies.items)) ≡ ds = ap before_stop (sym p.1)
-        ∙ before_one ds h.why p.0 in
+    ∙ before_one ds h.why p.0 in
     subst (λ es. TookAll before now es) (sym e) h.took
 written_gathers w (WriteFailed failed) before now ds k pos over none h = absurd cc
 
@@ -109,25 +109,25 @@ begun_now w xs ls h = record {
 at_turn : (tallied : Bool) (w : ℕ) (before now : OutletStates) (k : Collector)
     (h : Collects tallied w before now k) → k.phase ≡ Writing →
     (k.turn ≡ length (map done h.written) % w) × IsDealt w (map done h.written) k.replies.items
-        × TookAll before now h.written
+    × TookAll before now h.written
 at_turn tallied w before now k h at_k =
     let p : Writes Writing w before now h.written k =
-        subst (λ p. Writes p w before now h.written k) at_k h.writes in
+    subst (λ p. Writes p w before now h.written k) at_k h.writes in
     (p.0 ∙ ap (λ n. n % w) (sym (length-map h.written done)), p.1, p.2)
 
 module _ (tallied : Bool) (w : ℕ) (before old now : OutletStates) (k l : Collector) where
   pub collects_written : (d : Done) → Collects tallied w before old k → k.phase ≡ Writing →
       l.phase ≡ Writing → TakesAt (Item (done d)) k.replies.items l.replies.items k.turn →
       OutletsTook old now (λ out. text_of out d.texts) None → l.total ≡ total_plus k.total d →
-          l.turn ≡ suc k.turn % w → Collects tallied w before now l
+      l.turn ≡ suc k.turn % w → Collects tallied w before now l
   collects_written d h at_k at_l t took total turn =
       let ds = h.written in
       let k_writes = at_turn tallied w before old k h at_k in
       let pos : 0 < w = omega (arith, h.turn) in
       let more : map done (ds ++ d ∷ []) ≡ map done ds ++ done d ∷ [] =
-          map-append done ds (d ∷ []) in
+      map-append done ds (d ∷ []) in
       let longer : length (map done ds ++ done d ∷ []) ≡ length (ds ++ d ∷ []) =
-          ap length (sym more) ∙ length-map (ds ++ d ∷ []) done in
+      ap length (sym more) ∙ length-map (ds ++ d ∷ []) done in
       record {
         lanes = takes_length (Item (done d)) _ _ _ t ∙ h.lanes;
         turn = subst (λ n. n < w) (sym turn) (mod_below (suc k.turn) w pos);
@@ -141,7 +141,7 @@ module _ (tallied : Bool) (w : ℕ) (before old now : OutletStates) (k l : Colle
               t h.turn k_writes.0),
           all_took_same before now _ _ None (λ out. sym (written_more out ds d))
               (all_took_then before old now (λ out. written_text out ds)
-                  (λ out. text_of out d.texts) None k_writes.2 took),
+              (λ out. text_of out d.texts) None k_writes.2 took),
         );
       }
 
@@ -149,14 +149,14 @@ module _ (tallied : Bool) (w : ℕ) (before old now : OutletStates) (k l : Colle
       k.phase ≡ Writing → l.phase ≡ WriteFailed failed →
       TakesAt (Item (done d)) k.replies.items l.replies.items k.turn →
       BreaksAt old now d.texts failed → l.total ≡ k.total → l.turn ≡ k.turn →
-          Collects tallied w before now l
+      Collects tallied w before now l
   collects_broken d failed h at_k at_l t breaks total turn =
       let ds = h.written in
       let k_writes = at_turn tallied w before old k h at_k in
       let more : map done (ds ++ d ∷ []) ≡ map done ds ++ done d ∷ [] =
-          map-append done ds (d ∷ []) in
+      map-append done ds (d ∷ []) in
       let dealt = dealt_item w (map done ds) (done d) k.replies.items l.replies.items k.turn
-          k_writes.1 t h.turn k_writes.0 in
+      k_writes.1 t h.turn k_writes.0 in
       let broken : HasBroken failed w before now ds l = record {
         next = d;
         sent = breaks.sent;
@@ -187,16 +187,18 @@ module _ (tallied : Bool) (w : ℕ) (before now : OutletStates) (k l : Collector
         turn = subst (λ n. n < w) (sym turn) h.turn;
         written = ds;
         total = total ∙ h.total;
-        writes = subst (λ p. Writes p w before now ds l) (sym at_l)
-            (at_mark_closed w (map done ds) k.replies.items l.replies.items k.turn k_writes.1 t
-                h.turn k_writes.0, k_writes.2);
+        writes = subst (λ p. Writes p w before now ds l) (sym at_l) (
+          at_mark_closed w (map done ds) k.replies.items l.replies.items k.turn k_writes.1 t
+              h.turn k_writes.0,
+          k_writes.2,
+        );
       }
 
   -- the reply in turn is a stop
   pub collects_stopped : (why : Cause) → Collects tallied w before now k → k.phase ≡ Writing →
       l.phase ≡ Stopped → TakesAt (Item (Stop why)) k.replies.items l.replies.items k.turn →
       l.halt ≡ with_stop why k.halt → l.total ≡ k.total → l.turn ≡ k.turn →
-          Collects tallied w before now l
+      Collects tallied w before now l
   collects_stopped why h at_k at_l t halt total turn =
       let ds = h.written in
       let k_writes = at_turn tallied w before now k h at_k in
@@ -226,7 +228,7 @@ still_writes tallied w before now k sound h at_k =
 passes : (w : ℕ) (p : Phase) (r : Taken Reply) (before now : OutletStates) (ds : List Done)
     (k l : Collector) (j : ℕ) → (p ≡ Writing → ⊥) → j < w → Writes p w before now ds k →
     TakesAt r k.replies.items l.replies.items j → l.halt ≡ heard_at r k.halt →
-        Writes p w before now ds l
+    Writes p w before now ds l
 passes w Writing r before now ds k l j over lt h t halt = absurd (over refl)
 passes w AtMark r before now ds k l j over lt h t halt =
     (at_mark_takes w r (map done ds) k.replies.items l.replies.items j h.0 t lt, h.1)
@@ -248,7 +250,7 @@ collects_takes : (tallied : Bool) (w : ℕ) (r : Taken Reply) (before now : Outl
     (k l : Collector) (j : ℕ) → Collects tallied w before now k → (k.phase ≡ Writing → ⊥) →
     l.phase ≡ k.phase → j < length k.replies.items →
     TakesAt r k.replies.items l.replies.items j → l.halt ≡ heard_at r k.halt → l.total ≡ k.total →
-        l.turn ≡ k.turn → Collects tallied w before now l
+    l.turn ≡ k.turn → Collects tallied w before now l
 collects_takes tallied w r before now k l j h over at_l lt t halt total turn = record {
   lanes = takes_length r _ _ _ t ∙ h.lanes;
   turn = subst (λ n. n < w) (sym turn) h.turn;

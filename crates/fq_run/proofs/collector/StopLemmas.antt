@@ -31,14 +31,14 @@ come_more : (why : Cause) (ls : List (History Reply)) (j : ℕ) (l : History Rep
 come_more why [] j l x lt e = absurd (omega arith)
 come_more why (k ∷ ls) zero l x lt e =
     let grown : list_any (is_stop why) l.items
-        ≡ (list_any (is_stop why) k.items || (is_stop why x || false)) =
-        ap (list_any (is_stop why)) e ∙ list_any-append (is_stop why) k.items (x ∷ []) in
+    ≡ (list_any (is_stop why) k.items || (is_stop why x || false)) =
+    ap (list_any (is_stop why)) e ∙ list_any-append (is_stop why) k.items (x ∷ []) in
     ap (λ b. b || has_come why ls) (grown ∙ ap (λ b. list_any (is_stop why) k.items || b)
-        (or-false (is_stop why x))) ∙ or_last (list_any (is_stop why) k.items) (is_stop why x)
-        (has_come why ls)
+    (or-false (is_stop why x))) ∙ or_last (list_any (is_stop why) k.items) (is_stop why x)
+    (has_come why ls)
 come_more why (k ∷ ls) (suc j) l x lt e =
     ap (λ b. list_any (is_stop why) k.items || b) (come_more why ls j l x (omega arith) e)
-        ∙ sym (or_assoc (list_any (is_stop why) k.items) (has_come why ls) (is_stop why x))
+    ∙ sym (or_assoc (list_any (is_stop why) k.items) (has_come why ls) (is_stop why x))
 
 -- nothing more in one lane
 come_same : (why : Cause) (ls : List (History Reply)) (j : ℕ) (l : History Reply) →
@@ -65,23 +65,23 @@ pub stops_taken : (r : Taken Reply) (old new : List (History Reply)) (j : ℕ) �
     TakesAt r old new j → stops_of new ≡ heard_at r (stops_of old)
 stops_taken (Item (Stop Gate)) old new j lt t =
     let more = come_taken _ old new j lt t in
-        same_halt _ _ _ _ (more Gate ∙ or-true (has_come Gate old)) (more Memory
-        ∙ or-false (has_come Memory old))
+    same_halt _ _ _ _ (more Gate ∙ or-true (has_come Gate old)) (more Memory
+    ∙ or-false (has_come Memory old))
 stops_taken (Item (Stop Memory)) old new j lt t =
     let more = come_taken _ old new j lt t in
-        same_halt _ _ _ _ (more Gate ∙ or-false (has_come Gate old)) (more Memory
-        ∙ or-true (has_come Memory old))
+    same_halt _ _ _ _ (more Gate ∙ or-false (has_come Gate old)) (more Memory
+    ∙ or-true (has_come Memory old))
 stops_taken (Item (done d)) old new j lt t =
     let more = come_taken _ old new j lt t in
-        same_halt _ _ _ _ (more Gate ∙ or-false (has_come Gate old)) (more Memory
-        ∙ or-false (has_come Memory old))
+    same_halt _ _ _ _ (more Gate ∙ or-false (has_come Gate old)) (more Memory
+    ∙ or-false (has_come Memory old))
 stops_taken Empty old new j lt t =
     let same = λ (why : Cause). ap (has_come why) t.becomes
-        ∙ come_same why old j t.history (ap (λ (l : History Reply). l.items) t.takes.1) in
+    ∙ come_same why old j t.history (ap (λ (l : History Reply). l.items) t.takes.1) in
     same_halt _ _ _ _ (same Gate) (same Memory)
 stops_taken Closed old new j lt t =
     let same = λ (why : Cause). ap (has_come why) t.becomes
-        ∙ come_same why old j t.history (ap (λ (l : History Reply). l.items) t.takes) in
+    ∙ come_same why old j t.history (ap (λ (l : History Reply). l.items) t.takes) in
     same_halt _ _ _ _ (same Gate) (same Memory)
 
 -- nothing came yet
@@ -91,10 +91,10 @@ none_come : (why : Cause) (ls : List (History Reply)) →
 none_come why [] h = refl
 none_come why (l ∷ ls) h =
     ap (λ is. list_any (is_stop why) is || has_come why ls) (h 0 l (omega arith))
-        ∙ none_come why ls (λ j d lt. h (suc j) d (omega arith))
+    ∙ none_come why ls (λ j d lt. h (suc j) d (omega arith))
 
 pub no_stops : (ls : List (History Reply)) → IsDealt (length ls) [] ls →
     stops_of ls ≡ record { gate = false; memory = false }
 no_stops ls h =
     same_halt _ _ _ _ (none_come Gate ls (λ j d lt. h.items j d lt))
-        (none_come Memory ls (λ j d lt. h.items j d lt))
+    (none_come Memory ls (λ j d lt. h.items j d lt))

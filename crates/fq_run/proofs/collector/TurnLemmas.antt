@@ -56,9 +56,9 @@ module _ {T : Type 0} where
               (sym (get-left ls (l ∷ []) j (omega (arith, few)))) (h.begins (suc j) (omega arith))
           | inr past ↦ (let here : j ≡ n = omega arith in
               let P : ℕ → Type 0 = λ k. IsPrefix (every k (suc n) xs)
-                  (get_or (ls ++ l ∷ []) k []) in
+              (get_or (ls ++ l ∷ []) k []) in
               subst P (sym here) (subst (λ k. IsPrefix (every n (suc n) xs) k) (sym
-                  (at_last n l ls few)) (first_rest n x xs l ls h)))
+              (at_last n l ls few)) (first_rest n x xs l ls h)))
         ];
       }
 
@@ -74,11 +74,11 @@ module _ {T : Type 0} where
               | inl more ↦ (let P : ℕ → Type 0 =
                   λ k. get_or ((x ∷ l) ∷ ls) k [] ≡ every k (suc n) (x ∷ xs) in
                   get-left ls (l ∷ []) (m % suc n) (omega (arith, few))
-                      ∙ subst P (next_within m (suc n) more) h.ends)
+                  ∙ subst P (next_within m (suc n) more) h.ends)
               | inr past ↦ (let here : m % suc n ≡ n = omega arith in
                   let P : ℕ → Type 0 = λ k. get_or ((x ∷ l) ∷ ls) k [] ≡ every k (suc n) (x ∷ xs) in
                   let e : x ∷ l ≡ x ∷ every (suc n - 1) (suc n) xs =
-                      subst P (next_wraps m (suc n) (omega arith) (omega arith)) h.ends in
+                  subst P (next_wraps m (suc n) (omega arith) (omega arith)) h.ends in
                   let t : l ≡ every (suc n - 1) (suc n) xs = cc in
                   let Q : ℕ → Type 0 = λ k. get_or (ls ++ l ∷ []) k [] ≡ every k (suc n) xs in
                   subst Q (sym here) (at_last n l ls few ∙ t ∙ ap (λ k. every k (suc n) xs) w1))
@@ -108,10 +108,10 @@ module _ {T : Type 0} where
   gathers n (suc m) (x ∷ xs) ((y ∷ l) ∷ ls) le h =
       let same = same_first n x y xs l ls h.lists in
       let h' : Turns (suc n) (x ∷ xs) ((x ∷ l) ∷ ls) =
-          subst (λ z. Turns (suc n) (x ∷ xs) ((z ∷ l) ∷ ls)) same h in
+      subst (λ z. Turns (suc n) (x ∷ xs) ((z ∷ l) ∷ ls)) same h in
       ap (λ z. z ∷ gather_turns m (ls ++ l ∷ [])) same
-          ∙ ap (λ zs. x ∷ zs) (gathers n m xs (ls ++ l ∷ []) (omega arith) (turned_end n x xs l ls
-          h'))
+      ∙ ap (λ zs. x ∷ zs) (gathers n m xs (ls ++ l ∷ []) (omega arith) (turned_end n x xs l ls
+      h'))
 
   -- if lists begin with what was dealt to them, the gathered list begins with all that was dealt
   gathers_first : (n m : ℕ) (xs : List T) (ls : List (List T)) → length xs ≤ m →
@@ -123,7 +123,7 @@ module _ {T : Type 0} where
   gathers_first n (suc m) (x ∷ xs) ((y ∷ l) ∷ ls) le h =
       let same = same_first n x y xs l ls h in
       let h' : Begins (suc n) (x ∷ xs) ((x ∷ l) ∷ ls) =
-          subst (λ z. Begins (suc n) (x ∷ xs) ((z ∷ l) ∷ ls)) same h in
+      subst (λ z. Begins (suc n) (x ∷ xs) ((z ∷ l) ∷ ls)) same h in
       let ih = gathers_first n m xs (ls ++ l ∷ []) (omega arith) (turned n x xs l ls h') in
       (ih.0, ap (λ z. z ∷ (xs ++ ih.0)) (sym same) ∙ ap (λ zs. y ∷ zs) ih.1)
 
@@ -139,7 +139,7 @@ module _ {T : Type 0} where
   enough n (x ∷ xs) ([] ∷ ls) h = let p = (h.begins 0 (omega arith)).1 in cc
   enough n (x ∷ xs) ((y ∷ l) ∷ ls) h =
       let h' : Begins (suc n) (x ∷ xs) ((x ∷ l) ∷ ls) =
-          subst (λ z. Begins (suc n) (x ∷ xs) ((z ∷ l) ∷ ls)) (same_first n x y xs l ls h) h in
+      subst (λ z. Begins (suc n) (x ∷ xs) ((z ∷ l) ∷ ls)) (same_first n x y xs l ls h) h in
       let ih = enough n xs (ls ++ l ∷ []) (turned n x xs l ls h') in
       let t = total-snoc ls l in
       omega arith
@@ -180,6 +180,6 @@ module _ {T : Type 0} where
   at_mark_gather (suc n) xs ls pos h =
       let t = begun_lists (suc n) xs ls (record { lanes = h.lanes; begins = h.begins }) in
       let ends = get-items ls (length xs % suc n) fresh_history
-          (omega (arith, h.lanes, mod_below (length xs) (suc n) pos)) ∙ h.ends fresh_history in
+      (omega (arith, h.lanes, mod_below (length xs) (suc n) pos)) ∙ h.ends fresh_history in
       gathers n (total_length (lists_of ls)) xs (lists_of ls) (enough n xs (lists_of ls) t)
-          (record { lists = t; ends = ends })
+      (record { lists = t; ends = ends })

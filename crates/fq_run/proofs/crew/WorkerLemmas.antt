@@ -42,9 +42,11 @@ laid_dealt : (ts : List (History Numbered)) (es : List WorkEnds) (fs : List (His
 laid_dealt [] [] [] h = (dealt_none, dealt_none)
 laid_dealt (t ∷ ts) (e ∷ es) (f ∷ fs) h =
     let l = h.0 in
-    let rest = laid_dealt ts es fs h.1 in
-    (dealt_more (length ts) t ts (ap (λ (x : History Numbered). x.items) l.to_is) rest.0, dealt_more
-        (length ts) f fs (ap (λ (x : History Reply). x.items) l.replies_are) rest.1)
+    let rest = laid_dealt ts es fs h.1 in (
+      dealt_more (length ts) t ts (ap (λ (x : History Numbered). x.items) l.to_is) rest.0,
+      dealt_more
+          (length ts) f fs (ap (λ (x : History Reply). x.items) l.replies_are) rest.1,
+    )
 laid_dealt [] [] (f ∷ fs) h = absurd h
 laid_dealt [] (e ∷ es) fs h = absurd h
 laid_dealt (t ∷ ts) [] fs h = absurd h
@@ -81,7 +83,7 @@ module _ (tallied : Bool) (steps : List Step) where
       let tx : h.promise.tx.value ≡ fresh f.name = s.tx ∙ l.tx in
       let took = j.took in
       let came : took ≡ w.rx.items = sym (ap (λ x. x.items) j.received
-          ∙ ap (λ (x : History Numbered). x.items ++ took) rx) in
+      ∙ ap (λ (x : History Numbered). x.items ++ took) rx) in
       record {
         name = ap (λ x. x.name) j.received ∙ ap (λ (x : History Numbered). x.name) rx;
         closed = ap (λ x. x.marked) j.received;
@@ -89,11 +91,11 @@ module _ (tallied : Bool) (steps : List Step) where
             (λ x. (x.name ≡ f.name) × Answers tallied steps w.rx.items x.items w.cause)
             (λ x q.
             (let sent : x.items ≡ j.replies = ap (λ y. y.items) q
-                ∙ ap (λ (y : History Reply). y.items ++ j.replies) tx in
+            ∙ ap (λ (y : History Reply). y.items ++ j.replies) tx in
             let P : List Step → Type 0 = λ s. Answers h.promise.tallied s took j.replies w.cause in
             let Q : Bool → Type 0 = λ b. Answers b steps took j.replies w.cause in
             let a : Answers tallied steps took j.replies w.cause =
-                subst Q s.tallied_is (subst P s.steps_are j.answers) in (
+            subst Q s.tallied_is (subst P s.steps_are j.answers) in (
               ap (λ y. y.name) q ∙ ap (λ (y : History Reply). y.name) tx,
               subst (λ bs. Answers tallied steps bs x.items w.cause) came
                   (subst (λ rs. Answers tallied steps took rs w.cause) (sym sent) a),
@@ -103,7 +105,7 @@ module _ (tallied : Bool) (steps : List Step) where
   pub all_answered : (ts : List (History Numbered)) (es : List WorkEnds) (fs : List (History Reply))
       (hs : List (PromisedHandle Worked Job)) (ws : List Worked) →
       Each3 Laid ts es fs → AllZip (Seated tallied steps) es hs → AllZip Joined hs ws →
-          Each3 Answered (names_of ts) (names_of fs) ws
+      Each3 Answered (names_of ts) (names_of fs) ws
   all_answered [] [] [] [] [] l s j = tt
   all_answered (t ∷ ts) (e ∷ es) (f ∷ fs) (h ∷ hs) (w ∷ ws) l s j =
       (answered t e f h w l.0 s.0 j.0, all_answered ts es fs hs ws l.1 s.1 j.1)
@@ -139,9 +141,11 @@ module _ (tallied : Bool) (steps : List Step) where
       (ws : List Worked) (fs : List (History Reply)) → AllZip Closed ts cs →
       Each3 Answered (names_of ts) (names_of fs) ws → AllClosed fs → Each3 CanConfirm cs ws fs
   can_confirm [] [] [] [] h a m = tt
-  can_confirm (t ∷ ts) (c ∷ cs) (w ∷ ws) (f ∷ fs) h a m =
-      (can_confirm_one t c w f h.0 a.0 (closed_first f fs m), can_confirm ts cs ws fs h.1 a.1
-      (closed_rest f fs m))
+  can_confirm (t ∷ ts) (c ∷ cs) (w ∷ ws) (f ∷ fs) h a m = (
+    can_confirm_one t c w f h.0 a.0 (closed_first f fs m),
+    can_confirm ts cs ws fs h.1 a.1
+        (closed_rest f fs m),
+  )
   can_confirm [] (c ∷ cs) ws fs h a m = absurd h
   can_confirm (t ∷ ts) [] ws fs h a m = absurd h
   can_confirm [] [] (w ∷ ws) [] h a m = absurd a
@@ -156,7 +160,7 @@ module _ (tallied : Bool) (steps : List Step) where
       Answers tallied steps e.items f.items cause
   matched_by n m e r x f cause rx same a =
       subst (λ (l : History Numbered). Answers tallied steps l.items f.items cause) rx
-          (subst (λ (l : History Reply). Answers tallied steps r.items l.items cause) (sym same) a)
+      (subst (λ (l : History Reply). Answers tallied steps r.items l.items cause) (sym same) a)
 
   matched_one : (n m : Name) (c : Result (History Numbered) NotEnded) (w : Worked)
       (f : History Reply) (replied : Result (History Reply) NotEnded) →
@@ -171,9 +175,11 @@ module _ (tallied : Bool) (steps : List Step) where
       (ws : List Worked) (fs : List (History Reply)) → Each3 Answered ns ms ws →
       Each3 Confirmed cs ws fs → AllZip (Matched tallied steps) cs fs
   matched [] [] [] [] [] a k = tt
-  matched (n ∷ ns) (m ∷ ms) (c ∷ cs) (w ∷ ws) (f ∷ fs) a k =
-      (let first = a.0 in matched_one n m c w f w.closing first.answers k.0.0 k.0.1, matched ns ms
-      cs ws fs a.1 k.1)
+  matched (n ∷ ns) (m ∷ ms) (c ∷ cs) (w ∷ ws) (f ∷ fs) a k = (
+    let first = a.0 in matched_one n m c w f w.closing first.answers k.0.0 k.0.1,
+    matched ns ms
+        cs ws fs a.1 k.1,
+  )
   matched [] [] [] [] (f ∷ fs) a k = absurd k
   matched [] [] (c ∷ cs) [] fs a k = absurd k
   matched [] [] cs (w ∷ ws) fs a k = absurd a

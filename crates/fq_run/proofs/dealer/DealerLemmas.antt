@@ -110,16 +110,18 @@ module _ (c : Choices) (old : SourceState) (to : List (History Numbered)) where
   }
 
   -- One more block.
-  module _ (now next : SourceState) (lanes : List (History Numbered)) (turn number : ℕ) (lane other after : History Numbered) (empty block : Numbered) (why : Option ReadingEnd) (d : DealsFull now lanes turn number)
+  module _ (now next : SourceState) (lanes : List (History Numbered)) (turn number : ℕ)
+      (lane other after : History Numbered) (empty block : Numbered) (why : Option ReadingEnd)
+      (d : DealsFull now lanes turn number)
       (f : Fills now next c.block_pairs empty block why) (numbered_as : empty.number ≡ number)
-          (encoded_as : empty.encoding ≡ c.encoding) (read : lane ≡ get_or lanes turn other)
-          (sends : SendsFilled block lane after) where
+      (encoded_as : empty.encoding ≡ c.encoding) (read : lane ≡ get_or lanes turn other)
+      (sends : SendsFilled block lane after) where
     mates_few : old.forward.given ≡ 0 → old.most_bytes ≤ 2 ^ 60 →
         length (d.mates ++ block.pairs) ≤ 2 ^ 60
     mates_few fresh bound =
         let mates = d.mates in let w = d.walks in let s = w.same in let records =
-            walked_records old now d.mates w in let bytes = s.most_bytes in let within = f.within in
-            omega (arith, length-append mates block.pairs)
+        walked_records old now d.mates w in let bytes = s.most_bytes in let within = f.within in
+        omega (arith, length-append mates block.pairs)
 
     joined_more : join (pairs_of (d.blocks ++ block ∷ [])) ≡ d.mates ++ block.pairs
     joined_more = ap join (pairs_then d.blocks block) ∙ join_then (pairs_of d.blocks) block.pairs
@@ -145,7 +147,7 @@ module _ (c : Choices) (old : SourceState) (to : List (History Numbered)) where
     deals_more going most turn' is below =
         let full = f.full going in
         let blocks = d.blocks in let mates = d.mates in let few = d.few in let number_is =
-            d.number_is in
+        d.number_is in
         let P : Option ReadingEnd → Type 0 = λ o. Reads now next block.pairs o in
         record {
           mates = mates ++ block.pairs;
@@ -180,7 +182,7 @@ module _ (c : Choices) (old : SourceState) (to : List (History Numbered)) where
     last_some fresh bound some =
         let blocks = d.blocks in let mates = d.mates in
         let even = even_then c.block_pairs (pairs_of blocks) block.pairs d.full (omega arith)
-            f.few in
+        f.few in
         record {
           mates = mates ++ block.pairs;
           blocks = blocks ++ block ∷ [];
@@ -200,10 +202,10 @@ module _ (c : Choices) (old : SourceState) (to : List (History Numbered)) where
         let same : mates ++ block.pairs ≡ mates = ap (λ ms. mates ++ ms) none ∙ append-nil mates in
         let P : List Mates → Type 0 = λ ms. Reads old next ms why in
         let unsent : set lanes turn after ≡ lanes = ap (set lanes turn) (sends.none none ∙ read)
-            ∙ set-get_or lanes turn other in
+        ∙ set-get_or lanes turn other in
         let Q : List Mates → Type 0 = λ ms. length ms ≤ 2 ^ 60 in
         let R : List Mates → Type 0 = λ ms. why ≡ Some reading.Memory →
-            next.given ≡ old.given + length ms + 1 in
+        next.given ≡ old.given + length ms + 1 in
         record {
           mates = mates;
           blocks = blocks;

@@ -22,8 +22,12 @@ pub record Filled (old now : SourceState) (empty block : Numbered) (n : ℕ) : T
 
 -- one more pair
 abbrev pub pushed : Numbered → Mates → Numbered
-pushed block m = record { number = block.number; encoding = block.encoding; pairs =
-    block.pairs ++ m ∷ [] }
+pushed block m = record {
+  number = block.number;
+  encoding = block.encoding;
+  pairs =
+      block.pairs ++ m ∷ [];
+}
 
 pub filled_none : (s : SourceState) (block : Numbered) → GoesOn s → block.pairs ≡ [] →
     Filled s s block block 0
@@ -38,7 +42,7 @@ filled_none s block goes clear = record {
 pub filled_more : (old now next : SourceState) (empty block then : Numbered) (n : ℕ) (m : Mates) →
     Filled old now empty block n → Walks now next (m ∷ []) →
     next.forward.given ≤ next.most_bytes → then ≡ pushed block m →
-        Filled old next empty then (n + 1)
+    Filled old next empty then (n + 1)
 filled_more old now next empty block then n m f w within is =
     let len = f.len in
     let P : Numbered → Type 0 = λ b. Filled old next empty b (n + 1) in
@@ -61,10 +65,11 @@ filled_within : (old now : SourceState) (empty block : Numbered) (n : ℕ) →
     Filled old now empty block n → old.forward.given + length block.pairs ≤ old.most_bytes
 filled_within old now empty block n f =
     let w = f.walks in let s = w.same in let g = f.goes in let given =
-        walked_records old now block.pairs w in let most = s.most_bytes in let within = g.within in
-        omega arith
+    walked_records old now block.pairs w in let most = s.most_bytes in let within = g.within in
+    omega arith
 
-module _ (old now : SourceState) (empty block : Numbered) (n most : ℕ) (f : Filled old now empty block n) where
+module _ (old now : SourceState) (empty block : Numbered) (n most : ℕ)
+    (f : Filled old now empty block n) where
   pub fills_full : n ≡ most → Fills old now most empty block None
   fills_full full = let len = f.len in record {
     number = f.number;
@@ -110,7 +115,7 @@ module _ (old now : SourceState) (empty block : Numbered) (n most : ℕ) (f : Fi
       let given = walks.given in
       let P : Numbered → Type 0 = λ b. Fills old next most empty b (Some reading.Memory) in
       subst P (sym same) (fills_stopped next reading.Memory room (m ∷ [], walks) (λ refused. omega
-          (arith, length-append block.pairs (m ∷ []))))
+      (arith, length-append block.pairs (m ∷ []))))
 
 -- equal bounds may be exchanged
 pub fills_as : (old new : SourceState) (most most' : ℕ) (empty block : Numbered)

@@ -26,19 +26,35 @@ module _ {T : Type 0} where
     pub stays : a.marked ≡ true → b ≡ a
 
   marked_again : (l : History T) → l.marked ≡ true → with_mark l ≡ l
-  marked_again l m = ap (λ b. let k : History T = record { name = l.name; items = l.items; marked =
-      b } in k) (sym m)
+  marked_again l m = ap (λ b. let k : History T = record {
+    name = l.name;
+    items = l.items;
+    marked =
+        b;
+  } in k) (sym m)
 
   follows_same : (a b : History T) → b ≡ a → Follows a b
-  follows_same a b e = subst (Follows a) (sym e) (record { name = refl; begins =
-      ([], append-nil a.items); stays = λ _. refl })
+  follows_same a b e = subst (Follows a) (sym e) (record {
+    name = refl;
+    begins =
+        ([], append-nil a.items);
+    stays = λ _. refl;
+  })
 
   follows_take : (r : Taken T) (a b : History T) → Takes r a b → Follows a b
-  follows_take (Item x) a b t = subst (Follows a) (sym t.1) (record { name = refl; begins =
-      (x ∷ [], refl); stays = λ m. cc })
+  follows_take (Item x) a b t = subst (Follows a) (sym t.1) (record {
+    name = refl;
+    begins =
+        (x ∷ [], refl);
+    stays = λ m. cc;
+  })
   follows_take Empty a b t = follows_same a b t.1
-  follows_take Closed a b t = subst (Follows a) (sym t) (record { name = refl; begins =
-      ([], append-nil a.items); stays = marked_again a })
+  follows_take Closed a b t = subst (Follows a) (sym t) (record {
+    name = refl;
+    begins =
+        ([], append-nil a.items);
+    stays = marked_again a;
+  })
 
   -- the lanes after one of them changed
   set_at : (ls : List (History T)) (j i : ℕ) (l d : History T) (P : History T → Type 0) →
@@ -72,26 +88,32 @@ module _ {T : Type 0} where
       let P : List (History T) → Type 0 = λ ls. Follows (get_or old i d) (get_or ls i d) in
       subst P (sym t.becomes) (set_at old j i t.history d (Follows (get_or old i d)) lt
       (λ e. subst (λ (k : History T). Follows k t.history) (get_or_default old j t.history d lt
-          ∙ ap (λ k. get_or old k d) (sym e))
-          (follows_take r (get_or old j t.history) t.history t.takes))
+      ∙ ap (λ k. get_or old k d) (sym e))
+      (follows_take r (get_or old j t.history) t.history t.takes))
       (λ n. follows_same _ _ refl))
 
   prefix_trans : (xs ys zs : List T) → IsPrefix xs ys → IsPrefix ys zs → IsPrefix xs zs
-  prefix_trans xs ys zs p q = (p.0 ++ q.0, sym (append_assoc xs p.0 q.0) ∙ ap (λ us. us ++ q.0) p.1
-      ∙ q.1)
+  prefix_trans xs ys zs p q = (
+    p.0 ++ q.0,
+    sym (append_assoc xs p.0 q.0) ∙ ap (λ us. us ++ q.0) p.1
+        ∙ q.1,
+  )
 
   pub at_mark_closed : (w : ℕ) (xs : List T) (old new : List (History T)) (j : ℕ) →
       IsDealt w xs old → TakesAt Closed old new j → j < w → j ≡ length xs % w → IsAtMark w xs new
   at_mark_closed w xs old new j h t lt turn =
       let within : j < length old = omega (arith, h.lanes) in
       let at_j : (d : History T) → get_or new j d ≡ t.history =
-          λ d. ap (λ ls. get_or ls j d) t.becomes ∙ get_or-set_same old j t.history d within in
+      λ d. ap (λ ls. get_or ls j d) t.becomes ∙ get_or-set_same old j t.history d within in
       let items_j : t.history.items ≡ every j w xs = ap (λ l. l.items) t.takes
-          ∙ h.items j t.history lt in
+      ∙ h.items j t.history lt in
       record {
         lanes = takes_length Closed old new j t ∙ h.lanes;
-        begins = λ i d below. prefix_trans _ _ _ ([], append-nil (every i w xs)
-            ∙ sym (h.items i d below)) (takes_follow Closed old new j t within i d).begins;
+        begins = λ i d below. prefix_trans _ _ _ (
+          [],
+          append-nil (every i w xs)
+              ∙ sym (h.items i d below),
+        ) (takes_follow Closed old new j t within i d).begins;
         ends = λ d. (let P : ℕ → Type 0 = λ k. (get_or new k d).items ≡ every k w xs in
             subst P turn (ap (λ l. l.items) (at_j d) ∙ items_j));
         closed = λ d. (let P : ℕ → Type 0 = λ k. (get_or new k d).marked ≡ true in
@@ -103,7 +125,7 @@ module _ {T : Type 0} where
   at_mark_takes w r xs old new j h t lt =
       let within : j < length old = omega (arith, h.lanes) in
       let stays : (d : History T) → get_or new (length xs % w) d ≡ get_or old (length xs % w) d =
-          λ d. (takes_follow r old new j t within (length xs % w) d).stays (h.closed d) in
+      λ d. (takes_follow r old new j t within (length xs % w) d).stays (h.closed d) in
       record {
         lanes = takes_length r old new j t ∙ h.lanes;
         begins = λ i d below. prefix_trans _ _ _ (h.begins i d below)
@@ -122,8 +144,12 @@ module _ {T : Type 0} where
   pub taken_at : (r s : Taken T) (old new : List (History T)) (j : ℕ) (k d l : History T) → r ≡ s →
       j < length old → k ≡ get_or old j d → Takes r k l → new ≡ set old j l → TakesAt s old new j
   taken_at r s old new j k d l is lt read t becomes =
-      record { history = l; takes = subst (λ m. Takes s m l) (read ∙ get_or_default old j d l lt)
-          (subst (λ q. Takes q k l) is t); becomes = becomes }
+      record {
+        history = l;
+        takes = subst (λ m. Takes s m l) (read ∙ get_or_default old j d l lt)
+            (subst (λ q. Takes q k l) is t);
+        becomes = becomes;
+      }
 
   pub dealt_offer : (w : ℕ) (xs : List T) (x : T) (old : List (History T)) (j : ℕ)
       (k d l : History T) → IsDealt w xs old → k ≡ get_or old j d → l ≡ with_item k x → j < w →
@@ -131,8 +157,8 @@ module _ {T : Type 0} where
   dealt_offer w xs x old j k d l h read sent lt turn =
       let within : j < length old = omega (arith, h.lanes) in
       let here : l.items ≡ every j w (xs ++ x ∷ []) = ap (λ m. m.items) sent
-          ∙ ap (λ m. m.items ++ x ∷ []) read ∙ ap (λ ys. ys ++ x ∷ []) (h.items j d lt)
-          ∙ sym (every_here xs x j w lt (sym turn)) in
+      ∙ ap (λ m. m.items ++ x ∷ []) read ∙ ap (λ ys. ys ++ x ∷ []) (h.items j d lt)
+      ∙ sym (every_here xs x j w lt (sym turn)) in
       record {
         lanes = length-set old j l ∙ h.lanes;
         items = λ i e below. set_at old j i l e (λ m. m.items ≡ every i w (xs ++ x ∷ [])) within
@@ -145,8 +171,8 @@ module _ {T : Type 0} where
       IsDealt w (xs ++ x ∷ []) new
   dealt_item w xs x old new j h t lt turn =
       subst (IsDealt w (xs ++ x ∷ [])) (sym t.becomes)
-          (dealt_offer w xs x old j (get_or old j t.history) t.history t.history h refl t.takes.1 lt
-          turn)
+      (dealt_offer w xs x old j (get_or old j t.history) t.history t.history h refl t.takes.1 lt
+      turn)
 
   -- what came first has been written
   pub begun_takes : (w : ℕ) (r : Taken T) (xs : List T) (old new : List (History T)) (j : ℕ) →

@@ -13,47 +13,47 @@ use Rattle.fq_app.proofs.answering.program.Goals as goal
 pub returns-in-Ok-Pairs-clause-device : goal.returns-in-Ok-Pairs-clause-device
 returns-in-Ok-Pairs-clause-device g c = λ a asked four.
     let shape : asked_pairs c.in-Ok-Pairs.field-0 ≡ Some (asking_of c.in-Ok-Pairs.request) =
-        rw c.in-Ok-Pairs.field-0-is refl in
+    rw c.in-Ok-Pairs.field-0-is refl in
     let same = asks_this _ _ _ a c.in-Ok-Pairs.ensures.ok.ask shape asked in
     let P : Asking → Type 0 = λ x. NamesDevice x (g.T.Files.tells_bytes c.args.files.now)
-        (g.T.Files.bytes_of c.args.files.now) (g.T.Files.refuses c.args.files.now)
-        (g.T.Files.is_open c.args.files.now)
+    (g.T.Files.bytes_of c.args.files.now) (g.T.Files.refuses c.args.files.now)
+    (g.T.Files.is_open c.args.files.now)
     (g.T.Files.has_failed c.trim_pairs.new.files)
-        (device_of g.O.Outlet.state c.args.out.now c.trim_pairs.new.out)
-        (device_of g.E.Outlet.state c.args.err.now c.trim_pairs.new.err) in
+    (device_of g.O.Outlet.state c.args.out.now c.trim_pairs.new.out)
+    (device_of g.E.Outlet.state c.args.err.now c.trim_pairs.new.err) in
     subst P same (c.trim_pairs.ensures.device four)
 
 pub returns-in-Ok-Pairs-clause-spared : goal.returns-in-Ok-Pairs-clause-spared
 returns-in-Ok-Pairs-clause-spared g c = λ a asked told.
     let shape : asked_pairs c.in-Ok-Pairs.field-0 ≡ Some (asking_of c.in-Ok-Pairs.request) =
-        rw c.in-Ok-Pairs.field-0-is refl in
+    rw c.in-Ok-Pairs.field-0-is refl in
     let same = asks_this _ _ _ a c.in-Ok-Pairs.ensures.ok.ask shape asked in
     let P : Asking → Type 0 = λ x. SparesInputs x (g.T.Files.is_open c.trim_pairs.new.files)
-        ((c.trim_pairs.result ≢ 0) × (c.trim_pairs.result ≢ 3))
+    ((c.trim_pairs.result ≢ 0) × (c.trim_pairs.result ≢ 3))
     (g.T.Files.bytes_of c.args.files.now) (g.T.Files.bytes_of c.trim_pairs.new.files) in
     subst P same (c.trim_pairs.ensures.spared told)
 
 pub returns-in-Ok-Pairs-clause-in_step : goal.returns-in-Ok-Pairs-clause-in_step
 returns-in-Ok-Pairs-clause-in_step g c = λ a asked.
     let shape : asked_pairs c.in-Ok-Pairs.field-0 ≡ Some (asking_of c.in-Ok-Pairs.request) =
-        rw c.in-Ok-Pairs.field-0-is refl in
+    rw c.in-Ok-Pairs.field-0-is refl in
     let same = asks_this _ _ _ a c.in-Ok-Pairs.ensures.ok.ask shape asked in
     let P : Asking → Type 0 = λ x. PairsAnswered x (g.T.Files.tells_bytes c.args.files.now)
-        (g.T.Files.bytes_of c.args.files.now) (g.T.Files.bytes_of c.trim_pairs.new.files)
+    (g.T.Files.bytes_of c.args.files.now) (g.T.Files.bytes_of c.trim_pairs.new.files)
     (device_of g.O.Outlet.state c.args.out.now c.trim_pairs.new.out)
-        (device_of g.E.Outlet.state c.args.err.now c.trim_pairs.new.err) c.trim_pairs.result in
+    (device_of g.E.Outlet.state c.args.err.now c.trim_pairs.new.err) c.trim_pairs.result in
     let answered = subst P same c.trim_pairs.ensures.pairs in
     λ ends told. whole_files a _ _ _ _ _ (answered.whole ends told)
 
 pub returns-in-Ok-Pairs-clause-left_in_step : goal.returns-in-Ok-Pairs-clause-left_in_step
 returns-in-Ok-Pairs-clause-left_in_step g c = λ a asked.
     let shape : asked_pairs c.in-Ok-Pairs.field-0 ≡ Some (asking_of c.in-Ok-Pairs.request) =
-        rw c.in-Ok-Pairs.field-0-is refl in
+    rw c.in-Ok-Pairs.field-0-is refl in
     let same = asks_this _ _ _ a c.in-Ok-Pairs.ensures.ok.ask shape asked in
     let P : Asking → Type 0 = λ x. PairsAnswered x (g.T.Files.tells_bytes c.args.files.now)
-        (g.T.Files.bytes_of c.args.files.now) (g.T.Files.bytes_of c.trim_pairs.new.files)
+    (g.T.Files.bytes_of c.args.files.now) (g.T.Files.bytes_of c.trim_pairs.new.files)
     (device_of g.O.Outlet.state c.args.out.now c.trim_pairs.new.out)
-        (device_of g.E.Outlet.state c.args.err.now c.trim_pairs.new.err) c.trim_pairs.result in
+    (device_of g.E.Outlet.state c.args.err.now c.trim_pairs.new.err) c.trim_pairs.result in
     let answered = subst P same c.trim_pairs.ensures.pairs in
     λ threads told. files_left a _ _ (answered.left threads told)
 
@@ -61,38 +61,38 @@ pub returns-in-Err-clause-pairs : goal.returns-in-Err-clause-pairs
 returns-in-Err-clause-pairs g c = λ a asked.
     let P : Kinds → Type 0 = λ kinds. HasKind kinds c.in-Err.error in
     let memory : kind_of c.in-Err.error ≡ OutOfMemory =
-        ⊎_elim (λ e. e) (λ none. absurd none) (subst P asked.parse c.in-Err.ensures.err) in
+    ⊎_elim (λ e. e) (λ none. absurd none) (subst P asked.parse c.in-Err.ensures.err) in
     let five = c.refuse_words.ensures.no_memory memory in
     lacks_answer a _ _ _ _ _ _ (c.refuse_words.ensures.memory five).1
     (λ told. inl (λ out name named. inl refl)) (λ told name named. inl (inl refl))
-        (λ told side none name. refl)
+    (λ told side none name. refl)
 
 pub returns-in-Err-clause-usage : goal.returns-in-Err-clause-usage
 returns-in-Err-clause-usage g c =
     λ refused. ⊎_elim (λ memory. inr (c.refuse_words.ensures.no_memory memory))
     (λ among. let other = among_all (λ kind. (kind ≢ DisplayHelp) × (kind ≢ DisplayVersion))
-        (kind_of c.in-Err.error) (words_fault (map (λ word. word.now) c.args.words.now)) among
-        refused.no_help in
+    (kind_of c.in-Err.error) (words_fault (map (λ word. word.now) c.args.words.now)) among
+    refused.no_help in
     c.refuse_words.ensures.usage other.0 other.1) c.in-Err.ensures.err
 
 pub returns-in-Err-clause-called : goal.returns-in-Err-clause-called
 returns-in-Err-clause-called g c = λ calls. ⊎_elim (λ memory one. let five =
     c.refuse_words.ensures.no_memory memory in omega (arith, one, five))
     (λ among. c.refuse_words.ensures.called (among_all IsCall (kind_of c.in-Err.error) (words_fault
-        (map (λ word. word.now) c.args.words.now)) among calls.all)) c.in-Err.ensures.err
+    (map (λ word. word.now) c.args.words.now)) among calls.all)) c.in-Err.ensures.err
 
 pub returns-in-Err-clause-device : goal.returns-in-Err-clause-device
 returns-in-Err-clause-device g c = λ a asked four.
     let P : Kinds → Type 0 = λ kinds. HasKind kinds c.in-Err.error in
     let memory : kind_of c.in-Err.error ≡ OutOfMemory =
-        ⊎_elim (λ e. e) (λ none. absurd none) (subst P asked.parse c.in-Err.ensures.err) in
+    ⊎_elim (λ e. e) (λ none. absurd none) (subst P asked.parse c.in-Err.ensures.err) in
     let five = c.refuse_words.ensures.no_memory memory in absurd (omega (arith, four, five))
 
 pub returns-in-Err-clause-in_step : goal.returns-in-Err-clause-in_step
 returns-in-Err-clause-in_step g c = λ a asked ends.
     let P : Kinds → Type 0 = λ kinds. HasKind kinds c.in-Err.error in
     let memory : kind_of c.in-Err.error ≡ OutOfMemory =
-        ⊎_elim (λ e. e) (λ none. absurd none) (subst P asked.parse c.in-Err.ensures.err) in
+    ⊎_elim (λ e. e) (λ none. absurd none) (subst P asked.parse c.in-Err.ensures.err) in
     let five = c.refuse_words.ensures.no_memory memory in
     ⊎_elim (λ zero. absurd (omega (arith, zero, five)))
-        (λ three. absurd (omega (arith, three, five))) ends
+    (λ three. absurd (omega (arith, three, five))) ends

@@ -13,8 +13,8 @@ returns-in-Ok-clause-pairs g c =
     let account = c.in-Ok.completed.account in
     let reported = c.in-Ok.completed.reported in
     let run : IsRun a (g.T.Files.tells_bytes c.args.files.now) (g.T.Files.bytes_of c.args.files.now)
-        (g.T.Files.bytes_of c.trim_files.new.files) account.outcome account.counts reported =
-        record {
+    (g.T.Files.bytes_of c.trim_files.new.files) account.outcome account.counts reported =
+    record {
       trims = c.in-Ok.ensures.completed.trims;
       ended = c.in-Ok.ensures.completed.ended;
       due = c.in-Ok.ensures.completed.due;
@@ -23,9 +23,9 @@ returns-in-Ok-clause-pairs g c =
     } in
     let line : c.tell.result ≢ 0 → TookLine a _ _ _ _ _ c.tell.result =
     λ some. told_line a _ _ _ account.outcome account.counts reported run _ _ _
-        (c.tell.ensures.line some) in
+    (c.tell.ensures.line some) in
     let whole : (c.tell.result ≡ 0) ⊎ (c.tell.result ≡ 3) →
-        IsTrue (g.T.Files.tells_bytes c.args.files.now) → EndsWhole a _ _ _ _ c.tell.result =
+    IsTrue (g.T.Files.tells_bytes c.args.files.now) → EndsWhole a _ _ _ _ c.tell.result =
     λ ends told.
     let status = c.tell.ensures.whole ends in
     record {
@@ -46,9 +46,9 @@ returns-in-Ok-clause-pairs g c =
       left = left_so a _ _ _ _ _ _ whole line;
       reported = λ ends told name named.
           let is : (outcome_status account.outcome ≡ 0) ⊎ (outcome_status account.outcome ≡ 3) =
-              subst (λ n. (n ≡ 0) ⊎ (n ≡ 3)) (sym (c.tell.ensures.whole ends)) ends in
+          subst (λ n. (n ≡ 0) ⊎ (n ≡ 3)) (sym (c.tell.ensures.whole ends)) ends in
           is_held a _ _ _ account.outcome account.counts reported run (c.tell.ensures.reported ends)
-              is told name named;
+          is told name named;
       report_left = λ told name named. is_left a _ _ name reported
           (c.in-Ok.ensures.completed.report told name named);
       unopened = c.in-Ok.ensures.unopened;
@@ -58,21 +58,21 @@ pub returns-in-Ok-clause-device : goal.returns-in-Ok-clause-device
 returns-in-Ok-clause-device g c = λ four.
     let completed = c.in-Ok.ensures.completed in
     failed_device (asking_of c.args.request.now) _ _ _ _ _
-        (device_of g.O.Outlet.state c.args.out.now c.tell.new.out) _ _
-        c.in-Ok.completed.account.outcome c.in-Ok.completed.reported
+    (device_of g.O.Outlet.state c.args.out.now c.tell.new.out) _ _
+    c.in-Ok.completed.account.outcome c.in-Ok.completed.reported
     completed.failed completed.as_it_is completed.report_failed
-        (c.tell.ensures.line (λ zero. absurd (omega (arith, four, zero)))) four
+    (c.tell.ensures.line (λ zero. absurd (omega (arith, four, zero)))) four
 
 pub returns-in-Ok-clause-sound : goal.returns-in-Ok-clause-sound
 returns-in-Ok-clause-sound g c = λ ends. c.in-Ok.ensures.completed.sound
     (ends_so c.in-Ok.completed.account.outcome c.tell.result (c.tell.ensures.whole ends) ends)
-        (not_failed c.in-Ok.completed.reported (c.tell.ensures.reported ends))
+    (not_failed c.in-Ok.completed.reported (c.tell.ensures.reported ends))
 
 pub returns-in-Ok-clause-flushed : goal.returns-in-Ok-clause-flushed
 returns-in-Ok-clause-flushed g c = λ ends.
     let is : (outcome_status c.in-Ok.completed.account.outcome ≡ 0)
-        ⊎ (outcome_status c.in-Ok.completed.account.outcome ≡ 3) =
-        subst (λ n. (n ≡ 0) ⊎ (n ≡ 3)) (sym (c.tell.ensures.whole ends)) ends in
+    ⊎ (outcome_status c.in-Ok.completed.account.outcome ≡ 3) =
+    subst (λ n. (n ≡ 0) ⊎ (n ≡ 3)) (sym (c.tell.ensures.whole ends)) ends in
     c.in-Ok.ensures.completed.flushed is (c.tell.ensures.reported ends)
 
 pub returns-in-Ok-clause-wrong : goal.returns-in-Ok-clause-wrong
@@ -83,7 +83,7 @@ returns-in-Ok-clause-wrong g c = λ wrong.
 pub returns-in-Err-clause-pairs : goal.returns-in-Err-clause-pairs
 returns-in-Err-clause-pairs g c = refused_answer _ _ _ _ _ _ _ c.in-Err.refusal c.refuse.ensures
     (λ why is. let same = (c.in-Err.ensures.wrong why is).0 in
-        cc same) (λ none. c.in-Err.ensures.right none)
+    cc same) (λ none. c.in-Err.ensures.right none)
     c.in-Err.ensures.refused.left c.in-Err.ensures.refused.report_left c.in-Err.ensures.unopened
 
 pub returns-in-Err-clause-device : goal.returns-in-Err-clause-device
@@ -93,9 +93,10 @@ returns-in-Err-clause-device g c =
     c.in-Err.ensures.refused.inputs c.in-Err.ensures.refused.refused four)
 
 pub returns-in-Err-clause-spared : goal.returns-in-Err-clause-spared
-returns-in-Err-clause-spared g c = λ told name made leads.
-    (refuses_fails (asking_of c.args.request.now) c.in-Err.refusal _ _ c.refuse.ensures,
-        (c.in-Err.ensures.spared told name made leads).1)
+returns-in-Err-clause-spared g c = λ told name made leads. (
+  refuses_fails (asking_of c.args.request.now) c.in-Err.refusal _ _ c.refuse.ensures,
+  (c.in-Err.ensures.spared told name made leads).1,
+)
 
 pub returns-in-Err-clause-sound : goal.returns-in-Err-clause-sound
 returns-in-Err-clause-sound g c = λ ends. c.in-Err.ensures.unfailed

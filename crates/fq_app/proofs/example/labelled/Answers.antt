@@ -8,14 +8,14 @@ returns c =
     let log = c.args.log.now in
     let summary = c.as_bytes.result.now in
     six_appended _ _ _ _ _ _ _ (section (codes "[forward paired]")
-        c.bytes-forward_paired.result.now) (section (codes "[forward unpaired]")
-        c.bytes-forward_unpaired.result.now)
+    c.bytes-forward_paired.result.now) (section (codes "[forward unpaired]")
+    c.bytes-forward_unpaired.result.now)
     (section (codes "[reverse paired]") c.bytes-reverse_paired.result.now)
-        (section (codes "[reverse unpaired]") c.bytes-reverse_unpaired.result.now)
-        (section (codes "[trim log]") log) (section (codes "[summary]") summary)
+    (section (codes "[reverse unpaired]") c.bytes-reverse_unpaired.result.now)
+    (section (codes "[trim log]") log) (section (codes "[summary]") summary)
     c.new-text.ensures.items c.in_ok-put_section.ensures c.in_ok-put_section-2.ensures
-        c.in_ok-put_section-3.ensures c.in_ok-put_section-4.ensures c.in_ok-put_section-5.ensures
-        c.in_ok-put_section-6.ensures
+    c.in_ok-put_section-3.ensures c.in_ok-put_section-4.ensures c.in_ok-put_section-5.ensures
+    c.in_ok-put_section-6.ensures
     ∙ (λ i. sections (c.bytes-forward_paired.ensures i) (c.bytes-forward_unpaired.ensures i)
-        (c.bytes-reverse_paired.ensures i) (c.bytes-reverse_unpaired.ensures i) log
-        ((c.as_bytes.ensures.value ∙ c.in_ok-summary.ensures) i))
+    (c.bytes-reverse_paired.ensures i) (c.bytes-reverse_unpaired.ensures i) log
+    ((c.as_bytes.ensures.value ∙ c.in_ok-summary.ensures) i))

@@ -41,4 +41,4 @@ unfolding choices_with
 returns c =
     let steps_are = same_steps c.in-Ok.steps (Leading 3 ∷ []) (c.in-Ok.ensures.value ∙ one_step) in
     same_choices c.in-Ok-new.settings example_choices (c.in-Ok-new.ensures
-        ∙ (ap (λ steps. checked (choices_with steps)) steps_are ∙ in_range))
+    ∙ (ap (λ steps. checked (choices_with steps)) steps_are ∙ in_range))

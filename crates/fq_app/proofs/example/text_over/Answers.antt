@@ -11,7 +11,7 @@ pub run-outcome-requires-clause-healthy : goal.run-outcome-requires-clause-healt
 run-outcome-requires-clause-healthy g c κs within =
     let o = c.requires in
     all_healthy _ o.forward_paired_is.1 o.forward_unpaired_is.1 o.reverse_paired_is.1
-        o.reverse_unpaired_is.1 (there_healthy _ _ o.log_is)
+    o.reverse_unpaired_is.1 (there_healthy _ _ o.log_is)
 
 pub returns-clause-text : goal.returns-clause-text
 unfolding example_text
@@ -22,15 +22,15 @@ returns-clause-text g c = IfOk-weaker c.shown.result _ _ (λ text left.
     let output = output_is c.settings.result _ _ c.settings.ensures forward_is reverse_is in
     let empty = c.requires in
     let fp = took_all _ _ _ _ empty.forward_paired_is.0 refl (trimmed.took ForwardPaired)
-        (output ForwardPaired) in
+    (output ForwardPaired) in
     let fu = took_all _ _ _ _ empty.forward_unpaired_is.0 refl (trimmed.took ForwardUnpaired)
-        (output ForwardUnpaired) in
+    (output ForwardUnpaired) in
     let rp = took_all _ _ _ _ empty.reverse_paired_is.0 refl (trimmed.took ReversePaired)
-        (output ReversePaired) in
+    (output ReversePaired) in
     let ru = took_all _ _ _ _ empty.reverse_unpaired_is.0 refl (trimmed.took ReverseUnpaired)
-        (output ReverseUnpaired) in
+    (output ReverseUnpaired) in
     let log = log_took _ _ _ _ _ empty.log_is (λ _. refl) (trimmed.took Log) left.1.1
-        ∙ output Log in
+    ∙ output Log in
     let summary = ap summary_of trimmed.counts_are
-        ∙ summary_is c.settings.result _ _ c.settings.ensures forward_is reverse_is in
+    ∙ summary_is c.settings.result _ _ c.settings.ensures forward_is reverse_is in
     left.1.2 ∙ (λ i. sections (fp i) (fu i) (rp i) (ru i) (log i) (summary i))) c.shown.ensures.text

@@ -17,7 +17,7 @@ store-requires-after_bounds g c κs within = λ told out name named.
     let before = along _ _ (sym c.inputs_done.ensures.told) told in
     let P : Option (List ℕ) → Type 0 = λ bytes. IsSome bytes in
     subst P (sym (c.inputs_done.ensures.unchanged before name))
-        (c.requires.ready.held before out name named)
+    (c.requires.ready.held before out name named)
 
 pub returns : goal.returns
 returns g c = record {
@@ -39,11 +39,14 @@ returns g c = record {
       let stored = c.store.ensures in
       let reported = c.store_report-reported.ensures in
       let are_told : IsTrue told_0 → AreTold run =
-          λ told. record { forward = (opened.fed told).forward.told; reverse =
-          (opened.fed told).reverse.told } in
+      λ told. record {
+        forward = (opened.fed told).forward.told;
+        reverse =
+            (opened.fed told).reverse.told;
+      } in
       let held : IsTrue told_0 →
-          IsHeld a choices start (g.T.Files.bytes_of c.store_report-reported.new.files) run =
-          λ told.
+      IsHeld a choices start (g.T.Files.bytes_of c.store_report-reported.new.files) run =
+      λ told.
       let told_2 = along _ _ stored.told (along _ _ done.told told) in
       record {
         settings = settings;
@@ -64,19 +67,19 @@ returns g c = record {
         rest = λ told name free other.
             let told_2 = along _ _ stored.told (along _ _ done.told told) in
             reported.others told_2 name other
-                ∙ ((stored.stored told_2).rest name free
-                ∙ (done.unchanged told name ∙ opened.rest told name free other));
+            ∙ ((stored.stored told_2).rest name free
+            ∙ (done.unchanged told name ∙ opened.rest told name free other));
         due = reported.due;
         not_due = reported.not_due;
         report = λ told name named.
             let told_2 = along _ _ stored.told (along _ _ done.told told) in
             let empty = opened.ready.report_empty told in
             let took = reported.took told_2 (tells_unmap state c.args.devices.report empty)
-                (taken_unmap state c.args.devices.report empty) name named in
+            (taken_unmap state c.args.devices.report empty) name named in
             report_of_run a choices _ _ run account _ _ name took.0 settings opened.ready.form
-                (opened.fed told).forward.bytes_are (opened.fed told).reverse.bytes_are
+            (opened.fed told).forward.bytes_are (opened.fed told).reverse.bytes_are
             refl refl refl (λ whole. c.run-account.ensures.whole whole (are_told told))
-                c.encoding.ensures reported.due took.1 took.2;
+            c.encoding.ensures reported.due took.1 took.2;
         failed = λ other. fails_as_told a told_0 start choices inputs run left _ _ _ _ settings refl
             refl opened.ready.log (sides_in inputs before after left account) opened.fed
             (c.run-account.ensures.every other) done.counted stored.counted reported.still;
@@ -87,13 +90,13 @@ returns g c = record {
         sound = λ whole written.
             let every = c.run-account.ensures.every (not_lane account.outcome whole) in
             reported.sound written
-                ∙ (stored.counted.sound (outlets_sound choices run every whole opened.ready.healthy)
+            ∙ (stored.counted.sound (outlets_sound choices run every whole opened.ready.healthy)
             ∙ done.counted.sound (feed_sound choices run every whole Forward)
-                (feed_sound choices run every whole Reverse));
+            (feed_sound choices run every whole Reverse));
         flushed = λ ends written.
             let whole = ends_so account.outcome _ refl ends in
             let every = c.run-account.ensures.every (not_lane account.outcome whole) in
             reported.flushed ends written
-                ∙ (stored.flushed (outlets_flushed choices run every whole) ∙ done.flushed);
+            ∙ (stored.flushed (outlets_flushed choices run every whole) ∙ done.flushed);
       };
 }

@@ -10,26 +10,32 @@ pub returns-in_err-settings-clause-refused : goal.returns-in_err-settings-clause
 returns-in_err-settings-clause-refused g c =
     let p = err_from_is_err_and c.from_residual.result c.from_residual.ensures.1 in
     rw (p.1, p.2) (wrong_refused (asking_of c.args.request.now) _ _ _ _ _
-        c.in_err-settings.ensures.wrong)
+    c.in_err-settings.ensures.wrong)
 
 pub returns-in_err-devices-clause-refused : goal.returns-in_err-devices-clause-refused
 returns-in_err-devices-clause-refused g c =
     let p = err_from_is_err_and c.from_residual-in_err-devices.result
-        c.from_residual-in_err-devices.ensures.1 in
+    c.from_residual-in_err-devices.ensures.1 in
     let unopened = c.in_err-devices.ensures.unopened in
-    rw (p.1, p.2) (record { refused = refusable_right (asking_of c.args.request.now) _ _ _
-        c.in_ok-settings.ensures.right unopened.refused; inputs = unopened.inputs; left =
-        unopened.left; report_left = unopened.report_left })
+    rw (p.1, p.2) (record {
+      refused = refusable_right (asking_of c.args.request.now) _ _ _
+          c.in_ok-settings.ensures.right unopened.refused;
+      inputs = unopened.inputs;
+      left =
+          unopened.left;
+      report_left = unopened.report_left;
+    })
 
 pub returns-in_err-devices-clause-spared : goal.returns-in_err-devices-clause-spared
-returns-in_err-devices-clause-spared g c = λ told name made leads.
-    (c.from_residual-in_err-devices.ensures.0,
-        (c.in_err-devices.ensures.spared told name made leads).1)
+returns-in_err-devices-clause-spared g c = λ told name made leads. (
+  c.from_residual-in_err-devices.ensures.0,
+  (c.in_err-devices.ensures.spared told name made leads).1,
+)
 
 pub returns-clause-rest : goal.returns-clause-rest
 returns-clause-rest g c = λ told.
     let devices = c.in_ok-devices.ensures in
     let completed =
-        c.complete.ensures.completed _ (opened_as _ _ _ _ _ _ _ _ (sym devices.told) devices.opened)
-        c.in_ok-settings.ensures.settings in
+    c.complete.ensures.completed _ (opened_as _ _ _ _ _ _ _ _ (sym devices.told) devices.opened)
+    c.in_ok-settings.ensures.settings in
     completed.rest (along _ _ devices.told told)

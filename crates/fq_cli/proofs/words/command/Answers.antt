@@ -21,17 +21,17 @@ all_below = refl
 pub returns : goal.returns
 returns c =
     let about_is : app_of c.after_help.result ≡ new_app (codes "fq_prog") =
-        ap app_of_fields c.after_help.ensures
-        ∙ (ap app_of_fields c.about.ensures ∙ c.new.ensures.app) in
+    ap app_of_fields c.after_help.ensures
+    ∙ (ap app_of_fields c.about.ensures ∙ c.new.ensures.app) in
     let top_is : app_of c.subcommand_required.result ≡ on_top wanting (new_app (codes "fq_prog")) =
-        ap app_of_fields c.subcommand_required.ensures ∙ ap (on_top wanting) about_is in
+    ap app_of_fields c.subcommand_required.ensures ∙ ap (on_top wanting) about_is in
     let named_is : app_of c.version.result ≡ on_top versioned (on_top wanting
-        (new_app (codes "fq_prog"))) = ap app_of_fields c.version.ensures
-        ∙ ap (on_top versioned) top_is in
+    (new_app (codes "fq_prog"))) = ap app_of_fields c.version.ensures
+    ∙ ap (on_top versioned) top_is in
     let first_is = one_below _ _ _ _ pairs_app c.in_ok-subcommand.ensures
-        c.in_ok-pairs_command.ensures named_is in
+    c.in_ok-pairs_command.ensures named_is in
     let second_is = one_below _ _ _ _ interleaved_app c.in_ok-subcommand-2.ensures
-        c.in_ok-interleaved_command.ensures first_is in
+    c.in_ok-interleaved_command.ensures first_is in
     let example : IsCommand (new_app (codes "EXAMPLE")) c.after_help-2.result = record {
       app_is = ap app_of_fields c.after_help-2.ensures
           ∙ (ap app_of_fields c.about-2.ensures ∙ c.new-2.ensures.app);
@@ -39,4 +39,4 @@ returns c =
           ∙ (ap (λ fields. fields.has_globals) c.about-2.ensures ∙ c.new-2.ensures.local);
     } in
     IfOk-weaker c.subcommand-3.result _ _ (λ command adds. one_below _ _ _ _ (new_app
-        (codes "EXAMPLE")) adds example second_is ∙ all_below) c.subcommand-3.ensures
+    (codes "EXAMPLE")) adds example second_is ∙ all_below) c.subcommand-3.ensures

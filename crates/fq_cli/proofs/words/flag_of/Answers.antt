@@ -9,4 +9,4 @@ pub returns : goal.returns
 returns c =
     let rows = one_text-rows (found_of c.args.found.now) c.args.id.now in
     c.unwrap_or.ensures ∙ flag_read ParseBoolError _ _ (λ none. c.get_one.ensures.none (rows
-        ∙ none)) (λ t is. c.get_one.ensures.value t (rows ∙ is))
+    ∙ none)) (λ t is. c.get_one.ensures.value t (rows ∙ is))

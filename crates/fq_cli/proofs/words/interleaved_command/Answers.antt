@@ -13,5 +13,5 @@ returns c =
     let inputs : List Rule = file_rule (codes "I") ∷ [] in
     let are = subst (AreArgs inputs) (sym c.in_ok-inputs.ensures.items) (c.file-both.ensures, tt) in
     IfOk-weaker c.trimming_command.result _ _
-        (λ command is. subst (λ (app : App). IsCommand app command) whole_is (is inputs are))
-        c.trimming_command.ensures
+    (λ command is. subst (λ (app : App). IsCommand app command) whole_is (is inputs are))
+    c.trimming_command.ensures

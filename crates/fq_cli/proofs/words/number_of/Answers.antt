@@ -9,5 +9,5 @@ pub returns : goal.returns
 returns c =
     let rows = one_text-rows (found_of c.args.found.now) c.args.id.now in
     c.unwrap_or.ensures ∙ number_read (λ bs r. ParsesUnsigned 64 10 bs r
-        × ExplainsUnsignedError 10 bs r × HasUnsignedDigitsIfOk bs r) _ _ (λ t res g. g.0)
+    × ExplainsUnsignedError 10 bs r × HasUnsignedDigitsIfOk bs r) _ _ (λ t res g. g.0)
     (λ none. c.get_one.ensures.none (rows ∙ none)) (λ t is. c.get_one.ensures.value t (rows ∙ is))

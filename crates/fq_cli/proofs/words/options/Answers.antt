@@ -3,9 +3,34 @@ use Rattle.fq_cli.specs.Words.{AreArgs, option_rules}
 use Rattle.fq_cli.proofs.words.options.Goals as goal
 
 pub returns : goal.returns
-returns c = subst (AreArgs option_rules) (sym c.in_ok-vec.ensures.items)
-    (c.number-threads.ensures, (c.number-block.ensures, (c.number-depth.ensures,
-        (c.number-chunk.ensures, (c.encoding-encoding.ensures, (c.log-log.ensures,
-        (c.unchecked_names-unchecked.ensures,
-        (c.sync-sync.ensures, (c.report-report.ensures, (c.explain-explain.ensures,
-        (c.unexplained-unexplained.ensures, tt)))))))))))
+returns c = subst (AreArgs option_rules) (sym c.in_ok-vec.ensures.items) (
+  c.number-threads.ensures,
+  (
+    c.number-block.ensures,
+    (
+      c.number-depth.ensures,
+      (
+        c.number-chunk.ensures,
+        (
+          c.encoding-encoding.ensures,
+          (
+            c.log-log.ensures,
+            (
+              c.unchecked_names-unchecked.ensures,
+              (
+                c.sync-sync.ensures,
+                (
+                  c.report-report.ensures,
+                  (
+                    c.explain-explain.ensures,
+                    (c.unexplained-unexplained.ensures, tt),
+                  ),
+                ),
+              ),
+            ),
+          ),
+        ),
+      ),
+    ),
+  ),
+)

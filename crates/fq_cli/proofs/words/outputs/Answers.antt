@@ -3,7 +3,19 @@ use Rattle.fq_cli.specs.Words.{AreArgs, output_rules}
 use Rattle.fq_cli.proofs.words.outputs.Goals as goal
 
 pub returns : goal.returns
-returns c = subst (AreArgs output_rules) (sym c.in_ok-vec.ensures.items)
-    (c.file-forward_paired.ensures, (c.file-forward_unpaired.ensures,
-        (c.file-reverse_paired.ensures, (c.file-reverse_unpaired.ensures, (c.steps-steps.ensures,
-        tt)))))
+returns c = subst (AreArgs output_rules) (sym c.in_ok-vec.ensures.items) (
+  c.file-forward_paired.ensures,
+  (
+    c.file-forward_unpaired.ensures,
+    (
+      c.file-reverse_paired.ensures,
+      (
+        c.file-reverse_unpaired.ensures,
+        (
+          c.steps-steps.ensures,
+          tt,
+        ),
+      ),
+    ),
+  ),
+)

@@ -13,7 +13,7 @@ pub returns : goal.returns
 returns c =
     let inputs : List Rule = file_rule (codes "F") ∷ file_rule (codes "R") ∷ [] in
     let are = subst (AreArgs inputs) (sym c.in_ok-inputs.ensures.items)
-        (c.file-forward.ensures, (c.file-reverse.ensures, tt)) in
+    (c.file-forward.ensures, (c.file-reverse.ensures, tt)) in
     IfOk-weaker c.trimming_command.result _ _
-        (λ command is. subst (λ (app : App). IsCommand app command) whole_is (is inputs are))
-        c.trimming_command.ensures
+    (λ command is. subst (λ (app : App). IsCommand app command) whole_is (is inputs are))
+    c.trimming_command.ensures

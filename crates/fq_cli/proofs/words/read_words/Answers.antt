@@ -11,10 +11,10 @@ pub returns-in_err-matches-clause-err : goal.returns-in_err-matches-clause-err
 returns-in_err-matches-clause-err c =
     let words = map (λ word. word.now) c.args.words.now in
     passed_up {T = Asked} {E = Error} c.from_residual-in_err-matches.result
-        c.in_err-matches.field-0.0 (HasKind (words_fault words))
-        c.from_residual-in_err-matches.ensures.1
+    c.in_err-matches.field-0.0 (HasKind (words_fault words))
+    c.from_residual-in_err-matches.ensures.1
     (fails_by _ words c.in_err-matches.field-0.0 c.in_ok-command.ensures
-        c.in_err-matches.ensures.kinds)
+    c.in_err-matches.ensures.kinds)
 
 pub returns-in_default-clause-ok : goal.returns-in_default-clause-ok
 returns-in_default-clause-ok c =
@@ -33,8 +33,8 @@ returns-clause-ok c =
     let m = c.in_ok-matches.matches in
     let own : is_own_call words ≡ c.is_own_call-own.result = sym c.is_own_call-own.ensures in
     let met = met_is (is_own_call words) (subcommand_rows_of m) c.in-Some.name.now
-        (rows_of (found_of c.in-Some.found.now)) (c.in-Some.ensures.name
-        ∙ name_met m) c.in-Some.ensures.rows in
+    (rows_of (found_of c.in-Some.found.now)) (c.in-Some.ensures.name
+    ∙ name_met m) c.in-Some.ensures.rows in
     record {
       parse = parses_if _ words c.in_ok-command.ensures c.in_ok-matches.ensures.kinds;
       ask = found_in _ words m c.in_ok-command.ensures c.in_ok-matches.ensures.matches

@@ -9,9 +9,9 @@ pub returns : goal.returns
 unfolding asking_in
 returns c =
     let log = c.get_str-log.ensures ∙ first_value-rows (found_of c.args.found.now)
-        (codes "trimlog") in
+    (codes "trimlog") in
     let report = c.get_str-report.ensures ∙ first_value-rows (found_of c.args.found.now)
-        (codes "report") in
+    (codes "report") in
     let checked = ap not c.flag_of-unchecked.ensures in
     λ i. record {
       encoding = c.text_of-encoding.ensures i;

@@ -12,15 +12,15 @@ pub returns-in-Some : goal.returns-in-Some
 unfolding texts_or_none
 returns-in-Some c =
     let given =
-        ap texts_or_none (c.in-Some.ensures ∙ raw_values-rows (found_of c.args.found.now)
-        (codes "STEPS")) in
+    ap texts_or_none (c.in-Some.ensures ∙ raw_values-rows (found_of c.args.found.now)
+    (codes "STEPS")) in
     IfOk-weaker c.from_slice.result _ _ (λ words items. ap (map (λ (word : Bor Text). word.now))
-        items ∙ given) c.from_slice.ensures.items
+    items ∙ given) c.from_slice.ensures.items
 
 pub returns-in-None : goal.returns-in-None
 unfolding texts_or_none
 returns-in-None c =
     let given =
-        ap texts_or_none (c.in-None.ensures ∙ raw_values-rows (found_of c.args.found.now)
-        (codes "STEPS")) in
+    ap texts_or_none (c.in-None.ensures ∙ raw_values-rows (found_of c.args.found.now)
+    (codes "STEPS")) in
     ap (map (λ (word : Bor Text). word.now)) c.new.ensures.items ∙ given

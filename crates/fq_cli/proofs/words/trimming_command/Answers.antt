@@ -15,7 +15,7 @@ returns c =
           ∙ (ap (λ fields. fields.has_globals) c.about.ensures ∙ c.new.ensures.local);
     } in
     let with_options = more _ _ _ _ option_rules c.in_ok-with_options.ensures
-        c.in_ok-options.ensures start in
+    c.in_ok-options.ensures start in
     IfOk-weaker c.args-4.result _ _ (λ command adds rules are.
     let with_inputs = more _ _ _ _ rules c.in_ok-with_inputs.ensures are with_options in
     more _ _ _ _ output_rules adds c.in_ok-outputs.ensures with_inputs) c.args-4.ensures

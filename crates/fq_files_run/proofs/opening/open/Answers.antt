@@ -11,70 +11,70 @@ use Rattle.fq_files_run.proofs.opening.open.Goals as goal
 pub returns-in_err-outlets-clause-unopened : goal.returns-in_err-outlets-clause-unopened
 returns-in_err-outlets-clause-unopened g c =
     let p = err_from_is_err_and c.from_residual-in_err-outlets.result
-        c.from_residual-in_err-outlets.ensures.1 in
+    c.from_residual-in_err-outlets.ensures.1 in
     let a = asking_of c.args.request.now in
     let inputs = c.in_ok-feeds.ensures in
     let outputs = c.in_err-outlets.ensures in
     rw (p.1, p.2) (refused_late a _ _ _ _ _ _ (opened_of g.T.In.Feed.state c.in_ok-feeds.feeds)
-        outputs.opened outputs.late
+    outputs.opened outputs.late
     (refusable_since a _ _ _ _ _ inputs.refusing inputs.linked outputs.refused) inputs.fed
     (λ told. leaves_since a _ _ _ _ (inputs.unchanged told)
-        ((outputs.unmade (along _ _ outputs.told (along _ _ inputs.told told))).leaves))
+    ((outputs.unmade (along _ _ outputs.told (along _ _ inputs.told told))).leaves))
     (λ told name named free. report_behind _ _ _
     ((outputs.unmade (along _ _ outputs.told (along _ _ inputs.told told))).rest name free
-        ∙ inputs.unchanged told name))
+    ∙ inputs.unchanged told name))
     (λ told name free other. (outputs.unmade (along _ _ outputs.told
-        (along _ _ inputs.told told))).rest name free ∙ inputs.unchanged told name))
+    (along _ _ inputs.told told))).rest name free ∙ inputs.unchanged told name))
 
 pub returns-in_err-report-clause-unopened : goal.returns-in_err-report-clause-unopened
 returns-in_err-report-clause-unopened g c =
     let p = err_from_is_err_and c.from_residual-in_err-report.result
-        c.from_residual-in_err-report.ensures.1 in
+    c.from_residual-in_err-report.ensures.1 in
     let a = asking_of c.args.request.now in
     let inputs = c.in_ok-feeds.ensures in
     let outputs = c.in_ok-outlets.ensures in
     let report = c.in_err-report.ensures in
     let behind = report_late _ report.why in
     rw (p.1, p.2) (refused_late a _ _ _ _ _ _ (opened_of g.T.In.Feed.state c.in_ok-feeds.feeds)
-        behind (late_status _ behind)
+    behind (late_status _ behind)
     (refusable_since a _ _ _ _ _ (outputs.refusing
-        ∙ inputs.refusing) (λ name leads. inputs.linked name (subst (λ (r : Names). IsTrue (r name))
-        outputs.leading leads)) report.refused) inputs.fed
+    ∙ inputs.refusing) (λ name leads. inputs.linked name (subst (λ (r : Names). IsTrue (r name))
+    outputs.leading leads)) report.refused) inputs.fed
     (λ told.
     let told_2 = along _ _ outputs.told (along _ _ inputs.told told) in
     report_unmade a _ _ _ report.why (still_empty a _ _ (five_empty _ _ _ (outputs.made told_2))
-        (report.left told_2) (report.others told_2)))
+    (report.left told_2) (report.others told_2)))
     (λ told name named free.
     let told_2 = along _ _ outputs.told (along _ _ inputs.told told) in
     let kept = rest_made _ _ _ _ (outputs.made told_2) name free ∙ inputs.unchanged told name in
     report_refused _ _ _ report.why (unchanged_or_nothing _ _ _ kept (report.left told_2 name
-        named)))
+    named)))
     (λ told name free other.
     let told_2 = along _ _ outputs.told (along _ _ inputs.told told) in
     report.others told_2 name other ∙ (rest_made _ _ _ _ (outputs.made told_2) name free
-        ∙ inputs.unchanged told name)))
+    ∙ inputs.unchanged told name)))
 
 pub returns-in_err-outlets-clause-spared : goal.returns-in_err-outlets-clause-spared
 returns-in_err-outlets-clause-spared g c = λ told name made leads.
     let told_1 = along _ _ c.in_ok-feeds.ensures.told told in
     absurd (leads_nowhere (asking_of c.args.request.now) _ _ c.in_err-outlets.ensures.leading
-        (c.input_among_outputs.ensures.none c.in_default.is told_1)
+    (c.input_among_outputs.ensures.none c.in_default.is told_1)
     (c.input_as_report.ensures.none c.if-input_as_report.false told_1) name made leads)
 
 pub returns-in_err-report-clause-spared : goal.returns-in_err-report-clause-spared
 returns-in_err-report-clause-spared g c = λ told name made leads.
     let told_1 = along _ _ c.in_ok-feeds.ensures.told told in
     absurd (leads_nowhere (asking_of c.args.request.now) _ _ (c.in_err-report.ensures.leading
-        ∙ c.in_ok-outlets.ensures.leading) (c.input_among_outputs.ensures.none c.in_default.is
-        told_1)
+    ∙ c.in_ok-outlets.ensures.leading) (c.input_among_outputs.ensures.none c.in_default.is
+    told_1)
     (c.input_as_report.ensures.none c.if-input_as_report.false told_1) name made leads)
 
 pub returns-clause-spared : goal.returns-clause-spared
 returns-clause-spared g c = λ told name made leads.
     let told_1 = along _ _ c.in_ok-feeds.ensures.told told in
     absurd (leads_nowhere (asking_of c.args.request.now) _ _ (c.in_ok-report.ensures.leading
-        ∙ c.in_ok-outlets.ensures.leading) (c.input_among_outputs.ensures.none c.in_default.is
-        told_1)
+    ∙ c.in_ok-outlets.ensures.leading) (c.input_among_outputs.ensures.none c.in_default.is
+    told_1)
     (c.input_as_report.ensures.none c.if-input_as_report.false told_1) name made leads)
 
 pub returns-clause-opened : goal.returns-clause-opened
@@ -94,7 +94,7 @@ returns-clause-opened g c =
             let told_1 = along _ _ inputs.told told in
             let P : Option (List ℕ) → Type 0 = λ bytes. IsSome bytes in
             report.held (along _ _ outputs.told told_1) name
-                (outputs.names told_1 name (subst P (sym (inputs.unchanged told name)) some)));
+            (outputs.names told_1 name (subst P (sym (inputs.unchanged told name)) some)));
         held = λ told out name named.
             let told_2 = along _ _ outputs.told (along _ _ inputs.told told) in
             report.held told_2 name (five_held _ _ _ (outputs.made told_2) out name named);
@@ -109,5 +109,5 @@ returns-clause-opened g c =
       rest = λ told name free other.
           let told_2 = along _ _ outputs.told (along _ _ inputs.told told) in
           report.others told_2 name other ∙ (rest_made _ _ _ _ (outputs.made told_2) name free
-              ∙ inputs.unchanged told name);
+          ∙ inputs.unchanged told name);
     }

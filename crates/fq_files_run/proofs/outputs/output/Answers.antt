@@ -11,7 +11,7 @@ returns-clause-made g c =
     cases_mapped c.target.result c.map_err.result _ _ _ c.map_err.ensures.cases
     (λ target made start first. one_made (asking_of c.args.request.now) start c.args.out _ named
     _ _ _ _ c.target.ensures.told first c.target.ensures.others
-        (rw made at c.target.ensures.emptied))
+    (rw made at c.target.ensures.emptied))
     (λ fault why failed gave. tt)
 
 pub returns-clause-unmade : goal.returns-clause-unmade
@@ -20,6 +20,6 @@ returns-clause-unmade g c =
     cases_mapped c.target.result c.map_err.result _ _ _ c.map_err.ensures.cases
     (λ target made. tt)
     (λ fault why failed gave start first. none_more (asking_of c.args.request.now) start c.args.out
-        _ named
+    _ named
     _ _ _ _ c.target.ensures.told first c.target.ensures.others _
-        (rw failed at c.target.ensures.refused) (search rules))
+    (rw failed at c.target.ensures.refused) (search rules))

@@ -9,31 +9,31 @@ pub returns-in_err-forward_paired-clause-unmade : goal.returns-in_err-forward_pa
 returns-in_err-forward_paired-clause-unmade g c =
     let p = err_from_is_err_and c.from_residual.result c.from_residual.ensures.1 in
     rw (p.1, p.2) (c.in_err-forward_paired.ensures.unmade _ (none_made
-        (asking_of c.args.request.now) _ _))
+    (asking_of c.args.request.now) _ _))
 
 pub returns-in_err-forward_unpaired-clause-unmade : goal.returns-in_err-forward_unpaired-clause-unmade
 returns-in_err-forward_unpaired-clause-unmade g c =
     let p = err_from_is_err_and c.from_residual-in_err-forward_unpaired.result
-        c.from_residual-in_err-forward_unpaired.ensures.1 in
+    c.from_residual-in_err-forward_unpaired.ensures.1 in
     let made_1 =
-        c.in_ok-forward_paired.ensures.made _ (none_made (asking_of c.args.request.now) _ _) in
+    c.in_ok-forward_paired.ensures.made _ (none_made (asking_of c.args.request.now) _ _) in
     rw (p.1, p.2) (c.in_err-forward_unpaired.ensures.unmade _ made_1)
 
 pub returns-in_err-reverse_paired-clause-unmade : goal.returns-in_err-reverse_paired-clause-unmade
 returns-in_err-reverse_paired-clause-unmade g c =
     let p = err_from_is_err_and c.from_residual-in_err-reverse_paired.result
-        c.from_residual-in_err-reverse_paired.ensures.1 in
+    c.from_residual-in_err-reverse_paired.ensures.1 in
     let made_1 =
-        c.in_ok-forward_paired.ensures.made _ (none_made (asking_of c.args.request.now) _ _) in
+    c.in_ok-forward_paired.ensures.made _ (none_made (asking_of c.args.request.now) _ _) in
     let made_2 = c.in_ok-forward_unpaired.ensures.made _ made_1 in
     rw (p.1, p.2) (c.in_err-reverse_paired.ensures.unmade _ made_2)
 
 pub returns-in_err-reverse_unpaired-clause-unmade : goal.returns-in_err-reverse_unpaired-clause-unmade
 returns-in_err-reverse_unpaired-clause-unmade g c =
     let p = err_from_is_err_and c.from_residual-in_err-reverse_unpaired.result
-        c.from_residual-in_err-reverse_unpaired.ensures.1 in
+    c.from_residual-in_err-reverse_unpaired.ensures.1 in
     let made_1 =
-        c.in_ok-forward_paired.ensures.made _ (none_made (asking_of c.args.request.now) _ _) in
+    c.in_ok-forward_paired.ensures.made _ (none_made (asking_of c.args.request.now) _ _) in
     let made_2 = c.in_ok-forward_unpaired.ensures.made _ made_1 in
     let made_3 = c.in_ok-reverse_paired.ensures.made _ made_2 in
     rw (p.1, p.2) (c.in_err-reverse_unpaired.ensures.unmade _ made_3)
@@ -41,9 +41,9 @@ returns-in_err-reverse_unpaired-clause-unmade g c =
 pub returns-in_err-output-in-Some-clause-unmade : goal.returns-in_err-output-in-Some-clause-unmade
 returns-in_err-output-in-Some-clause-unmade g c =
     let p = err_from_is_err_and c.from_residual-in_err-output-in-Some.result
-        c.from_residual-in_err-output-in-Some.ensures.1 in
+    c.from_residual-in_err-output-in-Some.ensures.1 in
     let made_1 =
-        c.in_ok-forward_paired.ensures.made _ (none_made (asking_of c.args.request.now) _ _) in
+    c.in_ok-forward_paired.ensures.made _ (none_made (asking_of c.args.request.now) _ _) in
     let made_2 = c.in_ok-forward_unpaired.ensures.made _ made_1 in
     let made_3 = c.in_ok-reverse_paired.ensures.made _ made_2 in
     let made_4 = c.in_ok-reverse_unpaired.ensures.made _ made_3 in

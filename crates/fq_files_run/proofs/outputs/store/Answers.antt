@@ -10,7 +10,7 @@ use Rattle.fq_files_run.proofs.outputs.store.Goals.{in_default-via-in-Some+in_de
 pub returns-in-Some-Some-clause-stored : goal.returns-in-Some-Some-clause-stored
 returns-in-Some-Some-clause-stored g c =
     let stored_1 =
-        c.store_one.ensures.stored _ _ refl (none_stored (asking_of c.args.request.now) _ _ _) in
+    c.store_one.ensures.stored _ _ refl (none_stored (asking_of c.args.request.now) _ _ _) in
     let stored_2 = c.store_one-2.ensures.stored _ _ refl stored_1 in
     let stored_3 = c.store_one-3.ensures.stored _ _ refl stored_2 in
     let stored_4 = c.store_one-4.ensures.stored _ _ refl stored_3 in
@@ -36,7 +36,7 @@ returns-in_default-clause-stored g c =
 pub returns-in-Some-Some-clause-counted : goal.returns-in-Some-Some-clause-counted
 returns-in-Some-Some-clause-counted g c =
     let counted_1 =
-        c.store_one.ensures.counted _ _ refl (none_counted (asking_of c.args.request.now) _ _) in
+    c.store_one.ensures.counted _ _ refl (none_counted (asking_of c.args.request.now) _ _) in
     let counted_2 = c.store_one-2.ensures.counted _ _ refl counted_1 in
     let counted_3 = c.store_one-3.ensures.counted _ _ refl counted_2 in
     let counted_4 = c.store_one-4.ensures.counted _ _ refl counted_3 in

@@ -20,7 +20,7 @@ returns-clause-stored g c = λ start states at first.
     let outlet = g.T.Target.Outlet.state c.args.outlet in
     let named = sym c.output_name.ensures ∙ ap (option_map (λ name. name.now)) c.in-Some.is in
     one_stored (asking_of c.args.request.now) start states c.args.out c.in-Some.name.now outlet _ _
-        _ _ named at
+    _ _ named at
     c.done.ensures.told c.done.ensures.stored c.done.ensures.others first
 
 pub returns-clause-counted : goal.returns-clause-counted
@@ -28,5 +28,5 @@ returns-clause-counted g c = λ start states at first.
     let outlet = g.T.Target.Outlet.state c.args.outlet in
     let named = sym c.output_name.ensures ∙ ap (option_map (λ name. name.now)) c.in-Some.is in
     one_counted (asking_of c.args.request.now) states c.args.out c.in-Some.name.now outlet start _ _
-        named at
+    named at
     c.done.ensures.failed c.done.ensures.sound c.done.ensures.still first

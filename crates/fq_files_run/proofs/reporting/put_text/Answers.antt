@@ -15,7 +15,9 @@ pub returns-clause-part : goal.returns-clause-part
 returns-clause-part g c = on_err c.flush.result (λ told.
     let text = c.args.text.now in
     let after = subst IsTrue (sym c.send.ensures.told) told in
-    let sent = on_ok c.send.result (cc) c.send.ensures.ok in
-    (length text, c.flush.ensures.kept after
-        ∙ (sent told ∙ ap (λ bytes. (g.O.Outlet.state c.args.target.now).taken ++ bytes)
-        (sym (take_all (length text) text (omega arith))))))
+    let sent = on_ok c.send.result (cc) c.send.ensures.ok in (
+      length text,
+      c.flush.ensures.kept after
+          ∙ (sent told ∙ ap (λ bytes. (g.O.Outlet.state c.args.target.now).taken ++ bytes)
+          (sym (take_all (length text) text (omega arith)))),
+    ))

@@ -12,9 +12,9 @@ returns c =
     let a = asking_of c.args.request.now in
     let outcome = c.args.account.now.outcome in
     let line_is = c.as_str.ensures.value ∙ (c.in_ok-fault_line.ensures.ok
-        ∙ ap (λ bytes. bytes ++ outcome_line outcome) c.new-line.ensures.bytes) in
+    ∙ ap (λ bytes. bytes ++ outcome_line outcome) c.new-line.ensures.bytes) in
     let fault = fault_words_are outcome _ _ line_is c.requires c.without_end-fault.ensures.some
-        c.without_end-fault.ensures.none in
+    c.without_end-fault.ensures.none in
     let P : List ℕ → Type 0 = λ t. IfOk c.report_text.result (λ text. string_bytes text ≡ t) in
     subst P (λ i. text_of (record {
       program = codes "fq_prog";

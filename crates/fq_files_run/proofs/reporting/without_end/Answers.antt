@@ -6,9 +6,9 @@ use Rattle.fq_files_run.proofs.reporting.without_end.Goals as goal
 pub returns-clause-some : goal.returns-clause-some
 returns-clause-some c = λ words is. stripped c.args.text.now words c.strip_suffix.result
     (strip_suffix_char 10 c.args.text.now c.strip_suffix.result c.strip_suffix.ensures.cases
-        (omega arith)) is
+    (omega arith)) is
 
 pub returns-clause-none : goal.returns-clause-none
 returns-clause-none c = λ is. not_stripped c.args.text.now c.strip_suffix.result
     (strip_suffix_char 10 c.args.text.now c.strip_suffix.result c.strip_suffix.ensures.cases
-        (omega arith)) is
+    (omega arith)) is

@@ -8,4 +8,4 @@ returns-clause-marked g c = mark_history _ _ c.requires.1 c.push_reserved.ensure
 pub returns-clause-sent : goal.returns-clause-sent
 returns-clause-sent g c =
     sender_mark c.args.producer.now c.push_reserved.new.self c.push_reserved.ensures.ring
-        c.requires.1 c.push_reserved.ensures.sent.0
+    c.requires.1 c.push_reserved.ensures.sent.0

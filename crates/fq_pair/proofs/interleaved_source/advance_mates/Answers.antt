@@ -36,23 +36,23 @@ returns-clause-found g c = λ _.
     let first = c.next_into.ensures.found c.requires.ready.last one in
     let second = of_current _ r _ held (c.advance.ensures.found first.last two) in
     let together = of_titles c.args.check_names true f r _ _ c.title.ensures.title
-        c.title-2.ensures.title checked.names in
+    c.title-2.ensures.title checked.names in
     of_pair (Some f) _ f r _ refl held
     (two_given g.F.Feed.state _ _ _ c.next_into.ensures.count c.advance.ensures.count
-        c.args.forward.now f c.args.check_names c.args.given (is_some c.args.names.now) true f r _
-        refl first second together)
+    c.args.forward.now f c.args.check_names c.args.given (is_some c.args.names.now) true f r _
+    refl first second together)
 
 pub returns-in_err-has_second-clause-fault : goal.returns-in_err-has_second-clause-fault
 returns-in_err-has_second-clause-fault g c =
     let one : c.next_into.result ≡ Ok true = grind (arith, common_steps) in
     let told = err_from_is_err_and c.from_residual-in_err-has_second.result
-        c.from_residual-in_err-has_second.ensures.1 in
+    c.from_residual-in_err-has_second.ensures.1 in
     let why = err_mapped c.advance.result c.map_err-2.result (Text Reverse) _
-        c.map_err-2.ensures.cases (λ why u is. search rules) _ c.in_err-has_second.was in
+    c.map_err-2.ensures.cases (λ why u is. search rules) _ c.in_err-has_second.was in
     rw (told.1, told.2, why.2) (second_fails g.F.Feed.state _ _ _ c.next_into.ensures.count
-        c.advance.ensures.count _ _ _ _ _ c.requires.ready
+    c.advance.ensures.count _ _ _ _ _ c.requires.ready
     (λ last. c.next_into.ensures.found last one) why.0
-        (λ last. rw why.1 at c.advance.ensures.fault last))
+    (λ last. rw why.1 at c.advance.ensures.fault last))
 
 pub returns-then-not-has_second-clause-fault : goal.returns-then-not-has_second-clause-fault
 returns-then-not-has_second-clause-fault g c =
@@ -60,8 +60,8 @@ returns-then-not-has_second-clause-fault g c =
     let two : c.advance.result ≡ Ok false = grind (arith, common_steps) in
     let first = c.next_into.ensures.found c.requires.ready.last one in
     mate_missing g.F.Feed.state _ _ _ c.next_into.ensures.count c.advance.ensures.count
-        c.args.forward.now c.args.check_names c.args.given (is_some c.args.names.now)
-        c.next_into.new.copy first
+    c.args.forward.now c.args.check_names c.args.given (is_some c.args.names.now)
+    c.next_into.new.copy first
     (c.advance.ensures.end first.last two)
 
 pub returns-in_err-lengths-clause-fault : goal.returns-in_err-lengths-clause-fault
@@ -73,12 +73,12 @@ returns-in_err-lengths-clause-fault g c =
     let two : c.advance.result ≡ Ok true = grind (arith, common_steps) in
     let first = c.next_into.ensures.found c.requires.ready.last one in
     let second =
-        of_current _ r _ c.record-second.ensures.record (c.advance.ensures.found first.last two) in
+    of_current _ r _ c.record-second.ensures.record (c.advance.ensures.found first.last two) in
     let apart = of_titles c.args.check_names false f r _ _ c.title.ensures.title
-        c.title-2.ensures.title checked.names in
+    c.title-2.ensures.title checked.names in
     let p = err_from_is_err_and c.from_residual-in_err-lengths.result
-        c.from_residual-in_err-lengths.ensures.1 in
+    c.from_residual-in_err-lengths.ensures.1 in
     rw (p.1, p.2) (names_differ g.F.Feed.state _ _ _ c.next_into.ensures.count
-        c.advance.ensures.count c.args.forward.now c.args.check_names c.args.given
-        (is_some c.args.names.now) f first
+    c.advance.ensures.count c.args.forward.now c.args.check_names c.args.given
+    (is_some c.args.names.now) f first
     r _ checked.err second apart)

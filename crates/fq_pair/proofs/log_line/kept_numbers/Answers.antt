@@ -13,11 +13,11 @@ numbers_of_kept n k within =
     let behind : n - k.start - (k.stop - k.start) ≡ n - k.stop = omega arith in
     sym (log_numbers-places n k.start (k.stop - k.start) (omega arith)
     ∙ ap (λ (last : ℕ). (k.stop - k.start) ∷ k.start ∷ last ∷ (n - k.start -
-        (k.stop - k.start)) ∷ []) stop
+    (k.stop - k.start)) ∷ []) stop
     ∙ ap (λ (end : ℕ). (k.stop - k.start) ∷ k.start ∷ k.stop ∷ end ∷ []) behind)
 
 pub returns-in-Some : goal.returns-in-Some
 returns-in-Some c =
     numbers_of_kept c.args.bases c.in-Some.kept
-        (subst (IsWithin c.args.bases) c.in-Some.is c.requires)
+    (subst (IsWithin c.args.bases) c.in-Some.is c.requires)
     ∙ ap (λ (kept : Option Kept). log_numbers c.args.bases (places_of kept)) (sym c.in-Some.is)

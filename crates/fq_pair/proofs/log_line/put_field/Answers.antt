@@ -38,4 +38,4 @@ returns-clause-text c =
     let all : length text ≡ length c.args.text.now = c.write_digits-at.auto.buf in
     let next : at - 1 + 1 ≡ at = omega arith in
     drop-set text (at - 1) 32 (omega arith) ∙ ap (λ n. 32 ∷ drop n text) next
-        ∙ ap (λ others. 32 ∷ others) c.write_digits-at.ensures.written
+    ∙ ap (λ others. 32 ∷ others) c.write_digits-at.ensures.written

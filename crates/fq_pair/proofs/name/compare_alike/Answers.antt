@@ -7,7 +7,7 @@ returns-then-forward-last-clause-same c =
     let forward = ap length c.without_mark-forward.ensures in
     let reverse = ap length c.without_mark-reverse.ensures in
     let one = short_names c.args.word.now c.args.mate.now c.requires.some c.requires.like
-        (omega arith) (omega arith) in
+    (omega arith) (omega arith) in
     rw one (search rules)
 
 pub returns-else-forward-last-clause-same : goal.returns-else-forward-last-clause-same
@@ -15,4 +15,4 @@ returns-else-forward-last-clause-same c =
     let forward = ap length c.without_mark-forward.ensures in
     let reverse = ap length c.without_mark-reverse.ensures in
     whole_names c.args.word.now c.args.mate.now c.requires.some c.requires.like (omega arith)
-        (omega arith)
+    (omega arith)

@@ -14,12 +14,12 @@ returns-then-begins_like-clause-same c =
     let word = c.first_word-word.ensures in
     let whole = ap (before_first is_gap) word ∙ word_of_word c.args.forward.now ∙ sym word in
     let mate = word_beside c.args.reverse.now c.first_word-word.result.now whole (like.some yes)
-        (like.within yes) (like.like yes) (like.last yes) (like.end yes) in
+    (like.within yes) (like.like yes) (like.last yes) (like.end yes) in
     c.compare_alike.ensures.same
     ∙ ap (λ (w : List ℕ). bytes_eq (without_end (mark_of Forward) c.first_word-word.result.now)
-        (without_end (mark_of Reverse) w)) mate
+    (without_end (mark_of Reverse) w)) mate
     ∙ ap (λ (w : List ℕ). bytes_eq (without_end (mark_of Forward) w)
-        (without_end (mark_of Reverse) (before_first is_gap c.args.reverse.now))) word
+    (without_end (mark_of Reverse) (before_first is_gap c.args.reverse.now))) word
 
 pub returns-then-begins_like-clause-lengths : goal.returns-then-begins_like-clause-lengths
 returns-then-begins_like-clause-lengths c =
@@ -28,9 +28,9 @@ returns-then-begins_like-clause-lengths c =
     let word = c.first_word-word.ensures in
     let whole = ap (before_first is_gap) word ∙ word_of_word c.args.forward.now ∙ sym word in
     let mate = word_beside c.args.reverse.now c.first_word-word.result.now whole (like.some yes)
-        (like.within yes) (like.like yes) (like.last yes) (like.end yes) in
+    (like.within yes) (like.like yes) (like.last yes) (like.end yes) in
     same_lengths c.compare_alike.result.0 c.args.forward.now c.args.reverse.now
     (c.compare_alike.ensures.forward ∙ ap (λ (w : List ℕ). length (without_end (mark_of Forward) w))
-        word)
+    word)
     (c.compare_alike.ensures.reverse ∙ ap (λ (w : List ℕ). length (without_end (mark_of Reverse) w))
-        mate)
+    mate)

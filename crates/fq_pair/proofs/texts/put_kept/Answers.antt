@@ -12,18 +12,18 @@ append_record-requires-clause-scored c =
     let read = c.args.read.now in
     let recode = c.then_some-recode.ensures ∙ ap (then_some c.args.recode) c.encoding.ensures in
     subst (λ (r : Option Encoding). CanRecode r (take n (drop start c.qual.result.now)))
-        (sym recode)
+    (sym recode)
     (subst (λ (bytes : List ℕ). CanRecode (then_some c.args.recode read.encoding)
-        (take n (drop start bytes))) (sym c.qual.ensures)
+    (take n (drop start bytes))) (sym c.qual.ensures)
     (can_recode read c.args.kept c.args.recode c.title-title.ensures.lawful))
 
 pub returns : goal.returns
 returns c =
     let read = c.args.read.now in
     let recode : c.then_some-recode.result ≡ then_some c.args.recode read.encoding =
-        c.then_some-recode.ensures ∙ ap (then_some c.args.recode) c.encoding.ensures in
+    c.then_some-recode.ensures ∙ ap (then_some c.args.recode) c.encoding.ensures in
     let text = record_of_kept read c.args.kept c.args.recode c.title-title.ensures.lawful
-        c.requires.within in
+    c.requires.within in
     let title = c.title-title.ensures.title in
     let seq = c.seq.ensures in
     let qual = c.qual.ensures in

@@ -16,12 +16,12 @@ returns-in-Some c =
     let text = string_bytes c.in-Some.reason in
     let is : ending_reason a o ≡ Some text =
     ap (ending_reason a) (sym c.settled.ensures) ∙ sym c.in_ok-reason.ensures
-        ∙ ap (option_map string_bytes) c.in-Some.is in
+    ∙ ap (option_map string_bytes) c.in-Some.is in
     let add = known_ending a o text c.if-not-request.false is in
     let plain = c.as_str.ensures.value ∙ (c.in_ok-fault_line.ensures.ok
-        ∙ ap (λ bytes. bytes ++ outcome_line c.args.outcome) c.new-line.ensures.bytes)
-        ∙ add.plain in
+    ∙ ap (λ bytes. bytes ++ outcome_line c.args.outcome) c.new-line.ensures.bytes)
+    ∙ add.plain in
     IfOk-weaker c.with_reason.result _ _
     (λ explained e. e ∙ ap (λ r. line (outcome_words o ++ codes ": " ++ r))
-        c.as_str-in-Some.ensures.value ∙ add.whole)
+    c.as_str-in-Some.ensures.value ∙ add.whole)
     (c.with_reason.ensures (outcome_words o) plain)

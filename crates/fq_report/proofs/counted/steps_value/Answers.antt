@@ -15,11 +15,14 @@ loop-number-preserved c =
     let steps = c.loop-number.steps.items in
     let step = c.in_ok-step.step in
     let size = length-map c.args.words.now (λ word. word.now) in
-    let at = get_or-map (λ word. word.now) c.args.words.now number (record { ref_ptr = (0, 0); now =
-        [] }) [] c.loop-number-test.true in
+    let at = get_or-map (λ word. word.now) c.args.words.now number (record {
+      ref_ptr = (0, 0);
+      now =
+          [];
+    }) [] c.loop-number-test.true in
     let is = c.in_ok-step.ensures ∙ ap (λ (word : List ℕ). step_value number word tally) (sym at) in
     ap (λ (vs : List Value). map view vs ++ steps_from (number + 1) (drop (number + 1) words) tally)
-        c.in_ok-push.ensures.items
+    c.in_ok-push.ensures.items
     ∙ next_step steps step number words tally (omega arith) is
     ∙ c.loop-number.invariant
 
@@ -28,7 +31,7 @@ returns c =
     let words = map (λ word. word.now) c.args.words.now in
     let size = length-map c.args.words.now (λ word. word.now) in
     let built : view (Array c.loop-number.steps)
-        ≡ array (items_of (map view c.loop-number.steps.items)) = search (rules, the_lemmas) in
+    ≡ array (items_of (map view c.loop-number.steps.items)) = search (rules, the_lemmas) in
     built ∙ ap (λ (ds : List Data). array (items_of ds))
-        (all_steps c.loop-number.steps.items c.loop-number.number words c.args.tally.now
-        (omega arith) c.loop-number.invariant)
+    (all_steps c.loop-number.steps.items c.loop-number.number words c.args.tally.now
+    (omega arith) c.loop-number.invariant)

@@ -7,4 +7,4 @@ abbrev pub invariant-loop-number : goal.invariant-loop-number
 invariant-loop-number l =
     let words = map (λ word. word.now) l.words in
     map view l.steps.items ++ steps_from l.number (drop l.number words) l.tally
-        ≡ steps_from 0 words l.tally
+    ≡ steps_from 0 words l.tally

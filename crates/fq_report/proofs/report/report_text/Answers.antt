@@ -8,6 +8,6 @@ pub returns : goal.returns
 returns c =
     let is = c.in_ok-value.ensures in
     let text =
-        c.in_ok-text.ensures.text (ap has_float is ∙ report_no_float (facts_of c.args.report.now))
-        ∙ ap compact_text is in
+    c.in_ok-text.ensures.text (ap has_float is ∙ report_no_float (facts_of c.args.report.now))
+    ∙ ap compact_text is in
     c.in_ok-push_str.ensures.bytes ∙ ap (λ (bytes : List ℕ). bytes ++ 10 ∷ []) text

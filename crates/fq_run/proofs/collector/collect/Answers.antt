@@ -11,14 +11,14 @@ write_all-requires-clause-collects g c =
     let o = g.O.Outlet in
     let states = outlet_states o.state c.args.outlets.now in
     subst (λ (t : Total). Collects (is_some t.tally) (vec_len c.new-collector.result.replies) states
-        states c.new-collector.result) (sym c.new-collector.ensures.total)
+    states c.new-collector.result) (sym c.new-collector.ensures.total)
     (subst (λ v. Collects (is_some c.args.total.tally) (vec_len v) states states
-        c.new-collector.result) (sym c.new-collector.ensures.replies)
-        (c.new-collector.ensures.collects states))
+    c.new-collector.result) (sym c.new-collector.ensures.replies)
+    (c.new-collector.ensures.collects states))
 
 pub returns-clause-written : goal.returns-clause-written
 returns-clause-written g c = λ sound.
     (let drains = c.drain.ensures.drains in
     let h = drains.collects _ _ _ _ c.write_all.ensures.collects in
     written_gathers _ c.drain.new.self.phase _ _ h.written c.drain.new.self (omega (arith, h.turn))
-        (λ at. c.write_all.ensures.over (sym drains.phase ∙ at)) sound h.writes)
+    (λ at. c.write_all.ensures.over (sym drains.phase ∙ at)) sound h.writes)

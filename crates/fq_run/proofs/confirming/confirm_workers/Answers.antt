@@ -8,4 +8,4 @@ pub returns : goal.returns
 returns c =
     let l = c.loop-ends in
     l.invariant.confirmed (nothing_left CanConfirm Confirmed _ _ _ l.invariant.left (omega
-        (arith, l.ends-iterator.rest.ok.0, c.in-None.ensures.steps.0)))
+    (arith, l.ends-iterator.rest.ok.0, c.in-None.ensures.steps.0)))

@@ -6,8 +6,13 @@ use Rattle.fq_run.proofs.dealer.close_all.Goals as goal
 pub loop-ends-preserved : goal.loop-ends-preserved
 loop-ends-preserved c = record {
   room = c.push_reserved.ensures.capacity ∙ c.loop-ends.invariant.room;
-  count = omega (arith, c.push_reserved.ensures.len, c.loop-ends.invariant.count, length-append
-      c.loop-ends.yielded (c.in-Some.ends ∷ []));
+  count = omega (
+    arith,
+    c.push_reserved.ensures.len,
+    c.loop-ends.invariant.count,
+    length-append
+        c.loop-ends.yielded (c.in-Some.ends ∷ []),
+  );
   closed = zip_pushed Closed _ _ _ _ _ c.loop-ends.invariant.closed
       (subst (λ to. Closed to c.close.result) c.ends.view_is c.close.ensures)
       c.push_reserved.ensures.items;

@@ -9,8 +9,12 @@ returns g c =
       name = c.deal_from-why.ensures.name;
       closed = c.deal_from-why.ensures.closed;
       started = c.deal_from-why.ensures.started;
-      deals = record { sent = c.deal_from-why.new.to.items; out =
-          c.deal_from-why.ensures.deals; ends = c.close_all.ensures };
+      deals = record {
+        sent = c.deal_from-why.new.to.items;
+        out =
+            c.deal_from-why.ensures.deals;
+        ends = c.close_all.ensures;
+      };
       idle = λ none. let idle = c.deal_from-why.ensures.idle none in
           (idle.0, ap s.state idle.1, ap (λ (v : _). v.items) idle.2);
     }

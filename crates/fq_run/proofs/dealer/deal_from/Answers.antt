@@ -11,6 +11,6 @@ returns-in_err-take_wait-clause-deals g c =
     let source = s.state c.args.source.now in
     let lanes = c.args.to.now.items in
     let P : Option ReadingEnd → Type 0 = λ why. DealsOut c.args.settings.now source source lanes
-        lanes why in
+    lanes why in
     subst P (sym c.from_residual.ensures) (deals_nothing c.args.settings.now source lanes
-        c.requires.deals.goes _ c.requires.deals.lanes)
+    c.requires.deals.goes _ c.requires.deals.lanes)

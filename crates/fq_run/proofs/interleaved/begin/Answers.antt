@@ -13,9 +13,9 @@ returns-in-Ok g c =
     let fs = f.state in
     let e = c.ending_of.ensures in
     closed (interleaved_state f.state) fs fs (λ s. s.source.feed) (λ s. s.source.feed) (λ s. refl)
-        (λ s. refl)
+    (λ s. refl)
     InterleavedText c.args.settings.now _ c.args.feed c.args.feed c.in-Ok.ensures.ok _ _
-        c.run.result _ _ _ _ _ _ e.outcome e.total e.unended e.refused e.feed e.feed c.run.ensures
+    c.run.result _ _ _ _ _ _ e.outcome e.total e.unended e.refused e.feed e.feed c.run.ensures
 
 pub returns-in-Err : goal.returns-in-Err
 returns-in-Err g c =
@@ -23,5 +23,5 @@ returns-in-Err g c =
     let fs = f.state in
     let back = c.in-Err.ensures.err in
     refused _ c.args.settings.now _ _ _ _ _ _ _ _ _
-        (c.refused.ensures (ap outcome_of c.new.ensures)) (ap fs back) (ap fs back) refl
-        c.flush_after.ensures c.requires.feed c.requires.feed
+    (c.refused.ensures (ap outcome_of c.new.ensures)) (ap fs back) (ap fs back) refl
+    c.flush_after.ensures c.requires.feed c.requires.feed

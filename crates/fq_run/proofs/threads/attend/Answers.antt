@@ -42,11 +42,11 @@ conclude-requires-clause-workers g c =
     let k = c.collect-collector.result in
     let ws = c.join_workers-worked.result.items in
     let a = all_answered tallied steps to m.ends c.args.replies.items _ ws m.laid m.seated
-        c.join_workers-worked.ensures in
+    c.join_workers-worked.ensures in
     can_confirm tallied steps d.sent c.join-dealt.result.closings.items ws k.replies.items d.ends
     (subst (λ ns. Each3 (Answered tallied steps) ns (names_of k.replies.items) ws) (sym d.out.names)
-        (subst (λ ns. Each3 (Answered tallied steps) (names_of to) ns ws)
-        (sym c.collect-collector.ensures.names) a))
+    (subst (λ ns. Each3 (Answered tallied steps) (names_of to) ns ws)
+    (sym c.collect-collector.ensures.names) a))
     c.collect-collector.ensures.over.1
 
 pub returns : goal.returns
@@ -59,25 +59,29 @@ returns g c =
     let k = c.collect-collector.result in
     let ws = c.join_workers-worked.result.items in
     let a = all_answered tallied steps to m.ends c.args.replies.items _ ws m.laid m.seated
-        c.join_workers-worked.ensures in
+    c.join_workers-worked.ensures in
     let o = g.O.Outlet in
     let len : length to ≡ vec_len c.args.replies = laid_length to m.ends c.args.replies.items m.laid
-        ∙ omega (arith, c.args.replies.ok.0) in
+    ∙ omega (arith, c.args.replies.ok.0) in
     let put : 0 < length c.put.new.self.items =
-        omega (arith, ap (λ l. length l.items) c.put.ensures, length-append crew.starter.items
-        (tt ∷ [])) in
+    omega (
+      arith,
+      ap (λ l. length l.items) c.put.ensures,
+      length-append crew.starter.items
+          (tt ∷ []),
+    ) in
     let collected : Bool → Type 0 = λ b. Collects b (vec_len c.args.replies)
-        (outlet_states o.state c.args.outlets.now)
-        (outlet_states o.state c.collect-collector.new.outlets) k in
+    (outlet_states o.state c.args.outlets.now)
+    (outlet_states o.state c.collect-collector.new.outlets) k in
     let flushed : Option Out → Type 0 = λ f. FlushesAfter f
-        (outlet_states o.state c.collect-collector.new.outlets)
+    (outlet_states o.state c.collect-collector.new.outlets)
     (outlet_states o.state c.flush_after-failed.new.self) c.flush_after-failed.result in
     threaded g.S.PairReader.state crew.dealer.promise.settings _ c.requires.fresh _ _ _
-        c.close-started.result c.put.new.self _ c.join-dealt.result ws k _ c.conclude.result to
-        (vec_len c.args.replies)
+    c.close-started.result c.put.new.self _ c.join-dealt.result ws k _ c.conclude.result to
+    (vec_len c.args.replies)
     c.conclude.ensures c.join-dealt.ensures put c.close-started.ensures
-        (matched tallied steps _ _ _ ws k.replies.items a) len
-        (omega (arith, c.args.replies.ok.0, m.some))
+    (matched tallied steps _ _ _ ws k.replies.items a) len
+    (omega (arith, c.args.replies.ok.0, m.some))
     (subst collected (asked_by _ _ c.requires.total) c.collect-collector.ensures.collects)
-        c.collect-collector.ensures.over.0
+    c.collect-collector.ensures.over.0
     (subst flushed c.failed.ensures c.flush_after-failed.ensures)

@@ -11,7 +11,7 @@ returns-in-Err g c =
     let s = g.S.PairReader in let o = g.O.Outlet in
     let states = outlet_states o.state in
     let P : Conclusion g.row.S.Denot → Type 0 =
-        λ e. IsThreaded c.args.settings.now (run_from s.state (s.state c.args.source) (states
-        c.args.outlets.now) (states c.flush_after.new.self) e) e.unended e.refused in
+    λ e. IsThreaded c.args.settings.now (run_from s.state (s.state c.args.source) (states
+    c.args.outlets.now) (states c.flush_after.new.self) e) e.unended e.refused in
     subst P (sym c.refused.ensures) (refused _ _ _ _ _ _ _ _ _ _ _ refl refl refl refl
-        c.flush_after.ensures c.requires.fresh.forward c.requires.fresh.reverse)
+    c.flush_after.ensures c.requires.fresh.forward c.requires.fresh.reverse)

@@ -11,32 +11,40 @@ use Rattle.fq_run.proofs.threads.start.Goals as goal
 pub start_dealer-requires-clause-deals : goal.start_dealer-requires-clause-deals
 start_dealer-requires-clause-deals g c κs within =
     can_deal _ c.args.settings.now _ c.args.dealer c.args.ready c.requires.ready
-        (omega (arith, c.args.dealer.to.ok.0)) c.requires.fresh c.requires.few
+    (omega (arith, c.args.dealer.to.ok.0)) c.requires.fresh c.requires.few
 
 pub returns-in_default : goal.returns-in_default
 returns-in_default g c =
     let s = g.S.PairReader in let o = g.O.Outlet in
     let states = outlet_states o.state in
     let P : Conclusion g.row.S.Denot → Type 0 =
-        λ e. IsThreaded c.args.settings.now (run_from s.state (s.state c.args.dealer.source) (states
-        c.args.outlets.now) (states c.args.outlets.now) e) e.unended e.refused in
+    λ e. IsThreaded c.args.settings.now (run_from s.state (s.state c.args.dealer.source) (states
+    c.args.outlets.now) (states c.args.outlets.now) e) e.unended e.refused in
     subst P (sym c.unstarted.ensures) (unstarted _ _ refl (ap (λ (t : Total). t.counts)
-        c.requires.total) (ap (λ (t : Total). t.tally) c.requires.total) (record { outlets =
-        refl; forward = tt; reverse = tt }) (λ gone. refl, λ gone. refl))
+    c.requires.total) (ap (λ (t : Total). t.tally) c.requires.total) (record {
+      outlets =
+          refl;
+      forward = tt;
+      reverse = tt;
+    }) (λ gone. refl, λ gone. refl))
 
 pub returns-then-not-start_workers : goal.returns-then-not-start_workers
 returns-then-not-start_workers g c =
     let s = g.S.PairReader in let o = g.O.Outlet in
     let states = outlet_states o.state in
     let P : Conclusion g.row.S.Denot → Type 0 =
-        λ e. IsThreaded c.args.settings.now (run_from s.state (s.state c.args.dealer.source) (states
-        c.args.outlets.now) (states c.args.outlets.now) e) e.unended e.refused in
+    λ e. IsThreaded c.args.settings.now (run_from s.state (s.state c.args.dealer.source) (states
+    c.args.outlets.now) (states c.args.outlets.now) e) e.unended e.refused in
     let left = c.into_unread-source.result in
     let back = unread s.state (s.state c.args.dealer.source) left
-        (idle s.state _ _ _ _ _ _ _ _ _ c.join.result.source left
-        (ap s.state c.in-Some.ensures.source) refl c.join.ensures c.into_unread-source.ensures) in
+    (idle s.state _ _ _ _ _ _ _ _ _ c.join.result.source left
+    (ap s.state c.in-Some.ensures.source) refl c.join.ensures c.into_unread-source.ensures) in
     subst P (sym c.unstarted-then-not-start_workers.ensures)
     (unstarted _ _ refl (ap (λ (t : Total). t.counts) c.requires.total)
-        (ap (λ (t : Total). t.tally) c.requires.total) (record { outlets = refl; forward =
-        back.0; reverse = back.1 }) (of_one (λ x. feed_in (s.state x).forward) (λ x. feed_in
-        (s.state x).reverse) left))
+    (ap (λ (t : Total). t.tally) c.requires.total) (record {
+      outlets = refl;
+      forward =
+          back.0;
+      reverse = back.1;
+    }) (of_one (λ x. feed_in (s.state x).forward) (λ x. feed_in
+    (s.state x).reverse) left))

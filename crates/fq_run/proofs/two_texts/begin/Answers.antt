@@ -13,9 +13,9 @@ returns-in-Ok g c =
     let fs = f.state in let gs = r.state in
     let e = c.ending_of.ensures in
     closed (source_state f.state r.state) fs gs (λ s. s.forward.feed) (λ s. s.reverse.feed)
-        (λ s. refl) (λ s. refl)
+    (λ s. refl) (λ s. refl)
     TwoTexts c.args.settings.now _ c.args.forward c.args.reverse c.in-Ok.ensures.ok _ _ c.run.result
-        _ _ _ _ _ _ e.outcome e.total e.unended e.refused e.forward e.reverse c.run.ensures
+    _ _ _ _ _ _ e.outcome e.total e.unended e.refused e.forward e.reverse c.run.ensures
 
 pub returns-in-Err : goal.returns-in-Err
 returns-in-Err g c =
@@ -23,5 +23,5 @@ returns-in-Err g c =
     let fs = f.state in let gs = r.state in
     let back = c.in-Err.ensures.err in
     refused _ c.args.settings.now _ _ _ _ _ _ _ _ _
-        (c.refused.ensures (ap outcome_of c.new.ensures)) (ap fs back.0) (ap gs back.1) refl
-        c.flush_after.ensures c.requires.forward c.requires.reverse
+    (c.refused.ensures (ap outcome_of c.new.ensures)) (ap fs back.0) (ap gs back.1) refl
+    c.flush_after.ensures c.requires.forward c.requires.reverse

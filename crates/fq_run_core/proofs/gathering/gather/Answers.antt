@@ -33,23 +33,23 @@ returns-then-is_err g c = let i = c.loop.invariant in let goes = i.goes in
     let asked = rw c.in-Ok-true.field-0-test at c.in-Ok-true.ensures in
     let read = of_in_hand _ _ _ c.pair_in_hand-pair.ensures (asked.advances goes.last) in
     gathers_refused (is_some c.args.done.now.tally) c.args.steps.now _ _ _ _ _ _ _ _ (omega arith)
-        c.loop.invariant read
+    c.loop.invariant read
     (err_says c.add.result c.is_err.result _ c.is_err.ensures.value c.if-is_err.true
-        c.add.ensures.err)
+    c.add.ensures.err)
 
 pub returns-in-Ok-false : goal.returns-in-Ok-false
 returns-in-Ok-false g c = let i = c.loop.invariant in let goes = i.goes in
     let asked = rw c.in-Ok-false.field-0-test at c.in-Ok-false.ensures in
     let met = asked.advances goes.last in
     gathers_end (is_some c.args.done.now.tally) c.args.steps.now _ _ _ _ _ _ (omega arith)
-        c.loop.invariant met.0
+    c.loop.invariant met.0
 
 pub returns-in-Err : goal.returns-in-Err
 returns-in-Err g c = let i = c.loop.invariant in let goes = i.goes in
     let asked = c.in-Err.ensures in
     let met = asked.advances goes.last in
     gathers_fault (is_some c.args.done.now.tally) c.args.steps.now _ _ _ _ _ _ _ (omega arith)
-        c.loop.invariant met.0
+    c.loop.invariant met.0
 
 pub loop-preserved : goal.loop-preserved
 loop-preserved g c = let i = c.loop.invariant in let goes = i.goes in
@@ -57,9 +57,9 @@ loop-preserved g c = let i = c.loop.invariant in let goes = i.goes in
     let pair = c.pair_in_hand-pair.result in
     let read = of_in_hand _ _ _ c.pair_in_hand-pair.ensures (asked.advances goes.last) in
     gathered_more (is_some c.args.done.now.tally) c.args.steps.now _ _ _ _ _ _ _ c.loop.invariant
-        read asked.within pair.forward pair.reverse refl refl
+    read asked.within pair.forward pair.reverse refl refl
     (ok_says c.add.result c.is_err.result _ c.is_err.ensures.value c.if-is_err.false
-        c.add.ensures.ok)
+    c.add.ensures.ok)
 
 pub returns : goal.returns
 returns g c = gathers_full (is_some c.args.done.now.tally) c.args.steps.now _ _ _ _ _ (omega arith)

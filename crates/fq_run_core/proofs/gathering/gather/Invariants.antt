@@ -7,4 +7,4 @@ abbrev pub invariant-loop : goal.invariant-loop
 invariant-loop g l =
     let s = g.S.PairReader in
     Gathered (s.state l.fn.source) (s.state l.source) (is_some l.fn.done.tally) l.fn.steps l.done
-        l.counter
+    l.counter

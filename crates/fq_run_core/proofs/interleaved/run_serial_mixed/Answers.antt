@@ -11,17 +11,17 @@ flush_after-failed-requires g c = runs_healthy _ c.args.settings.now _ _ _ _ _ _
 pub returns-clause-serial : goal.returns-clause-serial
 returns-clause-serial g c =
     serial_rank _ c.args.settings.now _ _ _ _ _ _ _ _ _ _ c.pass-written.ensures _ _ _
-        c.flush_after-failed.ensures (c.outcome.ensures
-        ∙ ap outcome_of c.new.ensures) c.requires.feed c.requires.feed refl
+    c.flush_after-failed.ensures (c.outcome.ensures
+    ∙ ap outcome_of c.new.ensures) c.requires.feed c.requires.feed refl
 
 pub returns-clause-whole : goal.returns-clause-whole
 returns-clause-whole g c =
     run_whole _ c.args.settings.now _ _ _ _ _ _ _ _ _ _ c.pass-written.ensures _ _ _
-        c.flush_after-failed.ensures (c.outcome.ensures
-        ∙ ap outcome_of c.new.ensures) c.requires.feed c.requires.feed
+    c.flush_after-failed.ensures (c.outcome.ensures
+    ∙ ap outcome_of c.new.ensures) c.requires.feed c.requires.feed
 
 pub returns-clause-every : goal.returns-clause-every
 returns-clause-every g c =
     run_every _ c.args.settings.now _ _ _ _ _ _ _ _ _ _ c.pass-written.ensures _ _ _
-        c.flush_after-failed.ensures (c.outcome.ensures
-        ∙ ap outcome_of c.new.ensures) c.requires.feed c.requires.feed
+    c.flush_after-failed.ensures (c.outcome.ensures
+    ∙ ap outcome_of c.new.ensures) c.requires.feed c.requires.feed

@@ -6,9 +6,10 @@ use Rattle.fq_run_core.proofs.BlockLemmas.{wrote_none, wrote_more, passes_broken
 use Rattle.fq_run_core.proofs.writing.write_each.Goals as goal
 
 pub writing-init : goal.writing-init
-writing-init g c =
-    (wrote_none c.args.settings.now _ _ c.args.total.now c.requires.goes c.requires.none,
-    c.requires.asked)
+writing-init g c = (
+  wrote_none c.args.settings.now _ _ c.args.total.now c.requires.goes c.requires.none,
+  c.requires.asked,
+)
 
 pub write_block-why-requires-clause-outlets : goal.write_block-why-requires-clause-outlets
 write_block-why-requires-clause-outlets g c = let w = c.writing.invariant.0 in
@@ -18,40 +19,40 @@ pub returns-in-Err : goal.returns-in-Err
 returns-in-Err g c =
     let block = c.write_block-why.ensures in
     let gathered = gathers_as c.writing.invariant.1 c.steps-steps.ensures
-        c.block_pairs-most.ensures.pairs block.gathers in
+    c.block_pairs-most.ensures.pairs block.gathers in
     passes_broken c.args.settings.now _ _ c.in-Err.out c.writing.invariant.0 gathered
-        (rw c.in-Err.is at block.sends) c.write_block-why.new.total
-        (rw c.in-Err.is at block.uncounted)
+    (rw c.in-Err.is at block.sends) c.write_block-why.new.total
+    (rw c.in-Err.is at block.uncounted)
 
 pub returns-then-is_some : goal.returns-then-is_some
 returns-then-is_some g c =
     let block = c.write_block-why.ensures in
     let gathered = gathers_as c.writing.invariant.1 c.steps-steps.ensures
-        c.block_pairs-most.ensures.pairs block.gathers in
+    c.block_pairs-most.ensures.pairs block.gathers in
     passes_whole c.args.settings.now _ _ c.writing.invariant.0 gathered
-        (rw c.in_default.is at block.sends) c.requires.fresh c.requires.few
+    (rw c.in_default.is at block.sends) c.requires.fresh c.requires.few
     (omega (arith, c.block_pairs-most.ensures.most, c.block_pairs-most.ensures.pairs))
-        (end_is _ _ c.is_some.ensures c.if-is_some.true) c.write_block-why.new.total
-        (rw c.in_default.is at block.counted)
+    (end_is _ _ c.is_some.ensures c.if-is_some.true) c.write_block-why.new.total
+    (rw c.in_default.is at block.counted)
 
 pub writing-smaller : goal.writing-smaller
 writing-smaller g c =
     let block = c.write_block-why.ensures in
     let gathered = gathers_as c.writing.invariant.1 c.steps-steps.ensures
-        c.block_pairs-most.ensures.pairs block.gathers in
+    c.block_pairs-most.ensures.pairs block.gathers in
     nearer c.args.settings.now _ _ c.writing.invariant.0 gathered
-        (omega (arith, c.block_pairs-most.ensures.some, c.block_pairs-most.ensures.pairs))
-        (end_none _ _ c.is_some.ensures c.if-is_some.false)
+    (omega (arith, c.block_pairs-most.ensures.some, c.block_pairs-most.ensures.pairs))
+    (end_none _ _ c.is_some.ensures c.if-is_some.false)
 
 pub writing-preserved : goal.writing-preserved
 writing-preserved g c =
     let block = c.write_block-why.ensures in
     let gathered = gathers_as c.writing.invariant.1 c.steps-steps.ensures
-        c.block_pairs-most.ensures.pairs block.gathers in (
+    c.block_pairs-most.ensures.pairs block.gathers in (
       wrote_more c.args.settings.now _ _ c.writing.invariant.0 gathered
           (rw c.in_default.is at block.sends) c.requires.fresh c.requires.few
           (omega (arith, c.block_pairs-most.ensures.most, c.block_pairs-most.ensures.pairs))
-              (end_none _ _ c.is_some.ensures c.if-is_some.false) c.write_block-why.new.total
-              (rw c.in_default.is at block.counted),
+          (end_none _ _ c.is_some.ensures c.if-is_some.false) c.write_block-why.new.total
+          (rw c.in_default.is at block.counted),
       gathered_asked _ _ c.args.settings.now.tallied _ _ _ _ gathered,
     )

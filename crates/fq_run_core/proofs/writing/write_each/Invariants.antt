@@ -10,7 +10,7 @@ invariant-writing g l =
     let s = g.S.PairReader in let o = g.O.Outlet in
     Wrote l.fn.settings (s.state l.fn.source) (outlet_states o.state l.fn.outlets)
     (s.state l.source) (outlet_states o.state l.outlets) l.total
-        × (is_some l.done.tally ≡ l.fn.settings.tallied)
+    × (is_some l.done.tally ≡ l.fn.settings.tallied)
 
 abbrev pub decreases-writing : goal.decreases-writing
 decreases-writing g l = let s = g.S.PairReader in

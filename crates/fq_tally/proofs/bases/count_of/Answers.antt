@@ -15,19 +15,23 @@ goes_on : (low high from at stop : ℕ) (seq qual bases bytes : List ℕ) (old n
     1 ≤ low → 1 ≤ high → from ≤ at → at ≤ stop →
     Holds (take (stop - at) (drop at seq)) bases → Holds (take (stop - at) (drop at qual)) bytes →
     IsCount low high (take (at - from) (drop from seq)) (take (at - from) (drop from qual)) old →
-        CountsOn low high bases bytes old new →
+    CountsOn low high bases bytes old new →
     IsCount low high (take (stop - from) (drop from seq)) (take (stop - from) (drop from qual)) new
 goes_on low high from at stop seq qual bases bytes old new some_low some_high begun order held holds
     so_far more = record {
-  gc = more.gc ∙ counted_on is_gc refl seq bases from at stop _ _ begun order held refl so_far.gc;
-  n = more.n ∙ counted_on is_n refl seq bases from at stop _ _ begun order held refl so_far.n;
-  low = more.low ∙ counted_on (nat_le low) (not_zero low some_low) qual bytes from at stop _ _ begun
-      order holds refl so_far.low;
-  high = more.high ∙ counted_on (nat_le high) (not_zero high some_high) qual bytes from at stop _ _
-      begun order holds refl so_far.high;
-  sum = more.sum ∙ summed_on (λ (x : ℕ). x) refl qual bytes from at stop _ _ begun order holds refl
-      so_far.sum;
-}
+      gc = more.gc ∙ counted_on is_gc refl seq bases from at stop _ _ begun order held refl
+          so_far.gc;
+      n = more.n ∙ counted_on is_n refl seq bases from at stop _ _ begun order held refl so_far.n;
+      low = more.low ∙ counted_on (nat_le low) (not_zero low some_low) qual bytes from at stop _ _
+          begun
+          order holds refl so_far.low;
+      high = more.high ∙ counted_on (nat_le high) (not_zero high some_high) qual bytes from at stop
+          _ _
+          begun order holds refl so_far.high;
+      sum = more.sum ∙ summed_on (λ (x : ℕ). x) refl qual bytes from at stop _ _ begun order holds
+          refl
+          so_far.sum;
+    }
 
 pub loop-at-preserved : goal.loop-at-preserved
 loop-at-preserved c =
@@ -52,6 +56,6 @@ pub returns-then-at-to : goal.returns-then-at-to
 returns-then-at-to c =
     let old = c.loop-at.invariant in
     goes_on c.args.low c.args.high c.args.from c.loop-at.at c.args.to c.args.seq.now c.args.qual.now
-        _ _ _ _ c.requires.low c.requires.high old.begun old.within
-        c.vector_of-bases-then-at-to.ensures c.vector_of-bytes-then-at-to.ensures old.count
-        c.with-counted-then-at-to.ensures
+    _ _ _ _ c.requires.low c.requires.high old.begun old.within
+    c.vector_of-bases-then-at-to.ensures c.vector_of-bytes-then-at-to.ensures old.count
+    c.with-counted-then-at-to.ensures

@@ -33,29 +33,41 @@ illumina b is = let least : 64 ≤ b =
 found : (e k : Encoding) (off : ℕ) (qual : List ℕ) (bytes : ℕ) →
     ((b : ℕ) → is_scored k b ≡ true → value_of k b + off ≡ b) → e ≡ k →
     list_all (is_scored e) qual ≡ true → bytes ≡ sum qual →
-        sum (scores e qual) + off * length qual ≡ bytes
+    sum (scores e qual) + off * length qual ≡ bytes
 found e k off qual bytes each is all whole =
     let scored : list_all (is_scored k) qual ≡ true = ap (λ x. list_all (is_scored x) qual) (sym is)
-        ∙ all in
+    ∙ all in
     let same : sum (scores e qual) ≡ sum (scores k qual) = ap (λ x. sum (scores x qual)) is in
     omega (arith, distances k off each qual scored)
 
 pub overflow_sub-result : goal.overflow_sub-result
 overflow_sub-result c =
-    omega (arith, found c.args.encoding Sanger 33 c.args.qual.now c.args.bytes sanger c.in-Sanger.is
-    c.requires.scored c.requires.bytes)
+    omega (
+      arith,
+      found c.args.encoding Sanger 33 c.args.qual.now c.args.bytes sanger c.in-Sanger.is
+          c.requires.scored c.requires.bytes,
+    )
 
 pub overflow_sub-result-in-Illumina13 : goal.overflow_sub-result-in-Illumina13
 overflow_sub-result-in-Illumina13 c =
-    omega (arith, found c.args.encoding Illumina13 64 c.args.qual.now c.args.bytes illumina
-        c.in-Illumina13.is c.requires.scored c.requires.bytes)
+    omega (
+      arith,
+      found c.args.encoding Illumina13 64 c.args.qual.now c.args.bytes illumina
+          c.in-Illumina13.is c.requires.scored c.requires.bytes,
+    )
 
 pub returns-in-Sanger : goal.returns-in-Sanger
 returns-in-Sanger c =
-    omega (arith, found c.args.encoding Sanger 33 c.args.qual.now c.args.bytes sanger c.in-Sanger.is
-    c.requires.scored c.requires.bytes)
+    omega (
+      arith,
+      found c.args.encoding Sanger 33 c.args.qual.now c.args.bytes sanger c.in-Sanger.is
+          c.requires.scored c.requires.bytes,
+    )
 
 pub returns-in-Illumina13 : goal.returns-in-Illumina13
 returns-in-Illumina13 c =
-    omega (arith, found c.args.encoding Illumina13 64 c.args.qual.now c.args.bytes illumina
-        c.in-Illumina13.is c.requires.scored c.requires.bytes)
+    omega (
+      arith,
+      found c.args.encoding Illumina13 64 c.args.qual.now c.args.bytes illumina
+          c.in-Illumina13.is c.requires.scored c.requires.bytes,
+    )

@@ -14,10 +14,10 @@ loop-byte-preserved c =
     let i = c.loop-byte.byte-index in
     let within : i < length q = omega (arith, length-scores Solexa qual) in
     let same : c.phred.result ≡ get_or q i 0 = c.phred.ensures
-        ∙ sym (score_at Solexa qual i (omega arith)) in
+    ∙ sym (score_at Solexa qual i (omega arith)) in
     let small =
-        value_small Solexa (get_or qual i 0)
-        (at_place (is_scored Solexa) qual i c.requires.scored (omega arith)) in
+    value_small Solexa (get_or qual i 0)
+    (at_place (is_scored Solexa) qual i c.requires.scored (omega arith)) in
     let more = sum_by_more (λ (x : ℕ). x) q i 0 within in
     let read = c.from-sum.ensures in
     let so_far = c.loop-byte.invariant.total in

@@ -8,5 +8,7 @@ pub loop-i-preserved : goal.loop-i-preserved
 loop-i-preserved c =
     let long = c.fits-bytes.0 in
     let below = c.loop-i-test.true in
-    record { converted = converted_next (lane_score Solexa) c.args.bytes c.loop-i.scores c.loop-i.i
-        c.solexa_score.result c.loop-i.invariant.converted (omega arith) c.solexa_score.ensures }
+    record {
+      converted = converted_next (lane_score Solexa) c.args.bytes c.loop-i.scores c.loop-i.i
+          c.solexa_score.result c.loop-i.invariant.converted (omega arith) c.solexa_score.ensures;
+    }

@@ -5,5 +5,7 @@ use Rattle.fq_tally.proofs.few.solexa_scores.Given as goal
 
 abbrev pub invariant-loop-i : goal.invariant-loop-i
 invariant-loop-i l =
-    record { converted : l.scores ≡ map (lane_score Solexa) (take l.i l.fn.bytes) ++ drop l.i
-    l.fn.bytes }
+    record {
+      converted : l.scores ≡ map (lane_score Solexa) (take l.i l.fn.bytes) ++ drop l.i
+          l.fn.bytes;
+    }

@@ -25,7 +25,7 @@ returns c =
     let seq_len = ap length seq_is in
     let qual_len = ap length qual_is in
     let left = c.requires.left
-        ∙ ap bases_of (sym (kept_part read k e seq qual e_is seq_is qual_is within same_len)) in
+    ∙ ap bases_of (sym (kept_part read k e seq qual e_is seq_is qual_is within same_len)) in
     let before : ℕ → BaseTally = λ n. bases_of (part_before e seq qual n) in
     let front : c.if-kept-eq0.front ≡ before k.start =
     elim c.if-kept-eq0.branch [
@@ -36,13 +36,13 @@ returns c =
     let read_is : part e seq qual ≡ whole read = cc in
     c.with.ensures
     ∙ ap (λ (n : ℕ). bases_plus c.plus.result
-        (bases_of (part e (take (length seq - k.stop) (drop k.stop seq)) (take n
-        (drop k.stop qual))))) as_long
+    (bases_of (part e (take (length seq - k.stop) (drop k.stop seq)) (take n
+    (drop k.stop qual))))) as_long
     ∙ ap (λ (t : BaseTally). bases_plus t (bases_of (part_from e seq qual k.stop))) c.plus.ensures
     ∙ ap (λ (t : BaseTally). bases_plus (bases_plus c.args.left t)
-        (bases_of (part_from e seq qual k.stop))) front
+    (bases_of (part_from e seq qual k.stop))) front
     ∙ ap (λ (t : BaseTally). bases_plus (bases_plus t (before k.start))
-        (bases_of (part_from e seq qual k.stop))) left
+    (bases_of (part_from e seq qual k.stop))) left
     ∙ counted_in_parts e seq qual k.start k.stop (omega arith) (omega arith) (omega arith)
-        (omega arith) (rw (e_is, qual_is) lawful.scores)
+    (omega arith) (rw (e_is, qual_is) lawful.scores)
     ∙ ap bases_of read_is

@@ -5,9 +5,9 @@ use Rattle.fq_tally.proofs.tables.width_of.Goals as goal
 pub returns-then-most-lt256 : goal.returns-then-most-lt256
 returns-then-most-lt256 c =
     all_at_most c.args.counts.now c.loop-count.count-index c.loop-count.most 255 (omega arith)
-        (omega arith) c.loop-count.invariant.most
+    (omega arith) c.loop-count.invariant.most
 
 pub returns-then-most-lt65536 : goal.returns-then-most-lt65536
 returns-then-most-lt65536 c =
     all_at_most c.args.counts.now c.loop-count.count-index c.loop-count.most 65535 (omega arith)
-        (omega arith) c.loop-count.invariant.most
+    (omega arith) c.loop-count.invariant.most

@@ -7,7 +7,7 @@ pub returns-clause-holds : goal.returns-clause-holds
 returns-clause-holds c =
     let bytes = c.args.bytes.now in
     filled_up bytes _ (ap₂ (λ front behind. front ++ behind) c.copy_from_slice.ensures.after
-        (drop-replicate (length bytes) 32 0))
+    (drop-replicate (length bytes) 32 0))
 
 pub returns-clause-lanes : goal.returns-clause-lanes
 returns-clause-lanes c = ap₂ (λ front behind. front ++ behind) c.copy_from_slice.ensures.after

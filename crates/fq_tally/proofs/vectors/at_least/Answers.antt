@@ -9,4 +9,4 @@ returns c =
     let v = c.args.bytes in
     let long = c.fits-bytes.0 in
     flags_counted (leb c.args.limit) v (omega arith)
-        (zip2_splat_left (λ (a b : ℕ). flag (leb a b)) c.args.limit 32 v long)
+    (zip2_splat_left (λ (a b : ℕ). flag (leb a b)) c.args.limit 32 v long)

@@ -14,5 +14,5 @@ returns c = λ f nothing.
     let fits = chunk-fits w8 0 32 bytes c.type_inv.bytes in
     ap (λ mask. sum_by f (zip2 bit_and (take 32 bytes) mask)) c.keeps_first.ensures
     ∙ first_kept f nothing (take 32 bytes) count (32 - count) fits
-        (length-take-le 32 bytes c.requires.enough ∙ omega arith)
+    (length-take-le 32 bytes c.requires.enough ∙ omega arith)
     ∙ ap (sum_by f) (take-take count 32 bytes c.requires.few)

@@ -7,4 +7,4 @@ pub returns : goal.returns
 returns c =
     let k = 32 - c.args.count in
     take-take 32 (64 - k) (drop k (replicate 32 255 ++ replicate 32 0)) (omega arith)
-        ∙ edge 255 0 k c.args.count (omega arith)
+    ∙ edge 255 0 k c.args.count (omega arith)

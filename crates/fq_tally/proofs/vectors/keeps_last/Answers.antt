@@ -7,4 +7,4 @@ pub returns : goal.returns
 returns c =
     let k = c.args.count in
     take-take 32 (64 - k) (drop k (replicate 32 0 ++ replicate 32 255)) (omega arith)
-        ∙ edge 0 255 k (32 - k) (omega arith)
+    ∙ edge 0 255 k (32 - k) (omega arith)

@@ -15,7 +15,7 @@ returns-clause-holds c = λ f nothing.
     let all = c.requires.all in
     ap (λ mask. sum_by f (zip2 bit_and (take 32 bytes) mask)) c.keeps_last.ensures
     ∙ last_kept f nothing (take 32 bytes) count (32 - count) fits
-        (length-take-le 32 bytes (omega arith) ∙ omega arith)
+    (length-take-le 32 bytes (omega arith) ∙ omega arith)
     ∙ ap (λ xs. sum_by f (drop (32 - count) xs)) (take_all 32 bytes (omega arith))
 
 pub returns-clause-lanes : goal.returns-clause-lanes
@@ -27,5 +27,5 @@ returns-clause-lanes c =
     let few = c.requires.few in
     ap (λ mask. zip2 bit_and (take 32 bytes) mask) c.keeps_last.ensures
     ∙ last_lanes (take 32 bytes) count (32 - count) fits (length-take-le 32 bytes (omega arith)
-        ∙ omega arith)
+    ∙ omega arith)
     ∙ ap (λ xs. replicate (32 - count) 0 ++ drop (32 - count) xs) (take_all 32 bytes (omega arith))

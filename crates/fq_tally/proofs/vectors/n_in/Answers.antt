@@ -11,4 +11,4 @@ returns c =
     let long = c.fits-bases.0 in
     let is = λ (letter : ℕ). zip2_splat (λ (a b : ℕ). flag (eqb a b)) v 32 letter long in
     flags_counted is_n v (omega arith) (either (λ (b : ℕ). eqb b 78) (λ (b : ℕ). eqb b 110) v
-        (is 78) (is 110))
+    (is 78) (is 110))

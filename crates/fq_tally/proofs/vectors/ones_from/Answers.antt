@@ -9,7 +9,7 @@ returns-clause-each c =
     let v = c.args.bytes in
     let long = c.fits-bytes.0 in
     ones_chosen (leb c.args.least) v 32 long
-        (zip2_splat_left (λ (a b : ℕ). flag (leb a b)) c.args.least 32 v long)
+    (zip2_splat_left (λ (a b : ℕ). flag (leb a b)) c.args.least 32 v long)
 
 pub returns-clause-ones : goal.returns-clause-ones
 returns-clause-ones c = ones_are_few (leb c.args.least) c.args.bytes _ (returns-clause-each c)

@@ -7,7 +7,7 @@ returns-clause-each c =
     let v = c.args.bases in
     let letter = c.args.letter in
     ones_chosen (λ (b : ℕ). eqb b (letter - 32) || eqb b letter) v 32 c.fits-bases.0
-        (either_case letter v c.requires.from_a c.requires.to_z c.fits-bases.0 c.fits-bases.1)
+    (either_case letter v c.requires.from_a c.requires.to_z c.fits-bases.0 c.fits-bases.1)
 
 pub returns-clause-ones : goal.returns-clause-ones
 returns-clause-ones c = ones_are_few (λ (b : ℕ). eqb b (c.args.letter - 32) || eqb b c.args.letter)

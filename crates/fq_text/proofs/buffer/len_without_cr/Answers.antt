@@ -18,6 +18,6 @@ returns-then-piece-len-eq13-clause-line c = without_cr_yes _ _ (omega arith)
 pub returns-else-len-gt0-clause-line : goal.returns-else-len-gt0-clause-line
 returns-else-len-gt0-clause-line c = no_cr c.args.piece.now
     (λ some is. elim c.else-len-gt0.branch as (λ _. ⊥) [
-  | else-len-gt0-via-then-len-gt0+else-piece-len-eq13 w ↦ w.if-piece-len-eq13.false is
-  | else-len-gt0-via-else-len-gt0 w ↦ absurd (omega arith)
-])
+      | else-len-gt0-via-then-len-gt0+else-piece-len-eq13 w ↦ w.if-piece-len-eq13.false is
+      | else-len-gt0-via-else-len-gt0 w ↦ absurd (omega arith)
+    ])

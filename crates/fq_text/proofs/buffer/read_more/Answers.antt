@@ -12,7 +12,7 @@ unwritten grown wrote past other before filled room is same within =
     let none : filled ≡ filled + 0 = omega arith in
     ap (λ m. take m (take room (take filled grown ++ (wrote ++ past) ++ other))) none
     ∙ written_behind grown wrote past other before filled 0 room is same (omega arith) (omega arith)
-        ∙ append-nil before
+    ∙ append-nil before
 
 pub returns-clause-moved : goal.returns-clause-moved
 returns-clause-moved g c = cases_mapped c.read.result c.map_err.result _ _ _ c.map_err.ensures.cases
@@ -33,7 +33,7 @@ returns-clause-moved g c = cases_mapped c.read.result c.map_err.result _ _ _ c.m
       bytes = written_behind c.deref_mut.result.now c.read.new.buf _ _
           (take c.args.filled c.args.bytes.now.items) c.args.filled n grown.len
           (ap (take c.args.filled) at ∙ c.in_ok-grow.ensures.kept) (length-take-le c.args.filled
-              c.args.bytes.now.items c.requires.filled) (omega arith) (omega arith);
+          c.args.bytes.now.items c.requires.filled) (omega arith) (omega arith);
       fed = rw got at c.read.ensures.moved;
       none = λ is. end (ap Ok is) (simp (length-take, length-drop) (omega arith));
     })
@@ -41,8 +41,8 @@ returns-clause-moved g c = cases_mapped c.read.result c.map_err.result _ _ _ c.m
       bytes = unwritten c.deref_mut.result.now c.read.new.buf _ _
           (take c.args.filled c.args.bytes.now.items) c.args.filled c.grow.new.bytes.len
           (ap (take c.args.filled) c.deref_mut.ensures.value
-              ∙ c.in_ok-grow.ensures.kept) (length-take-le c.args.filled c.args.bytes.now.items
-              c.requires.filled)
+          ∙ c.in_ok-grow.ensures.kept) (length-take-le c.args.filled c.args.bytes.now.items
+          c.requires.filled)
           (omega (arith, c.in_ok-grow.ensures.room));
       fed = rw got at c.read.ensures.err;
       cause = inl (search rules);

@@ -14,21 +14,21 @@ returns-clause-found g c =
     let a = c.args.lines.now in
     let b = c.take_line.new.self in
     let first = subst (λ (h : List ℕ). BeginsWithRecord e h s) c.hand-hand.ensures
-        c.in_ok-shape.ensures.found in
+    c.in_ok-shape.ensures.found in
     let took = rw c.lines_len-len.ensures at c.take_line.ensures in
     let line = ap (λ (r : Lined g.row.F.Denot). r.line) took in
     let used : lines_len s + s.end ≡ four_len s = omega arith in
     subst (λ (r : Read). Goes g.F.Feed.state a b (front e) (Found r))
-        (sym (taken_same e a.in_hand s first b.line line))
+    (sym (taken_same e a.in_hand s first b.line line))
     (goes_first g.F.Feed.state a b e s (lines_len s) (took
-        ∙ ap (λ n. behind_line g.F.Feed.state a (lines_len s) n) used) first)
+    ∙ ap (λ n. behind_line g.F.Feed.state a (lines_len s) n) used) first)
 
 pub returns-clause-whole : goal.returns-clause-whole
 returns-clause-whole g c =
     let e = c.args.encoding in
     let s = c.in_ok-shape.shape in
     let first = subst (λ (h : List ℕ). BeginsWithRecord e h s) c.hand-hand.ensures
-        c.in_ok-shape.ensures.found in
+    c.in_ok-shape.ensures.found in
     let took = rw c.lines_len-len.ensures at c.take_line.ensures in
     taken_whole e c.args.lines.now.in_hand s first c.take_line.new.self.line
-        (ap (λ (r : Lined g.row.F.Denot). r.line) took)
+    (ap (λ (r : Lined g.row.F.Denot). r.line) took)

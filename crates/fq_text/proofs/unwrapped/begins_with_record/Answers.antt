@@ -8,7 +8,7 @@ pub is_lawful_line-requires : goal.is_lawful_line-requires
 is_lawful_line-requires c =
     let title = ap (λ (read : Read). read.title) (c.parts_of.ensures c.args.encoding) in
     subst (λ (xs : List ℕ). list_all (λ b. not (eqb b 10)) xs ≡ true) title
-        (one_line_to c.args.shape.title (drop 1 c.args.hand.now) c.requires.title.no_lf)
+    (one_line_to c.args.shape.title (drop 1 c.args.hand.now) c.requires.title.no_lf)
 
 pub returns : goal.returns
 returns c =

@@ -17,10 +17,10 @@ two_lines : (e : Encoding) (hand : List ℕ) (s : Shape) (t k n m : ℕ) → Beg
     (t ≡ s.title) × (k ≡ s.end) × (n ≡ s.bases) × (m ≡ s.end)
 two_lines e hand s t k n m first title bases =
     let found =
-        as_found e hand s first t k (subst (λ (xs : List ℕ). IsFirstLine xs t k) (take_rest hand 1)
-        title) in
+    as_found e hand s first t k (subst (λ (xs : List ℕ). IsFirstLine xs t k) (take_rest hand 1)
+    title) in
     let same = same_line (drop (t + k + 1) hand) n m s.bases s.end
-        (subst (λ (xs : List ℕ). IsFirstLine xs n m) (take_rest hand (t + k + 1)) bases) found.2 in
+    (subst (λ (xs : List ℕ). IsFirstLine xs n m) (take_rest hand (t + k + 1)) bases) found.2 in
     (found.0, found.1, same.0, same.1)
 
 pub returns-in_err-title-clause-none : goal.returns-in_err-title-clause-none
@@ -28,12 +28,12 @@ returns-in_err-title-clause-none c none s first =
     let hand = c.args.hand.now in
     first_line_ends (drop 1 hand) s.title s.end (title_line c.args.encoding hand s first)
     (subst (λ (xs : List ℕ). NoLf xs (length xs)) (take_rest hand 1)
-        (c.in_err-title.ensures.none refl))
+    (c.in_err-title.ensures.none refl))
 
 pub shape_of-requires-in-Some-first_line : goal.shape_of-requires-in-Some-first_line
 shape_of-requires-in-Some-first_line c =
     subst (λ (xs : List ℕ). IsFirstLine xs c.in_ok-title.title.len c.in_ok-title.title.end)
-        (take_rest c.args.hand.now 1) c.in_ok-title.ensures.found
+    (take_rest c.args.hand.now 1) c.in_ok-title.ensures.found
 
 pub returns-in-Some-first_line-clause-none : goal.returns-in-Some-first_line-clause-none
 returns-in-Some-first_line-clause-none c none s first =
@@ -42,17 +42,17 @@ returns-in-Some-first_line-clause-none c none s first =
     let title = c.in_ok-title.title in
     let seq = c.in-Some-first_line.seq in
     let found = two_lines e hand s title.len title.end seq.len seq.end first
-        c.in_ok-title.ensures.found c.in-Some-first_line.ensures.found in
+    c.in_ok-title.ensures.found c.in-Some-first_line.ensures.found in
     c.shape_of-in-Some-first_line.ensures.none none s.again
     (subst (λ (shape : Shape). BeginsWithRecord e hand shape)
-        (shape_is s title.len seq.len title.end found.0 found.2 found.1) first)
+    (shape_is s title.len seq.len title.end found.0 found.2 found.1) first)
 
 pub returns-in_default-first_line-clause-none : goal.returns-in_default-first_line-clause-none
 returns-in_default-first_line-clause-none c none s first =
     let title = c.in_ok-title.title in
     let seq = c.in-Some-first_line.seq in
     let found = two_lines c.args.encoding c.args.hand.now s title.len title.end seq.len seq.end
-        first c.in_ok-title.ensures.found c.in-Some-first_line.ensures.found in
+    first c.in_ok-title.ensures.found c.in-Some-first_line.ensures.found in
     c.if-seq-title.false (found.3 ∙ sym found.1)
 
 pub returns-in_default-first_line-2-clause-none : goal.returns-in_default-first_line-2-clause-none
@@ -62,8 +62,8 @@ returns-in_default-first_line-2-clause-none c none s first =
     let t = c.in_ok-title.title.len in
     let k = c.in_ok-title.title.end in
     let found =
-        as_found e hand s first t k (subst (λ (xs : List ℕ). IsFirstLine xs t k) (take_rest hand 1)
-        c.in_ok-title.ensures.found) in
+    as_found e hand s first t k (subst (λ (xs : List ℕ). IsFirstLine xs t k) (take_rest hand 1)
+    c.in_ok-title.ensures.found) in
     first_line_ends (drop (t + k + 1) hand) s.bases s.end found.2
     (subst (λ (xs : List ℕ). NoLf xs (length xs)) (take_rest hand (t + k + 1))
-        (c.in_default-first_line.ensures.none refl))
+    (c.in_default-first_line.ensures.none refl))

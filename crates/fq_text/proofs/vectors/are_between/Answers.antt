@@ -12,6 +12,6 @@ returns c =
     let most_long = c.fits-most.0 in
     ap₂ (λ a b. a && b)
     (all_at_least low least (omega arith) (zip2_splat (λ (a b : ℕ). flag (ltb a b)) least 32 low
-        long))
+    long))
     (all_at_most 126 most (omega arith) (zip2_splat_left (λ (a b : ℕ). flag (ltb a b)) 126 32 most
-        most_long))
+    most_long))

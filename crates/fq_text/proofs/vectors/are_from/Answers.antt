@@ -22,7 +22,7 @@ loop-start-preserved c =
       judged = one_more c.args.lowest 126 c.loop-start.start 32 bytes c.loop-start.least
           c.loop-start.most (list_all (is_from c.args.lowest) (chunk (length bytes - 32) 32 bytes))
           c.loop-start.auto.least.0 c.loop-start.auto.most.0 (omega arith)
-              c.loop-start.invariant.judged;
+          c.loop-start.invariant.judged;
     }
 
 pub returns : goal.returns
@@ -32,4 +32,4 @@ returns c =
     c.are_between.ensures
     ∙ c.loop-start.invariant.judged
     ∙ with_the_last (is_from c.args.lowest) c.loop-start.start (length c.args.bytes.now - 32) 32
-        c.args.bytes.now (omega arith) (omega arith)
+    c.args.bytes.now (omega arith) (omega arith)

@@ -11,7 +11,7 @@ invariant-loop-start l = record {
   room : l.start ≤ length l.bytes;
   judged : list_all (λ b. nat_le l.fn.lowest b) l.least && list_all (λ b. nat_le b 126) l.most
       ≡ list_all (is_from l.fn.lowest) (take l.start l.bytes) && list_all (is_from l.fn.lowest)
-          (chunk l.last 32 l.bytes);
+      (chunk l.last 32 l.bytes);
 }
 
 abbrev pub decreases-loop-start : goal.decreases-loop-start

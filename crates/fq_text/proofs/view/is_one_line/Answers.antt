@@ -13,7 +13,7 @@ without_lf [] none = refl
 without_lf (x ∷ xs) none = ⊎_elim
     (λ here. absurd (none 0 (omega arith) (omega arith) here))
     (λ off. and_from _ _ (not_from_false _ off)
-        (without_lf xs (λ k low lt. none (suc k) (omega arith) (omega arith))))
+    (without_lf xs (λ k low lt. none (suc k) (omega arith) (omega arith))))
     (cases_Bool (eqb x 10))
 
 -- a search for LF finds none exactly if no byte is LF

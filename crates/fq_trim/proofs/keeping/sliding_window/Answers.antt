@@ -18,8 +18,8 @@ returns-then-good-width c =
     let is = ap (λ n. sum (take w (drop n q))) place in
     let bad = found.bad (omega arith) in
     rw c.stop_at-then-good-width.ensures (subst (λ n. IsBetween
-        (keeps (SlidingWindow w c.args.score) q) n 0 0) len
-        (window_bad w c.args.score q (omega arith)))
+    (keeps (SlidingWindow w c.args.score) q) n 0 0) len
+    (window_bad w c.args.score q (omega arith)))
 
 pub after_last-requires : goal.after_last-requires
 after_last-requires c = all_taken (is_scored c.args.encoding) c.args.qual.now
@@ -34,6 +34,6 @@ returns c =
     let len = length-scores c.args.encoding c.args.qual.now in
     let within = found.within in
     rw c.stop_at-2.ensures (window_scores c.args.encoding c.args.qual.now c.args.width c.args.score
-        _ c.good_stop-good.result c.after_last.result refl c.requires.window (omega arith)
-        (omega arith) (omega arith) last.within found.good (λ lt. found.bad (omega arith)) last.high
-        last.low)
+    _ c.good_stop-good.result c.after_last.result refl c.requires.window (omega arith)
+    (omega arith) (omega arith) last.within found.good (λ lt. found.bad (omega arith)) last.high
+    last.low)

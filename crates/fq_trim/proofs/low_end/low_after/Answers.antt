@@ -12,8 +12,8 @@ returns-then-high-eq0 c =
     let turned = c.turned.result in
     let long = c.turned.ensures.long in
     let mask =
-        mask_of (leb score) turned (omega arith)
-        (zip2_splat_left (λ a b. flag (leb a b)) score 16 turned long) in
+    mask_of (leb score) turned (omega arith)
+    (zip2_splat_left (λ a b. flag (leb a b)) score 16 turned long) in
     let none = leading_from_mask_l (leb score) turned (sym mask ∙ c.if-high-eq0.true) in
     record {
       within = omega arith;
@@ -26,12 +26,12 @@ returns-else-high-eq0 c =
     let turned = c.turned.result in
     let long = c.turned.ensures.long in
     let mask =
-        mask_of (leb score) turned (omega arith)
-        (zip2_splat_left (λ a b. flag (leb a b)) score 16 turned long) in
+    mask_of (leb score) turned (omega arith)
+    (zip2_splat_left (λ a b. flag (leb a b)) score 16 turned long) in
     let some = c.if-high-eq0.false in
     let set : 0 < mask_l (map (leb score) turned) = omega arith in
     let first = ap (count_trailing_zeros 64) mask
-        ∙ trailing_mask_l (leb score) 64 turned (omega arith) set in
+    ∙ trailing_mask_l (leb score) 64 turned (omega arith) set in
     record {
       within = few c.args.scores turned score _ long c.turned.ensures.each first;
       low = low c.args.scores turned score _ long c.turned.ensures.each first;

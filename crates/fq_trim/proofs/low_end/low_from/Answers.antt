@@ -7,8 +7,8 @@ returns-then-low-lt-TOGETHER-clause-low c =
     let old = c.loop-stop.invariant in
     let here = c.low_after-low.ensures in
     lower c.args.offset c.args.score c.loop-stop.stop c.low_after-low.result c.args.qual.now
-        c.less_16.result c.loop-stop-test.true old.within c.less_16.ensures here.low old.low
-        here.within
+    c.less_16.result c.loop-stop-test.true old.within c.less_16.ensures here.low old.low
+    here.within
 
 pub loop-stop-preserved : goal.loop-stop-preserved
 loop-stop-preserved c =
@@ -21,6 +21,6 @@ loop-stop-preserved c =
       within = omega arith;
       low = λ k from lt.
           lower c.args.offset c.args.score c.loop-stop.stop c.low_after-low.result c.args.qual.now
-              c.less_16.result c.loop-stop-test.true old.within c.less_16.ensures here.low old.low
-              here.within k (omega arith) lt;
+          c.less_16.result c.loop-stop-test.true old.within c.less_16.ensures here.low old.low
+          here.within k (omega arith) lt;
     }

@@ -8,7 +8,7 @@ pub loop-byte-preserved : goal.loop-byte-preserved
 loop-byte-preserved c =
     let byte = get_or c.args.qual.now c.loop-byte.byte-index 0 in
     let scored = at_place (is_scored c.args.encoding) c.args.qual.now c.loop-byte.byte-index
-        c.requires.scored (omega arith) in
+    c.requires.scored (omega arith) in
     let small = value_small c.args.encoding byte scored in
     record {
       total = grind (arith, common_steps);

@@ -10,7 +10,7 @@ pub kept_by-left-requires-clause-scored : goal.kept_by-left-requires-clause-scor
 kept_by-left-requires-clause-scored c =
     let e = c.args.encoding in
     all_taken (is_scored e) _ (c.loop-step.stop - c.loop-step.start)
-        (all_dropped (is_scored e) c.args.qual.now c.loop-step.start c.requires.scored)
+    (all_dropped (is_scored e) c.args.qual.now c.loop-step.start c.requires.scored)
 
 pub loop-step-preserved : goal.loop-step-preserved
 loop-step-preserved c =
@@ -35,7 +35,7 @@ loop-step-preserved c =
       left = ap (λ n. kept_of rest (scores e qual) (places (start + lo) n)) width
           ∙ sym (step_keeps _ rest (scores e qual) start stop lo hi order (omega arith) part)
           ∙ ap (λ ss. kept_of ss (scores e qual) (places start (stop - start)))
-              (sym (drop_more c.args.steps.now c.loop-step.step-index (Leading 0)
-              c.loop-step-test.true))
+          (sym (drop_more c.args.steps.now c.loop-step.step-index (Leading 0)
+          c.loop-step-test.true))
           ∙ old.left;
     }

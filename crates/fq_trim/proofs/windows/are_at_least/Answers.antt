@@ -9,4 +9,4 @@ returns c =
     let score = c.args.score in
     let long = c.fits-scores.0 in
     all_pass (leb score) c.args.scores long (zip2_splat_left (λ a b. flag (leb a b)) score 16
-        c.args.scores long)
+    c.args.scores long)

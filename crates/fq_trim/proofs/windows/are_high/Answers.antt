@@ -10,8 +10,8 @@ loop-byte-preserved c =
     let i = c.loop-byte.byte-index in
     let q = scores c.args.encoding c.args.qual.now in
     let same = c.from.ensures ∙ c.phred.ensures
-        ∙ sym (score_at c.args.encoding c.args.qual.now i (omega arith)) in
+    ∙ sym (score_at c.args.encoding c.args.qual.now i (omega arith)) in
     ap (λ b. b && nat_le c.args.score c.from.result) c.loop-byte.invariant
     ∙ ap (λ v. list_all (nat_le c.args.score) (take i q) && nat_le c.args.score v) same
     ∙ sym (list_all_more (nat_le c.args.score) q i 0
-        (omega (arith, length-scores c.args.encoding c.args.qual.now)))
+    (omega (arith, length-scores c.args.encoding c.args.qual.now)))

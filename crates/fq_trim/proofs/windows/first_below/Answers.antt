@@ -25,7 +25,7 @@ returns-else-below-eq0 c =
     let some = c.if-below-eq0.false in
     let set : 0 < mask_l (map (λ x. ltb x least) sums) = omega arith in
     let first = ap (count_trailing_zeros 64) mask
-        ∙ trailing_mask_l (λ x. ltb x least) 64 sums (omega arith) set in
+    ∙ trailing_mask_l (λ x. ltb x least) 64 sums (omega arith) set in
     record {
       within = at_most sums least _ first;
       good = none_before sums least _ first;

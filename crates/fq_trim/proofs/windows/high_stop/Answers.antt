@@ -10,7 +10,7 @@ pub are_high-requires : goal.are_high-requires
 are_high-requires c =
     let stop = c.loop-stop.stop in
     all_taken (is_scored c.args.encoding) (drop stop c.args.qual.now) _
-        (all_dropped (is_scored c.args.encoding) c.args.qual.now stop c.requires)
+    (all_dropped (is_scored c.args.encoding) c.args.qual.now stop c.requires)
 
 pub loop-stop-preserved : goal.loop-stop-preserved
 loop-stop-preserved c =
@@ -22,7 +22,7 @@ loop-stop-preserved c =
     let next : list_all (nat_le c.args.score) (take HIGH_CHUNK (drop stop q)) ≡ true =
     ap (λ n. list_all (nat_le c.args.score) (take n (drop stop q))) (sym size)
     ∙ ap (list_all (nat_le c.args.score)) (sym (scores_of_part c.args.encoding c.args.qual.now stop
-        (stop + HIGH_CHUNK - stop)))
+    (stop + HIGH_CHUNK - stop)))
     ∙ sym c.are_high.ensures ∙ c.if-are_high.true in
     record {
       within = omega arith;

@@ -23,9 +23,9 @@ returns-then-good-lt-TOGETHER-clause-stop c =
     let from = c.min-from.ensures in
     let few = c.if-good-lt-TOGETHER.true in
     stops_there c.args.offset c.args.width c.args.least c.min-from.result c.first_below-good.result
-        c.args.qual.now c.sums_of.result small c.sums_of.ensures.each (omega arith)
+    c.args.qual.now c.sums_of.result small c.sums_of.ensures.each (omega arith)
     (λ s lt. c.requires.good s (omega arith)) found.good c.requires.window (omega arith) few
-        (found.bad (omega arith))
+    (found.bad (omega arith))
 
 pub returns-clause-next : goal.returns-clause-next
 returns-clause-next c =

@@ -7,7 +7,7 @@ use Rattle.fq_trim.proofs.windows.stop_from.Goals as goal
 pub overflow_add-sum : goal.overflow_add-sum
 overflow_add-sum c =
     let small = part_small c.args.encoding c.args.qual.now (c.loop-end.end - c.args.width)
-        c.args.width c.requires.scored in
+    c.args.width c.requires.scored in
     let entering = part_small c.args.encoding c.args.qual.now c.loop-end.end 1 c.requires.scored in
     omega arith
 
@@ -15,7 +15,7 @@ pub overflow_sub-sum : goal.overflow_sub-sum
 overflow_sub-sum c =
     let from = c.loop-end.invariant.from in
     let next = next_window c.args.encoding c.args.qual.now c.args.width c.loop-end.end
-        c.requires.window from c.loop-end-test.true in
+    c.requires.window from c.loop-end-test.true in
     omega arith
 
 pub returns-then-sum-least : goal.returns-then-sum-least
@@ -23,7 +23,7 @@ returns-then-sum-least c =
     let old = c.loop-end.invariant in
     let from = old.from in
     let next = next_window c.args.encoding c.args.qual.now c.args.width c.loop-end.end
-        c.requires.window from c.loop-end-test.true in
+    c.requires.window from c.loop-end-test.true in
     let len = length-scores c.args.encoding c.args.qual.now in
     let low = c.if-sum-least.true in
     record {
@@ -41,14 +41,14 @@ loop-end-preserved c =
     let old = c.loop-end.invariant in
     let from = old.from in
     let next = next_window c.args.encoding c.args.qual.now w end c.requires.window from
-        c.loop-end-test.true in
+    c.loop-end-test.true in
     let high = c.if-sum-least.false in
     record {
       from = omega arith;
       total = omega arith;
       windows = λ s le. ⊎_elim
           (λ same. let start : s ≡ end + 1 - w = omega arith in let is =
-              ap (λ n. sum (take w (drop n q))) start in omega arith)
+          ap (λ n. sum (take w (drop n q))) start in omega arith)
           (λ other. old.windows s (omega arith))
           (cases_eq (s + w) (end + 1));
     }

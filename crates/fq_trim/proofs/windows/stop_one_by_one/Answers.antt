@@ -8,7 +8,7 @@ pub total_of-first-requires : goal.total_of-first-requires
 total_of-first-requires c =
     let start = c.max-from.result - c.args.width in
     all_taken (is_scored c.args.encoding) (drop start c.args.qual.now) _
-        (all_dropped (is_scored c.args.encoding) c.args.qual.now start c.requires.scored)
+    (all_dropped (is_scored c.args.encoding) c.args.qual.now start c.requires.scored)
 
 pub returns-then-first-least : goal.returns-then-first-least
 returns-then-first-least c =
@@ -18,8 +18,8 @@ returns-then-first-least c =
     let least = c.requires.least in
     let low = c.if-first-least.true in
     let bad = from_bad c.args.encoding c.args.qual.now w c.args.score c.args.score _ _ _ refl
-        c.requires.fits high.within high.high c.max-from.ensures c.total_of-first.ensures.sum
-        (omega arith) in
+    c.requires.fits high.within high.high c.max-from.ensures c.total_of-first.ensures.sum
+    (omega arith) in
     let len = length-scores c.args.encoding c.args.qual.now in
     let fits = c.requires.fits in
     let some = c.requires.window in
@@ -37,7 +37,7 @@ pub stop_from-requires-clause-sum : goal.stop_from-requires-clause-sum
 stop_from-requires-clause-sum c =
     let high = c.high_stop.ensures in
     from_sum c.args.encoding c.args.qual.now c.args.width c.args.score c.args.score _ _ _ refl
-        c.requires.fits high.within high.high c.max-from.ensures c.total_of-first.ensures.sum
+    c.requires.fits high.within high.high c.max-from.ensures c.total_of-first.ensures.sum
 
 pub stop_from-requires-clause-good : goal.stop_from-requires-clause-good
 stop_from-requires-clause-good c = λ s le.
@@ -45,6 +45,6 @@ stop_from-requires-clause-good c = λ s le.
     let least = c.requires.least in
     let enough = c.if-first-least.false in
     let good = from_good c.args.encoding c.args.qual.now c.args.width c.args.score c.args.score _ _
-        _ refl c.requires.fits high.within high.high c.max-from.ensures c.total_of-first.ensures.sum
-        (omega arith) s le in
+    _ refl c.requires.fits high.within high.high c.max-from.ensures c.total_of-first.ensures.sum
+    (omega arith) s le in
     omega arith

@@ -18,6 +18,6 @@ loop-i-preserved c =
       long = c.type_inv.sums.0;
       each = λ k lt. ap (λ sums. get_or sums k 0) c.plus-sums.ensures
           ∙ lane_more c.args.offset c.loop-i.i k c.args.qual.now c.loop-i.sums
-              c.less_32-scores.result old.long (omega arith) lt c.less_32-scores.ensures
-              (old.each k lt);
+          c.less_32-scores.result old.long (omega arith) lt c.less_32-scores.ensures
+          (old.each k lt);
     }

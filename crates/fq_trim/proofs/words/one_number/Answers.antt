@@ -8,4 +8,4 @@ returns-then-is_some-clause-value c =
     let more = pieces_behind c.cut_piece.result.1 (sym c.is_some.ensures ∙ c.if-is_some.true) in
     let long = ap length (ap pieces_in c.in-Some.is ∙ c.cut_piece.ensures) in
     sym (ap (result_map (λ values. slice_index values 0))
-        (wrong_count (0 ∷ []) (pieces_in c.args.numbers) (λ same. omega arith)))
+    (wrong_count (0 ∷ []) (pieces_in c.args.numbers) (λ same. omega arith)))

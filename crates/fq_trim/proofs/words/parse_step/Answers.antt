@@ -9,4 +9,4 @@ returns-in-Some-clause-value c =
     let more = pieces_behind c.args.numbers (ap is_some c.in-Some.is) in
     sym (ap (λ name. step_of_kind (kind_of name) (pieces_in c.args.numbers)) c.in-TOPHRED33.is
     ∙ ap (result_map (λ numbers. ToPhred33))
-        (wrong_count [] (pieces_in c.args.numbers) (λ same. omega arith)))
+    (wrong_count [] (pieces_in c.args.numbers) (λ same. omega arith)))

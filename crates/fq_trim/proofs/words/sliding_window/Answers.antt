@@ -10,4 +10,4 @@ returns-then-is_some-clause-value c =
     let first = ap length (ap pieces_in c.in-Some.is ∙ c.cut_piece.ensures) in
     let second = ap length (ap pieces_in c.in-Some-rest.is ∙ c.cut_piece-2.ensures) in
     sym (ap (result_map (λ values. SlidingWindow (slice_index values 0) (slice_index values 1)))
-        (wrong_count (1 ∷ 0 ∷ []) (pieces_in c.args.numbers) (λ same. omega arith)))
+    (wrong_count (1 ∷ 0 ∷ []) (pieces_in c.args.numbers) (λ same. omega arith)))

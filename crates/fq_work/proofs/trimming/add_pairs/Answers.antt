@@ -14,8 +14,13 @@ add-requires-clause-names c =
 
 pub add-requires-clause-room : goal.add-requires-clause-room
 add-requires-clause-room c =
-    omega (arith, ap (λ (d : Done). d.texts.counts.pairs) c.loop-i.invariant, length-take c.loop-i.i
-    c.args.block.now.pairs, c.len-i-end.ensures.limit)
+    omega (
+      arith,
+      ap (λ (d : Done). d.texts.counts.pairs) c.loop-i.invariant,
+      length-take c.loop-i.i
+          c.args.block.now.pairs,
+      c.len-i-end.ensures.limit,
+    )
 
 pub loop-i-preserved : goal.loop-i-preserved
 loop-i-preserved c =

@@ -8,6 +8,6 @@ use Rattle.fq_work.proofs.worker.answer_blocks.Given as goal
 abbrev pub invariant-loop : goal.invariant-loop
 invariant-loop g l =
     (took : List Numbered) × (replies : List Reply)
-        × (l.ends.rx ≡ with_items l.initial.ends.rx took l.initial.ends.rx.marked)
-        × (l.ends.tx ≡ with_items l.initial.ends.tx replies l.initial.ends.tx.marked)
+    × (l.ends.rx ≡ with_items l.initial.ends.rx took l.initial.ends.rx.marked)
+    × (l.ends.tx ≡ with_items l.initial.ends.tx replies l.initial.ends.tx.marked)
     × Answers l.making.tallied l.making.steps took replies None

@@ -24,12 +24,15 @@ returns-clause-work g c =
     elim c.if-is_some.branch [
       | then-is_some w ↦ (let f = w.if-is_some.true in
           absurd (let no : true ≡ false = sym f ∙ e in cc))
-      | else-is_some w ↦ (ap (λ (ends : WorkEnds). ends.rx) w.ends-is, ap
-          (λ (ends : WorkEnds). ends.tx) w.ends-is)
+      | else-is_some w ↦ (
+        ap (λ (ends : WorkEnds). ends.rx) w.ends-is,
+        ap
+            (λ (ends : WorkEnds). ends.tx) w.ends-is,
+      )
     ] in
     let all = worked c.args.tallied c.args.steps cause c.is_some.result c.args.ends.rx mid.rx
-        last.rx c.args.ends.tx mid.tx last.tx c.is_some.ensures
-        c.answer_blocks-cause.ensures.answers more same in
+    last.rx c.args.ends.tx mid.tx last.tx c.is_some.ensures
+    c.answer_blocks-cause.ensures.answers more same in
     record {
       took = all.took;
       replies = all.replies;

@@ -52,10 +52,15 @@ invariant_of-self c =
     let m = pair_of c in
     let before = pairs_at block.encoding block.bytes.items block.starts.items in
     let room : length block.starts.items < 65536 =
-        omega (arith, ap (λ (n : Numbered). length n.pairs) c.self.view_is, length-pairs_at _ _ _
-        c.self.invariant.0, c.requires.room) in
+    omega (
+      arith,
+      ap (λ (n : Numbered). length n.pairs) c.self.view_is,
+      length-pairs_at _ _ _
+          c.self.invariant.0,
+      c.requires.room,
+    ) in
     let P : List ℕ → List ℕ → Type 0 = λ b s. IsPacked block.encoding b s × AreNamed
-        (pairs_at block.encoding b s) c.append.new.names.items in
+    (pairs_at block.encoding b s) c.append.new.names.items in
     either c.append.result _ _ _ _ _ _ (P c.append.new.bytes.items c.append.new.starts.items)
     c.append.ensures.bytes c.append.ensures.starts c.append.ensures.names
     c.append.ensures.err_bytes c.append.ensures.err_starts c.append.ensures.err_names
@@ -74,22 +79,25 @@ invariant_of-self c =
     )))
     (λ bytes starts names.
     subst (λ b. P b c.append.new.starts.items) (sym bytes)
-    (subst (λ s. P block.bytes.items s) (sym starts) (c.self.invariant.0, names
-        ∙ c.self.invariant.1)))
+    (subst (λ s. P block.bytes.items s) (sym starts) (
+      c.self.invariant.0,
+      names
+          ∙ c.self.invariant.1,
+    )))
 
 pub returns-clause-ok : goal.returns-clause-ok
 returns-clause-ok c =
     let block = c.self.inside in
     let m = pair_of c in
     let with_pairs = λ (ms : List Mates). let n : Numbered =
-        record { number = block.number; encoding = block.encoding; pairs = ms } in n in
+    record { number = block.number; encoding = block.encoding; pairs = ms } in n in
     if_pushed c.append.result _ _ _ c.append.ensures.bytes c.append.ensures.starts
     (λ bytes starts.
     ap (λ (b : List ℕ). with_pairs (pairs_at block.encoding b c.append.new.starts.items)) bytes
     ∙ ap (λ (s : List ℕ). with_pairs (pairs_at block.encoding (bytes_after c) s))
-        (starts_are c starts)
+    (starts_are c starts)
     ∙ ap with_pairs (pairs_at-pushed block.encoding block.bytes.items block.starts.items
-        c.self.invariant.0 m (fits c))
+    c.self.invariant.0 m (fits c))
     ∙ ap (λ (n : Numbered). let k : Numbered =
-        record { number = n.number; encoding = n.encoding; pairs = n.pairs ++ m ∷ [] } in
-        k) c.self.view_is)
+    record { number = n.number; encoding = n.encoding; pairs = n.pairs ++ m ∷ [] } in
+    k) c.self.view_is)

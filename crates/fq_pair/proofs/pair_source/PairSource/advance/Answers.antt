@@ -7,4 +7,4 @@ pub returns-in-None-clause-in_hand : goal.returns-in-None-clause-in_hand
 returns-in-None-clause-in_hand g c = λ is.
     let found = sym c.keep_more.ensures.same ∙ is in
     is_pair _ _ _ _ (c.advance_mates-answer.ensures.in_hand.1 found)
-        (c.advance_mates-answer.ensures.found found)
+    (c.advance_mates-answer.ensures.found found)

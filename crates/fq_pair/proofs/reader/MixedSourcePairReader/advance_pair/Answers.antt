@@ -6,7 +6,7 @@ pub returns-clause-advances : goal.returns-clause-advances
 returns-clause-advances g c going =
     let e = c.advance.ensures in
     advances_interleaved g.F.Feed.state _ _ _ (e.found going) (e.end going) (e.fault going)
-        (e.failures going) e.count
+    (e.failures going) e.count
 
 pub returns-clause-encoding : goal.returns-clause-encoding
 returns-clause-encoding g c going =

@@ -7,10 +7,10 @@ returns-clause-advances g c going =
     let e = c.advance.ensures in
     advances g.F.Feed.state g.G.Feed.state _ _ _
     (e.found going) (e.end going) (e.fault going) (e.forward_failures going)
-        (e.reverse_failures going) e.count
+    (e.reverse_failures going) e.count
 
 pub returns-clause-encoding : goal.returns-clause-encoding
 returns-clause-encoding g c going =
     let e = c.advance.ensures in
     encoded g.F.Feed.state g.G.Feed.state _ _ _ e.encoding (e.found going) (e.end going)
-        (e.fault going)
+    (e.fault going)

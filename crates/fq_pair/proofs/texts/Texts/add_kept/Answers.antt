@@ -78,11 +78,11 @@ returns-clause-ok c =
     let forward = c.requires.forward in
     let reverse = c.requires.reverse in
     let forward_name = named Forward m.forward.title c.title-forward_title.result.now
-        c.args.names.forward (ap (λ (n : NameLengths). n.forward) c.requires.names)
-        c.title-forward_title.ensures.title in
+    c.args.names.forward (ap (λ (n : NameLengths). n.forward) c.requires.names)
+    c.title-forward_title.ensures.title in
     let reverse_name = named Reverse m.reverse.title c.title-reverse_title.result.now
-        c.args.names.reverse (ap (λ (n : NameLengths). n.reverse) c.requires.names)
-        c.title-reverse_title.ensures.title in
+    c.args.names.reverse (ap (λ (n : NameLengths). n.reverse) c.requires.names)
+    c.title-reverse_title.ensures.title in
     let fp = ap (λ (o : Outputs). o.forward_paired) c.self.view_is in
     let fu = ap (λ (o : Outputs). o.forward_unpaired) c.self.view_is in
     let rp = ap (λ (o : Outputs). o.reverse_paired) c.self.view_is in
@@ -96,30 +96,30 @@ returns-clause-ok c =
           let is_r = w.in-Some-Some.is-1 in
           same_outputs _ _
           (text_with old.forward_paired _ _ _ steps f w.in-Some-Some.forward m.forward
-              (w.in_ok-make_room-in-Some-Some.ensures.items
-              ∙ fp) (ap (λ (i : Inside). i.forward_paired.items) inside
-              ∙ w.put_kept.ensures) recode forward is_f)
+          (w.in_ok-make_room-in-Some-Some.ensures.items
+          ∙ fp) (ap (λ (i : Inside). i.forward_paired.items) inside
+          ∙ w.put_kept.ensures) recode forward is_f)
           (ap (λ (i : Inside). i.forward_unpaired.items) inside ∙ fu)
           (text_with old.reverse_paired _ _ _ steps r w.in-Some-Some.reverse m.reverse
-              (w.in_ok-make_room-in-Some-Some-2.ensures.items
-              ∙ rp) (ap (λ (i : Inside). i.reverse_paired.items) inside
-              ∙ w.put_kept-in-Some-Some.ensures) recode reverse is_r)
+          (w.in_ok-make_room-in-Some-Some-2.ensures.items
+          ∙ rp) (ap (λ (i : Inside). i.reverse_paired.items) inside
+          ∙ w.put_kept-in-Some-Some.ensures) recode reverse is_r)
           (ap (λ (i : Inside). i.reverse_unpaired.items) inside ∙ ru)
           (log_with _ _ _ Reverse steps r m.reverse
-              (take c.args.names.reverse c.title-reverse_title.result.now)
-              (length c.seq-reverse_seq.result.now)
-              (log_with old.log _ _ Forward steps f m.forward
-              (take c.args.names.forward c.title-forward_title.result.now)
-              (length c.seq-forward_seq.result.now) (ap (λ (i : Inside). i.log.items) inside
-              ∙ log) c.put_line.ensures.items forward_name (ap length c.seq-forward_seq.ensures)
-              forward) c.put_line-2.ensures.items reverse_name (ap length c.seq-reverse_seq.ensures)
-              reverse)
+          (take c.args.names.reverse c.title-reverse_title.result.now)
+          (length c.seq-reverse_seq.result.now)
+          (log_with old.log _ _ Forward steps f m.forward
+          (take c.args.names.forward c.title-forward_title.result.now)
+          (length c.seq-forward_seq.result.now) (ap (λ (i : Inside). i.log.items) inside
+          ∙ log) c.put_line.ensures.items forward_name (ap length c.seq-forward_seq.ensures)
+          forward) c.put_line-2.ensures.items reverse_name (ap length c.seq-reverse_seq.ensures)
+          reverse)
           (ap (λ (i : Inside). let n : Counts = i.counts in let k : Counts =
-              record n { pairs = n.pairs + 1 } in k) inside
-              ∙ ap (λ (n : Counts). let k : Counts =
-              record n { pairs = n.pairs + 1; both = n.both + 1 } in k) counts)
+          record n { pairs = n.pairs + 1 } in k) inside
+          ∙ ap (λ (n : Counts). let k : Counts =
+          record n { pairs = n.pairs + 1; both = n.both + 1 } in k) counts)
           ∙ sym (both_added steps m old (kept_survives _ f w.in-Some-Some.forward forward is_f)
-              (kept_survives _ r w.in-Some-Some.reverse reverse is_r))
+          (kept_survives _ r w.in-Some-Some.reverse reverse is_r))
       | in-Some-None+in_ok-make_room-in-Some-None w ↦
           let inside = w.self-inside-is in
           let is_f = w.in-Some-None.is-0 in
@@ -127,26 +127,26 @@ returns-clause-ok c =
           same_outputs _ _
           (ap (λ (i : Inside). i.forward_paired.items) inside ∙ fp)
           (text_with old.forward_unpaired _ _ _ steps f w.in-Some-None.forward m.forward
-              (w.in_ok-make_room-in-Some-None.ensures.items
-              ∙ fu) (ap (λ (i : Inside). i.forward_unpaired.items) inside
-              ∙ w.put_kept-in-Some-None.ensures) recode forward is_f)
+          (w.in_ok-make_room-in-Some-None.ensures.items
+          ∙ fu) (ap (λ (i : Inside). i.forward_unpaired.items) inside
+          ∙ w.put_kept-in-Some-None.ensures) recode forward is_f)
           (ap (λ (i : Inside). i.reverse_paired.items) inside ∙ rp)
           (ap (λ (i : Inside). i.reverse_unpaired.items) inside ∙ ru)
           (log_with _ _ _ Reverse steps r m.reverse
-              (take c.args.names.reverse c.title-reverse_title.result.now)
-              (length c.seq-reverse_seq.result.now)
-              (log_with old.log _ _ Forward steps f m.forward
-              (take c.args.names.forward c.title-forward_title.result.now)
-              (length c.seq-forward_seq.result.now) (ap (λ (i : Inside). i.log.items) inside
-              ∙ log) c.put_line.ensures.items forward_name (ap length c.seq-forward_seq.ensures)
-              forward) c.put_line-2.ensures.items reverse_name (ap length c.seq-reverse_seq.ensures)
-              reverse)
+          (take c.args.names.reverse c.title-reverse_title.result.now)
+          (length c.seq-reverse_seq.result.now)
+          (log_with old.log _ _ Forward steps f m.forward
+          (take c.args.names.forward c.title-forward_title.result.now)
+          (length c.seq-forward_seq.result.now) (ap (λ (i : Inside). i.log.items) inside
+          ∙ log) c.put_line.ensures.items forward_name (ap length c.seq-forward_seq.ensures)
+          forward) c.put_line-2.ensures.items reverse_name (ap length c.seq-reverse_seq.ensures)
+          reverse)
           (ap (λ (i : Inside). let n : Counts = i.counts in let k : Counts =
-              record n { pairs = n.pairs + 1 } in k) inside
-              ∙ ap (λ (n : Counts). let k : Counts =
-              record n { pairs = n.pairs + 1; forward_only = n.forward_only + 1 } in k) counts)
+          record n { pairs = n.pairs + 1 } in k) inside
+          ∙ ap (λ (n : Counts). let k : Counts =
+          record n { pairs = n.pairs + 1; forward_only = n.forward_only + 1 } in k) counts)
           ∙ sym (forward_added steps m old (kept_survives _ f w.in-Some-None.forward forward is_f)
-              (dropped_is_gone _ r reverse is_r))
+          (dropped_is_gone _ r reverse is_r))
       | in-None-Some+in_ok-make_room-in-None-Some w ↦
           let inside = w.self-inside-is in
           let is_f = w.in-None-Some.is-0 in
@@ -156,24 +156,24 @@ returns-clause-ok c =
           (ap (λ (i : Inside). i.forward_unpaired.items) inside ∙ fu)
           (ap (λ (i : Inside). i.reverse_paired.items) inside ∙ rp)
           (text_with old.reverse_unpaired _ _ _ steps r w.in-None-Some.reverse m.reverse
-              (w.in_ok-make_room-in-None-Some.ensures.items
-              ∙ ru) (ap (λ (i : Inside). i.reverse_unpaired.items) inside
-              ∙ w.put_kept-in-None-Some.ensures) recode reverse is_r)
+          (w.in_ok-make_room-in-None-Some.ensures.items
+          ∙ ru) (ap (λ (i : Inside). i.reverse_unpaired.items) inside
+          ∙ w.put_kept-in-None-Some.ensures) recode reverse is_r)
           (log_with _ _ _ Reverse steps r m.reverse
-              (take c.args.names.reverse c.title-reverse_title.result.now)
-              (length c.seq-reverse_seq.result.now)
-              (log_with old.log _ _ Forward steps f m.forward
-              (take c.args.names.forward c.title-forward_title.result.now)
-              (length c.seq-forward_seq.result.now) (ap (λ (i : Inside). i.log.items) inside
-              ∙ log) c.put_line.ensures.items forward_name (ap length c.seq-forward_seq.ensures)
-              forward) c.put_line-2.ensures.items reverse_name (ap length c.seq-reverse_seq.ensures)
-              reverse)
+          (take c.args.names.reverse c.title-reverse_title.result.now)
+          (length c.seq-reverse_seq.result.now)
+          (log_with old.log _ _ Forward steps f m.forward
+          (take c.args.names.forward c.title-forward_title.result.now)
+          (length c.seq-forward_seq.result.now) (ap (λ (i : Inside). i.log.items) inside
+          ∙ log) c.put_line.ensures.items forward_name (ap length c.seq-forward_seq.ensures)
+          forward) c.put_line-2.ensures.items reverse_name (ap length c.seq-reverse_seq.ensures)
+          reverse)
           (ap (λ (i : Inside). let n : Counts = i.counts in let k : Counts =
-              record n { pairs = n.pairs + 1 } in k) inside
-              ∙ ap (λ (n : Counts). let k : Counts =
-              record n { pairs = n.pairs + 1; reverse_only = n.reverse_only + 1 } in k) counts)
+          record n { pairs = n.pairs + 1 } in k) inside
+          ∙ ap (λ (n : Counts). let k : Counts =
+          record n { pairs = n.pairs + 1; reverse_only = n.reverse_only + 1 } in k) counts)
           ∙ sym (reverse_added steps m old (dropped_is_gone _ f forward is_f)
-              (kept_survives _ r w.in-None-Some.reverse reverse is_r))
+          (kept_survives _ r w.in-None-Some.reverse reverse is_r))
       | in-None-None w ↦
           let inside = w.self-inside-is in
           let is_f = w.in-None-None.is-0 in
@@ -184,18 +184,18 @@ returns-clause-ok c =
           (ap (λ (i : Inside). i.reverse_paired.items) inside ∙ rp)
           (ap (λ (i : Inside). i.reverse_unpaired.items) inside ∙ ru)
           (log_with _ _ _ Reverse steps r m.reverse
-              (take c.args.names.reverse c.title-reverse_title.result.now)
-              (length c.seq-reverse_seq.result.now)
-              (log_with old.log _ _ Forward steps f m.forward
-              (take c.args.names.forward c.title-forward_title.result.now)
-              (length c.seq-forward_seq.result.now) (ap (λ (i : Inside). i.log.items) inside
-              ∙ log) c.put_line.ensures.items forward_name (ap length c.seq-forward_seq.ensures)
-              forward) c.put_line-2.ensures.items reverse_name (ap length c.seq-reverse_seq.ensures)
-              reverse)
+          (take c.args.names.reverse c.title-reverse_title.result.now)
+          (length c.seq-reverse_seq.result.now)
+          (log_with old.log _ _ Forward steps f m.forward
+          (take c.args.names.forward c.title-forward_title.result.now)
+          (length c.seq-forward_seq.result.now) (ap (λ (i : Inside). i.log.items) inside
+          ∙ log) c.put_line.ensures.items forward_name (ap length c.seq-forward_seq.ensures)
+          forward) c.put_line-2.ensures.items reverse_name (ap length c.seq-reverse_seq.ensures)
+          reverse)
           (ap (λ (i : Inside). let n : Counts = i.counts in let k : Counts =
-              record n { pairs = n.pairs + 1 } in k) inside
-              ∙ ap (λ (n : Counts). let k : Counts =
-              record n { pairs = n.pairs + 1; dropped = n.dropped + 1 } in k) counts)
+          record n { pairs = n.pairs + 1 } in k) inside
+          ∙ ap (λ (n : Counts). let k : Counts =
+          record n { pairs = n.pairs + 1; dropped = n.dropped + 1 } in k) counts)
           ∙ sym (none_added steps m old (dropped_is_gone _ f forward is_f)
-              (dropped_is_gone _ r reverse is_r))
+          (dropped_is_gone _ r reverse is_r))
     ]

@@ -10,18 +10,20 @@ returns-in-Item-Stop c =
     let k = c.args.self.now in
     let lt : c.args.at < length k.replies.items = omega (arith, k.replies.ok.0) in
     let t = taken_at _ _ _ _ c.args.at _ _ _ (c.in-Item-Stop.is
-        ∙ ap Item c.in-Item-Stop.field-0-is) lt (c.ends.view_is
-        ∙ c.index_mut-ends.ensures.value) c.take.ensures refl in
-    record { drains = drains_take _ k _ c.args.at c.requires.over refl lt t c.add_stop-self.ensures
-        refl refl }
+    ∙ ap Item c.in-Item-Stop.field-0-is) lt (c.ends.view_is
+    ∙ c.index_mut-ends.ensures.value) c.take.ensures refl in
+    record {
+      drains = drains_take _ k _ c.args.at c.requires.over refl lt t c.add_stop-self.ensures
+          refl refl;
+    }
 
 pub returns-in-Item-Done : goal.returns-in-Item-Done
 returns-in-Item-Done c =
     let k = c.args.self.now in
     let lt : c.args.at < length k.replies.items = omega (arith, k.replies.ok.0) in
     let t = taken_at _ _ _ _ c.args.at _ _ _ (c.in-Item-Done.is
-        ∙ ap Item c.in-Item-Done.field-0-is) lt (c.ends.view_is
-        ∙ c.index_mut-ends.ensures.value) c.take.ensures refl in
+    ∙ ap Item c.in-Item-Done.field-0-is) lt (c.ends.view_is
+    ∙ c.index_mut-ends.ensures.value) c.take.ensures refl in
     record { drains = drains_take _ k _ c.args.at c.requires.over refl lt t refl refl refl }
 
 pub returns : goal.returns

@@ -9,4 +9,4 @@ returns-clause-hears c =
     let replies = c.args.replies in
     let same : length replies.items ≡ replies.len = omega (arith, replies.ok.0) in
     sym (no_stops replies.items (subst (λ n. IsDealt n [] replies.items) (sym same)
-        c.requires.fresh))
+    c.requires.fresh))

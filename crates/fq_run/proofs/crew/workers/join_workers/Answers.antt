@@ -7,8 +7,13 @@ use Rattle.fq_run.proofs.crew.workers.join_workers.Goals as goal
 pub loop-hand-preserved : goal.loop-hand-preserved
 loop-hand-preserved g c = record {
   room = c.push_reserved.ensures.capacity ∙ c.loop-hand.invariant.room;
-  count = omega (arith, c.push_reserved.ensures.len, c.loop-hand.invariant.count, length-append
-      c.loop-hand.yielded (c.in-Some.hand ∷ []));
+  count = omega (
+    arith,
+    c.push_reserved.ensures.len,
+    c.loop-hand.invariant.count,
+    length-append
+        c.loop-hand.yielded (c.in-Some.hand ∷ []),
+  );
   joined = zip_pushed Joined _ _ _ _ _ c.loop-hand.invariant.joined c.join.ensures
       c.push_reserved.ensures.items;
 }

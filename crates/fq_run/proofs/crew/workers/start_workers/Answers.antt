@@ -7,8 +7,13 @@ use Rattle.fq_run.proofs.crew.workers.start_workers.Goals as goal
 pub loop-ends-preserved : goal.loop-ends-preserved
 loop-ends-preserved g c = record {
   room = c.push_reserved.ensures.capacity ∙ c.loop-ends.invariant.room;
-  count = omega (arith, c.push_reserved.ensures.len, c.loop-ends.invariant.count, length-append
-      c.loop-ends.yielded (c.in-Some.ends ∷ []));
+  count = omega (
+    arith,
+    c.push_reserved.ensures.len,
+    c.loop-ends.invariant.count,
+    length-append
+        c.loop-ends.yielded (c.in-Some.ends ∷ []),
+  );
   seated = zip_pushed (Seated c.args.settings.now.tallied c.args.settings.now.steps) _ _ _ _ _
       c.loop-ends.invariant.seated c.in-Some-start_worker.ensures c.push_reserved.ensures.items;
 }

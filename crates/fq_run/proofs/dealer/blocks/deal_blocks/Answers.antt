@@ -14,31 +14,31 @@ dealing-init g c = record {
 pub returns-in-Some : goal.returns-in-Some
 returns-in-Some g c =
     let filled = fills_as _ _ c.args.settings.now.block_pairs c.block_pairs.result _ _ _
-        c.block_pairs.ensures.pairs c.in-Some.ensures in
+    c.block_pairs.ensures.pairs c.in-Some.ensures in
     let some = c.block_pairs.ensures.some in let same = c.block_pairs.ensures.pairs in
     deals_last c.args.settings.now _ _ _ _ _ _ _ _ _ _ _ _ _ c.dealing.invariant.deals filled
     (ap (λ (b : Numbered). b.number) c.ready_block-block.ensures.block)
-        (ap (λ (b : Numbered). b.encoding) c.ready_block-block.ensures.block ∙ c.encoding.ensures)
+    (ap (λ (b : Numbered). b.encoding) c.ready_block-block.ensures.block ∙ c.encoding.ensures)
     (c.ready_block-block.ensures.unsent ∙ c.index_mut-ends.ensures.value) c.put_filled.ensures
-        c.requires.fresh c.requires.few (omega arith)
+    c.requires.fresh c.requires.few (omega arith)
 
 pub dealing-preserved : goal.dealing-preserved
 dealing-preserved g c =
     let filled = fills_as _ _ c.args.settings.now.block_pairs c.block_pairs.result _ _ _
-        c.block_pairs.ensures.pairs c.fill-why.ensures in
+    c.block_pairs.ensures.pairs c.fill-why.ensures in
     let some = c.block_pairs.ensures.some in let same = c.block_pairs.ensures.pairs in
     let lanes : c.len-lanes.result ≡ length c.args.to.now.items =
-        omega (arith, c.len-lanes.ensures, c.args.to.now.ok.0) in
+    omega (arith, c.len-lanes.ensures, c.args.to.now.ok.0) in
     record {
       lanes = c.dealing.invariant.lanes;
       deals = deals_more c.args.settings.now _ _ _ _ _ _ _ _ _ _ _ _ _ c.dealing.invariant.deals
           filled
           (ap (λ (b : Numbered). b.number) c.ready_block-block.ensures.block)
-              (ap (λ (b : Numbered). b.encoding) c.ready_block-block.ensures.block
-              ∙ c.encoding.ensures)
+          (ap (λ (b : Numbered). b.encoding) c.ready_block-block.ensures.block
+          ∙ c.encoding.ensures)
           (c.ready_block-block.ensures.unsent
-              ∙ c.index_mut-ends.ensures.value) c.put_filled.ensures c.in_default.is (omega arith)
-              c.next_turn-turn.result (c.next_turn-turn.ensures.value
-              ∙ ap (λ n. suc c.dealing.turn % n) lanes)
-              (omega (arith, c.next_turn-turn.ensures.below));
+          ∙ c.index_mut-ends.ensures.value) c.put_filled.ensures c.in_default.is (omega arith)
+          c.next_turn-turn.result (c.next_turn-turn.ensures.value
+          ∙ ap (λ n. suc c.dealing.turn % n) lanes)
+          (omega (arith, c.next_turn-turn.ensures.below));
     }

@@ -26,7 +26,7 @@ push_named-requires-clause-names g c = if_in_hand _ _ (λ m. c.names_in_hand-nam
 pub push_named-requires-clause-encoding : goal.push_named-requires-clause-encoding
 push_named-requires-clause-encoding g c = let i = c.loop.invariant in let goes = i.goes in
     let both = if_in_hand _ _ _ c.pair_in_hand-pair.ensures
-        (c.in-Ok-true.ensures.encoding goes.last) in
+    (c.in-Ok-true.ensures.encoding goes.last) in
     let block = filled_encoding _ _ _ _ _ c.loop.invariant c.requires.encoding in
     (both.0 ∙ sym block, both.1 ∙ sym block)
 
@@ -51,7 +51,7 @@ returns-then-is_err g c = let i = c.loop.invariant in let goes = i.goes in
     let read = of_in_hand _ _ _ c.pair_in_hand-pair.ensures (asked.advances goes.last) in
     fills_refused _ _ _ _ _ _ c.loop.invariant _ _ _ (omega arith) read
     (err_says c.push_named.result c.is_err.result _ c.is_err.ensures.value c.if-is_err.true
-        c.push_named.ensures.err)
+    c.push_named.ensures.err)
 
 pub loop-preserved : goal.loop-preserved
 loop-preserved g c = let i = c.loop.invariant in let goes = i.goes in
@@ -59,4 +59,4 @@ loop-preserved g c = let i = c.loop.invariant in let goes = i.goes in
     let read = of_in_hand _ _ _ c.pair_in_hand-pair.ensures (asked.advances goes.last) in
     filled_more _ _ _ _ _ _ _ _ c.loop.invariant read asked.within
     (ok_says c.push_named.result c.is_err.result _ c.is_err.ensures.value c.if-is_err.false
-        c.push_named.ensures.ok)
+    c.push_named.ensures.ok)

@@ -9,6 +9,6 @@ pub returns-in_err-send_to-4 : goal.returns-in_err-send_to-4
 returns-in_err-send_to-4 g c =
     let failed = c.in_err-send_to-4.ensures in
     let is : c.from_residual-in_err-send_to-4.result ≡ Err ReverseUnpaired =
-        grind (arith, common_steps) in
+    grind (arith, common_steps) in
     broken _ _ _ ReverseUnpaired _ is (fourth_breaks _ _ _ refl (c.in_ok-send_to.ensures)
-        (c.in_ok-send_to-2.ensures) (c.in_ok-send_to-3.ensures) failed.1)
+    (c.in_ok-send_to-2.ensures) (c.in_ok-send_to-3.ensures) failed.1)

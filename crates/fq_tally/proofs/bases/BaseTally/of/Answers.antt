@@ -12,7 +12,7 @@ score_sum-sum-requires-clause-scored c =
     let scored = is_scored c.args.encoding in
     let qual = c.args.qual.now in
     all_taken scored (drop c.args.from qual) (c.args.to - c.args.from)
-        (all_dropped scored qual c.args.from c.requires.scored)
+    (all_dropped scored qual c.args.from c.requires.scored)
 
 -- scores are counted by the bytes that are as large as the least one with such a score
 counted : (e : Encoding) (score least : ℕ) →
@@ -32,9 +32,9 @@ returns c =
     let order = c.requires.order in
     let within = c.requires.within in
     let long : c.args.to - c.args.from ≡ length (take (c.args.to - c.args.from)
-        (drop c.args.from seq)) =
+    (drop c.args.from seq)) =
     sym (length-take-le (c.args.to - c.args.from) (drop c.args.from seq)
-        (omega (arith, length-drop c.args.from seq))) in
+    (omega (arith, length-drop c.args.from seq))) in
     let low = c.count_of-counted.ensures.low ∙ counted e 20 _ c.byte_of-low.ensures.least part in
     let high = c.count_of-counted.ensures.high ∙ counted e 30 _ c.byte_of-high.ensures.least part in
     let sum = c.score_sum-sum.ensures in

@@ -5,8 +5,10 @@ use Rattle.fq_tally.proofs.columns.Columns.count.Goals as goal
 
 pub loop-i-init : goal.loop-i-init
 loop-i-init c =
-    record { counted = c.grow.ensures ∙ ap (columns_plus c.args.self.now)
-    (columns_empty c.args.at c.min-rows.result c.args.encoding c.min-rows.ensures) }
+    record {
+      counted = c.grow.ensures ∙ ap (columns_plus c.args.self.now)
+          (columns_empty c.args.at c.min-rows.result c.args.encoding c.min-rows.ensures);
+    }
 
 pub loop-i-preserved : goal.loop-i-preserved
 loop-i-preserved c =
@@ -17,5 +19,5 @@ loop-i-preserved c =
       counted = counted_next c.args.self.now c.loop-i.self c.count_one.new.self c.args.at c.loop-i.i
           c.min-row.result c.phred-score.result c.args.encoding c.args.seq.now c.args.qual.now
           c.loop-i.invariant.counted c.min-row.ensures c.phred-score.ensures (omega arith) same
-              (omega arith) c.requires.scored c.count_one.ensures;
+          (omega arith) c.requires.scored c.count_one.ensures;
     }

@@ -20,7 +20,7 @@ add_vector-requires-clause-lanes c =
     let qual = c.args.qual.now in
     let from = c.loop-from.from in
     scored_lanes e (chunk from 32 qual) (all_taken (is_scored e) (drop from qual) 32 (all_dropped
-        (is_scored e) qual from c.requires.scored))
+    (is_scored e) qual from c.requires.scored))
 
 pub add_vector-requires-clause-few : goal.add_vector-requires-clause-few
 add_vector-requires-clause-few c =
@@ -28,11 +28,11 @@ add_vector-requires-clause-few c =
     let same = c.requires.same in
     let within = c.loop-from.invariant.within in
     few_weaker c.loop-from.self (c.args.at + length c.args.qual.now + 32)
-        (c.args.at + c.loop-from.from + 32) 10032 10032 254 254 (
+    (c.args.at + c.loop-from.from + 32) 10032 10032 254 254 (
     still_few c.args.self.now c.loop-from.self c.args.at c.loop-from.from c.args.encoding
-        c.args.seq.now c.args.qual.now c.loop-from.invariant.counted c.requires.same c.requires.near
-        c.requires.scored c.loop-from.invariant.within (c.args.at + length c.args.qual.now + 32)
-        (omega arith) c.requires.few) (omega arith) (omega arith) (omega arith)
+    c.args.seq.now c.args.qual.now c.loop-from.invariant.counted c.requires.same c.requires.near
+    c.requires.scored c.loop-from.invariant.within (c.args.at + length c.args.qual.now + 32)
+    (omega arith) c.requires.few) (omega arith) (omega arith) (omega arith)
 
 pub loop-from-preserved : goal.loop-from-preserved
 loop-from-preserved c =
@@ -49,20 +49,20 @@ loop-from-preserved c =
 pub count_rest-requires-clause-few : goal.count_rest-requires-clause-few
 count_rest-requires-clause-few c =
     still_few c.args.self.now c.loop-from.self c.args.at c.loop-from.from c.args.encoding
-        c.args.seq.now c.args.qual.now c.loop-from.invariant.counted c.requires.same c.requires.near
-        c.requires.scored c.loop-from.invariant.within (c.args.at + length c.args.qual.now + 32)
-        (omega arith) c.requires.few
+    c.args.seq.now c.args.qual.now c.loop-from.invariant.counted c.requires.same c.requires.near
+    c.requires.scored c.loop-from.invariant.within (c.args.at + length c.args.qual.now + 32)
+    (omega arith) c.requires.few
 
 pub returns-then-from-seq : goal.returns-then-from-seq
 returns-then-from-seq c =
     rest_next c.args.self.now c.loop-from.self c.args.at c.loop-from.from c.args.encoding
-        c.args.seq.now c.args.qual.now c.loop-from.invariant.counted c.requires.same c.requires.near
-        c.requires.scored c.loop-from.invariant.within
+    c.args.seq.now c.args.qual.now c.loop-from.invariant.counted c.requires.same c.requires.near
+    c.requires.scored c.loop-from.invariant.within
     c.count_rest.new.self c.count_rest.ensures
 
 pub returns-else-from-seq : goal.returns-else-from-seq
 returns-else-from-seq c =
     all_counted c.args.self.now c.loop-from.self c.args.at c.loop-from.from c.args.encoding
-        c.args.seq.now c.args.qual.now c.loop-from.invariant.counted c.requires.same c.requires.near
-        c.requires.scored c.loop-from.invariant.within
+    c.args.seq.now c.args.qual.now c.loop-from.invariant.counted c.requires.same c.requires.near
+    c.requires.scored c.loop-from.invariant.within
     c.if-from-seq.false

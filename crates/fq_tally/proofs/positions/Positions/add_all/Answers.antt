@@ -11,6 +11,6 @@ returns c =
     let others = c.other.inside.totals in
     let other_few = first_rows c.other.inside.reached c.other.inside.few in
     ap (λ x. columns_plus x few) (c.add_to.ensures
-        ∙ ap (λ x. columns_plus x other_few) c.add_all.ensures)
+    ∙ ap (λ x. columns_plus x other_few) c.add_all.ensures)
     ∙ columns_both totals few others other_few
     ∙ ap₂ columns_plus c.self.view_is c.other.view_is

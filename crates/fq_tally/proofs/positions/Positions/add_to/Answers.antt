@@ -10,4 +10,4 @@ returns c =
     let few = first_rows c.self.inside.reached c.self.inside.few in
     let columns = c.args.columns.now in
     c.add_to.ensures ∙ ap (λ x. columns_plus x few) c.add_all.ensures
-        ∙ columns_assoc columns totals few ∙ ap (columns_plus columns) c.self.view_is
+    ∙ columns_assoc columns totals few ∙ ap (columns_plus columns) c.self.view_is

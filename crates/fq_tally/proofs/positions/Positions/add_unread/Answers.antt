@@ -11,4 +11,4 @@ returns-clause-added c =
     let few = first_rows c.self.inside.reached c.self.inside.few in
     let read = columns_in c.args.unread.now in
     ap (λ x. columns_plus x few) c.add_unread.ensures.added ∙ columns_swap totals read few
-        ∙ ap (λ x. columns_plus x read) c.self.view_is
+    ∙ ap (λ x. columns_plus x read) c.self.view_is

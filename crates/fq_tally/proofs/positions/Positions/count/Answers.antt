@@ -11,7 +11,7 @@ returns-then-end-self c =
     let few = first_rows c.self.inside.reached c.self.inside.few in
     let read = columns_from c.args.at c.args.encoding c.args.seq.now c.args.qual.now in
     ap (λ x. columns_plus x few) c.count.ensures ∙ columns_swap totals read few
-        ∙ ap (λ x. columns_plus x read) c.self.view_is
+    ∙ ap (λ x. columns_plus x read) c.self.view_is
 
 pub empty-requires-clause-few : goal.empty-requires-clause-few
 empty-requires-clause-few c =
@@ -25,12 +25,12 @@ empty-requires-clause-few c =
     let full = c.if-self-eq-MOST_READS.true in
     let most = c.max-self-inside.ensures in
     let more = read_few c.self.inside.few new (c.self.inside.last + 32) reached reads c.args.at end
-        c.args.encoding c.args.seq.now c.args.qual.now c.self.invariant.few (omega arith)
-        c.count-2.ensures c.requires.same refl (omega arith) c.requires.scored in
+    c.args.encoding c.args.seq.now c.args.qual.now c.self.invariant.few (omega arith)
+    c.count-2.ensures c.requires.same refl (omega arith) c.requires.scored in
     few_weaker new (c.self.inside.last + 32) c.max-self-inside.result c.max-self-inside.result
-        c.max-self-inside.result (reads + 1) 254
-        (subst (λ n. AreFew (c.self.inside.last + 32) n (reads + 1) new)
-        (sym c.max-self-inside.ensures) more) (omega arith) (omega arith) (omega arith)
+    c.max-self-inside.result (reads + 1) 254
+    (subst (λ n. AreFew (c.self.inside.last + 32) n (reads + 1) new)
+    (sym c.max-self-inside.ensures) more) (omega arith) (omega arith) (omega arith)
 
 pub invariant_of-self-else-self-eq-MOST_READS : goal.invariant_of-self-else-self-eq-MOST_READS
 invariant_of-self-else-self-eq-MOST_READS c =
@@ -44,8 +44,8 @@ invariant_of-self-else-self-eq-MOST_READS c =
     let room = c.self.invariant.room in
     let most = c.max-self-inside.ensures in
     let more = read_few c.self.inside.few new (c.self.inside.last + 32) reached reads c.args.at end
-        c.args.encoding c.args.seq.now c.args.qual.now c.self.invariant.few (omega arith)
-        c.count-2.ensures c.requires.same refl (omega arith) c.requires.scored in
+    c.args.encoding c.args.seq.now c.args.qual.now c.self.invariant.few (omega arith)
+    c.count-2.ensures c.requires.same refl (omega arith) c.requires.scored in
     record {
       few = subst (λ n. AreFew (c.self.inside.last + 32) n (reads + 1) new)
           (sym c.max-self-inside.ensures) more;
@@ -65,8 +65,8 @@ invariant_of-self-then-self-eq-MOST_READS c =
     let end_within = c.if-end-self.false in
     let full = c.if-self-eq-MOST_READS.true in
     let more = read_few c.self.inside.few new (c.self.inside.last + 32) reached reads c.args.at end
-        c.args.encoding c.args.seq.now c.args.qual.now c.self.invariant.few (omega arith)
-        c.count-2.ensures c.requires.same refl (omega arith) c.requires.scored in
+    c.args.encoding c.args.seq.now c.args.qual.now c.self.invariant.few (omega arith)
+    c.count-2.ensures c.requires.same refl (omega arith) c.requires.scored in
     let rows = c.self.inside.last + 32 in
     record {
       few = c.empty.ensures.none rows (few_weaker new rows rows c.max-self-inside.result
@@ -93,8 +93,8 @@ returns-then-self-eq-MOST_READS c =
     ∙ c.empty.ensures.moved
     ∙ ap (λ n. columns_plus totals (first_rows n new)) c.max-self-inside.ensures
     ∙ read_added totals c.self.inside.few new (c.self.inside.last + 32) reached reads c.args.at end
-        c.args.encoding c.args.seq.now c.args.qual.now c.self.invariant.few (omega arith)
-        (omega arith) c.count-2.ensures c.requires.same refl (omega arith) c.requires.scored
+    c.args.encoding c.args.seq.now c.args.qual.now c.self.invariant.few (omega arith)
+    (omega arith) c.count-2.ensures c.requires.same refl (omega arith) c.requires.scored
     ∙ ap (λ x. columns_plus x read) c.self.view_is
 
 pub returns-else-self-eq-MOST_READS : goal.returns-else-self-eq-MOST_READS
@@ -110,6 +110,6 @@ returns-else-self-eq-MOST_READS c =
     let read = columns_from c.args.at c.args.encoding c.args.seq.now c.args.qual.now in
     ap (λ n. columns_plus totals (first_rows n new)) c.max-self-inside.ensures
     ∙ read_added totals c.self.inside.few new (c.self.inside.last + 32) reached reads c.args.at end
-        c.args.encoding c.args.seq.now c.args.qual.now c.self.invariant.few (omega arith)
-        (omega arith) c.count-2.ensures c.requires.same refl (omega arith) c.requires.scored
+    c.args.encoding c.args.seq.now c.args.qual.now c.self.invariant.few (omega arith)
+    (omega arith) c.count-2.ensures c.requires.same refl (omega arith) c.requires.scored
     ∙ ap (λ x. columns_plus x read) c.self.view_is

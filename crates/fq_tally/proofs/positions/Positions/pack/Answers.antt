@@ -22,4 +22,4 @@ pub returns : goal.returns
 returns c =
     let same = c.empty.ensures.moved ∙ c.self.view_is in
     subst (λ (t : Columns). OnOk c.pack.result (c.pack.new.tables
-        ≡ c.args.tables.now ++ columns_tables t)) same c.pack.ensures
+    ≡ c.args.tables.now ++ columns_tables t)) same c.pack.ensures

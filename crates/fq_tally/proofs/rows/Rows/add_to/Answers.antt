@@ -9,16 +9,28 @@ use Rattle.fq_tally.proofs.rows.Rows.add_to.Goals as goal
 pub index-requires : goal.index-requires
 index-requires c =
     let view = c.self.view_is in
-    omega (arith, c.self.inside.counts.ok.0, ap length view, ap length c.grow.ensures,
-        length-rows_plus c.args.self.now (replicate (c.args.row + 1) 0), length-replicate {A =
-        ℕ} (c.args.row + 1) 0)
+    omega (
+      arith,
+      c.self.inside.counts.ok.0,
+      ap length view,
+      ap length c.grow.ensures,
+      length-rows_plus c.args.self.now (replicate (c.args.row + 1) 0),
+      length-replicate {A =
+          ℕ} (c.args.row + 1) 0,
+    )
 
 pub index_mut-requires : goal.index_mut-requires
 index_mut-requires c =
     let view = c.self.view_is in
-    omega (arith, c.self.inside.counts.ok.0, ap length view, ap length c.grow.ensures,
-        length-rows_plus c.args.self.now (replicate (c.args.row + 1) 0), length-replicate {A =
-        ℕ} (c.args.row + 1) 0)
+    omega (
+      arith,
+      c.self.inside.counts.ok.0,
+      ap length view,
+      ap length c.grow.ensures,
+      length-rows_plus c.args.self.now (replicate (c.args.row + 1) 0),
+      length-replicate {A =
+          ℕ} (c.args.row + 1) 0,
+    )
 
 pub returns : goal.returns
 returns c =
@@ -27,10 +39,15 @@ returns c =
     let a = c.args.count in
     let zs = c.self.inside.counts.items in
     let grown : zs ≡ rows_plus xs (replicate (suc row) 0) = c.self.view_is ∙ c.grow.ensures
-        ∙ ap (λ n. rows_plus xs (replicate n 0)) (add-one row) in
+    ∙ ap (λ n. rows_plus xs (replicate n 0)) (add-one row) in
     let long : row < length zs =
-        omega (arith, ap length grown, length-rows_plus xs (replicate (suc row) 0), length-replicate
-        {A = ℕ} (suc row) 0) in
+    omega (
+      arith,
+      ap length grown,
+      length-rows_plus xs (replicate (suc row) 0),
+      length-replicate
+          {A = ℕ} (suc row) 0,
+    ) in
     let read = get_or_read zs row c.index.result.now long c.index.ensures 0 in
     let fits = c.ranges.count.fits in
     ap (set zs row) (c.saturating_add.ensures ∙ ap (λ n. capped_sum n a) read)

@@ -13,13 +13,13 @@ loop-i-init c =
 pub index-requires : goal.index-requires
 index-requires c =
     let long = grown_long c.args.self.now c.args.more.now c.loop-i.self-inside.counts.items
-        c.loop-i.i c.loop-i.invariant.sum c.loop-i-test.true in
+    c.loop-i.i c.loop-i.invariant.sum c.loop-i-test.true in
     omega (arith, c.loop-i.self-inside.counts.ok.0)
 
 pub index_mut-requires : goal.index_mut-requires
 index_mut-requires c =
     let long = grown_long c.args.self.now c.args.more.now c.loop-i.self-inside.counts.items
-        c.loop-i.i c.loop-i.invariant.sum c.loop-i-test.true in
+    c.loop-i.i c.loop-i.invariant.sum c.loop-i-test.true in
     omega (arith, c.loop-i.self-inside.counts.ok.0)
 
 pub loop-i-preserved : goal.loop-i-preserved

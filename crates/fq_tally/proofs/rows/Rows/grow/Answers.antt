@@ -12,13 +12,13 @@ returns-then-length_of-rows c =
     let all : c.deref.result.now ≡ xs = c.deref.ensures.value ∙ old in
     let len : c.length_of.result ≡ length xs = c.length_of.ensures.length ∙ ap length all in
     let own : vec_len c.self.inside.counts ≡ length xs =
-        omega (arith, c.self.inside.counts.ok.0, ap length old) in
+    omega (arith, c.self.inside.counts.ok.0, ap length old) in
     let small : Small xs =
-        λ k. omega (arith, ap (λ ys. get_or ys k 0) all, c.length_of.ensures.counts k) in
+    λ k. omega (arith, ap (λ ys. get_or ys k 0) all, c.length_of.ensures.counts k) in
     let items = rw c.unwrap.ensures at c.resize.ensures.items in
     items
     ∙ ap₂ (λ ys n. ys ++ replicate n 0) (ap (take rows) old
-        ∙ take_all rows xs (omega arith)) (ap (λ n. rows - n) own)
+    ∙ take_all rows xs (omega arith)) (ap (λ n. rows - n) own)
     ∙ grown_behind xs rows (rows - length xs) small (omega arith)
 
 pub returns-else-length_of-rows : goal.returns-else-length_of-rows
@@ -27,5 +27,5 @@ returns-else-length_of-rows c =
     let all : c.deref.result.now ≡ xs = c.deref.ensures.value ∙ c.self.view_is in
     let len : c.length_of.result ≡ length xs = c.length_of.ensures.length ∙ ap length all in
     let small : Small xs =
-        λ k. omega (arith, ap (λ ys. get_or ys k 0) all, c.length_of.ensures.counts k) in
+    λ k. omega (arith, ap (λ ys. get_or ys k 0) all, c.length_of.ensures.counts k) in
     grown_within xs c.args.rows small (omega arith)

@@ -46,8 +46,8 @@ add-requires-then-mate_survives c =
     let part = part_at (places_of (Some c.args.kept)) (whole c.args.read.now) in
     let left = c.kept_bases-left in
     let few =
-        few_bases part left.result left.ensures
-        (left_fits c.args.read.now c.args.kept c.requires c.title.ensures.lawful.seq_fits) in
+    few_bases part left.result left.ensures
+    (left_fits c.args.read.now c.args.kept c.requires c.title.ensures.lawful.seq_fits) in
     record {
       length = sym (ap (λ (b : BaseTally). b.bases) left.ensures
           ∙ kept_length c.args.kept (whole c.args.read.now));
@@ -60,8 +60,8 @@ add-requires-else-mate_survives c =
     let part = part_at (places_of (Some c.args.kept)) (whole c.args.read.now) in
     let left = c.kept_bases-left in
     let few =
-        few_bases part left.result left.ensures
-        (left_fits c.args.read.now c.args.kept c.requires c.title.ensures.lawful.seq_fits) in
+    few_bases part left.result left.ensures
+    (left_fits c.args.read.now c.args.kept c.requires c.title.ensures.lawful.seq_fits) in
     record {
       length = sym (ap (λ (b : BaseTally). b.bases) left.ensures
           ∙ kept_length c.args.kept (whole c.args.read.now));
@@ -76,10 +76,10 @@ returns c =
     let old = c.args.self.now in
     let left = part_at (places_of (Some k)) (whole read) in
     let before : c.add.new.self ≡ with_part (whole read) old.before = c.add.ensures
-        ∙ ap (λ (b : BaseTally). with_bases b old.before) c.whole_bases-whole.ensures in
+    ∙ ap (λ (b : BaseTally). with_bases b old.before) c.whole_bases-whole.ensures in
     let size = ap length c.seq-seq.ensures in
     let rest : length c.seq-seq.result.now - k.stop ≡ length read.seq - k.stop =
-        ap (λ (n : ℕ). n - k.stop) size in
+    ap (λ (n : ℕ). n - k.stop) size in
     let sum = c.saturating_add-self.ensures in
     let sum_behind = c.saturating_add-self-2.ensures in
     let made : Bool → SideTally = λ mate_survives. record {
@@ -98,38 +98,38 @@ returns c =
           let is = w.self-is in
           let a = ap (λ (t : SideTally). t.before) is ∙ before in
           let b = ap (λ (t : SideTally). t.paired) is ∙ w.add-then-mate_survives.ensures
-              ∙ ap (λ (x : BaseTally). with_bases x old.paired) c.kept_bases-left.ensures in
+          ∙ ap (λ (x : BaseTally). with_bases x old.paired) c.kept_bases-left.ensures in
           let d = ap (λ (t : SideTally). t.unpaired) is in
           let f = ap (λ (t : SideTally). t.front) is in
           let g = ap (λ (t : SideTally). t.behind) is in
           let h = ap (λ (t : SideTally). t.steps) is in
           let i = c.count.ensures ∙ ap (λ (t : SideTally). counted k.start t.removed_front) is in
           let j = c.count-2.ensures
-              ∙ ap (λ (t : SideTally). counted (length c.seq-seq.result.now - k.stop)
-              t.removed_behind) is ∙ ap (λ (n : ℕ). counted n old.removed_behind) rest in
+          ∙ ap (λ (t : SideTally). counted (length c.seq-seq.result.now - k.stop)
+          t.removed_behind) is ∙ ap (λ (n : ℕ). counted n old.removed_behind) rest in
           let l = c.add_survivor.ensures
-              ∙ ap (λ (t : SideTally). with_columns read left c.args.mate_survives t.positions)
-              is in
+          ∙ ap (λ (t : SideTally). with_columns read left c.args.mate_survives t.positions)
+          is in
           parts_are a b d (front_is old.front k.start f sum)
-              (behind_is old.behind k.stop (length read.seq) g size sum_behind) i j l h
+          (behind_is old.behind k.stop (length read.seq) g size sum_behind) i j l h
           ∙ sym (ap made w.if-mate_survives.true) ∙ sym (survivor read k c.args.mate_survives old)
       | else-mate_survives w ↦
           let is = w.self-is in
           let a = ap (λ (t : SideTally). t.before) is ∙ before in
           let b = ap (λ (t : SideTally). t.paired) is in
           let d = ap (λ (t : SideTally). t.unpaired) is ∙ w.add-else-mate_survives.ensures
-              ∙ ap (λ (x : BaseTally). with_bases x old.unpaired) c.kept_bases-left.ensures in
+          ∙ ap (λ (x : BaseTally). with_bases x old.unpaired) c.kept_bases-left.ensures in
           let f = ap (λ (t : SideTally). t.front) is in
           let g = ap (λ (t : SideTally). t.behind) is in
           let h = ap (λ (t : SideTally). t.steps) is in
           let i = c.count.ensures ∙ ap (λ (t : SideTally). counted k.start t.removed_front) is in
           let j = c.count-2.ensures
-              ∙ ap (λ (t : SideTally). counted (length c.seq-seq.result.now - k.stop)
-              t.removed_behind) is ∙ ap (λ (n : ℕ). counted n old.removed_behind) rest in
+          ∙ ap (λ (t : SideTally). counted (length c.seq-seq.result.now - k.stop)
+          t.removed_behind) is ∙ ap (λ (n : ℕ). counted n old.removed_behind) rest in
           let l = c.add_survivor.ensures
-              ∙ ap (λ (t : SideTally). with_columns read left c.args.mate_survives t.positions)
-              is in
+          ∙ ap (λ (t : SideTally). with_columns read left c.args.mate_survives t.positions)
+          is in
           parts_are a b d (front_is old.front k.start f sum)
-              (behind_is old.behind k.stop (length read.seq) g size sum_behind) i j l h
+          (behind_is old.behind k.stop (length read.seq) g size sum_behind) i j l h
           ∙ sym (ap made w.if-mate_survives.false) ∙ sym (survivor read k c.args.mate_survives old)
     ]

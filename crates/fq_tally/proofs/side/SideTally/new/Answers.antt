@@ -5,5 +5,5 @@ use Rattle.fq_tally.proofs.side.SideTally.new.Goals as goal
 pub returns : goal.returns
 returns c =
     parts_are c.in_ok-before.ensures c.in_ok-paired.ensures c.in_ok-unpaired.ensures refl refl
-        c.in_ok-removed_front.ensures c.in_ok-removed_behind.ensures c.in_ok-positions.ensures
-        c.in_ok-steps.ensures
+    c.in_ok-removed_front.ensures c.in_ok-removed_behind.ensures c.in_ok-positions.ensures
+    c.in_ok-steps.ensures

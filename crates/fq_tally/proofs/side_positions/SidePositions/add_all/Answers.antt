@@ -14,26 +14,26 @@ returns c =
     let rest = columns_plus p.rest.value q.rest.value in
     let moved = columns_plus p.paired_moved.value q.paired_moved.value in
     ap (λ (x : Columns). side_of x c.add_all-2.new.self c.add_all-3.new.self c.add_all-4.new.self
-        c.add_all-5.new.self)
+    c.add_all-5.new.self)
     (c.add_all.ensures ∙ ap (λ (y : Columns). columns_plus y c.deref.result.now)
-        c.deref_mut.ensures.value ∙ ap (columns_plus p.paired.value) c.deref.ensures)
+    c.deref_mut.ensures.value ∙ ap (columns_plus p.paired.value) c.deref.ensures)
     ∙ ap (λ (x : Columns). side_of paired x c.add_all-3.new.self c.add_all-4.new.self
-        c.add_all-5.new.self)
+    c.add_all-5.new.self)
     (c.add_all-2.ensures ∙ ap (λ (y : Columns). columns_plus y c.deref-2.result.now)
-        c.deref_mut-2.ensures.value ∙ ap (columns_plus p.unpaired.value) c.deref-2.ensures)
+    c.deref_mut-2.ensures.value ∙ ap (columns_plus p.unpaired.value) c.deref-2.ensures)
     ∙ ap (λ (x : Columns). side_of paired unpaired x c.add_all-4.new.self c.add_all-5.new.self)
     (c.add_all-3.ensures ∙ ap (λ (y : Columns). columns_plus y c.deref-3.result.now)
-        c.deref_mut-3.ensures.value ∙ ap (columns_plus p.rest.value) c.deref-3.ensures)
+    c.deref_mut-3.ensures.value ∙ ap (columns_plus p.rest.value) c.deref-3.ensures)
     ∙ ap (λ (x : Columns). side_of paired unpaired rest x c.add_all-5.new.self)
     (c.add_all-4.ensures ∙ ap (λ (y : Columns). columns_plus y c.deref-4.result.now)
-        c.deref_mut-4.ensures.value ∙ ap (columns_plus p.paired_moved.value) c.deref-4.ensures)
+    c.deref_mut-4.ensures.value ∙ ap (columns_plus p.paired_moved.value) c.deref-4.ensures)
     ∙ ap (side_of paired unpaired rest moved)
     (c.add_all-5.ensures ∙ ap (λ (y : Columns). columns_plus y c.deref-5.result.now)
-        c.deref_mut-5.ensures.value ∙ ap (columns_plus p.unpaired_moved.value) c.deref-5.ensures)
+    c.deref_mut-5.ensures.value ∙ ap (columns_plus p.unpaired_moved.value) c.deref-5.ensures)
     ∙ side_of_both p.paired.value p.unpaired.value p.rest.value p.paired_moved.value
-        p.unpaired_moved.value q.paired.value q.unpaired.value q.rest.value q.paired_moved.value
-        q.unpaired_moved.value
+    p.unpaired_moved.value q.paired.value q.unpaired.value q.rest.value q.paired_moved.value
+    q.unpaired_moved.value
     ∙ ap (λ (t : SideColumns). side_columns_plus t
-        (side_of q.paired.value q.unpaired.value q.rest.value q.paired_moved.value
-        q.unpaired_moved.value)) c.self.view_is
+    (side_of q.paired.value q.unpaired.value q.rest.value q.paired_moved.value
+    q.unpaired_moved.value)) c.self.view_is
     ∙ ap (side_columns_plus c.args.self.now) c.other.view_is

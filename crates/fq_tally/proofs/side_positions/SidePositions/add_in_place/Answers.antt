@@ -13,10 +13,10 @@ returns-then-mate_survives c =
     let p = c.self.inside in
     let x = columns_from 0 c.args.encoding c.args.seq.now c.args.qual.now in
     ap (λ (y : Columns). side_of y p.unpaired.value p.rest.value p.paired_moved.value
-        p.unpaired_moved.value) (c.add.ensures
-        ∙ ap (λ (y : Columns). columns_plus y x) c.deref_mut.ensures.value)
+    p.unpaired_moved.value) (c.add.ensures
+    ∙ ap (λ (y : Columns). columns_plus y x) c.deref_mut.ensures.value)
     ∙ paired_more p.paired.value p.unpaired.value p.rest.value p.paired_moved.value
-        p.unpaired_moved.value x
+    p.unpaired_moved.value x
     ∙ ap (both x true) c.self.view_is
     ∙ ap (λ (b : Bool). both x b c.args.self.now) (sym c.if-mate_survives.true)
 
@@ -25,9 +25,9 @@ returns-else-mate_survives c =
     let p = c.self.inside in
     let x = columns_from 0 c.args.encoding c.args.seq.now c.args.qual.now in
     ap (λ (y : Columns). side_of p.paired.value y p.rest.value p.paired_moved.value
-        p.unpaired_moved.value) (c.add-else-mate_survives.ensures
-        ∙ ap (λ (y : Columns). columns_plus y x) c.deref_mut-else-mate_survives.ensures.value)
+    p.unpaired_moved.value) (c.add-else-mate_survives.ensures
+    ∙ ap (λ (y : Columns). columns_plus y x) c.deref_mut-else-mate_survives.ensures.value)
     ∙ unpaired_more p.paired.value p.unpaired.value p.rest.value p.paired_moved.value
-        p.unpaired_moved.value x
+    p.unpaired_moved.value x
     ∙ ap (both x false) c.self.view_is
     ∙ ap (λ (b : Bool). both x b c.args.self.now) (sym c.if-mate_survives.false)

@@ -10,8 +10,8 @@ returns c =
     let p = c.self.inside in
     let x = columns_from c.args.at c.args.encoding c.args.seq.now c.args.qual.now in
     ap (λ (r : Columns). side_of p.paired.value p.unpaired.value r p.paired_moved.value
-        p.unpaired_moved.value) (c.add.ensures
-        ∙ ap (λ (y : Columns). columns_plus y x) c.deref_mut.ensures.value)
+    p.unpaired_moved.value) (c.add.ensures
+    ∙ ap (λ (y : Columns). columns_plus y x) c.deref_mut.ensures.value)
     ∙ rest_more p.paired.value p.unpaired.value p.rest.value p.paired_moved.value
-        p.unpaired_moved.value x
+    p.unpaired_moved.value x
     ∙ ap (with_before x) c.self.view_is

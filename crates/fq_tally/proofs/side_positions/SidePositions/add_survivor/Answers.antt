@@ -15,9 +15,9 @@ add_moved-requires c =
     let order = k.some in
     let within = c.requires in
     between_are_bases c.args.read.now c.encoding-encoding.result c.seq-seq.result.now
-        c.qual-qual.result.now k.start (k.stop - k.start) 0 c.title.ensures.lawful
-        c.encoding-encoding.ensures c.seq-seq.ensures c.qual-qual.ensures (omega arith)
-        (omega arith)
+    c.qual-qual.result.now k.start (k.stop - k.start) 0 c.title.ensures.lawful
+    c.encoding-encoding.ensures c.seq-seq.ensures c.qual-qual.ensures (omega arith)
+    (omega arith)
 
 pub add_in_place-requires : goal.add_in_place-requires
 add_in_place-requires c =
@@ -25,9 +25,9 @@ add_in_place-requires c =
     let order = k.some in
     let within = c.requires in
     between_are_bases c.args.read.now c.encoding-encoding.result c.seq-seq.result.now
-        c.qual-qual.result.now k.start (k.stop - k.start) 0 c.title.ensures.lawful
-        c.encoding-encoding.ensures c.seq-seq.ensures c.qual-qual.ensures (omega arith)
-        (omega arith)
+    c.qual-qual.result.now k.start (k.stop - k.start) 0 c.title.ensures.lawful
+    c.encoding-encoding.ensures c.seq-seq.ensures c.qual-qual.ensures (omega arith)
+    (omega arith)
 
 pub add_in_place-requires-else-stop-seq : goal.add_in_place-requires-else-stop-seq
 add_in_place-requires-else-stop-seq c =
@@ -35,9 +35,9 @@ add_in_place-requires-else-stop-seq c =
     let order = k.some in
     let within = c.requires in
     between_are_bases c.args.read.now c.encoding-encoding.result c.seq-seq.result.now
-        c.qual-qual.result.now k.start (k.stop - k.start) 0 c.title.ensures.lawful
-        c.encoding-encoding.ensures c.seq-seq.ensures c.qual-qual.ensures (omega arith)
-        (omega arith)
+    c.qual-qual.result.now k.start (k.stop - k.start) 0 c.title.ensures.lawful
+    c.encoding-encoding.ensures c.seq-seq.ensures c.qual-qual.ensures (omega arith)
+    (omega arith)
 
 pub add_rest-requires-then-stop-seq : goal.add_rest-requires-then-stop-seq
 add_rest-requires-then-stop-seq c =
@@ -47,11 +47,11 @@ add_rest-requires-then-stop-seq c =
     let qual_len = ap length c.qual-qual.ensures in
     let same = c.title.ensures.lawful.same_len in
     let as_long : length c.qual-qual.result.now - k.stop ≡ length c.seq-seq.result.now - k.stop =
-        omega arith in
+    omega arith in
     rw as_long (between_are_bases c.args.read.now c.encoding-encoding.result c.seq-seq.result.now
-        c.qual-qual.result.now k.stop (length c.seq-seq.result.now - k.stop) k.stop
-        c.title.ensures.lawful c.encoding-encoding.ensures c.seq-seq.ensures c.qual-qual.ensures
-        (omega arith) (omega arith))
+    c.qual-qual.result.now k.stop (length c.seq-seq.result.now - k.stop) k.stop
+    c.title.ensures.lawful c.encoding-encoding.ensures c.seq-seq.ensures c.qual-qual.ensures
+    (omega arith) (omega arith))
 
 pub returns-then-start-gt0 : goal.returns-then-start-gt0
 returns-then-start-gt0 c =
@@ -63,11 +63,11 @@ returns-then-start-gt0 c =
     let seq = c.seq-seq.result.now in
     let qual = c.qual-qual.result.now in
     let x = columns_from 0 e (take (k.stop - k.start) (drop k.start seq))
-        (take (k.stop - k.start) (drop k.start qual)) in
+    (take (k.stop - k.start) (drop k.start qual)) in
     let left = columns_of (part_at (places_of (Some k)) (whole read)) in
     let x_is : x ≡ left =
-        ap columns_of (kept_part read k e seq qual c.encoding-encoding.ensures c.seq-seq.ensures
-        c.qual-qual.ensures c.requires c.title.ensures.lawful.same_len) in
+    ap columns_of (kept_part read k e seq qual c.encoding-encoding.ensures c.seq-seq.ensures
+    c.qual-qual.ensures c.requires c.title.ensures.lawful.same_len) in
     let read_is : part e seq qual ≡ whole read =
     let e_is = c.encoding-encoding.ensures in
     let seq_is = c.seq-seq.ensures in
@@ -75,9 +75,9 @@ returns-then-start-gt0 c =
     c.add_moved.ensures
     ∙ ap (with_after x mate_survives) c.add_rest.ensures
     ∙ ap (λ (y : Columns). with_before (columns_from 0 e seq qual) (with_after y mate_survives old))
-        x_is
+    x_is
     ∙ ap (λ (y : Columns). with_before y (with_after left mate_survives old))
-        (ap columns_of read_is)
+    (ap columns_of read_is)
     ∙ sym (survivor_columns read k mate_survives old)
 
 pub returns-then-stop-seq : goal.returns-then-stop-seq
@@ -92,21 +92,21 @@ returns-then-stop-seq c =
     let lawful = c.title.ensures.lawful in
     let start : k.start ≡ 0 = let none = c.if-start-gt0.false in omega arith in
     let x = columns_from 0 e (take (k.stop - k.start) (drop k.start seq))
-        (take (k.stop - k.start) (drop k.start qual)) in
+    (take (k.stop - k.start) (drop k.start qual)) in
     let rest = columns_from k.stop e (take (length seq - k.stop) (drop k.stop seq))
-        (take (length qual - k.stop) (drop k.stop qual)) in
+    (take (length qual - k.stop) (drop k.stop qual)) in
     let left = columns_of (part_at (places_of (Some k)) (whole read)) in
     let x_is : x ≡ left =
-        ap columns_of (kept_part read k e seq qual c.encoding-encoding.ensures c.seq-seq.ensures
-        c.qual-qual.ensures c.requires lawful.same_len) in
+    ap columns_of (kept_part read k e seq qual c.encoding-encoding.ensures c.seq-seq.ensures
+    c.qual-qual.ensures c.requires lawful.same_len) in
     let both = cut_columns read k e seq qual c.encoding-encoding.ensures c.seq-seq.ensures
-        c.qual-qual.ensures c.requires lawful.same_len lawful.seq_fits lawful.scores start in
+    c.qual-qual.ensures c.requires lawful.same_len lawful.seq_fits lawful.scores start in
     c.add_in_place.ensures
     ∙ ap (λ (t : SideColumns). with_before x (with_after x mate_survives t))
-        c.add_rest-then-stop-seq.ensures
+    c.add_rest-then-stop-seq.ensures
     ∙ in_place x rest (columns_of (whole read)) mate_survives old both
     ∙ ap (λ (y : Columns). with_before (columns_of (whole read)) (with_after y mate_survives old))
-        x_is
+    x_is
     ∙ sym (survivor_columns read k mate_survives old)
 
 pub returns-else-stop-seq : goal.returns-else-stop-seq
@@ -123,16 +123,16 @@ returns-else-stop-seq c =
     let seq_len = ap length c.seq-seq.ensures in
     let end = c.if-stop-seq.false in
     let x = columns_from 0 e (take (k.stop - k.start) (drop k.start seq))
-        (take (k.stop - k.start) (drop k.start qual)) in
+    (take (k.stop - k.start) (drop k.start qual)) in
     let left = columns_of (part_at (places_of (Some k)) (whole read)) in
     let x_is : x ≡ left =
-        ap columns_of (kept_part read k e seq qual c.encoding-encoding.ensures c.seq-seq.ensures
-        c.qual-qual.ensures c.requires lawful.same_len) in
+    ap columns_of (kept_part read k e seq qual c.encoding-encoding.ensures c.seq-seq.ensures
+    c.qual-qual.ensures c.requires lawful.same_len) in
     let all : x ≡ columns_of (whole read) = all_columns read k e seq qual
-        c.encoding-encoding.ensures c.seq-seq.ensures c.qual-qual.ensures (omega arith)
-        lawful.same_len start in
+    c.encoding-encoding.ensures c.seq-seq.ensures c.qual-qual.ensures (omega arith)
+    lawful.same_len start in
     c.add_in_place-else-stop-seq.ensures
     ∙ ap (λ (y : Columns). with_before y (with_after x mate_survives old)) all
     ∙ ap (λ (y : Columns). with_before (columns_of (whole read)) (with_after y mate_survives old))
-        x_is
+    x_is
     ∙ sym (survivor_columns read k mate_survives old)

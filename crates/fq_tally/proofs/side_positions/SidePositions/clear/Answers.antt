@@ -7,11 +7,11 @@ use Rattle.fq_tally.proofs.side_positions.SidePositions.clear.Goals as goal
 pub returns : goal.returns
 returns c =
     ap (λ (x : Columns). side_of x c.clear-2.new.self c.clear-3.new.self c.clear-4.new.self
-        c.clear-5.new.self) c.clear.ensures
+    c.clear-5.new.self) c.clear.ensures
     ∙ ap (λ (x : Columns). side_of no_columns x c.clear-3.new.self c.clear-4.new.self
-        c.clear-5.new.self) c.clear-2.ensures
+    c.clear-5.new.self) c.clear-2.ensures
     ∙ ap (λ (x : Columns). side_of no_columns no_columns x c.clear-4.new.self c.clear-5.new.self)
-        c.clear-3.ensures
+    c.clear-3.ensures
     ∙ ap (λ (x : Columns). side_of no_columns no_columns no_columns x c.clear-5.new.self)
-        c.clear-4.ensures
+    c.clear-4.ensures
     ∙ ap (λ (x : Columns). side_of no_columns no_columns no_columns no_columns x) c.clear-5.ensures

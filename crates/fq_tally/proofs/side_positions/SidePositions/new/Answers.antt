@@ -7,14 +7,14 @@ use Rattle.fq_tally.proofs.side_positions.SidePositions.new.Goals as goal
 pub returns : goal.returns
 returns c =
     ap (λ (x : Columns). side_of x c.in_ok-unpaired.unpaired.value c.in_ok-rest.rest.value
-        c.in_ok-paired_moved.paired_moved.value c.in_ok-unpaired_moved.unpaired_moved.value)
-        c.in_ok-paired.ensures
+    c.in_ok-paired_moved.paired_moved.value c.in_ok-unpaired_moved.unpaired_moved.value)
+    c.in_ok-paired.ensures
     ∙ ap (λ (x : Columns). side_of no_columns x c.in_ok-rest.rest.value
-        c.in_ok-paired_moved.paired_moved.value c.in_ok-unpaired_moved.unpaired_moved.value)
-        c.in_ok-unpaired.ensures
+    c.in_ok-paired_moved.paired_moved.value c.in_ok-unpaired_moved.unpaired_moved.value)
+    c.in_ok-unpaired.ensures
     ∙ ap (λ (x : Columns). side_of no_columns no_columns x c.in_ok-paired_moved.paired_moved.value
-        c.in_ok-unpaired_moved.unpaired_moved.value) c.in_ok-rest.ensures
+    c.in_ok-unpaired_moved.unpaired_moved.value) c.in_ok-rest.ensures
     ∙ ap (λ (x : Columns). side_of no_columns no_columns no_columns x
-        c.in_ok-unpaired_moved.unpaired_moved.value) c.in_ok-paired_moved.ensures
+    c.in_ok-unpaired_moved.unpaired_moved.value) c.in_ok-paired_moved.ensures
     ∙ ap (λ (x : Columns). side_of no_columns no_columns no_columns no_columns x)
-        c.in_ok-unpaired_moved.ensures
+    c.in_ok-unpaired_moved.ensures

@@ -8,7 +8,7 @@ pub returns : goal.returns
 returns c =
     let p = c.self.inside in
     let first = c.add_to.ensures ∙ ap (λ (x : Columns). columns_plus x c.deref.result.now)
-        c.in_ok-columns.ensures ∙ c.deref.ensures in
+    c.in_ok-columns.ensures ∙ c.deref.ensures in
     c.add_to-2.ensures ∙ ap (λ (x : Columns). columns_plus x c.deref-2.result.now) first
-        ∙ ap (columns_plus p.unpaired.value) c.deref-2.ensures
+    ∙ ap (columns_plus p.unpaired.value) c.deref-2.ensures
     ∙ ap (λ (t : SideColumns). t.unpaired) c.self.view_is

@@ -8,24 +8,24 @@ invariant_of-self-2 c =
     let old = c.self.inside in
     let counts = c.args.counts.now in
     let heads = c.push_reserved.ensures.items
-        ∙ ap (λ hs. hs ++ (head_of (length counts) c.in_ok-width.width ∷ []))
-        c.reserve.ensures.items in
+    ∙ ap (λ hs. hs ++ (head_of (length counts) c.in_ok-width.width ∷ []))
+    c.reserve.ensures.items in
     pushed_whole old.heads.items c.push_reserved.new.self.items old.bytes.items
-        c.push_counts.new.bytes.items old.words.items c.push_counts.new.words.items old.longs.items
-        c.push_counts.new.longs.items counts (length counts) c.in_ok-width.width
+    c.push_counts.new.bytes.items old.words.items c.push_counts.new.words.items old.longs.items
+    c.push_counts.new.longs.items counts (length counts) c.in_ok-width.width
     c.self.invariant heads c.in_ok-width.ensures.bytes c.in_ok-width.ensures.words
-        c.in_ok-width.ensures.longs refl c.requires
+    c.in_ok-width.ensures.longs refl c.requires
 
 pub returns : goal.returns
 returns c =
     let old = c.self.inside in
     let counts = c.args.counts.now in
     let heads = c.push_reserved.ensures.items
-        ∙ ap (λ hs. hs ++ (head_of (length counts) c.in_ok-width.width ∷ []))
-        c.reserve.ensures.items in
+    ∙ ap (λ hs. hs ++ (head_of (length counts) c.in_ok-width.width ∷ []))
+    c.reserve.ensures.items in
     pushed_tables old.heads.items c.push_reserved.new.self.items old.bytes.items
-        c.push_counts.new.bytes.items old.words.items c.push_counts.new.words.items old.longs.items
-        c.push_counts.new.longs.items counts (length counts) c.in_ok-width.width
+    c.push_counts.new.bytes.items old.words.items c.push_counts.new.words.items old.longs.items
+    c.push_counts.new.longs.items counts (length counts) c.in_ok-width.width
     c.self.invariant heads c.in_ok-width.ensures.bytes c.in_ok-width.ensures.words
-        c.in_ok-width.ensures.longs refl
+    c.in_ok-width.ensures.longs refl
     ∙ ap (λ ts. ts ++ (counts ∷ [])) c.self.view_is

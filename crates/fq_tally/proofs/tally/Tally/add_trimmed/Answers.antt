@@ -25,11 +25,11 @@ returns c =
     let forward = c.args.pair.forward in
     let reverse = c.args.pair.reverse in
     let forward_found = found steps forward c.args.forward.now c.survives-has_forward.result
-        c.add.ensures.lawful.same_len c.requires.forward c.survives-has_forward.ensures in
+    c.add.ensures.lawful.same_len c.requires.forward c.survives-has_forward.ensures in
     let reverse_found = found steps reverse c.args.reverse.now c.survives-has_reverse.result
-        c.add-2.ensures.lawful.same_len c.requires.reverse c.survives-has_reverse.ensures in
+    c.add-2.ensures.lawful.same_len c.requires.reverse c.survives-has_reverse.ensures in
     ap (λ (t : SideTally). two t c.add-2.new.self) (c.add.ensures.added
-        ∙ ap (λ (b : Bool). with_read forward (course lists forward) b old.forward) reverse_found)
+    ∙ ap (λ (b : Bool). with_read forward (course lists forward) b old.forward) reverse_found)
     ∙ ap (two (with_read forward (course lists forward) (survives (course lists reverse).left)
-        old.forward)) (c.add-2.ensures.added
-        ∙ ap (λ (b : Bool). with_read reverse (course lists reverse) b old.reverse) forward_found)
+    old.forward)) (c.add-2.ensures.added
+    ∙ ap (λ (b : Bool). with_read reverse (course lists reverse) b old.reverse) forward_found)

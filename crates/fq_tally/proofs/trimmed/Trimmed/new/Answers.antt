@@ -17,8 +17,8 @@ trim_at-requires-clause-scored c =
     let read = c.args.read.now in
     let start = c.loop-number.start in
     let all = all_taken (is_scored read.encoding) (drop start read.qual)
-        (c.loop-number.stop - start) (all_dropped (is_scored read.encoding) read.qual start
-        c.title.ensures.lawful.scores) in
+    (c.loop-number.stop - start) (all_dropped (is_scored read.encoding) read.qual start
+    c.title.ensures.lawful.scores) in
     rw (c.encoding-encoding.ensures, c.qual-qual.ensures) all
 
 pub loop-number-preserved : goal.loop-number-preserved
@@ -44,21 +44,21 @@ loop-number-preserved c =
     let in_steps : number < length steps = omega arith in
     let hand = cut start (stop - start) (whole read) in
     let size : length hand.qual ≡ stop - start =
-        length-take-le (stop - start) (drop start read.qual)
-        (omega (arith, length-drop start read.qual)) in
+    length-take-le (stop - start) (drop start read.qual)
+    (omega (arith, length-drop start read.qual)) in
     let is : kept (only number steps) (scores read.encoding hand.qual) ≡ places k.start n =
     ap (λ (e : Encoding). kept (only number steps) (scores e hand.qual))
-        (sym c.encoding-encoding.ensures)
+    (sym c.encoding-encoding.ensures)
     ∙ ap (λ (q : List ℕ). kept (only number steps)
-        (scores c.encoding-encoding.result (take (stop - start) (drop start q))))
-        (sym c.qual-qual.ensures)
+    (scores c.encoding-encoding.result (take (stop - start) (drop start q))))
+    (sym c.qual-qual.ensures)
     ∙ c.in-Some.ensures.kept in
     let fits : k.stop ≤ length hand.qual =
-        subst (λ (q : List ℕ). k.stop ≤ length (take (stop - start) (drop start q)))
-        c.qual-qual.ensures c.in-Some.ensures.within in
+    subst (λ (q : List ℕ). k.stop ≤ length (take (stop - start) (drop start q)))
+    c.qual-qual.ensures c.in-Some.ensures.within in
     let next = cut_kept steps read number start stop in_steps order within same k is fits in
     let rest = course_of (number + 1) (drop (number + 1) (alone steps))
-        (cut (start + k.start) (start + k.stop - (start + k.start)) (whole read)) in
+    (cut (start + k.start) (start + k.stop - (start + k.start)) (whole read)) in
     let front = ap (λ (x : Course). x.front) next in
     let in_front = old.front in
     let shortened = ap (λ (x : Course). x.shortened) next in
@@ -81,18 +81,18 @@ loop-number-preserved c =
             ap (λ (i : ℕ). take i c.if-kept-stop.shortened ++ rest.shortened) w.count-is
             ∙ ap (λ (ns : List ℕ). take (count + 1) ns ++ rest.shortened) w.shortened-is
             ∙ ap (λ (ns : List ℕ). ns ++ rest.shortened)
-                (take_more_set held count number (omega arith))
+            (take_more_set held count number (omega arith))
             ∙ append_assoc (take count held) (number ∷ []) rest.shortened
             ∙ ap (λ (ns : List ℕ). take count held ++ ns) (sym (shortened
-                ∙ cond-true (nat_lt n (length hand.qual)) (number ∷ rest.shortened) rest.shortened
-                (lt-ltb n (length hand.qual) (let test = w.if-kept-stop.true in omega arith))))
+            ∙ cond-true (nat_lt n (length hand.qual)) (number ∷ rest.shortened) rest.shortened
+            (lt-ltb n (length hand.qual) (let test = w.if-kept-stop.true in omega arith))))
             ∙ old.shortened
         | else-kept-stop w ↦
             ap (λ (i : ℕ). take i c.if-kept-stop.shortened ++ rest.shortened) w.count-is
             ∙ ap (λ (ns : List ℕ). take count ns ++ rest.shortened) w.shortened-is
             ∙ ap (λ (ns : List ℕ). take count held ++ ns) (sym (shortened
-                ∙ cond-false (nat_lt n (length hand.qual)) (number ∷ rest.shortened) rest.shortened
-                (le-ltb n (length hand.qual) (let test = w.if-kept-stop.false in omega arith))))
+            ∙ cond-false (nat_lt n (length hand.qual)) (number ∷ rest.shortened) rest.shortened
+            (le-ltb n (length hand.qual) (let test = w.if-kept-stop.false in omega arith))))
             ∙ old.shortened
       ];
       dropped = ap (λ (x : Course). x.dropped) (sym next) ∙ old.dropped;
@@ -114,23 +114,23 @@ returns-in-None c =
     let hand = cut start (stop - start) (whole read) in
     let is : kept (only number steps) (scores read.encoding hand.qual) ≡ [] =
     ap (λ (e : Encoding). kept (only number steps) (scores e hand.qual))
-        (sym c.encoding-encoding.ensures)
+    (sym c.encoding-encoding.ensures)
     ∙ ap (λ (q : List ℕ). kept (only number steps)
-        (scores c.encoding-encoding.result (take (stop - start) (drop start q))))
-        (sym c.qual-qual.ensures)
+    (scores c.encoding-encoding.result (take (stop - start) (drop start q))))
+    (sym c.qual-qual.ensures)
     ∙ c.in-None.ensures.kept in
     let next = cut_dropped steps read number start stop in_steps old.order old.within same is in
     let none : start - start ≡ 0 = omega arith in
     let kept_is : places start (start - start) ≡ kept_places steps read = ap (places start) none
-        ∙ sym (places_dropped steps read number start stop in_steps old.order old.within same is)
-        ∙ old.kept in
+    ∙ sym (places_dropped steps read number start stop in_steps old.order old.within same is)
+    ∙ old.kept in
     let front = ap (λ (x : Course). x.front) next in
     let in_front = old.front in
     let front_is : start ≡ (course (alone steps) read).front = omega arith in
     let shortened_is : held ≡ (course (alone steps) read).shortened = sym (append-nil held)
-        ∙ ap (λ (x : Course). held ++ x.shortened) (sym next) ∙ old.shortened in
+    ∙ ap (λ (x : Course). held ++ x.shortened) (sym next) ∙ old.shortened in
     let dropped_is : number ∷ [] ≡ (course (alone steps) read).dropped =
-        ap (λ (x : Course). x.dropped) (sym next) ∙ old.dropped in
+    ap (λ (x : Course). x.dropped) (sym next) ∙ old.dropped in
     cc
 
 -- after the last step nothing more is done
@@ -146,15 +146,15 @@ returns c =
     let all = ap length c.as_slice-number-end.ensures.steps in
     let size = alone_length steps in
     let next = none_next number (alone steps) (cut start (stop - start) (whole read))
-        (omega arith) in
+    (omega arith) in
     let kept_is : places start (stop - start) ≡ kept_places steps read =
-        ap (λ (ss : List Step). kept_of ss (scores read.encoding read.qual)
-        (places start (stop - start))) (sym (drop_all number steps (omega arith))) ∙ old.kept in
+    ap (λ (ss : List Step). kept_of ss (scores read.encoding read.qual)
+    (places start (stop - start))) (sym (drop_all number steps (omega arith))) ∙ old.kept in
     let front = ap (λ (x : Course). x.front) next in
     let in_front = old.front in
     let front_is : start ≡ (course (alone steps) read).front = omega arith in
     let shortened_is : held ≡ (course (alone steps) read).shortened = sym (append-nil held)
-        ∙ ap (λ (x : Course). held ++ x.shortened) (sym next) ∙ old.shortened in
+    ∙ ap (λ (x : Course). held ++ x.shortened) (sym next) ∙ old.shortened in
     let dropped_is : [] ≡ (course (alone steps) read).dropped =
-        ap (λ (x : Course). x.dropped) (sym next) ∙ old.dropped in
+    ap (λ (x : Course). x.dropped) (sym next) ∙ old.dropped in
     cc

@@ -8,14 +8,14 @@ pub returns-in_err-n-clause-moved : goal.returns-in_err-n-clause-moved
 returns-in_err-n-clause-moved g c =
     let p = err_from_is_err_and c.from_residual.result c.from_residual.ensures.1 in
     rw (p.1, p.2) (hand_stays g.F.Feed.state c.args.feed.now c.read_more.new.feed
-        c.self.inside.bytes.items c.read_more.new.bytes.items c.args.self.now.in_hand
+    c.self.inside.bytes.items c.read_more.new.bytes.items c.args.self.now.in_hand
     c.self.inside.start c.self.inside.filled _ c.self.invariant.2
-        (ap (λ (b : Buffered). b.in_hand) (c.self.view_is ∙ c.make_room.ensures))
-        c.in_err-n.ensures.moved)
+    (ap (λ (b : Buffered). b.in_hand) (c.self.view_is ∙ c.make_room.ensures))
+    c.in_err-n.ensures.moved)
 
 pub returns-clause-moved : goal.returns-clause-moved
 returns-clause-moved g c = hand_moved g.F.Feed.state c.args.feed.now c.read_more.new.feed
     c.self.inside.bytes.items c.read_more.new.bytes.items c.args.self.now.in_hand
     c.self.inside.start c.self.inside.filled c.args.chunk c.in_ok-n.n c.self.invariant.2
-        c.self.invariant.3 (ap (λ (b : Buffered). b.in_hand) (c.self.view_is ∙ c.make_room.ensures))
-        c.in_ok-n.ensures.moved
+    c.self.invariant.3 (ap (λ (b : Buffered). b.in_hand) (c.self.view_is ∙ c.make_room.ensures))
+    c.in_ok-n.ensures.moved

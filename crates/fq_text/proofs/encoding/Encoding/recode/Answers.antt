@@ -13,7 +13,7 @@ next_byte : (e : Encoding) (was now : List ℕ) (i : ℕ) → i < length was →
 next_byte e was now i within is =
     ap (λ xs. get_or xs i 0) is
     ∙ get_or-append_right (map (recoded e) (take i was)) (drop i was) i i 0
-        (omega (arith, length-map (take i was) (recoded e), length-take i was)) (omega arith)
+    (omega (arith, length-map (take i was) (recoded e), length-take i was)) (omega arith)
     ∙ get_or-drop i was (i - i) 0 ∙ ap (λ k. get_or was k 0) (omega arith)
 
 next_scored : (e : Encoding) (was now : List ℕ) (i : ℕ) → list_all (is_scored e) was ≡ true →
@@ -30,7 +30,7 @@ pub from_score33-requires : goal.from_score33-requires
 from_score33-requires c =
     let next = get_or c.loop-byte.bytes c.loop-byte.byte-index 0 in
     let scored = next_scored c.args.self c.args.bytes.now c.loop-byte.bytes c.loop-byte.byte-index
-        c.requires (omega arith) c.loop-byte.invariant in
+    c.requires (omega arith) c.loop-byte.invariant in
     let small = value_small c.args.self next scored in
     omega (arith, c.phred.ensures)
 
@@ -38,7 +38,7 @@ pub loop-byte-preserved : goal.loop-byte-preserved
 loop-byte-preserved c =
     let next = get_or c.loop-byte.bytes c.loop-byte.byte-index 0 in
     ap (λ b. set c.loop-byte.bytes c.loop-byte.byte-index b) (c.from_score33.ensures
-        ∙ ap (λ s. s + 33) c.phred.ensures)
+    ∙ ap (λ s. s + 33) c.phred.ensures)
     ∙ map_over_more (recoded c.args.self) c.args.bytes.now c.loop-byte.bytes c.loop-byte.byte-index
-        next (omega arith) c.loop-byte.invariant
-        (get_or_default c.loop-byte.bytes c.loop-byte.byte-index 0 next (omega arith))
+    next (omega arith) c.loop-byte.invariant
+    (get_or_default c.loop-byte.bytes c.loop-byte.byte-index 0 next (omega arith))

@@ -16,39 +16,47 @@ returns-in-Some-clause-step g c =
     let at = c.in-Some.at in
     let old = c.loop-at.invariant in
     let above = not_before c.loop-at.self.in_hand c.loop-at.scanned at old.none
-        c.in-Some.ensures.place in
+    c.in-Some.ensures.place in
     let is = c.take_line.ensures in
     let hand = ap (λ (r : Lined g.row.F.Denot). length r.in_hand) is
-        ∙ length-drop (at + 1) c.loop-at.self.in_hand in
+    ∙ length-drop (at + 1) c.loop-at.self.in_hand in
     let chunk = ap (λ (r : Lined g.row.F.Denot). r.chunk) is in
     let same = old.reads.chunk in
     let line = takes_to g.F.Feed.state c.args.self.now c.loop-at.self c.take_line.new.self at is
-        old.reads c.in-Some.ensures.place
+    old.reads c.in-Some.ensures.place
     (λ lt. let room = old.small lt in omega arith) in
     judged_as c.judged.result _ _ (length c.take_line.new.self.line) c.judged.ensures.ok
-        c.judged.ensures.err
+    c.judged.ensures.err
     (λ fits. (line, fits))
-    (λ long. (refl, long_taken g.F.Feed.state c.args.self.now c.take_line.new.self line
-        (sound_behind g.F.Feed.state c.loop-at.self c.take_line.new.self at (at + 1) is old.sound)
-        long))
+    (λ long. (
+      refl,
+      long_taken g.F.Feed.state c.args.self.now c.take_line.new.self line
+          (sound_behind g.F.Feed.state c.loop-at.self c.take_line.new.self at (at + 1) is old.sound)
+          long,
+    ))
 
 pub returns-then-scanned-clause-step : goal.returns-then-scanned-clause-step
 returns-then-scanned-clause-step g c =
-    let old = c.loop-at.invariant in
-    (refl, long_waiting g.F.Feed.state c.args.self.now c.loop-at.self old.reads (omega arith)
-        c.in_default.ensures.place)
+    let old = c.loop-at.invariant in (
+      refl,
+      long_waiting g.F.Feed.state c.args.self.now c.loop-at.self old.reads (omega arith)
+          c.in_default.ensures.place,
+    )
 
 pub returns-then-self-clause-step : goal.returns-then-self-clause-step
 returns-then-self-clause-step g c =
     let old = c.loop-at.invariant in
     let is = c.take_line-then-self.ensures in
     let line = takes_all g.F.Feed.state c.args.self.now c.loop-at.self
-        c.take_line-then-self.new.self c.in_hand-scanned.result is c.in_hand-scanned.ensures
+    c.take_line-then-self.new.self c.in_hand-scanned.result is c.in_hand-scanned.ensures
     (omega arith) (ap (λ (r : Lined g.row.F.Denot). r.ended) (sym c.self.view_is)
-        ∙ c.if-self.true) old.reads (λ k lt. c.in_default.ensures.place k (omega arith)) in
+    ∙ c.if-self.true) old.reads (λ k lt. c.in_default.ensures.place k (omega arith)) in
     judged_as c.judged-then-self.result _ _ (length c.take_line-then-self.new.self.line)
-        c.judged-then-self.ensures.ok c.judged-then-self.ensures.err
+    c.judged-then-self.ensures.ok c.judged-then-self.ensures.err
     (λ fits. (line, fits))
-    (λ long. (refl, long_taken g.F.Feed.state c.args.self.now c.take_line-then-self.new.self line
-        (sound_behind g.F.Feed.state c.loop-at.self c.take_line-then-self.new.self
-        c.in_hand-scanned.result c.in_hand-scanned.result is old.sound) long))
+    (λ long. (
+      refl,
+      long_taken g.F.Feed.state c.args.self.now c.take_line-then-self.new.self line
+          (sound_behind g.F.Feed.state c.loop-at.self c.take_line-then-self.new.self
+          c.in_hand-scanned.result c.in_hand-scanned.result is old.sound) long,
+    ))

@@ -17,8 +17,8 @@ faulty c =
     let len = length-map c.args.words.now (λ word. word.now) in
     let lt : i < length words = omega arith in
     let is : step_of (get_or words i []) ≡ Err c.in-Err.kind =
-        ap step_of (get_or-map (λ word. word.now) c.args.words.now i _ [] c.loop-i-test.true)
-        ∙ sym c.in-Err.ensures.value in
+    ap step_of (get_or-map (λ word. word.now) c.args.words.now i _ [] c.loop-i-test.true)
+    ∙ sym c.in-Err.ensures.value in
     fault_found words c.loop-i.held i lt c.loop-i.invariant.so_far c.in-Err.kind is
 
 pub returns-in-Err-clause-value : goal.returns-in-Err-clause-value
@@ -34,8 +34,11 @@ returns-in-Err-clause-first c =
     record {
       none = λ empty. absurd (omega arith);
       many = λ more. absurd (omega arith);
-      first = λ some few. first_fault words (record { place = c.loop-i.i + 1; kind =
-          c.in-Err.kind }) (faulty c);
+      first = λ some few. first_fault words (record {
+        place = c.loop-i.i + 1;
+        kind =
+            c.in-Err.kind;
+      }) (faulty c);
     }
 
 pub returns-clause-all : goal.returns-clause-all
@@ -47,7 +50,7 @@ returns-clause-all c =
     let whole : i ≡ length c.args.words.now = omega arith in
     let done = all_held words held i (omega arith) c.loop-i.invariant.so_far in
     all_steps 1 words (take (length c.args.words.now) held) (done
-        ∙ ap (λ n. Ok (take n held)) whole)
+    ∙ ap (λ n. Ok (take n held)) whole)
 
 pub loop-i-preserved : goal.loop-i-preserved
 loop-i-preserved c =
@@ -61,8 +64,8 @@ loop-i-preserved c =
     let lt : i < length words = omega arith in
     let room : i < length held = omega arith in
     let is : step_of (get_or words i []) ≡ Ok step =
-        ap step_of (get_or-map (λ word. word.now) c.args.words.now i _ [] c.loop-i-test.true)
-        ∙ sym c.in-Ok.ensures.value in
+    ap step_of (get_or-map (λ word. word.now) c.args.words.now i _ [] c.loop-i-test.true)
+    ∙ sym c.in-Ok.ensures.value in
     let left : 64 - i - 1 ≡ 64 - (i + 1) = omega arith in
     record {
       whole = length-set held i step ∙ whole;

@@ -6,4 +6,4 @@ pub returns-clause-kept : goal.returns-clause-kept
 returns-clause-kept c =
     let q = scores c.args.encoding c.args.qual.now in
     rw (ap (λ ss. kept ss q) (sym c.as_slice.ensures.steps)
-        ∙ c.trim_by-kept.ensures.kept) c.kept_between.ensures.kept
+    ∙ c.trim_by-kept.ensures.kept) c.kept_between.ensures.kept

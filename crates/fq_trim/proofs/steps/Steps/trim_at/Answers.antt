@@ -12,7 +12,7 @@ returns-clause-kept c =
     let same = c.as_slice.ensures.steps in
     let size = ap length same in
     let is = ap (λ ss. take 1 (drop c.args.place ss)) (sym same)
-        ∙ ap (take 1) (drop_more c.as_slice.result.now c.args.place (Leading 0) (omega arith)) in
+    ∙ ap (take 1) (drop_more c.as_slice.result.now c.args.place (Leading 0) (omega arith)) in
     let step = step_alone _ c.args.encoding c.args.qual.now c.kept_by-left.result.start
-        c.kept_by-left.result.stop c.kept_by-left.ensures in
+    c.kept_by-left.result.stop c.kept_by-left.ensures in
     rw (ap (λ ss. kept ss q) is ∙ step) c.kept_between.ensures.kept
