@@ -115,7 +115,8 @@ module _ (tallied : Bool) (steps : List Step) where
         (cause : Option Cause) × Answers tallied steps (every j w bs) (get_or fs j no_history).items
         cause
     replied lanes j lt =
-        let m = matched_at ts cs fs closed matched j no_history no_history (omega (arith, lanes)) in (
+        let m = matched_at ts cs fs closed matched j no_history no_history
+        (omega (arith, lanes)) in (
           m.0,
           subst (λ xs. Answers tallied steps xs (get_or fs j no_history).items m.0)
               (dealt.items j no_history lt) m.1,

@@ -89,7 +89,8 @@ ends_in_cr_lf l clean ys =
 -- a record as four lines with this line end, these bytes after the `+`, and a text after them
 abbrev pub four : List ℕ → List ℕ → Read → List ℕ → List ℕ
 four end again r text =
-    ((64 ∷ r.title) ++ end) ++ ((r.seq ++ end) ++ (((43 ∷ again) ++ end) ++ ((r.qual ++ end) ++ text)))
+    ((64 ∷ r.title) ++ end)
+    ++ ((r.seq ++ end) ++ (((43 ∷ again) ++ end) ++ ((r.qual ++ end) ++ text)))
 
 -- what makes four such lines a record
 pub record AreItsLines (end again : List ℕ) (r : Read) : Type 0 where
