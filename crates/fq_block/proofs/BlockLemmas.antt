@@ -82,6 +82,7 @@ module _ (encoding : Encoding) where
         }
 
   module _ (bytes starts : List ℕ) (is : IsPacked encoding bytes starts) where
+    -- there are as many pairs as places
     pub length-pairs_at : length (pairs_at encoding bytes starts) ≡ length starts
     length-pairs_at = length-map starts (λ start. pair_in encoding (drop start bytes))
 
@@ -94,6 +95,7 @@ module _ (encoding : Encoding) where
         (subst (λ s. HoldsPair encoding (drop (slice_index s i) (packed_pairs ms))) (sym is.placed)
         (held_from [] ms i is.fit (omega (arith, length-pairs_at))))
 
+    -- each pair begins within the bytes
     pub start_within : (i : ℕ) → i < length starts → slice_index starts i ≤ length bytes
     start_within i within =
         omega (arith, (held_at i within).0.whole, length-drop (slice_index starts i) bytes)
@@ -129,6 +131,7 @@ module _ (encoding : Encoding) where
       pairs_at-pushed = pairs_are (bytes ++ packed_pair m) (starts ++ length bytes ∷ [])
           (pairs_at encoding bytes starts ++ m ∷ []) all_fit bytes_more starts_more
 
+      -- with one more pair, the bytes are still the packing of the pairs at their places
       pub IsPacked-pushed : length starts < 65536 →
           IsPacked encoding (bytes ++ packed_pair m) (starts ++ length bytes ∷ [])
       IsPacked-pushed room =

@@ -10,15 +10,18 @@ use Rattle.fq_block.specs.Blocks.{Fits}
 
 -- A length.
 
+-- a length takes four bytes
 pub length-packed_length : (n : ℕ) → length (packed_length n) ≡ 4
 unfolding packed_length
 length-packed_length n = refl
 
+-- a length that was packed is read back
 pub length_in-packed_length : (n : ℕ) (rest : List ℕ) → n < 2 ^ 32 →
     length_in (packed_length n ++ rest) ≡ n
 unfolding packed_length length_in
 length_in-packed_length n rest fits = from_be_bytes-to_be_bytes_4 n fits
 
+-- after the four bytes of a length come the bytes that follow it
 pub drop-packed_length : (n : ℕ) (rest : List ℕ) → drop 4 (packed_length n ++ rest) ≡ rest
 unfolding packed_length
 drop-packed_length n rest = refl
@@ -29,18 +32,21 @@ module _ (packed title seq qual rest : List ℕ)
     (length seq) ++ (title ++ (seq ++ (qual ++ rest)))))
     (title_fits : length title < 2 ^ 32) (seq_fits : length seq < 2 ^ 32) (same_len : length qual
     ≡ length seq) where
+  -- the first length is that of the title
   pub title_len_is : title_len_in packed ≡ length title
   title_len_is = ap length_in is ∙ length_in-packed_length (length title) _ title_fits
 
   lengths_is : drop 4 packed ≡ packed_length (length seq) ++ (title ++ (seq ++ (qual ++ rest)))
   lengths_is = ap (drop 4) is ∙ drop-packed_length (length title) _
 
+  -- the second length is that of the sequence
   pub bases_is : bases_in packed ≡ length seq
   bases_is = ap length_in lengths_is ∙ length_in-packed_length (length seq) _ seq_fits
 
   parts_is : parts_in packed ≡ title ++ (seq ++ (qual ++ rest))
   parts_is = ap (drop 4) lengths_is ∙ drop-packed_length (length seq) _
 
+  -- the title is read back
   pub title_is : take (title_len_in packed) (parts_in packed) ≡ title
   title_is = ap (λ n. take n (parts_in packed)) title_len_is ∙ ap (take (length title)) parts_is
       ∙ take-append_seam title _
@@ -49,6 +55,7 @@ module _ (packed title seq qual rest : List ℕ)
   scored_is = ap (λ n. drop n (parts_in packed)) title_len_is ∙ ap (drop (length title)) parts_is
       ∙ drop-append_seam title _
 
+  -- the sequence is read back
   pub seq_is : take (bases_in packed) (drop (title_len_in packed) (parts_in packed)) ≡ seq
   seq_is = ap (λ n. take n (drop (title_len_in packed) (parts_in packed))) bases_is
       ∙ ap (take (length seq)) scored_is ∙ take-append_seam seq _
@@ -60,15 +67,18 @@ module _ (packed title seq qual rest : List ℕ)
   scores_len : bases_in packed ≡ length qual
   scores_len = bases_is ∙ sym same_len
 
+  -- the quality is read back
   pub qual_is : take (bases_in packed) (drop (bases_in packed) (drop (title_len_in packed)
       (parts_in packed))) ≡ qual
   qual_is = ap (take (bases_in packed)) scores_is ∙ ap (λ n. take n (qual ++ rest)) scores_len
       ∙ take-append_seam qual rest
 
+  -- after the read come the bytes that follow it
   pub behind_is : behind_read packed ≡ rest
   behind_is = ap (drop (bases_in packed)) scores_is ∙ ap (λ n. drop n (qual ++ rest)) scores_len
       ∙ drop-append_seam qual rest
 
+  -- both lengths and all three parts are within the bytes
   pub whole_is : 8 + title_len_in packed + bases_in packed + bases_in packed ≤ length packed
   whole_is =
       let a = length-packed_length (length title) in
@@ -95,6 +105,7 @@ module _ (r : Read) (lawful : IsLawful r) where
         (length r.seq) ++ (r.title ++ (r.seq ++ (r.qual ++ rest))))
     bytes_are = simp append_assoc
 
+    -- a valid read that was packed is read back
     pub read_in-packed_read : read_in r.encoding (packed_read r ++ rest) ≡ r
     read_in-packed_read =
         let bytes = packed_read r ++ rest in
@@ -122,10 +133,12 @@ module _ (r : Read) (lawful : IsLawful r) where
         ∙ ap (λ (q : List ℕ). let k : Read =
         record { encoding = r.encoding; title = r.title; seq = r.seq; qual = q } in k) qual
 
+    -- after a valid read that was packed come the bytes that follow it
     pub behind_read-packed_read : behind_read (packed_read r ++ rest) ≡ rest
     behind_read-packed_read = behind_is (packed_read r ++ rest) r.title r.seq r.qual rest bytes_are
         title_small seq_small lawful.same_len
 
+    -- bytes that begin with a packed valid read hold a whole valid read
     pub HoldsRead-packed_read : HoldsRead r.encoding (packed_read r ++ rest)
     HoldsRead-packed_read = record {
       whole = whole_is (packed_read r ++ rest) r.title r.seq r.qual rest bytes_are title_small
@@ -154,6 +167,7 @@ module _ (encoding : Encoding) (m : Mates) (fits : Fits encoding m) (rest : List
       ∙ ap (λ e. read_in e (packed_read m.reverse ++ rest)) (sym fits.encodings.1)
       ∙ read_in-packed_read m.reverse fits.reverse rest
 
+  -- a pair that was packed is read back
   pub pair_in-packed_pair : pair_in encoding (packed_pair m ++ rest) ≡ m
   pair_in-packed_pair =
       ap (λ (f : Read). let k : Mates = record {
@@ -164,6 +178,7 @@ module _ (encoding : Encoding) (m : Mates) (fits : Fits encoding m) (rest : List
       ∙ ap (λ (r : Read). let k : Mates = record { forward = m.forward; reverse = r } in
       k) reverse_in
 
+  -- bytes that begin with a packed pair hold a pair
   pub HoldsPair-packed_pair : HoldsPair encoding (packed_pair m ++ rest)
   HoldsPair-packed_pair = (
     subst (HoldsRead encoding) (sym pair_bytes)

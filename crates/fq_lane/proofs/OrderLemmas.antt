@@ -88,10 +88,12 @@ module _ {T : Type 0} where
   kept_new : Kept new_lane
   kept_new = record { prefix = ([], refl); ends = tt }
 
+  -- after any events, what was got is a prefix of what was sent
   pub always_prefix : (es : List (Event T)) →
       IsPrefix (after_events new_lane es).got (after_events new_lane es).sent
   always_prefix es = (kept_events new_lane es kept_new).prefix
 
+  -- once the mark was got, what was got is all that was sent
   pub whole_once_marked : (es : List (Event T)) → has_mark (after_events new_lane es).got ≡ true →
       (after_events new_lane es).got ≡ (after_events new_lane es).sent
   whole_once_marked es m =
@@ -132,18 +134,21 @@ module _ {T : Type 0} where
   open_has_none : (l : History T) → l.marked ≡ false → has_mark (slots_of l.items l.marked) ≡ false
   open_has_none l unmarked = ap (λ b. has_mark (slots_of l.items b)) unmarked ∙ no_mark l.items
 
+  -- to send an item before the mark is one push of an item
   pub item_sent : (sent got : History T) (x : T) → sent.marked ≡ false →
       after_event (lane_of sent got) (push_item x) ≡ lane_of (with_item sent x) got
   item_sent sent got x unmarked =
       lane_is _ _ _ _ (pushed_open _ (slots_of sent.items sent.marked) (Item x) (open_has_none sent
       unmarked) ∙ open_item sent x unmarked) refl
 
+  -- to send the mark, if it was not sent yet, is one push of the mark
   pub mark_sent : (sent got : History T) → sent.marked ≡ false →
       after_event (lane_of sent got) push_mark ≡ lane_of (with_mark sent) got
   mark_sent sent got unmarked =
       lane_is _ _ _ _ (pushed_open _ (slots_of sent.items sent.marked) Mark (open_has_none sent
       unmarked) ∙ open_mark sent unmarked) refl
 
+  -- to get the item that is next is one pop
   pub item_got : (sent got : History T) (x : T) → got.marked ≡ false →
       next_slot (lane_of sent got) ≡ Item x ∷ [] →
       after_event (lane_of sent got) pop ≡ lane_of sent (with_item got x)
@@ -151,6 +156,7 @@ module _ {T : Type 0} where
       lane_is _ _ _ _ refl (ap (λ ss. slots_of got.items got.marked ++ ss) next
       ∙ open_item got x unmarked)
 
+  -- to get the mark, if it is next, is one pop
   pub mark_got : (sent got : History T) → got.marked ≡ false →
       next_slot (lane_of sent got) ≡ Mark ∷ [] →
       after_event (lane_of sent got) pop ≡ lane_of sent (with_mark got)

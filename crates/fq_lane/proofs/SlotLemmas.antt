@@ -19,6 +19,7 @@ module _ {T : Type 0} where
   slots-item [] x = refl
   slots-item (y ∷ xs) x = ap (λ ss. Item y ∷ ss) (slots-item xs x)
 
+  -- the mark after the slots of some items
   pub slots-mark : (xs : List T) → slots_of xs false ++ Mark ∷ [] ≡ slots_of xs true
   slots-mark [] = refl
   slots-mark (y ∷ xs) = ap (λ ss. Item y ∷ ss) (slots-mark xs)
@@ -33,6 +34,7 @@ module _ {T : Type 0} where
       items_of ts ≡ items_of ss ++ x ∷ []
   item_items ss ts x history is = ap items_of is ∙ items-append ss (Item x ∷ [])
 
+  -- items and one more item are still items alone
   pub item_history : (ss ts : List (Slot T)) (x : T) → IsHistory ss false → ts ≡ ss ++ Item x ∷ [] →
       IsHistory ts false
   item_history ss ts x history is =
@@ -45,6 +47,7 @@ module _ {T : Type 0} where
   mark_items ss ts history is = ap items_of is ∙ items-append ss (Mark ∷ [])
       ∙ append-nil (items_of ss)
 
+  -- items and the mark after them are a history that has its mark
   pub mark_history : (ss ts : List (Slot T)) → IsHistory ss false → ts ≡ ss ++ Mark ∷ [] →
       IsHistory ts true
   mark_history ss ts history is =
@@ -68,15 +71,18 @@ module _ {T : Type 0} where
   whole_items got rest sent g s e = whole (items_of got) (items_of sent) rest
       (ap (λ us. us ++ rest) (sym g) ∙ e ∙ s)
 
+  -- slots that equal those of a history are that history
   pub history_along : (ss ts : List (Slot T)) (b : Bool) → IsHistory ss b → ts ≡ ss → IsHistory ts b
   history_along ss ts b history is = is ∙ history ∙ ap (λ us. slots_of (items_of us) b) (sym is)
 
+  -- histories with the same name, items and mark are equal
   pub history_is : (m n : Name) (xs ys : List T) (b c : Bool) → m ≡ n → xs ≡ ys → b ≡ c
       → (let l : History T = record { name = m; items = xs; marked = b } in l)
       ≡ (let l : History T = record { name = n; items = ys; marked = c } in l)
   history_is m n xs ys b c p q r = cc
 
 module _ {T A P : Type 0} where
+  -- ends of the same ring have the same name
   pub same_name : (a b : End T A P) → SameRing a b →
       (let n : Name = (b.words, (b.slots, b.names)) in n) ≡ (let n : Name =
       (a.words, (a.slots, a.names)) in n)

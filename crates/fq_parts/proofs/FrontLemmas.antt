@@ -24,6 +24,7 @@ plus_goes_on e title bases (plus ∷ ls) is =
     not_faulty (quality_faults e n 0 scores) (completed read (after_quality n ls)) first in
     completed_goes_on read (after_quality n ls) second
 
+-- after lines with no record and no fault, the front is that of the lines that follow
 pub front_after : (e : Encoding) (ls more : List (List ℕ)) → front e ls ≡ End →
     front e (ls ++ more) ≡ front e more
 front_after e [] more is = refl

@@ -28,6 +28,7 @@ module _ (check : Bool) (e : Encoding) (more : List (List ℕ)) where
   Again n = (j : ℕ) (rest : List (List ℕ)) → length rest < n → (pairs_at j rest).fault ≡ None →
       pairs_at j (rest ++ more) ≡ with_more j (pairs_at j rest)
 
+  -- if lines of an interleaved text pair up without a fault, the pairs of more lines come after
   pub one_joined : (n k : ℕ) (ls : List (List ℕ)) → length ls < n →
       (pairs_at k ls).fault ≡ None → pairs_at k (ls ++ more) ≡ with_more k (pairs_at k ls)
   one_joined zero k ls small none = absurd (omega arith)

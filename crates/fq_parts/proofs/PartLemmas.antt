@@ -17,6 +17,7 @@ use Rattle.fq_parts.specs.Parts.{PairsAreJoined, PartsAreTrimmedApart}
 use Rattle.fq_parts.proofs.TwoTextLemmas.{parts_joined}
 use Rattle.fq_parts.proofs.InterleavedLemmas.{one_joined}
 
+-- the pairs of inputs are those of a first part, and then those of the rest, numbered on
 pub pairs_are_joined : PairsAreJoined
 pairs_are_joined TwoTexts check e given f r f_rest r_rest part =
     let more_f = lines f_rest in
@@ -39,6 +40,7 @@ mates_at : (form : Form) (check : Bool) (e : Encoding) (given : ℕ) (f r : List
 mates_at TwoTexts check e given f r = refl
 mates_at InterleavedText check e given f r = refl
 
+-- a first part of inputs and the rest may be trimmed apart
 pub parts_trimmed_apart : PartsAreTrimmedApart
 parts_trimmed_apart form check e steps f r f_rest r_rest part =
     let first = pairs_in form check e 0 f r in

@@ -21,6 +21,7 @@ module _ (check : Bool) (e : Encoding) (more_f more_r : List (List ℕ)) where
   abbrev with_more : ℕ → Pairs → Pairs
   with_more k p = pairs_then p (pairs_at (k + length p.mates) more_f more_r)
 
+  -- if the lines of two texts pair up without a fault, the pairs of more lines come after theirs
   pub parts_joined : (n k : ℕ) (fs rs : List (List ℕ)) → length fs < n →
       (pairs_at k fs rs).fault ≡ None →
       pairs_at k (fs ++ more_f) (rs ++ more_r) ≡ with_more k (pairs_at k fs rs)

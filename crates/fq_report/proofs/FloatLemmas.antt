@@ -108,6 +108,7 @@ steps_no_float number [] t = refl
 steps_no_float number (word ∷ words) t = rw (step_no_float number word t)
     (steps_no_float (suc number) words t)
 
+-- no value of a report is a float
 pub report_no_float : (f : Facts) → has_float (report_value f) ≡ false
 unfolding report_value
 report_no_float f =

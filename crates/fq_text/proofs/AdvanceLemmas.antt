@@ -82,6 +82,7 @@ module _ {F : Type 0} (state : F → FeedState) where
         drop used r.in_hand;
   }
 
+  -- a line that is taken out of the bytes in hand uses the first `used` of them
   pub behind_reads : (a b : Lined F) (len used : ℕ) → Reads state a b [] →
       Reads state a (behind_line b len used) (take used b.in_hand)
   behind_reads a b len used p = record {
@@ -95,6 +96,7 @@ module _ {F : Type 0} (state : F → FeedState) where
     max_reads = p.max_reads;
   }
 
+  -- a sound reader stays sound when a line is taken out of the bytes in hand
   pub sound_behind : (b c : Lined F) (len used : ℕ) → c ≡ behind_line b len used → IsSound state b →
       IsSound state c
   sound_behind b c len used is sound = subst (λ (r : Lined F). IsSound state r) (sym is)

@@ -142,6 +142,7 @@ enough n (l ∷ ls) behind is = ⊎_elim
     omega (arith, length-append l (concat (quality_lines (n - length l) ls)), same))
     (cases_Bool (eqb n 0))
 
+-- only a record whose quality is complete is found, with the lines after it
 pub complete : (r s : Read) (o : Option (List (List ℕ))) (ls : List (List ℕ)) →
     completed r o ≡ Found s ls → (o ≡ Some ls) × (r ≡ s)
 complete r s None ls is = absurd (let h : Faulty fault.QualityShort ≡ Found s ls = is in cc)
@@ -215,6 +216,7 @@ module _ (encoding : Encoding) where
   lawful_lines ((b ∷ bs) ∷ ls) r behind all is =
       found_lawful b bs ls r behind (and_parts _ _ all).0 is
 
+  -- the record at the front of a text is valid
   pub front_is_lawful : (text : List ℕ) (r : Read) (behind : List (List ℕ)) →
       front encoding (lines text) ≡ Found r behind → IsLawful r
   front_is_lawful text r behind is = lawful_lines (lines text) r behind (clean_lines text) is

@@ -54,6 +54,7 @@ line_of_hand bytes seen hand start filled len used r same is le within without s
     ap (λ m. take m (drop start bytes)) b ∙ sym (take-take r len (drop start bytes) shorter)
     ∙ ap (take r) (sym piece) ∙ sym without ∙ ap without_cr (piece ∙ front)
 
+-- the bytes in hand that are left after the first `used` of them were used
 pub hand_used : (bytes hand : List ℕ) (start filled used : ℕ) →
     take (filled - start) (drop start bytes) ≡ hand → used ≤ length hand →
     take (filled - (start + used)) (drop (start + used) bytes) ≡ drop used hand

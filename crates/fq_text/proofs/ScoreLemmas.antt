@@ -25,6 +25,7 @@ low_small k = ⊎_elim
     (λ beyond. let none = get_or_past low_solexa k 0 beyond in omega arith)
     (cases_lt k (length low_solexa))
 
+-- a score is at most 93 in each encoding
 pub value_small : (e : Encoding) (b : ℕ) → is_scored e b ≡ true → value_of e b ≤ 93
 value_small Sanger b is = let most : b ≤ 126 =
     leb-true b 126 (and_parts (nat_le (lowest Sanger) b) (nat_le b 126) is).1 in omega arith
@@ -58,6 +59,7 @@ table_below : all_below 68 (λ k. eqb (get_or PHRED_OF_SOLEXA k 0) (phred_of_sol
 unfolding all_below
 table_below = refl
 
+-- the table in the code has the score of each byte that has one in Solexa's encoding
 pub table_at : (k b : ℕ) → is_scored Solexa b ≡ true → k ≡ b - 59 →
     get_or PHRED_OF_SOLEXA k 0 ≡ value_of Solexa b
 table_at k b is place =
@@ -74,6 +76,7 @@ recoded_scored e b is =
     let small = value_small e b is in
     and_from _ _ (le-leb 33 (recoded e b) (omega arith)) (le-leb (recoded e b) 126 (omega arith))
 
+-- bytes that all have a score all have one in Sanger's encoding after they are recoded
 pub all_recoded_scored : (e : Encoding) (bs : List ℕ) → list_all (is_scored e) bs ≡ true →
     list_all (is_scored Sanger) (map (recoded e) bs) ≡ true
 all_recoded_scored e [] all = refl

@@ -76,6 +76,7 @@ module _ {F : Type 0} (state : F → FeedState) (e : Encoding) where
       ap (λ m. take m (state a.feed).to_come) n ∙ ap (take (length p.gave)) (p.fed told)
       ∙ take_at p.gave (state b.feed).to_come (length p.gave) refl
 
+  -- the records given, the bytes used and those in hand stay within the bytes taken
   pub counted : (a b : Lined F) (used : List ℕ) (k : ℕ) → Reads state a b used →
       k + length a.in_hand ≤ a.taken → k + length used + length b.in_hand ≤ b.taken
   counted a b used k p le =
@@ -87,6 +88,7 @@ module _ {F : Type 0} (state : F → FeedState) (e : Encoding) where
   found_lawful a b r p =
       front_is_lawful e p.used r [] (ap (front e) (sym (append-nil (lines p.used))) ∙ p.answer [])
 
+  -- seen as a source, a reader of lines that has found a record gives it
   pub gives_record : (a b : Lined F) (k : ℕ) (l : Option (Result (Unit {0}) TextFault))
       (before : Option Read) (r : Read) → l ≡ None → Goes state a b (front e) (Found r) →
       IsSound state b → length a.in_hand < a.chunk →
@@ -114,6 +116,7 @@ module _ {F : Type 0} (state : F → FeedState) (e : Encoding) where
     in_hand = p.small small;
   }
 
+  -- a record takes at least one byte
   pub record_used : (a b : Lined F) (r : Read) (p : Goes state a b (front e) (Found r)) →
       0 < length p.used
   record_used a b r p = some_used e r p.used (p.answer [])
@@ -131,6 +134,7 @@ module _ {F : Type 0} (state : F → FeedState) (e : Encoding) where
   still_going a b p = ⊎_elim (λ over. absurd (let q = p.reads.quiet over in let h = sym q.1
       ∙ p.going in cc)) (λ going. going) (cases_Bool a.ended)
 
+  -- whatever stopped a reader, it is known which bytes it has used
   pub stops_used : (a b : Lined F) (why : ReadError) → Stops state a b (front e) why →
       (used : List ℕ) × Reads state a b used
   stops_used a b (error.Fault f) p = (p.used, p.reads)
@@ -159,6 +163,7 @@ module _ {F : Type 0} (state : F → FeedState) (e : Encoding) where
   no_device P k fault.QualityShort = (tt, tt)
   no_device P k fault.TooLong = (tt, tt)
 
+  -- seen as a source, a reader of lines that was stopped returns its fault
   pub stops_text : (a b : Lined F) (k : ℕ) (l : Option (Result (Unit {0}) TextFault))
       (before : Option Read) (why : ReadError) → Stops state a b (front e) why →
       StopsText state (source_of a k l before)

@@ -334,6 +334,7 @@ one_end_of xs k e k' e' p q same one two =
     let before : k' ≡ k - 1 = omega arith in
     no_cr_before xs k e p one (omega arith) (ap (λ m. get_or xs m 0) (sym before) ∙ cr)
 
+-- a text has one first line, with one line end
 pub same_line : (xs : List ℕ) (k e k' e' : ℕ) → IsFirstLine xs k e → IsFirstLine xs k' e' →
     (k ≡ k') × (e ≡ e')
 same_line xs k e k' e' p q =

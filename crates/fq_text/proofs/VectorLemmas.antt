@@ -8,6 +8,7 @@ use Rattle.std.proofs.lemmas.Bool.{and_left, and_right, and_from, and_parts, cas
 use Rattle.std.proofs.lemmas.Simd.{mask_l-mod, length-chunk}
 use lib.Lanes.{chunk, zip2, sel_l, mask_l, top}
 
+-- 255 if a comparison holds for a byte, otherwise 0
 abbrev pub flag : Bool → ℕ
 flag b = cond b 255 0
 
@@ -90,6 +91,7 @@ last_in_front true false true = refl
 last_in_front true true false = refl
 last_in_front true true true = refl
 
+-- all members pass both tests exactly if all pass the one and all pass the other
 pub in_both : (p q : ℕ → Bool) (v : List ℕ) →
     list_all (λ x. p x && q x) v ≡ list_all p v && list_all q v
 in_both p q [] = refl
@@ -136,6 +138,7 @@ larger high x y = ⊎_elim
 abbrev pub smallest : List ℕ → List ℕ → List ℕ
 smallest a b = sel_l (map (top 7) (zip2 (λ x y. flag (ltb x y)) a b)) a b
 
+-- the larger of the two bytes at each index
 abbrev pub largest : List ℕ → List ℕ → List ℕ
 largest a b = sel_l (map (top 7) (zip2 (λ x y. flag (ltb x y)) a b)) b a
 

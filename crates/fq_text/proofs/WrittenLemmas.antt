@@ -29,18 +29,21 @@ pieces_line (x ∷ xs) ys clean = let parts = and_parts _ _ clean in
 base_high : (b : ℕ) → is_base b ≡ true → 33 ≤ b
 base_high b is = leb-true 33 b (and_parts _ _ is).0
 
+-- bases hold no LF
 pub clean_bases : (l : List ℕ) → list_all is_base l ≡ true → list_all not_lf l ≡ true
 clean_bases [] all = refl
 clean_bases (b ∷ bs) all = let parts = and_parts _ _ all in let high = base_high b parts.0 in
     and_from _ _ (not_from_false _ (ne_eqb b 10 (λ e. absurd (omega arith))))
     (clean_bases bs parts.1)
 
+-- bases do not end in CR
 pub plain_bases : (l : List ℕ) → list_all is_base l ≡ true → without_cr l ≡ l
 plain_bases [] all = refl
 plain_bases (b ∷ []) all = let high = base_high b (and_parts _ _ all).0 in
     cond-false (eqb b 13) _ _ (ne_eqb b 13 (λ e. absurd (omega arith)))
 plain_bases (b ∷ c ∷ bs) all = ap (λ xs. b ∷ xs) (plain_bases (c ∷ bs) (and_parts _ _ all).1)
 
+-- after a byte that is not CR, a line that does not end in CR still does not
 pub plain_behind : (b : ℕ) (l : List ℕ) → eqb b 13 ≡ false → without_cr l ≡ l →
     without_cr (b ∷ l) ≡ b ∷ l
 plain_behind b [] other plain = cond-false (eqb b 13) _ _ other
@@ -69,6 +72,7 @@ scored_bases e (b ∷ bs) all = let parts = and_parts _ _ all in
 abbrev pub Ends : List ℕ → List ℕ → Type 0
 Ends end l = (ys : List ℕ) → lines ((l ++ end) ++ ys) ≡ l ∷ lines ys
 
+-- bytes without an LF that do not end in CR are one line if LF follows
 pub ends_in_lf : (l : List ℕ) → list_all not_lf l ≡ true → without_cr l ≡ l → Ends (10 ∷ []) l
 ends_in_lf l clean plain ys = ap lines (append_assoc l (10 ∷ []) ys)
     ∙ ap (map without_cr) (pieces_line l ys clean) ∙ ap (λ m. m ∷ lines ys) plain
@@ -78,6 +82,7 @@ without_last_cr [] = refl
 without_last_cr (b ∷ []) = refl
 without_last_cr (b ∷ c ∷ bs) = ap (λ xs. b ∷ xs) (without_last_cr (c ∷ bs))
 
+-- bytes without an LF are one line if CR and LF follow
 pub ends_in_cr_lf : (l : List ℕ) → list_all not_lf l ≡ true → Ends (13 ∷ 10 ∷ []) l
 ends_in_cr_lf l clean ys =
     let all : list_all not_lf (l ++ 13 ∷ []) ≡ true = list_all-append not_lf l (13 ∷ [])
@@ -99,6 +104,7 @@ pub record AreItsLines (end again : List ℕ) (r : Read) : Type 0 where
   pub seq : Ends end r.seq
   pub plus : Ends end (43 ∷ again)
   pub qual : Ends end r.qual
+  -- the plus line has no fault
   pub same : plus_fault r.title (43 ∷ again) ≡ None
 
 four_lines : (end again : List ℕ) (r : Read) (text : List ℕ) → AreItsLines end again r →
@@ -119,6 +125,7 @@ written_four r text =
     ∙ append_assoc (line (64 ∷ r.title) ++ line r.seq) (line (43 ∷ [])) (line r.qual ++ text)
     ∙ append_assoc (line (64 ∷ r.title)) (line r.seq) (line (43 ∷ []) ++ (line r.qual ++ text))
 
+-- each quality byte of a valid record is from 33 to 126, as a base is
 pub quals_are_bases : (r : Read) → IsLawful r → list_all is_base r.qual ≡ true
 quals_are_bases r lawful = scored_bases r.encoding r.qual lawful.scores
 
@@ -264,6 +271,7 @@ lawful_as_written (Some e) r lawful can = record {
   scores = all_recoded_scored e r.qual can;
 }
 
+-- a valid record whose title does not end in CR reads back, recoded or not, before any text
 pub reads_back : ReadsBack
 reads_back r None text lawful plain can = reads_lawful r text lawful plain
 reads_back r (Some e) text lawful plain can =

@@ -20,6 +20,7 @@ get_or-countdown zero k lt = absurd (omega arith)
 get_or-countdown (suc n) zero lt = omega arith
 get_or-countdown (suc n) (suc k) lt = get_or-countdown n k (omega arith) ∙ omega arith
 
+-- index k of a reversed vector of 16 scores has what was at index 15 - k
 pub turned_at : (v : List ℕ) (k : ℕ) → length v ≡ 16 → k < 16 →
     get_or (map (λ i. get_or (v ++ v) i 0) (countdown 16)) k 0 ≡ get_or v (15 - k) 0
 turned_at v k long lt =
@@ -35,9 +36,11 @@ module _ (v turned : List ℕ) (score r : ℕ) (long : length turned ≡ 16)
   of_all = counted ∙ ap (prefix_len (λ x. not (leb score x)))
       (sym (take_all 16 turned (omega arith)))
 
+  -- at most 16 scores are counted
   pub few : r ≤ 16
   few = run_in_chunk_le (leb score) turned 0 16 r 0 (omega arith) of_all
 
+  -- the last r scores of the vector are below `score`
   pub low : (k : ℕ) → 16 ≤ k + r → k < 16 → get_or v k 0 < score
   low k from lt =
       let fails = run_in_chunk_fails (leb score) turned 0 16 r 0 (omega arith) of_all (15 - k)

@@ -22,6 +22,7 @@ module _ (words : List (List ℕ)) (held : List Step) (i : ℕ) (lt : i < length
       words)
   next = ap (steps_from (suc i)) (drop_more words i [] lt)
 
+  -- one more argument is a step, and is held after the steps before it
   pub step_put : (step : Step) → i < length held → step_of (get_or words i []) ≡ Ok step →
       steps_from 1 words ≡ put_all (take (i + 1) (set held i step)) (steps_from (suc (i + 1))
       (drop (i + 1) words))
@@ -35,6 +36,7 @@ module _ (words : List (List ℕ)) (held : List Step) (i : ℕ) (lt : i < length
       ∙ ap (λ steps. put_all steps (steps_from (suc (i + 1)) (drop (i + 1) words)))
       (sym (take_more_set held i step room))
 
+  -- an argument that is no step, after arguments that are, is the fault of the list
   pub fault_found : (kind : StepFaultKind) → step_of (get_or words i []) ≡ Err kind →
       steps_from 1 words ≡ Err (record { place = i + 1; kind = kind })
   fault_found kind is =
@@ -75,6 +77,7 @@ put_parts place (Ok step) (Err fault) steps is = cc
 put_parts place (Ok step) (Ok others) steps is =
     record { step = step; others = others; first = refl; behind = refl; both = cc }
 
+-- if a list of arguments gives steps, each argument gives its step
 pub all_steps : (place : ℕ) (words : List (List ℕ)) (steps : List Step) →
     steps_from place words ≡ Ok steps → map {B = Result Step StepFaultKind} Ok steps ≡ map step_of
     words
@@ -142,6 +145,7 @@ first_at place (word ∷ words) fault is = at_word (first_at (suc place) words f
     at_word deeper (Ok step) one_is (Err other) rest_is is =
         later place word words fault (ap is_ok one_is) (deeper (rest_is ∙ is))
 
+-- if a list of arguments gives a fault, it is that of the first faulty argument
 pub first_fault : (words : List (List ℕ)) (fault : StepFault) → steps_from 1 words ≡ Err fault →
     IsFirstFault fault.kind fault.place words
 first_fault words fault is =

@@ -12,10 +12,12 @@ use Rattle.fq_text.specs.Scores.{is_scored, value_of}
 use Rattle.fq_text.proofs.ScoreLemmas.{value_small}
 use Rattle.fq_trim.specs.Keeping.{scores, places, select, keeps, is_good_end, is_good_window, IsBetween, kept_of, kept}
 
+-- `places a n` has n indices
 pub length-places : (a n : ℕ) → length (places a n) ≡ n
 length-places a zero = refl
 length-places a (suc n) = ap suc (length-places (suc a) n)
 
+-- m + n indices are the first m of them, and the n after those
 pub places-append : (a m n : ℕ) → places a (m + n) ≡ places a m ++ places (a + m) n
 places-append a zero n = let e : zero + n ≡ n = omega arith in let f : a + zero ≡ a = omega arith in
     rw (e, f) refl
@@ -119,6 +121,7 @@ any_from t (x ∷ xs) (suc lo) zero le lt at = absurd (omega arith)
 any_from t (x ∷ xs) (suc lo) (suc j) le lt at =
     or_right _ _ (any_from t xs lo j (omega arith) (omega arith) at)
 
+-- if each of the first n scores is below t, none of them is at least t
 pub none_to : (t : ℕ) (q : List ℕ) (n : ℕ) → ((k : ℕ) → k < n → get_or q k 0 < t) → n ≤ length q →
     list_any (leb t) (take n q) ≡ false
 none_to t q zero none le = refl
@@ -126,6 +129,7 @@ none_to t [] (suc n) none le = absurd (omega arith)
 none_to t (x ∷ xs) (suc n) none le = or_from _ _ (lt-leb t x (none 0 (omega arith)))
     (none_to t xs n (λ k lt. none (suc k) (omega arith)) (omega arith))
 
+-- for any scores, LEADING keeps the bases from the first score of at least t on
 pub leading_between : (t : ℕ) (q : List ℕ) (lo : ℕ) → lo ≤ length q →
     ((k : ℕ) → k < lo → get_or q k 0 < t) → (lo < length q → t ≤ get_or q lo 0) →
     IsBetween (keeps (Leading t) q) (length q) lo (length q)
@@ -160,6 +164,7 @@ none_behind t q k none =
     none_in t (drop k q) (λ i lt. let is = get_or-drop k q i 0 in let low =
     none (k + i) (omega arith) (omega arith) in omega arith)
 
+-- for any scores, TRAILING keeps the bases up to the last score of at least t
 pub trailing_between : (t : ℕ) (q : List ℕ) (hi : ℕ) → hi ≤ length q →
     (0 < hi → t ≤ get_or q (hi - 1) 0) → ((k : ℕ) → hi ≤ k → k < length q → get_or q k 0 < t) →
     IsBetween (keeps (Trailing t) q) (length q) 0 hi
@@ -188,6 +193,7 @@ all_places test a zero all = refl
 all_places test a (suc n) all = and_from _ _ (all a (omega arith) (omega arith))
     (all_places test (suc a) n (λ k le lt. all k (omega arith) (omega arith)))
 
+-- a test that fails at one of n indices is not true of all
 pub one_fails : (test : ℕ → Bool) (a n k : ℕ) → a ≤ k → k < a + n → test k ≡ false →
     list_all test (places a n) ≡ false
 one_fails test a zero k le lt bad = absurd (omega arith)
@@ -210,6 +216,7 @@ none_places test a zero none = refl
 none_places test a (suc n) none = or_from _ _ (none a (omega arith) (omega arith))
     (none_places test (suc a) n (λ k le lt. none k (omega arith) (omega arith)))
 
+-- SLIDINGWINDOW keeps the bases up to the last good end, if the first window is good
 pub window_between : (w t : ℕ) (q : List ℕ) (last : ℕ) → w ≤ length q →
     is_good_window w t q 0 ≡ true → last ≤ length q →
     (0 < last → is_good_end w t q (last - 1) ≡ true) →
@@ -229,6 +236,7 @@ window_between w t q last fits first within good none =
           below. none m (omega arith) (omega arith)));
     }
 
+-- SLIDINGWINDOW keeps nothing if the first window is bad
 pub window_bad : (w t : ℕ) (q : List ℕ) → sum (take w q) < w * t →
     IsBetween (keeps (SlidingWindow w t) q) (length q) 0 0
 window_bad w t q bad = empty_between (keeps (SlidingWindow w t) q) (length q)
@@ -236,17 +244,21 @@ window_bad w t q bad = empty_between (keeps (SlidingWindow w t) q) (length q)
 
 -- Scores of quality bytes.
 module _ (e : Encoding) (qual : List ℕ) where
+  -- there are as many scores as quality bytes
   pub length-scores : length (scores e qual) ≡ length qual
   length-scores = length-map qual (value_of e)
 
+  -- the score at an index is that of the byte there
   pub score_at : (i : ℕ) → i < length qual →
       get_or (scores e qual) i 0 ≡ value_of e (get_or qual i 0)
   score_at i lt = get_or-map (value_of e) qual i 0 0 lt
 
+  -- the scores of a part of a read are that part of its scores
   pub scores_of_part : (s n : ℕ) → scores e (take n (drop s qual)) ≡ take n (drop s (scores e qual))
   scores_of_part s n = sym (take-map (value_of e) n (drop s qual))
       ∙ ap (take n) (sym (drop-map (value_of e) s qual))
 
+  -- LEADING keeps the bases from the first score of at least t on
   pub leading_scores : (t lo : ℕ) → lo ≤ length qual →
       ((k : ℕ) → k < lo → get_or (scores e qual) k 0 < t) →
       (lo < length qual → t ≤ value_of e (get_or qual lo 0)) →
@@ -258,6 +270,7 @@ module _ (e : Encoding) (qual : List ℕ) where
       (λ lt. let in_qual : lo < length qual = omega arith in let same = score_at lo in_qual in
       let h = at in_qual in omega arith))
 
+  -- TRAILING keeps the bases up to the last score of at least t
   pub trailing_scores : (t hi : ℕ) → hi ≤ length qual →
       (0 < hi → t ≤ get_or (scores e qual) (hi - 1) 0) →
       ((k : ℕ) → hi ≤ k → k < length qual → get_or (scores e qual) k 0 < t) →
@@ -268,6 +281,7 @@ module _ (e : Encoding) (qual : List ℕ) where
       (trailing_between t (scores e qual) hi (omega arith) at
       (λ k from lt. low k from (omega arith)))
 
+  -- what a step keeps of a part of a read is what it keeps of that part of the scores
   pub part_between : (step : Step) (start stop lo hi : ℕ) → start ≤ stop → stop ≤ length qual →
       IsBetween (keeps step (scores e (take (stop - start) (drop start qual))))
       (length (take (stop - start) (drop start qual))) lo hi →
@@ -340,6 +354,7 @@ all_taken p [] (suc n) all = refl
 all_taken p (x ∷ xs) (suc n) all = let parts = and_parts (p x) (list_all p xs) all in
     and_from _ _ parts.0 (all_taken p xs n parts.1)
 
+-- what holds of each member holds of each after the first n
 pub all_dropped : {T : Type 0} (p : T → Bool) (xs : List T) (n : ℕ) → list_all p xs ≡ true →
     list_all p (drop n xs) ≡ true
 all_dropped p xs zero all = all
@@ -385,6 +400,7 @@ sum_small e (b ∷ bs) all =
     omega arith
 
 module _ (e : Encoding) (qual : List ℕ) where
+  -- n scores in a row sum to at most 126 * n
   pub part_small : (s n : ℕ) → list_all (is_scored e) qual ≡ true →
       sum (take n (drop s (scores e qual))) ≤ 126 * n
   part_small s n all =
@@ -445,6 +461,7 @@ module _ (e : Encoding) (qual : List ℕ) (w t score front from total : ℕ) (sc
   least_is : w * score ≡ w * t
   least_is = ap (λ n. w * n) score_is
 
+  -- `total` is the sum of the window that ends at `from`
   pub from_sum : total ≡ sum (take w (drop (from - w) (scores e qual)))
   from_sum =
       let size : from - (from - w) ≡ w = omega arith in
@@ -461,6 +478,7 @@ module _ (e : Encoding) (qual : List ℕ) (w t score front from total : ℕ) (sc
       (λ none. inr (omega arith))
       (cases_lt w front)
 
+  -- if this window is good, each window that ends at or before `from` is good
   pub from_good : w * score ≤ total → (s : ℕ) → s + w ≤ from →
       w * score ≤ sum (take w (drop s (scores e qual)))
   from_good good s le = ⊎_elim
@@ -469,6 +487,7 @@ module _ (e : Encoding) (qual : List ℕ) (w t score front from total : ℕ) (sc
       ap (λ n. sum (take w (drop n (scores e qual)))) start in omega arith)
       (window_up_to s le)
 
+  -- if this window is bad, the first window of the read is bad: it is the same
   pub from_bad : total < w * score → sum (take w (drop 0 (scores e qual))) < w * score
   from_bad bad =
       let q = scores e qual in

@@ -146,14 +146,17 @@ module _ (sums : List ℕ) (least r : ℕ)
   of_all = counted ∙ ap (prefix_len (λ x. not (ltb x least)))
       (sym (take_all (length sums) sums (omega arith)))
 
+  -- no more sums are counted than there are
   pub at_most : r ≤ length sums
   at_most = run_in_chunk_le (λ x. ltb x least) sums 0 (length sums) r 0 room of_all
 
+  -- each sum before index r is at least `least`
   pub none_before : (k : ℕ) → k < r → least ≤ get_or sums k 0
   none_before k lt =
       ltb-false (get_or sums k 0) least (run_in_chunk_fails (λ x. ltb x least) sums 0 (length sums)
       r 0 room of_all k (omega arith) (omega arith))
 
+  -- the sum at index r, if there is one, is less than `least`
   pub there : r < length sums → get_or sums r 0 < least
   there lt = let place : r ≡ 0 + r = omega arith in
       ltb-true (get_or sums r 0) least (ap (λ n. ltb (get_or sums n 0) least) place
@@ -178,6 +181,7 @@ all_set p (x ∷ xs) =
     ∙ each_bit (p x) (mask_l (map p xs)) (2 ^ length xs) some
     ∙ ap (λ b. p x && b) (all_set p xs)
 
+-- all 16 bytes of a vector pass a test exactly if the mask has all 16 bits
 pub all_pass : (p : ℕ → Bool) (v : List ℕ) {z : List ℕ} → length v ≡ 16 →
     z ≡ map (λ x. flag (p x)) v → eqb (mask_l (map (top 7) z) % 2 ^ 64) 65535 ≡ list_all p v
 all_pass p v long same =
@@ -263,6 +267,7 @@ module _ (offset w least start good : ℕ) (qual sums : List ℕ) (small : least
     (few : good ≤ 32) (before : (s : ℕ) → s < start →
     least ≤ sum (take w (drop s (distances offset qual))))
     (high : (k : ℕ) → k < good → least ≤ get_or sums k 0) where
+  -- each window that begins before index `start + good` is good
   pub good_up_to : (s : ℕ) → s < start + good →
       least ≤ sum (take w (drop s (distances offset qual)))
   good_up_to s lt = ⊎_elim
@@ -278,6 +283,7 @@ module _ (offset w least start good : ℕ) (qual sums : List ℕ) (small : least
       omega arith)
       (cases_lt s start)
 
+  -- if the next sum is too small, the window that begins at index `start + good` is bad
   pub bad_there : good < 32 → get_or sums good 0 < least →
       sum (take w (drop (start + good) (distances offset qual))) < least
   bad_there lt low = let lane = each good lt in let is = window_behind offset start good w qual in

@@ -24,6 +24,7 @@ pieces_none word none =
 pieces_some : (word : List ℕ) → 0 < length (pieces word)
 pieces_some word = omega (arith, length-slice_split (λ b. eqb b 58) word)
 
+-- the text after a colon has a piece
 pub pieces_behind : (rest : Option (Bor (List ℕ))) → is_some rest ≡ true →
     0 < length (pieces_in rest)
 pieces_behind None is = absurd (false≢true is)
@@ -39,6 +40,7 @@ decimal : IsNumeralModel (λ ds. list_all is_ascii_digit ds ≡ true) number_of
 decimal = numerals_by_fold (λ ds. list_all is_ascii_digit ds ≡ true) digits
     (λ n ds. fold (λ n digit. 10 * n + (digit - 48)) n ds) reading
 
+-- the number that a piece writes is at most 999999999
 pub number_small : (piece : List ℕ) → is_number piece ≡ true → number_of piece ≤ 999999999
 number_small piece is =
     let parts = and_parts _ (list_all is_ascii_digit piece) is in

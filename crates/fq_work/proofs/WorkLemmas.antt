@@ -42,6 +42,7 @@ module _ (tallied : Bool) (steps : List Step) where
   answers_more (a ∷ bs) more (Stop k ∷ rs) c h = h
 
 module _ {T : Type 0} where
+  -- a history with no more items is the same
   pub with_none : (l : History T) → l ≡ with_items l [] l.marked
   with_none l = ap (λ xs. let k : History T = record {
     name = l.name;
@@ -74,6 +75,7 @@ module _ {T : Type 0} where
 
 -- what was taken and answered in all: up to a mark, or drained up to it after a Stop
 module _ (tallied : Bool) (steps : List Step) where
+  -- the worker took some blocks, up to the mark, and what it sent answers them
   pub record HasWorked (cause : Option Cause) (rx rx_new : History Numbered)
       (tx tx_new : History Reply) : Type 0 where
     pub took : List Numbered
@@ -82,6 +84,7 @@ module _ (tallied : Bool) (steps : List Step) where
     pub sent : tx_new ≡ with_items tx replies tx.marked
     pub answers : Answers tallied steps took replies cause
 
+  -- a worker that answered some blocks, and drained the lane after a stop, has done its work
   pub worked : (cause : Option Cause) (b : Bool) (rx rx1 rx2 : History Numbered)
       (tx tx1 tx2 : History Reply) → b ≡ is_some cause →
       HasAnswered tallied steps cause rx rx1 tx tx1
@@ -105,6 +108,7 @@ module _ (tallied : Bool) (steps : List Step) where
         answers = answers_more tallied steps h.took d.0.took h.replies c h.answers;
       }
 
+-- a lane that is closed after some replies has these replies and then the mark
 pub closed : {E : Type 0} (tx tx1 : History Reply) (replies : List Reply)
     (r : Result (History Reply) E) → tx1 ≡ with_items tx replies tx.marked →
     IfOk r (λ e. e ≡ with_mark tx1) → IfOk r (λ e. e ≡ with_items tx replies true)

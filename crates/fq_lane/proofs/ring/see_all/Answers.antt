@@ -2,6 +2,7 @@ use Rattle.fq_lane.proofs.SlotLemmas.{history_along}
 use Rattle.fq_lane.proofs.EndLemmas.{receiver_whole}
 use Rattle.fq_lane.proofs.ring.see_all.Goals as goal
 
+-- what was got is all that was sent
 pub returns-clause-whole : goal.returns-clause-whole
 returns-clause-whole g c =
     let looked = c.slots_after.ensures.looked in

@@ -7,6 +7,7 @@ use Rattle.fq_report.specs.Reports.{step_value, steps_from}
 use Rattle.fq_report.proofs.StepLemmas.{next_step, all_steps}
 use Rattle.fq_report.proofs.counted.steps_value.Goals as goal
 
+-- with the value of one more step, the values and the steps to come are all steps
 pub loop-number-preserved : goal.loop-number-preserved
 loop-number-preserved c =
     let number = c.loop-number.number in
@@ -26,6 +27,7 @@ loop-number-preserved c =
     ∙ next_step steps step number words tally (omega arith) is
     ∙ c.loop-number.invariant
 
+-- after the last step the values are those of all steps
 pub returns : goal.returns
 returns c =
     let words = map (λ word. word.now) c.args.words.now in

@@ -4,6 +4,7 @@ use Rattle.fq_report.specs.Facts.{facts_of}
 use Rattle.fq_report.proofs.FloatLemmas.{report_no_float}
 use Rattle.fq_report.proofs.report.report_text.Goals as goal
 
+-- the text is that of the value of the report, which has no float, and a line feed
 pub returns : goal.returns
 returns c =
     let is = c.in_ok-value.ensures in

@@ -11,10 +11,12 @@ no_cr [] none = refl
 no_cr (x ∷ xs) none = without_cr_no (x ∷ xs) (length (x ∷ xs) - 1) (omega arith)
     (none (omega arith)) ∙ sym (take_all (length (x ∷ xs)) (x ∷ xs) (omega arith))
 
+-- a piece that ends in CR loses it
 pub returns-then-piece-len-eq13-clause-line : goal.returns-then-piece-len-eq13-clause-line
 returns-then-piece-len-eq13-clause-line c = without_cr_yes _ _ (omega arith)
     c.if-piece-len-eq13.true
 
+-- any other piece keeps all its bytes
 pub returns-else-len-gt0-clause-line : goal.returns-else-len-gt0-clause-line
 returns-else-len-gt0-clause-line c = no_cr c.args.piece.now
     (λ some is. elim c.else-len-gt0.branch as (λ _. ⊥) [

@@ -14,6 +14,7 @@ unwritten grown wrote past other before filled room is same within =
     ∙ written_behind grown wrote past other before filled 0 room is same (omega arith) (omega arith)
     ∙ append-nil before
 
+-- the bytes read come after the first `filled`, which stay, also if the call failed
 pub returns-clause-moved : goal.returns-clause-moved
 returns-clause-moved g c = cases_mapped c.read.result c.map_err.result _ _ _ c.map_err.ensures.cases
     (λ n got.

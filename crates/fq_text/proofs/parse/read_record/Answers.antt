@@ -6,6 +6,7 @@ use Rattle.fq_text.specs.Phases.{Goes, Stops, in_sequence, FindsTitle}
 use Rattle.fq_text.proofs.GoLemmas.{go_on, go_stop}
 use Rattle.fq_text.proofs.parse.read_record.Goals as goal
 
+-- a stop after the title is a stop as seen from before the title
 pub returns-in_err-read_rest-in-None-clause-step : goal.returns-in_err-read_rest-in-None-clause-step
 returns-in_err-read_rest-in-None-clause-step g c =
     let e = c.args.encoding in
@@ -27,6 +28,7 @@ returns-in_err-read_rest-in-None-clause-step g c =
     (subst (λ x. Stops g.F.Feed.state mid new (in_sequence x parts.title []) why)
     (ap (λ (r : Read). r.encoding) titled.1) c.in_err-read_rest-in-None.ensures.step))
 
+-- a title and what follows it are the next record
 pub returns-in_ok-read_rest-in-None-clause-step : goal.returns-in_ok-read_rest-in-None-clause-step
 returns-in_ok-read_rest-in-None-clause-step g c =
     let e = c.args.encoding in

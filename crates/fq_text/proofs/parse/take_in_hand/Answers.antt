@@ -7,6 +7,7 @@ use Rattle.fq_text.proofs.AdvanceLemmas.{behind_line}
 use Rattle.fq_text.proofs.UnwrappedLemmas.{four_len, goes_first, taken_same, taken_whole}
 use Rattle.fq_text.proofs.parse.take_in_hand.Goals as goal
 
+-- the record in hand is the next of the text, and the reader is after it
 pub returns-clause-found : goal.returns-clause-found
 returns-clause-found g c =
     let e = c.args.encoding in
@@ -23,6 +24,7 @@ returns-clause-found g c =
     (goes_first g.F.Feed.state a b e s (lines_len s) (took
     ∙ ap (λ n. behind_line g.F.Feed.state a (lines_len s) n) used) first)
 
+-- the bytes that were taken are enough for the four lines of the shape
 pub returns-clause-whole : goal.returns-clause-whole
 returns-clause-whole g c =
     let e = c.args.encoding in

@@ -23,6 +23,7 @@ two_lines e hand s t k n m first title bases =
     (subst (λ (xs : List ℕ). IsFirstLine xs n m) (take_rest hand (t + k + 1)) bases) found.2 in
     (found.0, found.1, same.0, same.1)
 
+-- if the title has no line end in hand, no such record is there
 pub returns-in_err-title-clause-none : goal.returns-in_err-title-clause-none
 returns-in_err-title-clause-none c none s first =
     let hand = c.args.hand.now in
@@ -30,11 +31,13 @@ returns-in_err-title-clause-none c none s first =
     (subst (λ (xs : List ℕ). NoLf xs (length xs)) (take_rest hand 1)
     (c.in_err-title.ensures.none refl))
 
+-- the title is the first line after the `@`
 pub shape_of-requires-in-Some-first_line : goal.shape_of-requires-in-Some-first_line
 shape_of-requires-in-Some-first_line c =
     subst (λ (xs : List ℕ). IsFirstLine xs c.in_ok-title.title.len c.in_ok-title.title.end)
     (take_rest c.args.hand.now 1) c.in_ok-title.ensures.found
 
+-- if no shape fits the two lines that were found, no such record is there
 pub returns-in-Some-first_line-clause-none : goal.returns-in-Some-first_line-clause-none
 returns-in-Some-first_line-clause-none c none s first =
     let e = c.args.encoding in
@@ -47,6 +50,7 @@ returns-in-Some-first_line-clause-none c none s first =
     (subst (λ (shape : Shape). BeginsWithRecord e hand shape)
     (shape_is s title.len seq.len title.end found.0 found.2 found.1) first)
 
+-- if the two lines end differently, no such record is there
 pub returns-in_default-first_line-clause-none : goal.returns-in_default-first_line-clause-none
 returns-in_default-first_line-clause-none c none s first =
     let title = c.in_ok-title.title in
@@ -55,6 +59,7 @@ returns-in_default-first_line-clause-none c none s first =
     first c.in_ok-title.ensures.found c.in-Some-first_line.ensures.found in
     c.if-seq-title.false (found.3 ∙ sym found.1)
 
+-- if the sequence has no line end in hand, no such record is there
 pub returns-in_default-first_line-2-clause-none : goal.returns-in_default-first_line-2-clause-none
 returns-in_default-first_line-2-clause-none c none s first =
     let e = c.args.encoding in

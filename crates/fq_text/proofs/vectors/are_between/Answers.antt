@@ -3,6 +3,7 @@ use Rattle.std.proofs.lemmas.Simd.{zip2_splat, zip2_splat_left}
 use Rattle.fq_text.proofs.VectorLemmas.{flag, all_at_least, all_at_most}
 use Rattle.fq_text.proofs.vectors.are_between.Goals as goal
 
+-- all bytes are in range exactly if neither comparison holds for any byte
 pub returns : goal.returns
 returns c =
     let least = c.args.least in

@@ -5,6 +5,7 @@ use Rattle.fq_text.specs.Scores.{is_from}
 use Rattle.fq_text.proofs.VectorLemmas.{in_both, one_more, with_the_last}
 use Rattle.fq_text.proofs.vectors.are_from.Goals as goal
 
+-- at the start only the last vector has been checked
 pub loop-start-init : goal.loop-start-init
 loop-start-init c = record {
   room = omega arith;
@@ -13,6 +14,7 @@ loop-start-init c = record {
       (chunk (length c.args.bytes.now - 32) 32 c.args.bytes.now));
 }
 
+-- the least and the greatest bytes now check one more vector
 pub loop-start-preserved : goal.loop-start-preserved
 loop-start-preserved c =
     let more = c.loop-start-test.true in
@@ -25,6 +27,7 @@ loop-start-preserved c =
           c.loop-start.invariant.judged;
     }
 
+-- the vectors so far and the last one hold all bytes
 pub returns : goal.returns
 returns c =
     let long = c.if-bytes-lt-WIDTH.false in

@@ -14,5 +14,6 @@ invariant-loop-start l = record {
       (chunk l.last 32 l.bytes);
 }
 
+-- how many bytes are from `start` on
 abbrev pub decreases-loop-start : goal.decreases-loop-start
 decreases-loop-start l = length l.bytes - l.start

@@ -25,6 +25,7 @@ none_found xs (Some k) true found is = cc
 none_found xs (Some k) false found is =
     sym (list_all_at (λ b. not (eqb b 10)) xs k 0 found.0.high (not_from_true _ found.1))
 
+-- a title is one line exactly if a search for LF finds none
 pub returns : goal.returns
 returns c = none_found c.args.title.now c.memchr.result c.is_none.result c.memchr.ensures
     c.is_none.ensures

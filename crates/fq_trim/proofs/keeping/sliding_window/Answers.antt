@@ -5,6 +5,7 @@ use Rattle.fq_trim.specs.declared.step.Step.TheVariants.{SlidingWindow}
 use Rattle.fq_trim.proofs.PlaceLemmas.{length-scores, all_taken, window_bad, window_scores}
 use Rattle.fq_trim.proofs.keeping.sliding_window.Goals as goal
 
+-- if the first window is bad, SLIDINGWINDOW keeps nothing
 pub returns-then-good-width : goal.returns-then-good-width
 returns-then-good-width c =
     let w = c.args.width in
@@ -21,10 +22,12 @@ returns-then-good-width c =
     (keeps (SlidingWindow w c.args.score) q) n 0 0) len
     (window_bad w c.args.score q (omega arith)))
 
+-- each byte before index `good` has a score
 pub after_last-requires : goal.after_last-requires
 after_last-requires c = all_taken (is_scored c.args.encoding) c.args.qual.now
     c.good_stop-good.result c.requires.scored
 
+-- SLIDINGWINDOW keeps the bases up to the last high score before index `good`
 pub returns : goal.returns
 returns c =
     let found = c.good_stop-good.ensures in

@@ -6,6 +6,7 @@ use Rattle.fq_text.proofs.VectorLemmas.{flag, mask_of}
 use Rattle.fq_trim.proofs.LowEndLemmas.{few, low}
 use Rattle.fq_trim.proofs.low_end.low_after.Goals as goal
 
+-- if no score is high, all 16 are low
 pub returns-then-high-eq0 : goal.returns-then-high-eq0
 returns-then-high-eq0 c =
     let score = c.args.score in
@@ -20,6 +21,7 @@ returns-then-high-eq0 c =
       low = low c.args.scores turned score 16 long c.turned.ensures.each (sym (none ∙ long));
     }
 
+-- the scores after the last that is high are low
 pub returns-else-high-eq0 : goal.returns-else-high-eq0
 returns-else-high-eq0 c =
     let score = c.args.score in

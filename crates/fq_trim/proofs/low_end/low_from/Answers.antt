@@ -2,6 +2,7 @@ use Rattle.std.proofs.Common.{arith}
 use Rattle.fq_trim.proofs.LowEndLemmas.{lower}
 use Rattle.fq_trim.proofs.low_end.low_from.Goals as goal
 
+-- each score after the last high one of the vector is low
 pub returns-then-low-lt-TOGETHER-clause-low : goal.returns-then-low-lt-TOGETHER-clause-low
 returns-then-low-lt-TOGETHER-clause-low c =
     let old = c.loop-stop.invariant in
@@ -10,6 +11,7 @@ returns-then-low-lt-TOGETHER-clause-low c =
     c.less_16.result c.loop-stop-test.true old.within c.less_16.ensures here.low old.low
     here.within
 
+-- the scores of a vector that are all low come before those known to be low
 pub loop-stop-preserved : goal.loop-stop-preserved
 loop-stop-preserved c =
     let old = c.loop-stop.invariant in

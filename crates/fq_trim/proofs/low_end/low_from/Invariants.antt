@@ -10,5 +10,6 @@ invariant-loop-stop l = record {
       get_or (distances l.fn.offset l.qual) k 0 < l.score;
 }
 
+-- how many scores are still to be compared
 abbrev pub decreases-loop-stop : goal.decreases-loop-stop
 decreases-loop-stop l = l.stop

@@ -4,6 +4,7 @@ use Rattle.fq_text.specs.Scores.{is_scored}
 use Rattle.fq_text.proofs.ScoreLemmas.{at_place, value_small}
 use Rattle.fq_trim.proofs.scoring.sum_of.Goals as goal
 
+-- the next score is at most 126, and the total is now that of one more byte
 pub loop-byte-preserved : goal.loop-byte-preserved
 loop-byte-preserved c =
     let byte = get_or c.args.qual.now c.loop-byte.byte-index 0 in

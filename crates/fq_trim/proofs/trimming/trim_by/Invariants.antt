@@ -2,6 +2,7 @@ use Rattle.std.proofs.Common.{◌≡◌, ◌-◌, ◌≤◌, length, drop}
 use Rattle.fq_trim.specs.Keeping.{scores, places, kept_of, kept}
 use Rattle.fq_trim.proofs.trimming.trim_by.Given as goal
 
+-- the steps to come keep of the bases that are left what all steps keep of the read
 abbrev pub invariant-loop-step : goal.invariant-loop-step
 invariant-loop-step l = record {
   order : l.start ≤ l.stop;

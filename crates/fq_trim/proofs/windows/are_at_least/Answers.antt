@@ -4,6 +4,7 @@ use Rattle.fq_text.proofs.VectorLemmas.{flag}
 use Rattle.fq_trim.proofs.WindowLemmas.{all_pass}
 use Rattle.fq_trim.proofs.windows.are_at_least.Goals as goal
 
+-- no score is too low exactly if the comparison holds for all 16
 pub returns : goal.returns
 returns c =
     let score = c.args.score in

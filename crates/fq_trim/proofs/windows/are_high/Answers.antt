@@ -5,6 +5,7 @@ use Rattle.fq_trim.specs.Keeping.{scores}
 use Rattle.fq_trim.proofs.PlaceLemmas.{length-scores, score_at}
 use Rattle.fq_trim.proofs.windows.are_high.Goals as goal
 
+-- one more score is compared
 pub loop-byte-preserved : goal.loop-byte-preserved
 loop-byte-preserved c =
     let i = c.loop-byte.byte-index in

@@ -5,6 +5,7 @@ use lib.Lanes.{mask_l}
 use Rattle.fq_trim.proofs.WindowLemmas.{at_most, none_before, there}
 use Rattle.fq_trim.proofs.windows.first_below.Goals as goal
 
+-- if no sum is too small, all 32 are counted
 pub returns-then-below-eq0 : goal.returns-then-below-eq0
 returns-then-below-eq0 c =
     let p : ℕ → Bool = λ x. ltb x c.args.least in
@@ -17,6 +18,7 @@ returns-then-below-eq0 c =
       bad = λ lt. absurd (omega arith);
     }
 
+-- the sums before the first that is too small are counted
 pub returns-else-below-eq0 : goal.returns-else-below-eq0
 returns-else-below-eq0 c =
     let sums = c.args.sums in

@@ -2,6 +2,7 @@ use Rattle.std.proofs.Common.{◌<◌, sym, ◌∙◌, arith}
 use Rattle.fq_trim.proofs.WindowLemmas.{good_up_to, good_over_high, stops_there}
 use Rattle.fq_trim.proofs.windows.pass_good.Goals as goal
 
+-- if the 32 scores are all high, each window of them alone is good
 pub returns-then-are_all_high-clause-next : goal.returns-then-are_all_high-clause-next
 returns-then-are_all_high-clause-next c =
     let fits = c.requires.fits in
@@ -13,6 +14,7 @@ returns-then-are_all_high-clause-next c =
           ∙ c.if-are_all_high.true) c.requires.good s (omega arith),
     )
 
+-- the first sum that is too small is that of the first bad window
 pub returns-then-good-lt-TOGETHER-clause-stop : goal.returns-then-good-lt-TOGETHER-clause-stop
 returns-then-good-lt-TOGETHER-clause-stop c =
     let found = c.first_below-good.ensures in
@@ -27,6 +29,7 @@ returns-then-good-lt-TOGETHER-clause-stop c =
     (λ s lt. c.requires.good s (omega arith)) found.good c.requires.window (omega arith) few
     (found.bad (omega arith))
 
+-- if no sum is too small, all 32 windows are good
 pub returns-clause-next : goal.returns-clause-next
 returns-clause-next c =
     let found = c.first_below-good.ensures in

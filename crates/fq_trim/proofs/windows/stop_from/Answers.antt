@@ -4,6 +4,7 @@ use Rattle.fq_trim.specs.Keeping.{scores}
 use Rattle.fq_trim.proofs.PlaceLemmas.{length-scores, part_small, next_window}
 use Rattle.fq_trim.proofs.windows.stop_from.Goals as goal
 
+-- the sum of a window and one more score does not overflow
 pub overflow_add-sum : goal.overflow_add-sum
 overflow_add-sum c =
     let small = part_small c.args.encoding c.args.qual.now (c.loop-end.end - c.args.width)
@@ -11,6 +12,7 @@ overflow_add-sum c =
     let entering = part_small c.args.encoding c.args.qual.now c.loop-end.end 1 c.requires.scored in
     omega arith
 
+-- the score that leaves the window is part of the sum
 pub overflow_sub-sum : goal.overflow_sub-sum
 overflow_sub-sum c =
     let from = c.loop-end.invariant.from in
@@ -18,6 +20,7 @@ overflow_sub-sum c =
     c.requires.window from c.loop-end-test.true in
     omega arith
 
+-- the window whose last base is at index `end` is the first bad one
 pub returns-then-sum-least : goal.returns-then-sum-least
 returns-then-sum-least c =
     let old = c.loop-end.invariant in
@@ -33,6 +36,7 @@ returns-then-sum-least c =
       bad = λ lt. omega arith;
     }
 
+-- the window whose last base is at index `end` is good, and the sum is its own
 pub loop-end-preserved : goal.loop-end-preserved
 loop-end-preserved c =
     let w = c.args.width in

@@ -4,12 +4,14 @@ use Rattle.fq_trim.specs.Keeping.{scores}
 use Rattle.fq_trim.proofs.PlaceLemmas.{length-scores, all_taken, all_dropped, from_sum, from_good, from_bad}
 use Rattle.fq_trim.proofs.windows.stop_one_by_one.Goals as goal
 
+-- each byte of the window that is summed first has a score
 pub total_of-first-requires : goal.total_of-first-requires
 total_of-first-requires c =
     let start = c.max-from.result - c.args.width in
     all_taken (is_scored c.args.encoding) (drop start c.args.qual.now) _
     (all_dropped (is_scored c.args.encoding) c.args.qual.now start c.requires.scored)
 
+-- if the window that is summed first is bad, it is the first of the read
 pub returns-then-first-least : goal.returns-then-first-least
 returns-then-first-least c =
     let q = scores c.args.encoding c.args.qual.now in
@@ -33,12 +35,14 @@ returns-then-first-least c =
           omega arith;
     }
 
+-- the sum is that of the window that ends at `from`
 pub stop_from-requires-clause-sum : goal.stop_from-requires-clause-sum
 stop_from-requires-clause-sum c =
     let high = c.high_stop.ensures in
     from_sum c.args.encoding c.args.qual.now c.args.width c.args.score c.args.score _ _ _ refl
     c.requires.fits high.within high.high c.max-from.ensures c.total_of-first.ensures.sum
 
+-- each window that ends at or before `from` is good
 pub stop_from-requires-clause-good : goal.stop_from-requires-clause-good
 stop_from-requires-clause-good c = λ s le.
     let high = c.high_stop.ensures in

@@ -10,5 +10,6 @@ invariant-loop-next l = record {
       l.fn.least ≤ sum (take l.fn.width (drop s (distances l.fn.offset l.qual)));
 }
 
+-- how many bases are from index `start` on
 abbrev pub decreases-loop-next : goal.decreases-loop-next
 decreases-loop-next l = length l.qual - l.start

@@ -3,12 +3,14 @@ use Rattle.std.proofs.lemmas.List.{get_or-replicate}
 use Rattle.fq_trim.proofs.WindowLemmas.{lane_more}
 use Rattle.fq_trim.proofs.windows.sums_of.Goals as goal
 
+-- the sums of no bases are 0
 pub loop-i-init : goal.loop-i-init
 loop-i-init c = record {
   long = refl;
   each = λ k lt. get_or-replicate 32 k 0 0 lt;
 }
 
+-- each sum is now that of one more base
 pub loop-i-preserved : goal.loop-i-preserved
 loop-i-preserved c =
     let fits = c.requires.fits in

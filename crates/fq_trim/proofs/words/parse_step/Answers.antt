@@ -4,6 +4,7 @@ use Rattle.fq_trim.specs.Words.{kind_of, pieces_in, result_map, step_of_kind}
 use Rattle.fq_trim.proofs.WordLemmas.{pieces_behind, wrong_count}
 use Rattle.fq_trim.proofs.words.parse_step.Goals as goal
 
+-- TOPHRED33 takes no number
 pub returns-in-Some-clause-value : goal.returns-in-Some-clause-value
 returns-in-Some-clause-value c =
     let more = pieces_behind c.args.numbers (ap is_some c.in-Some.is) in

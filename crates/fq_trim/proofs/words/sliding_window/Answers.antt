@@ -4,6 +4,7 @@ use Rattle.fq_trim.specs.Words.{pieces_in, result_map}
 use Rattle.fq_trim.proofs.WordLemmas.{pieces_behind, wrong_count}
 use Rattle.fq_trim.proofs.words.sliding_window.Goals as goal
 
+-- three or more pieces are too many for a window and a score
 pub returns-then-is_some-clause-value : goal.returns-then-is_some-clause-value
 returns-then-is_some-clause-value c =
     let more = pieces_behind c.cut_piece-2.result.1 (sym c.is_some.ensures ∙ c.if-is_some.true) in

@@ -7,11 +7,13 @@ use Rattle.fq_tally.specs.Results.{made_of, with_mates}
 use Rattle.fq_tally.proofs.ResultLemmas.{made_more}
 use Rattle.fq_work.proofs.trimming.add_pairs.Goals as goal
 
+-- the lengths that the block has for a pair are those of its names
 pub add-requires-clause-names : goal.add-requires-clause-names
 add-requires-clause-names c =
     subst (λ (o : Option Mates). IfSome o (λ m. c.names.result ≡ name_lengths m)) c.pair.ensures
     c.names.ensures
 
+-- no more pairs were counted than a block has, so one more can be
 pub add-requires-clause-room : goal.add-requires-clause-room
 add-requires-clause-room c =
     omega (
@@ -22,6 +24,7 @@ add-requires-clause-room c =
       c.len-i-end.ensures.limit,
     )
 
+-- what is made of the pairs so far and of one more is made of them together
 pub loop-i-preserved : goal.loop-i-preserved
 loop-i-preserved c =
     let steps = c.args.steps.now in

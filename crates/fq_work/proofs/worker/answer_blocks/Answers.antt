@@ -4,9 +4,11 @@ use Rattle.fq_work.specs.Replies.{done_of}
 use Rattle.fq_work.proofs.WorkLemmas.{with_none, with_more, answers_done, answers_stop}
 use Rattle.fq_work.proofs.worker.answer_blocks.Goals as goal
 
+-- at the start no block was taken, and no reply sent
 pub loop-init : goal.loop-init
 loop-init g c = ([], [], with_none c.args.ends.now.rx, with_none c.args.ends.now.tx, tt)
 
+-- one more block was taken, and a Done sent for it
 pub loop-preserved : goal.loop-preserved
 loop-preserved g c =
     let was = c.loop.invariant in
@@ -24,6 +26,7 @@ loop-preserved g c =
           (done_of c.args.making.now.tallied c.args.making.now.steps block) refl was.4,
     )
 
+-- the last block that was taken is answered by a Stop
 pub returns-in-Some-answer-clause-answers : goal.returns-in-Some-answer-clause-answers
 returns-in-Some-answer-clause-answers g c =
     let was = c.loop.invariant in

@@ -5,6 +5,7 @@ use Rattle.fq_work.specs.Replies.{Answers}
 use Rattle.fq_work.specs.Work.{with_items}
 use Rattle.fq_work.proofs.worker.answer_blocks.Given as goal
 
+-- some blocks were taken, and a Done sent for each of them, in order
 abbrev pub invariant-loop : goal.invariant-loop
 invariant-loop g l =
     (took : List Numbered) × (replies : List Reply)

@@ -3,9 +3,11 @@ use Rattle.fq_lane.specs.History.{with_mark}
 use Rattle.fq_work.proofs.WorkLemmas.{with_none, with_more}
 use Rattle.fq_work.proofs.worker.drain.Goals as goal
 
+-- at the start no block was taken
 pub loop-init : goal.loop-init
 loop-init g c = ([], with_none c.args.ends.now.rx, refl)
 
+-- one more block was taken
 pub loop-preserved : goal.loop-preserved
 loop-preserved g c =
     let was = c.loop.invariant in
@@ -16,6 +18,7 @@ loop-preserved g c =
       was.2,
     )
 
+-- all blocks up to the mark were taken
 pub returns-in-None-take_wait-clause-drained : goal.returns-in-None-take_wait-clause-drained
 returns-in-None-take_wait-clause-drained g c =
     let was = c.loop.invariant in

@@ -3,6 +3,7 @@ use Rattle.fq_block.specs.Blocks.{Numbered}
 use Rattle.fq_work.specs.Work.{with_items}
 use Rattle.fq_work.proofs.worker.drain.Given as goal
 
+-- some blocks were taken, and no reply was sent
 abbrev pub invariant-loop : goal.invariant-loop
 invariant-loop g l =
     (took : List Numbered) × (l.ends.rx ≡ with_items l.initial.ends.rx took

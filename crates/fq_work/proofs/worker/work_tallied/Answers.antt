@@ -5,6 +5,7 @@ use Rattle.fq_work.proofs.WorkLemmas.{worked, closed}
 use Rattle.fq_work.proofs.worker.work_tallied.Goals as goal
 use Rattle.fq_work.proofs.worker.work_tallied.Goals.{then-is_some, else-is_some}
 
+-- the worker took all blocks up to the mark, and the closed lane of replies answers them
 pub returns-clause-work : goal.returns-clause-work
 returns-clause-work g c =
     let mid = c.answer_blocks-cause.new.ends in

@@ -46,6 +46,7 @@ module _ (c : goal.After-append) where
   starts_are starts = starts ∙ ap (λ at. c.self.inside.starts.items ++ at ∷ [])
       c.self.inside.bytes.ok.0
 
+-- the bytes are still the packing of the pairs, and the lengths those of their names
 pub invariant_of-self : goal.invariant_of-self
 invariant_of-self c =
     let block = c.self.inside in
@@ -85,6 +86,7 @@ invariant_of-self c =
           ∙ c.self.invariant.1,
     )))
 
+-- the block has one more pair, the last
 pub returns-clause-ok : goal.returns-clause-ok
 returns-clause-ok c =
     let block = c.self.inside in

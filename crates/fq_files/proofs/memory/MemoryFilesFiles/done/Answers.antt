@@ -6,5 +6,6 @@ use Rattle.fq_files.proofs.memory.MemoryFilesFiles.done.Goals as goal
 pub returns-in-Some-clause-others : goal.returns-in-Some-clause-others
 returns-in-Some-clause-others c = λ told other differs. grind (arith, text_keys)
 
+-- a name that was held is still held
 pub returns-in-Some-clause-held : goal.returns-in-Some-clause-held
 returns-in-Some-clause-held c = λ told name held. grind (arith, text_keys)

@@ -3,6 +3,7 @@ use Rattle.fq_text.specs.Reading.{Buffered}
 use Rattle.fq_text.proofs.ReadLemmas.{line_of_hand, hand_used}
 use Rattle.fq_text.proofs.buffer.Buffer.use_line.Goals as goal
 
+-- the line is the front of the bytes in hand without a last CR, and what follows stays in hand
 pub returns : goal.returns
 returns c =
     let b = c.self.inside in

@@ -22,10 +22,12 @@ next_scored : (e : Encoding) (was now : List ℕ) (i : ℕ) → list_all (is_sco
 next_scored e was now i all within is = ap (is_scored e) (next_byte e was now i within is)
     ∙ at_place (is_scored e) was i all within
 
+-- the next byte has a score
 pub phred-requires : goal.phred-requires
 phred-requires c = next_scored c.args.self c.args.bytes.now c.loop-byte.bytes c.loop-byte.byte-index
     c.requires (omega arith) c.loop-byte.invariant
 
+-- the score of the next byte is at most 93
 pub from_score33-requires : goal.from_score33-requires
 from_score33-requires c =
     let next = get_or c.loop-byte.bytes c.loop-byte.byte-index 0 in
@@ -34,6 +36,7 @@ from_score33-requires c =
     let small = value_small c.args.self next scored in
     omega (arith, c.phred.ensures)
 
+-- the next byte is recoded, and the others stay as they are
 pub loop-byte-preserved : goal.loop-byte-preserved
 loop-byte-preserved c =
     let next = get_or c.loop-byte.bytes c.loop-byte.byte-index 0 in

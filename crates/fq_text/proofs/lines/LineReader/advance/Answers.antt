@@ -11,6 +11,7 @@ not_before : (xs : List ℕ) (scanned at : ℕ) → NoLf xs scanned →
 not_before xs scanned at none found = ⊎_elim (λ lt. absurd (none at lt found.1)) (λ le. le)
     (cases_lt at scanned)
 
+-- a line end was found: its line is taken, or is too long
 pub returns-in-Some-clause-step : goal.returns-in-Some-clause-step
 returns-in-Some-clause-step g c =
     let at = c.in-Some.at in
@@ -35,6 +36,7 @@ returns-in-Some-clause-step g c =
           long,
     ))
 
+-- so many bytes without a line end belong to a line that is too long
 pub returns-then-scanned-clause-step : goal.returns-then-scanned-clause-step
 returns-then-scanned-clause-step g c =
     let old = c.loop-at.invariant in (
@@ -43,6 +45,7 @@ returns-then-scanned-clause-step g c =
           c.in_default.ensures.place,
     )
 
+-- the feed has ended: the bytes in hand are the last line, which may be too long
 pub returns-then-self-clause-step : goal.returns-then-self-clause-step
 returns-then-self-clause-step g c =
     let old = c.loop-at.invariant in

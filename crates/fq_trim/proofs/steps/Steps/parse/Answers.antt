@@ -21,12 +21,14 @@ faulty c =
     ∙ sym c.in-Err.ensures.value in
     fault_found words c.loop-i.held i lt c.loop-i.invariant.so_far c.in-Err.kind is
 
+-- the fault of an argument after steps is the fault of the list
 pub returns-in-Err-clause-value : goal.returns-in-Err-clause-value
 returns-in-Err-clause-value c =
     let words = map (λ word. word.now) c.args.words.now in
     let len = length-map c.args.words.now (λ word. word.now) in
     sym (steps_of_few words (omega arith) (omega arith) ∙ faulty c)
 
+-- the fault is that of the first faulty argument
 pub returns-in-Err-clause-first : goal.returns-in-Err-clause-first
 returns-in-Err-clause-first c =
     let words = map (λ word. word.now) c.args.words.now in
@@ -41,6 +43,7 @@ returns-in-Err-clause-first c =
       }) (faulty c);
     }
 
+-- each argument gives its step
 pub returns-clause-all : goal.returns-clause-all
 returns-clause-all c =
     let words = map (λ word. word.now) c.args.words.now in
@@ -52,6 +55,7 @@ returns-clause-all c =
     all_steps 1 words (take (length c.args.words.now) held) (done
     ∙ ap (λ n. Ok (take n held)) whole)
 
+-- the step of the next argument is held after those before it
 pub loop-i-preserved : goal.loop-i-preserved
 loop-i-preserved c =
     let words = map (λ word. word.now) c.args.words.now in
