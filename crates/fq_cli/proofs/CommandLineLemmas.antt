@@ -37,6 +37,7 @@ low_fault s w kinds =
 abbrev pub stopped_at : Text → List Text → Walk
 stopped_at name rest = record (walk_from nothing_held) { stopped = Some (name, rest) }
 
+-- the walk over the program's words stops at `PE`, and keeps the words after it
 pub pairs_stop : (rest : List Text) → walk (built program_app).top.rules
     (names_of (built program_app))
     nothing_held (codes "PE" ∷ rest)
@@ -45,6 +46,7 @@ unfolding clap_on_literals program_app pairs_app interleaved_app
 pairs_stop rest = words_kept (built program_app).top.rules (names_of (built program_app)) rest
     (stopped_at (codes "PE") []) (codes "PE") [] refl
 
+-- the subcommand that is found is `PE`, with what the words after it hold
 pub pairs_entered : (program : Text) (rest : List Text) →
     subcommand_of program_app (program ∷ codes "PE" ∷ rest)
     ≡ Some (codes "PE", rows_after pairs_leaf.rules [] rest)
@@ -52,6 +54,7 @@ unfolding clap_on_literals program_app pairs_app interleaved_app
 pairs_entered program rest = ap (λ (w : Walk). entered (built program_app) w.stopped)
     (pairs_stop rest)
 
+-- neither `PE` nor the words kept after it have a fault in the walk over the program's words
 pub pairs_kept : (rest : List Text) → walk_fault (built program_app).top
     (names_of (built program_app))
     (walk_from nothing_held) (codes "PE" ∷ rest) ≡ []
@@ -59,6 +62,7 @@ unfolding clap_on_literals program_app pairs_app interleaved_app
 pairs_kept rest = kept_faultless (built program_app).top (names_of (built program_app)) rest
     (stopped_at (codes "PE") []) (codes "PE") [] refl
 
+-- a command line with `PE` parses if the words after `PE` have no fault at that command
 pub pairs_parse : (program : Text) (rest : List Text) →
     level_fault pairs_leaf [] nothing_held rest false [] ≡ [] →
     words_fault (program ∷ codes "PE" ∷ rest) ≡ []
@@ -66,6 +70,7 @@ unfolding clap_on_literals program_app pairs_app interleaved_app words_fault
 pairs_parse program rest sound =
     ap₂ top_fault (pairs_stop rest) (pairs_kept rest) ∙ ap (λ kinds. or_else kinds []) sound
 
+-- the walk over the program's words stops at `IL`, and keeps the words after it
 pub mixed_stop : (rest : List Text) → walk (built program_app).top.rules
     (names_of (built program_app))
     nothing_held (codes "IL" ∷ rest)
@@ -74,6 +79,7 @@ unfolding clap_on_literals program_app pairs_app interleaved_app
 mixed_stop rest = words_kept (built program_app).top.rules (names_of (built program_app)) rest
     (stopped_at (codes "IL") []) (codes "IL") [] refl
 
+-- the subcommand that is found is `IL`, with what the words after it hold
 pub mixed_entered : (program : Text) (rest : List Text) →
     subcommand_of program_app (program ∷ codes "IL" ∷ rest)
     ≡ Some (codes "IL", rows_after mixed_leaf.rules [] rest)
@@ -81,6 +87,7 @@ unfolding clap_on_literals program_app pairs_app interleaved_app
 mixed_entered program rest = ap (λ (w : Walk). entered (built program_app) w.stopped)
     (mixed_stop rest)
 
+-- neither `IL` nor the words kept after it have a fault in the walk over the program's words
 pub mixed_kept : (rest : List Text) → walk_fault (built program_app).top
     (names_of (built program_app))
     (walk_from nothing_held) (codes "IL" ∷ rest) ≡ []
@@ -88,6 +95,7 @@ unfolding clap_on_literals program_app pairs_app interleaved_app
 mixed_kept rest = kept_faultless (built program_app).top (names_of (built program_app)) rest
     (stopped_at (codes "IL") []) (codes "IL") [] refl
 
+-- a command line with `IL` parses if the words after `IL` have no fault at that command
 pub mixed_parse : (program : Text) (rest : List Text) →
     level_fault mixed_leaf [] nothing_held rest false [] ≡ [] →
     words_fault (program ∷ codes "IL" ∷ rest) ≡ []
@@ -97,6 +105,7 @@ mixed_parse program rest sound =
 
 -- Files and steps.
 
+-- the faults stay as they are if the argument doesn't take several values
 pub not_several : (b : Bool) (kinds : Kinds) → (if b && false then [] else kinds) ≡ kinds
 not_several true kinds = refl
 not_several false kinds = refl
@@ -111,6 +120,7 @@ stepping position rows skip steps = record {
   stopped = None;
 }
 
+-- no word is refused as a text
 pub all_texts : (words : List Text) → values_kinds false parser.String words ≡ []
 all_texts [] = refl
 all_texts (word ∷ words) = all_texts words
@@ -125,5 +135,6 @@ in_range n fits =
     ap₂ (λ x y. if x then TooFewValues ∷ [] else (if y then TooManyValues ∷ [] else [])) none all
 
 module _ (step : Text) (steps : List Text) (fits : length (step ∷ steps) ≤ most) where
+  -- one step or more are not too few, and these are not too many
   pub few : range_kinds 0 most (length (step ∷ steps)) ≡ []
   few = in_range (length steps) (omega arith)

@@ -36,6 +36,7 @@ module _ (n : ℕ) (fits : n ≤ most) where
   below : n < 2 ^ 64
   below = omega arith
 
+  -- a number in decimal digits doesn't begin with a hyphen
   pub decimal_plain : IsPlain (decimal n)
   decimal_plain = no_hyphen (decimal n) (decimal_is_IsNumeral n below).0.1
 

@@ -422,6 +422,7 @@ module _ (f fp fu rp ru : Text) (o : Options) (plain : ArePlain o) (step : Text)
       ∙ mixed_found f fp fu rp ru step (is_own_name program) steps o.log o.report o.encoding
       o.threads plain.threads
 
+-- `IL [options] I FP FU RP RU STEPS..` asks for these names, steps and values
 pub mixed_pairs_are_asked_for : MixedPairsAreAskedFor
 mixed_pairs_are_asked_for program f o names [] plain are all = absurd (are.some refl)
 mixed_pairs_are_asked_for program f o names (step ∷ steps) plain are all =

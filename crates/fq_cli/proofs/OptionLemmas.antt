@@ -32,22 +32,28 @@ leaf name others = record (new_shape name) {
 abbrev pub input_at : Text → Rule
 input_at id = with_index 1 (filled (file_rule id))
 
+-- the first positional of `PE`, filled in
 abbrev pub pairs_input : Rule
 pairs_input = input_at (codes "F")
 
+-- the first positional of `IL`, filled in
 abbrev pub mixed_input : Rule
 mixed_input = input_at (codes "I")
 
+-- the arguments of `PE` after the options, filled in
 abbrev pub pairs_others : List Rule
 pairs_others =
     filled_from 1 (file_rule (codes "F") ∷ file_rule (codes "R") ∷ (output_rules ++ help_rule ∷ []))
 
+-- the arguments of `IL` after the options, filled in
 abbrev pub mixed_others : List Rule
 mixed_others = filled_from 1 (file_rule (codes "I") ∷ (output_rules ++ help_rule ∷ []))
 
+-- the built command `PE`
 abbrev pub pairs_leaf : Shape
 pairs_leaf = leaf (codes "PE") pairs_others
 
+-- the built command `IL`
 abbrev pub mixed_leaf : Shape
 mixed_leaf = leaf (codes "IL") mixed_others
 
@@ -73,26 +79,33 @@ with_option rules id given h = record {
 
 -- the word is that of the option with this id
 pub record IsOption (s : Shape) (word id : Text) : Type 0 where
+  -- after the word, the option waits for its value
   pub opens : (h : Held) → walked s.rules [] (opened h) word ≡ waiting s.rules id h
+  -- the word after it becomes that value
   pub takes : (given : Text) (h : Held) → option_walk s.rules id (waiting s.rules id h) given
       ≡ opened
       (with_option s.rules id given h)
+  -- the only faults at the word are those of the argument that is pending before it
   pub settles : (h : Held) → turn_fault s [] (opened h) word ≡ or_else
       (settle_fault s.rules s.args_override_self h) []
 
 module _ (name : Text) (others : List Rule) where
+  -- `--trimlog` is the word of the option `trimlog`
   pub is_log : IsOption (leaf name others) (codes "--trimlog") (codes "trimlog")
   unfolding clap_on_literals
   is_log = record { opens = λ h. refl; takes = λ given h. refl; settles = λ h. refl }
 
+  -- `--report` is the word of the option `report`
   pub is_report : IsOption (leaf name others) (codes "--report") (codes "report")
   unfolding clap_on_literals
   is_report = record { opens = λ h. refl; takes = λ given h. refl; settles = λ h. refl }
 
+  -- `--encoding` is the word of the option `encoding`
   pub is_encoding : IsOption (leaf name others) (codes "--encoding") (codes "encoding")
   unfolding clap_on_literals
   is_encoding = record { opens = λ h. refl; takes = λ given h. refl; settles = λ h. refl }
 
+  -- `--threads` is the word of the option `threads`
   pub is_threads : IsOption (leaf name others) (codes "--threads") (codes "threads")
   unfolding clap_on_literals
   is_threads = record { opens = λ h. refl; takes = λ given h. refl; settles = λ h. refl }
@@ -103,6 +116,7 @@ after_option rules id None h = h
 after_option rules id (Some given) h = with_option rules id given h
 
 module _ (s : Shape) (word id : Text) (is : IsOption s word id) where
+  -- after an option with a plain value, if it is given, the value is held, and the walk goes on
   pub option_read : (given : Option Text) → IsPlainIfGiven given → (h : Held) (words : List Text) →
       fold (walked s.rules []) (opened h) (with_value word given ++ words)
       ≡ fold (walked s.rules []) (opened (after_option s.rules id given h)) words
@@ -114,6 +128,7 @@ module _ (s : Shape) (word id : Text) (is : IsOption s word id) where
       (record { goes = refl; waits = refl; leads = refl }) plain
       ∙ is.takes given h)
 
+  -- an option with a plain value has no fault if the argument that is pending before it has none
   pub option_sound : (given : Option Text) → IsPlainIfGiven given → (h : Held) (words : List Text) →
       settle_fault s.rules s.args_override_self h ≡ [] →
       walk_fault s [] (opened h) (with_value word given ++ words)
@@ -135,33 +150,41 @@ module _ (s : Shape) (word id : Text) (is : IsOption s word id) where
 -- What is held after the options, in this order.
 
 module _ (rules : List Rule) where
+  -- what is held after `--trimlog`, if it is given
   abbrev pub after_log : Option Text → Held
   after_log a = after_option rules (codes "trimlog") a nothing_held
 
+  -- what is held after `--report` too
   abbrev pub after_report : Option Text → Option Text → Held
   after_report a b = after_option rules (codes "report") b (after_log a)
 
+  -- what is held after `--encoding` too
   abbrev pub after_encoding : Option Text → Option Text → Option Text → Held
   after_encoding a b c = after_option rules (codes "encoding") c (after_report a b)
 
+  -- what is held after all options, of which `--threads` is the last
   abbrev pub after_options : Options → Held
   after_options o = after_option rules (codes "threads") (option_map decimal o.threads)
       (after_encoding o.log o.report o.encoding)
 
 module _ (name : Text) (others : List Rule) where
+  -- the rules of a command with these options
   abbrev pub rules : List Rule
   rules = options ++ others
 
+  -- after `--trimlog`, given or not, the pending argument has no fault
   pub log_sound : (a : Option Text) → settle_fault rules false (after_log rules a) ≡ []
   log_sound None = refl
   log_sound (Some x) = refl
 
+  -- after `--report` too, given or not, the pending argument has no fault
   pub report_sound : (a b : Option Text) → settle_fault rules false (after_report rules a b) ≡ []
   report_sound None None = refl
   report_sound None (Some y) = refl
   report_sound (Some x) None = refl
   report_sound (Some x) (Some y) = refl
 
+  -- after `--encoding` too, given or not, the pending argument has no fault
   pub encoding_sound : (a b c : Option Text) → settle_fault rules false (after_encoding rules a b c)
       ≡ []
   encoding_sound None None None = refl
@@ -173,6 +196,7 @@ module _ (name : Text) (others : List Rule) where
   encoding_sound (Some x) (Some y) None = refl
   encoding_sound (Some x) (Some y) (Some z) = refl
 
+  -- before `--threads` no number of threads is held
   pub unthreaded : (a b c : Option Text) → has_row (codes "threads")
       (settled_rows rules (after_encoding rules a b c).pending (after_encoding rules a b c).rows)
       ≡ false
@@ -185,6 +209,7 @@ module _ (name : Text) (others : List Rule) where
   unthreaded (Some x) (Some y) None = refl
   unthreaded (Some x) (Some y) (Some z) = refl
 
+  -- a number of 64 bits, in decimal digits, has no fault as the first value of `--threads`
   pub number_sound : (n : ℕ) → n ≤ most → (rows : List Row) (skip : ℕ) →
       has_row (codes "threads") rows ≡ false →
       settle_fault rules false (record {
@@ -198,6 +223,7 @@ module _ (name : Text) (others : List Rule) where
       (or_else (if y then [] else refused_kind (parser.Unsigned 0 most) ∷ []) []))
       none (decimal_fits n fits)
 
+  -- after all options, each given or not, the pending argument has no fault
   pub options_sound : (o : Options) → FitsIfGiven o.threads →
       settle_fault rules false (after_options rules o) ≡ []
   options_sound o fits = go o.threads fits
@@ -213,10 +239,12 @@ module _ (name : Text) (others : List Rule) where
 
 -- All options.
 
+-- a number in decimal digits, if it is given, is a plain value
 pub plain_number : (d : Option ℕ) → FitsIfGiven d → IsPlainIfGiven (option_map decimal d)
 plain_number None fits = tt
 plain_number (Some n) fits = decimal_plain n fits
 
+-- the words of the options come one option after the other, and then the words after them
 pub option_words_then : (o : Options) (words : List Text) → option_words o ++ words
     ≡ with_value (codes "--trimlog") o.log ++ (with_value (codes "--report") o.report
     ++ (with_value (codes "--encoding") o.encoding
@@ -231,9 +259,11 @@ option_words_then o words =
     ∙ ap (λ (ws : List Text). a ++ (b ++ ws)) (append_assoc c d words)
 
 module _ (name : Text) (others : List Rule) (o : Options) (plain : ArePlain o) where
+  -- the command with these options and then other arguments
   abbrev pub options_leaf : Shape
   options_leaf = leaf name others
 
+  -- the walk over the options holds their values, and goes on after them
   pub options_read : (words : List Text) →
       fold (walked options_leaf.rules []) (opened nothing_held) (option_words o ++ words)
       ≡ fold (walked options_leaf.rules []) (opened (after_options options_leaf.rules o)) words
@@ -255,6 +285,7 @@ module _ (name : Text) (others : List Rule) (o : Options) (plain : ArePlain o) w
       (plain_number o.threads plain.threads)
       (after_encoding s.rules o.log o.report o.encoding) after_d
 
+  -- options with plain values have no fault
   pub options_faultless : (words : List Text) →
       walk_fault options_leaf [] (opened nothing_held) (option_words o ++ words)
       ≡ walk_fault options_leaf [] (opened (after_options options_leaf.rules o)) words

@@ -422,6 +422,7 @@ module _ (f r fp fu rp ru : Text) (o : Options) (plain : ArePlain o) (step : Tex
       ∙ pairs_found f r fp fu rp ru step (is_own_name program) steps o.log o.report o.encoding
       o.threads plain.threads
 
+-- `PE [options] F R FP FU RP RU STEPS..` asks for these names, steps and values
 pub pairs_are_asked_for : PairsAreAskedFor
 pairs_are_asked_for program f r o names [] plain are all = absurd (are.some refl)
 pairs_are_asked_for program f r o names (step ∷ steps) plain are all =

@@ -77,6 +77,7 @@ still_open : (rules : List Rule) (o : Option Rule) (word : Text) (w : Walk) (h :
 still_open rules None word w h is = record { goes = is.goes; rests = is.rests }
 still_open rules (Some a) word w h is = record { goes = refl; rests = waits (is_multiple a) }
 
+-- plain words go to the positionals, one after the other
 pub values_walked : (rules : List Rule) (words : List Text) (w : Walk) → IsOpen w →
     All IsPlain words → fold (walked rules []) w words ≡ fold (value_walk rules) w words
 values_walked rules [] w is plain = refl
@@ -126,6 +127,7 @@ turn_value s w word is plain =
     ∙ ap (λ (m : Held × Step). step_fault s w.position m.0 m.1)
     (to_value s.rules word plain w.is_trailing w.waiting w.position w.held is.rests)
 
+-- the faults of plain words are those of words that go to the positionals
 pub value_faults_are : (s : Shape) (words : List Text) (w : Walk) → IsOpen w →
     All IsPlain words → walk_fault s [] w words ≡ value_faults s w words
 unfolding walk_fault
@@ -144,6 +146,7 @@ value_faults_are s (word ∷ words) w is plain =
 pub record IsWaiting (id : Text) (w : Walk) : Type 0 where
   pub goes : w.stopped ≡ None
   pub waits : w.waiting ≡ option id
+  -- no `--` has come
   pub leads : w.is_trailing ≡ false
 
 -- the walk after that value
@@ -160,6 +163,7 @@ option_met_value rules id word w is plain =
     ∙ ap (λ v. word_met rules [] false v w.position word w.held) is.waits
     ∙ no_option rules word plain (option id) w.position w.held
 
+-- a plain word for which an option waits becomes its value
 pub option_walked : (rules : List Rule) (id word : Text) (w : Walk) → IsWaiting id w →
     IsPlain word → walked rules [] w word ≡ option_walk rules id w word
 unfolding walked
@@ -168,6 +172,7 @@ option_walked rules id word w is plain =
     ∙ ap (λ met. after_step rules word w met.0 met.1)
     (option_met_value rules id word w is plain)
 
+-- a plain word for which an option waits has no fault
 pub option_faultless : (s : Shape) (id word : Text) (w : Walk) → IsWaiting id w →
     IsPlain word → turn_fault s [] w word ≡ []
 option_faultless s id word w is plain =
@@ -197,6 +202,7 @@ module _ (rules : List Rule) (names : Names) where
       (before ++ word ∷ []) refl
       ∙ ap (λ ws. record w { stopped = Some (name, ws) }) (append_assoc before (word ∷ []) words)
 
+-- words that are kept for a subcommand have no fault in the walk that keeps them
 pub kept_faultless : (s : Shape) (names : Names) (words : List Text) (w : Walk) (name : Text)
     (before : List Text) → w.stopped ≡ Some (name, before) → walk_fault s names w words ≡ []
 unfolding walked walk_fault

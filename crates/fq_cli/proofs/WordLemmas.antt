@@ -82,6 +82,7 @@ unfolding words_fault
 parses_if app words is parses = sym (ap (λ a. fault_of a words) is)
     ∙ parses (ap is_simple_and_free is ∙ is_free)
 
+-- and so is the kind of an error
 pub fails_by : (app : App) (words : List Text) (e : Error) → app ≡ program_app →
     (is_simple_and_free app ≡ true → HasKind (fault_of app words) e) → HasKind (words_fault words) e
 unfolding words_fault
@@ -169,6 +170,7 @@ parsed text (Err e) h = go (is_unsigned_in 0 most text) refl
         let parts = both _ _ t in
         absurd (h (numeral_from (without_leading_plus text) parts.0, below_from _ parts.1))
 
+-- the number of an argument is the one that its text writes, or 0
 pub number_read : {E : Type 0} (gives : List ℕ → Result ℕ E →
     Type 0) (text : Option Text) (r : Option ℕ) →
     ((t : Text) (res : Result ℕ E) → gives t res → ParsesUnsigned 64 10 t res)
@@ -188,6 +190,7 @@ flag_parsed text (Ok true) h = sym (ap (λ t. bytes_eq t (codes "true")) h)
 flag_parsed text (Ok false) h = sym (ap (λ t. bytes_eq t (codes "true")) h)
 flag_parsed text (Err e) h = sym (not_equal text (codes "true") h.0)
 
+-- a flag is set exactly if its text is `true`
 pub flag_read : (E : Type 0) (text : Option Text) (r : Option Bool) → (text ≡ None → r ≡ None) →
     ((t : List ℕ) → text ≡ Some t → ReadsOne (ParsesBool {E = E}) t r)
     → unwrap_or r false ≡ bytes_eq (unwrap_or text []) (codes "true")

@@ -5,6 +5,7 @@ use Rattle.fq_pair.specs.Mates.{Mates}
 use Rattle.fq_pair.specs.Outputs.{survives, both_survive, forward_alone, reverse_alone, none_survive, counts_of}
 use Rattle.fq_in_step.specs.InStep.{PairsGoOneWay}
 
+-- 1 for true, and 0 for false
 abbrev pub bit : Bool → ℕ
 bit true = 1
 bit false = 0
@@ -17,6 +18,7 @@ ways true false = refl
 ways false true = refl
 ways false false = refl
 
+-- each pair goes exactly one of the four ways
 pub one_way : PairsGoOneWay
 one_way steps m = ways (survives steps m.forward) (survives steps m.reverse)
 
@@ -31,10 +33,12 @@ picked : (b : Bool) (m : Mates) (ms : List Mates) → length (cond b (m ∷ ms) 
 picked true m ms = omega arith
 picked false m ms = omega arith
 
+-- one more pair is one more of those that pass a test, if it passes
 pub one_more : (test : Mates → Bool) (m : Mates) (ms : List Mates) →
     length (filter test (m ∷ ms)) ≡ bit (test m) + length (filter test ms)
 one_more test m ms = picked (test m) m (filter test ms)
 
+-- the counts of the four ways add up to the count of the pairs
 pub counts_add_up : (steps : List Step) (ms : List Mates) →
     let counts = counts_of steps ms in
     counts.both + counts.forward_only + counts.reverse_only + counts.dropped ≡ counts.pairs

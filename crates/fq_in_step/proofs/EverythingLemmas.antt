@@ -85,6 +85,7 @@ same_text : (text : Records) (reads : List Read) → text.reads ≡ reads → te
 same_text text reads a b = ap (λ (xs : List Read). record text { reads = xs }) a
     ∙ ap (λ fault. record { reads = reads; fault = fault }) b
 
+-- the mates of two texts are the first records of each, and all of them if no fault ends the pairs
 pub nothing_is_lost : NothingIsLost
 nothing_is_lost check e forward reverse =
     let f = records e forward in
@@ -132,6 +133,7 @@ module _ (check : Bool) where
       ∙ cond-false (belong check m) (m ∷ take_while (belong check) ms) [] is)) refl)
       (cases_Bool (belong check m))
 
+-- without a fault nothing is left of an interleaved text
 pub record IsOverOne (xs : List Read) (t : Records) : Type 0 where
   pub reads : xs ≡ []
   pub fault : t.fault ≡ None
@@ -148,6 +150,7 @@ over_one n (x ∷ []) t is =
     absurd (cc (ends Reverse (λ fault. numbered fault (2 * n)) t.fault _ is).1)
 over_one n (x ∷ y ∷ xs) t is = absurd (cc is)
 
+-- the mates of one text are its first records, and all of them if no fault ends the pairs
 pub nothing_is_lost_of_one : NothingIsLostOfOne
 nothing_is_lost_of_one check e text =
     let t = records e text in

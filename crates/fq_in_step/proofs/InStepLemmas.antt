@@ -181,6 +181,7 @@ pairs_again check steps e ms forward reverse all f r plain_forward plain_reverse
 
 -- All outputs.
 
+-- the texts that are defined for pairs of inputs can be read again, and are in step
 pub texts_are_in_step : TextsAreInStep
 texts_are_in_step check steps e ms all =
     let both = filter (both_survive steps) ms in

@@ -11,6 +11,7 @@ use Rattle.fq_tally.specs.Columns.{by_position, one_if}
 use Rattle.fq_in_step.specs.ReportLists.{AddUpTo, most}
 use Rattle.fq_in_step.proofs.ReportLemmas.{sum-cons}
 
+-- lists that are added row by row have the sum of both, if 64 bits can hold it
 pub sum_plus : (xs ys : List ℕ) → sum xs + sum ys ≤ most → sum (rows_plus xs ys) ≡ sum xs + sum ys
 sum_plus [] ys few = omega arith
 sum_plus (x ∷ xs) [] few = omega arith
@@ -39,6 +40,7 @@ added_two total x xs ys us vs up is = λ small.
     let second = sum_plus ys vs (omega arith) in
     omega arith
 
+-- a list by position has the same sum as the numbers that it is made of
 pub sum_placed : (ns : List ℕ) → sum (by_position ns) ≡ sum ns
 sum_placed ns =
     let few = nat_le (length ns) 10000 in
@@ -53,6 +55,7 @@ sum_placed ns =
     (λ is. ap sum (cond-false few ns cut is) ∙ omega arith)
     (cases_Bool few)
 
+-- a list by position has as many items as there are numbers, but at most 10,001
 pub length_placed : (ns : List ℕ) → length (by_position ns) ≡ min (length ns) 10001
 length_placed ns =
     let few = nat_le (length ns) 10000 in
@@ -74,6 +77,7 @@ sum_map f (x ∷ xs) =
     let right = sum_by-cons f x xs in
     omega arith
 
+-- a one for each number adds up to how many numbers there are
 pub sum_ones : (xs : List ℕ) → sum (map (λ _. 1) xs) ≡ length xs
 sum_ones [] = refl
 sum_ones (x ∷ xs) =
@@ -81,6 +85,7 @@ sum_ones (x ∷ xs) =
     let front = sum-cons 1 (map (λ (n : ℕ). 1) xs) in
     omega arith
 
+-- a one for each number that passes a test adds up to how many pass
 pub sum_of_those : (p : ℕ → Bool) (xs : List ℕ) → sum (map (one_if p) xs) ≡ count_by p xs
 sum_of_those p xs = sum_map (one_if p) xs
 
@@ -115,6 +120,7 @@ one_letter b = ⊎_elim
         (subst (λ y. one_of_four false false y (b == 103)) (sym g)
         (subst (λ z. one_of_four false false false z) (sym g') refl)))
 
+-- the bases that are C and those that are G add up to those that are either
 pub sum_of_gc : (xs : List ℕ) →
     sum (map (one_if is_c) xs) + sum (map (one_if is_g) xs) ≡ count_by is_gc xs
 sum_of_gc [] = refl

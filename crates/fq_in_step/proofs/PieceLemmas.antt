@@ -220,6 +220,7 @@ span_on e s = record {
   places_are = e ∙ s.places_are;
 }
 
+-- of consecutive places steps keep consecutive places
 pub spans : (steps : List Step) (q : List ℕ) (start stop : ℕ) → start ≤ stop → stop ≤ length q →
     Span q (kept_of steps q (places start (stop - start)))
 spans [] q start stop order within = record {
@@ -267,6 +268,7 @@ numbers_are : (bases start n : ℕ) → log_numbers bases (places start n) ≡ p
 numbers_are bases start zero = refl
 numbers_are bases start (suc n) = log_numbers-places bases start (suc n) (omega arith)
 
+-- what is left of a read is one piece of it, and its log line has the numbers of that piece
 pub one_piece : ReadsStayInOnePiece
 one_piece steps read same =
     let q = scores read.encoding read.qual in

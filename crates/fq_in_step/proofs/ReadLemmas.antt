@@ -159,6 +159,7 @@ letter_first mark (i ∷ is) xs other all =
     ne_eqb (get_or xs i 0) mark (λ e. both_ways (is_letter mark) other (ap is_letter (sym e)
     ∙ letter))
 
+-- a read whose bases are letters is plain, if its title doesn't end in CR
 pub letters_are_plain : LettersArePlain
 letters_are_plain steps read same title letters =
     let all = hold_at is_letter read.seq (kept_places steps read) (kept_below_read steps read same)

@@ -236,6 +236,7 @@ all_counted check e steps (m ∷ ms) t are =
           pair.reverse.lawful.same_len rest.reverse;
     }
 
+-- the bases removed at each end are counted as the log lines have them
 pub removed_as_logged : BasesAreRemovedAsLogged
 removed_as_logged check e steps ms are =
     let counted = all_counted check e steps ms no_tally are in (

@@ -26,6 +26,7 @@ use Rattle.fq_in_step.proofs.CountLemmas.{bit, one_more}
 
 -- Sums of rows.
 
+-- one more number in front is added to the sum
 pub sum-cons : (x : ℕ) (xs : List ℕ) → sum (x ∷ xs) ≡ x + sum xs
 sum-cons x xs = sum_by-cons (λ (n : ℕ). n) x xs
 
@@ -145,6 +146,7 @@ once n m c way = ⊎_elim
     (λ one. ap length one.dropped ∙ ap (λ (x : Bool). cond x 0 1) (sym one.gone))
     way
 
+-- a read that survives is dropped by no step, and any other read by exactly one
 pub dropped_once : ReadsAreDroppedOnce
 dropped_once steps read some same =
     once 0 (length steps) (course (alone steps) read) (by_steps steps read (some_step steps some))
@@ -355,6 +357,7 @@ adds_up steps t a b o g all both only c same_a same_b same_o =
       all = omega arith;
     }
 
+-- on each side the dropped reads and the survivors add up to the reads before trimming
 pub reports_add_up : ReportsAddUp
 reports_add_up check e steps ms are some few =
     let start : BothSides steps no_tally 0 0 0 0 = record {

@@ -243,12 +243,14 @@ side_lengths t side = record {
   unpaired = all_lengths t.unpaired t.positions.unpaired side.unpaired_both.lengths;
 }
 
+-- each list of a report adds up to its total, if that is below the largest number of 64 bits
 pub lists_add_up : ReportListsAddUp
 lists_add_up check e steps ms are =
     let sides = all_more check e steps ms no_tally are no_reads_yet in
     let t = fold (with_pair (alone steps)) no_tally ms in
     (side_sums t.forward sides.forward, side_sums t.reverse sides.reverse)
 
+-- each list by position is as long as the longest read, but has at most 10,001 items
 pub lists_are_as_long : ReportListsAreAsLong
 lists_are_as_long check e steps ms are =
     let sides = all_more check e steps ms no_tally are no_reads_yet in

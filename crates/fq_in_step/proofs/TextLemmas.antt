@@ -153,6 +153,7 @@ taken_are_pairs check e (m ∷ ms) all = subst (All (IsPairIn check e))
     (m ∷ take_while (belong check) ms) [] is)) (All-nil (IsPairIn check e)))
     (cases_Bool (belong check m)))
 
+-- inputs give pairs of valid reads, whose names match if names are checked
 pub inputs_give_pairs : InputsGivePairs
 inputs_give_pairs TwoTexts check e forward reverse =
     taken_are_pairs check e (mates_of (records e forward).reads (records e reverse).reads)

@@ -35,6 +35,7 @@ have_taken old new texts failed took empty out outlet is =
     has_taken (outlet_at out old) (outlet_at out new) (texts out) _ (took out)
     (λ o at. empty out o at) outlet is
 
+-- if a run trimmed all pairs, what its outlets took is in step with its counts
 pub whole_runs : WholeRunsAreInStep
 whole_runs c run trimmed empty =
     let ms = (all_pairs c run).mates in
@@ -59,6 +60,7 @@ nothing_failed (FlushFailed out) n few many = let h = few out refl in absurd (om
 nothing_failed (WriteFailed out sent block) n few many = let h = few out refl in
     absurd (omega arith)
 
+-- at each ending but `Lane`, what outlets took of complete blocks is in step with the counts
 pub endings : EndingsAreInStep
 endings c run every told empty =
     let all = (all_pairs c run).mates in

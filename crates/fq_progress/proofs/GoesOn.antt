@@ -242,12 +242,14 @@ by_caller p s run kept drains e ph =
 by_caller p s run kept awaits_dealer e ph = inr (joins_dealer p s kept e ph)
 by_caller p s run kept (awaits_workers k) e ph = joins_workers p s k run e ph
 
+-- what holds in every state of a run still holds after any moves that can be made
 pub kept_all : (p : Run) (s : State) (moves : List Move) → IsRun p → IsKept p s →
     AreMoves p s moves → IsKept p (after_all p s moves)
 kept_all p s [] run kept are = kept
 kept_all p s (m ∷ ms) run kept are = kept_all p (after p s m) ms run (keeps p s m run kept are.0)
     are.1
 
+-- every state that a run can reach is its end, or some thread has a move
 pub never_stuck : NeverStuck
 never_stuck p moves run are =
     let s = after_all p start moves in

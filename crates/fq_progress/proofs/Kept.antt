@@ -15,6 +15,7 @@ in_hand (answers r) = 1
 in_hand empties = 0
 in_hand left = 0
 
+-- a stop is among the replies
 abbrev pub has_stop : List Reply → Bool
 has_stop [] = false
 has_stop (texts ∷ rs) = has_stop rs
@@ -29,6 +30,7 @@ in_seat q = length q.replies + in_hand q.doing + q.blocks
 pub record Holds (written dealt : ℕ) (q : Seat) : Type 0 where
   pub most : written + in_seat q ≤ dealt
   pub all : (has_stop q.replies ≡ true) ⊎ (dealt ≤ written + in_seat q)
+  -- a worker that empties its lane has a stop among its replies
   pub stopped : q.doing ≡ empties → has_stop q.replies ≡ true
 
 -- A worker leaves after its lane is closed, and the collector gets its mark after it has left.
@@ -42,13 +44,16 @@ IsQuiet q = (q.doing ≡ left) ⊎ ((q.doing ≡ takes) × (q.blocks ≡ 0))
 
 -- Of all.
 
+-- each seat has the blocks of its share whose reply was not taken, unless it has a stop
 abbrev pub HoldAll : Run → ℕ → ℕ → (ℕ → Seat) → Type 0
 HoldAll p written dealt seats = (i : ℕ) → i < p.workers →
     Holds (share p.workers written i) (share p.workers dealt i) (seats i)
 
+-- each worker leaves after its lane of blocks is closed, and its mark is taken after that
 abbrev pub CloseAll : Run → Dealer → (ℕ → Seat) → Type 0
 CloseAll p dealer seats = (i : ℕ) → i < p.workers → Closes (closed_lanes dealer) i (seats i)
 
+-- each worker has nothing to do but to find the mark
 abbrev pub AreQuiet : Run → (ℕ → Seat) → Type 0
 AreQuiet p seats = (i : ℕ) → i < p.workers → IsQuiet (seats i)
 
@@ -62,6 +67,7 @@ abbrev pub DealsNoMore : Dealer → Bool → Type 0
 DealsNoMore dealer item = ((dealer ≡ awaits_start) × (item ≡ false)) ⊎ ((k : ℕ)
     × (dealer ≡ closes k))
 
+-- what holds while this is what the calling thread does next
 abbrev pub Phase : Run → State → Caller → Type 0
 Phase p s begins = s ≡ start
 Phase p s closes_start = IsUnderWay p s.dealer s.start_item × HoldAll p s.written s.dealt s.seats
@@ -74,6 +80,7 @@ Phase p s (awaits_workers k) =
     (s.dealer ≡ closes p.workers) × AreQuiet p s.seats × (k ≤ p.started) × ((i : ℕ) → i < k →
     (s.seats i).doing ≡ left)
 
+-- what holds in every state that a run reaches
 pub record IsKept (p : Run) (s : State) : Type 0 where
   pub deal_turn : s.deal_turn ≡ turn_at p.workers s.dealt
   pub turn : s.turn ≡ turn_at p.workers s.written
@@ -83,6 +90,7 @@ pub record IsKept (p : Run) (s : State) : Type 0 where
 
 -- The start.
 
+-- it holds at the start
 pub kept_start : (p : Run) → IsKept p start
 kept_start p = record {
   deal_turn = refl;
@@ -393,6 +401,7 @@ takes_from p s c j q kept ends ph = record {
 
 -- All moves.
 
+-- and it still holds after every move that can be made
 pub keeps : (p : Run) (s : State) (m : Move) → IsRun p → IsKept p s → May p s m →
     IsKept p (after p s m)
 keeps p s put_start run kept may =

@@ -10,6 +10,7 @@ pub one_less : (rs : List Reply) → 0 < length rs → suc (length (drop 1 rs)) 
 one_less [] h = absurd (omega arith)
 one_less (r ∷ rs) h = refl
 
+-- a lane that has a next reply is not empty
 pub some_reply : (r : Reply) (rs : List Reply) → next_reply rs ≡ Some r → 0 < length rs
 some_reply r [] e = cc
 some_reply r (x ∷ rs) e = omega arith
@@ -44,6 +45,7 @@ seat_less : (p : Run) (j : ℕ) (q : Seat) (seats : ℕ → Seat) → j < p.work
     p.workers seats
 seat_less p j q seats within less = omega (arith, left_changed p.workers j q seats within)
 
+-- every move, in any state, leaves less to be done
 pub leaves_less : MovesLeaveLess
 leaves_less p s put_start run may = omega (arith, ap (caller_left p) may.0)
 leaves_less p s give_up run may = omega (arith, ap (caller_left p) may.0)
@@ -143,5 +145,6 @@ new_seats : (n : ℕ) → seats_left n start.seats ≡ 2 * n
 new_seats zero = refl
 new_seats (suc n) = omega (arith, new_seats n)
 
+-- a run has at most 4 moves a block, 3 a worker, 1 a started thread of these, and 8 more
 pub short : RunsAreShort
 short p moves run are = omega (arith, runs_down p start moves run are, new_seats p.workers)

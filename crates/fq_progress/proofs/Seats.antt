@@ -14,10 +14,12 @@ each_by : (P : ℕ → Seat → Type 0) (j : ℕ) (q : Seat) (seats : ℕ → Se
 each_by P j q seats i true e here away = subst (λ k. P k q) (sym (eqb-true i j e)) here
 each_by P j q seats i false e here away = away (eqb-false i j e)
 
+-- what holds of the changed seat, and of the old ones at other numbers, holds at each number
 pub changed_each : (P : ℕ → Seat → Type 0) (j : ℕ) (q : Seat) (seats : ℕ → Seat) → P j q →
     ((i : ℕ) → (i ≡ j → ⊥) → P i (seats i)) → (i : ℕ) → P i (changed j q seats i)
 changed_each P j q seats here away i = each_by P j q seats i (i == j) refl here (away i)
 
+-- what holds of the changed seat, and of each old one, holds at each number
 pub changed_all : (P : ℕ → Seat → Type 0) (j : ℕ) (q : Seat) (seats : ℕ → Seat) → P j q →
     ((i : ℕ) → P i (seats i)) → (i : ℕ) → P i (changed j q seats i)
 changed_all P j q seats here all = changed_each P j q seats here (λ i other. all i)

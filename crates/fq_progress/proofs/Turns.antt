@@ -17,6 +17,7 @@ abbrev pub share : ℕ → ℕ → ℕ → ℕ
 share workers zero j = 0
 share workers (suc n) j = share workers n j + bit (j == turn_at workers n)
 
+-- each block goes to one of the workers
 pub turn_below : (workers n : ℕ) → 1 ≤ workers → turn_at workers n < workers
 turn_below workers zero some = omega arith
 turn_below workers (suc n) some = omega arith
@@ -27,10 +28,12 @@ bit_same j = grind (arith, nat_tests)
 bit_other : (i j : ℕ) → (i ≡ j → ⊥) → bit (i == j) ≡ 0
 bit_other i j other = grind (arith, nat_tests)
 
+-- the worker of the next block has one more in its share
 pub share_here : (workers n : ℕ) → share workers (suc n) (turn_at workers n) ≡ suc
     (share workers n (turn_at workers n))
 share_here workers n = omega (arith, bit_same (turn_at workers n))
 
+-- any other worker has no more in its share
 pub share_away : (workers n j : ℕ) → (j ≡ turn_at workers n → ⊥) →
     share workers (suc n) j ≡ share workers n j
 share_away workers n j other = omega (arith, bit_other j (turn_at workers n) other)

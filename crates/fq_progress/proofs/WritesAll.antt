@@ -17,8 +17,10 @@ is_calm left = true
 
 -- a seat with no stop
 record IsCalm (q : Seat) : Type 0 where
+  -- the worker neither puts a stop nor empties its lane
   pub doing : is_calm q.doing ≡ true
   pub replies : has_stop q.replies ≡ false
+  -- a worker that has left has no blocks in its lane
   pub empty : q.doing ≡ left → q.blocks ≡ 0
 
 -- once the dealer has stopped reading, all blocks were dealt
@@ -39,6 +41,7 @@ Written p (awaits_workers k) written = written ≡ p.blocks
 
 record IsSound (p : Run) (s : State) : Type 0 where
   pub calm : (i : ℕ) → i < p.workers → IsCalm (s.seats i)
+  -- the start item was put, unless the calling thread is about to put it
   pub begun : (s.caller ≡ begins) ⊎ (s.start_item ≡ true)
   pub dealt : Dealt p s.dealer s.dealt
   pub written : Written p s.caller s.written
@@ -272,6 +275,7 @@ ended_from p s (m ∷ ms) run all kept sound are none =
     ended_from p (after p s m) ms run all (keeps p s m run kept are.0)
     (stays_sound p s m run all kept sound are.0 none.0) are.1 none.1
 
+-- without a failure, and with all threads, a run that has ended has written every block
 pub writes_all_blocks : AllIsWritten
 writes_all_blocks p moves run all are none ended =
     let s = after_all p start moves in

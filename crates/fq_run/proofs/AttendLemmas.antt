@@ -153,5 +153,6 @@ module _ {S : Type 0} (state : S → SourceState) (c : Choices) (s : SourceState
           every = λ sound. absurd (sound lane);
         }
 
+    -- what is promised of a run on several threads holds if all its threads were started
     pub threaded : IsThreaded c the_run ending.unended ending.refused
     threaded = by_end ending.unended refl

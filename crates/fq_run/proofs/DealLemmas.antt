@@ -9,6 +9,7 @@ use Rattle.fq_run.specs.Shares.{every, dealt_to, deal, gather_turns, gather, tot
 pub next_wraps : (n w : ℕ) → 0 < w → suc (n % w) ≡ w → suc n % w ≡ 0
 next_wraps n w pos e = suc-mod n w ∙ ap (λ k. k % w) e ∙ mod_self w
 
+-- it is the next number, if that is below w
 pub next_within : (n w : ℕ) → suc (n % w) < w → suc n % w ≡ suc (n % w)
 next_within n w lt = suc-mod n w ∙ mod-eq_of_lt lt
 
@@ -71,6 +72,7 @@ module _ {T : Type 0} where
       ∙ ap (λ ys. x ∷ ys) (ap (λ k. gather_turns (length xs)
       (dealt_to n (suc n) xs ++ every k (suc n) xs ∷ [])) l ∙ gathered xs n)
 
+  -- a list that is dealt out and gathered again is as it was
   pub gather-deal : (xs : List T) (w : ℕ) → 0 < w → gather (deal xs w) ≡ xs
   gather-deal xs zero pos = absurd (omega arith)
   gather-deal xs (suc n) pos = ap (λ k. gather_turns k (deal xs (suc n))) (total_dealt xs n)
@@ -162,6 +164,7 @@ module _ {T : Type 0} where
       let rest = prefix_from_turns xs ys w pos pre' in
       (rest.0, ap (λ z. z ∷ (xs ++ rest.0)) head ∙ ap (λ zs. y ∷ zs) rest.1)
 
+-- what is dealt of mapped members is what is dealt of the members, mapped
 pub every-map : {A B : Type 0} (f : A → B) (k w : ℕ) (xs : List A) →
     every k w (map f xs) ≡ map f (every k w xs)
 every-map f k w [] = refl

@@ -6,6 +6,7 @@ use Rattle.fq_run.specs.Each.{Each3}
 use Rattle.fq_run.specs.lanes.Laying.{fresh}
 
 module _ {A B : Type 0} (R : A → B → Type 0) where
+  -- what holds at each index of two lists still holds after a member is added to each
   pub zip_push : (xs : List A) (ys : List B) (x : A) (y : B) → AllZip R xs ys → R x y →
       AllZip R (xs ++ x ∷ []) (ys ++ y ∷ [])
   zip_push [] [] x y h r = (r, tt)
@@ -13,6 +14,7 @@ module _ {A B : Type 0} (R : A → B → Type 0) where
   zip_push (a ∷ xs) [] x y h r = absurd h
   zip_push (a ∷ xs) (b ∷ ys) x y h r = (h.0, zip_push xs ys x y h.1 r)
 
+  -- `zip_push`, if the second list with its new member is known by an equation
   pub zip_pushed : (xs : List A) (ys zs : List B) (x : A) (y : B) → AllZip R xs ys → R x y →
       zs ≡ ys ++ y ∷ [] → AllZip R (xs ++ x ∷ []) zs
   zip_pushed xs ys zs x y h r e = subst (AllZip R (xs ++ x ∷ [])) (sym e) (zip_push xs ys x y h r)
@@ -27,6 +29,7 @@ module _ {A B C : Type 0} (R : A → B → C → Type 0) where
   each3_push (a ∷ xs) [] zs x y z h r = absurd h
   each3_push (a ∷ xs) (b ∷ ys) [] x y z h r = absurd h
 
+  -- what holds at each index of three lists still holds after a member is added to each
   pub each3_pushed : (xs xs' : List A) (ys ys' : List B) (zs zs' : List C) (x : A) (y : B) (z : C) →
       Each3 R xs ys zs → R x y z → xs' ≡ xs ++ x ∷ [] → ys' ≡ ys ++ y ∷ [] → zs' ≡ zs ++ z ∷ [] →
       Each3 R xs' ys' zs'
@@ -55,6 +58,7 @@ fresh_is {T = T} l n p q r =
     ∙ ap (λ xs. let k : History T = record { name = n; items = xs; marked = l.marked } in k) q
     ∙ ap (λ b. let k : History T = record { name = n; items = []; marked = b } in k) r
 
+-- what holds of a result, unless it is an error, may be weakened
 pub weaker : {A E : Type 0} (P Q : A → Type 0) → ((x : A) → P x → Q x) → (r : Result A E) →
     IfOk r P → IfOk r Q
 weaker P Q f (Ok x) h = f x h

@@ -141,6 +141,7 @@ module _ (c : Choices) (run : Run) (e : run.outcome ≡ outcome.Spawn) (none : r
     };
   }
 
+  -- what is promised of a run on several threads holds if a thread was refused
   pub unstarted : IsThreaded c run None None
   unstarted = record {
     lane = λ at. absurd (apart run e outcome.Lane (λ q. cc) at);

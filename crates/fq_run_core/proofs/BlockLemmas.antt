@@ -25,12 +25,14 @@ use Rattle.fq_pair.proofs.SideLemmas.{walked_records}
 module _ (c : Choices) (old : SourceState) (before : OutletStates) where
   -- complete blocks were read and written
   pub record Wrote (now : SourceState) (after : OutletStates) (counted : Total) : Type 0 where
+    -- the pairs of these blocks
     pub whole : List Mates
     pub counts : counted ≡ total_of c.tallied c.steps whole
     pub walks : Walks old now whole
     pub took : OutletsTook before after (λ out. text_of out (texts_of c.steps whole)) None
     pub goes : GoesOn now
 
+  -- before the first block nothing is read or written, and the total is that of no pairs
   pub wrote_none : (counted : Total) → GoesOn old → counted ≡ no_total c.tallied →
       Wrote old before counted
   wrote_none counted goes none = record {

@@ -15,9 +15,11 @@ use Rattle.fq_pair.proofs.TakenLemmas.{front_takes, front_fewer, one_record}
 use Rattle.fq_run_core.proofs.FrontLemmas.{met_more, interleaved_met_more, meets_interleaved}
 
 module _ (check : Bool) (e : Encoding) where
+  -- the pairs of the lines of two texts, after n pairs given
   abbrev pub mates_at : ℕ → List (List ℕ) → List (List ℕ) → List Mates
   mates_at n forward reverse = (pairs_at TwoTexts check e n forward reverse).mates
 
+  -- without forward lines there is no pair
   pub no_forward : (n : ℕ) (reverse : List (List ℕ)) → mates_at n [] reverse ≡ []
   no_forward n reverse = by_front (front e reverse) refl
     where
@@ -31,6 +33,7 @@ module _ (check : Bool) (e : Encoding) where
       by_front (Found r rs) is = ap (λ (p : Pairs). p.mates)
           (pairs_of-stopped check e n [] reverse _ (ap (meeting check (suc n) End) is))
 
+  -- without reverse lines there is no pair
   pub no_reverse : (n : ℕ) (forward : List (List ℕ)) → mates_at n forward [] ≡ []
   no_reverse n forward = by_front (front e forward) refl
     where
@@ -99,9 +102,11 @@ module _ (check : Bool) (e : Encoding) where
 
 -- An interleaved text.
 module _ (check : Bool) (e : Encoding) where
+  -- the pairs of the lines of an interleaved text, after n pairs given
   abbrev pub interleaved_at : ℕ → List (List ℕ) → List Mates
   interleaved_at n ls = (pairs_at InterleavedText check e n ls ls).mates
 
+  -- without lines there is no pair
   pub no_interleaved : (n : ℕ) → interleaved_at n [] ≡ []
   no_interleaved n = ap (λ (p : Pairs). p.mates) (interleaved_pairs_of-ended check e n [] refl)
 
@@ -138,6 +143,7 @@ module _ (check : Bool) (e : Encoding) where
         (interleaved_pairs_of-met check e n x ls fs rs is) in
         omega arith
 
+    -- `at_most` for one text: its first lines have at most as many pairs as `ms`
     pub interleaved_at_most : (n : ℕ) (ms : List Mates) (ls same ls' same' : List (List ℕ)) →
         Leads InterleavedText check e n ms (ls ++ more) same ls' same' →
         InterleavedNone (n + length ms) ls' → length (interleaved_at n ls) ≤ length ms

@@ -45,8 +45,10 @@ counted_same f x ms ns same never is = ⊎_elim (λ now. now ∙ ap f same) (λ 
 -- pairs were read and written, and the outlets flushed
 pub record Closes (c : Choices) (old new : SourceState) (before after : OutletStates)
     (counted : Total) (halt : Halt) (why : Option ReadingEnd) (broken : Option Out) : Type 0 where
+  -- the pairs whose block was written completely
   pub whole : List Mates
   pub fate : Fate
+  -- the pairs that were read after these, and of which no text was written
   pub missed : List Mates
   pub counts : IsCounted c whole halt why counted
   pub reads : Reads old new ((whole ++ block_begun fate) ++ missed) why
@@ -55,8 +57,11 @@ pub record Closes (c : Choices) (old new : SourceState) (before after : OutletSt
   pub failed : broken ≡ failed_outlet fate
   pub flushed : broken ≡ None → AreFlushed after
   pub cut_short : IsCutShort c.block_pairs c.steps fate
+  -- reading stopped, or an outlet failed
   pub over : why ≡ None → broken ≡ None → ⊥
+  -- if a flush failed, reading had stopped
   pub stopped : is_flush fate ≡ true → why ≡ None → ⊥
+  -- if no worker stopped, and no write failed, all pairs that were read were written
   pub missed_none : halt ≡ no_halt → block_begun fate ≡ [] → missed ≡ []
 
 module _ (c : Choices) (old new : SourceState) (before mid after : OutletStates) (counted : Total)
@@ -139,6 +144,7 @@ module _ (c : Choices) (old new : SourceState) (before mid after : OutletStates)
             omega arith);
       }
 
+  -- flushes add no text after the last write, and a failed one is the fate if no write had failed
   pub closes : (broken failed : Option Out) → Passes c old new before mid counted halt why broken →
       FlushesAfter broken mid after failed → Closes c old new before after counted halt why failed
   closes broken failed p q = by_fate p.fate broken failed p.whole p.missed p.counts p.reads p.took
@@ -383,5 +389,6 @@ module _ (form : Form) (c : Choices) (f r : FeedState) (new : SourceState)
       cc) None (reads_end form c f r new all_read (reads_at reading.End there) told.forward
       told.reverse) is
 
+  -- all pairs are trimmed if the outcome is `Finished`, or a fault in the input
   pub trimmed : IsTrue (ends_whole o) → AreTold run → IsTrimmed c run
   trimmed ends told = trimmed_by v ends told

@@ -72,11 +72,15 @@ met_more check e n m forward reverse fs rs more more' is =
 -- two records that make a pair, one after the other
 pub record MeetsInterleaved (check : Bool) (e : Encoding) (m : Mates) (fs rs : List (List ℕ))
     (x : Front) : Type 0 where
+  -- the forward record
   pub f : Read
+  -- the reverse record
   pub r : Read
+  -- the lines after the forward record
   pub ls : List (List ℕ)
   pub first : x ≡ Found f ls
   pub second : front e ls ≡ Found r fs
+  -- the lines after the pair are left to both sides
   pub same : rs ≡ fs
   pub together : belong check (mates_in f r) ≡ true
   pub pair : mates_in f r ≡ m
@@ -107,6 +111,7 @@ found_interleaved check e n m f r ls qs fs rs second is = ⊎_elim
     (Stopped (NamesDiffer n)) apart) ∙ is in cc))
     (cases_Bool (belong check (mates_in f r)))
 
+-- if a pair comes first in an interleaved text, so do the two records that make it
 pub meets_interleaved : (check : Bool) (e : Encoding) (n : ℕ) (m : Mates) (fs rs : List (List ℕ))
     (x : Front) → interleaved_meeting check e n x ≡ Met m fs rs → MeetsInterleaved check e m fs rs x
 meets_interleaved check e n m fs rs End is = absurd cc

@@ -25,6 +25,7 @@ pub err_says : {T E : Type 0} (r : Result T E) (refused : Bool) (P : Type 0) →
 err_says (Ok x) refused P is yes_is p = absurd (let e = sym is ∙ yes_is in cc)
 err_says (Err x) refused P is yes_is p = p
 
+-- what a call guarantees if memory was not refused
 pub ok_says : {T E : Type 0} (r : Result T E) (refused : Bool) (P : Type 0) → refused ≡ is_err r →
     refused ≡ false → OnOk r P → P
 ok_says (Ok x) refused P is no_is p = p
@@ -35,11 +36,13 @@ pub record Gathered (old now : SourceState) (tallied : Bool) (steps : List Step)
     (n : ℕ) : Type 0 where
   pub block : List Mates
   pub len : length block ≡ n
+  -- the texts and the tally are those of these pairs
   pub made : gathered ≡ made_of tallied steps gathered.number block
   pub walks : Walks old now block
   pub goes : GoesOn now
 
 module _ (tallied : Bool) (steps : List Step) where
+  -- before the first pair the texts and the tally are those of no pairs
   pub gathered_none : (s : SourceState) (done : Done) → GoesOn s →
       done ≡ made_of tallied steps done.number [] → Gathered s s tallied steps done 0
   gathered_none s done goes clear = record {
@@ -51,6 +54,7 @@ module _ (tallied : Bool) (steps : List Step) where
     goes = goes;
   }
 
+  -- one more pair is read, and its texts and its tally are added
   pub gathered_more : (old now next : SourceState) (done then : Done) (n : ℕ) (m : Mates) →
       Gathered old now tallied steps done n → Walks now next (m ∷ []) →
       next.forward.given ≤ next.most_bytes → (forward reverse : Read) → forward ≡ m.forward →
@@ -72,6 +76,7 @@ module _ (tallied : Bool) (steps : List Step) where
         goes = record { last = w.last; within = within };
       }
 
+  -- the texts count as many pairs as were read
   pub gathered_few : (old now : SourceState) (done : Done) (n : ℕ) →
       Gathered old now tallied steps done n → done.texts.counts.pairs ≡ n
   gathered_few old now done n g = ap (λ (d : Done). d.texts.counts.pairs) g.made ∙ g.len
@@ -85,6 +90,7 @@ module _ (tallied : Bool) (steps : List Step) where
       (g : Gathered old now tallied steps done n) → done.tally ≡ tally_if tallied steps g.block
   tally_is old now done n g = ap (λ (d : Done). d.tally) g.made
 
+  -- the block is full, and reading goes on
   pub gathers_full : (old now : SourceState) (done : Done) (n most : ℕ) → n ≡ most →
       Gathered old now tallied steps done n → Gathers old now tallied steps most done None
   gathers_full old now done n most full g = let len = g.len in record {
@@ -111,18 +117,21 @@ module _ (tallied : Bool) (steps : List Step) where
     goes = λ going. absurd cc;
   }
 
+  -- the end of the input was found before the block was full
   pub gathers_end : (old now next : SourceState) (done : Done) (n most : ℕ) → n < most →
       Gathered old now tallied steps done n → MeetsEnd now next →
       Gathers old next tallied steps most done (Some reading.End)
   gathers_end old now next done n most room g e =
       gathers_stopped old now next done n most reading.End room g (now, g.walks, e)
 
+  -- a fault was found before the block was full
   pub gathers_fault : (old now next : SourceState) (done : Done) (n most : ℕ) (why : InputFault) →
       n < most → Gathered old now tallied steps done n → MeetsFault now next why →
       Gathers old next tallied steps most done (Some (reading.Fault why))
   gathers_fault old now next done n most why room g e =
       gathers_stopped old now next done n most (reading.Fault why) room g (now, g.walks, e)
 
+  -- memory for one more pair was refused: that pair is lost, and the block is as it was
   pub gathers_refused : (old now next : SourceState) (done then : Done) (n most : ℕ) (m : Mates) →
       n < most → Gathered old now tallied steps done n → Walks now next (m ∷ []) →
       then ≡ done → Gathers old next tallied steps most then (Some reading.Memory)
@@ -158,6 +167,7 @@ pub end_is : (why : Option ReadingEnd) (there : Bool) → there ≡ is_some why 
 end_is None there is yes_is none = let e = sym is ∙ yes_is in cc
 end_is (Some s) there is yes_is none = cc
 
+-- if reading did not stop, there is no reason why it did
 pub end_none : (why : Option ReadingEnd) (there : Bool) → there ≡ is_some why → there ≡ false →
     why ≡ None
 end_none None there is no_is = refl

@@ -18,10 +18,12 @@ took_nothing o = record {
       omega arith;
 }
 
+-- an outlet that is as it was took nothing, and so did one that is left out
 pub took_none : (o : Option OutletState) → Took o o [] 0
 took_none None = refl
 took_none (Some o) = took_nothing o
 
+-- outlets that are as they were took nothing, and none failed
 pub all_took_none : (o : OutletStates) → OutletsTook o o (λ out. []) None
 all_took_none o out = took_none (outlet_at out o)
 
@@ -46,6 +48,7 @@ took_both (Some a) None c s t n p q = absurd p
 took_both (Some a) (Some b) None s t n p q = absurd q
 took_both (Some a) (Some b) (Some c) s t n p q = took_then a b c s t n p q
 
+-- outlets that took one text and then another took the two joined
 pub all_took_then : (a b c : OutletStates) (s t : Out → List ℕ) (failed : Option Out) →
     OutletsTook a b s None → OutletsTook b c t failed →
     OutletsTook a c (λ out. s out ++ t out) failed
@@ -56,6 +59,7 @@ all_took_then a b c s t failed p q out = took_both (outlet_at out a) (outlet_at 
 took_same : (a b : Option OutletState) (s t : List ℕ) (n : ℕ) → s ≡ t → Took a b s n → Took a b t n
 took_same a b s t n is p = let P : List ℕ → Type 0 = λ xs. Took a b xs n in subst P is p
 
+-- what outlets took may be exchanged for equal texts
 pub all_took_same : (a b : OutletStates) (s t : Out → List ℕ) (failed : Option Out) →
     ((out : Out) → s out ≡ t out) → OutletsTook a b s failed → OutletsTook a b t failed
 all_took_same a b s t failed is p out = took_same (outlet_at out a) (outlet_at out b) (s out)
@@ -84,6 +88,7 @@ module _ (old new : OutletStates) (texts : Outputs) where
         ];
       }
 
+  -- a write that broke at an outlet keeps its promise if it returns that outlet
   pub broken : (failed : Out) (r : Result (Unit {0}) Out) → r ≡ Err failed →
       BreaksAt old new texts failed → Sends old new texts r
   broken failed r is p = let P : Result (Unit {0}) Out → Type 0 = λ s. Sends old new texts s in
@@ -101,6 +106,7 @@ still_log None (Some b) s sound p = absurd p
 still_log (Some a) None s sound p = absurd p
 still_log (Some a) (Some b) s sound p = still a b s sound p
 
+-- if no outlet had failed before a call, and none failed in it, none has failed
 pub still_healthy : (a b : OutletStates) (s : Out → List ℕ) → AreHealthy a →
     OutletsTook a b s None → AreHealthy b
 still_healthy a b s h p = record {

@@ -45,6 +45,7 @@ passes_refused c old o counted goes none = record {
     no_more : (out : Out) → text_of out (texts_of c.steps []) ++ [] ≡ []
     no_more out = let e = no_text c.steps out in rw e refl
 
+-- a run to which memory was refused before the first pair has read and written nothing
 pub runs_refused : (form : Form) (c : Choices) (f r f' r' : FeedState) (o : OutletStates)
     (counted : Total) → f' ≡ f → r' ≡ r → counted ≡ no_total false →
     Runs form c f r f' r' o o counted no_halt (Some reading.Memory) None
@@ -58,6 +59,7 @@ runs_refused form c f r f' r' o counted same also none =
           also;
     }
 
+-- `nothing_written` is the right result if the source and the outlets are as they were
 pub passes_unasked : (c : Choices) (old : SourceState) (o : OutletStates) (total : Total)
     (w : Written) → old.last ≡ None → w ≡ nothing_written → total ≡ w.total →
     Passes c old old o o total no_halt w.why w.failed
@@ -65,6 +67,7 @@ passes_unasked c old o total w goes is same =
     let P : Written → Type 0 = λ x. Passes c old old o o total no_halt x.why x.failed in
     subst P (sym is) (passes_refused c old o total goes (same ∙ ap (λ (x : Written). x.total) is))
 
+-- `nothing_written` is the right result of a run if its feeds and outlets are as they were
 pub runs_nothing : (form : Form) (c : Choices) (f r f' r' : FeedState) (o : OutletStates)
     (w : Written) → w ≡ nothing_written → f' ≡ f → r' ≡ r →
     Runs form c f r f' r' o o w.total no_halt w.why w.failed

@@ -58,6 +58,7 @@ module _ (c : Choices) (f : FeedState) (s : SideState) (n : ℕ)
   fed_length told = let fits = d.size told in length-take-le (s.taken - 0) f.to_come fits
       ∙ omega arith
 
+  -- the bytes that the feed gave are those that the source took from it
   pub gave_is : IsTrue f.tells → gave f (feed_in s) ≡ fed (fresh_side c f) s
   gave_is told =
       let all = ap length (d.bytes told) in
@@ -66,9 +67,11 @@ module _ (c : Choices) (f : FeedState) (s : SideState) (n : ℕ)
       omega (arith, length-append (fed (fresh_side c f) s) s.to_come) in
       ap (λ k. take k f.to_come) same
 
+  -- the feed gave as many bytes as the source counted
   pub gave_length : IsTrue f.tells → length (gave f (feed_in s)) ≡ s.taken
   gave_length told = ap length (gave_is told) ∙ fed_length told
 
+  -- the feed that is handed back has the other bytes still to come, and failed n times
   pub fed_back : Fed f (feed_in s) n
   fed_back = record {
     told = d.told;
@@ -165,6 +168,7 @@ module _ (form : Form) (c : Choices) (f r : FeedState) where
   failed_as m old new side why is d = let P : Form → Type 0 =
       λ o. Draws old new (failed_at o side (faulty why)) in subst P is d
 
+  -- the forward feed gave bytes, and failed as often as the reason why reading stopped implies
   pub reads_forward : (s : SourceState) (ms : List Mates) (why : Option ReadingEnd) →
       Reads (fresh_source form c f r) s ms why →
       Draws (fresh_side c f) s.forward (failed_by form Forward why)
@@ -176,6 +180,7 @@ module _ (form : Form) (c : Choices) (f r : FeedState) where
       (failed_as m m.forward s.forward Forward x same.form e.forward)
   reads_forward s ms (Some reading.Memory) p = let w = p.1 in w.forward
 
+  -- the reverse feed gave bytes, and failed as often as the reason why reading stopped implies
   pub reads_reverse : (s : SourceState) (ms : List Mates) (why : Option ReadingEnd) →
       Reads (fresh_source form c f r) s ms why →
       Draws (fresh_side c r) s.reverse (failed_by form Reverse why)
@@ -286,6 +291,7 @@ module _ (c : Choices) (f r : FeedState) where
       (lines_left (fresh_side c f) m.forward s.forward _ w.forward e.forward tf (w.forward_used tf)
       fs first))
 
+  -- if reading was cut short, the complete lines that came have at most the pairs that were read
   pub reads_cut : (form : Form) (s : SourceState) (ms : List Mates) (why : InputFault) →
       Reads (fresh_source form c f r) s ms (Some (reading.Fault why)) → is_cut_short why ≡ true →
       IsTrue f.tells → IsTrue r.tells →

@@ -58,12 +58,15 @@ module _ (form : Form) (c : Choices) (f r f' r' : FeedState) (before mid : Outle
     judged = let P : Outcome → Type 0 = λ x. Verdict halt why failed x in let d = closed in
         subst P (sym is) (verdict halt why failed d.over)
 
+    -- the outcome is not `Spawn` or `Lane`
     pub run_rank : 3 ≤ rank o
     run_rank = least halt why failed o judged
 
+    -- if no worker stopped, it is not `Gate` either
     pub serial_rank : halt ≡ no_halt → 4 ≤ rank o
     serial_rank sound = is_serial halt why failed o sound judged
 
+    -- what holds at every ending holds of this run
     pub run_every : EveryEnding c (run_with f' r')
     run_every =
         let new = p.new in
@@ -72,6 +75,7 @@ module _ (form : Form) (c : Choices) (f r f' r' : FeedState) (before mid : Outle
         subst P (sym p.forward) (subst Q (sym p.reverse) (every form c f r p.new before after
         counted halt why failed o closed judged sound sound'))
 
+    -- if this run ends at the end of the input, or at a fault in it, it has trimmed all pairs
     pub run_whole : IsTrue (ends_whole o) → AreTold (run_with f' r') → IsTrimmed c (run_with f' r')
     run_whole ends told =
         let new = p.new in

@@ -15,6 +15,7 @@ module _ (steps : List Step) (ms ns : List Mates) where
   counts_then : counts_of steps (ms ++ ns) ≡ sum_of (counts_of steps ms) (counts_of steps ns)
   counts_then = ap (λ (t : Outputs). t.counts) (texts_of-append steps ms ns)
 
+  -- the texts of one list of pairs and then another are the texts of each, joined
   pub text_then : (out : Out) → text_of out (texts_of steps (ms ++ ns)) ≡ text_of out
       (texts_of steps ms) ++ text_of out (texts_of steps ns)
   text_then ForwardPaired = ap (λ (t : Outputs). t.forward_paired) (texts_of-append steps ms ns)

@@ -23,6 +23,7 @@ no_tally_is : (tallied : Bool) (steps : List Step) →
 no_tally_is true steps = refl
 no_tally_is false steps = refl
 
+-- the total of no pairs is the same whatever the steps are
 pub no_total_is : (tallied : Bool) (steps : List Step) →
     no_total tallied ≡ total_of tallied steps []
 no_total_is tallied steps = ap (λ (t : Option Tally). let x : Total = record {

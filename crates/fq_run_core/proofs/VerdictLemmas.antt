@@ -25,6 +25,7 @@ pub data Kind (why : InputFault) : Type 0 where
   OfEndless : (side : Side) → why ≡ Text side text.Endless → Kind why
   OfMemory : (side : Side) → why ≡ Text side text.OutOfMemory → Kind why
 
+-- each fault is of one of these kinds
 pub kind : (why : InputFault) → Kind why
 kind (Text side text.Read) = OfRead side refl
 kind (Text side text.Endless) = OfEndless side refl
@@ -88,6 +89,7 @@ halt_verdict true memory why failed over = IsRefused refl refl
 halt_verdict false true why failed over = WantsMemory refl
 halt_verdict false false why failed over = sound_verdict why failed over
 
+-- a run in which reading stopped, or an outlet failed, has its outcome for one of these reasons
 pub verdict : (halt : Halt) (why : Option ReadingEnd) (failed : Option Out) →
     (why ≡ None → failed ≡ None → ⊥) → Verdict halt why failed
     (outcome_of (occurred halt why failed))
@@ -116,6 +118,7 @@ inside_none TwoTexts side fault is = inside_one side fault is
 inside_none InterleavedText side fault is = let f = inside_one Forward fault is in let r =
     inside_one Reverse fault is in omega arith
 
+-- the feed of a side failed once if a read call for that side failed
 pub read_once : (form : Form) (side : Side) →
     failed_by form side (Some (reading.Fault (Text side text.Read))) ≡ 1
 read_once TwoTexts Forward = refl
@@ -131,6 +134,7 @@ failed_few InterleavedText side (Text Forward text.Read) = omega arith
 failed_few InterleavedText side (Text Reverse text.Read) = omega arith
 failed_few _ _ _ = omega arith
 
+-- a feed failed at most once
 pub failed_once : (form : Form) (side : Side) (why : Option ReadingEnd) →
     failed_by form side why ≤ 1
 failed_once form side None = omega arith
@@ -141,6 +145,7 @@ failed_once form side (Some (reading.Fault fault)) = failed_few form side fault
 -- What an outcome implies.
 
 module _ (halt : Halt) (why : Option ReadingEnd) (failed : Option Out) (o : Outcome) where
+  -- the outcome is not `Spawn` or `Lane`
   pub least : Verdict halt why failed o → 3 ≤ rank o
   least (IsRefused at is) = let e = ap rank is in omega arith
   least (WantsMemory is) = let e = ap rank is in omega arith
@@ -161,6 +166,7 @@ module _ (halt : Halt) (why : Option ReadingEnd) (failed : Option Out) (o : Outc
   is_serial sound (HasFault fault none going at inside is) = let e = ap rank is in omega arith
   is_serial sound (IsOver none going at is) = let e = ap rank is in omega arith
 
+  -- the outcome is not `Spawn`
   pub not_spawn : Verdict halt why failed o → o ≡ Spawn → ⊥
   not_spawn v is = let e = ap rank is in let n = least v in absurd (omega arith)
 
@@ -176,6 +182,7 @@ module _ (halt : Halt) (why : Option ReadingEnd) (failed : Option Out) (o : Outc
   at_write (HasFault fault none going there inside is) out at = absurd (let e = sym is ∙ at in cc)
   at_write (IsOver none going there is) out at = absurd (let e = sym is ∙ at in cc)
 
+  -- at the outcome `Read` a read call of that side failed, no outlet failed, and no worker stopped
   pub at_read : Verdict halt why failed o → (side : Side) → o ≡ Read side →
       (why ≡ Some (reading.Fault (Text side text.Read))) × (failed ≡ None) × (halt ≡ no_halt)
   at_read (IsRefused there is) side at = absurd (let e = sym is ∙ at in cc)
@@ -188,6 +195,7 @@ module _ (halt : Halt) (why : Option ReadingEnd) (failed : Option Out) (o : Outc
   at_read (HasFault fault none going there inside is) side at = absurd (let e = sym is ∙ at in cc)
   at_read (IsOver none going there is) side at = absurd (let e = sym is ∙ at in cc)
 
+  -- at `Endless` one read call more was too many, no outlet failed, and no worker stopped
   pub at_endless : Verdict halt why failed o → (side : Side) → o ≡ Endless side →
       (why ≡ Some (reading.Fault (Text side text.Endless))) × (failed ≡ None) × (halt ≡ no_halt)
   at_endless (IsRefused there is) side at = absurd (let e = sym is ∙ at in cc)
@@ -215,6 +223,7 @@ module _ (halt : Halt) (why : Option ReadingEnd) (failed : Option Out) (o : Outc
       absurd (let e = sym there ∙ at in cc)
   at_refusal sound at (IsOver none going there is) = absurd (let e = sym there ∙ at in cc)
 
+  -- if an outlet failed, the outcome is `Write` or comes before it in the order of precedence
   pub outlet_first : Verdict halt why failed o → (out : Out) → failed ≡ Some out → rank o ≤ 5
   outlet_first (IsRefused there is) out at = let e = ap rank is in omega arith
   outlet_first (WantsMemory is) out at = let e = ap rank is in omega arith
@@ -225,6 +234,7 @@ module _ (halt : Halt) (why : Option ReadingEnd) (failed : Option Out) (o : Outc
       absurd (let e = sym none ∙ at in cc)
   outlet_first (IsOver none going there is) out at = absurd (let e = sym none ∙ at in cc)
 
+  -- if a feed failed, the outcome is `Read` or comes before it in the order of precedence
   pub feed_first : (form : Form) → Verdict halt why failed o → (side : Side) →
       0 < failed_by form side why → rank o ≤ 6
   feed_first form (IsRefused there is) side some = let e = ap rank is in omega arith

@@ -65,6 +65,7 @@ leads_as form form' check check' e e' n ms f r f' r' formed is encoded p =
 same_none : (s : SourceState) → KeepsSettings s s
 same_none s = record { form = refl; encoding = refl; check_names = refl; most_bytes = refl }
 
+-- if two calls, one after the other, keep the settings, so do both together
 pub same_then : (a b c : SourceState) → KeepsSettings a b → KeepsSettings b c → KeepsSettings a c
 same_then a b c p q = record {
   form = q.form ∙ p.form;
@@ -88,6 +89,7 @@ records_both form form' a b c ms ns same p q =
     ∙ records_then form (length ms) (length ns) in
     omega arith
 
+-- no pairs were read from a source that is as it was
 pub walks_none : (s : SourceState) → s.last ≡ None → Walks s s []
 walks_none s going = record {
   same = same_none s;
@@ -102,6 +104,7 @@ walks_none s going = record {
   leads = λ f r. (refl, refl);
 }
 
+-- pairs that were read, and then others, were all read, in this order
 pub walks_then : (a b c : SourceState) (ms ns : List Mates) → Walks a b ms → Walks b c ns →
     Walks a c (ms ++ ns)
 walks_then a b c ms ns p q =
@@ -149,5 +152,6 @@ pub of_in_hand : (o : Option Mates) (m : Mates) (P : Mates → Type 0) → o ≡
     P m
 of_in_hand o m P is held = subst (λ p. IsSomeAnd p P) is held
 
+-- what holds of the pair in hand, if there is one, holds of this one
 pub if_in_hand : (o : Option Mates) (m : Mates) (P : Mates → Type 0) → o ≡ Some m → IfSome o P → P m
 if_in_hand o m P is held = subst (λ p. IfSome p P) is held

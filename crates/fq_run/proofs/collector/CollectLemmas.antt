@@ -32,6 +32,7 @@ use Rattle.fq_run.proofs.collector.TurnLemmas.{begun_gather, at_mark_gather}
 
 -- One more reply.
 
+-- the text of one more reply comes after the text of those before
 pub written_more : (out : Out) (ds : List Done) (d : Done) →
     written_text out (ds ++ d ∷ []) ≡ written_text out ds ++ text_of out d.texts
 written_more out [] d = append-nil (text_of out d.texts)
@@ -43,6 +44,7 @@ counted_from_more : (total : Total) (ds : List Done) (d : Done) →
 counted_from_more total [] d = refl
 counted_from_more total (e ∷ ds) d = counted_from_more (total_plus total e) ds d
 
+-- what one more reply counts is added to the total of those before
 pub counted_more : (tallied : Bool) (ds : List Done) (d : Done) →
     counted tallied (ds ++ d ∷ []) ≡ total_plus (counted tallied ds) d
 counted_more tallied ds d = counted_from_more (no_total tallied) ds d
@@ -89,6 +91,7 @@ still_heard cause.Memory (Item (Stop cause.Memory)) k l e h = ap (λ (h : Halt).
 still_heard cause.Gate _ k l e h = ap (λ (h : Halt). h.gate) e ∙ h
 still_heard cause.Memory _ k l e h = ap (λ (h : Halt). h.memory) e ∙ h
 
+-- a take that notes its stop, if it got one, keeps noted exactly the stops that came
 pub hears_take : (r : Taken Reply) (old new : List (History Reply)) (before after : Halt) (j : ℕ) →
     j < length old → TakesAt r old new j → after ≡ heard_at r before → before ≡ stops_of old →
     after ≡ stops_of new
@@ -116,6 +119,7 @@ at_turn tallied w before now k h at_k =
     (p.0 ∙ ap (λ n. n % w) (sym (length-map h.written done)), p.1, p.2)
 
 module _ (tallied : Bool) (w : ℕ) (before old now : OutletStates) (k l : Collector) where
+  -- the reply in turn was written, and it is the next lane's turn
   pub collects_written : (d : Done) → Collects tallied w before old k → k.phase ≡ Writing →
       l.phase ≡ Writing → TakesAt (Item (done d)) k.replies.items l.replies.items k.turn →
       OutletsTook old now (λ out. text_of out d.texts) None → l.total ≡ total_plus k.total d →
@@ -145,6 +149,7 @@ module _ (tallied : Bool) (w : ℕ) (before old now : OutletStates) (k l : Colle
         );
       }
 
+  -- a write of the reply in turn failed
   pub collects_broken : (d : Done) (failed : Out) → Collects tallied w before old k →
       k.phase ≡ Writing → l.phase ≡ WriteFailed failed →
       TakesAt (Item (done d)) k.replies.items l.replies.items k.turn →
@@ -260,6 +265,7 @@ collects_takes tallied w r before now k l j h over at_l lt t halt total turn = r
       (passes w k.phase r before now h.written k l j over (omega (arith, h.lanes)) h.writes t halt);
 }
 
+-- a take after the last write changes nothing of what was written
 pub drains_take : (r : Taken Reply) (k l : Collector) (j : ℕ) → (k.phase ≡ Writing → ⊥) →
     l.phase ≡ k.phase → j < length k.replies.items → TakesAt r k.replies.items l.replies.items j →
     l.halt ≡ heard_at r k.halt → l.total ≡ k.total → l.turn ≡ k.turn → Drains k l

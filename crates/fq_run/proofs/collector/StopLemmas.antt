@@ -61,6 +61,7 @@ come_taken : (x : Reply) (old new : List (History Reply)) (j : ℕ) → j < leng
 come_taken x old new j lt t why = ap (has_come why) t.becomes
     ∙ come_more why old j t.history x lt (ap (λ (l : History Reply). l.items) t.takes.1)
 
+-- a take adds its stop, if it got one, to those that came
 pub stops_taken : (r : Taken Reply) (old new : List (History Reply)) (j : ℕ) → j < length old →
     TakesAt r old new j → stops_of new ≡ heard_at r (stops_of old)
 stops_taken (Item (Stop Gate)) old new j lt t =
@@ -93,6 +94,7 @@ none_come why (l ∷ ls) h =
     ap (λ is. list_any (is_stop why) is || has_come why ls) (h 0 l (omega arith))
     ∙ none_come why ls (λ j d lt. h (suc j) d (omega arith))
 
+-- no stop came through lanes that have carried nothing
 pub no_stops : (ls : List (History Reply)) → IsDealt (length ls) [] ls →
     stops_of ls ≡ record { gate = false; memory = false }
 no_stops ls h =

@@ -52,14 +52,17 @@ laid_dealt [] (e ∷ es) fs h = absurd h
 laid_dealt (t ∷ ts) [] fs h = absurd h
 laid_dealt (t ∷ ts) (e ∷ es) [] h = absurd h
 
+-- there are as many new lanes to the workers as from them
 pub laid_length : (ts : List (History Numbered)) (es : List WorkEnds) (fs : List (History Reply)) →
     Each3 Laid ts es fs → length ts ≡ length fs
 laid_length ts es fs h = let replies = (laid_dealt ts es fs h).1 in sym replies.lanes
 
+-- nothing was dealt yet to the new lanes of w workers
 pub to_dealt : (w : ℕ) (ts : List (History Numbered)) (es : List WorkEnds)
     (fs : List (History Reply)) → length ts ≡ w → Each3 Laid ts es fs → IsDealt w [] ts
 to_dealt w ts es fs len h = subst (λ n. IsDealt n [] ts) len (laid_dealt ts es fs h).0
 
+-- nothing came yet through the new lanes from w workers
 pub replies_dealt : (w : ℕ) (ts : List (History Numbered)) (es : List WorkEnds)
     (fs : List (History Reply)) → length fs ≡ w → Each3 Laid ts es fs → IsDealt w [] fs
 replies_dealt w ts es fs len h = subst (λ n. IsDealt n [] fs) (laid_length ts es fs h ∙ len)
@@ -70,8 +73,11 @@ replies_dealt w ts es fs len h = subst (λ n. IsDealt n [] fs) (laid_length ts e
 module _ (tallied : Bool) (steps : List Step) where
   -- what a worker on the lanes n and m hands back
   pub record Answered (n m : Name) (w : Worked) : Type 0 where
+    -- its blocks came through lane n
     pub name : w.rx.name ≡ n
+    -- that lane was taken to its mark
     pub closed : w.rx.marked ≡ true
+    -- what it sent through lane m, if the lane has ended, answers these blocks
     pub answers : IfOk w.closing (λ e. (e.name ≡ m)
         × Answers tallied steps w.rx.items e.items w.cause)
 
@@ -102,6 +108,7 @@ module _ (tallied : Bool) (steps : List Step) where
             ))) w.closing j.sent;
       }
 
+  -- each worker that was joined has answered the blocks that came through its lane
   pub all_answered : (ts : List (History Numbered)) (es : List WorkEnds) (fs : List (History Reply))
       (hs : List (PromisedHandle Worked Job)) (ws : List Worked) →
       Each3 Laid ts es fs → AllZip (Seated tallied steps) es hs → AllZip Joined hs ws →
@@ -137,6 +144,7 @@ module _ (tallied : Bool) (steps : List Step) where
     got = m;
   }
 
+  -- if all lanes are closed and were taken to their marks, they can be confirmed
   pub can_confirm : (ts : List (History Numbered)) (cs : List (Result (History Numbered) NotEnded))
       (ws : List Worked) (fs : List (History Reply)) → AllZip Closed ts cs →
       Each3 Answered (names_of ts) (names_of fs) ws → AllClosed fs → Each3 CanConfirm cs ws fs
@@ -171,6 +179,7 @@ module _ (tallied : Bool) (steps : List Step) where
   matched_one n m (Err e) w f replied a rx same = absurd rx
   matched_one n m (Ok e) w f (Err x) a rx same = absurd same
 
+  -- on confirmed lanes the replies that came are those to the blocks that were sent
   pub matched : (ns ms : List Name) (cs : List (Result (History Numbered) NotEnded))
       (ws : List Worked) (fs : List (History Reply)) → Each3 Answered ns ms ws →
       Each3 Confirmed cs ws fs → AllZip (Matched tallied steps) cs fs

@@ -79,19 +79,24 @@ module _ (c : Choices) (old : SourceState) (to : List (History Numbered)) where
     pub blocks : List Numbered
     pub walks : Walks old now mates
     pub goes : GoesOn now
+    -- these blocks have these pairs, in order
     pub joined : join (pairs_of blocks) ≡ mates
     pub full : AreFull c.block_pairs (pairs_of blocks)
     pub numbered : AreNumbered c.encoding 0 blocks
+    -- there are no more blocks than pairs
     pub few : length blocks ≤ length mates
     pub dealt : IsDealt (length to) blocks lanes
     pub names : names_of lanes ≡ names_of to
+    -- the next block is for this lane
     pub turn_is : turn ≡ length blocks % length to
     pub below : turn < length to
+    -- the next block has this number
     pub number_is : number ≡ length blocks
 
   fresh_lanes : (w : ℕ) → IsDealt w [] to → IsDealt (length to) [] to
   fresh_lanes w fresh = let P : ℕ → Type 0 = λ n. IsDealt n [] to in subst P (sym fresh.lanes) fresh
 
+  -- before the first block nothing is read or dealt out, and it is the first lane's turn
   pub deals_none : GoesOn old → (w : ℕ) → 0 < w → IsDealt w [] to → DealsFull old to 0 0
   deals_none goes w some fresh = let lanes = fresh.lanes in record {
     mates = [];
@@ -142,6 +147,7 @@ module _ (c : Choices) (old : SourceState) (to : List (History Numbered)) where
         names_written lanes turn lane other after (omega (arith, dealt.lanes, d.below)) read
         (ap (λ l. l.name) (sends.some some)) ∙ d.names
 
+    -- a full block went to the lane whose turn it was, and it is the next lane's turn
     pub deals_more : why ≡ None → 1 ≤ c.block_pairs → (turn' : ℕ) → turn' ≡ suc turn % length to →
         turn' < length to → DealsFull next (set lanes turn after) turn' (number + 1)
     deals_more going most turn' is below =

@@ -29,6 +29,7 @@ pushed block m = record {
       block.pairs ++ m ∷ [];
 }
 
+-- an empty block is one into which no pair was read yet
 pub filled_none : (s : SourceState) (block : Numbered) → GoesOn s → block.pairs ≡ [] →
     Filled s s block block 0
 filled_none s block goes clear = record {
@@ -39,6 +40,7 @@ filled_none s block goes clear = record {
   goes = goes;
 }
 
+-- one more pair was read, and is in the block
 pub filled_more : (old now next : SourceState) (empty block then : Numbered) (n : ℕ) (m : Mates) →
     Filled old now empty block n → Walks now next (m ∷ []) →
     next.forward.given ≤ next.most_bytes → then ≡ pushed block m →
@@ -70,6 +72,7 @@ filled_within old now empty block n f =
 
 module _ (old now : SourceState) (empty block : Numbered) (n most : ℕ)
     (f : Filled old now empty block n) where
+  -- the block is full, and reading goes on
   pub fills_full : n ≡ most → Fills old now most empty block None
   fills_full full = let len = f.len in record {
     number = f.number;
@@ -98,16 +101,19 @@ module _ (old now : SourceState) (empty block : Numbered) (n most : ℕ)
     goes = λ going. absurd cc;
   }
 
+  -- the end of the input was found before the block was full
   pub fills_end : (next : SourceState) → n < most → MeetsEnd now next →
       Fills old next most empty block (Some reading.End)
   fills_end next room e = fills_stopped next reading.End room (now, f.walks, e)
       (λ refused. absurd cc)
 
+  -- a fault was found before the block was full
   pub fills_fault : (next : SourceState) (why : InputFault) → n < most → MeetsFault now next why →
       Fills old next most empty block (Some (reading.Fault why))
   fills_fault next why room e = fills_stopped next (reading.Fault why) room (now, f.walks, e)
       (λ refused. absurd cc)
 
+  -- memory for one more pair was refused: that pair is lost, and the block is as it was
   pub fills_refused : (next : SourceState) (then : Numbered) (m : Mates) → n < most →
       Walks now next (m ∷ []) → then ≡ block → Fills old next most empty then (Some reading.Memory)
   fills_refused next then m room w same =

@@ -15,6 +15,7 @@ use Rattle.fq_run.proofs.DealLemmas.{every_here, every_there}
 module _ {T : Type 0} where
   -- what a take from one lane returns and changes
   pub record TakesAt (r : Taken T) (old new : List (History T)) (j : ℕ) : Type 0 where
+    -- the lane after the take
     pub history : History T
     pub takes : Takes r (get_or old j history) history
     pub becomes : new ≡ set old j history
@@ -23,6 +24,7 @@ module _ {T : Type 0} where
   record Follows (a b : History T) : Type 0 where
     pub name : b.name ≡ a.name
     pub begins : IsPrefix a.items b.items
+    -- after the mark nothing more comes
     pub stays : a.marked ≡ true → b ≡ a
 
   marked_again : (l : History T) → l.marked ≡ true → with_mark l ≡ l
@@ -73,11 +75,13 @@ module _ {T : Type 0} where
   names-set (k ∷ ls) zero l e = ap (λ n. n ∷ names_of ls) e
   names-set (k ∷ ls) (suc j) l e = ap (λ ns. k.name ∷ ns) (names-set ls j l e)
 
+  -- a take keeps the names of the lanes
   pub takes_names : (r : Taken T) (old new : List (History T)) (j : ℕ) → TakesAt r old new j →
       names_of new ≡ names_of old
   takes_names r old new j t = ap names_of t.becomes
       ∙ names-set old j t.history (follows_take r _ t.history t.takes).name
 
+  -- a take keeps the number of lanes
   pub takes_length : (r : Taken T) (old new : List (History T)) (j : ℕ) → TakesAt r old new j →
       length new ≡ length old
   takes_length r old new j t = ap length t.becomes ∙ length-set old j t.history
@@ -99,6 +103,7 @@ module _ {T : Type 0} where
         ∙ q.1,
   )
 
+  -- once the lane whose turn it is has closed, no more comes in turn
   pub at_mark_closed : (w : ℕ) (xs : List T) (old new : List (History T)) (j : ℕ) →
       IsDealt w xs old → TakesAt Closed old new j → j < w → j ≡ length xs % w → IsAtMark w xs new
   at_mark_closed w xs old new j h t lt turn =
@@ -120,6 +125,7 @@ module _ {T : Type 0} where
             subst P turn (ap (λ l. l.marked) (at_j d) ∙ ap (λ l. l.marked) t.takes));
       }
 
+  -- lanes that are at a mark still are after one more take
   pub at_mark_takes : (w : ℕ) (r : Taken T) (xs : List T) (old new : List (History T)) (j : ℕ) →
       IsAtMark w xs old → TakesAt r old new j → j < w → IsAtMark w xs new
   at_mark_takes w r xs old new j h t lt =
@@ -151,6 +157,7 @@ module _ {T : Type 0} where
         becomes = becomes;
       }
 
+  -- one more item, put into the lane whose turn it is, is dealt out in turn
   pub dealt_offer : (w : ℕ) (xs : List T) (x : T) (old : List (History T)) (j : ℕ)
       (k d l : History T) → IsDealt w xs old → k ≡ get_or old j d → l ≡ with_item k x → j < w →
       j ≡ length xs % w → IsDealt w (xs ++ x ∷ []) (set old j l)
@@ -166,6 +173,7 @@ module _ {T : Type 0} where
             (λ n. h.items i e below ∙ sym (every_there xs x i w below (λ m. n (sym m ∙ sym turn))));
       }
 
+  -- one more item, taken from the lane whose turn it is, is the next that was dealt out
   pub dealt_item : (w : ℕ) (xs : List T) (x : T) (old new : List (History T)) (j : ℕ) →
       IsDealt w xs old → TakesAt (Item x) old new j → j < w → j ≡ length xs % w →
       IsDealt w (xs ++ x ∷ []) new

@@ -18,6 +18,7 @@ all_below : with_subcommand (with_subcommand (with_subcommand
 unfolding program_app pairs_app interleaved_app
 all_below = refl
 
+-- the command that is made is the program's, with `PE`, `IL` and `EXAMPLE` below it
 pub returns : goal.returns
 returns c =
     let about_is : app_of c.after_help.result ≡ new_app (codes "fq_prog") =

@@ -5,6 +5,7 @@ use Rattle.clap.proofs.WalkLemmas.{one_text-rows}
 use Rattle.fq_cli.proofs.WordLemmas.{flag_read}
 use Rattle.fq_cli.proofs.words.flag_of.Goals as goal
 
+-- the flag is set exactly if the rows have `true` for it
 pub returns : goal.returns
 returns c =
     let rows = one_text-rows (found_of c.args.found.now) c.args.id.now in

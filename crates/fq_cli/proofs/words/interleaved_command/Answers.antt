@@ -8,6 +8,7 @@ whole_is : trimming_app (codes "IL") (file_rule (codes "I") ∷ []) ≡ interlea
 unfolding interleaved_app
 whole_is = refl
 
+-- the command that is made is `IL`, and none of its arguments is global
 pub returns : goal.returns
 returns c =
     let inputs : List Rule = file_rule (codes "I") ∷ [] in

@@ -5,6 +5,7 @@ use Rattle.clap.proofs.WalkLemmas.{one_text-rows}
 use Rattle.fq_cli.proofs.WordLemmas.{number_read}
 use Rattle.fq_cli.proofs.words.number_of.Goals as goal
 
+-- the number is the one that the rows have for the argument, or 0
 pub returns : goal.returns
 returns c =
     let rows = one_text-rows (found_of c.args.found.now) c.args.id.now in

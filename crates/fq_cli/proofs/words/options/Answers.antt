@@ -2,6 +2,7 @@ use Rattle.std.proofs.Common.{sym, subst}
 use Rattle.fq_cli.specs.Words.{AreArgs, option_rules}
 use Rattle.fq_cli.proofs.words.options.Goals as goal
 
+-- the options have their rules, in this order
 pub returns : goal.returns
 returns c = subst (AreArgs option_rules) (sym c.in_ok-vec.ensures.items) (
   c.number-threads.ensures,

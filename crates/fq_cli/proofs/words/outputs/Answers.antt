@@ -2,6 +2,7 @@ use Rattle.std.proofs.Common.{sym, subst}
 use Rattle.fq_cli.specs.Words.{AreArgs, output_rules}
 use Rattle.fq_cli.proofs.words.outputs.Goals as goal
 
+-- the output files and the steps have their rules, in this order
 pub returns : goal.returns
 returns c = subst (AreArgs output_rules) (sym c.in_ok-vec.ensures.items) (
   c.file-forward_paired.ensures,

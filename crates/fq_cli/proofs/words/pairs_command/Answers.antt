@@ -9,6 +9,7 @@ whole_is : trimming_app (codes "PE") (file_rule (codes "F") ∷ file_rule (codes
 unfolding pairs_app
 whole_is = refl
 
+-- the command that is made is `PE`, and none of its arguments is global
 pub returns : goal.returns
 returns c =
     let inputs : List Rule = file_rule (codes "F") ∷ file_rule (codes "R") ∷ [] in

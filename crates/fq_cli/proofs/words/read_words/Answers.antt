@@ -7,6 +7,7 @@ use Rattle.fq_cli.specs.declared.words.Asked.{Asked}
 use Rattle.fq_cli.proofs.WordLemmas.{found_in, parses_if, fails_by, name_met, met_is, not_met}
 use Rattle.fq_cli.proofs.words.read_words.Goals as goal
 
+-- an error of the parse is of a kind defined for these words, or memory was refused
 pub returns-in_err-matches-clause-err : goal.returns-in_err-matches-clause-err
 returns-in_err-matches-clause-err c =
     let words = map (λ word. word.now) c.args.words.now in
@@ -16,6 +17,7 @@ returns-in_err-matches-clause-err c =
     (fails_by _ words c.in_err-matches.field-0.0 c.in_ok-command.ensures
     c.in_err-matches.ensures.kinds)
 
+-- if no subcommand was found, the words parse, and don't ask to trim
 pub returns-in_default-clause-ok : goal.returns-in_default-clause-ok
 returns-in_default-clause-ok c =
     let words = map (λ word. word.now) c.args.words.now in
@@ -27,6 +29,7 @@ returns-in_default-clause-ok c =
           ∙ not_met own (subcommand_rows_of m) (c.in_default.ensures.name ∙ name_met m);
     }
 
+-- if a subcommand was found, the words parse, and ask for what it asks for
 pub returns-clause-ok : goal.returns-clause-ok
 returns-clause-ok c =
     let words = map (λ word. word.now) c.args.words.now in

@@ -5,6 +5,7 @@ use Rattle.fq_cli.specs.Requests.{names_of}
 use Rattle.fq_cli.specs.Words.{asking_in}
 use Rattle.fq_cli.proofs.words.request.Goals as goal
 
+-- each part of the request is what the rows have for it
 pub returns : goal.returns
 unfolding asking_in
 returns c =

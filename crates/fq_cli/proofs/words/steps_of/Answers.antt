@@ -8,6 +8,7 @@ use Rattle.fq_cli.proofs.words.steps_of.Goals as goal
 texts_or_none : Option (List Text) → List Text
 texts_or_none o = unwrap_or o []
 
+-- steps that are given are those that the rows have
 pub returns-in-Some : goal.returns-in-Some
 unfolding texts_or_none
 returns-in-Some c =
@@ -17,6 +18,7 @@ returns-in-Some c =
     IfOk-weaker c.from_slice.result _ _ (λ words items. ap (map (λ (word : Bor Text). word.now))
     items ∙ given) c.from_slice.ensures.items
 
+-- if no steps are given, the rows have none
 pub returns-in-None : goal.returns-in-None
 unfolding texts_or_none
 returns-in-None c =

@@ -6,6 +6,7 @@ use Rattle.fq_cli.specs.Words.{IsCommand, option_rules, output_rules}
 use Rattle.fq_cli.proofs.WordLemmas.{more}
 use Rattle.fq_cli.proofs.words.trimming_command.Goals as goal
 
+-- the command that is made has the options, then the inputs, then the outputs and the steps
 pub returns : goal.returns
 returns c =
     let start : IsCommand (new_app c.args.name.now) c.after_help-start.result = record {

@@ -6,6 +6,7 @@ use Rattle.fq_run_core.specs.Devices.{outlet_states}
 use Rattle.fq_run.proofs.collector.CollectLemmas.{written_gathers}
 use Rattle.fq_run.proofs.collector.collect.Goals as goal
 
+-- the new collector has written nothing so far
 pub write_all-requires-clause-collects : goal.write_all-requires-clause-collects
 write_all-requires-clause-collects g c =
     let o = g.O.Outlet in
@@ -16,6 +17,7 @@ write_all-requires-clause-collects g c =
     c.new-collector.result) (sym c.new-collector.ensures.replies)
     (c.new-collector.ensures.collects states))
 
+-- if no write failed, the outlets took the replies before the first stop, gathered in turn
 pub returns-clause-written : goal.returns-clause-written
 returns-clause-written g c = λ sound.
     (let drains = c.drain.ensures.drains in

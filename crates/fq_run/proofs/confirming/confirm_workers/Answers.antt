@@ -4,6 +4,7 @@ use Rattle.fq_run.specs.Confirming.{CanConfirm, Confirmed}
 use Rattle.fq_run.proofs.EachLemmas.{nothing_left}
 use Rattle.fq_run.proofs.confirming.confirm_workers.Goals as goal
 
+-- after the last worker all lanes are confirmed
 pub returns : goal.returns
 returns c =
     let l = c.loop-ends in

@@ -3,6 +3,7 @@ use Rattle.fq_run.specs.dealer.Dealt.{Closed}
 use Rattle.fq_run.proofs.EachLemmas.{zip_pushed}
 use Rattle.fq_run.proofs.dealer.close_all.Goals as goal
 
+-- one more lane is closed: its end, if it has one, is what was sent, with the mark
 pub loop-ends-preserved : goal.loop-ends-preserved
 loop-ends-preserved c = record {
   room = c.push_reserved.ensures.capacity ∙ c.loop-ends.invariant.room;

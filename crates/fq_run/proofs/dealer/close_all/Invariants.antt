@@ -4,6 +4,7 @@ use Rattle.std.specs.List.{AllZip}
 use Rattle.fq_run.specs.dealer.Dealt.{Closed}
 use Rattle.fq_run.proofs.dealer.close_all.Given as goal
 
+-- the end of each lane so far, if it has one, is what was sent, with the mark
 abbrev pub invariant-loop-ends : goal.invariant-loop-ends
 invariant-loop-ends l = record {
   room : vec_capacity l.closings ≡ vec_capacity l.fn.closings;

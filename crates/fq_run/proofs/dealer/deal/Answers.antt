@@ -2,6 +2,7 @@
 use Rattle.std.proofs.Common.{ap}
 use Rattle.fq_run.proofs.dealer.deal.Goals as goal
 
+-- the blocks of what was read were dealt out; without a start item nothing was read
 pub returns : goal.returns
 returns g c =
     let s = g.S.PairReader in

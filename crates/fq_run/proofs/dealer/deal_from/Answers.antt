@@ -5,6 +5,7 @@ use Rattle.fq_run_core.specs.declared.reading_end.ReadingEnd.{ReadingEnd}
 use Rattle.fq_run.proofs.dealer.DealerLemmas.{deals_nothing}
 use Rattle.fq_run.proofs.dealer.deal_from.Goals as goal
 
+-- if only the mark came, no block was dealt out
 pub returns-in_err-take_wait-clause-deals : goal.returns-in_err-take_wait-clause-deals
 returns-in_err-take_wait-clause-deals g c =
     let s = g.S.PairReader in

@@ -7,6 +7,7 @@ use Rattle.fq_run_core.specs.Outcomes.{outcome_of}
 use Rattle.fq_run.proofs.StartLemmas.{closed, refused}
 use Rattle.fq_run.proofs.interleaved.begin.Goals as goal
 
+-- what is promised of the run over the source holds of the run over its feed
 pub returns-in-Ok : goal.returns-in-Ok
 returns-in-Ok g c =
     let f = g.F.Feed in
@@ -17,6 +18,7 @@ returns-in-Ok g c =
     InterleavedText c.args.settings.now _ c.args.feed c.args.feed c.in-Ok.ensures.ok _ _
     c.run.result _ _ _ _ _ _ e.outcome e.total e.unended e.refused e.feed e.feed c.run.ensures
 
+-- if memory for the source is refused, the feed is as it was, and the outlets are only flushed
 pub returns-in-Err : goal.returns-in-Err
 returns-in-Err g c =
     let f = g.F.Feed in

@@ -19,19 +19,23 @@ asked_by : (total : Total) (tallied : Bool) → total ≡ no_total tallied →
     is_some total.tally ≡ tallied
 asked_by total tallied is = ap (λ (t : Total). is_some t.tally) is ∙ is_asked tallied [] []
 
+-- the total is that of no pairs, with a tally if one is asked for
 pub collect-collector-requires-clause-none : goal.collect-collector-requires-clause-none
 collect-collector-requires-clause-none g c = c.requires.total
     ∙ ap no_total (sym (asked_by _ _ c.requires.total))
 
+-- no reply has come through the lanes yet
 pub collect-collector-requires-clause-fresh : goal.collect-collector-requires-clause-fresh
 collect-collector-requires-clause-fresh g c =
     let m = c.requires.manned in
     replies_dealt _ _ _ _ (omega (arith, c.args.replies.ok.0)) m.laid
 
+-- unless a write failed, no outlet has failed before the flushes
 pub flush_after-failed-requires : goal.flush_after-failed-requires
 flush_after-failed-requires g c none = still_healthy _ _ _ c.requires.outlets
     (c.collect-collector.ensures.written (sym c.failed.ensures ∙ none))
 
+-- after the joins the two lanes of each worker can be confirmed
 pub conclude-requires-clause-workers : goal.conclude-requires-clause-workers
 conclude-requires-clause-workers g c =
     let m = c.requires.manned in
@@ -49,6 +53,7 @@ conclude-requires-clause-workers g c =
     (sym c.collect-collector.ensures.names) a))
     c.collect-collector.ensures.over.1
 
+-- what is promised of a run on several threads holds after all joins
 pub returns : goal.returns
 returns g c =
     let m = c.requires.manned in

@@ -6,6 +6,7 @@ use Rattle.fq_run.specs.declared.conclusion.Conclusion.{Conclusion}
 use Rattle.fq_run.proofs.StartLemmas.{refused}
 use Rattle.fq_run.proofs.threads.run.Goals as goal
 
+-- if memory is refused before the threads start, nothing is read or written
 pub returns-in-Err : goal.returns-in-Err
 returns-in-Err g c =
     let s = g.S.PairReader in let o = g.O.Outlet in

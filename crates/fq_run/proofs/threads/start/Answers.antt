@@ -8,11 +8,13 @@ use Rattle.fq_run.specs.declared.conclusion.Conclusion.{Conclusion}
 use Rattle.fq_run.proofs.StartLemmas.{of_one, unread, idle, unstarted, can_deal}
 use Rattle.fq_run.proofs.threads.start.Goals as goal
 
+-- the dealer's lanes are new, and nothing was read from its source
 pub start_dealer-requires-clause-deals : goal.start_dealer-requires-clause-deals
 start_dealer-requires-clause-deals g c κs within =
     can_deal _ c.args.settings.now _ c.args.dealer c.args.ready c.requires.ready
     (omega (arith, c.args.dealer.to.ok.0)) c.requires.fresh c.requires.few
 
+-- if the dealer's thread is refused, the feeds are lost, and nothing is written
 pub returns-in_default : goal.returns-in_default
 returns-in_default g c =
     let s = g.S.PairReader in let o = g.O.Outlet in
@@ -28,6 +30,7 @@ returns-in_default g c =
       reverse = tt;
     }) (λ gone. refl, λ gone. refl))
 
+-- if a worker is refused, nothing is written, and feeds that are handed back are as they were
 pub returns-then-not-start_workers : goal.returns-then-not-start_workers
 returns-then-not-start_workers g c =
     let s = g.S.PairReader in let o = g.O.Outlet in

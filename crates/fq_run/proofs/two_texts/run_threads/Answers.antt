@@ -4,6 +4,7 @@ use Rattle.std.specs.Option.{option_map}
 use Rattle.fq_run.proofs.StartLemmas.{none_of}
 use Rattle.fq_run.proofs.two_texts.run_threads.Goals as goal
 
+-- one feed is lost exactly if the other is
 pub returns-clause-together : goal.returns-clause-together
 returns-clause-together g c =
     let f = g.F.Feed in let r = g.G.Feed in

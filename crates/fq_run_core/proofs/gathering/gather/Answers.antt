@@ -6,28 +6,34 @@ use Rattle.fq_run_core.proofs.WalkLemmas.{is_in_hand, of_in_hand, if_in_hand}
 use Rattle.fq_run_core.proofs.GatherLemmas.{gathered_none, gathered_more, gathered_few, gathers_full, gathers_end, gathers_fault, gathers_refused, err_says, ok_says}
 use Rattle.fq_run_core.proofs.gathering.gather.Goals as goal
 
+-- before the first pair the texts and the tally are those of no pairs
 pub loop-init : goal.loop-init
 loop-init g c = gathered_none (is_some c.args.done.now.tally) c.args.steps.now _ _ c.requires.goes
     c.requires.clear
 
+-- after a call that read a pair there is one in hand
 pub pair_in_hand-pair-requires : goal.pair_in_hand-pair-requires
 pair_in_hand-pair-requires g c = let i = c.loop.invariant in let goes = i.goes in
     let asked = rw c.in-Ok-true.field-0-test at c.in-Ok-true.ensures in
     is_in_hand _ _ (asked.advances goes.last)
 
+-- so the lengths of its names are there too
 pub names_in_hand-names-requires : goal.names_in_hand-names-requires
 names_in_hand-names-requires g c = let i = c.loop.invariant in let goes = i.goes in
     let asked = rw c.in-Ok-true.field-0-test at c.in-Ok-true.ensures in
     is_in_hand _ _ (asked.advances goes.last)
 
+-- these are the lengths of the names of the pair in hand
 pub add-requires-clause-names : goal.add-requires-clause-names
 add-requires-clause-names g c = if_in_hand _ _ (λ m. c.names_in_hand-names.result ≡ name_lengths m)
     c.pair_in_hand-pair.ensures c.names_in_hand-names.ensures
 
+-- the count of the pairs has room for one more
 pub add-requires-clause-room : goal.add-requires-clause-room
 add-requires-clause-room g c = let few = gathered_few (is_some c.args.done.now.tally)
     c.args.steps.now _ _ _ _ c.loop.invariant in omega arith
 
+-- if memory for a pair is refused, the block has the pairs before it
 pub returns-then-is_err : goal.returns-then-is_err
 returns-then-is_err g c = let i = c.loop.invariant in let goes = i.goes in
     let asked = rw c.in-Ok-true.field-0-test at c.in-Ok-true.ensures in
@@ -37,6 +43,7 @@ returns-then-is_err g c = let i = c.loop.invariant in let goes = i.goes in
     (err_says c.add.result c.is_err.result _ c.is_err.ensures.value c.if-is_err.true
     c.add.ensures.err)
 
+-- at the end of the input the block has the pairs before the end
 pub returns-in-Ok-false : goal.returns-in-Ok-false
 returns-in-Ok-false g c = let i = c.loop.invariant in let goes = i.goes in
     let asked = rw c.in-Ok-false.field-0-test at c.in-Ok-false.ensures in
@@ -44,6 +51,7 @@ returns-in-Ok-false g c = let i = c.loop.invariant in let goes = i.goes in
     gathers_end (is_some c.args.done.now.tally) c.args.steps.now _ _ _ _ _ _ (omega arith)
     c.loop.invariant met.0
 
+-- at a fault the block has the pairs before the fault
 pub returns-in-Err : goal.returns-in-Err
 returns-in-Err g c = let i = c.loop.invariant in let goes = i.goes in
     let asked = c.in-Err.ensures in
@@ -51,6 +59,7 @@ returns-in-Err g c = let i = c.loop.invariant in let goes = i.goes in
     gathers_fault (is_some c.args.done.now.tally) c.args.steps.now _ _ _ _ _ _ _ (omega arith)
     c.loop.invariant met.0
 
+-- a pair that was read and added is one more pair of the block
 pub loop-preserved : goal.loop-preserved
 loop-preserved g c = let i = c.loop.invariant in let goes = i.goes in
     let asked = rw c.in-Ok-true.field-0-test at c.in-Ok-true.ensures in
@@ -61,6 +70,7 @@ loop-preserved g c = let i = c.loop.invariant in let goes = i.goes in
     (ok_says c.add.result c.is_err.result _ c.is_err.ensures.value c.if-is_err.false
     c.add.ensures.ok)
 
+-- after the last turn the block is full
 pub returns : goal.returns
 returns g c = gathers_full (is_some c.args.done.now.tally) c.args.steps.now _ _ _ _ _ (omega arith)
     c.loop.invariant

@@ -3,6 +3,7 @@ use Rattle.std.proofs.Common.{is_some}
 use Rattle.fq_run_core.proofs.GatherLemmas.{Gathered}
 use Rattle.fq_run_core.proofs.gathering.gather.Given as goal
 
+-- as many pairs as there were turns are read, and their texts and tally made
 abbrev pub invariant-loop : goal.invariant-loop
 invariant-loop g l =
     let s = g.S.PairReader in

@@ -3,6 +3,7 @@ use Rattle.std.proofs.Common.{ap}
 use Rattle.fq_run_core.proofs.PassLemmas.{runs_nothing}
 use Rattle.fq_run_core.proofs.interleaved.pass.Goals as goal
 
+-- the feed is handed back as it was, and nothing is written
 pub returns-in-Err : goal.returns-in-Err
 returns-in-Err g c =
     let f = g.F.Feed in

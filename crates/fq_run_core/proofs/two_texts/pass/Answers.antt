@@ -3,6 +3,7 @@ use Rattle.std.proofs.Common.{ap}
 use Rattle.fq_run_core.proofs.PassLemmas.{runs_nothing}
 use Rattle.fq_run_core.proofs.two_texts.pass.Goals as goal
 
+-- both feeds are handed back as they were, and nothing is written
 pub returns-in-Err : goal.returns-in-Err
 returns-in-Err g c =
     let f = g.F.Feed in let r = g.G.Feed in

@@ -4,22 +4,26 @@ use Rattle.fq_run_core.specs.Outcomes.{outcome_of}
 use Rattle.fq_run_core.proofs.RunLemmas.{runs_healthy, serial_rank, run_every, run_whole}
 use Rattle.fq_run_core.proofs.two_texts.run_serial.Goals as goal
 
+-- unless a write failed, no outlet has failed before the flushes
 pub flush_after-failed-requires : goal.flush_after-failed-requires
 flush_after-failed-requires g c = runs_healthy _ c.args.settings.now _ _ _ _ _ _ _ _ _ _
     c.pass-written.ensures c.requires.outlets
 
+-- the outcome is not `Spawn`, `Lane` or `Gate`
 pub returns-clause-serial : goal.returns-clause-serial
 returns-clause-serial g c =
     serial_rank _ c.args.settings.now _ _ _ _ _ _ _ _ _ _ c.pass-written.ensures _ _ _
     c.flush_after-failed.ensures (c.outcome.ensures
     ∙ ap outcome_of c.new.ensures) c.requires.forward c.requires.reverse refl
 
+-- at the end of the input, or at a fault in it, all pairs are trimmed
 pub returns-clause-whole : goal.returns-clause-whole
 returns-clause-whole g c =
     run_whole _ c.args.settings.now _ _ _ _ _ _ _ _ _ _ c.pass-written.ensures _ _ _
     c.flush_after-failed.ensures (c.outcome.ensures
     ∙ ap outcome_of c.new.ensures) c.requires.forward c.requires.reverse
 
+-- however the run ended, the outlets have the texts of the first pairs
 pub returns-clause-every : goal.returns-clause-every
 returns-clause-every g c =
     run_every _ c.args.settings.now _ _ _ _ _ _ _ _ _ _ c.pass-written.ensures _ _ _

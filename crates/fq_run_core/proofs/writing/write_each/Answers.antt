@@ -5,16 +5,19 @@ use Rattle.fq_run_core.proofs.OutletLemmas.{still_healthy}
 use Rattle.fq_run_core.proofs.BlockLemmas.{wrote_none, wrote_more, passes_broken, passes_whole, nearer}
 use Rattle.fq_run_core.proofs.writing.write_each.Goals as goal
 
+-- before the first block nothing is written, and there is a tally if one is asked for
 pub writing-init : goal.writing-init
 writing-init g c = (
   wrote_none c.args.settings.now _ _ c.args.total.now c.requires.goes c.requires.none,
   c.requires.asked,
 )
 
+-- no outlet has failed in the blocks so far
 pub write_block-why-requires-clause-outlets : goal.write_block-why-requires-clause-outlets
 write_block-why-requires-clause-outlets g c = let w = c.writing.invariant.0 in
     still_healthy _ _ _ c.requires.outlets w.took
 
+-- if a write fails, the blocks before it are complete, and this one is begun
 pub returns-in-Err : goal.returns-in-Err
 returns-in-Err g c =
     let block = c.write_block-why.ensures in
@@ -24,6 +27,7 @@ returns-in-Err g c =
     (rw c.in-Err.is at block.sends) c.write_block-why.new.total
     (rw c.in-Err.is at block.uncounted)
 
+-- if reading has stopped, the blocks before and this last one are complete
 pub returns-then-is_some : goal.returns-then-is_some
 returns-then-is_some g c =
     let block = c.write_block-why.ensures in
@@ -35,6 +39,7 @@ returns-then-is_some g c =
     (end_is _ _ c.is_some.ensures c.if-is_some.true) c.write_block-why.new.total
     (rw c.in_default.is at block.counted)
 
+-- a full block brings the end nearer
 pub writing-smaller : goal.writing-smaller
 writing-smaller g c =
     let block = c.write_block-why.ensures in
@@ -44,6 +49,7 @@ writing-smaller g c =
     (omega (arith, c.block_pairs-most.ensures.some, c.block_pairs-most.ensures.pairs))
     (end_none _ _ c.is_some.ensures c.if-is_some.false)
 
+-- if the block is full and was written, there is one more complete block
 pub writing-preserved : goal.writing-preserved
 writing-preserved g c =
     let block = c.write_block-why.ensures in

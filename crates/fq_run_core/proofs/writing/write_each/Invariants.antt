@@ -5,6 +5,7 @@ use Rattle.fq_run_core.specs.Devices.{outlet_states}
 use Rattle.fq_run_core.proofs.BlockLemmas.{Wrote}
 use Rattle.fq_run_core.proofs.writing.write_each.Given as goal
 
+-- all blocks so far are read and written, and the next is tallied if a tally is asked for
 abbrev pub invariant-writing : goal.invariant-writing
 invariant-writing g l =
     let s = g.S.PairReader in let o = g.O.Outlet in
@@ -12,6 +13,7 @@ invariant-writing g l =
     (s.state l.source) (outlet_states o.state l.outlets) l.total
     × (is_some l.done.tally ≡ l.fn.settings.tallied)
 
+-- the bytes that may come, less the records that were given
 abbrev pub decreases-writing : goal.decreases-writing
 decreases-writing g l = let s = g.S.PairReader in
     (s.state l.fn.source).most_bytes - (s.state l.source).forward.given

@@ -2,6 +2,7 @@
 use Rattle.fq_run_core.proofs.PassLemmas.{passes_unasked}
 use Rattle.fq_run_core.proofs.writing.write_with.Goals as goal
 
+-- if memory for a tally is refused, nothing is read or written
 pub returns-in_default : goal.returns-in_default
 returns-in_default g c = passes_unasked c.args.settings.now _ _ c.ask.new.total c.args.written.now
     c.requires.goes.last c.requires.nothing c.in_default.ensures.refused

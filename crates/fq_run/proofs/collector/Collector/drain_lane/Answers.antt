@@ -5,6 +5,7 @@ use Rattle.fq_run.proofs.collector.CollectLemmas.{drains_take}
 use Rattle.fq_run.proofs.lanes.LaneLemmas.{taken_at}
 use Rattle.fq_run.proofs.collector.Collector.drain_lane.Goals as goal
 
+-- a stop is noted, and nothing more is written
 pub returns-in-Item-Stop : goal.returns-in-Item-Stop
 returns-in-Item-Stop c =
     let k = c.args.self.now in
@@ -17,6 +18,7 @@ returns-in-Item-Stop c =
           refl refl;
     }
 
+-- a reply with texts is dropped unwritten
 pub returns-in-Item-Done : goal.returns-in-Item-Done
 returns-in-Item-Done c =
     let k = c.args.self.now in
@@ -26,6 +28,7 @@ returns-in-Item-Done c =
     ∙ c.index_mut-ends.ensures.value) c.take.ensures refl in
     record { drains = drains_take _ k _ c.args.at c.requires.over refl lt t refl refl refl }
 
+-- if nothing came, or the lane is closed, there is nothing to drop
 pub returns : goal.returns
 returns c =
     let k = c.args.self.now in

@@ -4,6 +4,7 @@ use Rattle.fq_run.specs.lanes.Items.{IsDealt}
 use Rattle.fq_run.proofs.collector.StopLemmas.{no_stops}
 use Rattle.fq_run.proofs.collector.Collector.new.Goals as goal
 
+-- no stop has come, and none is noted
 pub returns-clause-hears : goal.returns-clause-hears
 returns-clause-hears c =
     let replies = c.args.replies in

@@ -6,6 +6,7 @@ use Rattle.fq_run.specs.lanes.Items.{names_of}
 use Rattle.fq_run.specs.collector.Stops.{HearsAll}
 use Rattle.fq_run.proofs.collector.Collector.write_all.Given as goal
 
+-- what came in turn is written, the lanes are the same, and the stops that came are noted
 abbrev pub invariant-loop : goal.invariant-loop
 invariant-loop g l =
     let o = g.O.Outlet in

@@ -5,6 +5,7 @@ use Rattle.fq_run.proofs.collector.CollectLemmas.{collects_written, collects_bro
 use Rattle.fq_run.proofs.lanes.LaneLemmas.{taken_at, takes_names}
 use Rattle.fq_run.proofs.collector.Collector.write_next.Goals as goal
 
+-- if a write of the reply fails, the phase says in which outlet
 pub returns-in-Err : goal.returns-in-Err
 returns-in-Err g c =
     let k = c.args.self.now in
@@ -20,6 +21,7 @@ returns-in-Err g c =
       hears = hears_take _ _ _ _ _ k.turn lt t refl;
     }
 
+-- a reply that was written is one more, and it is the next lane's turn
 pub returns-in_default : goal.returns-in_default
 returns-in_default g c =
     let k = c.args.self.now in
@@ -35,6 +37,7 @@ returns-in_default g c =
       hears = hears_take _ _ _ _ _ k.turn lt t refl;
     }
 
+-- a lane that has closed in its turn ends the writing
 pub returns-in-None : goal.returns-in-None
 returns-in-None g c =
     let k = c.args.self.now in
@@ -48,6 +51,7 @@ returns-in-None g c =
       hears = hears_take _ _ _ _ _ k.turn lt t refl;
     }
 
+-- a stop in its turn is noted, and ends the writing
 pub returns-in-Some-Stop : goal.returns-in-Some-Stop
 returns-in-Some-Stop g c =
     let k = c.args.self.now in

@@ -4,6 +4,7 @@ use Rattle.fq_run.specs.crew.Workers.{Joined}
 use Rattle.fq_run.proofs.EachLemmas.{zip_pushed}
 use Rattle.fq_run.proofs.crew.workers.join_workers.Goals as goal
 
+-- what one more worker handed back is what its handle promises
 pub loop-hand-preserved : goal.loop-hand-preserved
 loop-hand-preserved g c = record {
   room = c.push_reserved.ensures.capacity ∙ c.loop-hand.invariant.room;

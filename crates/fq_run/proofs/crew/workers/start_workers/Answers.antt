@@ -4,6 +4,7 @@ use Rattle.fq_run.specs.crew.Workers.{Seated}
 use Rattle.fq_run.proofs.EachLemmas.{zip_pushed}
 use Rattle.fq_run.proofs.crew.workers.start_workers.Goals as goal
 
+-- the handle of one more worker names the ends of its seat
 pub loop-ends-preserved : goal.loop-ends-preserved
 loop-ends-preserved g c = record {
   room = c.push_reserved.ensures.capacity ∙ c.loop-ends.invariant.room;

@@ -4,6 +4,7 @@ use Rattle.std.specs.List.{AllZip}
 use Rattle.fq_run.specs.crew.Workers.{Seated}
 use Rattle.fq_run.proofs.crew.workers.start_workers.Given as goal
 
+-- each handle so far names the ends of its seat, and the room is unchanged
 abbrev pub invariant-loop-ends : goal.invariant-loop-ends
 invariant-loop-ends g l = record {
   room : vec_capacity l.hands ≡ vec_capacity l.fn.hands;

@@ -5,12 +5,14 @@ use Rattle.fq_run.proofs.dealer.FillLemmas.{fills_as}
 use Rattle.fq_run.proofs.dealer.DealerLemmas.{deals_none, deals_more, deals_last}
 use Rattle.fq_run.proofs.dealer.blocks.deal_blocks.Goals as goal
 
+-- before the first block nothing is read or dealt out
 pub dealing-init : goal.dealing-init
 dealing-init g c = record {
   lanes = c.len-lanes.ensures;
   deals = deals_none _ _ _ c.requires.goes _ c.requires.some c.requires.lanes;
 }
 
+-- when reading stops, the last block is sent unless it is empty, and all blocks are dealt out
 pub returns-in-Some : goal.returns-in-Some
 returns-in-Some g c =
     let filled = fills_as _ _ c.args.settings.now.block_pairs c.block_pairs.result _ _ _
@@ -22,6 +24,7 @@ returns-in-Some g c =
     (c.ready_block-block.ensures.unsent ∙ c.index_mut-ends.ensures.value) c.put_filled.ensures
     c.requires.fresh c.requires.few (omega arith)
 
+-- a full block goes to the lane whose turn it is, and then it is the next lane's turn
 pub dealing-preserved : goal.dealing-preserved
 dealing-preserved g c =
     let filled = fills_as _ _ c.args.settings.now.block_pairs c.block_pairs.result _ _ _

@@ -2,6 +2,7 @@
 use Rattle.fq_run.proofs.dealer.FillLemmas.{Filled}
 use Rattle.fq_run.proofs.dealer.filling.fill.Given as goal
 
+-- the block has as many pairs as there were turns
 abbrev pub invariant-loop : goal.invariant-loop
 invariant-loop g l =
     let s = g.S.PairReader in

@@ -5,6 +5,7 @@ use Rattle.fq_pair.specs.declared.out.Out.TheVariants.{ReverseUnpaired}
 use Rattle.fq_run_core.proofs.OutletLemmas.{fourth_breaks, broken}
 use Rattle.fq_run_core.proofs.outlets.Outlets.write.Goals as goal
 
+-- the three outlets before it took their texts, and the log took nothing
 pub returns-in_err-send_to-4 : goal.returns-in_err-send_to-4
 returns-in_err-send_to-4 g c =
     let failed = c.in_err-send_to-4.ensures in

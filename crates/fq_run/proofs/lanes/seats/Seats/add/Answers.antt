@@ -4,6 +4,7 @@ use Rattle.fq_run.specs.lanes.Laying.{Laid}
 use Rattle.fq_run.proofs.EachLemmas.{each3_pushed, fresh_is}
 use Rattle.fq_run.proofs.lanes.seats.Seats.add.Goals as goal
 
+-- the seats before have new lanes, and so has the one that was added
 pub returns-clause-laid : goal.returns-clause-laid
 returns-clause-laid c =
     let blocks = c.in_ok-to in let replies = c.in_ok-tx in
