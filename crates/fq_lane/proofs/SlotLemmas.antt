@@ -13,7 +13,7 @@ module _ {T : Type 0} where
   items-append (Item x ∷ ss) ts = ap (λ ys. x ∷ ys) (items-append ss ts)
   items-append (Mark ∷ ss) ts = items-append ss ts
 
-  -- the slots after one more item, and after the mark
+  -- the slots after one more item
   pub slots-item : (xs : List T) (x : T) → slots_of xs false ++ Item x ∷ [] ≡ slots_of
       (xs ++ x ∷ []) false
   slots-item [] x = refl

@@ -19,7 +19,7 @@ use Rattle.fq_run_core.specs.PairsRead.{Reads}
 use Rattle.fq_run_core.specs.Gathering.{Gathers}
 use Rattle.fq_run_core.proofs.WalkLemmas.{walks_none, walks_then}
 
--- what a call guarantees if memory was refused, and if not
+-- what a call guarantees if memory was refused
 pub err_says : {T E : Type 0} (r : Result T E) (refused : Bool) (P : Type 0) → refused ≡ is_err r →
     refused ≡ true → OnErr r P → P
 err_says (Ok x) refused P is yes_is p = absurd (let e = sym is ∙ yes_is in cc)

@@ -134,7 +134,7 @@ larger high x y = ⊎_elim
     (cases_lt high x))
     (cases_lt x y)
 
--- the smaller and the larger bytes of two vectors at each index
+-- the smaller byte of two vectors at each index
 abbrev pub smallest : List ℕ → List ℕ → List ℕ
 smallest a b = sel_l (map (top 7) (zip2 (λ x y. flag (ltb x y)) a b)) a b
 
