@@ -89,6 +89,7 @@ module _ (steps : List Step) (m : Mates) (old : Outputs) where
   log_added = (old.log ++ log_line Forward (kept_places steps m.forward) m.forward) ++ log_line
       Reverse (kept_places steps m.reverse) m.reverse
 
+  -- if both mates survive, the record of each goes to the paired text of its side
   pub both_added : is_empty (kept_places steps m.forward) ≡ false →
       is_empty (kept_places steps m.reverse) ≡ false →
       joined old (texts_of steps (m ∷ [])) ≡ record {
@@ -125,6 +126,7 @@ module _ (steps : List Step) (m : Mates) (old : Outputs) where
       let zero_2 = add-zero old.counts.dropped in
       cc
 
+  -- if only the forward mate survives, its record goes to the forward unpaired text
   pub forward_added : is_empty (kept_places steps m.forward) ≡ false →
       is_empty (kept_places steps m.reverse) ≡ true →
       joined old (texts_of steps (m ∷ [])) ≡ record {
@@ -162,6 +164,7 @@ module _ (steps : List Step) (m : Mates) (old : Outputs) where
       let zero_2 = add-zero old.counts.dropped in
       cc
 
+  -- if only the reverse mate survives, its record goes to the reverse unpaired text
   pub reverse_added : is_empty (kept_places steps m.forward) ≡ true →
       is_empty (kept_places steps m.reverse) ≡ false →
       joined old (texts_of steps (m ∷ [])) ≡ record {
@@ -199,6 +202,7 @@ module _ (steps : List Step) (m : Mates) (old : Outputs) where
       let zero_2 = add-zero old.counts.dropped in
       cc
 
+  -- if neither mate survives, no record is added, and the pair is counted as dropped
   pub none_added : is_empty (kept_places steps m.forward) ≡ true →
       is_empty (kept_places steps m.reverse) ≡ true →
       joined old (texts_of steps (m ∷ [])) ≡ record {

@@ -7,6 +7,7 @@ use Rattle.fq_text.specs.Grammar.{Read, Found, front, begins_with, before_plus, 
 use Rattle.fq_text.proofs.LawfulLemmas.{passed, complete}
 
 module _ (more : List (List ℕ)) where
+  -- a record without bases has no quality lines: all lines come after them
   pub no_quality : (n : ℕ) (ls : List (List ℕ)) → eqb n 0 ≡ true →
       (quality_lines n ls ≡ []) × (after_quality n ls ≡ Some ls)
   no_quality n [] none = (refl, cond-true (eqb n 0) (Some []) None none)
@@ -128,6 +129,7 @@ module _ (more : List (List ℕ)) where
         ∙ ap (from_plus_line e bs (concat (before_plus ls))) longer.1
         ∙ plus_line_more bs (concat (before_plus ls)) (from_plus ls) second.1
 
+    -- a record that comes first also comes first if more lines follow, and leaves these too
     pub front_more : (ls : List (List ℕ)) → front e ls ≡ Found r rest →
         front e (ls ++ more) ≡ Found r (rest ++ more)
     front_more [] is = absurd cc

@@ -48,6 +48,7 @@ module _ {F : Type 0} (state : F → FeedState) (a b c : Sourced F) (p : KeepsCo
       new.ended → Uses (side old) (side new)
   used_in old new t = record { used = t.before; split = t.split; at_line = t.at_line }
 
+  -- what every call keeps is also kept by two calls, one after the other
   pub keeps_then : KeepsCount state a c
   keeps_then =
       let d = draws_then (side a) (side b) (side c) 0 (drawn_in a b p) (drawn_in b c q) in

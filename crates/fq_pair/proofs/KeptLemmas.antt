@@ -17,18 +17,21 @@ cond_below : (b : Bool) (n i : ℕ) (is : List ℕ) → i < n → Below n is →
 cond_below true n i is lt below = (lt, below)
 cond_below false n i is lt below = below
 
+-- places selected from places below n are below n
 pub select_below : (test : ℕ → Bool) (j n : ℕ) (is : List ℕ) → Below n is →
     Below n (select test j is)
 select_below test j n [] below = tt
 select_below test j n (i ∷ is) below = cond_below (test j) n i (select test (suc j) is) below.0
     (select_below test (suc j) n is below.1)
 
+-- the places that steps keep of places below n are below n
 pub kept_below : (steps : List Step) (q : List ℕ) (n : ℕ) (is : List ℕ) → Below n is →
     Below n (kept_of steps q is)
 kept_below [] q n is below = below
 kept_below (step ∷ steps) q n is below = kept_below steps q n _
     (select_below (keeps step (map (λ i. get_or q i 0) is)) 0 n is below)
 
+-- the m places from a on are below n, if n is at least a + m
 pub places_below : (n a m : ℕ) → a + m ≤ n → Below n (places a m)
 places_below n a zero le = tt
 places_below n a (suc m) le = (omega arith, places_below n (suc a) m (omega arith))

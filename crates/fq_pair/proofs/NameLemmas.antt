@@ -30,6 +30,7 @@ word_end title (Some end) is =
     (λ k lt. false_from_ne_true (is_gap (get_or title k 0)) (is.0.before k (zero-le {n = k}) lt))
     (λ lt. is.1)
 
+-- a title up to its first blank or tab, or all of it if it has none, is its first word
 pub word_is : (title : List ℕ) (r : Option ℕ) (end : ℕ) → IsFirstByte (is_byte2 32 9) title r →
     end ≡ unwrap_or r (length title) → take end title ≡ before_first is_gap title
 word_is title r end first is = ap (λ n. take n title) (is ∙ sym (word_end title r first))
@@ -136,11 +137,13 @@ without_end_front ending word =
     (λ ends. take_front (length word - length ending) word)
     (λ other. take-length word)
 
+-- a name is not longer than its title
 pub length-name : (side : Side) (title : List ℕ) → length (name_of side title) ≤ length title
 length-name side title =
     let n = position_or_len is_gap title in
     omega (arith, length-without_end (mark_of side) (take n title), length-take n title)
 
+-- the first bytes of a title, as many as its name has, are the name
 pub name_front : (side : Side) (title : List ℕ) →
     take (length (name_of side title)) title ≡ name_of side title
 name_front side title =

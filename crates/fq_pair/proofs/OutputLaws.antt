@@ -63,6 +63,7 @@ module _ (steps : List Step) (xs ys : List Mates) where
       let f = counts_of-append in
       cc
 
+-- of three outputs, it makes no difference which two are joined first
 pub joined_assoc : (a b c : Outputs) → joined (joined a b) c ≡ joined a (joined b c)
 joined_assoc a b c =
     let p = append_assoc a.forward_paired b.forward_paired c.forward_paired in

@@ -136,8 +136,10 @@ sequence_taken (l ∷ ls) plus ps is = ⊎_elim
 pub record TakesLines (e : Encoding) (r : Read) (ls rest : List (List ℕ)) : Type 0 where
   pub taken : List (List ℕ)
   pub split : ls ≡ taken ++ rest
+  -- whatever lines follow those taken, the record comes first and leaves them
   pub always : (others : List (List ℕ)) → front e (taken ++ others) ≡ Found r others
 
+-- a record that comes first takes lines, and comes first whatever lines follow these
 pub front_takes : (e : Encoding) (r : Read) (ls rest : List (List ℕ)) → front e ls ≡ Found r rest →
     TakesLines e r ls rest
 front_takes e r [] rest is = absurd cc

@@ -9,6 +9,7 @@ use Rattle.fq_text.specs.Grammar.{Read, IsLawful}
 use Rattle.fq_text.specs.Written.{written, written_quality, CanRecode}
 use Rattle.fq_pair.specs.Outputs.{log_numbers, bytes_at, places_of, IsWithin, record_at}
 
+-- the numbers of a log line of n bases of which m, one or more, are kept from start on
 pub log_numbers-places : (n start m : ℕ) → 0 < m →
     log_numbers n (places start m) ≡ m ∷ start ∷ (start + m) ∷ (n - start - m) ∷ []
 log_numbers-places n start zero some = absurd (omega arith)

@@ -13,6 +13,7 @@ abbrev pub behind_whole : List ℕ → List ℕ
 behind_whole [] = []
 behind_whole (b ∷ bs) = cond (list_any is_lf (b ∷ bs)) (behind_whole bs) (b ∷ bs)
 
+-- a text is its whole part and the bytes after its last LF
 pub whole_split : (text : List ℕ) → text ≡ whole_part text ++ behind_whole text
 whole_split [] = refl
 whole_split (b ∷ bs) = ⊎_elim
@@ -52,6 +53,7 @@ some_whole (b ∷ bs) some =
     ap is_whole (cond-true (list_any is_lf (b ∷ bs)) (b ∷ whole_part bs) [] some)
     ∙ whole_before b bs some (some_whole bs)
 
+-- the whole part of a text ends with a line end, or is empty
 pub is_whole-whole_part : (text : List ℕ) → is_whole (whole_part text) ≡ true
 is_whole-whole_part text = ⊎_elim (some_whole text) (λ none. ap is_whole (no_whole text none))
     (cases_Bool (list_any is_lf text))

@@ -16,6 +16,7 @@ numbers_of_kept n k within =
     (k.stop - k.start)) ∷ []) stop
     ∙ ap (λ (end : ℕ). (k.stop - k.start) ∷ k.start ∷ k.stop ∷ end ∷ []) behind)
 
+-- the numbers of a read that survives are those of its kept places
 pub returns-in-Some : goal.returns-in-Some
 returns-in-Some c =
     numbers_of_kept c.args.bases c.in-Some.kept

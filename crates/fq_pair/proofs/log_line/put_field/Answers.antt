@@ -8,12 +8,14 @@ use Rattle.fq_pair.proofs.log_line.put_field.Goals as goal
 short : (n : ℕ) → n < 2 ^ 64 → length (decimal n) ≤ 20
 short n small = length-decimal-le 20 n (omega arith) (omega arith) small
 
+-- the digits of the number, at most 20, have room before the end of the field
 pub write_digits-at-requires : goal.write_digits-at-requires
 write_digits-at-requires c =
     let digits = short c.args.number c.ranges.number.fits in
     let room = c.requires.room in
     (omega arith, c.requires.within)
 
+-- the digits don't begin at the first byte, so the blank has a place before them
 pub overflow_sub-at : goal.overflow_sub-at
 overflow_sub-at c =
     let digits = short c.args.number c.ranges.number.fits in
@@ -21,12 +23,14 @@ overflow_sub-at c =
     let start = c.write_digits-at.ensures.start in
     omega arith
 
+-- a blank and the digits are at most 21 bytes
 pub returns-clause-room : goal.returns-clause-room
 returns-clause-room c =
     let digits = short c.args.number c.ranges.number.fits in
     let start = c.write_digits-at.ensures.start in
     omega arith
 
+-- a blank and the digits are written, and the bytes after the field stay
 pub returns-clause-text : goal.returns-clause-text
 returns-clause-text c =
     let digits = short c.args.number c.ranges.number.fits in

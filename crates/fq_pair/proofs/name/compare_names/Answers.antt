@@ -21,6 +21,7 @@ returns-then-begins_like-clause-same c =
     ∙ ap (λ (w : List ℕ). bytes_eq (without_end (mark_of Forward) w)
     (without_end (mark_of Reverse) (before_first is_gap c.args.reverse.now))) word
 
+-- if the titles begin alike, the lengths are those of the names in both titles
 pub returns-then-begins_like-clause-lengths : goal.returns-then-begins_like-clause-lengths
 returns-then-begins_like-clause-lengths c =
     let like = c.begins_like.ensures in

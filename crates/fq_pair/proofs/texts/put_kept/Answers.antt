@@ -5,6 +5,7 @@ use Rattle.fq_text.specs.Written.{CanRecode}
 use Rattle.fq_pair.proofs.TextLemmas.{can_recode, record_of_kept}
 use Rattle.fq_pair.proofs.texts.put_kept.Goals as goal
 
+-- if the record is recoded, each kept quality byte has a score
 pub append_record-requires-clause-scored : goal.append_record-requires-clause-scored
 append_record-requires-clause-scored c =
     let start = c.args.kept.start in
@@ -17,6 +18,7 @@ append_record-requires-clause-scored c =
     (take n (drop start bytes))) (sym c.qual.ensures)
     (can_recode read c.args.kept c.args.recode c.title-title.ensures.lawful))
 
+-- the text grows by the record of the kept bases
 pub returns : goal.returns
 returns c =
     let read = c.args.read.now in

@@ -17,56 +17,66 @@ make_room-requires c = subst (IsWithin (length c.args.pair.forward.seq)) c.in-So
     (kept_within_read c.args.steps.now c.args.pair.forward c.args.forward
     c.title-forward_title.ensures.lawful.same_len c.requires.forward)
 
+-- if both survive, what is kept of the reverse mate lies within it when room is made
 pub make_room-requires-in-Some-Some : goal.make_room-requires-in-Some-Some
 make_room-requires-in-Some-Some c = subst (IsWithin (length c.args.pair.reverse.seq))
     c.in-Some-Some.is-1 (kept_within_read c.args.steps.now c.args.pair.reverse c.args.reverse
     c.title-reverse_title.ensures.lawful.same_len c.requires.reverse)
 
+-- if both survive, what is kept of the forward mate lies within it when its record is put
 pub put_kept-requires-clause-within : goal.put_kept-requires-clause-within
 put_kept-requires-clause-within c = subst (IsWithin (length c.args.pair.forward.seq))
     c.in-Some-Some.is-0 (kept_within_read c.args.steps.now c.args.pair.forward c.args.forward
     c.title-forward_title.ensures.lawful.same_len c.requires.forward)
 
+-- if both survive, what is kept of the reverse mate lies within it when its record is put
 pub put_kept-requires-in-Some-Some-clause-within : goal.put_kept-requires-in-Some-Some-clause-within
 put_kept-requires-in-Some-Some-clause-within c =
     subst (IsWithin (length c.args.pair.reverse.seq)) c.in-Some-Some.is-1
     (kept_within_read c.args.steps.now c.args.pair.reverse c.args.reverse
     c.title-reverse_title.ensures.lawful.same_len c.requires.reverse)
 
+-- what is kept of a forward mate alone lies within it when room is made
 pub make_room-requires-in-Some-None : goal.make_room-requires-in-Some-None
 make_room-requires-in-Some-None c = subst (IsWithin (length c.args.pair.forward.seq))
     c.in-Some-None.is-0 (kept_within_read c.args.steps.now c.args.pair.forward c.args.forward
     c.title-forward_title.ensures.lawful.same_len c.requires.forward)
 
+-- what is kept of a forward mate alone lies within it when its record is put
 pub put_kept-requires-in-Some-None-clause-within : goal.put_kept-requires-in-Some-None-clause-within
 put_kept-requires-in-Some-None-clause-within c =
     subst (IsWithin (length c.args.pair.forward.seq)) c.in-Some-None.is-0
     (kept_within_read c.args.steps.now c.args.pair.forward c.args.forward
     c.title-forward_title.ensures.lawful.same_len c.requires.forward)
 
+-- what is kept of a reverse mate alone lies within it when room is made
 pub make_room-requires-in-None-Some : goal.make_room-requires-in-None-Some
 make_room-requires-in-None-Some c = subst (IsWithin (length c.args.pair.reverse.seq))
     c.in-None-Some.is-1 (kept_within_read c.args.steps.now c.args.pair.reverse c.args.reverse
     c.title-reverse_title.ensures.lawful.same_len c.requires.reverse)
 
+-- what is kept of a reverse mate alone lies within it when its record is put
 pub put_kept-requires-in-None-Some-clause-within : goal.put_kept-requires-in-None-Some-clause-within
 put_kept-requires-in-None-Some-clause-within c =
     subst (IsWithin (length c.args.pair.reverse.seq)) c.in-None-Some.is-1
     (kept_within_read c.args.steps.now c.args.pair.reverse c.args.reverse
     c.title-reverse_title.ensures.lawful.same_len c.requires.reverse)
 
+-- what is kept of the forward mate lies within the bases that its log line counts
 pub put_line-requires-clause-within : goal.put_line-requires-clause-within
 put_line-requires-clause-within c = subst (λ n. IsWithin n c.args.forward)
     (sym (ap length c.seq-forward_seq.ensures))
     (kept_within_read c.args.steps.now c.args.pair.forward c.args.forward
     c.title-forward_title.ensures.lawful.same_len c.requires.forward)
 
+-- what is kept of the reverse mate lies within the bases that its log line counts
 pub put_line-requires-2-clause-within : goal.put_line-requires-2-clause-within
 put_line-requires-2-clause-within c = subst (λ n. IsWithin n c.args.reverse)
     (sym (ap length c.seq-reverse_seq.ensures))
     (kept_within_read c.args.steps.now c.args.pair.reverse c.args.reverse
     c.title-reverse_title.ensures.lawful.same_len c.requires.reverse)
 
+-- whoever survives, the texts, the log and the counts grow by those of the pair
 pub returns-clause-ok : goal.returns-clause-ok
 returns-clause-ok c =
     let steps = c.args.steps.now in
