@@ -33,9 +33,11 @@ use Rattle.fq_files_run.proofs.ReportingLemmas.{report_held, text_is}
 pub record IsHeld (a : Asking) (c : Choices) (old new : Holding) (run : Run) : Type 0 where
   pub settings : settings_of a ≡ Ok c
   pub form : run.form ≡ a.inputs.form
+  -- the bytes of the feeds are known to the proof
   pub told : AreTold run
   pub forward_is : old a.inputs.forward ≡ Some run.forward.to_come
   pub reverse_is : old a.inputs.reverse ≡ Some run.reverse.to_come
+  -- there is an outlet for the trim log just if the request names one
   pub log : is_some run.outlets.log ≡ is_some a.log
   pub empty : AreEmpty run.outlets
   pub hold : HoldTaken a run.outlets_left new
@@ -132,6 +134,7 @@ report_of_run a c old new run account encoding reported name bytes settings form
 
 -- ---- the same facts about equal feeds and outlets
 
+-- it makes no difference which of two equal flags says that the bytes of the files are known
 pub opened_as : (a : Asking) (x y : Bool) (old new : Holding) (inputs : Opened)
     (outlets : OutletStates) (report : Option OutletState) → x ≡ y →
     AreOpened a x old new inputs outlets report → AreOpened a y old new inputs outlets report

@@ -25,6 +25,7 @@ healthy_at states healthy ReverseUnpaired outlet at = let P : OutletState → Ty
 healthy_at states healthy Log outlet at = let P : Option OutletState → Type 0 =
     λ o. IfSome o (λ log. log.failures ≡ 0) in subst P at healthy.log
 
+-- as long as no outlet is handed back, the names with failed devices are the same
 pub none_counted : (a : Asking) (states : OutletStates) (failed : Failed) →
     AreCounted a states 0 failed failed
 none_counted a states failed =

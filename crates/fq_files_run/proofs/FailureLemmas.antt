@@ -42,8 +42,11 @@ self_fails Log = omega arith
 -- an outlet that failed exists now and existed before the run
 pub record HadFailed (old new : Option OutletState) : Type 0 where
   pub outlet : OutletState
+  -- an outlet was there before
   pub was : is_some old ≡ true
+  -- this outlet is there now
   pub is : new ≡ Some outlet
+  -- it has failed
   pub some : 0 < outlet.failures
 
 took_failed : (old new : Option OutletState) (text : List ℕ) (failed : ℕ) →
@@ -61,6 +64,7 @@ took_failed None None text failed took some = let f : failed ≡ 0 = took in
 took_failed None (Some new) text failed took some = absurd took
 took_failed (Some old) None text failed took some = absurd took
 
+-- if a run reports a failed write of an output, the outlet of that output has failed
 pub write_failed : (c : Choices) (run : Run) → EveryEnding c run → (out : Out) →
     run.outcome ≡ Write out → HadFailed (outlet_at out run.outlets) (outlet_at out run.outlets_left)
 write_failed c run every out is =
@@ -84,6 +88,7 @@ wanted_output a outlets log Log there = some_in a.log (sym log ∙ there)
 
 -- ---- devices that did not fail
 
+-- a run that ended whole has one of the last two outcomes in the order of precedence
 pub whole_rank : (o : Outcome) → IsTrue (ends_whole o) → 8 ≤ rank o
 whole_rank Spawn e = absurd (cc e)
 whole_rank Lane e = absurd (cc e)
@@ -95,6 +100,7 @@ whole_rank (Endless side) e = absurd (cc e)
 whole_rank (Input fault) e = omega arith
 whole_rank Finished e = omega arith
 
+-- a run that ended whole did not end with an unconfirmed lane
 pub not_lane : (o : Outcome) → IsTrue (ends_whole o) → o ≢ Lane
 not_lane o whole lane = let P : Outcome → Type 0 = λ x. IsTrue (ends_whole x) in
     absurd (cc (subst P lane whole))
@@ -180,6 +186,7 @@ gave_within old None = omega arith
 within : (m n k : ℕ) → m ≤ n → n ≤ k → m ≤ k
 within m n k low high = omega (arith, low, high)
 
+-- an input that is reported as endless has at least as many bytes as read calls are allowed
 pub endless_input : (c : Choices) (run : Run) → EveryEnding c run → (side : Side) →
     run.outcome ≡ Endless side → IsTrue (feed_of side run).tells →
     c.max_reads ≤ length (feed_of side run).to_come

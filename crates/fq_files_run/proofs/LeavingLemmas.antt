@@ -126,6 +126,7 @@ pub unchanged_or_nothing : (old mid new : Option (List ℕ)) → mid ≡ old →
 unchanged_or_nothing old mid new same (inl kept) = inl (kept ∙ same)
 unchanged_or_nothing old mid new same (inr nothing) = inr nothing
 
+-- what a refusal leaves of files that had not changed yet, it leaves of those at the start
 pub leaves_since : (a : Asking) (refusal : Refusal) (old mid new : Holding) → IsUnchanged old mid →
     RefusalLeaves a refusal mid new → RefusalLeaves a refusal old new
 leaves_since a why.Encoding old mid new same left = λ name. left name ∙ same name

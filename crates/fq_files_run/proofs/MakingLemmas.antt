@@ -54,6 +54,7 @@ unmade_of a this name old new named there others = record {
 pub along : (a b : Bool) → a ≡ b → IsTrue b → IsTrue a
 along a b e told = subst IsTrue (sym e) told
 
+-- at the start no output has been made, and no file has changed
 pub none_made : (a : Asking) (start : Holding) (tells : Bool) → Made a start 0 tells start
 none_made a start tells told = record {
   empty = λ out name named below. absurd (omega (arith, below));
@@ -109,9 +110,11 @@ rest_unmade a start old new this first unmade = λ name free. unmade.others name
 
 -- ---- the first outputs that have a name
 
+-- this is one of the first n outputs, and it has this name
 abbrev pub IsFirst : Asking → ℕ → List ℕ → Out → Type 0
 IsFirst a n name out = (place out < n) × (output_name a out ≡ Some name)
 
+-- this output comes after the first n, or it doesn't have this name
 abbrev pub IsLater : Asking → ℕ → List ℕ → Out → Type 0
 IsLater a n name out = output_name a out ≡ Some name → n ≤ place out
 
@@ -223,6 +226,7 @@ module _ (a : Asking) (start : Holding) (this : Out) (name : List ℕ)
     (old new : Holding) (told_old told_new : Bool) (told_is : told_new ≡ told_old)
     (first : Made a start (place this) told_old old) (others : IsTrue told_old →
     KeepsOthers old new name) where
+  -- if the output is made, one more has been made
   pub one_made : (IsTrue told_old → new name ≡ Some []) →
       Made a start (suc (place this)) told_new new
   one_made emptied told =
@@ -230,6 +234,7 @@ module _ (a : Asking) (start : Holding) (this : Out) (name : List ℕ)
       next_made a start old new this (first before)
       (made_of a this name old new named (emptied before) (others before))
 
+  -- if the output is refused, the files hold what its refusal leaves
   pub none_more : (refusal : Refusal) → (IsTrue told_old → (new name ≡ old name)
       ⊎ (new name ≡ Some [])) → (refusal ≡ why.Target this) ⊎ IsMemory refusal →
       Unmade a refusal start told_new new
@@ -256,6 +261,7 @@ no_log_made a start files tells none made told = record {
         let bad : None ≡ Some name = sym none
         ∙ (ap (output_name a) (sym (same_place out Log four)) ∙ named) in absurd cc
 
+-- once all outputs are made, the file of each is empty
 pub five_empty : (a : Asking) (start files : Holding) → AreMade a start 5 files →
     (out : Out) (name : List ℕ) → output_name a out ≡ Some name → files name ≡ Some []
 five_empty a start files made ForwardPaired name named =
@@ -268,6 +274,7 @@ five_empty a start files made ReverseUnpaired name named =
     made.empty ReverseUnpaired name named (omega arith)
 five_empty a start files made Log name named = made.empty Log name named (omega arith)
 
+-- once all outputs are made, the file of each exists
 pub five_held : (a : Asking) (start files : Holding) → AreMade a start 5 files → AreHeld a files
 five_held a start files made out name named =
     is_there (files name) (five_empty a start files made out name named)

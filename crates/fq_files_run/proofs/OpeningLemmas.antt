@@ -29,6 +29,7 @@ some_there o bytes is = let P : Option (List ℕ) → Type 0 = λ x. IsSome x in
 not_none : (o : Option (List ℕ)) (bytes : List ℕ) → o ≡ Some bytes → o ≡ None → ⊥
 not_none o bytes some none = let bad : Some bytes ≡ None = sym some ∙ none in cc
 
+-- the file of an input exists if its feed has the bytes of it
 pub fed_there : (inputs : Opened) (names : InputNames) (old : Holding) → AreFed inputs names old →
     (side : Side) → old (input_name names side) ≡ None → ⊥
 fed_there inputs names old fed Forward none =
@@ -71,6 +72,7 @@ pub report_late : (refusal : Refusal) → (refusal ≡ why.Report) ⊎ IsMemory 
 report_late refusal is = let P : Refusal → Type 0 = λ r. IsTrue (is_late r) in
     ⊎_elim (λ report. subst P (sym report) refl) (λ memory. subst P (sym memory.1) refl) is
 
+-- a refusal that can come once both inputs are opened doesn't have exit status 2
 pub late_status : (refusal : Refusal) → IsTrue (is_late refusal) → status_of refusal ≢ 2
 late_status (why.Target out) late e = absurd (cc e)
 late_status why.Report late e = absurd (cc e)
@@ -314,27 +316,32 @@ leads_nowhere a before after same outputs report name made leads =
 
 -- ---- which files exist
 
+-- what is made of an optional value is there just if the value is
 pub is_some_map : {X Y : Type 0} (f : X → Y) (o : Option X) → is_some (option_map f o) ≡ is_some o
 is_some_map f None = refl
 is_some_map f (Some x) = refl
 
+-- an outlet that has not failed, if there is one, has a state without failures
 pub fresh_map : {X : Type 0} (state : X → OutletState) (o : Option X) →
     IfSome o (λ x. (state x).failures ≡ 0) →
     IfSome (option_map state o) (λ outlet. outlet.failures ≡ 0)
 fresh_map state None fresh = fresh
 fresh_map state (Some x) fresh = fresh
 
+-- an outlet that tells its bytes and has taken none, if there is one, has an empty state
 pub empty_map : {X : Type 0} (state : X → OutletState) (o : Option X) →
     IfSome o (λ x. IsTrue (state x).tells) → IfSome o (λ x. (state x).taken ≡ []) →
     IfSome (option_map state o) IsEmptyOutlet
 empty_map state None tells taken = tells
 empty_map state (Some x) tells taken = record { tells = tells; taken = taken }
 
+-- an outlet with an empty state, if there is one, tells its bytes
 pub tells_unmap : {X : Type 0} (state : X → OutletState) (o : Option X) →
     IfSome (option_map state o) IsEmptyOutlet → IfSome o (λ x. IsTrue (state x).tells)
 tells_unmap state None empty = empty
 tells_unmap state (Some x) empty = empty.tells
 
+-- an outlet with an empty state, if there is one, has taken no bytes
 pub taken_unmap : {X : Type 0} (state : X → OutletState) (o : Option X) →
     IfSome (option_map state o) IsEmptyOutlet → IfSome o (λ x. (state x).taken ≡ [])
 taken_unmap state None empty = empty

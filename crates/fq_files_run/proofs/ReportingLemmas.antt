@@ -29,6 +29,7 @@ not_nil : (xs : List ℕ) → [] ≡ xs ++ (10 ∷ []) → ⊥
 not_nil [] e = cc
 not_nil (x ∷ xs) e = cc
 
+-- a line whose line end is removed is the words of that line
 pub stripped : (bs words : List ℕ) (r : Option (Bor (List ℕ))) →
     MatchOption r ((front : List ℕ) → bs ≢ front ++ (10 ∷ [])) (λ x. bs ≡ x.now ++ (10 ∷ [])) →
     bs ≡ line words
@@ -36,6 +37,7 @@ pub stripped : (bs words : List ℕ) (r : Option (Bor (List ℕ))) →
 stripped bs words None h e = absurd (h words e)
 stripped bs words (Some x) h e = ap Some (append_cancel_right x.now words (10 ∷ []) (sym h ∙ e))
 
+-- an empty text has no line end to remove
 pub not_stripped : (bs : List ℕ) (r : Option (Bor (List ℕ))) →
     MatchOption r ((front : List ℕ) → bs ≢ front ++ (10 ∷ [])) (λ x. bs ≡ x.now ++ (10 ∷ [])) →
     bs ≡ [] → r ≡ None
@@ -64,6 +66,7 @@ words_are (Endless side) bs r is ends some none =
 words_are (Input fault) bs r is ends some none = some (input_words fault) is
 words_are Finished bs r is ends some none = ap (option_map (λ x. x.now)) (none is)
 
+-- if the exit status is 0 or 3, the outcome's line without its line end is the fault's words
 pub fault_words_are : (outcome : Outcome) (bs : List ℕ) (r : Option (Bor (List ℕ))) →
     bs ≡ outcome_line outcome → (outcome_status outcome ≡ 0) ⊎ (outcome_status outcome ≡ 3)
     → ((words : List ℕ) → bs ≡ line words → option_map (λ x. x.now) r ≡ Some words) →

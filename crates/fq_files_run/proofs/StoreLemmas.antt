@@ -42,6 +42,7 @@ same_place one other e = sym (out_at-place one) ∙ (ap out_at e ∙ out_at-plac
 pub below_next : (m n : ℕ) → m < suc n → (m < n) ⊎ (m ≡ n)
 below_next m n h = grind arith
 
+-- as long as no outlet is handed back, no file has changed
 pub none_stored : (a : Asking) (states : OutletStates) (files : Holding) (tells : Bool) →
     Stored a files states 0 tells files
 none_stored a states files tells told = record {

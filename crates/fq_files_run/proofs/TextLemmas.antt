@@ -36,6 +36,7 @@ there_is l name e = ap is_some e
 
 module _ (a : Asking) (old new : OutletStates) (texts : Out → List ℕ) (failed : Option Out)
     (files : Holding) where
+  -- the file of each output with a name of its own holds the text that its outlet took
   pub texts_held : is_some old.log ≡ is_some a.log → AreEmpty old →
       OutletsTook old new texts failed → HoldTaken a new files →
       (out : Out) (name : List ℕ) → HasOwnName a out name → files name ≡ Some (texts out)

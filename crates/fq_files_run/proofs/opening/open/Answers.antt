@@ -8,6 +8,7 @@ use Rattle.fq_files_run.proofs.MakingLemmas.{along, five_empty, five_held, repor
 use Rattle.fq_files_run.proofs.OpeningLemmas.{leads_nowhere, empty_map, fresh_map, is_some_map, late_status, refusable_since, refused_late, report_late, still_there}
 use Rattle.fq_files_run.proofs.opening.open.Goals as goal
 
+-- a refused output: what its refusal says is true, and the files hold what it leaves
 pub returns-in_err-outlets-clause-unopened : goal.returns-in_err-outlets-clause-unopened
 returns-in_err-outlets-clause-unopened g c =
     let p = err_from_is_err_and c.from_residual-in_err-outlets.result
@@ -26,6 +27,7 @@ returns-in_err-outlets-clause-unopened g c =
     (λ told name free other. (outputs.unmade (along _ _ outputs.told
     (along _ _ inputs.told told))).rest name free ∙ inputs.unchanged told name))
 
+-- a refused report: what its refusal says is true, and the files hold what it leaves
 pub returns-in_err-report-clause-unopened : goal.returns-in_err-report-clause-unopened
 returns-in_err-report-clause-unopened g c =
     let p = err_from_is_err_and c.from_residual-in_err-report.result
@@ -54,6 +56,7 @@ returns-in_err-report-clause-unopened g c =
     report.others told_2 name other ∙ (rest_made _ _ _ _ (outputs.made told_2) name free
     ∙ inputs.unchanged told name)))
 
+-- if an output is refused as it is made, no output and no report leads to an input
 pub returns-in_err-outlets-clause-spared : goal.returns-in_err-outlets-clause-spared
 returns-in_err-outlets-clause-spared g c = λ told name made leads.
     let told_1 = along _ _ c.in_ok-feeds.ensures.told told in
@@ -61,6 +64,7 @@ returns-in_err-outlets-clause-spared g c = λ told name made leads.
     (c.input_among_outputs.ensures.none c.in_default.is told_1)
     (c.input_as_report.ensures.none c.if-input_as_report.false told_1) name made leads)
 
+-- if the report is refused as it is made, neither it nor an output leads to an input
 pub returns-in_err-report-clause-spared : goal.returns-in_err-report-clause-spared
 returns-in_err-report-clause-spared g c = λ told name made leads.
     let told_1 = along _ _ c.in_ok-feeds.ensures.told told in
@@ -69,6 +73,7 @@ returns-in_err-report-clause-spared g c = λ told name made leads.
     told_1)
     (c.input_as_report.ensures.none c.if-input_as_report.false told_1) name made leads)
 
+-- if everything is opened, no output and no report leads to an input
 pub returns-clause-spared : goal.returns-clause-spared
 returns-clause-spared g c = λ told name made leads.
     let told_1 = along _ _ c.in_ok-feeds.ensures.told told in
@@ -77,6 +82,7 @@ returns-clause-spared g c = λ told name made leads.
     told_1)
     (c.input_as_report.ensures.none c.if-input_as_report.false told_1) name made leads)
 
+-- the devices are ready, the feeds have the bytes of the inputs, and other files are the same
 pub returns-clause-opened : goal.returns-clause-opened
 returns-clause-opened g c =
     let a = asking_of c.args.request.now in

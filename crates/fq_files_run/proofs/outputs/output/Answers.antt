@@ -5,6 +5,7 @@ use Rattle.fq_text.proofs.ResultLemmas.{cases_mapped}
 use Rattle.fq_files_run.proofs.MakingLemmas.{one_made, none_more}
 use Rattle.fq_files_run.proofs.outputs.output.Goals as goal
 
+-- an output that is made is one more that has been made
 pub returns-clause-made : goal.returns-clause-made
 returns-clause-made g c =
     let named = sym c.output_name.ensures ∙ ap (option_map (λ name. name.now)) c.in-Some.is in
@@ -14,6 +15,7 @@ returns-clause-made g c =
     (rw made at c.target.ensures.emptied))
     (λ fault why failed gave. tt)
 
+-- after a refused output, the files hold what its refusal leaves
 pub returns-clause-unmade : goal.returns-clause-unmade
 returns-clause-unmade g c =
     let named = sym c.output_name.ensures ∙ ap (option_map (λ name. name.now)) c.in-Some.is in

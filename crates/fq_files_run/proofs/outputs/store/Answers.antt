@@ -7,6 +7,7 @@ use Rattle.fq_files_run.proofs.CountingLemmas.{none_counted, no_log_counted}
 use Rattle.fq_files_run.proofs.outputs.store.Goals as goal
 use Rattle.fq_files_run.proofs.outputs.store.Goals.{in_default-via-in-Some+in_default, in_default-via-in_default}
 
+-- with a trim log, the files hold what all five outlets have taken
 pub returns-in-Some-Some-clause-stored : goal.returns-in-Some-Some-clause-stored
 returns-in-Some-Some-clause-stored g c =
     let stored_1 =
@@ -16,6 +17,7 @@ returns-in-Some-Some-clause-stored g c =
     let stored_4 = c.store_one-4.ensures.stored _ _ refl stored_3 in
     c.store_one-in-Some-Some.ensures.stored _ _ (rw c.in-Some-Some.is-1 refl) stored_4
 
+-- without a trim log, the files hold what the four outlets have taken
 pub returns-in_default-clause-stored : goal.returns-in_default-clause-stored
 returns-in_default-clause-stored g c =
     let a = asking_of c.args.request.now in
@@ -33,6 +35,7 @@ returns-in_default-clause-stored g c =
           let bad : None ≡ Some name = sym none ∙ named in cc
     ]) stored_4
 
+-- with a trim log, the failures of all five outlets are known
 pub returns-in-Some-Some-clause-counted : goal.returns-in-Some-Some-clause-counted
 returns-in-Some-Some-clause-counted g c =
     let counted_1 =
@@ -42,6 +45,7 @@ returns-in-Some-Some-clause-counted g c =
     let counted_4 = c.store_one-4.ensures.counted _ _ refl counted_3 in
     c.store_one-in-Some-Some.ensures.counted _ _ (rw c.in-Some-Some.is-1 refl) counted_4
 
+-- without a trim log, the failures of the four outlets are known
 pub returns-in_default-clause-counted : goal.returns-in_default-clause-counted
 returns-in_default-clause-counted g c =
     let a = asking_of c.args.request.now in

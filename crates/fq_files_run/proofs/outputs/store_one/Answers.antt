@@ -6,15 +6,18 @@ use Rattle.fq_files_run.proofs.StoreLemmas.{one_stored}
 use Rattle.fq_files_run.proofs.CountingLemmas.{one_counted}
 use Rattle.fq_files_run.proofs.outputs.store_one.Goals as goal
 
+-- the file of the output exists when its outlet is handed back
 pub done-requires-after_bounds : goal.done-requires-after_bounds
 done-requires-after_bounds g c κs within = λ told. c.requires.held told c.args.out _
     (sym c.output_name.ensures ∙ ap (option_map (λ name. name.now)) c.in-Some.is)
 
+-- the file of each output still exists
 pub returns-clause-held : goal.returns-clause-held
 returns-clause-held g c = λ told out name named.
     let before = along _ _ (sym c.done.ensures.told) told in
     c.done.ensures.held before name (c.requires.held before out name named)
 
+-- one more output's file holds what its outlet has taken
 pub returns-clause-stored : goal.returns-clause-stored
 returns-clause-stored g c = λ start states at first.
     let outlet = g.T.Target.Outlet.state c.args.outlet in
@@ -23,6 +26,7 @@ returns-clause-stored g c = λ start states at first.
     _ _ named at
     c.done.ensures.told c.done.ensures.stored c.done.ensures.others first
 
+-- the failures of one more outlet are known
 pub returns-clause-counted : goal.returns-clause-counted
 returns-clause-counted g c = λ start states at first.
     let outlet = g.T.Target.Outlet.state c.args.outlet in

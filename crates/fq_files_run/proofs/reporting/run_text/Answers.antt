@@ -7,6 +7,7 @@ use Rattle.fq_files_run.specs.Faults.{outcome_line}
 use Rattle.fq_files_run.proofs.ReportingLemmas.{fault_words_are}
 use Rattle.fq_files_run.proofs.reporting.run_text.Goals as goal
 
+-- the text is the report of what was asked for and counted, with the words of the fault
 pub returns : goal.returns
 returns c =
     let a = asking_of c.args.request.now in
