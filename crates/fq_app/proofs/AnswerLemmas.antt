@@ -214,11 +214,16 @@ refused_answer a told old new out err status refusal (inr lacks) first late left
 -- the report holds.
 pub record IsRun (a : Asking) (told : Bool) (old new : Holding) (outcome : Outcome)
     (counts : Counts) (reported : Reported) : Type 0 where
+  -- if it ended whole, all pairs were trimmed
   pub trims : IsTrue told → IsTrue (ends_whole outcome) → TrimsFiles a old new outcome counts
+  -- unless a lane was not confirmed, the outputs hold the texts of first pairs
   pub ended : IsTrue told → outcome ≢ Lane → HoldFirstPairs a old new outcome
+  -- a report is due only if the status is 0 or 3
   pub due : reported ≢ report.NotDue → (outcome_status outcome ≡ 0) ⊎ (outcome_status outcome ≡ 3)
+  -- if one was asked for and not due, the status is neither 0 nor 3
   pub not_due : reported ≡ report.NotDue → IsSome a.report →
       (outcome_status outcome ≢ 0) × (outcome_status outcome ≢ 3)
+  -- what the file of the report holds depends on what became of the report
   pub held : IsTrue told → (name : List ℕ) → a.report ≡ Some name →
       ReportHeld reported a old new name
 

@@ -12,6 +12,7 @@ use Rattle.fq_app.specs.Example.{example_choices, example_forward, example_outpu
 
 module _ (choices : Choices) (forward reverse : List ℕ) (choices_are : choices ≡ example_choices)
     (forward_is : forward ≡ example_forward) (reverse_is : reverse ≡ example_reverse) where
+  -- what is defined for each output by these settings and inputs is the example's output
   pub output_is : (out : Out) →
       text_of out (texts_of choices.steps (pairs choices.check_names choices.encoding 0 forward
       reverse).mates) ≡ example_output out
@@ -20,6 +21,7 @@ module _ (choices : Choices) (forward reverse : List ℕ) (choices_are : choices
       λ i. text_of out (texts_of (choices_are i).steps (pairs (choices_are i).check_names
       (choices_are i).encoding 0 (forward_is i) (reverse_is i)).mates)
 
+  -- the summary that is defined by these settings and inputs is the example's summary
   pub summary_is : summary_of (counts_of choices.steps (pairs choices.check_names choices.encoding 0
       forward reverse).mates) ≡ example_summary
   unfolding example_summary example_pairs
@@ -40,11 +42,13 @@ same_bytes a b e = cc
 abbrev pub IsThere : {A : Type 0} → (A → OutletState) → Option A → Type 0
 IsThere state o = MatchOption o ⊥ (λ a. ((state a).taken ≡ []) × ((state a).failures ≡ 0))
 
+-- an outlet that is there, is empty and has not failed has a state without failures
 pub there_healthy : {A : Type 0} (state : A → OutletState) (o : Option A) → IsThere state o →
     IfSome (option_map state o) (λ s. s.failures ≡ 0)
 there_healthy state (Some a) there = there.1
 there_healthy state None there = absurd there
 
+-- outlets of which none has failed are healthy, with a trim log or without one
 pub all_healthy : (o : OutletStates) → o.forward_paired.failures ≡ 0 →
     o.forward_unpaired.failures ≡ 0 → o.reverse_paired.failures ≡ 0 →
     o.reverse_unpaired.failures ≡ 0 →

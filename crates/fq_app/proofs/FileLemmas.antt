@@ -23,6 +23,7 @@ use Rattle.fq_app.specs.FilesInStep.{FilesAreInStep, FilesAreInStepUpTo}
 use Rattle.fq_in_step.proofs.TextLemmas.{inputs_give_pairs}
 use Rattle.fq_in_step.proofs.InStepLemmas.{texts_are_in_step}
 
+-- what holds of each member of a list holds of each member of its first part
 pub all_first : {X : Type 0} (P : X → Type 0) (xs ys : List X) → All P (xs ++ ys) → All P xs
 all_first P [] ys all = All-nil P
 all_first P (x ∷ xs) ys all = All-cons P x xs (All-head P x (xs ++ ys) all)
@@ -32,6 +33,7 @@ all_first P (x ∷ xs) ys all = All-cons P x xs (All-head P x (xs ++ ys) all)
 pub still_first : (ms ns all : List Mates) → AreFirst (ms ++ ns) all → AreFirst ms all
 still_first ms ns all first = (ns ++ first.0, first.1 ∙ append_assoc ms ns first.0)
 
+-- what holds of all pairs holds of the first pairs
 pub first_are_pairs : (P : Mates → Type 0) (ms all : List Mates) → AreFirst ms all → All P all →
     All P ms
 first_are_pairs P ms all first are = all_first P ms first.0 (subst (All P) first.1 are)

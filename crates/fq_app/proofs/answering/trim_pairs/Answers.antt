@@ -7,6 +7,7 @@ use Rattle.fq_files_run.proofs.EndingLemmas.{ends_so}
 use Rattle.fq_app.proofs.AnswerLemmas.{IsRun, failed_device, is_held, is_left, left_so, not_failed, refused_answer, refused_device, refuses_fails, some_in, told_line}
 use Rattle.fq_app.proofs.answering.trim_pairs.Goals as goal
 
+-- a run that was made answers the request
 pub returns-in-Ok-clause-pairs : goal.returns-in-Ok-clause-pairs
 returns-in-Ok-clause-pairs g c =
     let a = asking_of c.args.request.now in
@@ -54,6 +55,7 @@ returns-in-Ok-clause-pairs g c =
       unopened = c.in-Ok.ensures.unopened;
     }
 
+-- at status 4 the line of a run names the device that has failed, or an endless input
 pub returns-in-Ok-clause-device : goal.returns-in-Ok-clause-device
 returns-in-Ok-clause-device g c = λ four.
     let completed = c.in-Ok.ensures.completed in
@@ -63,11 +65,13 @@ returns-in-Ok-clause-device g c = λ four.
     completed.failed completed.as_it_is completed.report_failed
     (c.tell.ensures.line (λ zero. absurd (omega (arith, four, zero)))) four
 
+-- in a run with status 0 or 3 no device of the files has failed
 pub returns-in-Ok-clause-sound : goal.returns-in-Ok-clause-sound
 returns-in-Ok-clause-sound g c = λ ends. c.in-Ok.ensures.completed.sound
     (ends_so c.in-Ok.completed.account.outcome c.tell.result (c.tell.ensures.whole ends) ends)
     (not_failed c.in-Ok.completed.reported (c.tell.ensures.reported ends))
 
+-- in a run with status 0 or 3 all outputs and the report were flushed
 pub returns-in-Ok-clause-flushed : goal.returns-in-Ok-clause-flushed
 returns-in-Ok-clause-flushed g c = λ ends.
     let is : (outcome_status c.in-Ok.completed.account.outcome ≡ 0)
@@ -75,35 +79,42 @@ returns-in-Ok-clause-flushed g c = λ ends.
     subst (λ n. (n ≡ 0) ⊎ (n ≡ 3)) (sym (c.tell.ensures.whole ends)) ends in
     c.in-Ok.ensures.completed.flushed is (c.tell.ensures.reported ends)
 
+-- of a wrong request no run is made, and no file has changed
 pub returns-in-Ok-clause-wrong : goal.returns-in-Ok-clause-wrong
 returns-in-Ok-clause-wrong g c = λ wrong.
     let why = some_in (wrong_with (asking_of c.args.request.now)) wrong in
     (c.in-Ok.ensures.wrong why.0 why.1).1
 
+-- a refusal answers the request
 pub returns-in-Err-clause-pairs : goal.returns-in-Err-clause-pairs
 returns-in-Err-clause-pairs g c = refused_answer _ _ _ _ _ _ _ c.in-Err.refusal c.refuse.ensures
     (λ why is. let same = (c.in-Err.ensures.wrong why is).0 in
     cc same) (λ none. c.in-Err.ensures.right none)
     c.in-Err.ensures.refused.left c.in-Err.ensures.refused.report_left c.in-Err.ensures.unopened
 
+-- at status 4 the line of a refusal names the file that was refused
 pub returns-in-Err-clause-device : goal.returns-in-Err-clause-device
 returns-in-Err-clause-device g c =
     λ four. inl (refused_device (asking_of c.args.request.now) _ _ _ _ _ _ c.in-Err.refusal
     c.refuse.ensures
     c.in-Err.ensures.refused.inputs c.in-Err.ensures.refused.refused four)
 
+-- if an output or the report leads to an input, a refusal changes no file
 pub returns-in-Err-clause-spared : goal.returns-in-Err-clause-spared
 returns-in-Err-clause-spared g c = λ told name made leads. (
   refuses_fails (asking_of c.args.request.now) c.in-Err.refusal _ _ c.refuse.ensures,
   (c.in-Err.ensures.spared told name made leads).1,
 )
 
+-- no device of the files has failed in a call that was refused
 pub returns-in-Err-clause-sound : goal.returns-in-Err-clause-sound
 returns-in-Err-clause-sound g c = λ ends. c.in-Err.ensures.unfailed
 
+-- a call that was refused leaves no further outlet unflushed
 pub returns-in-Err-clause-flushed : goal.returns-in-Err-clause-flushed
 returns-in-Err-clause-flushed g c = λ ends. c.in-Err.ensures.flushed
 
+-- the refusal of a wrong request changes no file
 pub returns-in-Err-clause-wrong : goal.returns-in-Err-clause-wrong
 returns-in-Err-clause-wrong g c = λ wrong.
     let why = some_in (wrong_with (asking_of c.args.request.now)) wrong in

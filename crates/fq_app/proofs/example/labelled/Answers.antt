@@ -3,6 +3,7 @@ use Rattle.fq_app.specs.Example.{section, sections}
 use Rattle.fq_app.proofs.ExampleLemmas.{six_appended}
 use Rattle.fq_app.proofs.example.labelled.Goals as goal
 
+-- the five texts and the summary follow one another, each below its label
 pub returns : goal.returns
 returns c =
     let log = c.args.log.now in

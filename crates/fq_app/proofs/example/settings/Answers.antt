@@ -36,6 +36,7 @@ same_steps a b e = cc
 same_choices : (a b : Choices) → ◌≡◌ {A = Result Choices BadSetting} (Ok a) (Ok b) → a ≡ b
 same_choices a b e = cc
 
+-- the settings that are made are those of the example
 pub returns : goal.returns
 unfolding choices_with
 returns c =

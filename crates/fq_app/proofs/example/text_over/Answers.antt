@@ -7,12 +7,14 @@ use Rattle.fq_app.specs.Example.{example_text, sections}
 use Rattle.fq_app.proofs.ExampleLemmas.{output_is, summary_is, all_healthy, there_healthy, log_took, took_all}
 use Rattle.fq_app.proofs.example.text_over.Goals as goal
 
+-- no outlet has failed before the run
 pub run-outcome-requires-clause-healthy : goal.run-outcome-requires-clause-healthy
 run-outcome-requires-clause-healthy g c κs within =
     let o = c.requires in
     all_healthy _ o.forward_paired_is.1 o.forward_unpaired_is.1 o.reverse_paired_is.1
     o.reverse_unpaired_is.1 (there_healthy _ _ o.log_is)
 
+-- the text is that of the example
 pub returns-clause-text : goal.returns-clause-text
 unfolding example_text
 returns-clause-text g c = IfOk-weaker c.shown.result _ _ (λ text left.

@@ -2,5 +2,6 @@ use Rattle.std.proofs.Common.{rules, append_assoc}
 use Rattle.std.proofs.lemmas.Result.{IfOk-equal}
 use Rattle.fq_app.proofs.refusal_line.step_line.Goals as goal
 
+-- the formatted text is the defined line for a fault in a step
 pub returns : goal.returns
 returns c = search (rules, IfOk-equal, append_assoc)

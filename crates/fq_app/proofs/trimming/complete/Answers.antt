@@ -12,6 +12,7 @@ use Rattle.fq_files_run.proofs.OpeningLemmas.{taken_unmap, tells_unmap}
 use Rattle.fq_files_run.proofs.CompletingLemmas.{IsHeld, first_pairs, report_of_run, sides_in, trims_files}
 use Rattle.fq_app.proofs.trimming.complete.Goals as goal
 
+-- the file of each output exists when the outlets are handed back
 pub store-requires-after_bounds : goal.store-requires-after_bounds
 store-requires-after_bounds g c κs within = λ told out name named.
     let before = along _ _ (sym c.inputs_done.ensures.told) told in
@@ -19,6 +20,7 @@ store-requires-after_bounds g c κs within = λ told out name named.
     subst P (sym (c.inputs_done.ensures.unchanged before name))
     (c.requires.ready.held before out name named)
 
+-- a run on opened devices is completed, has its witness, and makes no further name an input
 pub returns : goal.returns
 returns g c = record {
   witnessed = c.run-account.ensures.witnessed;

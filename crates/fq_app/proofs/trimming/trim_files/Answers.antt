@@ -6,12 +6,14 @@ use Rattle.fq_files_run.proofs.OpeningLemmas.{refusable_right, wrong_refused}
 use Rattle.fq_files_run.proofs.CompletingLemmas.{opened_as}
 use Rattle.fq_app.proofs.trimming.trim_files.Goals as goal
 
+-- the refusal of a wrong request is true, and no file has changed
 pub returns-in_err-settings-clause-refused : goal.returns-in_err-settings-clause-refused
 returns-in_err-settings-clause-refused g c =
     let p = err_from_is_err_and c.from_residual.result c.from_residual.ensures.1 in
     rw (p.1, p.2) (wrong_refused (asking_of c.args.request.now) _ _ _ _ _
     c.in_err-settings.ensures.wrong)
 
+-- the refusal of a file or of memory is true, and the files hold what it leaves
 pub returns-in_err-devices-clause-refused : goal.returns-in_err-devices-clause-refused
 returns-in_err-devices-clause-refused g c =
     let p = err_from_is_err_and c.from_residual-in_err-devices.result
@@ -26,12 +28,14 @@ returns-in_err-devices-clause-refused g c =
       report_left = unopened.report_left;
     })
 
+-- if an output or the report leads to an input, the call fails and no file changes
 pub returns-in_err-devices-clause-spared : goal.returns-in_err-devices-clause-spared
 returns-in_err-devices-clause-spared g c = λ told name made leads. (
   c.from_residual-in_err-devices.ensures.0,
   (c.in_err-devices.ensures.spared told name made leads).1,
 )
 
+-- a run changes only the files of the outputs and of the report
 pub returns-clause-rest : goal.returns-clause-rest
 returns-clause-rest g c = λ told.
     let devices = c.in_ok-devices.ensures in
