@@ -8,10 +8,12 @@ use Rattle.fq_files_run.specs.Faults.{outcome_words, line_when}
 use Rattle.fq_reasons.specs.Ended.{ending_reason}
 use Rattle.fq_reasons.specs.Lines.{explained, ending_line_when}
 
+-- if no reason is asked for, none is added to the words
 pub unasked : (b : Bool) (words : List ℕ) (reason : Option (List ℕ)) → b ≡ false →
     explained b words reason ≡ words
 unasked b words reason e = ap (λ (x : Bool). explained x words reason) e
 
+-- if no reason is known, none is added to the words
 pub unknown : (b : Bool) (words : List ℕ) (reason : Option (List ℕ)) → reason ≡ None →
     explained b words reason ≡ words
 unknown b words reason none = ap (explained b words) none ∙ go b
@@ -20,6 +22,7 @@ unknown b words reason none = ap (explained b words) none ∙ go b
     go true = refl
     go false = refl
 
+-- a reason that is asked for and known is added to the words
 pub known : (b : Bool) (words : List ℕ) (reason : Option (List ℕ)) (text : List ℕ) → b ≡ true →
     reason ≡ Some text → explained b words reason ≡ words ++ codes ": " ++ text
 known b words reason text e is = ap (explained b words) is
@@ -27,6 +30,7 @@ known b words reason text e is = ap (explained b words) is
 
 -- The line of an outcome.
 
+-- if no reason is asked for, the line of an outcome has none
 pub unasked_ending : (a : Asking) (o : Outcome) → a.explain ≡ false →
     ending_line_when a o ≡ line_when o
 unasked_ending a Finished e = refl
@@ -43,6 +47,7 @@ unasked_ending a (Endless side) e =
 unasked_ending a (Input fault) e =
     ap line (unasked a.explain (outcome_words (Input fault)) (ending_reason a (Input fault)) e)
 
+-- if no reason is known, the line of an outcome has none
 pub unknown_ending : (a : Asking) (o : Outcome) → ending_reason a o ≡ None →
     ending_line_when a o ≡ line_when o
 unknown_ending a Finished none = refl
@@ -61,9 +66,12 @@ unknown_ending a (Input fault) none =
 
 -- an outcome that has a reason has a line, to which the reason is added
 pub record IsAdded (a : Asking) (o : Outcome) (text : List ℕ) : Type 0 where
+  -- the line without a reason is that of the outcome's words
   pub plain : line_when o ≡ line (outcome_words o)
+  -- these words with the reason are the line with a reason
   pub whole : line (outcome_words o ++ codes ": " ++ text) ≡ ending_line_when a o
 
+-- a reason that is asked for and known is added to the line of its outcome
 pub known_ending : (a : Asking) (o : Outcome) (text : List ℕ) → a.explain ≡ true →
     ending_reason a o ≡ Some text → IsAdded a o text
 known_ending a Finished text e is = absurd (cc is)

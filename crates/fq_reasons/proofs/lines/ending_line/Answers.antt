@@ -9,6 +9,7 @@ use Rattle.fq_reasons.specs.Ended.{ending_reason}
 use Rattle.fq_reasons.proofs.LineLemmas.{known_ending}
 use Rattle.fq_reasons.proofs.lines.ending_line.Goals as goal
 
+-- if a reason is asked for and known, it is added to the line of the outcome
 pub returns-in-Some : goal.returns-in-Some
 returns-in-Some c =
     let a = asking_of c.args.request.now in
