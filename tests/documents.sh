@@ -11,8 +11,9 @@
 # - The version and its day are those of CHANGELOG.md everywhere (packaging/version.sh).
 # - Each file, and each heading, that a document links to exists.
 # - Every line of a document, outside tables and code, is at most 100 columns wide (DOCUMENTS_WIDTH
-#   sets another width, 0 none), and so are comments, clauses and definitions in crates/. No sentence
-#   of a document has more than 40 words.
+#   sets another width, 0 none), and so are comments, clauses, definitions and proofs in crates/. No
+#   sentence of a document has more than 40 words.
+# - Each public lemma has a line above it that says what it says.
 set -uo pipefail
 . "$(dirname "$0")/common.bash"
 width=${DOCUMENTS_WIDTH:-100}
@@ -269,6 +270,24 @@ measure_code() {
   fi
 }
 
+# Public lemmas and definitions of proofs without a line above them. The fields of a record may do
+# without, and so may answers to goals.
+find_bare_lemmas() {
+  find crates -path '*/out' -prune -o -path '*/proofs/*' -name '*.antt' -exec awk '
+    FNR == 1 { above = ""; fields = head = -1 }
+    { match($0, /^ */); depth = RLENGTH }
+    /[^ ]/ && depth <= fields { fields = -1 }
+    /^ *(pub )?record / { head = depth }
+    / where$/ && head >= 0 { fields = head; head = -1 }
+    /^ *(abbrev )?(rec )?pub [^ ]+ :( |$)/ && !/ : goal\./ && fields < 0 && above !~ /^ *--/ {
+      print FILENAME ":" FNR ": " $0 }
+    !/^ *#\[/ { above = $0 }' {} + | cut -c 1-100 > "$work/bare"
+  if [ -s "$work/bare" ]; then
+    head -n 20 "$work/bare"
+    fail "$(wc -l < "$work/bare") public lemmas have no line above them"
+  fi
+}
+
 # Sentences of more than 40 words, by the line on which they begin. A sentence ends at . ? or !
 # before a space, and with its paragraph or its list item. Headings and quotes (after >) are left
 # out.
@@ -304,6 +323,7 @@ follow_links
 if [ "$width" -gt 0 ]; then
   measure_width
   measure_code
+  find_bare_lemmas
 fi
 measure_sentences
 finish 'as the program says'
