@@ -152,7 +152,7 @@ call_library() {
     find "crates/$crate" -maxdepth 1 '(' -name src -o -name specs -o -name proofs ')' -exec cp -r -t "$room/crates/$crate" {} +
     cp -r "crates/$crate/out/rlib" "$room/crates/$crate/out/"
   done < <(grep -oE '^[a-z_0-9]+' crates.txt | grep -v '^fq_prog')
-  echo 'shown: fq_text fq_trim fq_work fq_run anyhow' >> "$room/crates.txt"
+  echo 'shown: fq_run anyhow' >> "$room/crates.txt"
   cp HANDLES "$room/"
   if ! (cd "$room/crates/shown" && rt try) > "$work/log" 2>&1 || ! grep -qx 'Finished, 1 pair' "$work/log"; then
     tail -n 20 "$work/log"

@@ -27,7 +27,11 @@ mod confirming;
 pub mod laws;
 
 pub use fq_run_core::{
-    BadSetting, Ending, MixedEnding, Outcome, Outlets, Settings, run_serial, run_serial_mixed,
+    BadSetting, Ending, MixedEnding, Outcome, Outlets, Settings, SettingsBuilder, run_serial,
+    run_serial_mixed,
 };
+pub use fq_text::{Encoding, Feed, FromRead, FromWrite, Outlet, ScriptFeed, ScriptOutlet};
+pub use fq_trim::Steps;
+pub use fq_work::{Gate, OpenGate};
 pub use interleaved::run_threads_mixed;
 pub use two_texts::run_threads;

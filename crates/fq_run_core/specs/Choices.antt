@@ -1,5 +1,5 @@
 -- The settings of a run.
-use Rattle.std.specs.Prelude.{ℕ, ◌≤◌, ◌^◌, Bool, true, not, Option, Some, None, Result, Ok, Err, List, if◌then◌else◌}
+use Rattle.std.specs.Prelude.{ℕ, ◌≤◌, ◌^◌, Bool, true, false, not, Option, Some, None, Result, Ok, Err, List, if◌then◌else◌}
 use Rattle.fq_text.specs.declared.encoding.Encoding.{Encoding}
 use Rattle.fq_trim.specs.declared.step.Step.{Step}
 use Rattle.fq_run_core.specs.Ranges.{within}
@@ -20,6 +20,21 @@ pub record Choices : Type 0 where
   pub max_reads : ℕ
   pub gate_turns : ℕ
   pub tallied : Bool
+
+-- the program's default settings, with this encoding and these steps
+abbrev pub usual : Encoding → List Step → Choices
+usual encoding steps = record {
+  encoding = encoding;
+  steps = steps;
+  check_names = true;
+  workers = 4;
+  block_pairs = 1024;
+  depth = 4;
+  chunk = 65536;
+  max_reads = 2 ^ 40;
+  gate_turns = 2 ^ 40;
+  tallied = false;
+}
 
 -- turns the tally on
 abbrev pub tallying : Choices → Choices

@@ -23,6 +23,7 @@ mod ending;
 mod outcome;
 mod outlets;
 mod settings;
+mod settings_builder;
 
 pub use ending::{Ending, MixedEnding};
 pub use fq_lane::NotEnded;
@@ -30,4 +31,5 @@ pub use interleaved::run_serial_mixed;
 pub use outcome::Outcome;
 pub use outlets::Outlets;
 pub use settings::{BadSetting, Settings};
+pub use settings_builder::SettingsBuilder;
 pub use two_texts::run_serial;

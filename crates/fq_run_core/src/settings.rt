@@ -3,6 +3,7 @@
 ghost use Rattle.std.specs.Prelude.{◌≡◌, ◌≤◌, ◌^◌, true, false, OnOk, IfErr};
 ghost use Rattle.fq_run_core.specs.Ranges.{within};
 
+use crate::settings_builder::SettingsBuilder;
 use fq_text::Encoding;
 use fq_trim::Steps;
 use std::marker::Model;
@@ -17,7 +18,7 @@ const MOST_DEPTH: u64 = 64;
 /// The largest number of bytes that one read call asks for.
 const MOST_BYTES: u64 = 1_048_576;
 /// The largest number of read calls per input, and of turns at a gate: 2^40.
-const MOST_TURNS: u64 = 1_099_511_627_776;
+pub(crate) const MOST_TURNS: u64 = 1_099_511_627_776;
 
 /// The first setting that is out of range.
 #[derive(Clone, Copy, Debug, PartialEq, Eq, Error)]
@@ -94,7 +95,19 @@ impl Model for Settings {
 }
 
 impl Settings {
-    ghost use Rattle.fq_run_core.specs.Choices.{Choices, AreInRange, checked, tallying};
+    ghost use Rattle.fq_run_core.specs.Choices.{Choices, AreInRange, checked, tallying, usual};
+
+    /// The program's default settings, to change and then to [`build`](SettingsBuilder::build):
+    /// names are compared; 4 workers, blocks of 1,024 pairs, lanes of 4 blocks, read calls of 65,536
+    /// bytes; no limit below 2^40 on read calls and on turns at a gate.
+    ///
+    /// - `encoding`: how the quality bytes of both inputs encode Phred scores.
+    /// - `steps`: the trimming steps.
+    pub fn builder(encoding: Encoding, steps: Steps) -> SettingsBuilder
+        ensures { result ≡ usual encoding steps }
+    {
+        SettingsBuilder::new(encoding, steps)
+    }
 
     /// The settings of a run, without a tally.
     ///
