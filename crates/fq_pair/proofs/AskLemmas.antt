@@ -1,5 +1,5 @@
 -- What a call of a source of pairs returns, in terms of the source's state.
-use Rattle.std.proofs.Common.{◌≡◌, ◌+◌, ◌*◌, Bool, true, false, [], ◌∷◌, Option, Some, None, Result, Ok, Err, IfErr, refl, ap, sym, subst, ◌∙◌}
+use Rattle.std.proofs.Common.{◌≡◌, ◌+◌, ◌*◌, Bool, true, false, [], ◌∷◌, Option, Some, None, Result, Ok, Err, IfErr, refl, ap, ◌∙◌}
 use Rattle.std.specs.Option.{IfSome, IsSomeAnd}
 use Rattle.fq_text.specs.Devices.{FeedState}
 use Rattle.fq_text.specs.Lines.{lines}
@@ -7,6 +7,7 @@ use Rattle.fq_text.specs.Sources.{rest_in}
 use Rattle.fq_pair.specs.declared.side.Side.TheVariants.{Forward, Reverse}
 use Rattle.fq_pair.specs.declared.fault.InputFault.{InputFault}
 use Rattle.fq_pair.specs.PairSources.{PairSourced, KeepsCounts, GivesPair, EndsPairs, StopsPairs, failed_on}
+use Rattle.fq_pair.specs.Mates.{Mates}
 use Rattle.fq_pair.specs.InterleavedSources.{InterleavedSourced}
 use Rattle.fq_pair.specs.InterleavedSources as interleaved
 use Rattle.fq_pair.specs.Walks.{source_state, interleaved_state, KeepsSettings, side_state, Draws, Walks, Advances}
@@ -18,13 +19,14 @@ some_and : {A : Type 0} (o : Option A) (P Q : A → Type 0) → ((x : A) → P x
 some_and None P Q then held = held
 some_and (Some x) P Q then held = then x held
 
-if_some : {A : Type 0} (o : Option A) (P Q : A → Type 0) → ((x : A) → P x → Q x) → IsSomeAnd o P →
-    IfSome o Q
-if_some None P Q then held = tt
-if_some (Some x) P Q then held = then x held
-
-if_none : {A : Type 0} (o : Option A) (Q : A → Type 0) → o ≡ None → IfSome o Q
-if_none o Q is = subst (λ p. IfSome p Q) (sym is) tt
+-- what holds of the current pair, if there is one only after a further pair was returned
+pub if_current : (o : Option Mates) (r : Result Bool InputFault) (P Q : Mates → Type 0) →
+    ((m : Mates) → P m → Q m) → (r ≡ Ok true → IsSomeAnd o P) → (r ≡ Ok false → o ≡ None) →
+    IfErr r (λ why. o ≡ None) → IfSome o Q
+if_current None r P Q then found end fault = tt
+if_current (Some m) (Ok true) P Q then found end fault = then m (found refl)
+if_current (Some m) (Ok false) P Q then found end fault = absurd (let h = end refl in cc)
+if_current (Some m) (Err why) P Q then found end fault = absurd (let h = fault in cc)
 
 module _ {F G : Type 0} (state : F → FeedState) (state' : G → FeedState) where
   same_settings : (old new : PairSourced F G) → KeepsCounts state state' old new →
@@ -91,24 +93,6 @@ module _ {F G : Type 0} (state : F → FeedState) (state' : G → FeedState) whe
     fault.current,
   )
 
-  -- the current pair is in the encoding of the sources
-  pub encoded : (old new : PairSourced F G) (r : Result Bool InputFault) →
-      old.forward.encoding ≡ old.reverse.encoding →
-      (r ≡ Ok true → IsSomeAnd new.current (GivesPair state state' old new)) →
-      (r ≡ Ok false → EndsPairs state state' old new) →
-      IfErr r (StopsPairs state state' old new) →
-      IfSome new.current (λ m. (m.forward.encoding ≡ old.forward.encoding)
-      × (m.reverse.encoding ≡ old.forward.encoding))
-  encoded old new (Ok true) is found end fault =
-      if_some new.current (GivesPair state state' old new)
-      (λ m. (m.forward.encoding ≡ old.forward.encoding)
-      × (m.reverse.encoding ≡ old.forward.encoding))
-      (λ m given. let f = given.forward in let r = given.reverse in
-      (f.encoding, r.encoding ∙ sym is)) (found refl)
-  encoded old new (Ok false) is found end fault = let e = end refl in
-      if_none new.current _ e.current
-  encoded old new (Err why) is found end fault = if_none new.current _ fault.current
-
 -- What a source of an interleaved text returns.
 module _ {F : Type 0} (state : F → FeedState) where
   same_interleaved : (old new : InterleavedSourced F) → interleaved.KeepsCounts state old new →
@@ -166,19 +150,3 @@ module _ {F : Type 0} (state : F → FeedState) where
     },
     fault.current,
   )
-
-  pub encoded_interleaved : (old new : InterleavedSourced F) (r : Result Bool InputFault) →
-      (r ≡ Ok true → IsSomeAnd new.current (interleaved.GivesPair state old new)) →
-      (r ≡ Ok false → interleaved.EndsPairs state old new) →
-      IfErr r (interleaved.StopsPairs state old new) →
-      IfSome new.current (λ m. (m.forward.encoding ≡ old.source.encoding)
-      × (m.reverse.encoding ≡ old.source.encoding))
-  encoded_interleaved old new (Ok true) found end fault =
-      if_some new.current (interleaved.GivesPair state old new)
-      (λ m. (m.forward.encoding ≡ old.source.encoding)
-      × (m.reverse.encoding ≡ old.source.encoding))
-      (λ m given. let two = given.records in
-      (two.forward_encoding, two.reverse_encoding)) (found refl)
-  encoded_interleaved old new (Ok false) found end fault = let e = end refl in
-      if_none new.current _ e.current
-  encoded_interleaved old new (Err why) found end fault = if_none new.current _ fault.current

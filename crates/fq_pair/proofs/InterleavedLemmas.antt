@@ -1,5 +1,5 @@
 -- Two records of one source, one after the other.
-use Rattle.std.proofs.Common.{◌≡◌, ℕ, suc, ◌+◌, ◌*◌, ◌⊎◌, ⊎_elim, Bool, true, false, IsTrue, None, Err, List, [], ◌++◌, length, refl, ap, sym, subst, ◌∙◌, add-one, arith}
+use Rattle.std.proofs.Common.{◌≡◌, ℕ, suc, ◌+◌, ◌*◌, ◌⊎◌, ⊎_elim, Bool, true, false, IsTrue, Err, List, [], ◌++◌, length, refl, ap, sym, subst, ◌∙◌, add-one, arith}
 use Rattle.std.proofs.lemmas.Bool.{cond-true, cond-false, cases_Bool}
 use Rattle.std.proofs.lemmas.List.{length-append}
 use Rattle.fq_text.specs.Devices.{FeedState}
@@ -14,11 +14,11 @@ use Rattle.fq_pair.specs.declared.side.Side.{Side}
 use Rattle.fq_pair.specs.declared.side.Side.TheVariants.{Reverse}
 use Rattle.fq_pair.specs.declared.fault.InputFault.{InputFault}
 use Rattle.fq_pair.specs.declared.fault.InputFault.TheVariants.{Text, MateMissing, NamesDiffer}
-use Rattle.fq_pair.specs.Mates.{Mates, mates_in}
+use Rattle.fq_pair.specs.Mates.{mates_in}
 use Rattle.fq_pair.specs.Pairing.{Pairs, belong, Stopped, Met}
 use Rattle.fq_pair.specs.Interleaved.{side_after, interleaved_pairs, meeting_after, interleaved_meeting}
 use Rattle.fq_pair.specs.PairSources.{is_outside, is_cut, if_cut, if_endless}
-use Rattle.fq_pair.specs.InterleavedSources.{front_of, GivesPair, IsNext, StopsPairs, IsReady, asked, stopped}
+use Rattle.fq_pair.specs.InterleavedSources.{front_of, GivesPair, IsNext, StopsPairs, asked, stopped}
 use Rattle.fq_pair.proofs.FrontLemmas.{front_more}
 use Rattle.fq_pair.proofs.TakenLemmas.{front_fewer, no_records, one_record}
 use Rattle.fq_pair.specs.Walks.{SideState, side_state, Draws, Uses}
@@ -80,13 +80,11 @@ module _ {F : Type 0} (state : F → FeedState) (a b c : Sourced F) (p : KeepsCo
       }
 
   -- two records that were given make a pair if their names allow it
-  pub two_given : (kept now_kept : Read) (check : Bool) (given : ℕ) (before now : Bool) (f r : Read)
-      (m : Mates) → m ≡ mates_in f r → GivesRecord state a b f → GivesRecord state b c r →
-      belong check (mates_in f r) ≡ true →
-      GivesPair state (asked a kept check given before) (asked c now_kept check (given + 1) now) m
-  two_given kept now_kept check given before now f r m is first second together =
-      let P : Mates → Type 0 = GivesPair state (asked a kept check given before)
-      (asked c now_kept check (given + 1) now) in
+  pub two_given : (kept : Read) (check : Bool) (given : ℕ) (before now : Bool) (f r : Read) →
+      GivesRecord state a b f → GivesRecord state b c r → belong check (mates_in f r) ≡ true →
+      GivesPair state (asked a kept check given before) (asked c f check (given + 1) now)
+      (mates_in f r)
+  two_given kept check given before now f r first second together =
       let one = first.given in let two = second.given in
       let ls = lines (rest_in state c) in
       let n = suc given in
@@ -98,10 +96,10 @@ module _ {F : Type 0} (state : F → FeedState) (a b c : Sourced F) (p : KeepsCo
       ∙ ap (meeting_after check n f) (second.record_is (p.told ∙ told))
       ∙ cond-true (belong check (mates_in f r)) (Met (mates_in f r) ls ls) (Stopped (NamesDiffer n))
       together in
-      subst P (sym is) (record {
+      record {
         pair_is = pair_is;
         left = λ told. interleaved_left_met state (asked a kept check given before)
-            (asked c now_kept check (given + 1) now) (mates_in f r) (q.encoding
+            (asked c f check (given + 1) now) (mates_in f r) (q.encoding
             ∙ p.encoding) refl refl (pair_is told);
         records = record {
           forward = first.lawful;
@@ -116,7 +114,7 @@ module _ {F : Type 0} (state : F → FeedState) (a b c : Sourced F) (p : KeepsCo
         names = together;
         given = refl;
         last = refl;
-      })
+      }
 
   module _ (told : IsTrue (state a.feed).tells)
       (t : IsTail (rest_in state a) (rest_in state b) b.ended) where
@@ -276,7 +274,7 @@ module _ {F : Type 0} (state : F → FeedState) (a b c : Sourced F) (p : KeepsCo
     (q : KeepsCount state b c) (kept : Read) (check : Bool) (given : ℕ) (before : Bool) (f : Read)
     (first : GivesRecord state a b f) where
   -- a fault after a forward mate
-  second_stops : (why : TextFault) → a.given ≡ 2 * given → StopsText state b c why →
+  pub second_stops : (why : TextFault) → a.given ≡ 2 * given → StopsText state b c why →
       StopsPairs state (asked a kept check given before)
       (stopped c check given (Err (Text Reverse why))) (Text Reverse why)
   second_stops why even stops =
@@ -369,15 +367,3 @@ module _ {F : Type 0} (state : F → FeedState) (a b c : Sourced F) (p : KeepsCo
         last = refl;
         current = refl;
       })
-
--- a source that was ready gave the forward mate, and failed after it
-pub second_fails : {F : Type 0} (state : F → FeedState) (a b c : Sourced F) → KeepsCount state a b →
-    KeepsCount state b c → (kept : Read) (check : Bool) (given : ℕ) (before : Bool) (f : Read) →
-    IsReady a given → (a.last ≡ None → GivesRecord state a b f) → (why : TextFault) →
-    (b.last ≡ None → StopsText state b c why) →
-    StopsPairs state (asked a kept check given before)
-    (stopped c check given (Err (Text Reverse why))) (Text Reverse why)
-second_fails state a b c p q kept check given before f ready gives why stops =
-    let first = gives ready.last in
-    second_stops state a b c p q kept check given before f first why ready.records
-    (stops first.last)

@@ -1,6 +1,6 @@
 -- The pairs that are left to a source of two texts, by what comes first in them.
 use Rattle.std.proofs.Common.{◌≡◌, ℕ, suc, ◌+◌, Bool, not, ◌||◌, true, IsTrue, Option, Some, None, MatchOption, Err, List, refl, ap, sym, subst, rules, ◌∙◌, add-one}
-use Rattle.std.specs.Option.{IfSome, IsSome, IsSomeAnd}
+use Rattle.std.specs.Option.{IsSome, IsSomeAnd}
 use Rattle.std.proofs.lemmas.Bool.{cond-true}
 use Rattle.fq_text.specs.Devices.{FeedState}
 use Rattle.fq_text.specs.declared.fault.TextFault.{TextFault}
@@ -43,14 +43,11 @@ module _ {F G : Type 0} (state : F → FeedState) (state' : G → FeedState)
 -- two records that were given make a pair if their names allow it
 pub two_given : {F G : Type 0} (state : F → FeedState) (state' : G →
     FeedState) (a b : Sourced F) (a' b' : Sourced G) (check : Bool) (given : ℕ)
-    (before now : Bool) (f r : Read) (m : Mates) → m ≡ mates_in f r → a.encoding ≡ a'.encoding →
-    b.encoding ≡ a.encoding → GivesRecord state a b f → GivesRecord state' a' b' r →
+    (before now : Bool) (f r : Read) → a.encoding ≡ a'.encoding → b.encoding ≡ a.encoding →
+    GivesRecord state a b f → GivesRecord state' a' b' r →
     belong check (mates_in f r) ≡ true → GivesPair state state' (asked a a' check given before)
-    (asked b b' check (given + 1) now) m
-two_given state state' a b a' b' check given before now f r m is encoding kept first second
-    together =
-    let P : Mates → Type 0 = GivesPair state state' (asked a a' check given before)
-    (asked b b' check (given + 1) now) in
+    (asked b b' check (given + 1) now) (mates_in f r)
+two_given state state' a b a' b' check given before now f r encoding kept first second together =
     let fs = lines (rest_in state b) in
     let rs = lines (rest_in state' b') in
     let n = suc given in
@@ -64,7 +61,7 @@ two_given state state' a b a' b' check given before now f r m is encoding kept f
     ∙ ap (meeting check n (Found f fs)) (second.record_is told')
     ∙ cond-true (belong check (mates_in f r)) (Met (mates_in f r) fs rs) (Stopped (NamesDiffer n))
     together in
-    subst P (sym is) (record {
+    record {
       pair_is = pair_is;
       left = λ told told'. pairs_left_met state state' (asked a a' check given before)
           (asked b b' check (given + 1) now) (mates_in f r) kept refl refl (pair_is told told');
@@ -73,7 +70,7 @@ two_given state state' a b a' b' check given before now f r m is encoding kept f
       names = together;
       given = refl;
       last = refl;
-    })
+    }
 
 -- what holds for the current record
 pub of_current : (o : Option Read) (x : Read) (P : Read → Type 0) → o ≡ Some x → MatchOption o ⊥ P →
@@ -126,21 +123,3 @@ pub fault_after_end : {F G : Type 0} (state : F → FeedState) (state' : G →
     (stopped b b' check given (Err (Text Reverse why))) (Text Reverse why)
 fault_after_end state state' a b a' b' check given before why ready encoding kept first stops =
     search rules
-
--- the reverse text stopped by a fault after the forward text had given a record or had ended
-pub fault_after : {F G : Type 0} (state : F → FeedState) (state' : G →
-    FeedState) (a b : Sourced F) (a' b' : Sourced G) (check : Bool) (given : ℕ) (before : Bool)
-    (o : Option Read) (why : TextFault) →
-    IsReady a a' given → a.encoding ≡ a'.encoding → KeepsCount state a b →
-    IfSome o (GivesRecord state a b) → (o ≡ None → EndsText state a b) →
-    StopsText state' a' b' why →
-    StopsPairs state state' (asked a a' check given before)
-    (stopped b b' check given (Err (Text Reverse why))) (Text Reverse why)
-fault_after state state' a b a' b' check given before None why ready encoding kept gives ends
-    stops =
-    fault_after_end state state' a b a' b' check given before why ready encoding kept (ends refl)
-    stops
-fault_after state state' a b a' b' check given before (Some f) why ready encoding kept gives ends
-    stops =
-    fault_after_record state state' a b a' b' check given before (Some f) why ready encoding kept
-    gives stops

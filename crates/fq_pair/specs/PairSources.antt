@@ -32,16 +32,6 @@ pub record IsUnasked {F : Type 0} (s : Sourced F) : Type 0 where
   pub given : s.given ≡ 0
   pub last : s.last ≡ None
 
--- what a source returns after its last result
-abbrev pub answer_of : Result (Unit {0}) InputFault → Result (Option Mates) InputFault
-answer_of (res.Ok x) = res.Ok None
-answer_of (res.Err fault) = res.Err fault
-
--- what it returns then from a call that only says whether there is a further pair
-abbrev pub more_of : Result (Unit {0}) InputFault → Result Bool InputFault
-more_of (res.Ok x) = res.Ok false
-more_of (res.Err fault) = res.Err fault
-
 -- what comes next
 abbrev pub front_of : {F G : Type 0} → (F → FeedState) → (G → FeedState) → PairSourced F G →
     PairFront

@@ -1,13 +1,14 @@
 //! Reads pairs from one interleaved feed, in which mates alternate.
 
-ghost use Rattle.std.specs.Prelude.{◌≡◌, ◌↔◌, ℕ, ◌+◌, ◌*◌, ◌≤◌, ◌^◌, true, false, Some, None, Ok, IfOk, IfErr, IfSome, IsSome, IsTrue, MatchOption, is_some};
+ghost use Rattle.std.specs.Prelude.{◌≡◌, ◌↔◌, Bool, ℕ, ◌+◌, ◌*◌, ◌≤◌, ◌^◌, true, false, Some, None, Ok, IfOk, IfErr, IfSome, IsSome, IsTrue, MatchOption, is_some};
 ghost use Rattle.std.specs.Option.{IsSomeAnd};
+ghost use Rattle.std.specs.Result.{result_and};
 ghost use Rattle.fq_text.specs.Reading.{text_limit};
 ghost use Rattle.fq_text.specs.Sources.{KeepsCount};
 ghost use Rattle.fq_pair.specs.PairSources.{IsBounded, pair_of, HasNames};
 ghost use Rattle.fq_pair.specs.InterleavedSources.{asked, stopped, GivesPair, EndsPairs, StopsPairs, failed_in, IsReady};
 
-use crate::answer::{keep, keep_more};
+use crate::answer::{keep, read_record};
 use crate::fault::InputFault;
 use crate::name::NameLengths;
 use crate::pair::{Pair, PairView, check_mates};
@@ -61,7 +62,7 @@ impl<F: Feed> Model for MixedSource<F> {
 
 impl<F: Feed> MixedSource<F> {
     ghost use Rattle.fq_pair.specs.Mates.{mates_in, name_lengths};
-    ghost use Rattle.fq_pair.specs.PairSources.{IsUnasked, answer_of, more_of};
+    ghost use Rattle.fq_pair.specs.PairSources.{IsUnasked};
     ghost use Rattle.fq_pair.specs.InterleavedSources.{InterleavedSourced, KeepsCounts};
 
     /// Makes a source of pairs from a source of records that has not been read from yet.
@@ -94,7 +95,7 @@ impl<F: Feed> MixedSource<F> {
     pub fn advance(&mut self) -> Result<bool, InputFault>
         // After the end or a fault, the same is returned again, and nothing more is read.
         ensures again { MatchOption self.old.last (Unit {0})
-            (λ last. (result ≡ more_of last) × (self.new ≡ self.old)) }
+            (λ last. (result ≡ result_and last (Ok false)) × (self.new ≡ self.old)) }
 
         // Otherwise the result is what the rest begins with, and a pair found is the current one.
         ensures found { self.old.last ≡ None → result ≡ Ok true →
@@ -113,8 +114,7 @@ impl<F: Feed> MixedSource<F> {
         ensures pairs_bound { 2 * self.new.given ≤ self.new.source.given }
     {
         match self.last {
-            Some(Ok(())) => Ok(false),
-            Some(Err(fault)) => Err(fault),
+            Some(last) => last.and(Ok(false)),
             None => {
                 let answer = advance_mates(
                     &mut self.source,
@@ -122,8 +122,9 @@ impl<F: Feed> MixedSource<F> {
                     self.check_names,
                     self.given,
                     &mut self.names,
+                    &mut None,
                 );
-                keep_more(answer, &mut self.given, &mut self.last)
+                keep(answer, &mut self.given, &mut self.last)
             }
         }
     }
@@ -159,7 +160,7 @@ impl<F: Feed> MixedSource<F> {
     pub fn next(&mut self) -> Result<Option<Pair>, InputFault>
         // After the end or a fault, the same is returned again, and nothing more is read.
         ensures again { MatchOption self.old.last (Unit {0})
-            (λ last. (result ≡ answer_of last) × (self.new ≡ self.old)) }
+            (λ last. (result ≡ result_and last (Ok None)) × (self.new ≡ self.old)) }
 
         // Otherwise the result is what the rest begins with.
         ensures found { self.old.last ≡ None →
@@ -178,17 +179,23 @@ impl<F: Feed> MixedSource<F> {
         ensures pairs_bound { 2 * self.new.given ≤ self.new.source.given }
     {
         match self.last {
-            Some(Ok(())) => Ok(None),
-            Some(Err(fault)) => Err(fault),
+            Some(last) => last.and(Ok(None)),
             None => {
-                let answer = read_mates(
+                let mut second = Some(self.source.empty_record());
+                let answer = advance_mates(
                     &mut self.source,
                     &mut self.forward,
                     self.check_names,
                     self.given,
                     &mut self.names,
+                    &mut second,
                 );
-                keep(answer, &mut self.given, &mut self.last)
+                if !keep(answer, &mut self.given, &mut self.last)? {
+                    return Ok(None);
+                }
+                self.names = None;
+                let first = mem::replace(&mut self.forward, self.source.empty_record());
+                Ok(Some(Pair::new(first, second.unwrap())))
             }
         }
     }
@@ -201,63 +208,25 @@ impl<F: Feed> MixedSource<F> {
     }
 }
 
-// Reads the mates of the next pair, the forward one first.
-fn read_mates<F: Feed>(
-    source: &mut Source<F>,
-    forward: &mut FastqRecord,
-    check_names: bool,
-    given: u64,
-    names: &mut Option<NameLengths>,
-) -> Result<Option<Pair>, InputFault>
-    requires ready { IsReady source.old given }
-    requires bound { IsBounded source.old }
-    requires fits { given ≤ text_limit }
-    ensures found { IfOk result (λ o. IfSome o
-        (GivesPair F.state (asked source.old forward.old check_names given (is_some names.old))
-        (asked source.new forward.new check_names (given + 1) false))) }
-    ensures end { result ≡ Ok None →
-        EndsPairs F.state (asked source.old forward.old check_names given (is_some names.old))
-        (stopped source.new check_names given (Ok tt)) }
-    ensures fault { IfErr result (λ why.
-        StopsPairs F.state (asked source.old forward.old check_names given (is_some names.old))
-        (stopped source.new check_names given (Err why)) why) }
-    ensures in_hand { names.new ≡ None }
-    ensures failures { (F.state source.new.feed).failures
-        ≡ (F.state source.old.feed).failures + failed_in result }
-    ensures count { KeepsCount F.state source.old source.new }
-    ensures bounded { IsBounded source.new }
-    ensures pairs_bound { 2 * given ≤ source.new.given }
-    ensures few { IfOk result
-        (λ o. IfSome o (λ pair. (given + 1 ≤ text_limit) × (2 * (given + 1) ≤ source.new.given))) }
-{
-    *names = None;
-    let number = given + 1;
-    if !source.next_into(forward).map_err(InputFault::forward)? {
-        return Ok(None);
-    }
-    let Some(second) = source.next().map_err(InputFault::reverse)? else {
-        return Err(InputFault::MateMissing(Side::Reverse, number));
-    };
-    let first = mem::replace(forward, source.empty_record());
-    Ok(Some(Pair::matched(first, second, check_names, number)?))
-}
-
 // Moves to the next pair. The forward mate is copied before the reverse mate is read, which stays
-// the current record of `source`.
+// the current record of `source`. A record in `reverse_copy` becomes a copy of that.
 fn advance_mates<F: Feed>(
     source: &mut Source<F>,
     forward: &mut FastqRecord,
     check_names: bool,
     given: u64,
     names: &mut Option<NameLengths>,
+    reverse_copy: &mut Option<FastqRecord>,
 ) -> Result<bool, InputFault>
     requires ready { IsReady source.old given }
     requires bound { IsBounded source.old }
     requires fits { given ≤ text_limit }
-    ensures found { result ≡ Ok true →
+    ensures found { (lent : Bool) → result ≡ Ok true →
         IsSomeAnd (pair_of true (Some forward.new) source.new.current)
         (GivesPair F.state (asked source.old forward.old check_names given (is_some names.old))
-        (asked source.new forward.new check_names (given + 1) true)) }
+        (asked source.new forward.new check_names (given + 1) lent)) }
+    ensures copied { result ≡ Ok true →
+        IsSome reverse_copy.old → reverse_copy.new ≡ source.new.current }
     ensures end { result ≡ Ok false →
         EndsPairs F.state (asked source.old forward.old check_names given (is_some names.old))
         (stopped source.new check_names given (Ok tt)) }
@@ -280,7 +249,7 @@ fn advance_mates<F: Feed>(
     if !has_first {
         return Ok(false);
     }
-    let has_second = source.advance().map_err(InputFault::reverse)?;
+    let has_second = read_record(source, reverse_copy).map_err(InputFault::reverse)?;
     if !has_second {
         return Err(InputFault::MateMissing(Side::Reverse, given + 1));
     }

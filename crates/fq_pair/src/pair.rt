@@ -27,8 +27,7 @@ impl Model for Pair {
 }
 
 impl Pair {
-    ghost use Rattle.fq_pair.specs.Mates.{Mates, mates_in};
-    ghost use Rattle.fq_pair.specs.Pairing.{belong};
+    ghost use Rattle.fq_pair.specs.Mates.{Mates};
 
     /// Makes a pair of two mates in the same encoding.
     pub fn new(forward: FastqRecord, reverse: FastqRecord) -> Pair
@@ -36,23 +35,6 @@ impl Pair {
         ensures { result ≡ record { forward = forward; reverse = reverse } }
     {
         Pair { forward, reverse }
-    }
-
-    /// Makes a pair if the names of the mates match or aren't checked. Otherwise returns the fault
-    /// of pair `number`.
-    pub(crate) fn matched(
-        forward: FastqRecord,
-        reverse: FastqRecord,
-        check_names: bool,
-        number: u64,
-    ) -> Result<Pair, InputFault>
-        requires { forward.encoding ≡ reverse.encoding }
-        ensures ok { IfOk result (λ pair. pair ≡ mates_in forward reverse) }
-        ensures err { IfErr result (λ why. why ≡ InputFault.NamesDiffer number) }
-        ensures names { is_ok result ≡ belong check_names (mates_in forward reverse) }
-    {
-        check_mates(check_names, forward.title(), reverse.title(), number)?;
-        Ok(Pair::new(forward, reverse))
     }
 
     /// The encoding of both mates.

@@ -1,18 +1,19 @@
 //! Reads pairs from two feeds.
 
-ghost use Rattle.std.specs.Prelude.{◌≡◌, ◌↔◌, ℕ, suc, ◌+◌, ◌*◌, ◌≤◌, ◌^◌, true, false, Some, None, Ok, IfOk, IfErr, IfSome, IsSome, IsTrue, MatchOption, is_some};
+ghost use Rattle.std.specs.Prelude.{◌≡◌, ◌↔◌, Bool, ℕ, suc, ◌+◌, ◌*◌, ◌≤◌, ◌^◌, true, false, Some, None, Ok, IfOk, IfErr, IfSome, IsSome, IsTrue, MatchOption, is_some};
 ghost use Rattle.std.specs.Option.{IsSomeAnd};
+ghost use Rattle.std.specs.Result.{result_and};
 ghost use Rattle.fq_text.specs.Reading.{text_limit};
 ghost use Rattle.fq_text.specs.Sources.{KeepsCount};
 ghost use Rattle.fq_pair.specs.PairSources.{pair_of, asked, stopped, GivesPair, EndsPairs, StopsPairs, failed_on, IsBounded, IsReady, HasNames};
 ghost use Rattle.fq_pair.specs.declared.side.Side.TheVariants.{Forward, Reverse};
 
-use crate::answer::{keep, keep_more};
+use crate::answer::{keep, read_record};
 use crate::fault::InputFault;
 use crate::name::NameLengths;
 use crate::pair::{Pair, PairView, check_mates};
 use crate::side::Side;
-use fq_text::{Feed, Source};
+use fq_text::{FastqRecord, Feed, Source};
 use std::marker::Model;
 
 /// Reads the pairs of two texts in order: record k of the forward text with record k of the reverse
@@ -61,7 +62,7 @@ impl<F: Feed, G: Feed> Model for PairSource<F, G> {
 
 impl<F: Feed, G: Feed> PairSource<F, G> {
     ghost use Rattle.fq_pair.specs.Mates.{mates_in, name_lengths};
-    ghost use Rattle.fq_pair.specs.PairSources.{PairSourced, IsUnasked, answer_of, more_of, KeepsCounts};
+    ghost use Rattle.fq_pair.specs.PairSources.{PairSourced, IsUnasked, KeepsCounts};
 
     /// Makes a source of pairs from two sources of records in the same encoding, which have not
     /// been read from yet.
@@ -96,7 +97,7 @@ impl<F: Feed, G: Feed> PairSource<F, G> {
     pub fn advance(&mut self) -> Result<bool, InputFault>
         // After the end or a fault, the same is returned again, and nothing more is read.
         ensures again { MatchOption self.old.last (Unit {0})
-            (λ last. (result ≡ more_of last) × (self.new ≡ self.old)) }
+            (λ last. (result ≡ result_and last (Ok false)) × (self.new ≡ self.old)) }
 
         // Otherwise the result is what the rests begin with, and a pair found is the current one.
         ensures found { self.old.last ≡ None → result ≡ Ok true →
@@ -124,8 +125,7 @@ impl<F: Feed, G: Feed> PairSource<F, G> {
             × (self.new.given ≤ self.new.reverse.given) }
     {
         match self.last {
-            Some(Ok(())) => Ok(false),
-            Some(Err(fault)) => Err(fault),
+            Some(last) => last.and(Ok(false)),
             None => {
                 let answer = advance_mates(
                     &mut self.forward,
@@ -133,8 +133,10 @@ impl<F: Feed, G: Feed> PairSource<F, G> {
                     self.check_names,
                     self.given,
                     &mut self.names,
+                    &mut None,
+                    &mut None,
                 );
-                keep_more(answer, &mut self.given, &mut self.last)
+                keep(answer, &mut self.given, &mut self.last)
             }
         }
     }
@@ -170,7 +172,7 @@ impl<F: Feed, G: Feed> PairSource<F, G> {
     pub fn next(&mut self) -> Result<Option<Pair>, InputFault>
         // After the end or a fault, the same is returned again, and nothing more is read.
         ensures again { MatchOption self.old.last (Unit {0})
-            (λ last. (result ≡ answer_of last) × (self.new ≡ self.old)) }
+            (λ last. (result ≡ result_and last (Ok None)) × (self.new ≡ self.old)) }
 
         // Otherwise the result is what the rests begin with.
         ensures found { self.old.last ≡ None →
@@ -195,17 +197,24 @@ impl<F: Feed, G: Feed> PairSource<F, G> {
             × (self.new.given ≤ self.new.reverse.given) }
     {
         match self.last {
-            Some(Ok(())) => Ok(None),
-            Some(Err(fault)) => Err(fault),
+            Some(last) => last.and(Ok(None)),
             None => {
-                let answer = read_mates(
+                let mut first = Some(self.forward.empty_record());
+                let mut second = Some(self.reverse.empty_record());
+                let answer = advance_mates(
                     &mut self.forward,
                     &mut self.reverse,
                     self.check_names,
                     self.given,
                     &mut self.names,
+                    &mut first,
+                    &mut second,
                 );
-                keep(answer, &mut self.given, &mut self.last)
+                if !keep(answer, &mut self.given, &mut self.last)? {
+                    return Ok(None);
+                }
+                self.names = None;
+                Ok(Some(Pair::new(first.unwrap(), second.unwrap())))
             }
         }
     }
@@ -224,73 +233,32 @@ impl<F: Feed, G: Feed> PairSource<F, G> {
     }
 }
 
-// Reads the mates of the next pair, the forward one first.
-fn read_mates<F: Feed, G: Feed>(
-    forward: &mut Source<F>,
-    reverse: &mut Source<G>,
-    check_names: bool,
-    given: u64,
-    names: &mut Option<NameLengths>,
-) -> Result<Option<Pair>, InputFault>
-    requires encoding { forward.old.encoding ≡ reverse.old.encoding }
-    requires ready { IsReady forward.old reverse.old given }
-    requires forward_bound { IsBounded forward.old }
-    requires reverse_bound { IsBounded reverse.old }
-    requires fits { given ≤ text_limit }
-    ensures found { IfOk result (λ o. IfSome o
-        (GivesPair F.state G.state
-        (asked forward.old reverse.old check_names given (is_some names.old))
-        (asked forward.new reverse.new check_names (given + 1) false))) }
-    ensures end { result ≡ Ok None →
-        EndsPairs F.state G.state
-        (asked forward.old reverse.old check_names given (is_some names.old))
-        (stopped forward.new reverse.new check_names given (Ok tt)) }
-    ensures fault { IfErr result (λ why.
-        StopsPairs F.state G.state
-        (asked forward.old reverse.old check_names given (is_some names.old))
-        (stopped forward.new reverse.new check_names given (Err why)) why) }
-    ensures in_hand { names.new ≡ None }
-    ensures forward_failures { (F.state forward.new.feed).failures
-        ≡ (F.state forward.old.feed).failures + failed_on Forward result }
-    ensures reverse_failures { (G.state reverse.new.feed).failures
-        ≡ (G.state reverse.old.feed).failures + failed_on Reverse result }
-    ensures forward_count { KeepsCount F.state forward.old forward.new }
-    ensures reverse_count { KeepsCount G.state reverse.old reverse.new }
-    ensures forward_bounded { IsBounded forward.new }
-    ensures reverse_bounded { IsBounded reverse.new }
-    ensures pairs_bound { (given ≤ forward.new.given) × (given ≤ reverse.new.given) }
-    ensures few { IfOk result (λ o. IfSome o (λ pair. given + 1 ≤ text_limit)) }
-{
-    *names = None;
-    let number = given + 1;
-    let first = forward.next().map_err(InputFault::forward)?;
-    let second = reverse.next().map_err(InputFault::reverse)?;
-    match (first, second) {
-        (Some(first), Some(second)) => Ok(Some(Pair::matched(first, second, check_names, number)?)),
-        (Some(_), None) => Err(InputFault::MateMissing(Side::Reverse, number)),
-        (None, Some(_)) => Err(InputFault::MateMissing(Side::Forward, number)),
-        (None, None) => Ok(None),
-    }
-}
-
-// Moves to the next pair, whose mates stay the current records of their sources.
+// Moves to the next pair, whose mates stay the current records of their sources. A record in
+// `forward_copy` or `reverse_copy` becomes a copy of its mate. The forward mate is copied before
+// the reverse one is read.
 fn advance_mates<F: Feed, G: Feed>(
     forward: &mut Source<F>,
     reverse: &mut Source<G>,
     check_names: bool,
     given: u64,
     names: &mut Option<NameLengths>,
+    forward_copy: &mut Option<FastqRecord>,
+    reverse_copy: &mut Option<FastqRecord>,
 ) -> Result<bool, InputFault>
     requires encoding { forward.old.encoding ≡ reverse.old.encoding }
     requires ready { IsReady forward.old reverse.old given }
     requires forward_bound { IsBounded forward.old }
     requires reverse_bound { IsBounded reverse.old }
     requires fits { given ≤ text_limit }
-    ensures found { result ≡ Ok true →
+    ensures found { (lent : Bool) → result ≡ Ok true →
         IsSomeAnd (pair_of true forward.new.current reverse.new.current)
         (GivesPair F.state G.state
         (asked forward.old reverse.old check_names given (is_some names.old))
-        (asked forward.new reverse.new check_names (given + 1) true)) }
+        (asked forward.new reverse.new check_names (given + 1) lent)) }
+    ensures forward_copied { result ≡ Ok true →
+        IsSome forward_copy.old → forward_copy.new ≡ forward.new.current }
+    ensures reverse_copied { result ≡ Ok true →
+        IsSome reverse_copy.old → reverse_copy.new ≡ reverse.new.current }
     ensures end { result ≡ Ok false →
         EndsPairs F.state G.state
         (asked forward.old reverse.old check_names given (is_some names.old))
@@ -314,8 +282,8 @@ fn advance_mates<F: Feed, G: Feed>(
     ensures few { result ≡ Ok true → given + 1 ≤ text_limit }
 {
     *names = None;
-    let has_first = forward.advance().map_err(InputFault::forward)?;
-    let has_second = reverse.advance().map_err(InputFault::reverse)?;
+    let has_first = read_record(forward, forward_copy).map_err(InputFault::forward)?;
+    let has_second = read_record(reverse, reverse_copy).map_err(InputFault::reverse)?;
     match (has_first, has_second) {
         (true, true) => {
             let first = forward.record();

@@ -1,8 +1,8 @@
 //! The trait of all sources of pairs.
 
-ghost use Rattle.std.specs.Prelude.{◌≡◌, ◌≤◌, true, Some, None, Ok, IfSome, IsSome, MatchOption};
+ghost use Rattle.std.specs.Prelude.{◌≡◌, ◌≤◌, true, false, Some, None, Ok, IfSome, IsSome, MatchOption};
+ghost use Rattle.std.specs.Result.{result_and};
 ghost use Rattle.fq_pair.specs.Mates.{mates_in, name_lengths};
-ghost use Rattle.fq_pair.specs.PairSources.{more_of};
 ghost use Rattle.fq_pair.specs.Walks.{SourceState, Advances};
 
 use crate::fault::InputFault;
@@ -25,7 +25,7 @@ pub trait PairReader {
     fn advance_pair(&mut self) -> Result<bool, InputFault>
         // After the end or a fault, the same is returned again, and nothing more is read.
         ensures again { MatchOption (state self.old).last (Unit {0})
-            (λ last. (result ≡ more_of last) × (state self.new ≡ state self.old)) }
+            (λ last. (result ≡ result_and last (Ok false)) × (state self.new ≡ state self.old)) }
 
         // Otherwise the result is what the sides begin with.
         ensures advances { (state self.old).last ≡ None →

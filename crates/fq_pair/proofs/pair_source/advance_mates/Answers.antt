@@ -1,5 +1,5 @@
 -- The current records of both sources are the first ones of the two texts.
-use Rattle.std.proofs.Common.{◌≡◌, true, false, inl, inr, Ok, refl, is_some, arith, rules}
+use Rattle.std.proofs.Common.{◌≡◌, true, false, inl, inr, Ok, is_some, arith, rules}
 use Rattle.std.proofs.lemmas.Bool.{cases_Bool}
 use Rattle.std.proofs.lemmas.Grind.{common_steps}
 use Rattle.std.proofs.lemmas.Result.{err_from_is_err_and}
@@ -10,43 +10,39 @@ use Rattle.fq_pair.proofs.SourceLaws.{fault_after_record, fault_after_end, two_g
 use Rattle.fq_pair.proofs.pair_source.advance_mates.Goals as goal
 
 pub returns-in_ok-lengths-in-true-true-clause-found : goal.returns-in_ok-lengths-in-true-true-clause-found
-returns-in_ok-lengths-in-true-true-clause-found g c = λ _.
+returns-in_ok-lengths-in-true-true-clause-found g c = λ lent _.
     let f = c.record-first.result in
     let r = c.record-second.result in
     let first = c.record-first.ensures.record in
     let second = c.record-second.ensures.record in
     let checked = c.in_ok-lengths-in-true-true.ensures in
-    let kept = c.advance.ensures.count in
-    let has_first : c.advance.result ≡ Ok true = grind (arith, common_steps) in
-    let has_second : c.advance-2.result ≡ Ok true = grind (arith, common_steps) in
-    let one =
-    of_current _ f _ first (c.advance.ensures.found c.requires.ready.forward_last has_first) in
-    let two =
-    of_current _ r _ second (c.advance-2.ensures.found c.requires.ready.reverse_last
-    has_second) in
+    let kept = c.read_record.ensures.count in
+    let has_first : c.read_record.result ≡ Ok true = grind (arith, common_steps) in
+    let has_second : c.read_record-2.result ≡ Ok true = grind (arith, common_steps) in
+    let one = of_current _ f _ first (c.read_record.ensures.found has_first) in
+    let two = of_current _ r _ second (c.read_record-2.ensures.found has_second) in
     let together = of_titles c.args.check_names true f r _ _ c.title.ensures.title
     c.title-in-true-true.ensures.title checked.names in
     of_pair _ _ f r _ first second
     (two_given g.F.Feed.state g.G.Feed.state _ _ _ _ c.args.check_names c.args.given
-    (is_some c.args.names.now) true f r _ refl c.requires.encoding kept.encoding one two
-    together)
+    (is_some c.args.names.now) lent f r c.requires.encoding kept.encoding one two together)
 
 pub returns-in_err-has_second-clause-fault : goal.returns-in_err-has_second-clause-fault
 returns-in_err-has_second-clause-fault g c =
-    let why = err_mapped c.advance-2.result c.map_err-2.result (Text Reverse) _
+    let why = err_mapped c.read_record-2.result c.map_err-2.result (Text Reverse) _
     c.map_err-2.ensures.cases (λ why u is. search rules) _ c.in_err-has_second.was in
     let told = err_from_is_err_and c.from_residual-in_err-has_second.result
     c.from_residual-in_err-has_second.ensures.1 in
-    let stops = rw why.1 at c.advance-2.ensures.fault c.requires.ready.reverse_last in
+    let stops = rw why.1 at c.read_record-2.ensures.fault in
     rw (told.1, told.2, why.2) (elim (cases_Bool c.in_ok-has_first.has_first) [
-      | inl is ↦ let one : c.advance.result ≡ Ok true = grind (arith, common_steps) in
+      | inl is ↦ let one : c.read_record.result ≡ Ok true = grind (arith, common_steps) in
           fault_after_record g.F.Feed.state g.G.Feed.state _ _ _ _ c.args.check_names c.args.given
           (is_some c.args.names.now) _ _ c.requires.ready c.requires.encoding
-          c.advance.ensures.count
-          (c.advance.ensures.found c.requires.ready.forward_last one) stops
-      | inr is ↦ let one : c.advance.result ≡ Ok false = grind (arith, common_steps) in
+          c.read_record.ensures.count
+          (c.read_record.ensures.found one) stops
+      | inr is ↦ let one : c.read_record.result ≡ Ok false = grind (arith, common_steps) in
           fault_after_end g.F.Feed.state g.G.Feed.state _ _ _ _ c.args.check_names c.args.given
           (is_some c.args.names.now) _ c.requires.ready c.requires.encoding
-          c.advance.ensures.count
-          (c.advance.ensures.end c.requires.ready.forward_last one) stops
+          c.read_record.ensures.count
+          (c.read_record.ensures.end one) stops
     ])

@@ -1,5 +1,7 @@
 -- What a source that goes on returns, and the current pair.
-use Rattle.fq_pair.proofs.AskLemmas.{advances, encoded}
+use Rattle.std.proofs.Common.{sym, ◌∙◌}
+use Rattle.std.proofs.lemmas.Result.{IfErr-weaker}
+use Rattle.fq_pair.proofs.AskLemmas.{advances, if_current}
 use Rattle.fq_pair.proofs.reader.PairSourcePairReader.advance_pair.Goals as goal
 
 pub returns-clause-advances : goal.returns-clause-advances
@@ -12,5 +14,8 @@ returns-clause-advances g c going =
 pub returns-clause-encoding : goal.returns-clause-encoding
 returns-clause-encoding g c going =
     let e = c.advance.ensures in
-    encoded g.F.Feed.state g.G.Feed.state _ _ _ e.encoding (e.found going) (e.end going)
-    (e.fault going)
+    if_current _ c.advance.result _ _
+    (λ m given. let f = given.forward in let r = given.reverse in
+    (f.encoding, r.encoding ∙ sym e.encoding))
+    (e.found going) (λ is. let end = e.end going is in end.current)
+    (IfErr-weaker c.advance.result _ _ (λ why stops. stops.current) (e.fault going))
