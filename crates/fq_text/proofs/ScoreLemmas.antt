@@ -1,5 +1,7 @@
--- Bytes that have a score.
-use Rattle.std.proofs.Common.{◌≡◌, ℕ, zero, suc, ◌+◌, ◌-◌, ◌<◌, ◌≤◌, nat_le, nat_lt, Bool, true, ◌&&◌, eqb, List, [], ◌∷◌, length, map, get_or, refl, ap, sym, ◌∙◌, arith, ⊎_elim}
+-- Bytes that have a score, and the names of encodings.
+use Rattle.std.proofs.Common.{◌≡◌, ℕ, zero, suc, ◌+◌, ◌-◌, ◌<◌, ◌≤◌, nat_le, nat_lt, Bool, true, ◌&&◌, eqb, Option, Some, None, unwrap_or, cond, List, [], ◌∷◌, length, map, get_or, refl, ap, sym, ◌∙◌, arith, ⊎_elim}
+use Rattle.std.proofs.lemmas.Slice.Eq.{bytes_eq-Decides}
+use Rattle.std.specs.Str.{bytes_eq}
 use Rattle.std.specs.List.{list_all}
 use Rattle.std.proofs.lemmas.List.{get_or_past}
 use Rattle.std.proofs.lemmas.List.Folds.{list_all_at}
@@ -7,7 +9,7 @@ use Rattle.std.proofs.lemmas.Bool.{cond-true, cond-false, cases_Bool, cases_lt, 
 use Rattle.fq_text.specs.declared.encoding.Encoding.{Encoding}
 use Rattle.fq_text.specs.declared.encoding.Encoding.TheVariants.{Sanger, Illumina13, Solexa}
 use Rattle.fq_text.specs.declared.encoding.TheConstants.{PHRED_OF_SOLEXA}
-use Rattle.fq_text.specs.Scores.{lowest, is_scored, low_solexa, phred_of_solexa, value_of, recoded}
+use Rattle.fq_text.specs.Scores.{lowest, offset, is_scored, low_solexa, phred_of_solexa, value_at, value_of, recoded, encoding_name, encoding_of, NamesAreInverse}
 
 -- what holds of each member holds of the one at an index
 pub at_place : (p : ℕ → Bool) (xs : List ℕ) (i : ℕ) → list_all p xs ≡ true → i < length xs →
@@ -24,6 +26,12 @@ low_small k = ⊎_elim
     (at_place (λ s. nat_le s 93) low_solexa k refl within))
     (λ beyond. let none = get_or_past low_solexa k 0 beyond in omega arith)
     (cases_lt k (length low_solexa))
+
+-- no encoding has a score below byte 33
+pub low_base : (e : Encoding) → 33 ≤ lowest e
+low_base Sanger = omega arith
+low_base Illumina13 = omega arith
+low_base Solexa = omega arith
 
 -- a score is at most 93 in each encoding
 pub value_small : (e : Encoding) (b : ℕ) → is_scored e b ≡ true → value_of e b ≤ 93
@@ -69,6 +77,14 @@ table_at k b is place =
     let byte : k + 59 ≡ b = omega arith in
     eqb-true _ _ (below_at 68 _ k table_below (omega arith)) ∙ ap phred_of_solexa byte
 
+-- a byte is its score and the offset
+pub with_offset : (e : Encoding) (added b : ℕ) → Some added ≡ offset e → added ≤ lowest e →
+    is_scored e b ≡ true → value_of e b + added ≡ b
+with_offset e added b is low scored =
+    let least = leb-true (lowest e) b (and_parts _ _ scored).0 in
+    let value : value_of e b ≡ b - added = ap (λ o. value_at o b) (sym is) in
+    omega arith
+
 -- a score at offset 33 is one of Sanger's encoding
 pub recoded_scored : (e : Encoding) (b : ℕ) → is_scored e b ≡ true →
     is_scored Sanger (recoded e b) ≡ true
@@ -82,3 +98,31 @@ pub all_recoded_scored : (e : Encoding) (bs : List ℕ) → list_all (is_scored 
 all_recoded_scored e [] all = refl
 all_recoded_scored e (b ∷ bs) all = let parts = and_parts _ _ all in
     and_from _ _ (recoded_scored e b parts.0) (all_recoded_scored e bs parts.1)
+
+-- Names.
+
+pub name_found : (e : Encoding) → encoding_of (encoding_name e) ≡ Some e
+name_found Sanger = refl
+name_found Illumina13 = refl
+name_found Solexa = refl
+
+-- a text that is taken for k is the name of k, and another is judged by the others
+name_or : (name : List ℕ) (k e : Encoding) (others : Option Encoding) →
+    (others ≡ Some e → encoding_name e ≡ name) →
+    cond (bytes_eq name (encoding_name k)) (Some k) others ≡ Some e → encoding_name e ≡ name
+name_or name k e others rest is = ⊎_elim
+    (λ same. let found : Some k ≡ Some e =
+    sym (cond-true (bytes_eq name (encoding_name k)) (Some k) others same) ∙ is in
+    ap encoding_name (sym (ap (λ o. unwrap_or o k) found))
+    ∙ sym ((bytes_eq-Decides name (encoding_name k)).0 same))
+    (λ other. rest
+    (sym (cond-false (bytes_eq name (encoding_name k)) (Some k) others other) ∙ is))
+    (cases_Bool (bytes_eq name (encoding_name k)))
+
+name_taken : (name : List ℕ) (e : Encoding) → encoding_of name ≡ Some e → encoding_name e ≡ name
+name_taken name e =
+    name_or name Sanger e _ (name_or name Illumina13 e _ (name_or name Solexa e None
+    (λ is. absurd (let h : None ≡ Some e = is in cc))))
+
+pub names_are_inverse : NamesAreInverse
+names_are_inverse name e = (name_taken name e, λ is. ap encoding_of (sym is) ∙ name_found e)

@@ -3,7 +3,6 @@ use Rattle.std.proofs.Common.{◌≡◌, ℕ, ◌+◌, ◌<◌, ◌≤◌, Bool,
 use Rattle.std.specs.List.{list_all}
 use Rattle.std.proofs.lemmas.Bool.{cond-true, cond-false, cases_Bool, and_parts, and_from, not-true, not_from_false, not_from_true, le-ltb, le-leb, leb-true, ne_eqb}
 use Rattle.fq_text.specs.declared.encoding.Encoding.{Encoding}
-use Rattle.fq_text.specs.declared.encoding.Encoding.TheVariants.{Sanger, Illumina13, Solexa}
 use Rattle.std.proofs.lemmas.List.{length-map}
 use Rattle.std.proofs.lemmas.List.Folds.{list_all-append}
 use Rattle.fq_text.specs.Scores.{lowest, is_scored, recoded}
@@ -12,7 +11,7 @@ use Rattle.fq_text.specs.Grammar.{limit, is_base, IsLawful, Read, Found, front, 
 use Rattle.fq_text.specs.Phases.{in_quality}
 use Rattle.fq_text.specs.Written.{line, written, as_written, CanRecode, ReadsBack}
 use Rattle.fq_text.specs.Records.{with_first, from_front, records_within, records}
-use Rattle.fq_text.proofs.ScoreLemmas.{all_recoded_scored}
+use Rattle.fq_text.proofs.ScoreLemmas.{low_base, all_recoded_scored}
 use Rattle.fq_text.proofs.RecordsLemmas.{room_enough}
 use Rattle.fq_text.proofs.GrammarLemmas.{title_goes, sequence_goes, sequence_ends, plus_goes, quality_goes, quality_ends}
 
@@ -48,12 +47,6 @@ pub plain_behind : (b : ℕ) (l : List ℕ) → eqb b 13 ≡ false → without_c
     without_cr (b ∷ l) ≡ b ∷ l
 plain_behind b [] other plain = cond-false (eqb b 13) _ _ other
 plain_behind b (c ∷ cs) other plain = ap (λ xs. b ∷ xs) plain
-
--- no encoding has a score below byte 33
-low_base : (e : Encoding) → 33 ≤ lowest e
-low_base Sanger = omega arith
-low_base Illumina13 = omega arith
-low_base Solexa = omega arith
 
 scored_base : (e : Encoding) (b : ℕ) → is_scored e b ≡ true → is_base b ≡ true
 scored_base e b is =

@@ -1,5 +1,5 @@
 -- A source of records, and what its calls return.
-use Rattle.std.specs.Prelude.{◌≡◌, ◌≢◌, ℕ, ◌+◌, ◌-◌, ◌<◌, ◌≤◌, ◌⊎◌, Bool, true, false, IsTrue, Option, Some, None, Result, List, [], ◌++◌, length, take}
+use Rattle.std.specs.Prelude.{◌≡◌, ◌≢◌, ℕ, ◌+◌, ◌-◌, ◌<◌, ◌≤◌, ◌⊎◌, Bool, true, false, IsTrue, Option, Some, None, Result, List, [], ◌++◌, length, take, codes}
 use Rattle.std.specs.declared.result.Result.TheVariants as res
 use Rattle.fq_text.specs.Devices.{FeedState}
 use Rattle.fq_text.specs.declared.encoding.Encoding.{Encoding}
@@ -43,6 +43,34 @@ text_fault (error.Fault f) k = numbered f k
 text_fault error.Read k = text.Read
 text_fault error.Endless k = text.Endless
 text_fault error.OutOfMemory k = text.OutOfMemory
+
+-- the name of a fault in messages
+abbrev pub fault_name : TextFault → List ℕ
+fault_name (text.NoTitle k) = codes "NoTitle"
+fault_name (text.BadSequence k) = codes "BadSequence"
+fault_name (text.NoPlus k) = codes "NoPlus"
+fault_name (text.PlusDiffers k) = codes "PlusDiffers"
+fault_name (text.BadQuality k) = codes "BadQuality"
+fault_name (text.QualityLong k) = codes "QualityLong"
+fault_name (text.QualityShort k) = codes "QualityShort"
+fault_name (text.TooLong k) = codes "TooLong"
+fault_name text.Read = codes "Read"
+fault_name text.Endless = codes "Endless"
+fault_name text.OutOfMemory = codes "OutOfMemory"
+
+-- the number of the faulty record; none if the text could not be read to its end
+abbrev pub faulty_record : TextFault → Option ℕ
+faulty_record (text.NoTitle k) = Some k
+faulty_record (text.BadSequence k) = Some k
+faulty_record (text.NoPlus k) = Some k
+faulty_record (text.PlusDiffers k) = Some k
+faulty_record (text.BadQuality k) = Some k
+faulty_record (text.QualityLong k) = Some k
+faulty_record (text.QualityShort k) = Some k
+faulty_record (text.TooLong k) = Some k
+faulty_record text.Read = None
+faulty_record text.Endless = None
+faulty_record text.OutOfMemory = None
 
 -- what `next` returns after the end or a fault
 abbrev pub answer_of : Result (Unit {0}) TextFault → Result (Option Read) TextFault

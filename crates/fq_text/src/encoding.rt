@@ -1,6 +1,6 @@
 //! Quality encodings: the Phred score that each quality byte stands for.
 
-ghost use Rattle.std.specs.Prelude.{◌≡◌, ◌≤◌, ◌+◌, true, map};
+ghost use Rattle.std.specs.Prelude.{◌≡◌, ◌≤◌, ◌+◌, ℕ, true, nat_le, map, None, IfSome};
 ghost use Rattle.std.specs.List.{list_all};
 ghost use Rattle.fq_text.specs.Scores.{is_scored, value_of};
 ghost use Rattle.fq_text.specs.declared.encoding.Encoding.TheVariants.{Solexa};
@@ -37,7 +37,45 @@ pub enum Encoding {
 }
 
 impl Encoding {
-    ghost use Rattle.fq_text.specs.Scores.{lowest, score, recoded};
+    ghost use Rattle.fq_text.specs.Scores.{lowest, offset, score, recoded, encoding_name, encoding_of};
+
+    /// The encoding with this name, as `--encoding` takes it: `sanger`, `illumina13` or `solexa`.
+    pub fn of_name(name: &str) -> Option<Encoding>
+        ensures { result ≡ encoding_of name.now }
+    {
+        match name {
+            "sanger" => Some(Encoding::Sanger),
+            "illumina13" => Some(Encoding::Illumina13),
+            "solexa" => Some(Encoding::Solexa),
+            _ => None,
+        }
+    }
+
+    /// The name of this encoding, which [`Encoding::of_name`] takes.
+    pub fn name(self) -> &'static str
+        ensures { result.now ≡ encoding_name self }
+    {
+        match self {
+            Encoding::Sanger => "sanger",
+            Encoding::Illumina13 => "illumina13",
+            Encoding::Solexa => "solexa",
+        }
+    }
+
+    /// What is added to a score to get its byte: 33 (Phred+33) or 64 (Phred+64). `None` for
+    /// Solexa's encoding, where no one number is added to all scores.
+    #[inline(always)]
+    pub fn offset(self) -> Option<u8>
+        ensures is { result ≡ offset self }
+        ensures low { IfSome result (λ added. added ≤ lowest self) }
+        ensures none { result ≡ None → self ≡ Solexa }
+    {
+        match self {
+            Encoding::Sanger => Some(33),
+            Encoding::Illumina13 => Some(64),
+            Encoding::Solexa => None,
+        }
+    }
 
     // The lowest byte that has a score.
     fn lowest(self) -> u8
@@ -67,10 +105,25 @@ impl Encoding {
         requires { is_scored self byte ≡ true }
         ensures { result ≡ value_of self byte }
     {
-        match self {
-            Encoding::Sanger => byte - 33,
-            Encoding::Illumina13 => byte - 64,
-            Encoding::Solexa => phred_of_solexa(byte),
+        match self.offset() {
+            Some(offset) => byte - offset,
+            None => phred_of_solexa(byte),
+        }
+    }
+
+    /// The least byte with a score of at least `score`. Larger bytes have no smaller scores.
+    ///
+    /// From 10 on, Solexa scores are the same numbers as Phred scores.
+    #[inline(always)]
+    pub fn least_byte(self, score: u8) -> u8
+        requires low { 11 ≤ score }
+        requires high { score ≤ 62 }
+        ensures least { (byte : ℕ) → nat_le score (value_of self byte) ≡ nat_le result byte }
+        ensures positive { 1 ≤ result }
+    {
+        match self.offset() {
+            Some(offset) => offset + score,
+            None => 64 + score,
         }
     }
 

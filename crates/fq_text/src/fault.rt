@@ -60,6 +60,46 @@ pub enum TextFault {
     OutOfMemory,
 }
 
+impl TextFault {
+    ghost use Rattle.fq_text.specs.Sources.{fault_name, faulty_record};
+
+    /// The name of this fault in messages: that of its variant.
+    pub fn name(self) -> &'static str
+        ensures { result.now ≡ fault_name self }
+    {
+        match self {
+            TextFault::NoTitle(_) => "NoTitle",
+            TextFault::BadSequence(_) => "BadSequence",
+            TextFault::NoPlus(_) => "NoPlus",
+            TextFault::PlusDiffers(_) => "PlusDiffers",
+            TextFault::BadQuality(_) => "BadQuality",
+            TextFault::QualityLong(_) => "QualityLong",
+            TextFault::QualityShort(_) => "QualityShort",
+            TextFault::TooLong(_) => "TooLong",
+            TextFault::Read => "Read",
+            TextFault::Endless => "Endless",
+            TextFault::OutOfMemory => "OutOfMemory",
+        }
+    }
+
+    /// The number of the faulty record. `None` if the text could not be read to its end.
+    pub fn record(self) -> Option<u64>
+        ensures { result ≡ faulty_record self }
+    {
+        match self {
+            TextFault::NoTitle(number)
+            | TextFault::BadSequence(number)
+            | TextFault::NoPlus(number)
+            | TextFault::PlusDiffers(number)
+            | TextFault::BadQuality(number)
+            | TextFault::QualityLong(number)
+            | TextFault::QualityShort(number)
+            | TextFault::TooLong(number) => Some(number),
+            TextFault::Read | TextFault::Endless | TextFault::OutOfMemory => None,
+        }
+    }
+}
+
 /// Why a record could not be read, without the record's number.
 #[derive(Clone, Copy, Debug, PartialEq, Eq)]
 pub(crate) enum ReadError {

@@ -1,5 +1,6 @@
 //! Laws of the definitions: functions without parameters, whose contracts hold for every list.
 
+ghost use Rattle.fq_text.specs.Scores.{NamesAreInverse};
 ghost use Rattle.fq_text.specs.Written.{ReadsBack};
 
 /// What [`put_record`](crate::put_record) writes reads back as the same record, whatever follows
@@ -11,4 +12,10 @@ ghost use Rattle.fq_text.specs.Written.{ReadsBack};
 /// exactly the records of those bytes, up to the same fault.
 pub fn read_back()
     ensures { ReadsBack }
+{}
+
+/// [`Encoding::name`](crate::Encoding::name) and [`Encoding::of_name`](crate::Encoding::of_name)
+/// are each other's inverse: a text is the name of an encoding exactly if it is taken for it.
+pub fn encoding_names()
+    ensures { NamesAreInverse }
 {}
