@@ -1,9 +1,8 @@
 -- Requests: what to trim, from which files and into which.
-use Rattle.std.specs.Prelude.{ℕ, Bool, false, unwrap_or, ◌||◌, Option, Some, None, List, map, codes, if◌then◌else◌}
+use Rattle.std.specs.Prelude.{ℕ, Bool, false, unwrap_or, ◌||◌, Option, Some, None, List, map, if◌then◌else◌}
 use Rattle.std.specs.Option.{option_map}
 use Rattle.std.specs.Str.{bytes_eq}
-use Rattle.fq_text.specs.declared.encoding.Encoding.{Encoding}
-use Rattle.fq_text.specs.declared.encoding.Encoding.TheVariants.{Sanger, Illumina13, Solexa}
+pub use Rattle.fq_text.specs.Scores.{encoding_of}
 use Rattle.fq_pair.specs.declared.out.Out.{Out}
 use Rattle.fq_pair.specs.declared.out.Out.TheVariants.{ForwardPaired, ForwardUnpaired, ReversePaired, ReverseUnpaired, Log}
 use Rattle.fq_pair.specs.declared.side.Side.{Side}
@@ -67,14 +66,6 @@ asking_of r = record {
   report = option_map (λ name. name.now) r.report;
   steps = map (λ word. word.now) r.steps.items;
 }
-
--- the encoding with this name
-abbrev pub encoding_of : List ℕ → Option Encoding
-encoding_of name =
-    if bytes_eq name (codes "sanger") then Some Sanger
-    else (if bytes_eq name (codes "illumina13") then Some Illumina13
-    else (if bytes_eq name (codes "solexa") then Some Solexa
-    else None))
 
 -- Names.
 

@@ -55,16 +55,11 @@ pub struct Request<'a> {
     pub steps: Vec<&'a str>,
 }
 
-/// The encoding with this name, as `--encoding` takes it: `sanger`, `illumina13` or `solexa`.
+/// The encoding with this name, as `--encoding` takes it: [`Encoding::of_name`].
 pub fn encoding_of(name: &str) -> Option<Encoding>
     ensures { result ≡ encoding_of name.now }
 {
-    match name {
-        "sanger" => Some(Encoding::Sanger),
-        "illumina13" => Some(Encoding::Illumina13),
-        "solexa" => Some(Encoding::Solexa),
-        _ => None,
-    }
+    Encoding::of_name(name)
 }
 
 /// The first output, in the order of [`Out`], that has the name of an input.

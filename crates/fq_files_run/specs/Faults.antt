@@ -1,8 +1,7 @@
 -- The exit status and the line on standard error for each outcome of a run.
-use Rattle.std.specs.Prelude.{ℕ, Some, List, [], ◌++◌, codes, decimal}
+use Rattle.std.specs.Prelude.{ℕ, Some, unwrap_or, List, [], ◌++◌, codes, decimal}
 use Rattle.fq_text.specs.Written.{line}
-use Rattle.fq_text.specs.declared.fault.TextFault.{TextFault}
-use Rattle.fq_text.specs.declared.fault.TextFault.TheVariants as text
+use Rattle.fq_text.specs.Sources.{fault_name, faulty_record}
 use Rattle.fq_pair.specs.declared.side.Side.{Side}
 use Rattle.fq_pair.specs.declared.fault.InputFault.{InputFault}
 use Rattle.fq_pair.specs.declared.fault.InputFault.TheVariants.{Text, MateMissing, NamesDiffer}
@@ -38,28 +37,14 @@ status_when Gate = 6
 abbrev pub outcome_status : Outcome → ℕ
 outcome_status outcome = status_when (settled outcome)
 
--- the number of the faulty record (0 if the text could not be read to its end), and the fault's
--- name
-abbrev pub record_and_name : TextFault → ℕ × List ℕ
-record_and_name (text.NoTitle k) = (k, codes "NoTitle")
-record_and_name (text.BadSequence k) = (k, codes "BadSequence")
-record_and_name (text.NoPlus k) = (k, codes "NoPlus")
-record_and_name (text.PlusDiffers k) = (k, codes "PlusDiffers")
-record_and_name (text.BadQuality k) = (k, codes "BadQuality")
-record_and_name (text.QualityLong k) = (k, codes "QualityLong")
-record_and_name (text.QualityShort k) = (k, codes "QualityShort")
-record_and_name (text.TooLong k) = (k, codes "TooLong")
-record_and_name text.Read = (0, codes "Read")
-record_and_name text.Endless = (0, codes "Endless")
-record_and_name text.OutOfMemory = (0, codes "OutOfMemory")
-
 -- a fault in one side's record
 abbrev pub at_record : Side → ℕ → List ℕ → List ℕ
 at_record side k kind =
     codes "input: " ++ side_name side ++ codes " record " ++ decimal k ++ codes ": " ++ kind
 
 abbrev pub input_words : InputFault → List ℕ
-input_words (Text side fault) = at_record side (record_and_name fault).0 (record_and_name fault).1
+input_words (Text side fault) =
+    at_record side (unwrap_or (faulty_record fault) 0) (fault_name fault)
 input_words (MateMissing side k) = at_record side k (codes "MateMissing")
 input_words (NamesDiffer k) = codes "input: record " ++ decimal k ++ codes ": NamesDiffer"
 

@@ -3,11 +3,11 @@
 ghost use Rattle.std.specs.Prelude.{◌≡◌, ◌++◌, OnOk, OnErr, IfOk, codes, decimal};
 ghost use Rattle.std.specs.String.{string_bytes};
 ghost use Rattle.fq_text.specs.Written.{line};
-ghost use Rattle.fq_files_run.specs.Faults.{settled, status_when, outcome_status, record_and_name, at_record, input_words, line_when, outcome_line};
+ghost use Rattle.fq_files_run.specs.Faults.{settled, status_when, outcome_status, at_record, input_words, line_when, outcome_line};
 
 use fq_pair::{InputFault, Side};
-use fq_run_core::Outcome;
-use fq_text::{OutOfMemory, TextFault};
+use fq_run_core::{Outcome, end_outcome};
+use fq_text::OutOfMemory;
 use std::alloc::Global;
 
 /// The line for running out of memory, anywhere in the program, with its line end.
@@ -22,9 +22,7 @@ pub fn settled(outcome: Outcome) -> Outcome
     ensures { result ≡ settled outcome }
 {
     match outcome {
-        Outcome::Input(InputFault::Text(side, TextFault::Read)) => Outcome::Read(side),
-        Outcome::Input(InputFault::Text(side, TextFault::Endless)) => Outcome::Endless(side),
-        Outcome::Input(InputFault::Text(_, TextFault::OutOfMemory)) => Outcome::Memory,
+        Outcome::Input(fault) => end_outcome(Some(fault)),
         _ => outcome,
     }
 }
@@ -83,8 +81,8 @@ fn input_line(alloc: Global, fault: InputFault) -> Result<String, OutOfMemory>
 {
     match fault {
         InputFault::Text(side, fault) => {
-            let (k, name) = record_and_name(fault);
-            record_line(alloc, side, k, name)
+            let k = fault.record().unwrap_or(0);
+            record_line(alloc, side, k, fault.name())
         }
         InputFault::MateMissing(side, k) => record_line(alloc, side, k, "MateMissing"),
         InputFault::NamesDiffer(k) => names_line(alloc, k),
@@ -104,24 +102,4 @@ fn record_line(alloc: Global, side: Side, k: u64, kind: &str) -> Result<String, 
     ensures { IfOk result (λ text. string_bytes text ≡ line (at_record side k kind.now)) }
 {
     format!(in alloc; "input: {side} record {k}: {kind}\n")
-}
-
-// The number of the faulty record and the name of the fault. The number is 0 if the text could not
-// be read to its end.
-fn record_and_name(fault: TextFault) -> (u64, &'static str)
-    ensures { (result.0 ≡ (record_and_name fault).0) × (result.1.now ≡ (record_and_name fault).1) }
-{
-    match fault {
-        TextFault::NoTitle(k) => (k, "NoTitle"),
-        TextFault::BadSequence(k) => (k, "BadSequence"),
-        TextFault::NoPlus(k) => (k, "NoPlus"),
-        TextFault::PlusDiffers(k) => (k, "PlusDiffers"),
-        TextFault::BadQuality(k) => (k, "BadQuality"),
-        TextFault::QualityLong(k) => (k, "QualityLong"),
-        TextFault::QualityShort(k) => (k, "QualityShort"),
-        TextFault::TooLong(k) => (k, "TooLong"),
-        TextFault::Read => (0, "Read"),
-        TextFault::Endless => (0, "Endless"),
-        TextFault::OutOfMemory => (0, "OutOfMemory"),
-    }
 }

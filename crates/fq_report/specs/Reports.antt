@@ -2,8 +2,7 @@
 -- their names.
 use Rattle.std.specs.Prelude.{ℕ, suc, ◌==◌, Option, Some, None, if◌then◌else◌}
 use Rattle.std.specs.Prelude.{List, [], ◌∷◌, codes, get_or, map}
-use Rattle.fq_text.specs.declared.encoding.Encoding.{Encoding}
-use Rattle.fq_text.specs.declared.encoding.Encoding.TheVariants.{Sanger, Illumina13, Solexa}
+use Rattle.fq_text.specs.Scores.{encoding_name}
 use Rattle.fq_text.specs.Written.{line}
 use Rattle.fq_pair.specs.declared.counts.Counts.{Counts}
 use Rattle.fq_tally.specs.declared.columns.Columns.{Columns}
@@ -22,11 +21,6 @@ use Rattle.fq_report.specs.Facts.{InputNames, TwoFiles, InterleavedFile, Facts}
 abbrev pub command_of : InputNames → List ℕ
 command_of (TwoFiles forward reverse) = codes "PE"
 command_of (InterleavedFile both) = codes "IL"
-
-abbrev pub encoding_name : Encoding → List ℕ
-encoding_name Sanger = codes "sanger"
-encoding_name Illumina13 = codes "illumina13"
-encoding_name Solexa = codes "solexa"
 
 -- how the run ended: at a fault of its inputs, or at their end
 abbrev pub outcome_of : Option (List ℕ) → List ℕ

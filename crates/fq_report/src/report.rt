@@ -5,7 +5,7 @@ ghost use Rattle.std.specs.String.{string_bytes};
 ghost use Rattle.serde_json.specs.View.{view};
 ghost use Rattle.fq_report.specs.Values.{optional_text};
 ghost use Rattle.fq_report.specs.Facts.{names_of, facts_of};
-ghost use Rattle.fq_report.specs.Reports.{command_of, encoding_name, outcome_of};
+ghost use Rattle.fq_report.specs.Reports.{command_of, outcome_of};
 ghost use Rattle.fq_report.specs.Reports.{inputs_value, outputs_value, report_value, text_of};
 ghost use Rattle.fq_report.specs.Parts.{ArePartsOf};
 
@@ -113,7 +113,7 @@ fn report_value(alloc: Global, report: &Report<'_>) -> Result<Value, OutOfMemory
         "command": command_of(report.inputs),
         "inputs": parts.inputs,
         "outputs": parts.outputs,
-        "encoding": encoding_name(report.encoding),
+        "encoding": report.encoding.name(),
         "name_check": report.check_names,
         "outcome": outcome_of(report.fault),
         "fault": parts.fault,
@@ -130,17 +130,6 @@ fn command_of(inputs: Inputs<'_>) -> &'static str
     match inputs {
         Inputs::Apart { .. } => "PE",
         Inputs::Interleaved(_) => "IL",
-    }
-}
-
-// The name of an encoding.
-fn encoding_name(encoding: Encoding) -> &'static str
-    ensures { result.now ≡ encoding_name encoding }
-{
-    match encoding {
-        Encoding::Sanger => "sanger",
-        Encoding::Illumina13 => "illumina13",
-        Encoding::Solexa => "solexa",
     }
 }
 

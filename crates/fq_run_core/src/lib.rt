@@ -28,6 +28,7 @@ mod settings_builder;
 pub use ending::{Ending, MixedEnding};
 pub use fq_lane::NotEnded;
 pub use interleaved::run_serial_mixed;
+pub use occurred::end_outcome;
 pub use outcome::Outcome;
 pub use outlets::Outlets;
 pub use settings::{BadSetting, Settings};

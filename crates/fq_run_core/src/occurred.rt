@@ -71,8 +71,9 @@ impl Occurred {
     }
 }
 
-// The outcome of a run in which nothing occurred but this fault, or no fault.
-fn end_outcome(fault: Option<InputFault>) -> Outcome
+/// The outcome of a run in which nothing occurred but this fault, or no fault. A text that could
+/// not be read to its end is a failed read, an endless input or memory that was refused.
+pub fn end_outcome(fault: Option<InputFault>) -> Outcome
     ensures { result ≡ end_of fault }
 {
     match fault {

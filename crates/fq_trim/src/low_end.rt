@@ -6,7 +6,7 @@ ghost use Rattle.fq_text.specs.Scores.{is_scored};
 ghost use Rattle.fq_trim.specs.Keeping.{scores};
 ghost use Rattle.fq_trim.specs.Windows.{distances, IsLowEnd};
 
-use crate::vectors::{less_16, offset_of};
+use crate::vectors::less_16;
 use fq_text::Encoding;
 use std::simd::prelude::*;
 
@@ -22,7 +22,7 @@ pub(crate) fn after_last(encoding: Encoding, score: u32, qual: &[u8]) -> usize
     ensures low { (k : ℕ) → result ≤ k → k < length qual.now
         → slice_index (scores encoding qual.now) k < score }
 {
-    let stop = match offset_of(encoding) {
+    let stop = match encoding.offset() {
         Some(offset) if score <= 255 => low_from(offset, score as u8, qual),
         _ => qual.len(),
     };

@@ -9,7 +9,7 @@ ghost use Rattle.fq_trim.specs.Keeping.{scores};
 ghost use Rattle.fq_trim.specs.Windows.{distances, IsGoodStop, IsFirstBelow};
 
 use crate::scoring::total_of;
-use crate::vectors::{less_16, less_32, offset_of};
+use crate::vectors::{less_16, less_32};
 use fq_text::Encoding;
 use std::simd::prelude::*;
 
@@ -33,7 +33,7 @@ pub(crate) fn good_stop(encoding: Encoding, width: usize, score: u32, qual: &[u8
     ensures { IsGoodStop width (width * score) (scores encoding qual.now) result }
 {
     let least = width as u64 * u64::from(score);
-    match offset_of(encoding) {
+    match encoding.offset() {
         Some(offset) if least <= 255 && width <= WIDEST && width + TOGETHER <= qual.len() + 1 => {
             stop_together(offset, width, score as u8, least as u8, qual)
         }

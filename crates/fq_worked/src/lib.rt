@@ -20,7 +20,6 @@ mod words;
 
 pub use answers::{Answers, compare};
 use anyhow::{Context, Result, bail};
-use fq_cli::encoding_of;
 use fq_text::Encoding;
 pub use mates::put_counts;
 pub use names::{Names, decode};
@@ -54,7 +53,7 @@ pub fn answer(alloc: Global, word: &str, given: &Given<'_>, answers: &mut Answer
 pub fn encoding_in(given: &Given<'_>) -> Result<Encoding> {
     match given.text("encoding")? {
         "" => Ok(Encoding::Sanger),
-        name => encoding_of(name).context("no such encoding"),
+        name => Encoding::of_name(name).context("no such encoding"),
     }
 }
 

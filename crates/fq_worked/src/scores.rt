@@ -11,7 +11,6 @@ use crate::answers::Answers;
 use crate::encoding_in;
 use crate::row::Given;
 use anyhow::{Context, Result, bail};
-use fq_cli::encoding_of;
 use fq_text::{Encoding, from_score33, is_lawful, put_record};
 use std::alloc::Global;
 use std::fmt::Write;
@@ -103,7 +102,7 @@ fn put_line(out: &mut Vec<u8>, line: &str) -> Result<()> {
     let (recoded, line) = line.split_once('|').context("a title")?;
     let (title, line) = line.split_once('|').context("a sequence")?;
     let (seq, qual) = line.split_once('|').context("a quality")?;
-    match encoding_of(recoded) {
+    match Encoding::of_name(recoded) {
         Some(encoding) => put_recoded(
             out,
             title.as_bytes(),
