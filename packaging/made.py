@@ -209,7 +209,7 @@ def fish_lines(commands: List[Tuple[str, str]], pairs: Help) -> Iterator[str]:
         yield f"{start} '__fq_prog_wants command' -a {name} -d {quoted(brief(text))}"
     yield f"{start} '__fq_prog_wants step' -a {quoted(' '.join(step_words(pairs)))}"
     for option in pairs.options:
-        if option.name == '--help':
+        if option.name in ('--help', '--version'):  # these go with every command
             continue
         takes = {'': '', 'FILE': ' -rF'}.get(option.value, ' -x')
         if option.name == '--encoding':

@@ -5,7 +5,7 @@ use Rattle.clap.specs.Kinds.{or_else}
 use Rattle.clap.specs.Values.{refused_kind}
 use Rattle.clap.specs.declared.error.kind.ErrorKind.TheVariants.{ArgumentConflict}
 use Rattle.clap.specs.declared.builder.value_parser.ValueParser.TheVariants as parser
-use Rattle.clap.specs.Simple.{Shape, new_shape, filled, filled_from, help_rule, with_index}
+use Rattle.clap.specs.Simple.{Shape, new_shape, filled, filled_from, help_rule, version_rule, with_index}
 use Rattle.clap.specs.Walk.{Text, Row, Rule, Held, Walk, option, settled, settled_rows, walked, walk_from, nothing_held, has_row}
 use Rattle.clap.specs.Faults.{settle_fault, turn_fault, walk_fault}
 use Rattle.clap.proofs.OnLiterals.{clap_on_literals}
@@ -25,6 +25,8 @@ abbrev pub leaf : Text → List Rule → Shape
 leaf name others = record (new_shape name) {
   rules = options ++ others;
   disable_help_subcommand = true;
+  has_version = true;
+  propagate_version = true;
   is_built = true;
 }
 
@@ -43,11 +45,13 @@ mixed_input = input_at (codes "I")
 -- the arguments of `PE` after the options, filled in
 abbrev pub pairs_others : List Rule
 pairs_others =
-    filled_from 1 (file_rule (codes "F") ∷ file_rule (codes "R") ∷ (output_rules ++ help_rule ∷ []))
+    filled_from 1 (file_rule (codes "F") ∷ file_rule (codes "R")
+    ∷ (output_rules ++ help_rule ∷ version_rule ∷ []))
 
 -- the arguments of `IL` after the options, filled in
 abbrev pub mixed_others : List Rule
-mixed_others = filled_from 1 (file_rule (codes "I") ∷ (output_rules ++ help_rule ∷ []))
+mixed_others =
+    filled_from 1 (file_rule (codes "I") ∷ (output_rules ++ help_rule ∷ version_rule ∷ []))
 
 -- the built command `PE`
 abbrev pub pairs_leaf : Shape

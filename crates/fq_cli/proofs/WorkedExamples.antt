@@ -119,3 +119,8 @@ no_words = refl
 version_words : words_fault (codes "fq" ∷ codes "--version" ∷ []) ≡ DisplayVersion ∷ []
 unfolding clap_on_literals program_app pairs_app interleaved_app words_fault
 version_words = refl
+
+pairs_version_words : words_fault (codes "fq" ∷ codes "PE" ∷ codes "--version" ∷ [])
+    ≡ DisplayVersion ∷ []
+unfolding clap_on_literals program_app pairs_app interleaved_app words_fault
+pairs_version_words = refl

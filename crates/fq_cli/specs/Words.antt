@@ -95,6 +95,7 @@ program_app = record {
     is_leaf = false;
     subcommand_required = true;
     has_version = true;
+    propagate_version = true;
   };
   subs = pairs_app.top ∷ interleaved_app.top ∷ new_shape (codes "EXAMPLE") ∷ [];
 }

@@ -96,6 +96,7 @@ fn command<'a>(alloc: Global) -> Result<Command<'a>, AllocError>
         .after_help(help::START)
         .subcommand_required(true)
         .version(VERSION)
+        .propagate_version(true)
         .subcommand(pairs_command(alloc)?)?
         .subcommand(interleaved_command(alloc)?)?
         .subcommand(

@@ -12,8 +12,12 @@ wanting s = record s { subcommand_required = true }
 abbrev versioned : Shape → Shape
 versioned s = record s { has_version = true }
 
+abbrev propagating : Shape → Shape
+propagating s = record s { propagate_version = true }
+
 all_below : with_subcommand (with_subcommand (with_subcommand
-    (on_top versioned (on_top wanting (new_app (codes "fq_prog")))) pairs_app.top)
+    (on_top propagating (on_top versioned (on_top wanting (new_app (codes "fq_prog")))))
+    pairs_app.top)
     interleaved_app.top) (new_shape (codes "EXAMPLE")) ≡ program_app
 unfolding program_app pairs_app interleaved_app
 all_below = refl
@@ -29,8 +33,11 @@ returns c =
     let named_is : app_of c.version.result ≡ on_top versioned (on_top wanting
     (new_app (codes "fq_prog"))) = ap app_of_fields c.version.ensures
     ∙ ap (on_top versioned) top_is in
+    let passed_is : app_of c.propagate_version.result ≡ on_top propagating (on_top versioned
+    (on_top wanting (new_app (codes "fq_prog")))) =
+    ap app_of_fields c.propagate_version.ensures ∙ ap (on_top propagating) named_is in
     let first_is = one_below _ _ _ _ pairs_app c.in_ok-subcommand.ensures
-    c.in_ok-pairs_command.ensures named_is in
+    c.in_ok-pairs_command.ensures passed_is in
     let second_is = one_below _ _ _ _ interleaved_app c.in_ok-subcommand-2.ensures
     c.in_ok-interleaved_command.ensures first_is in
     let example : IsCommand (new_app (codes "EXAMPLE")) c.after_help-2.result = record {
