@@ -1,17 +1,20 @@
 -- The words of a command, and its steps.
-use Rattle.std.proofs.Common.{◌≡◌, ◌<◌, ◌≤◌, ◌&&◌, ℕ, Bool, true, false, if◌then◌else◌, Some, None, List, [], ◌∷◌, length, codes, refl, ap, ap₂, ◌∙◌, arith, suc, ltb-true, nat_lt}
+use Rattle.std.proofs.Common.{◌≡◌, ◌<◌, ◌≤◌, ◌&&◌, ℕ, Bool, true, false, decimal, if◌then◌else◌, Option, Some, None, List, [], ◌∷◌, ◌++◌, length, fold, codes, refl, ap, ap₂, sym, ◌∙◌, arith, append-nil, append_assoc, suc, ltb-true, nat_lt}
 use Rattle.std.specs.Prelude.{is_some}
+use Rattle.std.specs.Option.{option_map}
 use Rattle.std.proofs.lemmas.Bool.{false_from_ne_true}
 use Rattle.clap.specs.Kinds.{Kinds, or_else, range_kinds, values_kinds}
 use Rattle.clap.specs.declared.error.kind.ErrorKind.TheVariants.{TooFewValues, TooManyValues}
 use Rattle.clap.specs.declared.builder.value_parser.ValueParser.TheVariants as parser
 use Rattle.clap.specs.Simple.{Shape, built, entered, names_of}
-use Rattle.clap.specs.Walk.{Text, Row, Walk, positional, settled, walk_from, walk, nothing_held, rows_after, finished}
-use Rattle.clap.specs.Faults.{settle_fault, walk_fault, defaults_fault, check_fault, level_fault, entered_fault}
+use Rattle.clap.specs.Walk.{Text, Row, Rule, Walk, value, positional, settled, walk_from, walk, nothing_held, rows_after, finished}
+use Rattle.clap.specs.Faults.{settle_fault, step_fault, walk_fault, defaults_fault, check_fault, level_fault, entered_fault}
 use Rattle.clap.specs.Words.{subcommand_of}
 use Rattle.clap.proofs.OnLiterals.{clap_on_literals}
-use Rattle.fq_cli.specs.Words.{pairs_app, interleaved_app, program_app, most, words_fault}
-use Rattle.fq_cli.proofs.PlainWordLemmas.{words_kept, kept_faultless}
+use Rattle.fq_cli.specs.Words.{pairs_app, interleaved_app, program_app, most, number_of, words_fault}
+use Rattle.fq_cli.specs.CommandLines.{FitsIfGiven, Options}
+use Rattle.fq_cli.proofs.DecimalLemmas.{decimal_read}
+use Rattle.fq_cli.proofs.PlainWordLemmas.{value_walk, value_faults, words_kept, kept_faultless}
 use Rattle.fq_cli.proofs.OptionLemmas.{pairs_leaf, mixed_leaf}
 
 -- Words after the name of a subcommand.
@@ -103,6 +106,24 @@ unfolding clap_on_literals program_app pairs_app interleaved_app words_fault
 mixed_parse program rest sound =
     ap₂ top_fault (mixed_stop rest) (mixed_kept rest) ∙ ap (λ kinds. or_else kinds []) sound
 
+-- Options.
+
+abbrev pub options_of : Option Text → Option Text → Option Text → Option ℕ → Options
+options_of log report encoding threads = record {
+  log = log;
+  report = report;
+  encoding = encoding;
+  threads = threads;
+}
+
+-- a number, if there is one, as it is read from its digits
+abbrev pub as_read : Option ℕ → Option ℕ
+as_read threads = option_map (λ n. number_of (decimal n)) threads
+
+pub threads_read : (threads : Option ℕ) → FitsIfGiven threads → as_read threads ≡ threads
+threads_read None fits = refl
+threads_read (Some n) fits = ap Some (decimal_read n fits)
+
 -- Files and steps.
 
 -- the faults stay as they are if the argument doesn't take several values
@@ -119,6 +140,34 @@ stepping position rows skip steps = record {
   is_trailing = false;
   stopped = None;
 }
+
+-- Steps that come in turn, where each is kept after those before it and none is at fault.
+
+pub steps_walked : (rules : List Rule) (position : ℕ) (rows : List Row) (skip : ℕ) →
+    ((before : List Text) (step : Text) → value_walk rules (stepping position rows skip before) step
+    ≡ stepping position rows skip (before ++ step ∷ [])) →
+    (before steps : List Text) →
+    fold (value_walk rules) (stepping position rows skip before) steps
+    ≡ stepping position rows skip (before ++ steps)
+steps_walked rules position rows skip kept before [] =
+    ap (stepping position rows skip) (sym (append-nil before))
+steps_walked rules position rows skip kept before (step ∷ steps) =
+    ap (λ w. fold (value_walk rules) w steps) (kept before step)
+    ∙ steps_walked rules position rows skip kept (before ++ step ∷ []) steps
+    ∙ ap (stepping position rows skip) (append_assoc before (step ∷ []) steps)
+
+pub steps_sound : (s : Shape) (position : ℕ) (rows : List Row) (skip : ℕ) →
+    ((before : List Text) (step : Text) →
+    value_walk s.rules (stepping position rows skip before) step
+    ≡ stepping position rows skip (before ++ step ∷ [])) →
+    ((before : List Text) →
+    step_fault s position (stepping position rows skip before).held value ≡ []) →
+    (before steps : List Text) →
+    value_faults s (stepping position rows skip before) steps ≡ []
+steps_sound s position rows skip kept sound before [] = refl
+steps_sound s position rows skip kept sound before (step ∷ steps) =
+    ap₂ or_else (sound before) (ap (λ w. value_faults s w steps) (kept before step)
+    ∙ steps_sound s position rows skip kept sound (before ++ step ∷ []) steps)
 
 -- no word is refused as a text
 pub all_texts : (words : List Text) → values_kinds false parser.String words ≡ []

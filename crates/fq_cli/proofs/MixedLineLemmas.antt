@@ -1,31 +1,16 @@
 -- What `IL I FP FU RP RU STEPS..` asks for.
-use Rattle.std.proofs.Common.{◌≡◌, ◌≤◌, ℕ, Bool, false, Option, Some, None, List, [], ◌∷◌, ◌++◌, length, fold, codes, refl, ap, ap₂, sym, ◌∙◌, append-nil, append_assoc, inl}
+use Rattle.std.proofs.Common.{◌≡◌, ◌≤◌, ℕ, Bool, false, Option, Some, None, List, [], ◌∷◌, ◌++◌, length, fold, codes, refl, ap, ap₂, ◌∙◌, inl}
 use Rattle.std.specs.List.{All}
 use Rattle.clap.specs.Kinds.{or_else}
 use Rattle.clap.specs.Walk.{Text, Row, Walk, value, settled, walk_from, walk, nothing_held, finished, is_pending}
 use Rattle.clap.specs.Faults.{settle_fault, step_fault, walk_fault, defaults_fault, check_fault, level_fault}
 use Rattle.clap.proofs.OnLiterals.{clap_on_literals}
-use Rattle.fq_cli.specs.Requests.{interleaved_file}
+use Rattle.fq_cli.specs.Requests.{Asking, interleaved_file}
 use Rattle.fq_cli.specs.Words.{most, is_own_name, asked_in, asking_in, pairs_asked}
-use Rattle.fq_cli.specs.CommandLines.{IsPlain, FitsIfGiven, Options, OutputNames, option_words, asking_with, ArePlain, MixedPairsAreAskedFor}
-use Rattle.fq_cli.proofs.DecimalLemmas.{decimal_read}
-use Rattle.fq_cli.proofs.PlainWordLemmas.{IsOpen, value_walk, value_faults, values_walked, value_faults_are}
+use Rattle.fq_cli.specs.CommandLines.{IsPlain, FitsIfGiven, Options, option_words, asking_with, ArePlain, MixedPairsAreAskedFor}
+use Rattle.fq_cli.proofs.PlainWordLemmas.{IsOpen, value_walk, value_faults, values_walked, value_faults_are, faults_then}
 use Rattle.fq_cli.proofs.OptionLemmas.{mixed_input, mixed_others, mixed_leaf, opened, after_options, options_sound, options_read, options_faultless}
-use Rattle.fq_cli.proofs.CommandLineLemmas.{low_fault, mixed_entered, mixed_parse, not_several, stepping, all_texts, few}
-
-mixed_steps_walked : (rows : List Row) (skip : ℕ) (before steps : List Text) →
-    fold (value_walk mixed_leaf.rules) (stepping 6 rows skip before) steps
-    ≡ stepping 6 rows skip (before ++ steps)
-mixed_steps_walked rows skip before [] = ap (stepping 6 rows skip) (sym (append-nil before))
-mixed_steps_walked rows skip before (step ∷ steps) =
-    mixed_steps_walked rows skip (before ++ step ∷ []) steps
-    ∙ ap (stepping 6 rows skip) (append_assoc before (step ∷ []) steps)
-
-mixed_steps_sound : (rows : List Row) (skip : ℕ) (before steps : List Text) →
-    value_faults mixed_leaf (stepping 6 rows skip before) steps ≡ []
-mixed_steps_sound rows skip before [] = refl
-mixed_steps_sound rows skip before (step ∷ steps) =
-    mixed_steps_sound rows skip (before ++ step ∷ []) steps
+use Rattle.fq_cli.proofs.CommandLineLemmas.{options_of, as_read, threads_read, steps_walked, steps_sound, low_fault, mixed_entered, mixed_parse, not_several, stepping, all_texts, few}
 
 module _ (f fp fu rp ru step : Text) where
   -- what is held of options and files after the first step
@@ -35,7 +20,7 @@ module _ (f fp fu rp ru step : Text) where
       (f ∷ fp ∷ fu ∷ rp ∷ ru ∷ step ∷ [])).held.rows
 
   mixed_walked : (a b c : Option Text) (d : Option ℕ) →
-      let o : Options = record { log = a; report = b; encoding = c; threads = d } in
+      let o = options_of a b c d in
       fold (value_walk mixed_leaf.rules) (opened (after_options mixed_leaf.rules o))
       (f ∷ fp ∷ fu ∷ rp ∷ ru ∷ step ∷ []) ≡ stepping 6 (mixed_rows o) 0 (step ∷ [])
   mixed_walked None None None None = refl
@@ -55,141 +40,43 @@ module _ (f fp fu rp ru step : Text) where
   mixed_walked (Some x) (Some y) (Some z) None = refl
   mixed_walked (Some x) (Some y) (Some z) (Some n) = refl
 
+  -- no word from the second on to the first step is at fault
+  mixed_first_sound : (a b c : Option Text) (d : Option ℕ) →
+      value_faults mixed_leaf (value_walk mixed_leaf.rules
+      (opened (after_options mixed_leaf.rules (options_of a b c d))) f)
+      (fp ∷ fu ∷ rp ∷ ru ∷ step ∷ []) ≡ []
+  mixed_first_sound None None None None = refl
+  mixed_first_sound None None None (Some n) = refl
+  mixed_first_sound None None (Some z) None = refl
+  mixed_first_sound None None (Some z) (Some n) = refl
+  mixed_first_sound None (Some y) None None = refl
+  mixed_first_sound None (Some y) None (Some n) = refl
+  mixed_first_sound None (Some y) (Some z) None = refl
+  mixed_first_sound None (Some y) (Some z) (Some n) = refl
+  mixed_first_sound (Some x) None None None = refl
+  mixed_first_sound (Some x) None None (Some n) = refl
+  mixed_first_sound (Some x) None (Some z) None = refl
+  mixed_first_sound (Some x) None (Some z) (Some n) = refl
+  mixed_first_sound (Some x) (Some y) None None = refl
+  mixed_first_sound (Some x) (Some y) None (Some n) = refl
+  mixed_first_sound (Some x) (Some y) (Some z) None = refl
+  mixed_first_sound (Some x) (Some y) (Some z) (Some n) = refl
+
   mixed_names_sound : (steps : List Text) (a b c : Option Text) (d : Option ℕ) →
-      let o : Options = record { log = a; report = b; encoding = c; threads = d } in
-      value_faults mixed_leaf (value_walk mixed_leaf.rules (opened
-      (after_options mixed_leaf.rules o)) f) (fp ∷ fu ∷ rp ∷ ru ∷ step ∷ steps) ≡ []
-  mixed_names_sound steps None None None None =
-      mixed_steps_sound (mixed_rows (record {
-        log = None;
-        report = None;
-        encoding = None;
-        threads =
-            None;
-      })) 0 (step ∷ []) steps
-  mixed_names_sound steps None None None (Some n) =
-      mixed_steps_sound (mixed_rows (record {
-        log = None;
-        report = None;
-        encoding = None;
-        threads =
-            Some n;
-      })) 0 (step ∷ []) steps
-  mixed_names_sound steps None None (Some z) None =
-      mixed_steps_sound (mixed_rows (record {
-        log = None;
-        report = None;
-        encoding =
-            Some z;
-        threads = None;
-      })) 0 (step ∷ []) steps
-  mixed_names_sound steps None None (Some z) (Some n) =
-      mixed_steps_sound (mixed_rows (record {
-        log = None;
-        report = None;
-        encoding =
-            Some z;
-        threads = Some n;
-      })) 0 (step ∷ []) steps
-  mixed_names_sound steps None (Some y) None None =
-      mixed_steps_sound (mixed_rows (record {
-        log = None;
-        report = Some y;
-        encoding =
-            None;
-        threads = None;
-      })) 0 (step ∷ []) steps
-  mixed_names_sound steps None (Some y) None (Some n) =
-      mixed_steps_sound (mixed_rows (record {
-        log = None;
-        report = Some y;
-        encoding =
-            None;
-        threads = Some n;
-      })) 0 (step ∷ []) steps
-  mixed_names_sound steps None (Some y) (Some z) None =
-      mixed_steps_sound (mixed_rows (record {
-        log = None;
-        report = Some y;
-        encoding =
-            Some z;
-        threads = None;
-      })) 0 (step ∷ []) steps
-  mixed_names_sound steps None (Some y) (Some z) (Some n) =
-      mixed_steps_sound (mixed_rows (record {
-        log = None;
-        report = Some y;
-        encoding =
-            Some z;
-        threads = Some n;
-      })) 0 (step ∷ []) steps
-  mixed_names_sound steps (Some x) None None None =
-      mixed_steps_sound (mixed_rows (record {
-        log = Some x;
-        report = None;
-        encoding =
-            None;
-        threads = None;
-      })) 0 (step ∷ []) steps
-  mixed_names_sound steps (Some x) None None (Some n) =
-      mixed_steps_sound (mixed_rows (record {
-        log = Some x;
-        report = None;
-        encoding =
-            None;
-        threads = Some n;
-      })) 0 (step ∷ []) steps
-  mixed_names_sound steps (Some x) None (Some z) None =
-      mixed_steps_sound (mixed_rows (record {
-        log = Some x;
-        report = None;
-        encoding =
-            Some z;
-        threads = None;
-      })) 0 (step ∷ []) steps
-  mixed_names_sound steps (Some x) None (Some z) (Some n) =
-      mixed_steps_sound (mixed_rows (record {
-        log = Some x;
-        report = None;
-        encoding =
-            Some z;
-        threads = Some n;
-      })) 0 (step ∷ []) steps
-  mixed_names_sound steps (Some x) (Some y) None None =
-      mixed_steps_sound (mixed_rows (record {
-        log = Some x;
-        report = Some y;
-        encoding =
-            None;
-        threads = None;
-      })) 0 (step ∷ []) steps
-  mixed_names_sound steps (Some x) (Some y) None (Some n) =
-      mixed_steps_sound (mixed_rows (record {
-        log = Some x;
-        report = Some y;
-        encoding =
-            None;
-        threads = Some n;
-      })) 0 (step ∷ []) steps
-  mixed_names_sound steps (Some x) (Some y) (Some z) None =
-      mixed_steps_sound (mixed_rows (record {
-        log = Some x;
-        report = Some y;
-        encoding =
-            Some z;
-        threads = None;
-      })) 0 (step ∷ []) steps
-  mixed_names_sound steps (Some x) (Some y) (Some z) (Some n) =
-      mixed_steps_sound (mixed_rows (record {
-        log = Some x;
-        report = Some y;
-        encoding =
-            Some z;
-        threads = Some n;
-      })) 0 (step ∷ []) steps
+      value_faults mixed_leaf (value_walk mixed_leaf.rules
+      (opened (after_options mixed_leaf.rules (options_of a b c d))) f)
+      (fp ∷ fu ∷ rp ∷ ru ∷ step ∷ steps) ≡ []
+  mixed_names_sound steps a b c d =
+      let begun = value_walk mixed_leaf.rules
+      (opened (after_options mixed_leaf.rules (options_of a b c d))) f in
+      faults_then mixed_leaf begun (fp ∷ fu ∷ rp ∷ ru ∷ step ∷ []) steps
+      ∙ ap₂ or_else (mixed_first_sound a b c d)
+      (ap (λ w. value_faults mixed_leaf w steps) (mixed_walked a b c d)
+      ∙ steps_sound mixed_leaf 6 (mixed_rows (options_of a b c d)) 0 (λ before next. refl)
+      (λ before. refl) (step ∷ []) steps)
 
   mixed_end_sound : (steps : List Text) (a b c : Option Text) (d : Option ℕ) →
-      let o : Options = record { log = a; report = b; encoding = c; threads = d } in
+      let o = options_of a b c d in
       let end = (stepping 6 (mixed_rows o) 0 (step ∷ steps)).held in
       or_else (defaults_fault (settled mixed_leaf.rules end).rows mixed_leaf.rules)
       (check_fault mixed_leaf (finished mixed_leaf.rules end) false) ≡ []
@@ -211,151 +98,52 @@ module _ (f fp fu rp ru step : Text) where
   mixed_end_sound steps (Some x) (Some y) (Some z) None = refl
   mixed_end_sound steps (Some x) (Some y) (Some z) (Some n) = refl
 
-  mixed_found : (own : Bool) (steps : List Text) (a b c : Option Text) (d : Option ℕ) →
-      FitsIfGiven d →
-      let o : Options = record { log = a; report = b; encoding = c; threads = d } in
-      let names : OutputNames = record {
-        forward_paired = fp;
-        forward_unpaired =
-            fu;
-        reverse_paired = rp;
-        reverse_unpaired = ru;
-      } in
+  -- what is asked for with these options
+  abbrev mixed_asking : Bool → List Text → Options → Asking
+  mixed_asking own steps o = asking_with own o (interleaved_file f) (record {
+    forward_paired = fp;
+    forward_unpaired = fu;
+    reverse_paired = rp;
+    reverse_unpaired = ru;
+  }) (step ∷ steps)
+
+  -- the same, where the number of threads is read from its digits
+  mixed_digits_found : (own : Bool) (steps : List Text) (a b c : Option Text) (d : Option ℕ) →
       asked_in own (Some (
         codes "IL",
         finished mixed_leaf.rules
-            (stepping 6 (mixed_rows o) 0 (step ∷ steps)).held,
+            (stepping 6 (mixed_rows (options_of a b c d)) 0 (step ∷ steps)).held,
       ))
-      ≡ Some (asking_with own o (interleaved_file f) names (step ∷ steps))
+      ≡ Some (mixed_asking own steps (options_of a b c (as_read d)))
   unfolding clap_on_literals asking_in
-  mixed_found own steps None None None None fits = refl
-  mixed_found own steps None None None (Some n) fits =
-      ap (λ (t : ℕ). Some (asking_with own (record {
-        log = None;
-        report = None;
-        encoding =
-            None;
-        threads = Some t;
-      }) (interleaved_file f) (record {
-        forward_paired =
-            fp;
-        forward_unpaired = fu;
-        reverse_paired = rp;
-        reverse_unpaired = ru;
-      }) (step ∷ steps)))
-      (decimal_read n fits)
-  mixed_found own steps None None (Some z) None fits = refl
-  mixed_found own steps None None (Some z) (Some n) fits =
-      ap (λ (t : ℕ). Some (asking_with own (record {
-        log = None;
-        report = None;
-        encoding =
-            Some z;
-        threads = Some t;
-      }) (interleaved_file f) (record {
-        forward_paired =
-            fp;
-        forward_unpaired = fu;
-        reverse_paired = rp;
-        reverse_unpaired = ru;
-      }) (step ∷ steps)))
-      (decimal_read n fits)
-  mixed_found own steps None (Some y) None None fits = refl
-  mixed_found own steps None (Some y) None (Some n) fits =
-      ap (λ (t : ℕ). Some (asking_with own (record {
-        log = None;
-        report = Some y;
-        encoding =
-            None;
-        threads = Some t;
-      }) (interleaved_file f) (record {
-        forward_paired =
-            fp;
-        forward_unpaired = fu;
-        reverse_paired = rp;
-        reverse_unpaired = ru;
-      }) (step ∷ steps)))
-      (decimal_read n fits)
-  mixed_found own steps None (Some y) (Some z) None fits = refl
-  mixed_found own steps None (Some y) (Some z) (Some n) fits =
-      ap (λ (t : ℕ). Some (asking_with own (record {
-        log = None;
-        report = Some y;
-        encoding =
-            Some z;
-        threads = Some t;
-      }) (interleaved_file f) (record {
-        forward_paired =
-            fp;
-        forward_unpaired = fu;
-        reverse_paired = rp;
-        reverse_unpaired = ru;
-      }) (step ∷ steps)))
-      (decimal_read n fits)
-  mixed_found own steps (Some x) None None None fits = refl
-  mixed_found own steps (Some x) None None (Some n) fits =
-      ap (λ (t : ℕ). Some (asking_with own (record {
-        log = Some x;
-        report = None;
-        encoding =
-            None;
-        threads = Some t;
-      }) (interleaved_file f) (record {
-        forward_paired =
-            fp;
-        forward_unpaired = fu;
-        reverse_paired = rp;
-        reverse_unpaired = ru;
-      }) (step ∷ steps)))
-      (decimal_read n fits)
-  mixed_found own steps (Some x) None (Some z) None fits = refl
-  mixed_found own steps (Some x) None (Some z) (Some n) fits =
-      ap (λ (t : ℕ). Some (asking_with own (record {
-        log = Some x;
-        report = None;
-        encoding =
-            Some z;
-        threads = Some t;
-      }) (interleaved_file f) (record {
-        forward_paired =
-            fp;
-        forward_unpaired = fu;
-        reverse_paired = rp;
-        reverse_unpaired = ru;
-      }) (step ∷ steps)))
-      (decimal_read n fits)
-  mixed_found own steps (Some x) (Some y) None None fits = refl
-  mixed_found own steps (Some x) (Some y) None (Some n) fits =
-      ap (λ (t : ℕ). Some (asking_with own (record {
-        log = Some x;
-        report = Some y;
-        encoding =
-            None;
-        threads = Some t;
-      }) (interleaved_file f) (record {
-        forward_paired =
-            fp;
-        forward_unpaired = fu;
-        reverse_paired = rp;
-        reverse_unpaired = ru;
-      }) (step ∷ steps)))
-      (decimal_read n fits)
-  mixed_found own steps (Some x) (Some y) (Some z) None fits = refl
-  mixed_found own steps (Some x) (Some y) (Some z) (Some n) fits =
-      ap (λ (t : ℕ). Some (asking_with own (record {
-        log = Some x;
-        report = Some y;
-        encoding =
-            Some z;
-        threads = Some t;
-      }) (interleaved_file f) (record {
-        forward_paired =
-            fp;
-        forward_unpaired = fu;
-        reverse_paired = rp;
-        reverse_unpaired = ru;
-      }) (step ∷ steps)))
-      (decimal_read n fits)
+  mixed_digits_found own steps None None None None = refl
+  mixed_digits_found own steps None None None (Some n) = refl
+  mixed_digits_found own steps None None (Some z) None = refl
+  mixed_digits_found own steps None None (Some z) (Some n) = refl
+  mixed_digits_found own steps None (Some y) None None = refl
+  mixed_digits_found own steps None (Some y) None (Some n) = refl
+  mixed_digits_found own steps None (Some y) (Some z) None = refl
+  mixed_digits_found own steps None (Some y) (Some z) (Some n) = refl
+  mixed_digits_found own steps (Some x) None None None = refl
+  mixed_digits_found own steps (Some x) None None (Some n) = refl
+  mixed_digits_found own steps (Some x) None (Some z) None = refl
+  mixed_digits_found own steps (Some x) None (Some z) (Some n) = refl
+  mixed_digits_found own steps (Some x) (Some y) None None = refl
+  mixed_digits_found own steps (Some x) (Some y) None (Some n) = refl
+  mixed_digits_found own steps (Some x) (Some y) (Some z) None = refl
+  mixed_digits_found own steps (Some x) (Some y) (Some z) (Some n) = refl
+
+  mixed_found : (own : Bool) (steps : List Text) (o : Options) → FitsIfGiven o.threads →
+      asked_in own (Some (
+        codes "IL",
+        finished mixed_leaf.rules (stepping 6 (mixed_rows o) 0 (step ∷ steps)).held,
+      ))
+      ≡ Some (mixed_asking own steps o)
+  mixed_found own steps o fits =
+      mixed_digits_found own steps o.log o.report o.encoding o.threads
+      ∙ ap (λ (d : Option ℕ).
+      Some (mixed_asking own steps (options_of o.log o.report o.encoding d)))
+      (threads_read o.threads fits)
 
 module _ (f fp fu rp ru : Text) (o : Options) (plain : ArePlain o) (step : Text) (steps : List Text)
     (fits : length (step ∷ steps) ≤ most)
@@ -376,7 +164,8 @@ module _ (f fp fu rp ru : Text) (o : Options) (plain : ArePlain o) (step : Text)
       mixed_open all
       ∙ ap (λ w. fold (value_walk mixed_leaf.rules) w steps)
       (mixed_walked f fp fu rp ru step o.log o.report o.encoding o.threads)
-      ∙ mixed_steps_walked (mixed_rows f fp fu rp ru step o) 0 (step ∷ []) steps
+      ∙ steps_walked mixed_leaf.rules 6 (mixed_rows f fp fu rp ru step o) 0
+      (λ before next. refl) (step ∷ []) steps
 
   mixed_first : step_fault mixed_leaf 1 (after_options mixed_leaf.rules o) value ≡ []
   mixed_first =
@@ -419,8 +208,7 @@ module _ (f fp fu rp ru : Text) (o : Options) (plain : ArePlain o) (step : Text)
       ap (asked_in (is_own_name program)) (mixed_entered program (option_words o ++ mixed_words))
       ∙ ap (λ (w : Walk). asked_in (is_own_name program)
       (Some (codes "IL", finished mixed_leaf.rules w.held))) mixed_walk
-      ∙ mixed_found f fp fu rp ru step (is_own_name program) steps o.log o.report o.encoding
-      o.threads plain.threads
+      ∙ mixed_found f fp fu rp ru step (is_own_name program) steps o plain.threads
 
 -- `IL [options] I FP FU RP RU STEPS..` asks for these names, steps and values
 pub mixed_pairs_are_asked_for : MixedPairsAreAskedFor

@@ -140,6 +140,24 @@ value_faults_are s (word ∷ words) w is plain =
     (still_open s.rules (arg_by_index s.rules w.position) word w w.held is)
     (All-tail IsPlain word words plain))
 
+or_else_assoc : (first second third : Kinds) →
+    or_else first (or_else second third) ≡ or_else (or_else first second) third
+or_else_assoc [] second third = refl
+or_else_assoc (kind ∷ kinds) second third = refl
+
+-- the faults of words and of more after them
+pub faults_then : (s : Shape) (w : Walk) (words more : List Text) →
+    value_faults s w (words ++ more)
+    ≡ or_else (value_faults s w words)
+    (value_faults s (fold (value_walk s.rules) w words) more)
+faults_then s w [] more = refl
+faults_then s w (word ∷ words) more =
+    let next = value_walk s.rules w word in
+    let here = step_fault s w.position w.held value in
+    ap (or_else here) (faults_then s next words more)
+    ∙ or_else_assoc here (value_faults s next words)
+    (value_faults s (fold (value_walk s.rules) next words) more)
+
 -- The value of an option.
 
 -- the walk waits for the value of the option with this id
