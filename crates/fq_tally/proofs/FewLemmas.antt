@@ -1,8 +1,8 @@
 -- Rows of a few reads, of which a vector holds some.
-use Rattle.std.proofs.Common.{◌≡◌, ℕ, zero, suc, ◌+◌, ◌*◌, ◌<◌, ◌≤◌, Bool, true, false, nat_le, eqb, List, [], ◌∷◌, ◌++◌, length, take, map, get_or, replicate, max, Fits, w8, w16, refl, ap, ap₂, sym, subst, ◌∙◌, arith, ⊎_elim}
+use Rattle.std.proofs.Common.{◌≡◌, ℕ, zero, suc, ◌+◌, ◌*◌, ◌<◌, ◌≤◌, Bool, true, false, nat_le, eqb, List, [], ◌∷◌, ◌++◌, length, take, map, get_or, replicate, max, Fits, w8, w16, refl, ap, ap₂, sym, subst, ◌∙◌, arith}
 use Rattle.std.specs.List.{list_all}
-use Rattle.std.proofs.lemmas.List.{append_assoc, map-append, get_or_read, get_or_past, get_or-take, take_more, length-take-le, length-append, length-replicate, replicate-append-replicate, length-map, map-id}
-use Rattle.std.proofs.lemmas.Bool.{cond-true, cond-false, cases_lt, and_parts, leb-true, le-leb, ne_eqb}
+use Rattle.std.proofs.lemmas.List.{append_assoc, map-append, get_or_past, length-append, length-replicate, replicate-append-replicate, length-map, map-id}
+use Rattle.std.proofs.lemmas.Bool.{cond-true, cond-false, and_parts, leb-true, le-leb, ne_eqb}
 use Rattle.std.proofs.lemmas.Simd.{Each1-from_get_or, Each1-chunk, Each2-of}
 use lib.Lanes.{Each1, Each2, zip2, chunk, put_chunk}
 use Rattle.fq_text.specs.declared.encoding.Encoding.{Encoding}
@@ -17,7 +17,7 @@ use Rattle.fq_tally.specs.Letters.{is_a, is_c, is_g, is_t, is_n}
 use Rattle.fq_tally.specs.Columns.{placed, one_if, columns_from, columns_plus}
 use Rattle.fq_tally.specs.Counting.{AtMost, IsFew, AreFew, lane_score, lanes_at, first_rows}
 use Rattle.fq_tally.proofs.RowLemmas.{plus_none, length-rows_plus}
-use Rattle.fq_tally.proofs.ColumnLemmas.{Small, rows_assoc, none_more, first_small, grown_within, columns_same, one_if_small}
+use Rattle.fq_tally.proofs.ColumnLemmas.{Small, grown_within, columns_same, one_if_small}
 
 -- A vector is added from a row on.
 
@@ -87,39 +87,6 @@ stored_words at xs ys few bytes long room =
     ap (λ zs. put_chunk at xs (zip2 (λ a b. a + b) (chunk at 32 xs) zs)) (map-id ys)
     ∙ stored_plus at xs ys (λ k. let one = few k in
     omega arith) (bytes_small ys bytes) 32 (sym long) room
-
--- Rows are added to others, one after the other.
-
-pub joined_plain : (us vs : List ℕ) → Small us →
-    rows_plus us (replicate (length us) 0 ++ vs) ≡ us ++ vs
-joined_plain [] vs small = refl
-joined_plain (u ∷ us) vs small = ap₂ (λ x xs. x ∷ xs) (none_more u (first_small u us small))
-    (joined_plain us vs (λ k. small (suc k)))
-
-length-take-most : (j : ℕ) (ys : List ℕ) → length (take j ys) ≤ j
-length-take-most zero ys = omega arith
-length-take-most (suc j) [] = omega arith
-length-take-most (suc j) (y ∷ ys) = let rest = length-take-most j ys in omega arith
-
-taken_small : (i : ℕ) (xs : List ℕ) → AtMost 65535 xs → Small (take i xs)
-taken_small i xs few k = ⊎_elim
-    (λ (below : k < i). let at = get_or-take i xs k 0 below in let most = few k in omega arith)
-    (λ (from : i ≤ k). let none = get_or_past (take i xs) k 0
-    (omega (arith, length-take-most i xs)) in omega arith)
-    (cases_lt k i)
-
-pub next_added : (start now new xs : List ℕ) (i x : ℕ) → AtMost 65535 xs → i < length xs →
-    x ≡ get_or xs i x →
-    now ≡ rows_plus start (take i xs) → new ≡ rows_plus now (replicate i 0 ++ (x ∷ [])) →
-    new ≡ rows_plus start (take (i + 1) xs)
-next_added start now new xs i x few within read so_far here =
-    let size : i ≡ length (take i xs) = sym (length-take-le i xs (omega arith)) in
-    here
-    ∙ ap₂ (λ ys n. rows_plus ys (replicate n 0 ++ (x ∷ []))) so_far size
-    ∙ rows_assoc start (take i xs) (replicate (length (take i xs)) 0 ++ (x ∷ []))
-    ∙ ap (rows_plus start) (joined_plain (take i xs) (x ∷ []) (taken_small i xs few)
-    ∙ ap (λ y. take i xs ++ (y ∷ [])) (get_or_read xs i x within read 0)
-    ∙ sym (take_more xs i 0 within))
 
 -- Sums of rows of a few reads.
 

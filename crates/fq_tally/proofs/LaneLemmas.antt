@@ -12,7 +12,7 @@ use Rattle.fq_trim.proofs.PlaceLemmas.{all_taken, all_dropped}
 use Rattle.fq_tally.specs.declared.columns.Columns.{Columns}
 use Rattle.fq_tally.specs.Rows.{rows_plus}
 use Rattle.fq_tally.specs.Columns.{columns_from, columns_plus}
-use Rattle.fq_tally.specs.Counting.{IsFew, AreFew, is_lane, lanes_at, first_rows}
+use Rattle.fq_tally.specs.Counting.{IsFew, AreFew, HoldsFew, is_lane, lanes_at, first_rows}
 use Rattle.fq_tally.proofs.ColumnLemmas.{Small, grown_within, columns_same, columns_assoc, columns_joined}
 use Rattle.fq_tally.proofs.FewLemmas.{lanes_are_columns, lanes_moved, lanes_behind, lanes_more, lanes_cut}
 
@@ -66,6 +66,21 @@ few_weaker x rows rows' len len' reads reads' few less order bound = record {
   t = row_weaker rows rows' len len' reads reads' x.t few.t less order bound;
   n = row_weaker rows rows' len len' reads reads' x.n few.n less order bound;
 }
+
+-- After its reads were moved a counter holds none.
+pub emptied : (old new : Columns) (last reached reads : ℕ) → HoldsFew last reached reads old →
+    ((rows : ℕ) → AreFew rows reached 254 old → AreFew rows 0 0 new) → HoldsFew last 0 0 new
+emptied old new last reached reads holds none =
+    let within = holds.within in
+    let room = holds.room in
+    let rows = last + 32 in
+    record {
+      few = none rows (few_weaker old rows rows reached reached reads 254 holds.few (omega arith)
+          (omega arith) (omega arith));
+      within = omega arith;
+      near = holds.near;
+      room = omega arith;
+    }
 
 -- nothing is counted
 row_nothing : (rows len most at : ℕ) (xs : List ℕ) → IsFew rows len most xs → most ≤ 65535 →

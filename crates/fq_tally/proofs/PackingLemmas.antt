@@ -6,7 +6,7 @@ use Rattle.fq_tally.specs.declared.reads.ReadsTally.{ReadsTally}
 use Rattle.fq_tally.specs.declared.side.SideTally.{SideTally}
 use Rattle.fq_tally.specs.declared.tally.Tally.{Tally}
 use Rattle.fq_tally.specs.SideColumns.{SideColumns}
-use Rattle.fq_tally.specs.Packing.{bases_tables, reads_tables, columns_tables, side_columns_tables, steps_tables, side_tables, tally_tables, later, side_in, tally_in}
+use Rattle.fq_tally.specs.Packing.{bases_tables, reads_tables, columns_tables, side_columns_tables, steps_tables, side_tables, tally_tables, later, side_table_count, side_in, tally_in}
 
 -- What is packed piece by piece is packed in one.
 
@@ -59,7 +59,7 @@ side_read t ts = refl
 side_alone : (t : SideTally) → side_in (side_tables t) ≡ t
 side_alone t = refl
 
-left_read : (t : SideTally) (ts : List (List ℕ)) → later 66 (side_tables t ++ ts) ≡ ts
+left_read : (t : SideTally) (ts : List (List ℕ)) → later side_table_count (side_tables t ++ ts) ≡ ts
 left_read t ts = refl
 
 pub tally_read : (t : Tally) → tally_in (tally_tables t) ≡ t

@@ -11,7 +11,7 @@ use Rattle.fq_tally.specs.declared.side.SideTally.{SideTally}
 use Rattle.fq_tally.specs.declared.tally.Tally.{Tally}
 use Rattle.fq_tally.specs.Rows.{with_one, row_of, counted, counted_if, counted_all, rows_plus}
 use Rattle.fq_tally.specs.Courses.{Part, whole, Course, course, survives}
-use Rattle.fq_tally.specs.Tallies.{no_bases, bases_plus, bases_of, mean_score, gc_percent, no_reads, with_part, reads_plus, no_side, behind_of, with_read, side_plus, no_tally, with_pair, tally_of, plus}
+use Rattle.fq_tally.specs.Tallies.{no_bases, bases_plus, bases_of, mean_score, gc_percent, no_reads, with_part, reads_plus, no_side, behind_of, with_read, with_step_counts, side_plus, no_tally, with_pair, tally_of, plus}
 use Rattle.fq_tally.proofs.RowLemmas.{plus_none}
 use Rattle.fq_tally.proofs.SideColumnSums.{side_columns_none, side_columns_read}
 
@@ -294,17 +294,8 @@ side_read read c mate_survives s t small =
     let dropped = rows_all c.dropped s.steps.dropped t.steps.dropped small.dropped in cc
 
 abbrev side_parts : SideTally → SideTally
-side_parts t = record {
-  before = t.before;
-  paired = t.paired;
-  unpaired = t.unpaired;
-  front = t.front;
-  behind = t.behind;
-  removed_front = t.removed_front;
-  removed_behind = t.removed_behind;
-  positions = t.positions;
-  steps = record { shortened = t.steps.shortened; dropped = t.steps.dropped };
-}
+side_parts t =
+    with_step_counts (record { shortened = t.steps.shortened; dropped = t.steps.dropped }) t
 
 side_none : (t : SideTally) → SmallSide t → side_plus t no_side ≡ t
 side_none t small =

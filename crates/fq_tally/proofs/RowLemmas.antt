@@ -1,6 +1,6 @@
 -- Rows and their sums.
-use Rattle.std.proofs.Common.{◌≡◌, ℕ, zero, suc, ◌+◌, ◌-◌, ◌<◌, ◌≤◌, List, [], ◌∷◌, ◌++◌, length, take, drop, set, get_or, replicate, min, max, refl, ap, ap₂, sym, ◌∙◌, arith, add-one}
-use Rattle.std.proofs.lemmas.List.{append-nil, take_all, get_or_read, length-append, length-replicate}
+use Rattle.std.proofs.Common.{◌≡◌, ℕ, zero, suc, ◌+◌, ◌-◌, ◌<◌, ◌≤◌, List, [], ◌∷◌, ◌++◌, length, take, set, get_or, replicate, min, max, refl, ap, ap₂, sym, ◌∙◌, arith, add-one}
+use Rattle.std.proofs.lemmas.List.{take_all, get_or_read, length-append, length-replicate}
 use Rattle.fq_pair.specs.Summaries.{capped_sum}
 use Rattle.fq_tally.specs.Rows.{with_one, counted, rows_plus}
 
@@ -85,33 +85,6 @@ plus_more (x ∷ xs) [] i lx ly = absurd (omega arith)
 plus_more (x ∷ xs) (y ∷ ys) zero lx ly = ap (λ ns. capped_sum x y ∷ ns) (plus_none xs)
 plus_more (x ∷ xs) (y ∷ ys) (suc i) lx ly = ap (λ ns. capped_sum x y ∷ ns)
     (plus_more xs ys i (omega arith) (omega arith))
-
-joined : (xs ys : List ℕ) → 0 ≡ min (length xs) (length ys) →
-    rows_plus xs [] ++ ys ≡ rows_plus xs ys
-joined [] ys is = refl
-joined (x ∷ xs) [] is = append-nil (x ∷ xs)
-joined (x ∷ xs) (y ∷ ys) is = absurd (omega arith)
-
-pub plus_next : (xs ys zs : List ℕ) (i x y w : ℕ) → i < length xs → i < length ys →
-    zs ≡ rows_plus xs (take i ys) → x ≡ get_or zs i x → y ≡ get_or ys i y →
-    w ≡ min (x + y) 18446744073709551615 → set zs i w ≡ rows_plus xs (take (i + 1) ys)
-plus_next xs ys zs i x y w lx ly so_far left right sum =
-    let size = length-rows_plus xs (take i ys) in
-    let long : i < length zs = omega (arith, ap length so_far) in
-    let a = get_or_read zs i x long left 0 in
-    let b = get_or_read ys i y ly right 0 in
-    ap (set zs i) (sum ∙ ap (λ n. capped_sum n y) a ∙ ap (capped_sum (get_or zs i 0)) b)
-    ∙ ap (λ ns. set ns i (capped_sum (get_or ns i 0) (get_or ys i 0))) so_far
-    ∙ sym (plus_more xs ys i lx ly) ∙ ap (λ n. rows_plus xs (take n ys)) (sym (add-one i))
-
--- what the shorter one lacks is appended
-pub plus_joined : (xs ys : List ℕ) (n : ℕ) → n ≡ min (length xs) (length ys) →
-    rows_plus xs (take n ys) ++ drop n ys ≡ rows_plus xs ys
-plus_joined xs ys zero is = joined xs ys is
-plus_joined [] ys (suc n) is = absurd (omega arith)
-plus_joined (x ∷ xs) [] (suc n) is = absurd (omega arith)
-plus_joined (x ∷ xs) (y ∷ ys) (suc n) is = ap (λ ns. capped_sum x y ∷ ns)
-    (plus_joined xs ys n (omega arith))
 
 -- Rows are added to rows that are at least as many.
 pub grown_long : (xs ys zs : List ℕ) (i : ℕ) →

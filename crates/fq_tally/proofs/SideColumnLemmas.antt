@@ -176,3 +176,14 @@ between_are_bases read e seq qual from n at lawful e_is seq_is qual_is within or
           all_taken (is_scored e) (drop from qual) n (all_dropped (is_scored e) qual from scored);
       same = omega arith;
     }
+
+-- what is kept of a read
+pub kept_are_bases : (read : Read) (k : Kept) (e : Encoding) (seq qual : List ℕ) →
+    IsLawful read → e ≡ read.encoding → seq ≡ read.seq → qual ≡ read.qual →
+    k.stop ≤ length read.seq →
+    AreBases e (take (k.stop - k.start) (drop k.start seq))
+    (take (k.stop - k.start) (drop k.start qual)) 0
+kept_are_bases read k e seq qual lawful e_is seq_is qual_is within =
+    let order = k.some in
+    between_are_bases read e seq qual k.start (k.stop - k.start) 0 lawful e_is seq_is qual_is
+    (omega arith) (omega arith)

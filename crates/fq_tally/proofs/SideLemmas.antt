@@ -142,6 +142,17 @@ pub kept_length : (k : Kept) (p : Part) → length (part_at (places_of (Some k))
 kept_length k p = length-map (places k.start (k.stop - k.start)) (at p.seq)
     ∙ length-places k.start (k.stop - k.start)
 
+-- the counts of what is kept of a read are those of so many bases
+pub kept_counts : (read : Read) (k : Kept) (b : BaseTally) →
+    b ≡ bases_of (part_at (places_of (Some k)) (whole read)) → k.stop ≤ length read.seq →
+    length read.seq ≤ 1048576 →
+    (k.stop - k.start ≡ b.bases) × ((b.bases ≤ 1048576) × (b.gc ≤ b.bases))
+kept_counts read k b is within few =
+    let size = kept_length k (whole read) in (
+      sym (ap (λ (t : BaseTally). t.bases) is ∙ size),
+      few_bases (part_at (places_of (Some k)) (whole read)) b is (omega arith),
+    )
+
 pub kept_is_left : (read : Read) (k : Kept) →
     survives (part_at (places_of (Some k)) (whole read)) ≡ true
 kept_is_left read k = ap not (not_empty (at read.seq) (places_of (Some k))

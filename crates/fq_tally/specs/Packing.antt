@@ -1,5 +1,5 @@
 -- How a tally is packed: as tables, one after the other. A number is a table of one row.
-use Rattle.std.specs.Prelude.{ℕ, zero, suc, List, [], ◌∷◌, ◌++◌, get_or}
+use Rattle.std.specs.Prelude.{ℕ, zero, suc, ◌+◌, ◌*◌, List, [], ◌∷◌, ◌++◌, get_or}
 use Rattle.fq_tally.specs.declared.bases.BaseTally.{BaseTally}
 use Rattle.fq_tally.specs.declared.columns.Columns.{Columns}
 use Rattle.fq_tally.specs.declared.reads.ReadsTally.{ReadsTally}
@@ -58,6 +58,16 @@ later (suc n) ts = after_first (later n ts)
 abbrev pub number_in : List (List ℕ) → ℕ
 number_in ts = get_or (first_table ts) 0 0
 
+-- how many tables columns are, the columns of a side, and a side
+abbrev pub column_count : ℕ
+column_count = 8
+
+abbrev pub side_column_count : ℕ
+side_column_count = 3 * column_count
+
+abbrev pub side_table_count : ℕ
+side_table_count = 42 + side_column_count
+
 abbrev pub bases_in : List (List ℕ) → BaseTally
 bases_in ts = record {
   bases = number_in ts;
@@ -94,8 +104,8 @@ columns_in ts = record {
 abbrev pub side_columns_in : List (List ℕ) → SideColumns
 side_columns_in ts = record {
   before = columns_in ts;
-  paired = columns_in (later 8 ts);
-  unpaired = columns_in (later 16 ts);
+  paired = columns_in (later column_count ts);
+  unpaired = columns_in (later (2 * column_count) ts);
 }
 
 abbrev pub steps_in : List (List ℕ) → StepsTally
@@ -111,8 +121,8 @@ side_in ts = record {
   removed_front = first_table (later 38 ts);
   removed_behind = first_table (later 39 ts);
   positions = side_columns_in (later 40 ts);
-  steps = steps_in (later 64 ts);
+  steps = steps_in (later (40 + side_column_count) ts);
 }
 
 abbrev pub tally_in : List (List ℕ) → Tally
-tally_in ts = record { forward = side_in ts; reverse = side_in (later 66 ts) }
+tally_in ts = record { forward = side_in ts; reverse = side_in (later side_table_count ts) }

@@ -141,9 +141,9 @@ with_left read left front mate_survives t = record {
   steps = t.steps;
 }
 
--- the steps that did something to a read
-abbrev pub with_steps : Course → SideTally → SideTally
-with_steps course t = record {
+-- other counts of steps
+abbrev pub with_step_counts : StepsTally → SideTally → SideTally
+with_step_counts steps t = record {
   before = t.before;
   paired = t.paired;
   unpaired = t.unpaired;
@@ -152,8 +152,12 @@ with_steps course t = record {
   removed_front = t.removed_front;
   removed_behind = t.removed_behind;
   positions = t.positions;
-  steps = with_course course t.steps;
+  steps = steps;
 }
+
+-- the steps that did something to a read
+abbrev pub with_steps : Course → SideTally → SideTally
+with_steps course t = with_step_counts (with_course course t.steps) t
 
 -- a read, its course, and whether its mate survives
 abbrev pub with_read : Read → Course → Bool → SideTally → SideTally

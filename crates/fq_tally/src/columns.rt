@@ -6,7 +6,7 @@ ghost use Rattle.fq_text.specs.Grammar.{limit};
 ghost use Rattle.fq_text.specs.Scores.{is_scored};
 ghost use Rattle.fq_tally.specs.Columns.{last_position, no_columns, columns_from, columns_plus};
 ghost use Rattle.fq_tally.specs.Counting.{empty_rows, one_in};
-ghost use Rattle.fq_tally.specs.Packing.{columns_tables, columns_in, later};
+ghost use Rattle.fq_tally.specs.Packing.{columns_tables, columns_in, column_count, later};
 
 use crate::rows::Rows;
 use crate::tables::Tables;
@@ -145,7 +145,7 @@ impl Columns {
     // Adds the counts of the next tables.
     pub(crate) fn add_unread(&mut self, unread: &mut Unread<'_>)
         ensures added { self.new ≡ columns_plus self.old (columns_in unread.old) }
-        ensures rest { unread.new ≡ later 8 unread.old }
+        ensures rest { unread.new ≡ later column_count unread.old }
     {
         unread.add_next(&mut self.bases);
         unread.add_next(&mut self.score_sum);

@@ -6,10 +6,10 @@ ghost use Rattle.fq_text.specs.Grammar.{limit};
 ghost use Rattle.fq_text.specs.Scores.{is_scored};
 ghost use Rattle.fq_tally.specs.Columns.{last_position, no_columns, columns_from, columns_plus};
 ghost use Rattle.fq_tally.specs.Counting.{first_rows, most_reads, AreFew};
-ghost use Rattle.fq_tally.specs.Packing.{columns_tables, columns_in, later};
+ghost use Rattle.fq_tally.specs.Packing.{columns_tables, columns_in, column_count, later};
 
 use crate::columns::{Columns, LAST_POSITION};
-use crate::few::FewColumns;
+use crate::narrow_columns::NarrowColumns;
 use crate::tables::Tables;
 use crate::unread::Unread;
 use crate::vectors::WIDTH;
@@ -17,26 +17,26 @@ use fq_text::{Encoding, OutOfMemory};
 use std::alloc::Global;
 use std::marker::Model;
 
-// After this many reads the counts in `few` are added to the totals, so that none of its 8-bit
+// After this many reads the counts in `narrow` are added to the totals, so that none of its 8-bit
 // counts overflows.
 const MOST_READS: usize = 254;
 
-// `few` gets rows for so many positions at a time.
+// `narrow` gets rows for so many positions at a time.
 const MORE_POSITIONS: usize = 256;
 
 // A counter of bases by their positions. Reads that end at position 10,000 or before are counted
-// in `few`, which is added to `totals` from time to time. Longer reads go to `totals` at once, and
-// so do all reads that `few` has no memory for.
+// in `narrow`, which is added to `totals` from time to time. Longer reads go to `totals` at once,
+// and so do all reads that `narrow` has no memory for.
 #[derive(Drop)]
 pub(crate) struct Positions {
     alloc: Global,
     totals: Columns,
-    few: FewColumns,
-    // The last position that has a row in `few`. A vector has room after it.
+    narrow: NarrowColumns,
+    // The last position that has a row in `narrow`. A vector has room after it.
     last: usize,
-    // The rows of `few` that were reached.
+    // The rows of `narrow` that were reached.
     reached: usize,
-    // The reads in `few`.
+    // The reads in `narrow`.
     reads: usize,
 }
 
@@ -47,9 +47,9 @@ impl Model for Positions {
 
     ghost Value = { Columns };
 
-    ghost view = { λ p. columns_plus p.totals (first_rows p.reached p.few) };
+    ghost view = { λ p. columns_plus p.totals (first_rows p.reached p.narrow) };
 
-    ghost invariant = { λ p. HoldsFew p.last p.reached p.reads p.few };
+    ghost invariant = { λ p. HoldsFew p.last p.reached p.reads p.narrow };
 }
 
 impl Positions {
@@ -58,18 +58,19 @@ impl Positions {
         ensures { IfOk result (λ p. p ≡ no_columns) }
     {
         let totals = Columns::new(alloc)?;
-        let few = FewColumns::new(alloc, WIDTH)?;
+        let narrow = NarrowColumns::new(alloc, WIDTH)?;
         Ok(Positions {
             alloc,
             totals,
-            few,
+            narrow,
             last: 0,
             reached: 0,
             reads: 0,
         })
     }
 
-    // Counts bases. The first is at index `at` of its read. `few` gets longer if memory is given.
+    // Counts bases. The first is at index `at` of its read. `narrow` gets more rows if memory is
+    // given.
     pub(crate) fn add(&mut self, encoding: Encoding, seq: &[u8], qual: &[u8], at: usize)
         requires few { at + length qual.now ≤ limit }
         requires scored { list_all (is_scored encoding) qual.now ≡ true }
@@ -83,7 +84,7 @@ impl Positions {
         self.count(encoding, seq, qual, at);
     }
 
-    // Counts bases, in `few` if it reaches so far. Takes no memory.
+    // Counts bases, in `narrow` if it reaches so far. Takes no memory.
     fn count(&mut self, encoding: Encoding, seq: &[u8], qual: &[u8], at: usize)
         requires few { at + length qual.now ≤ limit }
         requires scored { list_all (is_scored encoding) qual.now ≡ true }
@@ -95,17 +96,17 @@ impl Positions {
             self.totals.count(encoding, seq, qual, at);
             return;
         }
-        self.few.count(encoding, seq, qual, at);
+        self.narrow.count(encoding, seq, qual, at);
         self.reached = self.reached.max(end);
         self.reads += 1;
         if self.reads == MOST_READS {
-            empty(&mut self.few, &mut self.totals, self.reached);
+            empty(&mut self.narrow, &mut self.totals, self.reached);
             self.reached = 0;
             self.reads = 0;
         }
     }
 
-    // Gives `few` a row for each position up to this one, if it may have one and memory is given.
+    // Gives `narrow` a row for each position up to this one, if it may have it and memory is given.
     #[inline(never)]
     fn reach(&mut self, end: usize)
         ensures { self.new ≡ self.old }
@@ -114,9 +115,9 @@ impl Positions {
             return;
         }
         let last = (end + MORE_POSITIONS - end % MORE_POSITIONS).min(LAST_POSITION);
-        if let Ok(few) = FewColumns::new(self.alloc, last + WIDTH) {
-            self.few.add_to(&mut self.totals, self.reached);
-            self.few = few;
+        if let Ok(narrow) = NarrowColumns::new(self.alloc, last + WIDTH) {
+            self.narrow.add_to(&mut self.totals, self.reached);
+            self.narrow = narrow;
             self.last = last;
             self.reached = 0;
             self.reads = 0;
@@ -128,7 +129,7 @@ impl Positions {
         ensures { columns.new ≡ columns_plus columns.old self.now }
     {
         columns.add_all(&self.totals);
-        self.few.add_to(columns, self.reached);
+        self.narrow.add_to(columns, self.reached);
     }
 
     // Adds the counts of other bases.
@@ -136,14 +137,14 @@ impl Positions {
         ensures { self.new ≡ columns_plus self.old other.now }
     {
         self.totals.add_all(&other.totals);
-        other.few.add_to(&mut self.totals, other.reached);
+        other.narrow.add_to(&mut self.totals, other.reached);
     }
 
     // Moves all counts to the totals.
     pub(crate) fn settle(&mut self)
         ensures { self.new ≡ self.old }
     {
-        empty(&mut self.few, &mut self.totals, self.reached);
+        empty(&mut self.narrow, &mut self.totals, self.reached);
         self.reached = 0;
         self.reads = 0;
     }
@@ -152,7 +153,7 @@ impl Positions {
     pub(crate) fn pack(&mut self, tables: &mut Tables) -> Result<(), OutOfMemory>
         ensures { OnOk result (tables.new ≡ tables.old ++ columns_tables self.old) }
     {
-        empty(&mut self.few, &mut self.totals, self.reached);
+        empty(&mut self.narrow, &mut self.totals, self.reached);
         self.reached = 0;
         self.reads = 0;
         self.totals.pack(tables)
@@ -161,7 +162,7 @@ impl Positions {
     // Adds the counts of the next tables.
     pub(crate) fn add_unread(&mut self, unread: &mut Unread<'_>)
         ensures added { self.new ≡ columns_plus self.old (columns_in unread.old) }
-        ensures rest { unread.new ≡ later 8 unread.old }
+        ensures rest { unread.new ≡ later column_count unread.old }
     {
         self.totals.add_unread(unread);
     }
@@ -171,19 +172,19 @@ impl Positions {
         ensures { self.new ≡ no_columns }
     {
         self.totals.clear();
-        self.few.clear(self.reached);
+        self.narrow.clear(self.reached);
         self.reached = 0;
         self.reads = 0;
     }
 }
 
 // Moves counts of a few reads to the totals.
-fn empty(few: &mut FewColumns, totals: &mut Columns, reached: usize)
-    requires few { AreFew reached reached most_reads few.old }
+fn empty(narrow: &mut NarrowColumns, totals: &mut Columns, reached: usize)
+    requires few { AreFew reached reached most_reads narrow.old }
     requires near { reached ≤ last_position }
-    ensures moved { totals.new ≡ columns_plus totals.old (first_rows reached few.old) }
-    ensures none { (rows : ℕ) → AreFew rows reached most_reads few.old → AreFew rows 0 0 few.new }
+    ensures moved { totals.new ≡ columns_plus totals.old (first_rows reached narrow.old) }
+    ensures none { (n : ℕ) → AreFew n reached most_reads narrow.old → AreFew n 0 0 narrow.new }
 {
-    few.add_to(totals, reached);
-    few.clear(reached);
+    narrow.add_to(totals, reached);
+    narrow.clear(reached);
 }

@@ -91,15 +91,7 @@ impl Rows {
     pub(crate) fn add_all(&mut self, other: &Rows)
         ensures { self.new ≡ rows_plus self.old other.now }
     {
-        let mine = self.counts.len();
-        let others = other.counts.len();
-        let shared = mine.min(others);
-        for i in 0..shared {
-            self.counts[i] = self.counts[i].saturating_add(other.counts[i]);
-        }
-        self.counts
-            .extend_from_slice(&other.counts[shared..])
-            .unwrap();
+        self.add_table(Table::Longs(&other.counts));
     }
 
     // Packs the rows as the next table.
@@ -109,48 +101,15 @@ impl Rows {
         tables.push(&self.counts)
     }
 
-    // Adds the counts of a packed table.
+    // Adds the counts of a table.
     pub(crate) fn add_table(&mut self, table: Table<'_>)
         requires { length (counts_of table) ≤ most_rows }
         ensures { self.new ≡ rows_plus self.old (counts_of table.entry) }
     {
-        match table {
-            Table::Bytes(counts) => self.add_bytes(counts),
-            Table::Words(counts) => self.add_words(counts),
-            Table::Longs(counts) => self.add_longs(counts),
-        }
-    }
-
-    // Adds counts of 8 bits.
-    fn add_bytes(&mut self, more: &[u8])
-        requires { length more.now ≤ most_rows }
-        ensures { self.new ≡ rows_plus self.old more.now }
-    {
-        self.grow(more.len());
-        for i in 0..more.len() {
-            self.counts[i] = self.counts[i].saturating_add(u64::from(more[i]));
-        }
-    }
-
-    // Adds counts of 16 bits.
-    fn add_words(&mut self, more: &[u16])
-        requires { length more.now ≤ most_rows }
-        ensures { self.new ≡ rows_plus self.old more.now }
-    {
-        self.grow(more.len());
-        for i in 0..more.len() {
-            self.counts[i] = self.counts[i].saturating_add(u64::from(more[i]));
-        }
-    }
-
-    // Adds counts of 64 bits.
-    fn add_longs(&mut self, more: &[u64])
-        requires { length more.now ≤ most_rows }
-        ensures { self.new ≡ rows_plus self.old more.now }
-    {
-        self.grow(more.len());
-        for i in 0..more.len() {
-            self.counts[i] = self.counts[i].saturating_add(more[i]);
+        let rows = table.rows();
+        self.grow(rows);
+        for i in 0..rows {
+            self.counts[i] = self.counts[i].saturating_add(table.count(i));
         }
     }
 

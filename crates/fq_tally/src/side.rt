@@ -43,7 +43,7 @@ pub struct SideTally {
 
 impl SideTally {
     ghost use Rattle.fq_tally.specs.Tallies.{no_side, with_left, with_read, side_plus};
-    ghost use Rattle.fq_tally.specs.Packing.{side_tables, side_in, later};
+    ghost use Rattle.fq_tally.specs.Packing.{side_tables, side_in, side_table_count, later};
 
     // No reads.
     pub(crate) fn new(alloc: Global) -> Result<SideTally, OutOfMemory>
@@ -163,7 +163,7 @@ impl SideTally {
     // Adds the counts of the next tables.
     pub(crate) fn add_unread(&mut self, unread: &mut Unread<'_>)
         ensures added { self.new ≡ side_plus self.old (side_in unread.old) }
-        ensures rest { unread.new ≡ later 66 unread.old }
+        ensures rest { unread.new ≡ later side_table_count unread.old }
     {
         self.before.add_unread(unread);
         self.paired.add_unread(unread);

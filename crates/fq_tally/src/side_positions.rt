@@ -49,7 +49,8 @@ impl SidePositions {
     ghost use Rattle.fq_tally.specs.SideColumns.{no_side_columns, with_before, with_after};
     ghost use Rattle.fq_tally.specs.SideColumns.{with_columns, side_columns_plus};
     ghost use Rattle.fq_tally.specs.Parts.{AreBases};
-    ghost use Rattle.fq_tally.specs.Packing.{side_columns_tables, side_columns_in, later};
+    ghost use Rattle.fq_tally.specs.Packing.{side_columns_tables, side_columns_in};
+    ghost use Rattle.fq_tally.specs.Packing.{side_column_count, later};
 
     // No bases.
     pub(crate) fn new(alloc: Global) -> Result<SidePositions, OutOfMemory>
@@ -198,7 +199,7 @@ impl SidePositions {
     // start.
     pub(crate) fn add_unread(&mut self, unread: &mut Unread<'_>)
         ensures added { self.new ≡ side_columns_plus self.old (side_columns_in unread.old) }
-        ensures rest { unread.new ≡ later 24 unread.old }
+        ensures rest { unread.new ≡ later side_column_count unread.old }
     {
         self.rest.add_unread(unread);
         self.paired_moved.add_unread(unread);

@@ -4,7 +4,7 @@ ghost use Rattle.std.specs.Prelude.{◌≡◌, List, ◌++◌, IfOk, OnOk};
 ghost use Rattle.fq_trim.specs.declared.step.Step.{Step};
 ghost use Rattle.fq_pair.specs.Mates.{Mates, mates_in};
 
-use crate::held::Side;
+use crate::side_counts::SideCounts;
 use crate::tables::Tables;
 use crate::trimmed::Trimmed;
 use crate::unread::Unread;
@@ -17,9 +17,9 @@ use std::alloc::Global;
 #[derive(Drop)]
 pub struct Tally {
     /// The forward reads.
-    pub forward: Side,
+    pub forward: SideCounts,
     /// The reverse reads.
-    pub reverse: Side,
+    pub reverse: SideCounts,
 }
 
 impl Tally {
@@ -32,8 +32,8 @@ impl Tally {
     pub fn new(alloc: Global) -> Result<Tally, OutOfMemory>
         ensures { IfOk result (λ t. t ≡ no_tally) }
     {
-        let forward = Side::new(alloc)?;
-        let reverse = Side::new(alloc)?;
+        let forward = SideCounts::new(alloc)?;
+        let reverse = SideCounts::new(alloc)?;
         Ok(Tally { forward, reverse })
     }
 

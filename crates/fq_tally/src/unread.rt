@@ -12,6 +12,35 @@ pub(crate) enum Table<'a> {
     Longs(&'a [u64]),
 }
 
+impl<'a> Table<'a> {
+    ghost use Rattle.std.specs.Prelude.{◌≡◌, ◌≤◌, ◌<◌, ℕ, length, get_or};
+    ghost use Rattle.fq_tally.specs.Unreads.{counts_of};
+
+    // How many rows it has.
+    pub(crate) fn rows(self) -> usize
+        ensures { result ≡ length (counts_of self.entry) }
+    {
+        match self {
+            Table::Bytes(counts) => counts.len(),
+            Table::Words(counts) => counts.len(),
+            Table::Longs(counts) => counts.len(),
+        }
+    }
+
+    // The count in a row.
+    #[inline(always)]
+    pub(crate) fn count(self, row: usize) -> u64
+        requires { row < length (counts_of self) }
+        ensures { result ≡ get_or (counts_of self.entry) row 0 }
+    {
+        match self {
+            Table::Bytes(counts) => u64::from(counts[row]),
+            Table::Words(counts) => u64::from(counts[row]),
+            Table::Longs(counts) => counts[row],
+        }
+    }
+}
+
 // The tables that were not read yet, in their order.
 #[derive(Drop)]
 pub(crate) struct Unread<'a> {
@@ -95,11 +124,10 @@ impl<'a> Unread<'a> {
         ensures number { result ≡ number_in self.old }
         ensures rest { self.new ≡ later 1 self.old }
     {
-        match self.next() {
-            Table::Bytes(counts) if !counts.is_empty() => u64::from(counts[0]),
-            Table::Words(counts) if !counts.is_empty() => u64::from(counts[0]),
-            Table::Longs(counts) if !counts.is_empty() => counts[0],
-            _ => 0,
+        let table = self.next();
+        if table.rows() == 0 {
+            return 0;
         }
+        table.count(0)
     }
 }

@@ -1,4 +1,4 @@
-use Rattle.std.proofs.Common.{◌<◌, ◌≤◌, ℕ, length, arith}
+use Rattle.std.proofs.Common.{arith}
 use Rattle.fq_tally.proofs.PackedLemmas.{all_at_most}
 use Rattle.fq_tally.proofs.tables.width_of.Goals as goal
 

@@ -7,9 +7,9 @@ use Rattle.fq_tally.proofs.positions.Positions.add_all.Goals as goal
 pub returns : goal.returns
 returns c =
     let totals = c.self.inside.totals in
-    let few = first_rows c.self.inside.reached c.self.inside.few in
+    let few = first_rows c.self.inside.reached c.self.inside.narrow in
     let others = c.other.inside.totals in
-    let other_few = first_rows c.other.inside.reached c.other.inside.few in
+    let other_few = first_rows c.other.inside.reached c.other.inside.narrow in
     ap (λ x. columns_plus x few) (c.add_to.ensures
     ∙ ap (λ x. columns_plus x other_few) c.add_all.ensures)
     ∙ columns_both totals few others other_few

@@ -8,7 +8,7 @@ use Rattle.fq_tally.proofs.positions.Positions.add_unread.Goals as goal
 pub returns-clause-added : goal.returns-clause-added
 returns-clause-added c =
     let totals = c.self.inside.totals in
-    let few = first_rows c.self.inside.reached c.self.inside.few in
+    let few = first_rows c.self.inside.reached c.self.inside.narrow in
     let read = columns_in c.args.unread.now in
     ap (λ x. columns_plus x few) c.add_unread.ensures.added ∙ columns_swap totals read few
     ∙ ap (λ x. columns_plus x read) c.self.view_is

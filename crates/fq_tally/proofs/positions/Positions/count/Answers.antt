@@ -8,7 +8,7 @@ use Rattle.fq_tally.proofs.positions.Positions.count.Goals as goal
 pub returns-then-end-self : goal.returns-then-end-self
 returns-then-end-self c =
     let totals = c.self.inside.totals in
-    let few = first_rows c.self.inside.reached c.self.inside.few in
+    let few = first_rows c.self.inside.reached c.self.inside.narrow in
     let read = columns_from c.args.at c.args.encoding c.args.seq.now c.args.qual.now in
     ap (λ x. columns_plus x few) c.count.ensures ∙ columns_swap totals read few
     ∙ ap (λ x. columns_plus x read) c.self.view_is
@@ -24,7 +24,8 @@ empty-requires-clause-few c =
     let end_within = c.if-end-self.false in
     let full = c.if-self-eq-MOST_READS.true in
     let most = c.max-self-inside.ensures in
-    let more = read_few c.self.inside.few new (c.self.inside.last + 32) reached reads c.args.at end
+    let more = read_few c.self.inside.narrow new (c.self.inside.last + 32) reached reads c.args.at
+    end
     c.args.encoding c.args.seq.now c.args.qual.now c.self.invariant.few (omega arith)
     c.count-2.ensures c.requires.same refl (omega arith) c.requires.scored in
     few_weaker new (c.self.inside.last + 32) c.max-self-inside.result c.max-self-inside.result
@@ -43,7 +44,8 @@ invariant_of-self-else-self-eq-MOST_READS c =
     let end_within = c.if-end-self.false in
     let room = c.self.invariant.room in
     let most = c.max-self-inside.ensures in
-    let more = read_few c.self.inside.few new (c.self.inside.last + 32) reached reads c.args.at end
+    let more = read_few c.self.inside.narrow new (c.self.inside.last + 32) reached reads c.args.at
+    end
     c.args.encoding c.args.seq.now c.args.qual.now c.self.invariant.few (omega arith)
     c.count-2.ensures c.requires.same refl (omega arith) c.requires.scored in
     record {
@@ -64,7 +66,8 @@ invariant_of-self-then-self-eq-MOST_READS c =
     let reached_within = c.self.invariant.within in
     let end_within = c.if-end-self.false in
     let full = c.if-self-eq-MOST_READS.true in
-    let more = read_few c.self.inside.few new (c.self.inside.last + 32) reached reads c.args.at end
+    let more = read_few c.self.inside.narrow new (c.self.inside.last + 32) reached reads c.args.at
+    end
     c.args.encoding c.args.seq.now c.args.qual.now c.self.invariant.few (omega arith)
     c.count-2.ensures c.requires.same refl (omega arith) c.requires.scored in
     let rows = c.self.inside.last + 32 in
@@ -92,7 +95,8 @@ returns-then-self-eq-MOST_READS c =
     columns_none c.empty.new.totals
     ∙ c.empty.ensures.moved
     ∙ ap (λ n. columns_plus totals (first_rows n new)) c.max-self-inside.ensures
-    ∙ read_added totals c.self.inside.few new (c.self.inside.last + 32) reached reads c.args.at end
+    ∙ read_added totals c.self.inside.narrow new (c.self.inside.last + 32) reached reads c.args.at
+    end
     c.args.encoding c.args.seq.now c.args.qual.now c.self.invariant.few (omega arith)
     (omega arith) c.count-2.ensures c.requires.same refl (omega arith) c.requires.scored
     ∙ ap (λ x. columns_plus x read) c.self.view_is
@@ -109,7 +113,8 @@ returns-else-self-eq-MOST_READS c =
     let new = c.count-2.new.self in
     let read = columns_from c.args.at c.args.encoding c.args.seq.now c.args.qual.now in
     ap (λ n. columns_plus totals (first_rows n new)) c.max-self-inside.ensures
-    ∙ read_added totals c.self.inside.few new (c.self.inside.last + 32) reached reads c.args.at end
+    ∙ read_added totals c.self.inside.narrow new (c.self.inside.last + 32) reached reads c.args.at
+    end
     c.args.encoding c.args.seq.now c.args.qual.now c.self.invariant.few (omega arith)
     (omega arith) c.count-2.ensures c.requires.same refl (omega arith) c.requires.scored
     ∙ ap (λ x. columns_plus x read) c.self.view_is

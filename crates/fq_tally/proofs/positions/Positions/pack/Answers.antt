@@ -1,22 +1,14 @@
-use Rattle.std.proofs.Common.{◌≡◌, ◌+◌, ◌++◌, OnOk, subst, ◌∙◌, arith}
+use Rattle.std.proofs.Common.{◌≡◌, ◌++◌, OnOk, subst, ◌∙◌}
 use Rattle.fq_tally.specs.declared.columns.Columns.{Columns}
 use Rattle.fq_tally.specs.Packing.{columns_tables}
-use Rattle.fq_tally.proofs.LaneLemmas.{few_weaker}
+use Rattle.fq_tally.proofs.LaneLemmas.{emptied}
 use Rattle.fq_tally.proofs.positions.Positions.pack.Goals as goal
 
 pub invariant_of-self : goal.invariant_of-self
 invariant_of-self c =
     let old = c.self.inside in
-    let within = c.self.invariant.within in
-    let room = c.self.invariant.room in
-    let rows = old.last + 32 in
-    record {
-      few = c.empty.ensures.none rows (few_weaker old.few rows rows old.reached old.reached
-          old.reads 254 c.self.invariant.few (omega arith) (omega arith) (omega arith));
-      within = omega arith;
-      near = c.self.invariant.near;
-      room = omega arith;
-    }
+    emptied old.narrow c.empty.new.narrow old.last old.reached old.reads c.self.invariant
+    c.empty.ensures.none
 
 pub returns : goal.returns
 returns c =

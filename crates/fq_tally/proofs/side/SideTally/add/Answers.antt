@@ -4,27 +4,12 @@ use Rattle.fq_trim.specs.declared.step.Step.{Step}
 use Rattle.fq_trim.specs.Keeping.{places}
 use Rattle.fq_pair.specs.Outputs.{kept_places}
 use Rattle.fq_pair.proofs.KeptLemmas.{kept_within_read}
-use Rattle.fq_tally.specs.declared.side.SideTally.{SideTally}
 use Rattle.fq_tally.specs.declared.steps.StepsTally.{StepsTally}
 use Rattle.fq_tally.specs.Rows.{counted_all}
 use Rattle.fq_tally.specs.Courses.{Part, Passage, alone, part_at, whole, course, passage}
-use Rattle.fq_tally.specs.Tallies.{with_left, with_course}
+use Rattle.fq_tally.specs.Tallies.{with_left, with_course, with_step_counts}
 use Rattle.fq_tally.proofs.LeftLaws.{left_as_kept}
 use Rattle.fq_tally.proofs.side.SideTally.add.Goals as goal
-
--- a side whose steps are counted
-abbrev with_tally : SideTally → StepsTally → SideTally
-with_tally t steps = record {
-  before = t.before;
-  paired = t.paired;
-  unpaired = t.unpaired;
-  front = t.front;
-  behind = t.behind;
-  removed_front = t.removed_front;
-  removed_behind = t.removed_behind;
-  positions = t.positions;
-  steps = steps;
-}
 
 -- what steps do to a read is counted as its course
 counted_course : (read : Read) (steps : List Step) (p : Passage) (old new : StepsTally) →
@@ -58,14 +43,15 @@ returns-in-Some-clause-added c =
     c.in-Some.ensures.kept ∙ ap (λ (p : Passage). p.kept) c.requires in
     c.add_survivor.ensures
     ∙ ap (λ (p : Part). with_left read p k.start c.args.mate_survives
-    (with_tally old c.add.new.self)) (ap (λ (ps : List ℕ). part_at ps (whole read)) kept_is
+    (with_step_counts c.add.new.self old))
+    (ap (λ (ps : List ℕ). part_at ps (whole read)) kept_is
     ∙ sym (left_as_kept steps read c.title.ensures.lawful.same_len))
     ∙ ap (λ (n : ℕ). with_left read went.left n c.args.mate_survives
-    (with_tally old c.add.new.self)) (c.in-Some.ensures.front
+    (with_step_counts c.add.new.self old)) (c.in-Some.ensures.front
     ∙ ap (λ (p : Passage). p.front) c.requires)
     ∙ ap (λ (t : StepsTally). with_left read went.left went.front c.args.mate_survives
-    (with_tally old t)) (counted_course read steps c.args.trimmed.now old.steps c.add.new.self
-    c.requires c.add.ensures)
+    (with_step_counts t old)) (counted_course read steps c.args.trimmed.now old.steps
+    c.add.new.self c.requires c.add.ensures)
 
 pub returns-in-None-clause-added : goal.returns-in-None-clause-added
 returns-in-None-clause-added c =
@@ -76,11 +62,12 @@ returns-in-None-clause-added c =
     let kept_is : [] ≡ kept_places steps read = c.in-None.ensures.kept
     ∙ ap (λ (p : Passage). p.kept) c.requires in
     let gone : c.add_dropped.new.self ≡ with_left read (part_at [] (whole read)) went.front
-    c.args.mate_survives (with_tally old c.add.new.self) = c.add_dropped.ensures in
+    c.args.mate_survives (with_step_counts c.add.new.self old) = c.add_dropped.ensures in
     gone
     ∙ ap (λ (p : Part). with_left read p went.front c.args.mate_survives
-    (with_tally old c.add.new.self)) (ap (λ (ps : List ℕ). part_at ps (whole read)) kept_is
+    (with_step_counts c.add.new.self old))
+    (ap (λ (ps : List ℕ). part_at ps (whole read)) kept_is
     ∙ sym (left_as_kept steps read c.title.ensures.lawful.same_len))
     ∙ ap (λ (t : StepsTally). with_left read went.left went.front c.args.mate_survives
-    (with_tally old t)) (counted_course read steps c.args.trimmed.now old.steps c.add.new.self
-    c.requires c.add.ensures)
+    (with_step_counts t old)) (counted_course read steps c.args.trimmed.now old.steps
+    c.add.new.self c.requires c.add.ensures)

@@ -1,6 +1,4 @@
-use Rattle.std.proofs.Common.{◌≡◌, ◌≤◌, ℕ, ◌+◌, ◌-◌, Bool, not, cond, Some, List, length, min, ap, sym, ◌∙◌, arith}
-use Rattle.fq_text.specs.Grammar.{Read}
-use Rattle.fq_trim.specs.declared.trimming.Kept.{Kept}
+use Rattle.std.proofs.Common.{◌≡◌, ℕ, ◌+◌, ◌-◌, Bool, not, cond, Some, List, length, min, ap, sym, ◌∙◌, arith}
 use Rattle.fq_pair.specs.Outputs.{places_of}
 use Rattle.fq_pair.specs.Summaries.{capped_sum}
 use Rattle.fq_tally.specs.declared.bases.BaseTally.{BaseTally}
@@ -9,7 +7,7 @@ use Rattle.fq_tally.specs.Rows.{counted}
 use Rattle.fq_tally.specs.Courses.{part_at, whole}
 use Rattle.fq_tally.specs.SideColumns.{with_columns}
 use Rattle.fq_tally.specs.Tallies.{with_bases, with_part}
-use Rattle.fq_tally.proofs.SideLemmas.{kept_length, parts_are, survivor, few_bases}
+use Rattle.fq_tally.proofs.SideLemmas.{kept_counts, parts_are, survivor, few_bases}
 use Rattle.fq_tally.proofs.side.SideTally.add_survivor.Goals as goal
 use Rattle.fq_tally.proofs.side.SideTally.add_survivor.Goals.{then-mate_survives, else-mate_survives}
 
@@ -26,11 +24,6 @@ row_is : {now new : List ℕ} {number : ℕ} (old : List ℕ) (counted_number : 
     number ≡ counted_number → new ≡ counted number now → new ≡ counted counted_number old
 row_is old counted_number is number_is new_is = cc
 
--- what is left of a read has no more bases than the read
-left_fits : (read : Read) (k : Kept) → k.stop ≤ length read.seq → length read.seq ≤ 1048576 →
-    length (part_at (places_of (Some k)) (whole read)).seq ≤ 1048576
-left_fits read k within few = let size = kept_length k (whole read) in omega arith
-
 pub add-requires-clause-few : goal.add-requires-clause-few
 add-requires-clause-few c =
     (few_bases (whole c.args.read.now) c.whole_bases-whole.result c.whole_bases-whole.ensures
@@ -43,31 +36,17 @@ add-requires-clause-among c =
 
 pub add-requires-then-mate_survives : goal.add-requires-then-mate_survives
 add-requires-then-mate_survives c =
-    let part = part_at (places_of (Some c.args.kept)) (whole c.args.read.now) in
     let left = c.kept_bases-left in
-    let few =
-    few_bases part left.result left.ensures
-    (left_fits c.args.read.now c.args.kept c.requires c.title.ensures.lawful.seq_fits) in
-    record {
-      length = sym (ap (λ (b : BaseTally). b.bases) left.ensures
-          ∙ kept_length c.args.kept (whole c.args.read.now));
-      few = few.0;
-      among = few.1;
-    }
+    let counts = kept_counts c.args.read.now c.args.kept left.result left.ensures c.requires
+    c.title.ensures.lawful.seq_fits in
+    record { length = counts.0; few = counts.1.0; among = counts.1.1 }
 
 pub add-requires-else-mate_survives : goal.add-requires-else-mate_survives
 add-requires-else-mate_survives c =
-    let part = part_at (places_of (Some c.args.kept)) (whole c.args.read.now) in
     let left = c.kept_bases-left in
-    let few =
-    few_bases part left.result left.ensures
-    (left_fits c.args.read.now c.args.kept c.requires c.title.ensures.lawful.seq_fits) in
-    record {
-      length = sym (ap (λ (b : BaseTally). b.bases) left.ensures
-          ∙ kept_length c.args.kept (whole c.args.read.now));
-      few = few.0;
-      among = few.1;
-    }
+    let counts = kept_counts c.args.read.now c.args.kept left.result left.ensures c.requires
+    c.title.ensures.lawful.seq_fits in
+    record { length = counts.0; few = counts.1.0; among = counts.1.1 }
 
 pub returns : goal.returns
 returns c =

@@ -6,38 +6,26 @@ use Rattle.fq_tally.specs.Courses.{part_at, whole}
 use Rattle.fq_tally.specs.SideColumns.{SideColumns, with_before, with_after}
 use Rattle.fq_tally.proofs.CourseLemmas.{part}
 use Rattle.fq_tally.proofs.SideLemmas.{kept_part}
-use Rattle.fq_tally.proofs.SideColumnLemmas.{between_are_bases, in_place, survivor_columns, cut_columns, all_columns}
+use Rattle.fq_tally.proofs.SideColumnLemmas.{between_are_bases, kept_are_bases, in_place, survivor_columns, cut_columns, all_columns}
 use Rattle.fq_tally.proofs.side_positions.SidePositions.add_survivor.Goals as goal
 
 pub add_moved-requires : goal.add_moved-requires
 add_moved-requires c =
-    let k = c.args.kept in
-    let order = k.some in
-    let within = c.requires in
-    between_are_bases c.args.read.now c.encoding-encoding.result c.seq-seq.result.now
-    c.qual-qual.result.now k.start (k.stop - k.start) 0 c.title.ensures.lawful
-    c.encoding-encoding.ensures c.seq-seq.ensures c.qual-qual.ensures (omega arith)
-    (omega arith)
+    kept_are_bases c.args.read.now c.args.kept c.encoding-encoding.result c.seq-seq.result.now
+    c.qual-qual.result.now c.title.ensures.lawful c.encoding-encoding.ensures
+    c.seq-seq.ensures c.qual-qual.ensures c.requires
 
 pub add_in_place-requires : goal.add_in_place-requires
 add_in_place-requires c =
-    let k = c.args.kept in
-    let order = k.some in
-    let within = c.requires in
-    between_are_bases c.args.read.now c.encoding-encoding.result c.seq-seq.result.now
-    c.qual-qual.result.now k.start (k.stop - k.start) 0 c.title.ensures.lawful
-    c.encoding-encoding.ensures c.seq-seq.ensures c.qual-qual.ensures (omega arith)
-    (omega arith)
+    kept_are_bases c.args.read.now c.args.kept c.encoding-encoding.result c.seq-seq.result.now
+    c.qual-qual.result.now c.title.ensures.lawful c.encoding-encoding.ensures
+    c.seq-seq.ensures c.qual-qual.ensures c.requires
 
 pub add_in_place-requires-else-stop-seq : goal.add_in_place-requires-else-stop-seq
 add_in_place-requires-else-stop-seq c =
-    let k = c.args.kept in
-    let order = k.some in
-    let within = c.requires in
-    between_are_bases c.args.read.now c.encoding-encoding.result c.seq-seq.result.now
-    c.qual-qual.result.now k.start (k.stop - k.start) 0 c.title.ensures.lawful
-    c.encoding-encoding.ensures c.seq-seq.ensures c.qual-qual.ensures (omega arith)
-    (omega arith)
+    kept_are_bases c.args.read.now c.args.kept c.encoding-encoding.result c.seq-seq.result.now
+    c.qual-qual.result.now c.title.ensures.lawful c.encoding-encoding.ensures
+    c.seq-seq.ensures c.qual-qual.ensures c.requires
 
 pub add_rest-requires-then-stop-seq : goal.add_rest-requires-then-stop-seq
 add_rest-requires-then-stop-seq c =

@@ -1,5 +1,4 @@
 use Rattle.std.proofs.Common.{◌∷◌, [], ◌++◌, length, refl, ap, ◌∙◌}
-use Rattle.fq_tally.specs.declared.tables.Head.{Head}
 use Rattle.fq_tally.proofs.PackedLemmas.{head_of, pushed_whole, pushed_tables}
 use Rattle.fq_tally.proofs.tables.Tables.push.Goals as goal
 

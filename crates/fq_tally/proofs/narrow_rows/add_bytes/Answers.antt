@@ -1,0 +1,10 @@
+use Rattle.fq_tally.proofs.FewLemmas.{byte_sums, stored_bytes}
+use Rattle.fq_tally.proofs.narrow_rows.add_bytes.Goals as goal
+
+pub overflow_add-sums : goal.overflow_add-sums
+overflow_add-sums c = byte_sums c.args.at c.args.counts.now c.args.more c.requires.few
+    c.requires.ones
+
+pub returns : goal.returns
+returns c = stored_bytes c.args.at c.args.counts.now c.args.more c.requires.few c.requires.ones
+    c.fits-more.0 c.requires.room
