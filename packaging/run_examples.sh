@@ -23,7 +23,7 @@ else
   call=(rt try --)
   echo 'Compiles the program without proofs, in about a minute, and trims the reads in examples/:'
 fi
-echo "    fq_prog ${arguments[*]}" | sed "s|$PWD/||g"
+echo "    tibzharuk ${arguments[*]}" | sed "s|$PWD/||g"
 echo
 
 rm -rf "$out"

@@ -122,14 +122,14 @@ first_command() {
 # Runs the block of docs/GUIDE.md that makes r1.fq and r2.fq and trims them.
 first_run() {
   parts code docs/GUIDE.md > "$work/code"
-  awk -v RS='\f\n' '/printf/ && /> *r1\.fq/ && /fq_prog PE/ && !found { found = 1; print }' "$work/code" |
-    grep -E '^(\$ )?(printf|fq_prog|cat|  )' | sed 's/^\$ //' > "$work/commands"
+  awk -v RS='\f\n' '/printf/ && /> *r1\.fq/ && /tibzharuk PE/ && !found { found = 1; print }' "$work/code" |
+    grep -E '^(\$ )?(printf|tibzharuk|cat|  )' | sed 's/^\$ //' > "$work/commands"
   [ -s "$work/commands" ] || {
     fail 'docs/GUIDE.md has no first run'
     return
   }
   mkdir "$work/run" "$work/bin"
-  ln -s "$program" "$work/bin/fq_prog"
+  ln -s "$program" "$work/bin/tibzharuk"
   (cd "$work/run" && PATH=$work/bin:$PATH bash -euo pipefail "$work/commands") > "$work/printed" || fail 'the first run of docs/GUIDE.md fails'
   shown "$work/printed" 'what its first run prints'
   [ -s "$work/run/trim.log" ] && shown "$work/run/trim.log" 'the log of its first run'

@@ -122,7 +122,7 @@ all_late
 
 row='a fault within a lane that ends without a line feed'
 head -c -20 a1 | gzip > a1.cut.gz
-refused 3 'trim_gz: input: forward record 1500: BadQuality (data/a1.cut.gz data/b1.gz)' -1 data/a1.cut.gz -1 data/b1.gz -2 data/a2.gz -2 data/b2.gz "${rest[@]}"
+refused 3 'trim_gz: input: forward record 1500: BadQuality: data/a1.cut.gz data/b1.gz: a quality byte has no score in the encoding sanger (see --encoding)' -1 data/a1.cut.gz -1 data/b1.gz -2 data/a2.gz -2 data/b2.gz "${rest[@]}"
 
 row='a missing file'
 refused 4 'trim_gz: cannot read data/none.gz: No such file or directory' -1 data/f.gz -2 data/none.gz "${rest[@]}"
@@ -241,27 +241,33 @@ refused 1 'trim_gz: --decompressor must be one of auto, bgzip, gzip, not pigz' -
 refused 1 'trim_gz: --decompressor must be one of auto, bgzip, gzip, not igzip' --decompressor igzip "${both[@]}" "${rest[@]}"
 
 row='mates that are missing'
-refused 3 'trim_gz: input: reverse record 1501: MateMissing (data/a2.gz)' -1 data/f.gz -2 data/a2.gz "${rest[@]}"
-refused 3 'trim_gz: input: reverse record 1501: MateMissing (data/a2.gz)' -1 data/f.gz -2 data/a2.gz --report out/report "${rest[@]}"
+refused 3 'trim_gz: input: reverse record 1501: MateMissing: data/a2.gz: the file ends before this record, and data/f.gz has it' -1 data/f.gz -2 data/a2.gz "${rest[@]}"
+refused 3 'trim_gz: input: reverse record 1501: MateMissing: data/a2.gz: the file ends before this record, and data/f.gz has it' -1 data/f.gz -2 data/a2.gz --report out/report "${rest[@]}"
 
 row='files that are not mates'
-refused 3 'trim_gz: input: record 1: NamesDiffer (data/f.gz, data/b2.gz)' -1 data/f.gz -2 data/b2.gz "${rest[@]}"
+refused 3 'trim_gz: input: record 1: NamesDiffer: the reads of data/f.gz and data/b2.gz have different names (see --no-name-check)' -1 data/f.gz -2 data/b2.gz "${rest[@]}"
 
 row='files that are not mates, if a closed pipe gives no signal'
 (
   trap '' PIPE
-  refused 3 'trim_gz: input: record 1: NamesDiffer (data/f.gz, data/b2.gz)' -1 data/f.gz -2 data/b2.gz "${rest[@]}"
+  refused 3 'trim_gz: input: record 1: NamesDiffer: the reads of data/f.gz and data/b2.gz have different names (see --no-name-check)' -1 data/f.gz -2 data/b2.gz "${rest[@]}"
   exit "$failed"
 ) || failed=1
 
 row='a wrong encoding of the scores'
-refused 3 'trim_gz: input: forward record 1: BadQuality (data/f.gz)' "${both[@]}" "${outputs[@]}" --encoding illumina13 "${last[@]}"
+refused 3 'trim_gz: input: forward record 1: BadQuality: data/f.gz: a quality byte has no score in the encoding illumina13 (see --encoding)' "${both[@]}" "${outputs[@]}" --encoding illumina13 "${last[@]}"
+
+row='lanes of both sides, of which cutadapt makes one text'
+if has cutadapt cutadapt; then
+  refused 3 'trim_gz: input: forward record 1: BadQuality: data/a1.gz data/b1.gz, data/a2.gz data/b2.gz: a quality byte has no score in the encoding illumina13 (see --encoding)' \
+    -1 data/a1.gz data/b1.gz -2 data/a2.gz data/b2.gz "${outputs[@]}" --encoding illumina13 --cutadapt '-u 1' "${last[@]}"
+fi
 
 row='words that the program refuses'
-refused 2 'trim_gz: bad step 2: Unknown' "${both[@]}" "${outputs[@]}" -- LEADING:3 crop:5
-refused 2 'trim_gz: bad step 0: NoSteps' "${both[@]}" "${outputs[@]}" --
-refused 2 'trim_gz: bad encoding: phred' "${both[@]}" "${outputs[@]}" --encoding phred "${last[@]}"
-refused 2 'trim_gz: bad setting: workers' "${both[@]}" "${outputs[@]}" --threads 0 "${last[@]}"
+refused 2 "trim_gz: bad step 2: Unknown: 'crop:5' is no step (LEADING, TRAILING, SLIDINGWINDOW, CROP, HEADCROP, AVGQUAL, MINLEN, TOPHRED33)" "${both[@]}" "${outputs[@]}" -- LEADING:3 crop:5
+refused 2 'trim_gz: bad step 0: NoSteps: the files must be followed by one step or more, as MINLEN:36' "${both[@]}" "${outputs[@]}" --
+refused 2 'trim_gz: bad encoding: phred: it can be sanger (Phred+33), illumina13 (Phred+64) or solexa' "${both[@]}" "${outputs[@]}" --encoding phred "${last[@]}"
+refused 2 'trim_gz: bad setting: workers: --threads is 0, and can be 1 to 64' "${both[@]}" "${outputs[@]}" --threads 0 "${last[@]}"
 
 row='words that the script refuses'
 refused 1 'trim_gz: 2 forward files (-1), but 1 reverse files (-2)' -1 data/a1.gz -1 data/b1.gz -2 data/r.gz "${rest[@]}"
@@ -322,13 +328,16 @@ else
   refused 4 'trim_gz: cannot write data/protected.gz: Permission denied' "${both[@]}" "${outputs[@]}" --trimlog data/protected.gz "${last[@]}"
 fi
 
+# explained WORDS..: the line of the program, with its reason
+explained() { { (cd "$work" && "$program" PE --explain "$@" "${steps[@]}") > /dev/null; } 2>&1; }
+
 if [ -w /dev/full ]; then
   row='a full device after the program'
-  refused 4 'trim_gz: write failed: forward paired (/dev/full)' "${both[@]}" --paired1 /dev/full "${outputs[@]:2}" "${last[@]}"
+  refused 4 "trim_gz: $(explained data/f data/r /dev/full /dev/null /dev/null /dev/null)" "${both[@]}" --paired1 /dev/full "${outputs[@]:2}" "${last[@]}"
   row='a full device as the log'
-  refused 4 'trim_gz: write failed: trim log (/dev/full)' "${both[@]}" "${outputs[@]}" --trimlog /dev/full "${last[@]}"
+  refused 4 "trim_gz: $(explained --trimlog /dev/full data/f data/r /dev/null /dev/null /dev/null /dev/null)" "${both[@]}" "${outputs[@]}" --trimlog /dev/full "${last[@]}"
   row='a full device as the report'
-  refused 4 'trim_gz: write failed: report (/dev/full): No space left on device' "${both[@]}" "${outputs[@]}" --report /dev/full "${last[@]}"
+  refused 4 'trim_gz: cannot write /dev/full: No space left on device' "${both[@]}" "${outputs[@]}" --report /dev/full "${last[@]}"
   row='a full device after a compressor'
   ln -s /dev/full full.gz
   # full LINE WORDS..
@@ -574,7 +583,7 @@ if has script bsdutils; then
     "'$script' --program '$program' -1 data/late1 -2 data/a2.gz ${outputs[*]} ${last[*]}" /dev/null < /dev/null) > "$work/printed" 2>&1
   all_late
   wiped=$'\r\033[K'
-  [[ $(cat "$work/printed") == *"${wiped}trim_gz: "*" %, "*"$wiped"'trim_gz: input: reverse record 1501: MateMissing (data/a2.gz)'* ]] ||
+  [[ $(cat "$work/printed") == *"${wiped}trim_gz: "*" %, "*"$wiped"'trim_gz: input: reverse record 1501: MateMissing: data/a2.gz: '* ]] ||
     fail "it says $(cat -v "$work/printed")"
   row='gzip alone, on a terminal'
   (cd "$work" && rm -rf out && mkdir out && PATH=$work/bin "$(command -v script)" -qec "'$script' --program '$program' ${both[*]} ${rest[*]}" /dev/null < /dev/null) \

@@ -496,6 +496,8 @@ class Case:
             self.problems.append("nothing was said")
         if "Traceback" in told or len(lines) > 1 and self.status != 1:
             self.problems.append("more than a line was said")
+        if "/dev/fd/" in told or ".trim_gz." in told:
+            self.problems.append("a name that isn't the user's was said")
         if os.path.getsize(self.lab.path("printed")):
             self.problems.append("a summary was printed")
         if self.kind == "none":

@@ -5,13 +5,13 @@ import os
 import re
 import shutil
 import time
-from typing import Any, Dict, List, Match, Optional, Sequence
+from typing import Any, Dict, List, Optional, Sequence
 
 from .adapters import adapter_options
 from .arguments import Arguments
 from .children import Child, Family, make_pipe
 from .faults import Fault, signal_name
-from .files import Side, readable
+from .files import Side, readable, with_names
 
 SECONDS_TO_NOTICE = 3
 # Otherwise the C library returns cutadapt's buffers of some MB to the system after each use, and
@@ -68,7 +68,7 @@ class Cutadapt:
         family.lent.append(reading)
         pipes = [f"/dev/fd/{fd}" for fd in sources]
         self.files = [side.files() for side in sides]
-        self.names = dict(zip(pipes, self.files))
+        self.names = dict(zip(pipes, map(readable, self.files)))
         self.names.update({f"/dev/fd/{fd}": "-" for fd in (counts, self.trimmed)})
         words = ["cutadapt"] + self.options + ["-j", str(self.threads), "--interleaved"]
         words += ["--json", f"/dev/fd/{counts}", "-o", f"/dev/fd/{self.trimmed}"] + pipes
@@ -117,7 +117,7 @@ class Cutadapt:
         line = lines[-1] if lines else f"status {child.status}"
         for start in ("cutadapt: error: ", "ERROR: "):
             line = line[len(start):] if line.startswith(start) else line
-        return self.with_names(line)
+        return with_names(line, self.names)
 
     def with_remedy(self, line: str) -> str:
         """The line, with the files that it is about, and what to do."""
@@ -150,7 +150,7 @@ class Cutadapt:
         """What it counted, as JSON, with the names of the user's files."""
         text = self.counts.decode()
         for pipe, name in self.names.items():
-            text = text.replace(json.dumps(pipe), json.dumps(readable(name)))
+            text = text.replace(json.dumps(pipe), json.dumps(name))
         return text.encode()
 
     def summary(self) -> Dict[str, Any]:
@@ -170,16 +170,10 @@ class Cutadapt:
     def log(self) -> bytes:
         """What it printed, with the names of the user's files. The name of the sample is added to
         the line of its options, of which MultiQC reads the last word."""
-        text = self.with_names(self.printed.decode("utf-8", "replace"))
+        text = with_names(self.printed.decode("utf-8", "replace"), self.names)
         sample = re.sub(r"\s+", "_", self.sample)
         line = re.compile("^Command line parameters: .*", re.MULTILINE)
         return line.sub(lambda found: f"{found.group()} # {sample}", text, 1).encode()
-
-    def with_names(self, text: str) -> str:
-        """The text, with the names of the user's files in the place of their pipes."""
-        def real(found: Match[str]) -> str:
-            return readable(self.names.get(found.group(), found.group()))
-        return re.sub(r"/dev/fd/\d+\b", real, text)
 
 
 def side_of(counted: Dict[str, Any], number: int) -> Dict[str, Optional[int]]:

@@ -5,9 +5,10 @@ import errno
 import gzip
 import io
 import os
+import re
 import stat
 import sys
-from typing import Iterable, List, Optional, Sequence
+from typing import Dict, Iterable, List, Optional, Sequence
 
 from .checks import lacks_end, other_format
 from .faults import Fault, reason, write_all
@@ -52,6 +53,13 @@ def is_gzip_name(name: str) -> bool:
 def readable(name: str) -> str:
     """The name of a file as text. Bytes that aren't UTF-8 become a replacement character."""
     return name.encode("utf-8", "surrogateescape").decode("utf-8", "replace")
+
+
+def with_names(text: str, names: Dict[str, str]) -> str:
+    """The text, with the user's names in place of those that a child was given, which are the
+    keys."""
+    given = "|".join(map(re.escape, names))
+    return re.sub(rf"({given})(?!\w)", lambda found: names[found.group()], text)
 
 
 def why_not_opened(name: str, flags: int) -> str:
@@ -230,15 +238,6 @@ class Output:
         except OSError as error:
             raise self.fault(reason(error))
         self.written = self.hidden = hidden
-
-    def why_refused(self) -> str:
-        """The system's error for one more write of the hidden file, after a compressor failed."""
-        try:
-            for _ in range(16 if self.fd is not None and self.hidden else 0):
-                os.write(self.fd or 0, bytes(65536))
-        except OSError as error:
-            return reason(error)
-        return ""
 
     def write(self, data: bytes, level: int) -> None:
         """Writes all of it, by this process."""

@@ -13,20 +13,12 @@ from .checks import check_interleaved, check_lanes, no_end
 from .children import Child, Family, make_pipe
 from .cutadapt import Cutadapt
 from .faults import Fault, Stopped, reason, say, signal_name, warn, write_all
-from .files import Output, Side, check_inputs, give_names, take_names_back
+from .files import Output, Side, check_inputs, give_names, take_names_back, with_names
 from .known_adapters import word_on_adapters
 from .progress import Progress
 from .report import Page, of_call, sample_name
 from .tools import Tools
 
-WRITTEN = {
-    "forward paired": "paired1",
-    "forward unpaired": "unpaired1",
-    "reverse paired": "paired2",
-    "reverse unpaired": "unpaired2",
-    "report": "report",
-    "trim log": "trimlog",
-}
 SECONDS_TO_READ_ON = 5
 # Outputs that this process writes. The program or a compressor writes the others.
 OURS = ("report", "html", "cutadapt-report", "cutadapt-log", "summary")
@@ -48,6 +40,7 @@ class Run:
             self.page = Page(sample, folder)
         self.sides: List[Side] = []
         self.outputs: Dict[str, Output] = {}    # by their roles
+        self.names: Dict[str, str] = {}         # the user's, by those that the program gets
         # Children that have ended, by their names, without decompressors and compressors.
         self.ends: Dict[str, Child] = {}
         self.without_end: List[str] = []        # inputs that may be cut
@@ -140,7 +133,7 @@ class Run:
     def start_compressor(self, output: Output) -> None:
         reading = self.pipe_to(output)
         words = self.tools.compress(output.role)
-        if self.tools.needs_cat(output):
+        if self.tools.needs_cat():
             from_tool, to_cat = self.family.pipe()
             self.start_writer(output, ["cat"], from_tool)
             self.family.start(output.role, words, reading, to_cat)
@@ -172,19 +165,25 @@ class Run:
 
     def start_program(self, sources: Sequence[int]) -> None:
         self.printed, printed = self.family.gather()
-        command = "IL" if len(sources) == 1 else "PE"
-        words = [self.arguments.program, command] + self.arguments.passed
+        pipes = [f"/dev/fd/{fd}" for fd in sources]
+        files = [side.files() for side in self.sides]
+        self.names = dict(zip(pipes, files if len(files) == len(pipes) else [", ".join(files)]))
+        self.names.update((each.written, each.name) for each in self.outputs.values())
+        command = "IL" if len(pipes) == 1 else "PE"
+        words = [self.arguments.program, command, "--explain"] + self.arguments.passed
         passed = list(sources)
         passed += [each.pipe for each in self.outputs.values() if each.pipe is not None]
         if "interleaved" in self.outputs:
             words += ["--block=1"]  # a block is written side by side, so mates take turns
         if "trimlog" in self.outputs:
             words += ["--trimlog", self.outputs["trimlog"].written]
-        if "report" in self.outputs or "html" in self.outputs:
+        report = self.outputs.get("report") or self.outputs.get("html")
+        if report:
             self.counted, counted = self.family.gather()
+            self.names[f"/dev/fd/{counted}"] = report.name
             words += ["--report", f"/dev/fd/{counted}"]
             passed.append(counted)
-        words += ["--"] + [f"/dev/fd/{fd}" for fd in sources]
+        words += ["--"] + pipes
         words += [self.outputs[self.arguments.written_as(role)].written for role in READS]
         words += self.arguments.steps or []
         self.family.start("program", words, None, printed, passed)
@@ -238,8 +237,7 @@ class Run:
             output = self.outputs[child.name]
             if output.is_device and child.met_closed_pipe():
                 raise output.fault("its reader has ended")
-            has_reason = child.was_killed() or b"stdout" in child.said
-            raise output.fault(("" if has_reason else output.why_refused()) or child.why())
+            raise output.fault(child.why())
 
     # The verdict.
 
@@ -258,7 +256,7 @@ class Run:
             raise Fault(128 - status, f"{program} was ended by {signal_name(-status)}")
         if status > 0:
             lines = child.text().splitlines() or [f"status {status}"]
-            raise Fault(status, self.with_files(lines[-1]))
+            raise Fault(status, with_names(lines[-1], self.names))
         taken = self.pairs_taken()
         if taken is None or not all(side.is_whole for side in self.sides):
             raise Fault(4, f"{program} ended before it had read its inputs")
@@ -299,22 +297,6 @@ class Run:
             ended = self.side_of(child)
             if ended:
                 self.end_side(ended, child)
-
-    def with_files(self, line: str) -> str:
-        """The program's line, with the files that it is about."""
-        files = {side.name: side.files() for side in self.sides}
-        for output in self.outputs.values():
-            if line == f"cannot write {output.written}":
-                return f"cannot write {output.name}"
-        if line.startswith("input: record "):
-            return f"{line} ({', '.join(files.values())})"
-        for name in ("forward", "reverse"):
-            if line.startswith(f"input: {name} ") or line.endswith(f": {name}"):
-                return f"{line} ({files.get(name, files['forward'])})"
-        start = "write failed: "
-        role = WRITTEN.get(line[len(start):], "") if line.startswith(start) else ""
-        written = self.outputs.get(self.arguments.written_as(role))
-        return f"{line} ({written.name})" if written else line
 
     # The end, if all is well.
 
@@ -384,8 +366,6 @@ class Run:
         try:
             output.write(text, self.tools.level)
         except OSError as error:
-            if output.role == "report":
-                raise Fault(4, f"write failed: report ({output.name}): {reason(error)}")
             raise output.fault(reason(error))
 
     def clean(self) -> None:

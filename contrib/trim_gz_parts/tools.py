@@ -15,7 +15,6 @@ from .faults import Fault
 
 if TYPE_CHECKING:
     from .arguments import Arguments
-    from .files import Output
 
 DECOMPRESSORS = ("bgzip", "gzip")
 
@@ -89,10 +88,10 @@ class Tools:
         threads = self.compress_threads or max(1, self.threads // share)
         return COMPRESSORS[self.compressor][1](self.level, threads)
 
-    def needs_cat(self, output: "Output") -> bool:
-        """Whether cat writes the output. igzip doesn't check its last write, and bgzip doesn't say
+    def needs_cat(self) -> bool:
+        """Whether cat writes the outputs. igzip doesn't check its last write, and bgzip doesn't say
         why a write failed."""
-        return self.compressor == "igzip" or self.compressor == "bgzip" and output.is_device
+        return self.compressor in ("igzip", "bgzip")
 
 
 def reason_of(text: str, name: str = "") -> str:

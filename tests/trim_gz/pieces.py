@@ -304,6 +304,16 @@ class FilesTest(Pieces):
         self.assertEqual(side.command("bgzip", False)[2:], ['echo; exec "$@"', "sh", "cat"])
         self.assertEqual(side.command("bgzip", True), files.WHOLE_LINES + ["cat"])
 
+    def test_names_in_lines(self):
+        names = {"/dev/fd/1": "a.gz b.gz", "/dev/fd/12": "-", "/d/.x+.trim_gz.0a": "/dev/fd/1"}
+        for line, wanted in (
+            ("read failed: forward: /dev/fd/1: why", "read failed: forward: a.gz b.gz: why"),
+            ("/dev/fd/1, /dev/fd/12 and /dev/fd/1", "a.gz b.gz, - and a.gz b.gz"),
+            ("cannot write /d/.x+.trim_gz.0a", "cannot write /dev/fd/1"),
+            ("/dev/fd/13 /dev/fd/1a /d/.xx.trim_gz.0a", "/dev/fd/13 /dev/fd/1a /d/.xx.trim_gz.0a"),
+        ):
+            self.assertEqual(files.with_names(line, names), wanted)
+
     def test_same_files(self):
         a, b = self.put("a"), os.path.join(self.folder, "b")
         os.link(a, b)
