@@ -15,19 +15,17 @@ ghost use Rattle.fq_run.specs.Devices.{outlet_states, AreHealthy};
 
 use anyhow::{Result, bail};
 use fq_pair::{Counts, InputFault, Side};
-use fq_run::{
-    Ending, MixedEnding, Outcome, Outlets, Settings, run_serial, run_serial_mixed, run_threads,
-    run_threads_mixed,
-};
+use fq_run::{Outcome, Outlets};
 use fq_samples::{
-    ELEVEN_INTERLEAVED, Front, SEVEN_FORWARD, SEVEN_REVERSE, SEVEN_STEPS, front_in_order,
+    ELEVEN_INTERLEAVED, Front, Left, MemoryRun, SEVEN_FORWARD, SEVEN_REVERSE, SEVEN_STEPS,
+    front_in_order, in_order,
 };
-use fq_text::{Encoding, Feed, Outlet, OutletFailed, ScriptFeed, ScriptOutlet};
+use fq_text::{Outlet, OutletFailed, ScriptOutlet};
 use fq_trim::Steps;
 use fq_work::OpenGate;
 use fq_worked::{Answers, Given};
 use std::alloc::Global;
-use std::sync::{Arc, Wait};
+use std::sync::Wait;
 use std::thread::Threads;
 
 const BLOCK_PAIRS: usize = 2;
@@ -60,43 +58,17 @@ enum Feeds {
 
 /// What a run left, apart from its outputs.
 #[derive(Clone, Copy, Debug)]
-struct Left {
+struct Ended {
     outcome: Outcome,
     counts: Counts,
     feeds: Feeds,
 }
 
-// How a run ended, and what became of each feed. An interleaved text has one feed, which is given
-// twice.
-#[derive(Clone, Copy)]
-struct Ended {
-    outcome: Outcome,
-    counts: Counts,
-    forward: Feeds,
-    reverse: Feeds,
-}
-
-// Returns how many bytes a feed can still give.
-fn bytes_left(feed: &mut ScriptFeed) -> usize {
-    let mut left = 0usize;
-    let mut buf = [0; CUT];
-    for _ in 0..1000u64 {
-        if feed.failures() > 0 {
-            return left;
-        }
-        match feed.read(&mut buf) {
-            Ok(some) if some > 0 => left = left.saturating_add(some),
-            _ => return left,
-        }
-    }
-    left
-}
-
-// What became of a feed that had this many bytes.
-fn feed_left(feed: &mut Option<ScriptFeed>, bytes: usize) -> Feeds {
-    match feed.as_mut().map(bytes_left) {
+// What became of a feed of this text, of which so many bytes can still be read.
+fn feed_left(left: Option<usize>, text: &[u8]) -> Feeds {
+    match left {
         None => Feeds::Lost,
-        Some(left) if left == bytes => Feeds::Unread,
+        Some(left) if left == text.len() => Feeds::Unread,
         Some(_) => Feeds::Read,
     }
 }
@@ -179,159 +151,31 @@ fn outlets(alloc: Global) -> Option<Box<Outlets<FlushedOutlet>>>
     Box::new(alloc, new_outlets(alloc)).ok()
 }
 
-// Returns how often each outlet was flushed.
-fn flushes(outlets: &Outlets<FlushedOutlet>, log: &FlushedOutlet) -> [u64; 5] {
-    [
-        outlets.forward_paired.flushes,
-        outlets.forward_unpaired.flushes,
-        outlets.reverse_paired.flushes,
-        outlets.reverse_unpaired.flushes,
-        log.flushes,
-    ]
-}
-
-// Returns the first part of the seven pairs that the outlets have taken.
-fn front(
-    outlets: &Outlets<FlushedOutlet>,
-    log: &FlushedOutlet,
-    counts: Counts,
-) -> std::result::Result<Front, &'static str> {
-    let outlets = [
-        &outlets.forward_paired.outlet,
-        &outlets.forward_unpaired.outlet,
-        &outlets.reverse_paired.outlet,
-        &outlets.reverse_unpaired.outlet,
-        &log.outlet,
-    ];
-    front_in_order(outlets, counts, BLOCK_PAIRS)
-}
-
-fn settings() -> Result<Settings> {
+// The run over seven pairs, or over eleven interleaved records.
+fn run_of(way: Way) -> Result<MemoryRun<'static>> {
     let steps = Steps::parse(SEVEN_STEPS)?;
-    Ok(Settings::new(
-        Encoding::Sanger,
-        steps,
-        true,
-        2,
-        BLOCK_PAIRS as u64,
-        4,
-        65_536,
-        1 << 40,
-        1 << 40,
-    )?)
-}
-
-// Makes a feed over these bytes. `None` if memory is refused.
-fn feed(alloc: Global, bytes: &[u8]) -> Option<ScriptFeed>
-    ensures { IfSome result (λ feed. feed.failures ≡ 0) }
-{
-    ScriptFeed::new(alloc, bytes, CUT, 0).ok()
-}
-
-fn ended_interleaved(ending: &mut MixedEnding<ScriptFeed>) -> Ended {
-    let feed = feed_left(&mut ending.feed, ELEVEN_INTERLEAVED.len());
-    Ended {
-        outcome: ending.outcome,
-        counts: ending.counts,
-        forward: feed,
-        reverse: feed,
-    }
-}
-
-fn ended_mates(ending: &mut Ending<ScriptFeed, ScriptFeed>) -> Ended {
-    Ended {
-        outcome: ending.outcome,
-        counts: ending.counts,
-        forward: feed_left(&mut ending.forward, SEVEN_FORWARD.len()),
-        reverse: feed_left(&mut ending.reverse, SEVEN_REVERSE.len()),
-    }
-}
-
-// Runs over an interleaved text.
-fn end_interleaved<R: Threads + Wait + Copy + Send + 'static>(
-    alloc: Global,
-    rt: &R,
-    way: Way,
-    settings: &Settings,
-    gate: Arc<OpenGate>,
-    text: ScriptFeed,
-    outlets: &mut Outlets<FlushedOutlet>,
-) -> Ended
-    requires text { text.failures ≡ 0 }
-    requires outlets { AreHealthy (outlet_states ⟦<FlushedOutlet as Outlet>⟧.state outlets.old) }
-{
-    let mut ending = if way.threads {
-        run_threads_mixed(alloc, rt, settings, gate, text, outlets)
+    let run = if way.interleaved {
+        MemoryRun::new(ELEVEN_INTERLEAVED, None, steps)
     } else {
-        run_serial_mixed(alloc, settings, text, outlets)
+        MemoryRun::new(SEVEN_FORWARD, Some(SEVEN_REVERSE), steps)
     };
-    ended_interleaved(&mut ending)
-}
-
-// Runs over two texts.
-fn end_mates<R: Threads + Wait + Copy + Send + 'static>(
-    alloc: Global,
-    rt: &R,
-    way: Way,
-    settings: &Settings,
-    gate: Arc<OpenGate>,
-    forward: ScriptFeed,
-    reverse: ScriptFeed,
-    outlets: &mut Outlets<FlushedOutlet>,
-) -> Ended
-    requires forward { forward.failures ≡ 0 }
-    requires reverse { reverse.failures ≡ 0 }
-    requires outlets { AreHealthy (outlet_states ⟦<FlushedOutlet as Outlet>⟧.state outlets.old) }
-{
-    let mut ending = if way.threads {
-        run_threads(alloc, rt, settings, gate, forward, reverse, outlets)
-    } else {
-        run_serial(alloc, settings, forward, reverse, outlets)
-    };
-    ended_mates(&mut ending)
-}
-
-// Runs over one or two texts. `None` if memory was refused before the run.
-fn end<R: Threads + Wait + Copy + Send + 'static>(
-    alloc: Global,
-    rt: &R,
-    way: Way,
-    settings: &Settings,
-    outlets: &mut Outlets<FlushedOutlet>,
-) -> Option<Ended>
-    requires { AreHealthy (outlet_states ⟦<FlushedOutlet as Outlet>⟧.state outlets.old) }
-{
-    let gate = Arc::new(alloc, OpenGate).ok()?;
-    if way.interleaved {
-        let text = feed(alloc, ELEVEN_INTERLEAVED)?;
-        return Some(end_interleaved(alloc, rt, way, settings, gate, text, outlets));
-    }
-    let forward = feed(alloc, SEVEN_FORWARD)?;
-    let reverse = feed(alloc, SEVEN_REVERSE)?;
-    Some(end_mates(alloc, rt, way, settings, gate, forward, reverse, outlets))
-}
-
-// What a run left. It is an error if only one feed came back.
-fn left_of(ended: Ended) -> Result<Left> {
-    Ok(Left {
-        outcome: ended.outcome,
-        counts: ended.counts,
-        feeds: feeds_left(ended.forward, ended.reverse)?,
+    Ok(MemoryRun {
+        workers: if way.threads { 2 } else { 0 },
+        block_pairs: BLOCK_PAIRS as u64,
+        cut: CUT,
+        ..run
     })
 }
 
-// Runs, and returns what the run left. `None` if memory was refused before the run.
-fn run<R: Threads + Wait + Copy + Send + 'static>(
-    alloc: Global,
-    rt: &R,
-    way: Way,
-    outlets: &mut Outlets<FlushedOutlet>,
-) -> Result<Option<Left>>
-    requires { AreHealthy (outlet_states ⟦<FlushedOutlet as Outlet>⟧.state outlets.old) }
-{
-    let settings = settings()?;
-    let ended = end(alloc, rt, way, &settings, outlets);
-    ended.map(left_of).transpose()
+// How a run ended. It is an error if only one feed came back.
+fn ended_of(run: &MemoryRun<'_>, left: &Left) -> Result<Ended> {
+    let forward = feed_left(left.forward, run.forward);
+    let reverse = feed_left(left.reverse, run.reverse.unwrap_or(run.forward));
+    Ok(Ended {
+        outcome: left.outcome,
+        counts: left.counts,
+        feeds: feeds_left(forward, reverse)?,
+    })
 }
 
 // How a run ends if no memory is refused, and how many pairs it has written then.
@@ -347,8 +191,8 @@ fn whole(way: Way) -> (Outcome, usize) {
 // At most one growth or one thread was refused. A refused growth of an outlet is a failed write;
 // any other one ends the run with `Memory`, a refused thread with `Spawn`. Each outlet is flushed
 // once, or never if a write failed or a thread was refused.
-fn judge(way: Way, left: Left, front: Front, flushes: [u64; 5]) -> Result<()> {
-    let Left { outcome, feeds, .. } = left;
+fn judge(way: Way, ended: Ended, front: Front, flushes: [u64; 5]) -> Result<()> {
+    let Ended { outcome, feeds, .. } = ended;
     let expected = match outcome {
         Outcome::Spawn => front.pairs == 0 && front.failed.is_none() && feeds != Feeds::Read,
         Outcome::Memory => front.failed.is_none(),
@@ -360,18 +204,20 @@ fn judge(way: Way, left: Left, front: Front, flushes: [u64; 5]) -> Result<()> {
         _ => 1,
     };
     if !expected || flushes != [due; 5] {
-        bail!("{left:?} with {front:?}, flushed {flushes:?} times");
+        bail!("{ended:?} with {front:?}, flushed {flushes:?} times");
     }
     Ok(())
 }
 
-// Checks the outlets and what else a run left.
-fn judge_run(way: Way, left: Left, outlets: &Outlets<FlushedOutlet>) -> Result<()> {
+// Checks the outlets and how the run ended.
+fn judge_run(way: Way, ended: Ended, outlets: &Outlets<FlushedOutlet>) -> Result<()> {
     let Some(log) = &outlets.log else {
         bail!("there is no log")
     };
-    match front(outlets, log, left.counts) {
-        Ok(front) => judge(way, left, front, flushes(outlets, log)),
+    let outlets = in_order(outlets, log);
+    let taken = outlets.map(|outlet| &outlet.outlet);
+    match front_in_order(taken, ended.counts, BLOCK_PAIRS) {
+        Ok(front) => judge(way, ended, front, outlets.map(|outlet| outlet.flushes)),
         Err(why) => bail!("{why}"),
     }
 }
@@ -381,15 +227,17 @@ fn run_and_judge<R: Threads + Wait + Copy + Send + 'static>(
     alloc: Global,
     rt: &R,
     way: Way,
-) -> Result<Option<Left>> {
+) -> Result<Option<Ended>> {
+    let run = run_of(way)?;
     let Some(mut outlets) = outlets(alloc) else {
         return Ok(None);
     };
-    let Some(left) = run(alloc, rt, way, &mut outlets)? else {
+    let Some(left) = run.go(rt, alloc, OpenGate, &mut outlets)? else {
         return Ok(None);
     };
-    judge_run(way, left, &outlets)?;
-    Ok(Some(left))
+    let ended = ended_of(&run, &left)?;
+    judge_run(way, ended, &outlets)?;
+    Ok(Some(ended))
 }
 
 // Reads an argument.
@@ -404,11 +252,11 @@ fn take_word(way: &mut Way, word: &str) -> Result<()> {
 }
 
 // Prints how a run ended that left what it should.
-fn tell<R: Print>(rt: &R, way: Way, left: Left) -> Result<()> {
-    if left.outcome == whole(way).0 {
+fn tell<R: Print>(rt: &R, way: Way, ended: Ended) -> Result<()> {
+    if ended.outcome == whole(way).0 {
         println!(rt; "Whole")?;
     } else {
-        println!(rt; "{:?}({:?})", left.outcome, left.feeds)?;
+        println!(rt; "{:?}({:?})", ended.outcome, ended.feeds)?;
     }
     Ok(())
 }
@@ -424,7 +272,7 @@ pub fn judge_words<R: Threads + Wait + Print + Copy + Send + 'static>(
         take_word(&mut way, word)?;
     }
     match run_and_judge(alloc, rt, way)? {
-        Some(left) => tell(rt, way, left),
+        Some(ended) => tell(rt, way, ended),
         None => refused(rt),
     }
 }
@@ -447,10 +295,10 @@ pub fn answer<R: Threads + Wait + Copy + Send + 'static>(
     for word in given.text("way")?.split(' ') {
         take_word(&mut way, word)?;
     }
-    let left = run_and_judge(alloc, rt, way)?;
+    let ended = run_and_judge(alloc, rt, way)?;
     answers.put_yes(
         "whole",
-        left.is_some_and(|left| left.outcome == whole(way).0),
+        ended.is_some_and(|ended| ended.outcome == whole(way).0),
     )?;
     Ok(())
 }

@@ -41,7 +41,7 @@ fn answer<R: Threads + Wait + Print + AllocGlobal + Files + Copy + Send + 'stati
         "outcomes" => outcomes::answer(alloc, given, &mut answers)?,
         "judge" => judge::answer(rt, alloc, given, &mut answers)?,
         "run" => run::answer(rt, alloc, given, &mut answers)?,
-        word => fq_worked::answer(alloc, word, given, &mut answers)?,
+        word => fq_worked::answer(rt, alloc, word, given, &mut answers)?,
     }
     Ok(answers)
 }
@@ -70,29 +70,23 @@ fn said_of<R: Threads + Wait + Print + AllocGlobal + Files + Copy + Send + 'stat
     }
 }
 
-// Runs a row for each word of its two sweeps. Returns whether all answers were as expected.
+// Runs a row once for each of its turns. Returns whether all answers were as expected.
 fn run_row<'a, R: Threads + Wait + Print + AllocGlobal + Files + Copy + Send + 'static>(
     rt: &R,
     names: &mut Names<'a>,
     row: &Row<'a>,
 ) -> Result<bool> {
-    let alloc = rt.alloc();
     let mut fits = true;
-    let (outer, outer_words) = row.sweep(0);
-    let (inner, inner_words) = row.sweep(1);
-    for first in outer_words.split(' ') {
-        names.put(outer, Vec::from_slice(alloc, first.as_bytes())?)?;
-        for second in inner_words.split(' ') {
-            names.put(inner, Vec::from_slice(alloc, second.as_bytes())?)?;
-            let said = said_of(rt, names, row)?;
-            if !said.is_empty() {
-                fits = false;
-                let name = row.name;
-                println!(rt; "{name} ({first}, {second}):{said}")?;
-            }
-            names.pop();
+    let count = names.count();
+    for turn in 0..row.turns() {
+        let words = row.put_words(rt.alloc(), names, turn)?;
+        let said = said_of(rt, names, row)?;
+        names.keep(count);
+        if !said.is_empty() {
+            fits = false;
+            let name = row.name;
+            println!(rt; "{name} ({words}):{said}")?;
         }
-        names.pop();
     }
     Ok(fits)
 }

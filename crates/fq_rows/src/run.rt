@@ -1,210 +1,109 @@
 //! `do: run` runs over the texts `forward` and `reverse`, or over the text `interleaved`, in
 //! `encoding`, by `steps`. The run is on one thread if `workers` is 0, and otherwise on that many
-//! worker threads. `block`, `depth`, `chunk` and `max reads` are numbers of the settings. Names are
-//! compared unless `names` is `unchecked`; pairs are tallied if `tally` is `yes`. A read or write
-//! call moves at most `cut` bytes. Read call `fails at read` of the forward or the interleaved text
-//! fails. `fails at write: OUTPUT NUMBER` has that write to this output fail, and `fails at flush`
-//! names the output whose flush fails.
+//! worker threads. `block`, `depth`, `chunk`, `max reads` and `gate turns` are numbers of the
+//! settings. Names are compared unless `names` is `unchecked`; pairs are tallied if `tally` is
+//! `yes`; there is no log if `without log` is `yes`. A read or write call moves at most `cut`
+//! bytes. Read call `fails at read` of the forward or the interleaved text fails, and read call
+//! `reverse fails at read` of the reverse text. `fails at write: OUTPUT NUMBER` has that write to
+//! this output fail, and `fails at flush` names the output whose flush fails. With `gate refuses`
+//! the gate refuses so many times, and otherwise never.
 //!
-//! Answers: `outcome`, `counts`, the outputs `fp`, `fu`, `rp`, `ru` and `log`, `intact` (whether
-//! each feed came back, and each lane was confirmed), `tallied`, and the answers of a `do: tally`
-//! row.
-
-ghost use Rattle.std.specs.Prelude.{◌≡◌, true, [], IfOk};
-ghost use Rattle.fq_run.specs.Devices.{outlet_states, AreHealthy};
+//! Answers: `outcome`, `counts`, the outputs `fp`, `fu`, `rp`, `ru` and `log`, `failed` (which of
+//! these failed, and how often), `intact` (whether each feed came back, and each lane was
+//! confirmed), `tallied`, and the answers of a `do: tally` row. For a run over the first of the
+//! seven pairs: `front`, how many of them, from the first on, are written and counted; and
+//! `breaks off`, the output in which the text of a further block breaks off, while those before it
+//! have it whole. Instead of both, `amiss` says why the outputs are not those of the first pairs.
 
 use anyhow::{Context, Result, bail};
-use fq_pair::Counts;
-use fq_run::{
-    Ending, MixedEnding, Outcome, Outlets, Settings, run_serial, run_serial_mixed, run_threads,
-    run_threads_mixed,
-};
-use fq_tally::Tally;
-use fq_text::{Outlet, ScriptFeed, ScriptOutlet};
+use fq_pair::Out;
+use fq_run::Outlets;
+use fq_samples::{Left, MemoryRun, ScriptGate, front_in_order, in_order};
+use fq_text::{Outlet, ScriptOutlet};
 use fq_trim::Steps;
 use fq_work::OpenGate;
-use fq_worked::{Answers, Given, encoding_in, put_counts, put_tally, words_of};
+use fq_worked::{Answers, Given, OUTPUTS, encoding_in, out_of, put_counts, put_tally, words_of};
 use std::alloc::Global;
-use std::sync::{Arc, Wait};
+use std::fmt::Write;
+use std::sync::Wait;
 use std::thread::Threads;
 
-// What a run left, apart from its outputs. It is passed on in a `Box`: it has many parts, and each
-// function that holds it on its stack has a long proof.
-#[derive(Drop)]
-struct Left {
-    outcome: Outcome,
-    counts: Counts,
-    tally: Option<Tally>,
-    intact: bool,
-}
-
-fn settings_of(alloc: Global, given: &Given<'_>, workers: u64) -> Result<Settings> {
-    let words = words_of(alloc, given.text("steps")?)?;
-    let settings = Settings::new(
-        encoding_in(given)?,
-        Steps::parse(&words)?,
-        given.text("names")? != "unchecked",
-        workers,
-        given.number("block", 1024)?,
-        given.number("depth", 4)?,
-        given.number("chunk", 65_536)?,
-        given.number("max reads", 1 << 40)?,
-        1 << 40,
-    )?;
-    if given.text("tally")? == "yes" {
-        return Ok(settings.with_tally());
-    }
-    Ok(settings)
-}
-
-// The most bytes that a read or write call moves.
-fn cut_of(given: &Given<'_>) -> Result<usize> {
-    Ok(given.number("cut", 1000)? as usize)
-}
-
-fn feed(alloc: Global, given: &Given<'_>, key: &str, fail_at: u64) -> Result<ScriptFeed>
-    ensures { IfOk result (λ feed. feed.failures ≡ 0) }
-{
-    let cut = cut_of(given)?;
-    if cut == 0 {
-        bail!("no such cut");
-    }
-    Ok(ScriptFeed::new(alloc, given.bytes(key), cut, fail_at)?)
-}
-
-// The number of the write to this output that fails, or 0.
-fn failing_write(given: &Given<'_>, key: &str) -> Result<u64> {
+// The output, and the number of the write to it, that fails.
+fn failing_write(given: &Given<'_>) -> Result<Option<(Out, u64)>> {
     match given.text("fails at write")?.split_once(' ') {
-        Some((name, number)) if name == key => Ok(number.parse::<u64>().context("a number")?),
-        _ => Ok(0),
+        Some((key, number)) => Ok(Some((out_of(key)?, number.parse::<u64>().context("a number")?))),
+        None => Ok(None),
     }
 }
 
-fn outlet(alloc: Global, given: &Given<'_>, key: &str) -> Result<ScriptOutlet>
-    ensures { IfOk result (λ outlet. (outlet.bytes ≡ []) × (outlet.failures ≡ 0)) }
-{
-    let cut = cut_of(given)?;
-    if cut == 0 {
-        bail!("no such cut");
+// The output whose flush fails.
+fn failing_flush(given: &Given<'_>) -> Result<Option<Out>> {
+    match given.text("fails at flush")? {
+        "" => Ok(None),
+        key => Ok(Some(out_of(key)?)),
     }
-    let fail_at = failing_write(given, key)?;
-    let flush_fails = given.text("fails at flush")? == key;
-    Ok(ScriptOutlet::new(alloc, cut, fail_at, flush_fails))
 }
 
-fn outlets_of(alloc: Global, given: &Given<'_>) -> Result<Outlets<ScriptOutlet>>
-    ensures { IfOk result (λ outlets. AreHealthy
-        (outlet_states ⟦<ScriptOutlet as Outlet>⟧.state outlets)) }
-{
-    Ok(Outlets {
-        forward_paired: outlet(alloc, given, "fp")?,
-        forward_unpaired: outlet(alloc, given, "fu")?,
-        reverse_paired: outlet(alloc, given, "rp")?,
-        reverse_unpaired: outlet(alloc, given, "ru")?,
-        log: Some(outlet(alloc, given, "log")?),
+// The texts and the steps of a row.
+fn plain_run<'a>(alloc: Global, given: &'a Given<'_>) -> Result<MemoryRun<'a>> {
+    let steps = Steps::parse(&words_of(alloc, given.text("steps")?)?)?;
+    match given.find("interleaved") {
+        Some(text) => Ok(MemoryRun::new(text, None, steps)),
+        None => Ok(MemoryRun::new(given.bytes("forward"), Some(given.bytes("reverse")), steps)),
+    }
+}
+
+// The run of a row.
+fn run_of<'a>(alloc: Global, given: &'a Given<'_>) -> Result<MemoryRun<'a>> {
+    let plain = plain_run(alloc, given)?;
+    Ok(MemoryRun {
+        encoding: encoding_in(given)?,
+        check_names: given.text("names")? != "unchecked",
+        workers: given.number("workers", plain.workers)?,
+        block_pairs: given.number("block", plain.block_pairs)?,
+        depth: given.number("depth", plain.depth)?,
+        chunk: given.number("chunk", plain.chunk)?,
+        max_reads: given.number("max reads", plain.max_reads)?,
+        gate_turns: given.number("gate turns", plain.gate_turns)?,
+        tallied: given.text("tally")? == "yes",
+        cut: given.number("cut", 1000)? as usize,
+        fails_at_read: given.number("fails at read", 0)?,
+        reverse_fails_at_read: given.number("reverse fails at read", 0)?,
+        fails_at_write: failing_write(given)?,
+        fails_at_flush: failing_flush(given)?,
+        logs: given.text("without log")? != "yes",
+        ..plain
     })
 }
 
-// Makes the outlets, in a `Box` (see `Left`).
-fn boxed_outlets(alloc: Global, given: &Given<'_>) -> Result<Box<Outlets<ScriptOutlet>>>
-    ensures { IfOk result (λ outlets. AreHealthy
-        (outlet_states ⟦<ScriptOutlet as Outlet>⟧.state outlets.value)) }
-{
-    Ok(Box::new(alloc, outlets_of(alloc, given)?)?)
-}
-
-fn left_apart(alloc: Global, ending: Ending<ScriptFeed, ScriptFeed>) -> Result<Box<Left>> {
-    let are_back = ending.forward.is_some() && ending.reverse.is_some();
-    let left = Left {
-        outcome: ending.outcome,
-        counts: ending.counts,
-        intact: are_back && ending.unended.is_none(),
-        tally: ending.tally,
-    };
-    Ok(Box::new(alloc, left)?)
-}
-
-fn left_interleaved(alloc: Global, ending: MixedEnding<ScriptFeed>) -> Result<Box<Left>> {
-    let left = Left {
-        outcome: ending.outcome,
-        counts: ending.counts,
-        intact: ending.feed.is_some() && ending.unended.is_none(),
-        tally: ending.tally,
-    };
-    Ok(Box::new(alloc, left)?)
-}
-
-fn run_apart<R: Threads + Wait + Copy + Send + 'static>(
-    rt: &R,
-    alloc: Global,
-    settings: &Settings,
-    threads: bool,
-    forward: ScriptFeed,
-    reverse: ScriptFeed,
-    outlets: &mut Outlets<ScriptOutlet>,
-) -> Result<Ending<ScriptFeed, ScriptFeed>>
-    requires forward { forward.failures ≡ 0 }
-    requires reverse { reverse.failures ≡ 0 }
-    requires outlets { AreHealthy (outlet_states ⟦<ScriptOutlet as Outlet>⟧.state outlets.old) }
-{
-    if threads {
-        let gate = Arc::new(alloc, OpenGate)?;
-        return Ok(run_threads(alloc, rt, settings, gate, forward, reverse, outlets));
-    }
-    Ok(run_serial(alloc, settings, forward, reverse, outlets))
-}
-
-fn run_interleaved<R: Threads + Wait + Copy + Send + 'static>(
-    rt: &R,
-    alloc: Global,
-    settings: &Settings,
-    threads: bool,
-    text: ScriptFeed,
-    outlets: &mut Outlets<ScriptOutlet>,
-) -> Result<MixedEnding<ScriptFeed>>
-    requires text { text.failures ≡ 0 }
-    requires outlets { AreHealthy (outlet_states ⟦<ScriptOutlet as Outlet>⟧.state outlets.old) }
-{
-    if threads {
-        let gate = Arc::new(alloc, OpenGate)?;
-        return Ok(run_threads_mixed(alloc, rt, settings, gate, text, outlets));
-    }
-    Ok(run_serial_mixed(alloc, settings, text, outlets))
-}
-
-// Runs as a row says.
-fn run<R: Threads + Wait + Copy + Send + 'static>(
+// Runs as a row says, and puts what the run left.
+fn put_run<R: Threads + Wait + Copy + Send + 'static>(
     rt: &R,
     alloc: Global,
     given: &Given<'_>,
-    outlets: &mut Outlets<ScriptOutlet>,
-) -> Result<Box<Left>>
-    requires { AreHealthy (outlet_states ⟦<ScriptOutlet as Outlet>⟧.state outlets.old) }
-{
-    let workers = given.number("workers", 0)?;
-    let settings = settings_of(alloc, given, workers.max(1))?;
-    let threads = workers > 0;
-    let fails = given.number("fails at read", 0)?;
-    if given.find("interleaved").is_some() {
-        let text = feed(alloc, given, "interleaved", fails)?;
-        return left_interleaved(
-            alloc,
-            run_interleaved(rt, alloc, &settings, threads, text, outlets)?,
-        );
-    }
-    let forward = feed(alloc, given, "forward", fails)?;
-    let reverse = feed(alloc, given, "reverse", 0)?;
-    left_apart(
-        alloc,
-        run_apart(rt, alloc, &settings, threads, forward, reverse, outlets)?,
-    )
+    run: &MemoryRun<'_>,
+    answers: &mut Answers,
+) -> Result<()> {
+    let Some(mut outlets) = run.outlets(alloc) else {
+        bail!("no memory for outlets");
+    };
+    let left = if given.find("gate refuses").is_some() {
+        let gate = ScriptGate::new(given.number("gate refuses", 0)?, None);
+        run.go(rt, alloc, gate, &mut outlets)?
+    } else {
+        run.go(rt, alloc, OpenGate, &mut outlets)?
+    };
+    let left = left.context("memory was refused")?;
+    put_left(alloc, answers, &left)?;
+    put_outlets(alloc, answers, &outlets)?;
+    put_front(alloc, answers, run, &left, &outlets)
 }
 
 fn put_left(alloc: Global, answers: &mut Answers, left: &Left) -> Result<()> {
     let outcome = left.outcome;
     answers.put("outcome", format!(in alloc; "{outcome:?}")?.as_bytes())?;
     put_counts(alloc, answers, "counts", left.counts)?;
-    answers.put_yes("intact", left.intact)?;
+    answers.put_yes("intact", left.is_intact())?;
     answers.put_yes("tallied", left.tally.is_some())?;
     match &left.tally {
         Some(tally) => put_tally(alloc, answers, tally),
@@ -212,13 +111,70 @@ fn put_left(alloc: Global, answers: &mut Answers, left: &Left) -> Result<()> {
     }
 }
 
-fn put_outlets(answers: &mut Answers, outlets: &Outlets<ScriptOutlet>) -> Result<()> {
-    answers.put("fp", outlets.forward_paired.bytes())?;
-    answers.put("fu", outlets.forward_unpaired.bytes())?;
-    answers.put("rp", outlets.reverse_paired.bytes())?;
-    answers.put("ru", outlets.reverse_unpaired.bytes())?;
-    if let Some(log) = &outlets.log {
-        answers.put("log", log.bytes())?;
+fn put_failures(failed: &mut String, key: &str, failures: u64) -> Result<()> {
+    if failures > 0 {
+        write!(failed, " {key} {failures}")?;
+    }
+    Ok(())
+}
+
+fn put_outlets(
+    alloc: Global,
+    answers: &mut Answers,
+    outlets: &Outlets<ScriptOutlet>,
+) -> Result<()> {
+    let mut failed = String::new(alloc);
+    for (key, outlet) in [
+        ("fp", Some(&outlets.forward_paired)),
+        ("fu", Some(&outlets.forward_unpaired)),
+        ("rp", Some(&outlets.reverse_paired)),
+        ("ru", Some(&outlets.reverse_unpaired)),
+        ("log", outlets.log.as_ref()),
+    ] {
+        match outlet {
+            Some(outlet) => {
+                answers.put(key, outlet.bytes())?;
+                put_failures(&mut failed, key, outlet.failures())?;
+            }
+            None => answers.put(key, b"none")?,
+        }
+    }
+    answers.put("failed", failed.trim_start().as_bytes())?;
+    Ok(())
+}
+
+// The key of the output that failed, if one did.
+fn key_of(failed: Option<Out>) -> &'static str {
+    for (key, out) in OUTPUTS {
+        if failed == Some(out) {
+            return key;
+        }
+    }
+    "none"
+}
+
+// Puts how many of the seven pairs are written, or why the outputs are not those of first pairs.
+fn put_front(
+    alloc: Global,
+    answers: &mut Answers,
+    run: &MemoryRun<'_>,
+    left: &Left,
+    outlets: &Outlets<ScriptOutlet>,
+) -> Result<()> {
+    let Some(log) = &outlets.log else {
+        return Ok(());
+    };
+    match front_in_order(
+        in_order(outlets, log),
+        left.counts,
+        run.block_pairs as usize,
+    ) {
+        Ok(front) => {
+            let pairs = front.pairs;
+            answers.put("front", format!(in alloc; "{pairs}")?.as_bytes())?;
+            answers.put("breaks off", key_of(front.failed).as_bytes())?;
+        }
+        Err(why) => answers.put("amiss", why.as_bytes())?,
     }
     Ok(())
 }
@@ -241,15 +197,20 @@ pub fn answer<R: Threads + Wait + Copy + Send + 'static>(
         "depth",
         "chunk",
         "max reads",
+        "gate turns",
+        "gate refuses",
         "names",
         "tally",
+        "without log",
         "cut",
         "fails at read",
+        "reverse fails at read",
         "fails at write",
         "fails at flush",
     ])?;
-    let mut outlets = boxed_outlets(alloc, given)?;
-    let left = run(rt, alloc, given, &mut outlets)?;
-    put_left(alloc, answers, &left)?;
-    put_outlets(answers, &outlets)
+    let run = run_of(alloc, given)?;
+    if run.cut == 0 {
+        bail!("no such cut");
+    }
+    put_run(rt, alloc, given, &run, answers)
 }

@@ -1,21 +1,13 @@
-//! Tests of the public functions of `fq_run`: what runs leave, on one thread and on several. They
-//! are a crate of their own, like Rust's `tests/` folders, so that `fq_run` isn't proved again for
-//! them.
+//! Tests of the public functions of `fq_run`: runs whose threads must see each other, and how far a
+//! run reads ahead. What runs leave is in the worked rows. The tests are a crate of their own, like
+//! Rust's `tests/` folders, so that `fq_run` isn't proved again for them.
 #![tactic(auto)]
 
 #[cfg(test)]
-mod broken;
+mod ahead;
 #[cfg(test)]
 mod frame;
-#[cfg(test)]
-mod interleaved;
-#[cfg(test)]
-mod rows;
 #[cfg(test)]
 mod samples;
 #[cfg(test)]
 mod seeing;
-#[cfg(test)]
-mod stops;
-#[cfg(test)]
-mod sweeps;

@@ -4,17 +4,16 @@ ghost use Rattle.std.specs.Prelude.{◌≡◌, ◌<◌, ◌+◌, ◌^◌, false,
 ghost use Rattle.fq_run_core.specs.Devices.{outlet_states, AreHealthy};
 
 use super::frame::{
-    Given, Wanted, assert_ended, assert_run_with_gate, feed, nothing, settings_with, threaded,
-    with_defaults,
+    SEVEN_COUNTS, TWO_COUNTS, assert_ended, assert_texts, assert_written, forward_feed, outlets,
+    seven_pairs, two_pairs,
 };
-use super::rows::{seven_pairs, two_pairs};
-use fq_run::{Outcome, Outlets, Settings};
-use fq_samples::{SEVEN_FORWARD, SEVEN_REVERSE, SEVEN_STEPS, TWO_FORWARD, TWO_REVERSE, TWO_STEPS};
+use fq_pair::Counts;
+use fq_run::{Outcome, Outlets};
+use fq_samples::{MemoryRun, SEVEN_WRITTEN, TWO_WRITTEN, Written, in_order};
 use fq_text::{Feed, FeedFailed, Outlet, OutletFailed, ScriptFeed, ScriptOutlet};
 use fq_work::{Gate, OpenGate};
 use std::alloc::Global;
 use std::hint;
-use std::process::Abort;
 use std::sync::Arc;
 use std::sync::atomic::{AtomicBool, Ordering};
 use std::test::Fail;
@@ -76,42 +75,32 @@ impl Gate for BothAtOnce {
     }
 }
 
-fn one_pair_a_block() -> Given<'static> {
-    Given {
-        block_pairs: 1,
-        ..with_defaults(TWO_FORWARD, TWO_REVERSE, TWO_STEPS)
-    }
-}
-
-fn with_one_turn(given: &Given<'_>, workers: u64) -> Result<Settings, Fail> {
-    settings_with(given, workers, 1, 1)
-}
-
 #[test]
 fn two_workers_see_each_other_through_the_gate(rt: HostRuntime) -> Result<(), Fail> {
-    let given = one_pair_a_block();
-    let settings = with_one_turn(&given, 2)?;
+    let run = two_pairs(2)?;
+    let mut outlets = outlets(rt.alloc(), &run)?;
     let gate = BothAtOnce {
         meeting: Meeting::new(LOOKS),
     };
-    assert_run_with_gate(&rt, rt.alloc(), &given, &settings, gate, &two_pairs())
+    let left = run
+        .go(&rt, rt.alloc(), gate, &mut outlets)?
+        .ok_or("no memory")?;
+    assert_ended(&rt, &left, Outcome::Finished, TWO_COUNTS);
+    assert_written(&rt, &outlets, &TWO_WRITTEN)
 }
 
 #[test]
 fn one_worker_sees_no_other(rt: HostRuntime) -> Result<(), Fail> {
-    let given = one_pair_a_block();
-    let settings = with_one_turn(&given, 1)?;
+    let run = two_pairs(1)?;
+    let mut outlets = outlets(rt.alloc(), &run)?;
     let gate = BothAtOnce {
         meeting: Meeting::new(FEW_LOOKS),
     };
-    assert_run_with_gate(
-        &rt,
-        rt.alloc(),
-        &given,
-        &settings,
-        gate,
-        &nothing(Outcome::Gate),
-    )
+    let left = run
+        .go(&rt, rt.alloc(), gate, &mut outlets)?
+        .ok_or("no memory")?;
+    assert_ended(&rt, &left, Outcome::Gate, Counts::ZERO);
+    assert_written(&rt, &outlets, &Written::NOTHING)
 }
 
 /// A feed whose fifth read call must see a write.
@@ -198,18 +187,14 @@ fn seeing_outlet(alloc: Global, meeting: Option<Arc<Meeting>>) -> SeeingOutlet
 }
 
 // A feed and outlets: the fifth read call must see the first write to forward paired.
-fn seeing(
-    rt: &impl Abort,
-    alloc: Global,
-    bytes: &[u8],
-) -> Result<(SeeingFeed, Outlets<SeeingOutlet>), Fail>
+fn seeing(alloc: Global, run: &MemoryRun<'_>) -> Result<(SeeingFeed, Outlets<SeeingOutlet>), Fail>
     ensures feed { IfOk result (λ devices. devices.0.failures ≡ 0) }
     ensures outlets { IfOk result (λ devices. AreHealthy
         (outlet_states ⟦<SeeingOutlet as Outlet>⟧.state devices.1)) }
 {
     let meeting = Arc::new(alloc, Meeting::new(LOOKS))?;
     let forward = SeeingFeed {
-        feed: feed(rt, alloc, bytes, 1000, 0)?,
+        feed: forward_feed(alloc, run)?,
         reads: 0,
         meeting: Arc::try_clone(&meeting)?,
         failures: 0,
@@ -224,46 +209,16 @@ fn seeing(
     Ok((forward, outlets))
 }
 
-// Compares what the outlets took.
-fn assert_seen(
-    rt: &impl Abort,
-    outlets: &Outlets<SeeingOutlet>,
-    wanted: &Wanted<'_>,
-) -> Result<(), Fail> {
-    let log = outlets.log.as_ref().ok_or("a log")?;
-    for (outlet, text) in [
-        (&outlets.forward_paired, wanted.forward_paired),
-        (&outlets.forward_unpaired, wanted.forward_unpaired),
-        (&outlets.reverse_paired, wanted.reverse_paired),
-        (&outlets.reverse_unpaired, wanted.reverse_unpaired),
-        (log, wanted.log),
-    ] {
-        assert_eq!(rt; outlet.outlet.bytes(), text);
-    }
-    Ok(())
-}
-
 #[test]
 fn a_reader_and_a_writer_see_each_other(rt: HostRuntime) -> Result<(), Fail> {
-    let given = Given {
-        block_pairs: 1,
-        chunk: 18,
-        ..with_defaults(SEVEN_FORWARD, SEVEN_REVERSE, SEVEN_STEPS)
-    };
-    let alloc = rt.alloc();
-    let settings = with_one_turn(&given, 1)?;
-    let reverse = feed(&rt, alloc, given.reverse, given.cut, 0)?;
-    let (forward, mut outlets) = seeing(&rt, alloc, given.forward)?;
-    let ending = threaded(
-        &rt,
-        alloc,
-        &settings,
-        OpenGate,
-        forward,
-        reverse,
-        &mut outlets,
-    )?;
-    let wanted = seven_pairs();
-    assert_ended(&rt, ending.outcome, ending.counts, &wanted);
-    assert_seen(&rt, &outlets, &wanted)
+    let run = seven_pairs(1)?;
+    let (forward, mut outlets) = seeing(rt.alloc(), &run)?;
+    let left = run
+        .go_over(&rt, rt.alloc(), OpenGate, forward, &mut outlets)?
+        .ok_or("no memory")?;
+    assert_ended(&rt, &left, Outcome::Finished, SEVEN_COUNTS);
+    let log = outlets.log.as_ref().ok_or("a log")?;
+    let taken = in_order(&outlets, log).map(|outlet| &outlet.outlet);
+    assert_texts(&rt, taken, &SEVEN_WRITTEN);
+    Ok(())
 }

@@ -14,3 +14,25 @@ pub struct Written {
     /// The trim log: two lines for each pair.
     pub log: &'static [u8],
 }
+
+impl Written {
+    /// Nothing is written.
+    pub const NOTHING: Written = Written {
+        forward_paired: b"",
+        forward_unpaired: b"",
+        reverse_paired: b"",
+        reverse_unpaired: b"",
+        log: b"",
+    };
+
+    /// The texts, in the order of `Out::ALL`.
+    pub fn in_order(&self) -> [&'static [u8]; 5] {
+        [
+            self.forward_paired,
+            self.forward_unpaired,
+            self.reverse_paired,
+            self.reverse_unpaired,
+            self.log,
+        ]
+    }
+}

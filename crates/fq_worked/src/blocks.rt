@@ -13,7 +13,7 @@ use anyhow::{Result, bail};
 use fq_block::Block;
 use fq_pair::{Pair, PairSource, PairView};
 use fq_samples::source_of;
-use fq_text::ReadView;
+use fq_text::{Encoding, ReadView, ScriptFeed};
 use std::alloc::Global;
 use std::fmt::Write;
 
@@ -28,35 +28,39 @@ fn push(block: &mut Block, pair: &Pair) -> Result<()> {
     Ok(())
 }
 
-// Pushes the pairs of two texts, at most `most` of them.
-fn push_pairs(
+/// The pairs of the texts `forward` and `reverse` of a row. Functions pass a source or a block in a
+/// `Box`: these have many parts, and each function that owns one on its stack has a long proof.
+pub fn pairs_in(
     alloc: Global,
+    given: &Given<'_>,
+    encoding: Encoding,
+) -> Result<Box<PairSource<ScriptFeed, ScriptFeed>>> {
+    let forward = source_of(alloc, given.bytes("forward"), encoding)?;
+    let reverse = source_of(alloc, given.bytes("reverse"), encoding)?;
+    Ok(Box::new(alloc, PairSource::new(forward, reverse, true))?)
+}
+
+/// Pushes the next pair, if there is one. Returns whether there was.
+pub fn push_next(
     block: &mut Block,
-    forward: &[u8],
-    reverse: &[u8],
-    most: u64,
-) -> Result<()> {
-    let encoding = block.encoding();
-    let forward = source_of(alloc, forward, encoding)?;
-    let reverse = source_of(alloc, reverse, encoding)?;
-    let mut pairs = Box::new(alloc, PairSource::new(forward, reverse, true))?;
+    pairs: &mut PairSource<ScriptFeed, ScriptFeed>,
+) -> Result<bool> {
+    match pairs.next()? {
+        Some(pair) => push(block, &pair)?,
+        None => return Ok(false),
+    }
+    Ok(true)
+}
+
+/// Pushes the pairs of a row, at most `most` of them.
+pub fn push_row(alloc: Global, block: &mut Block, given: &Given<'_>, most: u64) -> Result<()> {
+    let mut pairs = pairs_in(alloc, given, block.encoding())?;
     for _ in 0..most {
-        match pairs.next()? {
-            Some(pair) => push(block, &pair)?,
-            None => break,
+        if !push_next(block, &mut pairs)? {
+            break;
         }
     }
     Ok(())
-}
-
-fn push_row(alloc: Global, block: &mut Block, given: &Given<'_>, most: u64) -> Result<()> {
-    push_pairs(
-        alloc,
-        block,
-        given.bytes("forward"),
-        given.bytes("reverse"),
-        most,
-    )
 }
 
 // Pushes a pair that another block lends.

@@ -17,18 +17,27 @@ mod settings;
 mod steps;
 mod tallies;
 mod words;
+mod work;
 
 pub use answers::{Answers, compare};
 use anyhow::{Context, Result, bail};
 use fq_text::Encoding;
 pub use mates::put_counts;
 pub use names::{Names, decode};
+pub use pairs::{OUTPUTS, out_of};
 pub use row::{Given, Row, read_block};
 use std::alloc::{AllocError, Global};
+use std::sync::Wait;
 pub use tallies::put_tally;
 
 /// Puts the answers to a row with `do: WORD`. It is an error if no function here handles the word.
-pub fn answer(alloc: Global, word: &str, given: &Given<'_>, answers: &mut Answers) -> Result<()> {
+pub fn answer<R: Wait>(
+    rt: &R,
+    alloc: Global,
+    word: &str,
+    given: &Given<'_>,
+    answers: &mut Answers,
+) -> Result<()> {
     match word {
         "read" => reads::answer(alloc, given, answers),
         "copy" => reads::answer_copies(alloc, given, answers),
@@ -43,6 +52,8 @@ pub fn answer(alloc: Global, word: &str, given: &Given<'_>, answers: &mut Answer
         "tally" => tallies::answer(alloc, given, answers),
         "report" => reports::answer(alloc, given, answers),
         "block" => blocks::answer(alloc, given, answers),
+        "done" => work::answer_done(alloc, given, answers),
+        "work" => work::answer(rt, alloc, given, answers),
         "settings" => settings::answer(alloc, given, answers),
         "words" => words::answer(alloc, given, answers),
         _ => bail!("nobody answers {word:?}"),

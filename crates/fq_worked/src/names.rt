@@ -3,7 +3,7 @@
 //! `\n`, `\r` and `\t` are LF, CR and a tab, and `\{92}` is the byte with that number, here a
 //! backslash. `\<two>` is the text with the name `two`, `\(3 two)` is that text three times, and
 //! `\[5 two]` its first five bytes. If a name is given in place of such a number, the text with
-//! that name is the number.
+//! that name is the number, and `\[18+bytes two]` adds two of them.
 
 use anyhow::{Context, Result, bail};
 use std::alloc::Global;
@@ -29,9 +29,28 @@ impl<'a> Names<'a> {
         Ok(())
     }
 
-    /// Removes the name that was given last.
-    pub fn pop(&mut self) {
-        self.texts.pop();
+    /// Gives each of these names its part of a word. Names and parts are separated by `/`.
+    pub fn put_parts(&mut self, alloc: Global, names: &'a str, word: &str) -> Result<()> {
+        let mut rest = word;
+        for name in names.split('/') {
+            let (part, others) = rest.split_once('/').unwrap_or((rest, ""));
+            self.put(name, Vec::from_slice(alloc, part.as_bytes())?)?;
+            rest = others;
+        }
+        if !rest.is_empty() {
+            bail!("{word:?} has more parts than {names:?}");
+        }
+        Ok(())
+    }
+
+    /// Returns how many names were given.
+    pub fn count(&self) -> usize {
+        self.texts.len()
+    }
+
+    /// Removes the names that were given after the first `count`.
+    pub fn keep(&mut self, count: usize) {
+        self.texts.truncate(count);
     }
 
     // Returns the text with this name.
@@ -44,8 +63,15 @@ impl<'a> Names<'a> {
         bail!("no text has the name {name:?}")
     }
 
-    // Reads a number, or takes the text with this name as the number.
+    // Reads a number, or takes the text with this name as the number, or adds two such.
     fn number(&self, word: &str) -> Result<usize> {
+        match word.split_once('+') {
+            Some((first, second)) => Ok(self.addend(first)?.saturating_add(self.addend(second)?)),
+            None => self.addend(word),
+        }
+    }
+
+    fn addend(&self, word: &str) -> Result<usize> {
         if let Ok(number) = word.parse::<usize>() {
             return Ok(number);
         }

@@ -217,13 +217,24 @@ fn add_row(alloc: Global, given: &Given<'_>, left: &mut Left) -> Result<(Came, u
     }
 }
 
-const OUTPUTS: [(&str, Out); 5] = [
+/// The outputs, each with its key in rows.
+pub const OUTPUTS: [(&str, Out); 5] = [
     ("fp", Out::ForwardPaired),
     ("fu", Out::ForwardUnpaired),
     ("rp", Out::ReversePaired),
     ("ru", Out::ReverseUnpaired),
     ("log", Out::Log),
 ];
+
+/// The output with this key.
+pub fn out_of(key: &str) -> Result<Out> {
+    for (known, out) in OUTPUTS {
+        if known == key {
+            return Ok(out);
+        }
+    }
+    bail!("no output is {key:?}")
+}
 
 fn put_texts(alloc: Global, answers: &mut Answers, texts: &Texts) -> Result<()> {
     for (key, out) in OUTPUTS {

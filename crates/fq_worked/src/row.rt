@@ -4,8 +4,10 @@
 //!
 //! - `let NAME: TEXT` gives a text a name, for the rest of the file.
 //! - `row: TEXT` says in plain words what the row is about.
+//! - `from: TEXT` says where the row comes from, such as a report or a real file. Nobody reads it.
 //! - `each NAME: WORD WORD ..` runs the row once for each word, with that word as the text of the
-//!   name. There may be two such lines.
+//!   name. `each NAME/NAME: WORD/WORD ..` does so with several names at once. If there are several
+//!   such lines, the row is run for each choice of a word of each line.
 //! - `do: WORD` selects the function that computes the answers.
 //! - `= KEY: TEXT` is an expected answer, and `~ KEY: TEXT` an expected part of one.
 //! - Other lines are inputs of that function.
@@ -13,6 +15,7 @@
 use crate::names::{Names, decode};
 use anyhow::{Context, Result, bail};
 use std::alloc::Global;
+use std::fmt::Write;
 use std::str;
 
 /// A row as it is written in its file.
@@ -20,18 +23,41 @@ use std::str;
 pub struct Row<'a> {
     /// What the row is about.
     pub name: &'a str,
-    sweeps: Vec<(&'a str, &'a str)>,
+    // Names, and the words that they get in turn.
+    sweeps: Vec<(&'a str, Vec<&'a str>)>,
     lines: Vec<(&'a str, &'a str)>,
 }
 
 impl<'a> Row<'a> {
-    /// Returns the name and the words of a sweep of this row, counted from 0. If there is no such
-    /// sweep, it is one word, and its name is empty.
-    pub fn sweep(&self, place: usize) -> (&'a str, &'a str) {
-        match self.sweeps.get(place) {
-            Some(sweep) => *sweep,
-            None => ("", "once"),
+    /// Returns how often the row is run.
+    pub fn turns(&self) -> u64 {
+        let mut turns = 1u64;
+        for (_, words) in self.sweeps.iter() {
+            turns = turns.saturating_mul(words.len() as u64);
         }
+        turns
+    }
+
+    /// Gives the names of the sweeps their words in this turn, counted from 0. Returns these words,
+    /// or `once` if there is no sweep.
+    pub fn put_words(&self, alloc: Global, names: &mut Names<'a>, turn: u64) -> Result<String> {
+        let mut said = String::new(alloc);
+        let mut rest = turn;
+        for (keys, words) in self.sweeps.iter() {
+            let count = words.len() as u64;
+            if count == 0 {
+                bail!("no words: {keys:?}");
+            }
+            if let Some(word) = words.get((rest % count) as usize) {
+                names.put_parts(alloc, *keys, word)?;
+                write!(said, "{}{word}", if said.is_empty() { "" } else { ", " })?;
+            }
+            rest /= count;
+        }
+        if said.is_empty() {
+            said.push_str("once")?;
+        }
+        Ok(said)
     }
 }
 
@@ -71,10 +97,7 @@ fn read_line<'a>(
         let text = decode(alloc, names, text)?;
         names.put(name, text)?;
     } else if let Some(name) = key.strip_prefix("each ") {
-        if row.sweeps.len() == 2 {
-            bail!("a third sweep: {line:?}");
-        }
-        row.sweeps.push((name, text))?;
+        row.sweeps.push((name, text.split(' ').collect(alloc)?))?;
     } else {
         row.lines.push((key, text))?;
     }
@@ -141,7 +164,7 @@ impl<'a> Given<'a> {
         }
     }
 
-    /// Refuses a row that has a line with another key. `do` and expected answers are always
+    /// Refuses a row that has a line with another key. `do`, `from` and expected answers are always
     /// allowed.
     pub fn allow(&self, keys: &[&str]) -> Result<()> {
         for (key, _) in self.lines.iter() {
@@ -155,7 +178,7 @@ impl<'a> Given<'a> {
 
 // Whether a row may have a line with this key, if these keys are read.
 fn is_allowed(keys: &[&str], key: &str) -> bool {
-    if key == "do" || key.starts_with("= ") || key.starts_with("~ ") {
+    if key == "do" || key == "from" || key.starts_with("= ") || key.starts_with("~ ") {
         return true;
     }
     for allowed in keys {
