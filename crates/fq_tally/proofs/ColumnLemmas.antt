@@ -23,6 +23,7 @@ use Rattle.fq_tally.proofs.RowLemmas.{plus_none}
 capped_assoc : (a b c : ℕ) → capped_sum (capped_sum a b) c ≡ capped_sum a (capped_sum b c)
 capped_assoc a b c = omega arith
 
+-- of three lists of rows, it makes no difference which two are added first
 pub rows_assoc : (xs ys zs : List ℕ) → rows_plus (rows_plus xs ys) zs ≡ rows_plus xs
     (rows_plus ys zs)
 rows_assoc [] ys zs = refl
@@ -31,6 +32,7 @@ rows_assoc (x ∷ xs) (y ∷ ys) [] = refl
 rows_assoc (x ∷ xs) (y ∷ ys) (z ∷ zs) = ap₂ (λ n ns. n ∷ ns) (capped_assoc x y z)
     (rows_assoc xs ys zs)
 
+-- two lists of rows can be added in either order
 pub rows_comm : (xs ys : List ℕ) → rows_plus xs ys ≡ rows_plus ys xs
 rows_comm [] ys = sym (plus_none ys)
 rows_comm (x ∷ xs) [] = refl
@@ -41,9 +43,11 @@ rows_comm (x ∷ xs) (y ∷ ys) = let first : capped_sum x y ≡ capped_sum y x 
 abbrev pub Small : List ℕ → Type 0
 Small xs = (k : ℕ) → get_or xs k 0 ≤ 18446744073709551615
 
+-- 0 more of a number that a u64 can hold is that number
 pub none_more : (x : ℕ) → x ≤ 18446744073709551615 → capped_sum x 0 ≡ x
 none_more x small = omega arith
 
+-- if a u64 can hold each of some numbers, it can hold the first
 pub first_small : (x : ℕ) (xs : List ℕ) → Small (x ∷ xs) → x ≤ 18446744073709551615
 first_small x xs small = small 0
 
@@ -56,6 +60,7 @@ grown_behind (x ∷ xs) (suc n) m small size =
     ap₂ (λ y ys. y ∷ ys) (sym (none_more x (first_small x xs small)))
     (grown_behind xs n m (λ k. small (suc k)) (omega arith))
 
+-- growing to no more rows than there are changes nothing
 pub grown_within : (xs : List ℕ) (n : ℕ) → Small xs → n ≤ length xs →
     xs ≡ rows_plus xs (replicate n 0)
 grown_within xs zero small within = sym (plus_none xs)
@@ -132,6 +137,7 @@ cut_joined (suc most) (u ∷ us) vs small =
     let whole = sum-cons u (us ++ vs) in
     ap₂ (λ n ns. n ∷ ns) (none_more u (omega arith)) (cut_joined most us vs (omega arith))
 
+-- numbers by position, added to those after them at their own positions, are all by position
 pub joined : (us vs : List ℕ) → sum us + sum vs ≤ 18446744073709551615 →
     rows_plus (by_position us) (by_position (replicate (length us) 0 ++ vs))
     ≡ by_position (us ++ vs)
@@ -211,11 +217,13 @@ columns_parts x = record {
   n = x.n;
 }
 
+-- columns are the same if each of the eight is
 pub columns_same : (x y : Columns) → x.bases ≡ y.bases → x.score_sum ≡ y.score_sum →
     x.q30_bases ≡ y.q30_bases → x.a ≡ y.a → x.c ≡ y.c → x.g ≡ y.g → x.t ≡ y.t → x.n ≡ y.n → x ≡ y
 columns_same x y bases score_sum q30_bases a c g t n =
     let same : columns_parts x ≡ columns_parts y = cc in same
 
+-- of three sets of columns, it makes no difference which two are added first
 pub columns_assoc : (x y z : Columns) → columns_plus (columns_plus x y) z ≡ columns_plus x
     (columns_plus y z)
 columns_assoc x y z =
@@ -225,6 +233,7 @@ columns_assoc x y z =
     (rows_assoc x.a y.a z.a) (rows_assoc x.c y.c z.c) (rows_assoc x.g y.g z.g)
     (rows_assoc x.t y.t z.t) (rows_assoc x.n y.n z.n)
 
+-- two sets of columns can be added in either order
 pub columns_comm : (x y : Columns) → columns_plus x y ≡ columns_plus y x
 columns_comm x y =
     columns_same (columns_plus x y) (columns_plus y x)
@@ -233,12 +242,14 @@ columns_comm x y =
     (rows_comm x.a y.a) (rows_comm x.c y.c) (rows_comm x.g y.g) (rows_comm x.t y.t)
     (rows_comm x.n y.n)
 
+-- adding the columns of no bases changes nothing
 pub columns_none : (x : Columns) → columns_plus x no_columns ≡ x
 columns_none x =
     columns_same (columns_plus x no_columns) x
     (plus_none x.bases) (plus_none x.score_sum) (plus_none x.q30_bases) (plus_none x.a)
     (plus_none x.c) (plus_none x.g) (plus_none x.t) (plus_none x.n)
 
+-- columns added to those of no bases are the same columns
 pub none_columns : (x : Columns) → columns_plus no_columns x ≡ x
 none_columns x = columns_same (columns_plus no_columns x) x refl refl refl refl refl refl refl refl
 
@@ -248,6 +259,7 @@ pub columns_swap : (x y z : Columns) → columns_plus (columns_plus x y) z ≡ c
 columns_swap x y z = columns_assoc x y z ∙ ap (columns_plus x) (columns_comm y z)
     ∙ sym (columns_assoc x z y)
 
+-- of four sets of columns, the last can be added to the first before the other two
 pub columns_both : (w x y z : Columns) → columns_plus (columns_plus (columns_plus w y) z) x
     ≡ columns_plus (columns_plus w x) (columns_plus y z)
 columns_both w x y z = ap (λ v. columns_plus v x) (columns_assoc w y z)
@@ -259,6 +271,7 @@ one_at_most : (b : Bool) → cond b 1 0 ≤ 1
 one_at_most true = omega arith
 one_at_most false = omega arith
 
+-- a test counts a number once, or not at all
 pub one_if_small : (p : ℕ → Bool) (x : ℕ) → one_if p x ≤ 1
 one_if_small p x = one_at_most (p x)
 

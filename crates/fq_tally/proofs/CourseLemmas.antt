@@ -10,6 +10,7 @@ use Rattle.fq_trim.proofs.PlaceLemmas.{length-places, length-scores, scores_at, 
 use Rattle.fq_tally.specs.Courses.{Part, part_at, whole, Course, alone, after, course_of}
 use Rattle.fq_tally.proofs.LeftLaws.{at, kept_within, kept_append, kept_none}
 
+-- bases and their quality bytes as a part of a read
 abbrev pub part : Encoding → List ℕ → List ℕ → Part
 part encoding seq qual = record { encoding = encoding; seq = seq; qual = qual }
 
@@ -22,6 +23,7 @@ cut start n p = record {
       take n (drop start p.qual);
 }
 
+-- list number `number` keeps n places of a part from start on, and what is left takes this course
 abbrev pub kept_course : ℕ → ℕ → ℕ → Part → Course → Course
 kept_course number start n p course = record {
   left = course.left;
@@ -86,6 +88,7 @@ next_kept number lists encoding seq qual k lt is within same =
     ∙ ap (λ (m : ℕ). kept_course number k.start n p
     (course_of m (drop (number + 1) lists) (cut k.start n p))) (sym (add-one number))
 
+-- a list that is taken in turn and keeps no place drops what is left of the read
 pub next_dropped : (number : ℕ) (lists : List (List Step)) (encoding : Encoding)
     (seq qual : List ℕ) → number < length lists →
     kept (get_or lists number []) (scores encoding qual) ≡ [] →
@@ -119,6 +122,7 @@ pub alone_length : (steps : List Step) → length (alone steps) ≡ length steps
 alone_length [] = refl
 alone_length (step ∷ steps) = ap suc (alone_length steps)
 
+-- the list with the number of a step is that step alone
 pub alone_at : (steps : List Step) (number : ℕ) → number < length steps →
     get_or (alone steps) number [] ≡ only number steps
 alone_at [] number lt = absurd (omega arith)
@@ -237,6 +241,7 @@ module _ (steps : List Step) (read : Read) (number start stop : ℕ)
       xs)) qual
       ∙ ap (λ (i : ℕ). to (cut (start + k.start) i (whole read))) n
 
+  -- a step that keeps no place of what is left drops the read
   pub cut_dropped : kept (only number steps) (scores read.encoding at_hand.qual) ≡ [] →
       course_of number (drop number (alone steps)) at_hand ≡ record {
         left =

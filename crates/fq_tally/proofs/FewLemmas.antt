@@ -37,6 +37,7 @@ stored_first (x ∷ xs) (y ∷ ys) few small (suc n) is room =
     ap₂ (λ z zs. z ∷ zs) both (stored_first xs ys (λ k. few (suc k)) (λ k. small (suc k)) n
     (omega arith) (omega arith))
 
+-- storing the sums of a chunk and a vector adds the vector to the rows from its place on
 pub stored_plus : (at : ℕ) (xs ys : List ℕ) → AtMost 65535 xs → AtMost 65535 ys → (n : ℕ) →
     n ≡ length ys → at + n ≤ length xs →
     put_chunk at xs (zip2 (λ a b. a + b) (chunk at n xs) ys) ≡ rows_plus xs (replicate at 0 ++ ys)
@@ -50,6 +51,7 @@ stored_plus (suc at) (x ∷ xs) ys few small n is room =
 each_at_most : (most : ℕ) (xs : List ℕ) → AtMost most xs → Each1 (λ x. x ≤ most) xs
 each_at_most most xs small = Each1-from_get_or (λ x. x ≤ most) xs 0 (λ i _. small i)
 
+-- counts of at most 254, with at most 1 added to each, fit into 8 bits
 pub byte_sums : (at : ℕ) (xs ys : List ℕ) → AtMost 254 xs → AtMost 1 ys →
     Each2 (λ x y. Fits w8 (x + y)) (chunk at 32 xs) ys
 byte_sums at xs ys few ones =
@@ -58,6 +60,7 @@ byte_sums at xs ys few ones =
     (chunk at 32 xs) ys (Each1-chunk (λ x. x ≤ 254) at 32 xs (each_at_most 254 xs few))
     (each_at_most 1 ys ones)
 
+-- counts of at most 65,280, with a byte added to each, fit into 16 bits
 pub word_sums : (at : ℕ) (xs ys : List ℕ) → AtMost 65280 xs → Each1 (λ y. y ≤ 255) ys →
     Each2 (λ x y. Fits w16 (x + y)) (chunk at 32 xs) (map (λ (x : ℕ). x) ys)
 word_sums at xs ys few bytes =
@@ -72,6 +75,7 @@ bytes_small (y ∷ ys) each zero = let first : y ≤ 255 = each.0 in let least :
     omega arith in least
 bytes_small (y ∷ ys) each (suc k) = bytes_small ys each.1 k
 
+-- a vector of at most 1 per lane is added to counts of 8 bits from its place on
 pub stored_bytes : (at : ℕ) (xs ys : List ℕ) → AtMost 254 xs → AtMost 1 ys → length ys ≡ 32 →
     at + 32 ≤ length xs →
     put_chunk at xs (zip2 (λ a b. a + b) (chunk at 32 xs) ys) ≡ rows_plus xs (replicate at 0 ++ ys)
@@ -79,6 +83,7 @@ stored_bytes at xs ys few ones long room =
     stored_plus at xs ys (λ k. let one = few k in omega arith) (λ k. let one = ones k in
     omega arith) 32 (sym long) room
 
+-- a vector of bytes is added to counts of 16 bits from its place on
 pub stored_words : (at : ℕ) (xs ys : List ℕ) → AtMost 65280 xs → Each1 (λ y. y ≤ 255) ys →
     length ys ≡ 32 → at + 32 ≤ length xs →
     put_chunk at xs (zip2 (λ a b. a + b) (chunk at 32 xs) (map (λ (x : ℕ). x) ys))
@@ -204,6 +209,7 @@ lanes_bases e (b ∷ q) (c ∷ s) all same =
     ap₂ (λ n ns. n ∷ ns) (cond-true (nat_le 1 b) 1 0 (le-leb 1 b (omega arith)))
     (lanes_bases e q s parts.1 (omega arith))
 
+-- lanes with a base each, up to position 10,000, count as the columns of these bases
 pub lanes_are_columns : (at : ℕ) (e : Encoding) (s q : List ℕ) → list_all (is_scored e) q ≡ true →
     length q ≡ length s → at + length s ≤ 10000 →
     lanes_at at e s q ≡ columns_from at e s q
@@ -235,6 +241,7 @@ zeros_in_front f none at k xs =
     ∙ sym (append_assoc (replicate at 0) (replicate k 0) (map f xs))
     ∙ ap (λ ns. ns ++ map f xs) (replicate-append-replicate at k 0)
 
+-- lanes after k zeros are the same lanes, k places further on
 pub lanes_moved : (at k : ℕ) (e : Encoding) (s q : List ℕ) →
     lanes_at at e (replicate k 0 ++ s) (replicate k 0 ++ q) ≡ lanes_at (at + k) e s q
 lanes_moved at k e s q =
@@ -263,6 +270,7 @@ row_behind f none rows len most at k xs ys few bound room =
     ∙ plus_zeros_behind xs (replicate at 0 ++ map f ys) k small
     (omega (arith, length-shifted at (map f ys), length-map ys f))
 
+-- zeros after the lanes of a vector add nothing to the rows of a few reads
 pub lanes_behind : (x : Columns) (rows len reads at k : ℕ) (e : Encoding) (s q : List ℕ) →
     AreFew rows len reads x → reads ≤ 254 → length q ≡ length s → at + (length s + k) ≤ rows →
     columns_plus x (lanes_at at e (s ++ replicate k 0) (q ++ replicate k 0))
@@ -314,6 +322,7 @@ module _ (x : Columns) (rows len len' reads at : ℕ) (e : Encoding) (s q : List
   size_q : length (map (lane_score e) q) ≡ length s
   size_q = length-map q (lane_score e) ∙ same
 
+  -- with the lanes of one more read, the rows are such as one more read can give
   pub lanes_more : len ≤ len' → at + length s ≤ len' → at + length s ≤ rows →
       AreFew rows len' (reads + 1) (columns_plus x (lanes_at at e s q))
   lanes_more order within room =
@@ -339,6 +348,7 @@ module _ (x : Columns) (rows len len' reads at : ℕ) (e : Encoding) (s q : List
         n = letter is_n x.n few.n;
       }
 
+  -- lanes can be added before or after the rows are cut to those that were reached
   pub lanes_cut : len' ≡ max len (at + length s) → len' ≤ rows →
       first_rows len' (columns_plus x (lanes_at at e s q))
       ≡ columns_plus (first_rows len x) (lanes_at at e s q)

@@ -22,6 +22,7 @@ or_true : (a b : Bool) → b ≡ true → a || b ≡ true
 or_true true b is = refl
 or_true false b is = is
 
+-- bytes that have scores are valid lanes
 pub scored_lanes : (e : Encoding) (q : List ℕ) → list_all (is_scored e) q ≡ true →
     list_all (is_lane e) q ≡ true
 scored_lanes e [] all = refl
@@ -29,6 +30,7 @@ scored_lanes e (b ∷ bs) all =
     let parts = and_parts (is_scored e b) (list_all (is_scored e) bs) all in
     and_from _ _ (or_true (eqb b 0) (is_scored e b) parts.0) (scored_lanes e bs parts.1)
 
+-- zeros, and then bytes that have scores, are valid lanes
 pub lanes_in_front : (e : Encoding) (k : ℕ) (q : List ℕ) → list_all (is_scored e) q ≡ true →
     list_all (is_lane e) (replicate k 0 ++ q) ≡ true
 lanes_in_front e zero q all = scored_lanes e q all
@@ -38,6 +40,7 @@ no_lanes : (e : Encoding) (k : ℕ) → list_all (is_lane e) (replicate k 0) ≡
 no_lanes e zero = refl
 no_lanes e (suc k) = no_lanes e k
 
+-- bytes that have scores, and then zeros, are valid lanes
 pub lanes_then_none : (e : Encoding) (k : ℕ) (q : List ℕ) → list_all (is_scored e) q ≡ true →
     list_all (is_lane e) (q ++ replicate k 0) ≡ true
 lanes_then_none e k q all = list_all-append (is_lane e) q (replicate k 0)
@@ -52,6 +55,7 @@ row_weaker rows rows' len len' most most' xs few less order bound = record {
   small = λ k. let one = few.small k in omega arith;
 }
 
+-- rows such as some reads can give are such as more reads can give that reach further
 pub few_weaker : (x : Columns) (rows rows' len len' reads reads' : ℕ) → AreFew rows len reads x →
     rows' ≤ rows → len ≤ len' → reads ≤ reads' → AreFew rows' len' reads' x
 few_weaker x rows rows' len len' reads reads' few less order bound = record {
@@ -103,6 +107,7 @@ lanes_nothing x rows len reads at e few bound within =
     (row_nothing rows len reads at x.t few.t (omega arith) within)
     (row_nothing rows len reads at x.n few.n (omega arith) within)
 
+-- counting no bases in the rows of a few reads changes nothing
 pub nothing_counted : (x : Columns) (rows len reads at : ℕ) (e : Encoding) →
     AreFew rows len reads x → reads ≤ 254 → at ≤ 10000 → at ≤ rows →
     x ≡ columns_plus x (columns_from at e [] [])
@@ -127,6 +132,7 @@ module _ (start now : Columns) (at from : ℕ) (e : Encoding) (seq qual : List �
   rest_scored : list_all (is_scored e) (drop from qual) ≡ true
   rest_scored = all_dropped (is_scored e) qual from scored
 
+  -- after one more full vector, the bases up to its end are counted
   pub vector_next : (new : Columns) → from + 32 ≤ length seq →
       new ≡ columns_plus now (lanes_at (at + from) e (chunk from 32 seq) (chunk from 32 qual)) →
       new ≡ columns_plus start (columns_from at e (take (from + 32) seq) (take (from + 32) qual))
@@ -147,6 +153,7 @@ module _ (start now : Columns) (at from : ℕ) (e : Encoding) (seq qual : List �
       ∙ ap₂ (λ x y. columns_plus start (columns_from at e x y)) (sym (take-add from 32 seq))
       (sym (take-add from 32 qual))
 
+  -- after the bases that were left, all are counted
   pub rest_next : (new : Columns) →
       new ≡ columns_plus now (columns_from (at + from) e (drop from seq) (drop from qual)) →
       new ≡ columns_plus start (columns_from at e seq qual)
@@ -166,10 +173,12 @@ module _ (start now : Columns) (at from : ℕ) (e : Encoding) (seq qual : List �
       ∙ ap₂ (λ x y. columns_plus start (columns_from at e x y)) (take-append-drop from seq)
       (take-append-drop from qual)
 
+  -- if no bases are left, all are counted
   pub all_counted : length seq ≤ from → now ≡ columns_plus start (columns_from at e seq qual)
   all_counted done = so_far ∙ ap₂ (λ x y. columns_plus start (columns_from at e x y))
       (take_all from seq done) (take_all from qual (omega arith))
 
+  -- while a read is counted, the rows are such as 254 reads can give
   pub still_few : (rows : ℕ) → at + length qual ≤ rows → AreFew rows 10032 253 start →
       AreFew rows 10032 254 now
   still_few rows room few =
@@ -203,6 +212,7 @@ rest_in_last old new at from start k e seq qual bases bytes place s q same near 
     ∙ ap (columns_plus old) (lanes_are_columns (at + from) e (drop from seq) (drop from qual)
     (all_dropped (is_scored e) qual from scored) (omega arith) (omega arith))
 
+-- the last bases of a read are counted from the first lanes of a vector, with zeros after them
 pub rest_in_first : (old new : Columns) (rows at from k m : ℕ) (e : Encoding)
     (seq qual bases bytes : List ℕ) →
     bases ≡ drop from seq ++ replicate k 0 → bytes ≡ drop from qual ++ replicate m 0 →
@@ -242,6 +252,7 @@ read_added totals x y rows reached reads at end e seq qual few near room here sa
     ∙ ap (λ z. columns_plus totals (columns_plus (first_rows reached x) z)) as_lanes
     ∙ sym (columns_assoc totals (first_rows reached x) (columns_from at e seq qual))
 
+-- with one more read, the rows are such as one more read can give
 pub read_few : (x y : Columns) (rows reached reads at end : ℕ) (e : Encoding) (seq qual : List ℕ) →
     AreFew rows reached reads x → end ≤ rows →
     y ≡ columns_plus x (columns_from at e seq qual) → length qual ≡ length seq →

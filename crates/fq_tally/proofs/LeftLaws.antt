@@ -13,6 +13,7 @@ use Rattle.fq_pair.proofs.KeptLemmas.{Below, select_below, kept_below, places_be
 use Rattle.fq_tally.specs.Laws.{one_list}
 use Rattle.fq_tally.specs.Courses.{Part, alone, part_at, whole, Course, after, course_of, course, survives}
 
+-- steps, each in a list of its own, are the same steps as one list
 pub alone_are_all : (steps : List Step) → one_list (alone steps) ≡ steps
 alone_are_all [] = refl
 alone_are_all (step ∷ steps) = ap (λ ss. step ∷ ss) (alone_are_all steps)
@@ -72,12 +73,14 @@ kept_within steps q ps =
     (places_below (length ps) 0 (length ps) (omega arith))
     ∙ ap (λ (n : ℕ). map (at ps) (kept_of steps (map (at q) ps) (places 0 n))) (sym size)
 
+-- steps with others after them keep what the others keep of what the first ones keep
 pub kept_append : (steps others : List Step) (q ps : List ℕ) →
     kept_of (steps ++ others) q ps ≡ kept_of others q (kept_of steps q ps)
 kept_append [] others q ps = refl
 kept_append (step ∷ steps) others q ps = kept_append steps others q
     (select (keeps step (map (at q) ps)) 0 ps)
 
+-- of no places, steps keep none
 pub kept_none : (steps : List Step) (q : List ℕ) → kept_of steps q [] ≡ []
 kept_none [] q = refl
 kept_none (step ∷ steps) q = kept_none steps q
@@ -94,6 +97,7 @@ left_after : (n : ℕ) (ps : List ℕ) (p : Part) (c : Course) (r : List ℕ →
 left_after n [] p c r left none = sym none
 left_after n (a ∷ ps) p c r left none = left
 
+-- what lists of steps leave of a part in turn is what they leave of it as one list
 pub left_in_turn : (lists : List (List Step)) (n : ℕ) (p : Part) → length p.qual ≡ length p.seq →
     (course_of n lists p).left ≡ part_at (kept (one_list lists) (scores p.encoding p.qual)) p
 left_in_turn [] n p same =
@@ -130,10 +134,12 @@ left_in_turn (steps ∷ lists) n p same =
     (ap (λ (ns : List ℕ). part_at ns p) (kept_none rest q))
     ∙ ap (λ (ns : List ℕ). part_at ns p) (sym (kept_append steps rest q (places 0 (length q))))
 
+-- a list in which each member is replaced is empty just if the list is
 pub not_empty : (f : ℕ → ℕ) (xs : List ℕ) → is_empty (map f xs) ≡ is_empty xs
 not_empty f [] = refl
 not_empty f (x ∷ xs) = refl
 
+-- a read survives lists of steps in turn just if it survives them as one list
 pub survives_in_turn : (lists : List (List Step)) (read : Read) →
     length read.qual ≡ length read.seq → survives (course lists read).left ≡ outputs.survives
     (one_list lists) read
@@ -147,6 +153,7 @@ pub left_as_kept : (steps : List Step) (read : Read) → length read.qual ≡ le
 left_as_kept steps read same = left_in_turn (alone steps) 0 (whole read) same
     ∙ ap (λ (ss : List Step). part_at (kept_places ss read) (whole read)) (alone_are_all steps)
 
+-- a read survives steps in turn just if they keep a place of it
 pub survives_as_kept : (steps : List Step) (read : Read) → length read.qual ≡ length read.seq →
     survives (course (alone steps) read).left ≡ not (is_empty (kept_places steps read))
 survives_as_kept steps read same = ap survives (left_as_kept steps read same)

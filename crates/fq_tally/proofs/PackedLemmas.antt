@@ -64,6 +64,7 @@ joined_whole (h ∷ hs) ts b w l b' w' l' whole more =
           (sym (longs_left b w l b' w' l' v n le)) rest)),
     )
 
+-- lists with more behind them hold the tables of the first heads, and then those of the others
 pub joined_tables : (hs ts : List Head) (b w l b' w' l' : List ℕ) → AreWhole hs b w l →
     tables_in (hs ++ ts) (b ++ b') (w ++ w') (l ++ l') ≡ tables_in hs b w l ++ tables_in ts b' w' l'
 joined_tables [] ts b w l b' w' l' whole =
@@ -92,12 +93,14 @@ head_of n v = record { rows = n; width = v }
 dropped_all : (n : ℕ) (xs : List ℕ) → n ≡ length xs → drop n xs ≡ []
 dropped_all n xs is = drop_all n xs (omega arith)
 
+-- the counts of a table, in the list of its width, are all rows of it, and no more
 pub one_whole : (v : Width) (n : ℕ) (counts : List ℕ) → n ≡ length counts → length counts ≤ 10002 →
     AreWhole (head_of n v ∷ []) (bytes_of v counts) (words_of v counts) (longs_of v counts)
 one_whole Bytes n counts is few = (omega arith, omega arith, (dropped_all n counts is, refl, refl))
 one_whole Words n counts is few = (omega arith, omega arith, (refl, dropped_all n counts is, refl))
 one_whole Longs n counts is few = (omega arith, omega arith, (refl, refl, dropped_all n counts is))
 
+-- the counts of a table, in the list of its width, are that table
 pub one_table : (v : Width) (n : ℕ) (counts : List ℕ) → n ≡ length counts →
     tables_in (head_of n v ∷ []) (bytes_of v counts) (words_of v counts) (longs_of v counts)
     ≡ counts ∷ []
@@ -116,6 +119,7 @@ written (o ∷ os) (c ∷ cs) zero x same below read = ap (λ y. y ∷ os) read
 written (o ∷ os) (c ∷ cs) (suc i) x same below read =
     ap (λ ys. c ∷ ys) (written os cs i x (omega arith) (omega arith) read)
 
+-- after count i is written, the first i + 1 are
 pub written_next : (old counts now : List ℕ) (i x : ℕ) → length old ≡ length counts →
     i < length counts → now ≡ take i counts ++ drop i old → x ≡ get_or counts i x →
     set now i x ≡ take (i + 1) counts ++ drop (i + 1) old
@@ -123,6 +127,7 @@ written_next old counts now i x same below so_far read =
     ap (λ ys. set ys i x) so_far ∙ written old counts i x same below read
     ∙ ap (λ n. take n counts ++ drop n old) (sym (add-one i))
 
+-- once all counts are written, nothing is left of what was there before
 pub written_all : (old counts : List ℕ) → length old ≡ length counts → (n : ℕ) → n ≡ length counts →
     take n counts ++ drop n old ≡ counts
 written_all old counts same n is =
@@ -132,11 +137,16 @@ written_all old counts same n is =
 -- The first table is read, which has this width.
 pub record Reads (h : Head) (rest : List Head) (v : Width) (b w l : List ℕ)
     (ts : List (List ℕ)) : Type 0 where
+  -- it has no more rows than a histogram
   pub few : h.rows ≤ 10002
+  -- the list of its width has all of its rows
   pub room : h.rows ≤ length (of_width v b w l)
+  -- they are the first table
   pub table : take h.rows (of_width v b w l) ≡ first_table ts
+  -- the other heads hold the tables after it
   pub left : tables_in rest (bytes_after v h.rows b) (words_after v h.rows w)
       (longs_after v h.rows l) ≡ after_first ts
+  -- the lists hold all rows of those, and no more
   pub whole : AreWhole rest (bytes_after v h.rows b) (words_after v h.rows w)
       (longs_after v h.rows l)
 
@@ -151,6 +161,7 @@ first_reads rest h b w l whole = record {
   whole = whole.2;
 }
 
+-- the first head, if it has this width, is read as the first table
 pub reads_first : (hs rest : List Head) (h : Head) (v : Width) (b w l : List ℕ) → hs ≡ h ∷ rest →
     h.width ≡ v → AreWhole hs b w l → Reads h rest v b w l (tables_in hs b w l)
 reads_first hs rest h v b w l is width whole =
@@ -172,11 +183,13 @@ module _ (hs hs' : List Head) (b b' w w' l l' counts : List ℕ) (n : ℕ) (v : 
     (whole : AreWhole hs b w l) (heads : hs' ≡ hs ++ (head_of n v ∷ []))
     (bytes : b' ≡ b ++ bytes_of v counts) (words : w' ≡ w ++ words_of v counts) (longs : l'
     ≡ l ++ longs_of v counts) (is : n ≡ length counts) where
+  -- with one more table, the lists hold all rows of each, and no more
   pub pushed_whole : length counts ≤ 10002 → AreWhole hs' b' w' l'
   pushed_whole few =
       rw (heads, bytes, words, longs) (joined_whole hs (head_of n v ∷ []) b w l (bytes_of v counts)
       (words_of v counts) (longs_of v counts) whole (one_whole v n counts is few))
 
+  -- with one more table, the tables are those before, and then that one
   pub pushed_tables : tables_in hs' b' w' l' ≡ tables_in hs b w l ++ (counts ∷ [])
   pushed_tables =
       rw (heads, bytes, words, longs)

@@ -26,6 +26,7 @@ tally_more true steps ms m = ap (λ (t : Tally). let s : Option Tally = Some t i
     (sym (fold-append (with_pair (alone steps)) no_tally ms (m ∷ [])))
 tally_more false steps ms m = refl
 
+-- what is made of pairs, with one more, is what is made of these pairs and that one
 pub made_more : (tallied : Bool) (steps : List Step) (number : ℕ) (ms : List Mates) (m : Mates) →
     with_mates steps (made_of tallied steps number ms) m
     ≡ made_of tallied steps number (ms ++ m ∷ [])

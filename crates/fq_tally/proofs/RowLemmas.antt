@@ -28,6 +28,7 @@ one_behind zero (x ∷ xs) n le is = absurd (omega arith)
 one_behind (suc row) (x ∷ xs) n le is =
     ap (λ ns. x ∷ ns) (one_behind row xs n (omega arith) (omega arith))
 
+-- with one more in a row, there are as many rows as before or as it needs, whichever is more
 pub length-with_one : (row : ℕ) (xs : List ℕ) → length (with_one row xs) ≡ max (length xs) (suc row)
 length-with_one zero [] = refl
 length-with_one zero (x ∷ xs) = omega arith
@@ -43,6 +44,7 @@ counted_at xs number row x y row_is lt read sum =
     ap (set xs row) (sum ∙ ap (λ n. capped_sum n 1) value) ∙ sym (one_at row xs lt)
     ∙ ap (λ r. with_one r xs) row_is
 
+-- a number is counted in a row after those that were there, which was appended
 pub counted_behind : (xs zs : List ℕ) (number row x y : ℕ) → row ≡ min number 10001 →
     length xs ≤ row →
     zs ≡ take (row + 1) xs ++ replicate (row + 1 - length xs) 0 → x ≡ get_or zs row x →
@@ -71,6 +73,7 @@ pub plus_none : (xs : List ℕ) → rows_plus xs [] ≡ xs
 plus_none [] = refl
 plus_none (x ∷ xs) = refl
 
+-- two lists of rows together have as many rows as the longer one
 pub length-rows_plus : (xs ys : List ℕ) → length (rows_plus xs ys) ≡ max (length xs) (length ys)
 length-rows_plus [] ys = omega arith
 length-rows_plus (x ∷ xs) [] = omega arith
@@ -100,6 +103,7 @@ grown_long xs ys zs i is below =
       length-replicate {A = ℕ} n 0,
     )
 
+-- if i rows are added to a list grown to at least as many as all, and then row i, i + 1 are
 pub grown_next : (xs ys zs : List ℕ) (i x w : ℕ) → i < length ys →
     zs ≡ rows_plus (rows_plus xs (replicate (length ys) 0)) (take i ys) → x ≡ get_or zs i x →
     w ≡ min (x + get_or ys i 0) 18446744073709551615 →
@@ -115,6 +119,7 @@ grown_next xs ys zs i x w below so_far read sum =
     ∙ sym (plus_more grown ys i (omega arith) below)
     ∙ ap (λ m. rows_plus grown (take m ys)) (sym (add-one i))
 
+-- once all rows are added to a list that was grown so, it is both lists together
 pub grown_plus : (xs ys : List ℕ) → ((k : ℕ) → get_or ys k 0 ≤ 18446744073709551615) →
     rows_plus (rows_plus xs (replicate (length ys) 0)) (take (length ys) ys) ≡ rows_plus xs ys
 grown_plus [] [] small = refl

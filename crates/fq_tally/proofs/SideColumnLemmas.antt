@@ -33,16 +33,20 @@ three_are : {b b' p p' u u' : Columns} → b ≡ b' → p ≡ p' → u ≡ u' �
 three_are b p u = cc
 
 module _ (p u r v w x : Columns) where
+  -- bases counted in the rest are counted as they were read, and not after trimming
   pub rest_more : side_of p u (columns_plus r x) v w ≡ with_before x (side_of p u r v w)
   rest_more = three_are (columns_swap r x (columns_plus p u)) refl refl
 
+  -- bases counted as moved and paired are left of a read that survives with its mate
   pub paired_moved_more : side_of p u r (columns_plus v x) w ≡ with_after x true (side_of p u r v w)
   paired_moved_more = three_are refl (sym (columns_assoc p v x)) refl
 
+  -- bases counted as moved and unpaired are left of a read that survives alone
   pub unpaired_moved_more : side_of p u r v (columns_plus w x)
       ≡ with_after x false (side_of p u r v w)
   unpaired_moved_more = three_are refl refl (sym (columns_assoc u w x))
 
+  -- bases counted as paired are counted both as they were read and as left with a mate
   pub paired_more : side_of (columns_plus p x) u r v w
       ≡ with_before x (with_after x true (side_of p u r v w))
   paired_more =
@@ -51,6 +55,7 @@ module _ (p u r v w x : Columns) where
       (columns_swap p x v)
       refl
 
+  -- bases counted as unpaired are counted both as they were read and as left alone
   pub unpaired_more : side_of p (columns_plus u x) r v w
       ≡ with_before x (with_after x false (side_of p u r v w))
   unpaired_more =

@@ -26,6 +26,7 @@ columns_four x y z w =
 abbrev side_parts : SideColumns → SideColumns
 side_parts t = record { before = t.before; paired = t.paired; unpaired = t.unpaired }
 
+-- adding the columns of no reads to those of a side changes nothing
 pub side_columns_none : (t : SideColumns) → side_columns_plus t no_side_columns ≡ t
 side_columns_none t =
     let before = columns_none t.before in
@@ -49,6 +50,7 @@ after_if : (b : Bool) (x : Columns) (mate_survives : Bool) (s t : SideColumns) �
 after_if true x mate_survives s t = after_read x mate_survives s t
 after_if false x mate_survives s t = refl
 
+-- one more read in the sum of two sides' columns is one more in the second of them
 pub side_columns_read : (read : Read) (left : Part) (mate_survives : Bool) (s t : SideColumns) →
     with_columns read left mate_survives (side_columns_plus s t)
     ≡ side_columns_plus s (with_columns read left mate_survives t)

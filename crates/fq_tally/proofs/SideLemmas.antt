@@ -43,9 +43,11 @@ exact : (front left behind all : ℕ) → front + left + behind ≡ all → all 
     capped_sum (capped_sum left front) behind ≡ all
 exact front left behind all is few = omega arith
 
+-- the bases before a place
 abbrev pub part_before : Encoding → List ℕ → List ℕ → ℕ → Part
 part_before e seq qual a = part e (take a seq) (take a qual)
 
+-- the bases from a place on
 abbrev pub part_from : Encoding → List ℕ → List ℕ → ℕ → Part
 part_from e seq qual b = part e (take (length seq - b) (drop b seq))
     (take (length qual - b) (drop b qual))
@@ -137,6 +139,7 @@ kept_part read k e seq qual e_is seq_is qual_is within same =
     ∙ ap (λ (xs : List ℕ). part read.encoding (part_at (places_of (Some k)) (whole read)).seq xs)
     (sym q)
 
+-- what is left of a read has as many bases as there are places from start up to stop
 pub kept_length : (k : Kept) (p : Part) → length (part_at (places_of (Some k)) p).seq ≡ k.stop -
     k.start
 kept_length k p = length-map (places k.start (k.stop - k.start)) (at p.seq)
@@ -153,6 +156,7 @@ kept_counts read k b is within few =
       few_bases (part_at (places_of (Some k)) (whole read)) b is (omega arith),
     )
 
+-- a read of which places are kept survives
 pub kept_is_left : (read : Read) (k : Kept) →
     survives (part_at (places_of (Some k)) (whole read)) ≡ true
 kept_is_left read k = ap not (not_empty (at read.seq) (places_of (Some k))
@@ -197,6 +201,7 @@ survivor read k mate_survives t =
     ap (λ (b : Bool). made b (length read.seq - k.start - length left.seq)) is
     ∙ ap (made true) removed
 
+-- the counts of a side, given its parts
 abbrev pub made_of : ReadsTally → ReadsTally → ReadsTally → ℕ → ℕ → List ℕ → List ℕ → SideColumns →
     StepsTally → SideTally
 made_of before paired unpaired front behind removed_front removed_behind positions steps = record {

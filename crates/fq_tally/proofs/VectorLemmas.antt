@@ -36,6 +36,7 @@ either_flags : (p q : ℕ → Bool) (v : List ℕ) →
 either_flags p q [] = refl
 either_flags p q (x ∷ xs) = ap₂ (λ y ys. y ∷ ys) (flag_or (p x) (q x)) (either_flags p q xs)
 
+-- the flags of two tests, joined bit by bit, are those of passing one or the other
 pub either : (p q : ℕ → Bool) (v : List ℕ) {a b : List ℕ} → a ≡ map (λ x. flag (p x)) v →
     b ≡ map (λ x. flag (q x)) v →
     zip2 bit_or a b ≡ map (λ x. flag (p x || q x)) v
@@ -155,6 +156,7 @@ summed_on f nothing bytes vector from at stop n m begun order holds here so_far 
     (take (stop - at) (drop at bytes)) in
     omega arith
 
+-- the same of a count of the bytes that pass a test, which 0 doesn't
 pub counted_on : (p : ℕ → Bool) → p 0 ≡ false → (bytes vector : List ℕ) (from at stop n m : ℕ) →
     from ≤ at → at ≤ stop → Holds (take (stop - at) (drop at bytes)) vector →
     m ≡ count_by p vector → n ≡ count_by p (take (at - from) (drop from bytes)) →
@@ -212,6 +214,7 @@ each_letter letter (x ∷ xs) low high fits =
     ap₂ (λ b ys. flag b ∷ ys) (one_letter letter x low high small)
     (each_letter letter xs low high fits.1)
 
+-- comparing with a letter after setting the bit of lower case finds it in either case
 pub either_case : (letter : ℕ) (v : List ℕ) → 97 ≤ letter → letter ≤ 122 → length v ≡ 32 →
     Each1 (Fits w8) v →
     zip2 (λ a b. flag (eqb a b)) (zip2 bit_or v (replicate 32 32)) (replicate 32 letter)
@@ -236,6 +239,7 @@ ones_for p (x ∷ xs) zero long = absurd (omega arith)
 ones_for p (x ∷ xs) (suc n) long = ap₂ (λ b ys. cond b 1 0 ∷ ys) (flag_top (p x))
     (ones_for p xs n (omega arith))
 
+-- selecting 1 or 0 by flags gives 1 for each byte that passes, and 0 for the others
 pub ones_chosen : (p : ℕ → Bool) (v : List ℕ) (n : ℕ) {z : List ℕ} → length v ≡ n →
     z ≡ map (λ x. flag (p x)) v → sel_l (map (top 7) z) (replicate n 1) (replicate n 0) ≡ map
     (one_if p) v
@@ -251,6 +255,7 @@ ones_at_most p [] k = let least : 0 ≤ 1 = omega arith in least
 ones_at_most p (x ∷ xs) zero = one_small (p x)
 ones_at_most p (x ∷ xs) (suc k) = ones_at_most p xs k
 
+-- 1 for each byte that passes and 0 for the others is at most 1 in each lane
 pub ones_are_few : (p : ℕ → Bool) (v ones : List ℕ) → ones ≡ map (one_if p) v → AtMost 1 ones
 ones_are_few p v ones is k = let small = ones_at_most p v k in let same =
     ap (λ xs. get_or xs k 0) is in omega arith

@@ -33,6 +33,7 @@ goes_on low high from at stop seq qual bases bytes old new some_low some_high be
           so_far.sum;
     }
 
+-- after one more full vector, the bases up to its end are counted
 pub loop-at-preserved : goal.loop-at-preserved
 loop-at-preserved c =
     let at = c.loop-at.at in
@@ -52,6 +53,7 @@ loop-at-preserved c =
       most = omega arith;
     }
 
+-- after a last vector that is not full, all bases are counted
 pub returns-then-at-to : goal.returns-then-at-to
 returns-then-at-to c =
     let old = c.loop-at.invariant in

@@ -40,6 +40,7 @@ found e k off qual bytes each is all whole =
     let same : sum (scores e qual) ≡ sum (scores k qual) = ap (λ x. sum (scores x qual)) is in
     omega (arith, distances k off each qual scored)
 
+-- in Sanger's encoding the sum of the bytes is at least 33 times their number
 pub overflow_sub-result : goal.overflow_sub-result
 overflow_sub-result c =
     omega (
@@ -48,6 +49,7 @@ overflow_sub-result c =
           c.requires.scored c.requires.bytes,
     )
 
+-- in that of Illumina 1.3+ the sum of the bytes is at least 64 times their number
 pub overflow_sub-result-in-Illumina13 : goal.overflow_sub-result-in-Illumina13
 overflow_sub-result-in-Illumina13 c =
     omega (
@@ -56,6 +58,7 @@ overflow_sub-result-in-Illumina13 c =
           c.in-Illumina13.is c.requires.scored c.requires.bytes,
     )
 
+-- in Sanger's encoding the sum of the scores is 33 less for each byte
 pub returns-in-Sanger : goal.returns-in-Sanger
 returns-in-Sanger c =
     omega (
@@ -64,6 +67,7 @@ returns-in-Sanger c =
           c.requires.scored c.requires.bytes,
     )
 
+-- in that of Illumina 1.3+ the sum of the scores is 64 less for each byte
 pub returns-in-Illumina13 : goal.returns-in-Illumina13
 returns-in-Illumina13 c =
     omega (

@@ -7,6 +7,7 @@ use Rattle.fq_trim.specs.Keeping.{scores}
 use Rattle.fq_trim.proofs.PlaceLemmas.{length-scores, score_at}
 use Rattle.fq_tally.proofs.bases.solexa_sum.Goals as goal
 
+-- with the score of one more byte, the sum is that of the scores up to it
 pub loop-byte-preserved : goal.loop-byte-preserved
 loop-byte-preserved c =
     let qual = c.args.qual.now in

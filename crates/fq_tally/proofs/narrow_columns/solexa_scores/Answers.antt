@@ -4,6 +4,7 @@ use Rattle.fq_tally.specs.Counting.{lane_score}
 use Rattle.fq_tally.proofs.LaneLemmas.{converted_next}
 use Rattle.fq_tally.proofs.narrow_columns.solexa_scores.Goals as goal
 
+-- after byte i is converted, the first i + 1 are scores
 pub loop-i-preserved : goal.loop-i-preserved
 loop-i-preserved c =
     let long = c.fits-bytes.0 in

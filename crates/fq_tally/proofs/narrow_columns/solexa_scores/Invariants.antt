@@ -3,6 +3,7 @@ use Rattle.fq_text.specs.declared.encoding.Encoding.TheVariants.{Solexa}
 use Rattle.fq_tally.specs.Counting.{lane_score}
 use Rattle.fq_tally.proofs.narrow_columns.solexa_scores.Given as goal
 
+-- the first i bytes are converted to scores, and the others are as they were
 abbrev pub invariant-loop-i : goal.invariant-loop-i
 invariant-loop-i l =
     record {

@@ -3,6 +3,7 @@ use Rattle.fq_tally.specs.Tallies.{bases_of}
 use Rattle.fq_tally.proofs.SideLemmas.{kept_part}
 use Rattle.fq_tally.proofs.side.kept_bases.Goals as goal
 
+-- the counts are those of the kept bases
 pub returns : goal.returns
 returns c = c.of.ensures
     ∙ ap bases_of (kept_part c.args.read.now c.args.kept c.encoding.result c.seq.result.now

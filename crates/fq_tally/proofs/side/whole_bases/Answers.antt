@@ -7,6 +7,7 @@ use Rattle.fq_tally.proofs.SideLemmas.{kept_part, counted_in_parts, part_before,
 use Rattle.fq_tally.proofs.side.whole_bases.Goals as goal
 use Rattle.fq_tally.proofs.side.whole_bases.Goals.{then-kept-eq0, else-kept-eq0}
 
+-- the counts of the kept bases, of those before and of those after are those of the whole read
 pub returns : goal.returns
 returns c =
     let k = c.args.kept in

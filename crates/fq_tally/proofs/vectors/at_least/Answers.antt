@@ -4,6 +4,7 @@ use Rattle.fq_text.proofs.VectorLemmas.{flag}
 use Rattle.fq_tally.proofs.VectorLemmas.{flags_counted}
 use Rattle.fq_tally.proofs.vectors.at_least.Goals as goal
 
+-- as many flags are set as bytes are at least the limit
 pub returns : goal.returns
 returns c =
     let v = c.args.bytes in

@@ -7,6 +7,7 @@ use lib.Lanes.{zip2}
 use Rattle.fq_tally.proofs.VectorLemmas.{first_kept}
 use Rattle.fq_tally.proofs.vectors.first_of.Goals as goal
 
+-- the masked vector holds the first bytes
 pub returns : goal.returns
 returns c = λ f nothing.
     let bytes = c.args.bytes.now in

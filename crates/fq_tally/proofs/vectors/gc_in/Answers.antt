@@ -5,6 +5,7 @@ use Rattle.fq_text.proofs.VectorLemmas.{flag}
 use Rattle.fq_tally.proofs.VectorLemmas.{flags_counted, either}
 use Rattle.fq_tally.proofs.vectors.gc_in.Goals as goal
 
+-- as many flags are set as bases are G or C, in either case
 pub returns : goal.returns
 returns c =
     let v = c.args.bases in

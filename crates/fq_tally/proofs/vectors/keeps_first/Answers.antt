@@ -3,6 +3,7 @@ use Rattle.std.proofs.lemmas.List.{take-take}
 use Rattle.fq_tally.proofs.VectorLemmas.{edge}
 use Rattle.fq_tally.proofs.vectors.keeps_first.Goals as goal
 
+-- the mask is 255 for the first bytes, and then 0
 pub returns : goal.returns
 returns c =
     let k = 32 - c.args.count in

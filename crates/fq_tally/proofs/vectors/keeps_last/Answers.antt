@@ -3,6 +3,7 @@ use Rattle.std.proofs.lemmas.List.{take-take}
 use Rattle.fq_tally.proofs.VectorLemmas.{edge}
 use Rattle.fq_tally.proofs.vectors.keeps_last.Goals as goal
 
+-- the mask is 0, and then 255 for the last bytes
 pub returns : goal.returns
 returns c =
     let k = c.args.count in

@@ -7,6 +7,7 @@ use lib.Lanes.{zip2}
 use Rattle.fq_tally.proofs.VectorLemmas.{last_kept, last_lanes}
 use Rattle.fq_tally.proofs.vectors.last_of.Goals as goal
 
+-- the masked vector holds the last bytes
 pub returns-clause-holds : goal.returns-clause-holds
 returns-clause-holds c = λ f nothing.
     let bytes = c.args.bytes.now in
@@ -18,6 +19,7 @@ returns-clause-holds c = λ f nothing.
     (length-take-le 32 bytes (omega arith) ∙ omega arith)
     ∙ ap (λ xs. sum_by f (drop (32 - count) xs)) (take_all 32 bytes (omega arith))
 
+-- the lanes are zeros, and then the last bytes
 pub returns-clause-lanes : goal.returns-clause-lanes
 returns-clause-lanes c =
     let bytes = c.args.bytes.now in

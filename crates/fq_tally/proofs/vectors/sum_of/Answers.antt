@@ -5,6 +5,7 @@ use lib.Lanes.{sum_l}
 use Rattle.fq_tally.proofs.VectorLemmas.{vector_summed}
 use Rattle.fq_tally.proofs.vectors.sum_of.Goals as goal
 
+-- the sum of 32 bytes fits into 16 bits
 pub overflow_add-result : goal.overflow_add-result
 overflow_add-result c =
     let v = c.args.bytes in
@@ -13,6 +14,7 @@ overflow_add-result c =
     let same : sum_l (map (λ (x : ℕ). x) v) ≡ sum_l v = ap sum_l (map-id v) in
     sum_fits w16 0 (map (λ (x : ℕ). x) v) (omega arith)
 
+-- the lanes, added up as numbers of 16 bits, are the sum of the bytes
 pub returns : goal.returns
 returns c =
     let v = c.args.bytes in

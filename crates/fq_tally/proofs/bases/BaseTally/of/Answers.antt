@@ -7,6 +7,7 @@ use Rattle.fq_trim.specs.Keeping.{scores}
 use Rattle.fq_trim.proofs.PlaceLemmas.{all_taken, all_dropped}
 use Rattle.fq_tally.proofs.bases.BaseTally.of.Goals as goal
 
+-- each quality byte of the part has a score
 pub score_sum-sum-requires-clause-scored : goal.score_sum-sum-requires-clause-scored
 score_sum-sum-requires-clause-scored c =
     let scored = is_scored c.args.encoding in
@@ -24,6 +25,7 @@ counted e score least same (b ∷ others) =
     ∙ ap₂ (λ one rest. cond one 1 0 + rest) (sym (same b)) (counted e score least same others)
     ∙ sym (sum_by-cons (λ (x : ℕ). cond (nat_le score x) 1 0) (value_of e b) (scores e others))
 
+-- the counts are those of the bases of the part and of their scores
 pub returns : goal.returns
 returns c =
     let e = c.args.encoding in

@@ -3,6 +3,7 @@ use Rattle.fq_tally.specs.Columns.{columns_plus}
 use Rattle.fq_tally.proofs.ColumnLemmas.{columns_empty, counted_next}
 use Rattle.fq_tally.proofs.columns.Columns.count.Goals as goal
 
+-- at first the columns have grown as far as the place of the first base, and no base is counted
 pub loop-i-init : goal.loop-i-init
 loop-i-init c =
     record {
@@ -10,6 +11,7 @@ loop-i-init c =
           (columns_empty c.args.at c.min-rows.result c.args.encoding c.min-rows.ensures);
     }
 
+-- after base i is counted, the first i + 1 are
 pub loop-i-preserved : goal.loop-i-preserved
 loop-i-preserved c =
     let few = c.requires.few in

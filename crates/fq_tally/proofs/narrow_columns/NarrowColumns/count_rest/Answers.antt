@@ -7,6 +7,7 @@ use Rattle.fq_tally.specs.Counting.{is_lane}
 use Rattle.fq_tally.proofs.LaneLemmas.{lanes_in_front, lanes_then_none, rest_in_last, rest_in_first}
 use Rattle.fq_tally.proofs.narrow_columns.NarrowColumns.count_rest.Goals as goal
 
+-- zeros, and then the last quality bytes, are valid lanes
 pub add_vector-requires-clause-lanes : goal.add_vector-requires-clause-lanes
 add_vector-requires-clause-lanes c =
     let e = c.args.encoding in
@@ -19,6 +20,7 @@ add_vector-requires-clause-lanes c =
     ∙ ap (λ xs. replicate k 0 ++ drop k xs) (take_rest qual start))
     ∙ lanes_in_front e k (drop k (drop start qual)) all
 
+-- the last quality bytes, and then zeros, are valid lanes
 pub add_vector-requires-else-seq-ge-WIDTH-clause-lanes : goal.add_vector-requires-else-seq-ge-WIDTH-clause-lanes
 add_vector-requires-else-seq-ge-WIDTH-clause-lanes c =
     let e = c.args.encoding in
@@ -29,6 +31,7 @@ add_vector-requires-else-seq-ge-WIDTH-clause-lanes c =
     ∙ ap (λ (xs : List ℕ). xs ++ replicate (32 - length xs) 0) (take_rest qual from))
     ∙ lanes_then_none e (32 - length (drop from qual)) (drop from qual) all
 
+-- of bases that fill a vector or more, the rest is counted from its last lanes
 pub returns-then-seq-ge-WIDTH : goal.returns-then-seq-ge-WIDTH
 returns-then-seq-ge-WIDTH c =
     let seq = c.args.seq.now in
@@ -45,6 +48,7 @@ returns-then-seq-ge-WIDTH c =
     (c.last_of-bytes.ensures.lanes ∙ ap (λ xs. replicate k 0 ++ drop k xs) (take_rest qual start))
     c.requires.same c.requires.near some c.requires.scored c.add_vector.ensures
 
+-- of fewer bases, the rest is counted from the first lanes
 pub returns-else-seq-ge-WIDTH : goal.returns-else-seq-ge-WIDTH
 returns-else-seq-ge-WIDTH c =
     let seq = c.args.seq.now in

@@ -1,6 +1,7 @@
 use Rattle.std.proofs.Common.{◌≡◌, ◌≤◌, ◌<◌, ℕ, length, get_or}
 use Rattle.fq_tally.proofs.narrow_rows.ByteRows.clear.Given as goal
 
+-- the first i rows count 0, and those after them are as they were
 abbrev pub invariant-loop-i : goal.invariant-loop-i
 invariant-loop-i l = record {
   size : length l.self-inside.counts.items ≡ length l.fn.self;

@@ -4,6 +4,7 @@ use Rattle.fq_tally.specs.Counting.{first_rows}
 use Rattle.fq_tally.proofs.ColumnLemmas.{columns_both}
 use Rattle.fq_tally.proofs.positions.Positions.add_all.Goals as goal
 
+-- the columns grow by all that the other counter has counted
 pub returns : goal.returns
 returns c =
     let totals = c.self.inside.totals in

@@ -4,6 +4,7 @@ use Rattle.fq_tally.specs.Counting.{first_rows}
 use Rattle.fq_tally.proofs.ColumnLemmas.{columns_assoc}
 use Rattle.fq_tally.proofs.positions.Positions.add_to.Goals as goal
 
+-- these columns grow by all that the counter has counted
 pub returns : goal.returns
 returns c =
     let totals = c.self.inside.totals in

@@ -5,6 +5,7 @@ use Rattle.fq_tally.specs.Packing.{columns_in}
 use Rattle.fq_tally.proofs.ColumnLemmas.{columns_swap}
 use Rattle.fq_tally.proofs.positions.Positions.add_unread.Goals as goal
 
+-- the columns grow by those of the next tables
 pub returns-clause-added : goal.returns-clause-added
 returns-clause-added c =
     let totals = c.self.inside.totals in

@@ -5,6 +5,7 @@ use Rattle.fq_tally.proofs.ColumnLemmas.{columns_swap, columns_none}
 use Rattle.fq_tally.proofs.LaneLemmas.{few_weaker, read_added, read_few}
 use Rattle.fq_tally.proofs.positions.Positions.count.Goals as goal
 
+-- a read that ends after the last position of `few` is added to the totals
 pub returns-then-end-self : goal.returns-then-end-self
 returns-then-end-self c =
     let totals = c.self.inside.totals in
@@ -13,6 +14,7 @@ returns-then-end-self c =
     ap (λ x. columns_plus x few) c.count.ensures ∙ columns_swap totals read few
     ∙ ap (λ x. columns_plus x read) c.self.view_is
 
+-- when the counts of a few reads are moved, they are such as 254 reads can give
 pub empty-requires-clause-few : goal.empty-requires-clause-few
 empty-requires-clause-few c =
     let reached = c.self.inside.reached in
@@ -33,6 +35,7 @@ empty-requires-clause-few c =
     (subst (λ n. AreFew (c.self.inside.last + 32) n (reads + 1) new)
     (sym c.max-self-inside.ensures) more) (omega arith) (omega arith) (omega arith)
 
+-- with one more read, as long as they are fewer than 254, there is room for a further one
 pub invariant_of-self-else-self-eq-MOST_READS : goal.invariant_of-self-else-self-eq-MOST_READS
 invariant_of-self-else-self-eq-MOST_READS c =
     let reached = c.self.inside.reached in
@@ -56,6 +59,7 @@ invariant_of-self-else-self-eq-MOST_READS c =
       room = omega (arith, c.if-self-eq-MOST_READS.false);
     }
 
+-- after the counts of 254 reads are moved, there is room for a few again
 pub invariant_of-self-then-self-eq-MOST_READS : goal.invariant_of-self-then-self-eq-MOST_READS
 invariant_of-self-then-self-eq-MOST_READS c =
     let reached = c.self.inside.reached in
@@ -81,6 +85,7 @@ invariant_of-self-then-self-eq-MOST_READS c =
       room = omega arith;
     }
 
+-- the read is counted, and moved to the totals with the few reads before it
 pub returns-then-self-eq-MOST_READS : goal.returns-then-self-eq-MOST_READS
 returns-then-self-eq-MOST_READS c =
     let last_near = c.self.invariant.near in
@@ -101,6 +106,7 @@ returns-then-self-eq-MOST_READS c =
     (omega arith) c.count-2.ensures c.requires.same refl (omega arith) c.requires.scored
     ∙ ap (λ x. columns_plus x read) c.self.view_is
 
+-- the read is counted among the few reads
 pub returns-else-self-eq-MOST_READS : goal.returns-else-self-eq-MOST_READS
 returns-else-self-eq-MOST_READS c =
     let last_near = c.self.invariant.near in

@@ -4,12 +4,14 @@ use Rattle.fq_tally.specs.Packing.{columns_tables}
 use Rattle.fq_tally.proofs.LaneLemmas.{emptied}
 use Rattle.fq_tally.proofs.positions.Positions.pack.Goals as goal
 
+-- after the counts of a few reads are moved, there is room for a few again
 pub invariant_of-self : goal.invariant_of-self
 invariant_of-self c =
     let old = c.self.inside in
     emptied old.narrow c.empty.new.narrow old.last old.reached old.reads c.self.invariant
     c.empty.ensures.none
 
+-- the tables are those of all that was counted
 pub returns : goal.returns
 returns c =
     let same = c.empty.ensures.moved ∙ c.self.view_is in

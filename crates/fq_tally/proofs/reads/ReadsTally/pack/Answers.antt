@@ -3,6 +3,7 @@ use Rattle.fq_tally.specs.Packing.{bases_tables}
 use Rattle.fq_tally.proofs.PackingLemmas.{reads_packed}
 use Rattle.fq_tally.proofs.reads.ReadsTally.pack.Goals as goal
 
+-- the tables are those of the counts of the reads, in their order
 pub returns : goal.returns
 returns c =
     let t = c.args.self.now in

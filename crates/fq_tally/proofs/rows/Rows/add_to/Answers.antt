@@ -6,6 +6,7 @@ use Rattle.fq_tally.proofs.RowLemmas.{length-rows_plus}
 use Rattle.fq_tally.proofs.ColumnLemmas.{more_at}
 use Rattle.fq_tally.proofs.rows.Rows.add_to.Goals as goal
 
+-- the row can be read, since the rows have grown
 pub index-requires : goal.index-requires
 index-requires c =
     let view = c.self.view_is in
@@ -19,6 +20,7 @@ index-requires c =
           ℕ} (c.args.row + 1) 0,
     )
 
+-- the row can be written, since the rows have grown
 pub index_mut-requires : goal.index_mut-requires
 index_mut-requires c =
     let view = c.self.view_is in
@@ -32,6 +34,7 @@ index_mut-requires c =
           ℕ} (c.args.row + 1) 0,
     )
 
+-- the count is added to its row, and new rows before it count 0
 pub returns : goal.returns
 returns c =
     let xs = c.args.self.now in

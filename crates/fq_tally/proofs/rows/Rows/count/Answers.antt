@@ -4,6 +4,7 @@ use Rattle.fq_tally.proofs.RowLemmas.{counted_at, counted_behind}
 use Rattle.fq_tally.proofs.rows.Rows.count.Goals as goal
 use Rattle.fq_tally.proofs.rows.Rows.count.Goals.{then-len-row, else-len-row}
 
+-- the number is counted once more, in a row that was there or in one that was appended
 pub returns : goal.returns
 returns c =
     let xs = c.args.self.now in

@@ -4,6 +4,7 @@ use Rattle.std.proofs.lemmas.List.{take_all}
 use Rattle.fq_tally.proofs.ColumnLemmas.{Small, grown_behind, grown_within}
 use Rattle.fq_tally.proofs.rows.Rows.grow.Goals as goal
 
+-- if there are fewer rows, rows that count 0 are appended
 pub returns-then-length_of-rows : goal.returns-then-length_of-rows
 returns-then-length_of-rows c =
     let xs = c.args.self.now in
@@ -21,6 +22,7 @@ returns-then-length_of-rows c =
     ∙ take_all rows xs (omega arith)) (ap (λ n. rows - n) own)
     ∙ grown_behind xs rows (rows - length xs) small (omega arith)
 
+-- if there are as many rows or more, they are the same
 pub returns-else-length_of-rows : goal.returns-else-length_of-rows
 returns-else-length_of-rows c =
     let xs = c.args.self.now in

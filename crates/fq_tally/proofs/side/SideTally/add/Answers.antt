@@ -27,11 +27,13 @@ counted_course read steps p old new is new_is =
     } in
     new_is ∙ ap two is
 
+-- the kept places lie within the read
 pub add_survivor-requires : goal.add_survivor-requires
 add_survivor-requires c = kept_within_read c.args.steps.now c.args.read.now (Some c.in-Some.kept)
     c.title.ensures.lawful.same_len (sym (c.in-Some.ensures.kept
     ∙ ap (λ (p : Passage). p.kept) c.requires))
 
+-- a read that keeps bases is counted with its course
 pub returns-in-Some-clause-added : goal.returns-in-Some-clause-added
 returns-in-Some-clause-added c =
     let read = c.args.read.now in
@@ -53,6 +55,7 @@ returns-in-Some-clause-added c =
     (with_step_counts t old)) (counted_course read steps c.args.trimmed.now old.steps
     c.add.new.self c.requires c.add.ensures)
 
+-- a read that keeps no base is counted with its course
 pub returns-in-None-clause-added : goal.returns-in-None-clause-added
 returns-in-None-clause-added c =
     let read = c.args.read.now in

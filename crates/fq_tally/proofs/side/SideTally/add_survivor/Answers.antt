@@ -24,16 +24,19 @@ row_is : {now new : List ℕ} {number : ℕ} (old : List ℕ) (counted_number : 
     number ≡ counted_number → new ≡ counted number now → new ≡ counted counted_number old
 row_is old counted_number is number_is new_is = cc
 
+-- the whole read has no more bases than a valid read can have
 pub add-requires-clause-few : goal.add-requires-clause-few
 add-requires-clause-few c =
     (few_bases (whole c.args.read.now) c.whole_bases-whole.result c.whole_bases-whole.ensures
     c.title.ensures.lawful.seq_fits).0
 
+-- the bases G or C of the whole read are no more than its bases
 pub add-requires-clause-among : goal.add-requires-clause-among
 add-requires-clause-among c =
     (few_bases (whole c.args.read.now) c.whole_bases-whole.result c.whole_bases-whole.ensures
     c.title.ensures.lawful.seq_fits).1
 
+-- if the mate survives, the counts of what is left are those of a read of its length
 pub add-requires-then-mate_survives : goal.add-requires-then-mate_survives
 add-requires-then-mate_survives c =
     let left = c.kept_bases-left in
@@ -41,6 +44,7 @@ add-requires-then-mate_survives c =
     c.title.ensures.lawful.seq_fits in
     record { length = counts.0; few = counts.1.0; among = counts.1.1 }
 
+-- if the mate is dropped, the counts of what is left are those of a read of its length
 pub add-requires-else-mate_survives : goal.add-requires-else-mate_survives
 add-requires-else-mate_survives c =
     let left = c.kept_bases-left in
@@ -48,6 +52,7 @@ add-requires-else-mate_survives c =
     c.title.ensures.lawful.seq_fits in
     record { length = counts.0; few = counts.1.0; among = counts.1.1 }
 
+-- the read is counted: whole, what is left by whether its mate survives, and what was removed
 pub returns : goal.returns
 returns c =
     let read = c.args.read.now in

@@ -2,6 +2,7 @@ use Rattle.std.proofs.Common.{refl}
 use Rattle.fq_tally.proofs.SideLemmas.{parts_are}
 use Rattle.fq_tally.proofs.side.SideTally.new.Goals as goal
 
+-- a new tally of a side counts no reads
 pub returns : goal.returns
 returns c =
     parts_are c.in_ok-before.ensures c.in_ok-paired.ensures c.in_ok-unpaired.ensures refl refl

@@ -5,6 +5,7 @@ use Rattle.fq_tally.specs.SideColumns.{SideColumns, side_columns_plus}
 use Rattle.fq_tally.proofs.SideColumnLemmas.{side_of, side_of_both}
 use Rattle.fq_tally.proofs.side_positions.SidePositions.add_all.Goals as goal
 
+-- the columns of other reads are added, each of the five counters to its own
 pub returns : goal.returns
 returns c =
     let p = c.self.inside in

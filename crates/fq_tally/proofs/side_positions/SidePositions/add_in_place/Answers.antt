@@ -8,6 +8,7 @@ use Rattle.fq_tally.proofs.side_positions.SidePositions.add_in_place.Goals as go
 abbrev both : Columns → Bool → SideColumns → SideColumns
 both x mate_survives t = with_before x (with_after x mate_survives t)
 
+-- if the mate survives, the bases are counted as they were read and as left with a mate
 pub returns-then-mate_survives : goal.returns-then-mate_survives
 returns-then-mate_survives c =
     let p = c.self.inside in
@@ -20,6 +21,7 @@ returns-then-mate_survives c =
     ∙ ap (both x true) c.self.view_is
     ∙ ap (λ (b : Bool). both x b c.args.self.now) (sym c.if-mate_survives.true)
 
+-- if the mate is dropped, the bases are counted as they were read and as left alone
 pub returns-else-mate_survives : goal.returns-else-mate_survives
 returns-else-mate_survives c =
     let p = c.self.inside in

@@ -5,6 +5,7 @@ use Rattle.fq_tally.specs.SideColumns.{with_after}
 use Rattle.fq_tally.proofs.SideColumnLemmas.{side_of, paired_moved_more, unpaired_moved_more}
 use Rattle.fq_tally.proofs.side_positions.SidePositions.add_moved.Goals as goal
 
+-- if the mate survives, the bases are counted as left with a mate
 pub returns-then-mate_survives : goal.returns-then-mate_survives
 returns-then-mate_survives c =
     let p = c.self.inside in
@@ -17,6 +18,7 @@ returns-then-mate_survives c =
     ∙ ap (with_after x true) c.self.view_is
     ∙ ap (λ (b : Bool). with_after x b c.args.self.now) (sym c.if-mate_survives.true)
 
+-- if the mate is dropped, the bases are counted as left alone
 pub returns-else-mate_survives : goal.returns-else-mate_survives
 returns-else-mate_survives c =
     let p = c.self.inside in

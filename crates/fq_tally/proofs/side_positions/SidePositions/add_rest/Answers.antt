@@ -5,6 +5,7 @@ use Rattle.fq_tally.specs.SideColumns.{with_before}
 use Rattle.fq_tally.proofs.SideColumnLemmas.{side_of, rest_more}
 use Rattle.fq_tally.proofs.side_positions.SidePositions.add_rest.Goals as goal
 
+-- the bases are counted as they were read
 pub returns : goal.returns
 returns c =
     let p = c.self.inside in

@@ -9,24 +9,28 @@ use Rattle.fq_tally.proofs.SideLemmas.{kept_part}
 use Rattle.fq_tally.proofs.SideColumnLemmas.{between_are_bases, kept_are_bases, in_place, survivor_columns, cut_columns, all_columns}
 use Rattle.fq_tally.proofs.side_positions.SidePositions.add_survivor.Goals as goal
 
+-- what is left of a read that lost bases at its start has a score for each base
 pub add_moved-requires : goal.add_moved-requires
 add_moved-requires c =
     kept_are_bases c.args.read.now c.args.kept c.encoding-encoding.result c.seq-seq.result.now
     c.qual-qual.result.now c.title.ensures.lawful c.encoding-encoding.ensures
     c.seq-seq.ensures c.qual-qual.ensures c.requires
 
+-- what is left of a read that lost bases only at its end has a score for each base
 pub add_in_place-requires : goal.add_in_place-requires
 add_in_place-requires c =
     kept_are_bases c.args.read.now c.args.kept c.encoding-encoding.result c.seq-seq.result.now
     c.qual-qual.result.now c.title.ensures.lawful c.encoding-encoding.ensures
     c.seq-seq.ensures c.qual-qual.ensures c.requires
 
+-- a read that lost nothing has a score for each base
 pub add_in_place-requires-else-stop-seq : goal.add_in_place-requires-else-stop-seq
 add_in_place-requires-else-stop-seq c =
     kept_are_bases c.args.read.now c.args.kept c.encoding-encoding.result c.seq-seq.result.now
     c.qual-qual.result.now c.title.ensures.lawful c.encoding-encoding.ensures
     c.seq-seq.ensures c.qual-qual.ensures c.requires
 
+-- the bases lost at the end of a read are in place there, each with a score
 pub add_rest-requires-then-stop-seq : goal.add_rest-requires-then-stop-seq
 add_rest-requires-then-stop-seq c =
     let k = c.args.kept in
@@ -41,6 +45,7 @@ add_rest-requires-then-stop-seq c =
     c.title.ensures.lawful c.encoding-encoding.ensures c.seq-seq.ensures c.qual-qual.ensures
     (omega arith) (omega arith))
 
+-- a read that lost bases at its start is counted whole, and what is left after trimming
 pub returns-then-start-gt0 : goal.returns-then-start-gt0
 returns-then-start-gt0 c =
     let read = c.args.read.now in
@@ -68,6 +73,7 @@ returns-then-start-gt0 c =
     (ap columns_of read_is)
     ∙ sym (survivor_columns read k mate_survives old)
 
+-- a read that lost bases only at its end is counted: the lost ones, and the others in place
 pub returns-then-stop-seq : goal.returns-then-stop-seq
 returns-then-stop-seq c =
     let read = c.args.read.now in
@@ -97,6 +103,7 @@ returns-then-stop-seq c =
     x_is
     ∙ sym (survivor_columns read k mate_survives old)
 
+-- a read that lost nothing is counted: all of its bases in place
 pub returns-else-stop-seq : goal.returns-else-stop-seq
 returns-else-stop-seq c =
     let read = c.args.read.now in

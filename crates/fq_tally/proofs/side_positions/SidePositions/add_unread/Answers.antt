@@ -6,6 +6,7 @@ use Rattle.fq_tally.specs.Packing.{columns_in, column_count, side_columns_in, la
 use Rattle.fq_tally.proofs.SideColumnLemmas.{side_of, side_more}
 use Rattle.fq_tally.proofs.side_positions.SidePositions.add_unread.Goals as goal
 
+-- the columns of the next tables are added, as of reads that lost bases at their start
 pub returns-clause-added : goal.returns-clause-added
 returns-clause-added c =
     let p = c.self.inside in

@@ -5,6 +5,7 @@ use Rattle.fq_tally.specs.SideColumns.{SideColumns}
 use Rattle.fq_tally.proofs.ColumnLemmas.{columns_assoc}
 use Rattle.fq_tally.proofs.side_positions.SidePositions.before.Goals as goal
 
+-- three counters together are the columns of all bases as they were read
 pub returns : goal.returns
 returns c =
     let p = c.self.inside in

@@ -4,6 +4,7 @@ use Rattle.fq_tally.specs.Columns.{no_columns}
 use Rattle.fq_tally.proofs.SideColumnLemmas.{side_of}
 use Rattle.fq_tally.proofs.side_positions.SidePositions.clear.Goals as goal
 
+-- five cleared counters are the columns of no reads
 pub returns : goal.returns
 returns c =
     ap (λ (x : Columns). side_of x c.clear-2.new.self c.clear-3.new.self c.clear-4.new.self

@@ -4,6 +4,7 @@ use Rattle.fq_tally.specs.Columns.{no_columns}
 use Rattle.fq_tally.proofs.SideColumnLemmas.{side_of}
 use Rattle.fq_tally.proofs.side_positions.SidePositions.new.Goals as goal
 
+-- five new counters are the columns of no reads
 pub returns : goal.returns
 returns c =
     ap (λ (x : Columns). side_of x c.in_ok-unpaired.unpaired.value c.in_ok-rest.rest.value

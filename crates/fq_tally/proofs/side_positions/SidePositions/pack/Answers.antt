@@ -5,6 +5,7 @@ use Rattle.fq_tally.proofs.ColumnLemmas.{columns_assoc, columns_comm}
 use Rattle.fq_tally.proofs.PackingLemmas.{three_packed}
 use Rattle.fq_tally.proofs.side_positions.SidePositions.pack.Goals as goal
 
+-- the tables are those of the three sums: as read, left with a mate, left alone
 pub returns : goal.returns
 returns c =
     let p = c.self.inside in

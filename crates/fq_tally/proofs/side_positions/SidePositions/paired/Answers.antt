@@ -4,6 +4,7 @@ use Rattle.fq_tally.specs.Columns.{columns_plus}
 use Rattle.fq_tally.specs.SideColumns.{SideColumns}
 use Rattle.fq_tally.proofs.side_positions.SidePositions.paired.Goals as goal
 
+-- two counters together are the columns of what is left of reads that survive with their mate
 pub returns : goal.returns
 returns c =
     let p = c.self.inside in

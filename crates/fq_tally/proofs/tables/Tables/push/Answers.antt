@@ -2,6 +2,7 @@ use Rattle.std.proofs.Common.{◌∷◌, [], ◌++◌, length, refl, ap, ◌∙�
 use Rattle.fq_tally.proofs.PackedLemmas.{head_of, pushed_whole, pushed_tables}
 use Rattle.fq_tally.proofs.tables.Tables.push.Goals as goal
 
+-- with one more table, the lists still hold all rows of each table, and no more
 pub invariant_of-self-2 : goal.invariant_of-self-2
 invariant_of-self-2 c =
     let old = c.self.inside in
@@ -15,6 +16,7 @@ invariant_of-self-2 c =
     c.self.invariant heads c.in_ok-width.ensures.bytes c.in_ok-width.ensures.words
     c.in_ok-width.ensures.longs refl c.requires
 
+-- the counts are one more table after the others
 pub returns : goal.returns
 returns c =
     let old = c.self.inside in

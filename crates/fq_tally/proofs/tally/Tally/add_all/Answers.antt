@@ -5,6 +5,7 @@ use Rattle.fq_tally.specs.Tallies.{side_plus, tally_of, plus}
 use Rattle.fq_tally.proofs.PlusLaws.{tally_of-append}
 use Rattle.fq_tally.proofs.tally.Tally.add_all.Goals as goal
 
+-- the tallies of two lists of pairs add up to that of one list after the other
 pub returns-clause-cut : goal.returns-clause-cut
 returns-clause-cut c lists front behind mine others =
     let two : SideTally → SideTally → Tally = λ f r. record { forward = f; reverse = r } in

@@ -16,6 +16,7 @@ found : (steps : List Step) (read : Read) (p : Passage) (b : Bool) →
 found steps read p b same is found_is = found_is ∙ ap (λ (q : Passage). not (is_empty q.kept)) is
     ∙ sym (survives_as_kept steps read same)
 
+-- each mate is counted with its course, and with whether the other one survives
 pub returns : goal.returns
 returns c =
     let two : SideTally → SideTally → Tally = λ f r. record { forward = f; reverse = r } in

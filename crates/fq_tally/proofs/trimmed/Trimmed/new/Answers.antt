@@ -12,6 +12,7 @@ use Rattle.fq_tally.proofs.CourseLemmas.{cut, places_kept, places_dropped, cut_k
 use Rattle.fq_tally.proofs.trimmed.Trimmed.new.Goals as goal
 use Rattle.fq_tally.proofs.trimmed.Trimmed.new.Goals.{then-kept-stop, else-kept-stop}
 
+-- each quality byte of what is left has a score
 pub trim_at-requires-clause-scored : goal.trim_at-requires-clause-scored
 trim_at-requires-clause-scored c =
     let read = c.args.read.now in
@@ -21,6 +22,7 @@ trim_at-requires-clause-scored c =
     c.title.ensures.lawful.scores) in
     rw (c.encoding-encoding.ensures, c.qual-qual.ensures) all
 
+-- after a step that keeps bases, the steps to come complete what all do to the whole
 pub loop-number-preserved : goal.loop-number-preserved
 loop-number-preserved c =
     let read = c.args.read.now in
