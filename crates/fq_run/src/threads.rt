@@ -90,7 +90,7 @@ fn start<
     let Ready {
         starter,
         ends,
-        mut hands,
+        hands,
         worked,
         total,
         replies,
@@ -98,14 +98,17 @@ fn start<
     let Some(dealer) = start_dealer(alloc, rt, settings, dealer) else {
         return Conclusion::unstarted(total, None);
     };
-    if !start_workers(alloc, rt, settings, gate, ends, &mut hands) {
-        // The start lane is closed without an item, so the dealer reads nothing, and closes its
-        // lanes, which ends the workers that were started.
-        let _ = starter.close();
-        let source = dealer.join(rt).into_unread();
-        let _ = join_workers(rt, hands, worked);
-        return Conclusion::unstarted(total, source);
-    }
+    let hands = match start_workers(alloc, rt, settings, gate, ends, hands) {
+        Ok(hands) => hands,
+        Err(started) => {
+            // The start lane is closed without an item, so the dealer reads nothing, and closes its
+            // lanes, which ends the workers that were started.
+            let _ = starter.close();
+            let source = dealer.join(rt).into_unread();
+            let _ = join_workers(rt, started, worked);
+            return Conclusion::unstarted(total, source);
+        }
+    };
     let crew = Crew {
         starter,
         dealer,

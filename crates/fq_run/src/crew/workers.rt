@@ -1,6 +1,6 @@
 //! Starts the workers, and waits for them.
 
-ghost use Rattle.std.specs.Prelude.{◌≡◌, ◌≤◌, [], IfSome, IsTrue, vec_len, vec_capacity};
+ghost use Rattle.std.specs.Prelude.{◌≡◌, ◌≤◌, [], IfSome, IfOk, IfErr, vec_len, vec_capacity};
 ghost use Rattle.std.specs.List.{AllZip};
 ghost use Rattle.fq_run.specs.crew.Workers.{Seated, Joined};
 
@@ -13,30 +13,33 @@ use std::sync::{Arc, Wait};
 use std::thread;
 use std::thread::{PromisedHandle, Threads};
 
-/// Starts a worker for each seat. Returns false if one was refused.
+/// Starts a worker for each seat, and returns their handles. If one was refused, returns the handles
+/// of those that were started before it.
 pub(crate) fn start_workers<R: Threads + Wait + Copy + Send + 'static, H: Gate + 'static>(
     alloc: Global,
     rt: &R,
     settings: &Settings,
     gate: &Arc<H>,
     seats: Vec<WorkEnds>,
-    hands: &mut Vec<PromisedHandle<Worked, Job>>,
-) -> bool
-    requires { (hands.old.items ≡ []) × (vec_len seats ≤ vec_capacity hands.old) }
-    ensures all { IsTrue result
-        → AllZip (Seated settings.now.tallied settings.now.steps) seats.items hands.new.items }
-    ensures few { vec_len hands.new ≤ vec_len seats }
+    hands: Vec<PromisedHandle<Worked, Job>>,
+) -> Result<Vec<PromisedHandle<Worked, Job>>, Vec<PromisedHandle<Worked, Job>>>
+    requires { (hands.items ≡ []) × (vec_len seats ≤ vec_capacity hands) }
+    ensures all { IfOk result (λ hands.
+        AllZip (Seated settings.now.tallied settings.now.steps) seats.items hands.items) }
+    ensures few { (IfOk result (λ hands. vec_len hands ≤ vec_len seats))
+        × (IfErr result (λ started. vec_len started ≤ vec_len seats)) }
 {
+    let mut hands = hands;
     for ends in seats {
         let Ok(gate) = Arc::try_clone(gate) else {
-            return false;
+            return Err(hands);
         };
         let Some(hand) = start_worker(alloc, rt, settings, gate, ends) else {
-            return false;
+            return Err(hands);
         };
         hands.push_reserved(hand);
     }
-    true
+    Ok(hands)
 }
 
 // Starts one worker. Returns `None` if its thread was refused.

@@ -31,8 +31,8 @@ returns-in_default g c =
     }) (λ gone. refl, λ gone. refl))
 
 -- if a worker is refused, nothing is written, and feeds that are handed back are as they were
-pub returns-then-not-start_workers : goal.returns-then-not-start_workers
-returns-then-not-start_workers g c =
+pub returns-in-Err : goal.returns-in-Err
+returns-in-Err g c =
     let s = g.S.PairReader in let o = g.O.Outlet in
     let states = outlet_states o.state in
     let P : Conclusion g.row.S.Denot → Type 0 =
@@ -42,7 +42,7 @@ returns-then-not-start_workers g c =
     let back = unread s.state (s.state c.args.dealer.source) left
     (idle s.state _ _ _ _ _ _ _ _ _ c.join.result.source left
     (ap s.state c.in-Some.ensures.source) refl c.join.ensures c.into_unread-source.ensures) in
-    subst P (sym c.unstarted-then-not-start_workers.ensures)
+    subst P (sym c.unstarted-in-Err.ensures)
     (unstarted _ _ refl (ap (λ (t : Total). t.counts) c.requires.total)
     (ap (λ (t : Total). t.tally) c.requires.total) (record {
       outlets = refl;
