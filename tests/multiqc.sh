@@ -39,26 +39,14 @@ shows() {
 
 bash "$tree/packaging/install.sh" "$program" "$work/installed" || exit 1
 mkdir -p lab/b lab/other
-for kind in plain long small none; do python3 "$tree/tests/report_page/count.py" "$kind" "lab/$kind.json" || exit 1; done
+for kind in plain long small none; do python3 "$tree/tests/count.py" "$kind" "lab/$kind.json" || exit 1; done
 draw_lane a 1 300
 head -n 900 a_2.fq > short_2.fq
 outputs=(fp.fq fu.fq rp.fq ru.fq)
 "$program" PE --report lab/b/two.json a_1.fq a_2.fq "${outputs[@]}" LEADING:3 TRAILING:3 SLIDINGWINDOW:4:15 MINLEN:36 > /dev/null || fail "status $?"
 "$program" PE --report lab/cut.json a_1.fq short_2.fq "${outputs[@]}" MINLEN:36 > /dev/null 2> fault
 [ $? -eq 3 ] || fail 'there is no report of a run that stopped'
-# A report of the form before, which lacks the bases by position, and the reads by mean score, by G
-# and C and by removed bases.
-python3 - << 'PYTHON'
-import json
-report = json.load(open("lab/b/two.json", encoding="utf-8"))
-del report["schema"]
-for side in report["reads"].values():
-    del side["removed_front"], side["removed_behind"]
-    for part in ("before", "paired", "unpaired"):
-        del side[part]["positions"], side[part]["mean_scores"], side[part]["gc_percents"]
-with open("lab/older.json", "w", encoding="utf-8") as out:
-    json.dump(report, out, separators=(",", ":"))
-PYTHON
+python3 "$tree/tests/older.py" lab/b/two.json lab/older.json || exit 1
 
 row='without the plugin'
 multiqc --filename page.html lab > told 2>&1

@@ -54,13 +54,9 @@ trim() {
 }
 
 row='the syntax of Python 3.6'
-python3 - "$script" "$tree"/contrib/{tibzharuk_report.py,report_to_html_parts/*.py} << 'END' || fail 'a file has newer syntax'
-import ast, sys
-for path in sys.argv[1:]:
-    ast.parse(open(path, encoding="utf-8").read(), path, feature_version=(3, 6))
-END
+check syntax "$script" "$tree"/contrib/{tibzharuk_report.py,report_to_html_parts/*.py} || fail 'a file has newer syntax'
 row='a link, and a copy without its parts'
-python3 "$tree/tests/report_page/count.py" small small.json || exit 1
+python3 "$tree/tests/count.py" small small.json || exit 1
 mkdir links
 ln -s "$script" links/tibzharuk-report
 links/tibzharuk-report small.json | cmp - <("$script" small.json) || fail 'a link makes another page'
@@ -70,33 +66,16 @@ cp "$script" links/alone
 
 # (The page of `longest` has mean lengths of five digits. Those of `alike` have one number each.)
 for kind in plain long longest small one alike other none; do
-  python3 "$tree/tests/report_page/count.py" "$kind" "$kind.json" || exit 1
+  python3 "$tree/tests/count.py" "$kind" "$kind.json" || exit 1
   drawn "$kind"
 done
 row='10,001 positions'
-python3 - << 'END' || fail 'the slow count has fewer'
-import json
-reads = json.load(open("long.json", encoding="utf-8"))["reads"]
-assert all(len(reads[side]["before"]["positions"]["bases"]) == 10_001 for side in reads)
-END
+check positions long.json || fail 'the slow count has fewer'
 [ "$(wc -c < long.html)" -lt 2000000 ] || fail 'the page is too large'
 
 # Reports of the program: two files and one, no reads, a fault, names that must be escaped, and
 # scores that are too high.
-python3 - << 'END'
-import random
-random.seed(7)
-with open("r1.fq", "w") as one, open("r2.fq", "w") as two:
-    for number in range(200):
-        for side, file in (1, one), (2, two):
-            bases, bad = random.randint(60, 101), random.choice((0, 0, 0, 5, 20, 70))
-            score = ("?" * max(bases - bad, 0) + "#" * bases)[:bases]
-            file.write("@p%d/%d\n%s\n+\n%s\n" % (number, side, "".join(random.choices("ACGTN", k=bases)), score))
-for name, score in ("high", "T"), ("even", "S"):
-    for side in 1, 2:
-        with open(f"{name}{side}.fq", "w") as file:
-            file.write(f"@p\nACGT\n+\n{4 * score}\n" * 40)
-END
+python3 "$tree/tests/report_page/draw.py" || exit 1
 head -n 790 r2.fq > short.fq
 paste -d '\n' <(paste - - - - < r1.fq) <(paste - - - - < r2.fq) | tr '\t' '\n' > both.fq
 : > none1.fq
@@ -113,22 +92,11 @@ trim 0 high.json PE high1.fq high2.fq "${outputs[@]}" MINLEN:3
 trim 0 even.json PE even1.fq even2.fq "${outputs[@]}" MINLEN:3
 trim 3 fault.json PE r1.fq short.fq "${outputs[@]}" MINLEN:36
 for name in two one gone no_reads names high even fault; do drawn "$name"; done
-# A report of the form before, which lacks the bases by position, and the reads by mean score, by G
-# and C and by removed bases.
-python3 - << 'END'
-import json
-report = json.load(open("two.json", encoding="utf-8"))
-del report["schema"]
-for side in report["reads"].values():
-    del side["removed_front"], side["removed_behind"]
-    for part in ("before", "paired", "unpaired"):
-        del side[part]["positions"], side[part]["mean_scores"], side[part]["gc_percents"]
-json.dump(report, open("older.json", "w", encoding="utf-8"))
-END
+python3 "$tree/tests/older.py" two.json older.json || exit 1
 drawn older
 
 row='the page of a sum of lanes'
-python3 "$tree/tests/report_page/count.py" lane lane.json || exit 1
+python3 "$tree/tests/count.py" lane lane.json || exit 1
 "$tree/contrib/report_sum" plain.json lane.json > lanes.json || fail "status $?"
 "$script" --lane L001 plain.json --lane 'L<2' lane.json lanes.json > lanes.html || fail "status $?"
 check page lanes.json lanes.html || fail 'it is not that of the sum'
@@ -136,7 +104,7 @@ grep -qF '<th scope="row">L&lt;2</th><td>20</td>' lanes.html || fail 'it lacks a
 row='a sum that is larger than a count can be'
 sed 's/"score_sum":[0-9]*,/"score_sum":18446744073709551615,/' plain.json > most.json
 "$tree/contrib/report_sum" most.json lane.json > sum.json || fail "status $?"
-python3 -c 'import json; assert json.load(open("sum.json"))["reads"]["forward"]["before"]["score_sum"] == 2**64 - 1' || fail 'it is another number'
+[ "$(grep -oE '"score_sum":[0-9]+' sum.json | head -n 1)" = '"score_sum":18446744073709551615' ] || fail 'it is another number'
 row='reports that do not belong together'
 # apart LINE WORDS..: these words end with status 1 and that line alone
 apart() {

@@ -122,11 +122,7 @@ fi
 
 row='the memory of a stream'
 for name in f r; do for _ in {1..80}; do cat "$name"; done > "$name.large"; done
-(cd "$work" && PATH=$tools python3 -c '
-import resource, subprocess, sys
-status = subprocess.call(sys.argv[1:])
-print(resource.getrusage(resource.RUSAGE_CHILDREN).ru_maxrss)
-sys.exit(status)' "$script" --program "$program" -1 data/f.large -2 data/r.large --paired1 /dev/null --paired2 /dev/null --no-unpaired --trimlog /dev/stdout -- MINLEN:1) \
+(cd "$work" && PATH=$tools python3 "$tree/tests/trim_gz/check.py" memory "$script" --program "$program" -1 data/f.large -2 data/r.large --paired1 /dev/null --paired2 /dev/null --no-unpaired --trimlog /dev/stdout -- MINLEN:1) \
   2> "$work/told" > "$work/printed" || fail "it fails: $(cat "$work/told")"
 kilobytes=$(tail -n 1 "$work/printed")
 [ "$kilobytes" -lt 100000 ] || fail "$kilobytes kB of memory, for a stream of $(stat -c %s "$work/printed") bytes"

@@ -3,8 +3,11 @@
     check.py page REPORT PAGE   the page has the numbers of its report, and loads and runs nothing
     check.py hostile SCRIPT REPORT   no text of a report becomes markup
     check.py changed SCRIPT REPORT   each change at one place gives a page or a refusal
+    check.py positions REPORT   the report counts 10,001 positions, the most that are counted
+    check.py syntax FILE..   the files are programs of Python 3.6
 """
 
+import ast
 import copy
 import html.parser
 import importlib
@@ -435,13 +438,28 @@ def check_changed(script, report):
     assert refused > 400 and drawn > 100, (refused, drawn)
 
 
-def main(what, *paths):
-    if what == "page":
-        check_page(*paths)
-        return
-    with open(paths[1], encoding="utf-8") as file:
-        report = json.load(file)
-    {"hostile": check_hostile, "changed": check_changed}[what](paths[0], report)
+def check_positions(report):
+    for name, side in report["reads"].items():
+        assert len(side["before"]["positions"]["bases"]) == LAST, name
+
+
+def check_syntax(*paths):
+    for path in paths:
+        with open(path, encoding="utf-8") as file:
+            ast.parse(file.read(), path, feature_version=(3, 6))
+
+
+def main(what, *words):
+    if what in ("hostile", "changed", "positions"):
+        with open(words[-1], encoding="utf-8") as file:
+            words = [*words[:-1], json.load(file)]
+    {
+        "page": check_page,
+        "hostile": check_hostile,
+        "changed": check_changed,
+        "positions": check_positions,
+        "syntax": check_syntax,
+    }[what](*words)
 
 
 if __name__ == "__main__":

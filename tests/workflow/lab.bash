@@ -42,28 +42,7 @@ trap 'exit 143' TERM HUP
 # of s4 is truncated.
 draw_reads() {
   mkdir "$work/reads"
-  python3 - "$work/reads" << 'END'
-import gzip, os, random, sys
-random.seed(20)
-folder = sys.argv[1]
-
-def read(bases, bad):
-    front = random.choice([0, 0, 0, 0, 1, 2, 3])
-    behind = min(int(random.expovariate(1 / bad)) if random.random() < 0.6 else 0, bases - front)
-    low = random.choices("#$%&+", k=behind)
-    score = "#" * front + "".join(random.choices("?AFI", k=bases - front - behind)) + "".join(low)
-    return "".join(random.choices("ACGT", k=bases)), score
-
-for name, pairs in ("s1_L001", 300), ("s1_L002", 200), ("s2_L001", 400), ("s3_L001", 250), ("s4_L001", 300):
-    with gzip.open(f"{folder}/{name}_R1.fq.gz", "wt") as forward, gzip.open(f"{folder}/{name}_R2.fq.gz", "wt") as reverse:
-        for number in range(pairs):
-            for side, file in (1, forward), (2, reverse):
-                file.write("@%s:%d/%d\n%s\n+\n%s\n" % (name, number, side, *read(100, 300 if name == "s3_L001" else 30)))
-whole = f"{folder}/s4_L001_R2.fq.gz"
-os.rename(whole, whole + ".whole")
-with open(whole + ".whole", "rb") as file, open(whole, "wb") as half:
-    half.write(file.read()[: os.path.getsize(whole + ".whole") // 2])
-END
+  python3 "$tree/tests/workflow/draw.py" "$work/reads" || exit 1
 }
 
 # trim_directly NAME LANES..: what the program makes of the plain texts of lanes, in the directory

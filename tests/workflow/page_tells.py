@@ -1,6 +1,6 @@
 """Compares the workflow's page with direct calls of the program, for exactly the named samples.
 
-    page_tells.py DIRECT DATA SAMPLE..            the table, the dropped reads, and the lengths before and after
+    page_tells.py DIRECT DATA SAMPLE..            the table, the dropped reads and the lengths
     page_tells.py DIRECT DATA --removed SAMPLE..  the lines of removed bases
     page_tells.py DIRECT PAGE --lanes LANE..      the table of lanes on a page of a sample
 
@@ -10,8 +10,14 @@ is the directory of the page's data.
 
 import collections
 import json
+import os
 import re
 import sys
+
+sys.dont_write_bytecode = True
+sys.path.insert(0, os.path.dirname(os.path.dirname(os.path.abspath(__file__))))
+
+import count
 
 SIDES = {"forward": 1, "reverse": 2}
 
@@ -32,35 +38,34 @@ class Page:
     def plot(self, graph):
         """What the page draws for each side of each sample, without zeros."""
         columns, rows = self.rows(f"tibzharuk_{graph}_plot")
-        assert sorted(rows) == sorted(f"{sample} {side}" for sample, side in self.bars), (graph, rows)
+        names = sorted(f"{sample} {side}" for sample, side in self.bars)
+        assert sorted(rows) == names, (graph, rows)
         cells = {name: zip(columns, row) for name, row in rows.items()}
-        return {name: {column: float(cell) for column, cell in row if cell and float(cell)} for name, row in cells.items()}
+        return {name: {column: float(cell) for column, cell in row if cell and float(cell)}
+                for name, row in cells.items()}
 
-    def reads(self, sample, *parts):
-        """The bases and the scores of the reads of some of a sample's texts."""
-        reads = []
-        for part in parts:
-            with open(f"{self.direct}/{sample}.{part}", encoding="utf-8") as file:
-                lines = file.read().split("\n")
-            reads += zip(lines[1::4], lines[3::4])
-        return reads
+    def counted(self, sample, *parts):
+        """What is counted of the reads of some of a sample's texts."""
+        reads = [count.reads_of(f"{self.direct}/{sample}.{part}") for part in parts]
+        return count.counted(read for some in reads for read in some)
 
     def before(self, sample, side):
-        return self.reads(sample, f"in{SIDES[side]}")
+        return self.counted(sample, f"in{SIDES[side]}")
 
     def after(self, sample, side):
-        return self.reads(sample, f"r{SIDES[side]}.paired", f"r{SIDES[side]}.unpaired")
+        return self.counted(sample, f"r{SIDES[side]}.paired", f"r{SIDES[side]}.unpaired")
 
 
 def check_table(page):
     columns, rows = page.rows("general_stats")
     assert list(rows) == page.samples and len(columns) == 6, (columns, rows)
     for sample in page.samples:
-        both = [[read for side in SIDES for read in reads(sample, side)] for reads in (page.before, page.after)]
-        bases = [sum(len(read[0]) for read in reads) for reads in both]
-        high = [sum(score >= "?" for read in reads for score in read[1]) for reads in both]
-        pairs, kept = len(page.before(sample, "forward")), len(page.reads(sample, "r1.paired"))
-        percents = [round(100 * part / whole, 4) for part, whole in [*zip(high, bases), (kept, pairs)]]
+        both = [[counts(sample, side) for side in SIDES] for counts in (page.before, page.after)]
+        bases, high = ([sum(side[field] for side in sides) for sides in both]
+                       for field in ("bases", "q30_bases"))
+        pairs, kept = both[0][0]["reads"], page.counted(sample, "r1.paired")["reads"]
+        shares = [*zip(high, bases), (kept, pairs)]
+        percents = [round(100 * part / whole, 4) for part, whole in shares]
         wanted = [pairs, bases[0] / 1e6, bases[1] / 1e6, *percents]
         assert [float(cell) for cell in rows[sample]] == wanted, (sample, rows[sample], wanted)
 
@@ -70,23 +75,26 @@ def check_dropped(page):
     for sample, side in page.bars:
         with open(f"{page.direct}/{sample}.json", encoding="utf-8") as file:
             steps = json.load(file)["steps"]
-        wanted = {f"{place}. {step['step']}": step[side]["dropped"] for place, step in enumerate(steps, 1) if step[side]["dropped"]}
+        wanted = {f"{place}. {step['step']}": step[side]["dropped"]
+                  for place, step in enumerate(steps, 1) if step[side]["dropped"]}
         assert drawn[f"{sample} {side}"] == wanted, (sample, side, drawn, wanted)
-        assert sum(wanted.values()) == len(page.before(sample, side)) - len(page.after(sample, side)), (sample, side)
+        before, after = (counts(sample, side)["reads"] for counts in (page.before, page.after))
+        assert sum(wanted.values()) == before - after, (sample, side)
 
 
 def check_line(drawn, numbers, among, where):
-    """The line shows which percentage of the `among` reads has each number of bases."""
-    wanted = {number: round(100 * reads / among, 4) for number, reads in collections.Counter(numbers).items()}
-    assert {int(float(place)): percent for place, percent in drawn.items()} == wanted, (where, drawn, wanted)
+    """The line shows which percentage of the `among` reads has each of these numbers of bases."""
+    wanted = {number: round(100 * reads / among, 4) for number, reads in numbers}
+    found = {int(float(place)): percent for place, percent in drawn.items()}
+    assert found == wanted, (where, drawn, wanted)
 
 
 def check_lengths(page):
-    for graph, reads in ("lengths_before", page.before), ("lengths_after", page.after):
+    for graph, counts in ("lengths_before", page.before), ("lengths_after", page.after):
         drawn = page.plot(graph)
         for sample, side in page.bars:
-            lengths = [len(bases) for bases, _ in reads(sample, side)]
-            check_line(drawn[f"{sample} {side}"], lengths, len(lengths), (graph, sample, side))
+            found, where = counts(sample, side), (graph, sample, side)
+            check_line(drawn[f"{sample} {side}"], found["lengths"], found["reads"], where)
 
 
 def check_removed(page):
@@ -95,29 +103,33 @@ def check_removed(page):
         for sample, side in page.bars:
             with open(f"{page.direct}/{sample}.log", encoding="utf-8") as file:
                 lines = [[int(word) for word in line.split()[1:]] for line in file]
-            kept = [line for line in lines[SIDES[side] - 1 :: 2] if line[0]]
-            check_line(drawn[f"{sample} {side}"], [line[field] for line in kept if line[field]], len(kept), (graph, sample, side))
+            kept = [line for line in lines[SIDES[side] - 1::2] if line[0]]
+            numbers = collections.Counter(line[field] for line in kept if line[field])
+            line, where = drawn[f"{sample} {side}"], (graph, sample, side)
+            check_line(line, numbers.items(), len(kept), where)
 
 
 def check_lanes(page):
-    """The tables of lanes: pairs, their share of all and the share that was kept; and for each side the mean score, the bases with
-    a score of at least 30 and G and C before trimming, and the mean length after it."""
+    """The tables of lanes: pairs, their share of all and the share that was kept; and for each side
+    the mean score, the bases with a score of at least 30 and G and C before trimming, and the mean
+    length after it."""
     with open(page.data, encoding="utf-8") as file:
         section = file.read().split("<h2>Lanes</h2>")[1].split("</section>")[0]
-    rows = [re.findall(r">([^<]+)<", row.split("</tr>")[0]) for row in section.split("<tr>") if 'scope="row"' in row]
-    pairs = {lane: len(page.before(lane, "forward")) for lane in page.samples}
+    rows = [re.findall(r">([^<]+)<", row.split("</tr>")[0])
+            for row in section.split("<tr>") if 'scope="row"' in row]
+    pairs = {lane: page.before(lane, "forward")["reads"] for lane in page.samples}
     wanted = []
     for lane, read in pairs.items():
-        shares = (read, sum(pairs.values())), (len(page.reads(lane, "r1.paired")), read)
-        wanted.append([lane.split("_")[1], f"{read:,}", *(f"{100 * part / whole:.1f} %" for part, whole in shares)])
+        shares = (read, sum(pairs.values())), (page.counted(lane, "r1.paired")["reads"], read)
+        cells = [f"{100 * part / whole:.1f} %" for part, whole in shares]
+        wanted.append([lane.split("_")[1], f"{read:,}", *cells])
     for side in SIDES:
         for lane in page.samples:
-            reads, left = page.before(lane, side), [len(bases) for bases, _ in page.after(lane, side)]
-            bases, scores = ("".join(read[part] for read in reads) for part in (0, 1))
-            high, gc = sum(score >= "?" for score in scores), sum(base in "GC" for base in bases)
-            cells = [f"{sum(ord(score) - 33 for score in scores) / len(scores):.1f}"]
-            cells += [f"{100 * part / len(bases):.1f} %" for part in (high, gc)]
-            wanted.append([lane.split("_")[1], *cells, f"{sum(left) / len(left):.1f}"])
+            before, after = page.before(lane, side), page.after(lane, side)
+            cells = [f"{before['score_sum'] / before['bases']:.1f}"]
+            cells += [f"{100 * before[field] / before['bases']:.1f} %"
+                      for field in ("q30_bases", "gc_bases")]
+            wanted.append([lane.split("_")[1], *cells, f"{after['bases'] / after['reads']:.1f}"])
     assert rows == wanted, (rows, wanted)
 
 

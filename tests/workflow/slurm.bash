@@ -18,16 +18,6 @@ stop_slurm() {
   slurm_pids=()
 }
 
-# free_ports: two ports of 127.0.0.1 that nobody uses
-free_ports() {
-  python3 -c '
-import socket
-taken = [socket.socket() for _ in range(2)]
-for each in taken:
-    each.bind(("127.0.0.1", 0))
-print(*(each.getsockname()[1] for each in taken))'
-}
-
 # slurm_settings DIRECTORY HOST PORT PORT: settings of a cluster of one node, of this user, without
 # accounting
 slurm_settings() {
@@ -70,7 +60,7 @@ start_slurm() {
   mkdir -p "$folder/state" "$folder/spool" "$folder/munge"
   chmod 755 "$work" "$folder" "$folder/munge"
   (umask 077 && head -c 128 /dev/urandom > "$folder/munge/key")
-  read -r -a ports < <(free_ports)
+  read -r -a ports < <(python3 "$tree/tests/workflow/free_ports.py")
   slurm_settings "$folder" "$host" "${ports[@]}" > "$folder/slurm.conf"
   export SLURM_CONF=$folder/slurm.conf
   munged --foreground --force --key-file="$folder/munge/key" --socket="$folder/munge/socket" --pid-file="$folder/munge/pid" \
