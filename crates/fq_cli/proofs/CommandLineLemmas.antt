@@ -108,6 +108,7 @@ mixed_parse program rest sound =
 
 -- Options.
 
+-- the four options that a usual command line may have
 abbrev pub options_of : Option Text → Option Text → Option Text → Option ℕ → Options
 options_of log report encoding threads = record {
   log = log;
@@ -120,6 +121,7 @@ options_of log report encoding threads = record {
 abbrev pub as_read : Option ℕ → Option ℕ
 as_read threads = option_map (λ n. number_of (decimal n)) threads
 
+-- a number that fits is read from its digits as it is
 pub threads_read : (threads : Option ℕ) → FitsIfGiven threads → as_read threads ≡ threads
 threads_read None fits = refl
 threads_read (Some n) fits = ap Some (decimal_read n fits)
@@ -143,6 +145,7 @@ stepping position rows skip steps = record {
 
 -- Steps that come in turn, where each is kept after those before it and none is at fault.
 
+-- after the walk over further steps all are held, in order
 pub steps_walked : (rules : List Rule) (position : ℕ) (rows : List Row) (skip : ℕ) →
     ((before : List Text) (step : Text) → value_walk rules (stepping position rows skip before) step
     ≡ stepping position rows skip (before ++ step ∷ [])) →
@@ -156,6 +159,7 @@ steps_walked rules position rows skip kept before (step ∷ steps) =
     ∙ steps_walked rules position rows skip kept (before ++ step ∷ []) steps
     ∙ ap (stepping position rows skip) (append_assoc before (step ∷ []) steps)
 
+-- no step of the walk is at fault
 pub steps_sound : (s : Shape) (position : ℕ) (rows : List Row) (skip : ℕ) →
     ((before : List Text) (step : Text) →
     value_walk s.rules (stepping position rows skip before) step

@@ -107,6 +107,7 @@ module _ {F : Type 0} (state : F → FeedState) where
             ∙ ap (λ n. old.source.max_reads * n) s.chunk;
       }
 
+  -- what `advance` of an interleaved text promises, in the words of any source of pairs
   pub advances_interleaved : (old new : InterleavedSourced F) (r : Result Bool InputFault) →
       (r ≡ Ok true → IsSomeAnd new.current (interleaved.GivesPair state old new)) →
       (r ≡ Ok false → interleaved.EndsPairs state old new) →

@@ -46,6 +46,7 @@ fed_then a b c n p q told =
     ∙ sym (append_assoc (fed a b) (fed b c) c.to_come))
     ∙ take_at (fed a b ++ fed b c) c.to_come (c.taken - a.taken) sum
 
+-- two moves in a row, of which the first has no failure, are one move
 pub draws_then : (a b c : SideState) (n : ℕ) → Draws a b 0 → Draws b c n → Draws a c n
 draws_then a b c n p q =
     let up = p.grows in let then = q.grows in let one = p.failures in let two = q.failures in
@@ -64,6 +65,7 @@ draws_then a b c n p q =
       failures = omega arith;
     }
 
+-- if nothing is left of a list, nothing is left after a part of it
 pub nothing_left : (xs ys zs : List ℕ) → zs ≡ [] → zs ≡ xs ++ ys → ys ≡ []
 nothing_left xs ys zs none is = let len = ap length (sym none ∙ is) in
     nil_from_length ys (omega (arith, length-append xs ys))
@@ -111,6 +113,7 @@ module _ (old mid new : SideState) (n : ℕ) (a : Draws old mid 0) (b : Draws mi
       lines zs ≡ lines (whole_part xs) ++ lines ys
   split_lines xs ys zs is = ap lines is ∙ lines-append (whole_part xs) ys (is_whole-whole_part xs)
 
+  -- the lines of a side are those that came whole, and more
   pub lines_before : lines (rest old) ≡ lines (whole_part (came old new)) ++ more_lines
   lines_before = split_lines (came old new) (behind_whole (came old new) ++ new.to_come) (rest old)
       (rest_is ∙ ap (λ xs. xs ++ new.to_come) (whole_split (came old new))

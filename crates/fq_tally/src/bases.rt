@@ -1,10 +1,10 @@
 //! Counts of bases and of their scores.
 
 ghost use Rattle.std.specs.Prelude.{◌≡◌, ◌≤◌, ℕ, true, ◌+◌, ◌-◌, ◌++◌, length, take, drop};
-ghost use Rattle.std.specs.Prelude.{sum, nat_le, OnOk};
+ghost use Rattle.std.specs.Prelude.{sum, OnOk};
 ghost use Rattle.std.specs.List.{list_all};
 ghost use Rattle.fq_text.specs.Grammar.{limit};
-ghost use Rattle.fq_text.specs.Scores.{is_scored, value_of};
+ghost use Rattle.fq_text.specs.Scores.{is_scored};
 ghost use Rattle.fq_text.specs.declared.encoding.Encoding.TheVariants.{Solexa};
 ghost use Rattle.fq_trim.specs.Keeping.{scores};
 ghost use Rattle.fq_tally.specs.Parts.{IsCount, CountsOn};
@@ -99,8 +99,8 @@ impl BaseTally {
         requires { HasPart encoding seq.now qual.now from to }
         ensures { result ≡ bases_of (part_between encoding seq.now qual.now from to) }
     {
-        let low = byte_of(encoding, 20);
-        let high = byte_of(encoding, 30);
+        let low = encoding.least_byte(20);
+        let high = encoding.least_byte(30);
         let counted = count_of(seq, qual, from, to, low, high);
         let sum = score_sum(encoding, &qual[from..to], counted.sum);
         BaseTally {
@@ -258,24 +258,9 @@ fn score_sum(encoding: Encoding, qual: &[u8], bytes: u64) -> u64
     requires bytes { bytes ≡ sum qual.now }
     ensures { result ≡ sum (scores encoding qual.now) }
 {
-    let len = qual.len() as u64;
-    match encoding {
-        Encoding::Sanger => bytes - 33 * len,
-        Encoding::Illumina13 => bytes - 64 * len,
-        Encoding::Solexa => solexa_sum(qual),
-    }
-}
-
-// The least byte with a score of at least `score`. Larger bytes have no smaller scores.
-fn byte_of(encoding: Encoding, score: u8) -> u8
-    requires low { 11 ≤ score }
-    requires high { score ≤ 62 }
-    ensures least { (byte : ℕ) → nat_le score (value_of encoding byte) ≡ nat_le result byte }
-    ensures positive { 1 ≤ result }
-{
-    match encoding {
-        Encoding::Sanger => 33 + score,
-        Encoding::Illumina13 | Encoding::Solexa => 64 + score,
+    match encoding.offset() {
+        Some(offset) => bytes - u64::from(offset) * qual.len() as u64,
+        None => solexa_sum(qual),
     }
 }
 

@@ -171,10 +171,9 @@ fn scores_in(encoding: Encoding, bytes: u8x32) -> u8x32
     requires { list_all (is_lane encoding) bytes ≡ true }
     ensures { result ≡ map (lane_score encoding) bytes }
 {
-    match encoding {
-        Encoding::Sanger => less(bytes, 33),
-        Encoding::Illumina13 => less(bytes, 64),
-        Encoding::Solexa => solexa_scores(bytes),
+    match encoding.offset() {
+        Some(offset) => less(bytes, offset),
+        None => solexa_scores(bytes),
     }
 }
 

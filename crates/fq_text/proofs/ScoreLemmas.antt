@@ -101,6 +101,7 @@ all_recoded_scored e (b ∷ bs) all = let parts = and_parts _ _ all in
 
 -- Names.
 
+-- an encoding is found by its name
 pub name_found : (e : Encoding) → encoding_of (encoding_name e) ≡ Some e
 name_found Sanger = refl
 name_found Illumina13 = refl
@@ -124,5 +125,6 @@ name_taken name e =
     name_or name Sanger e _ (name_or name Illumina13 e _ (name_or name Solexa e None
     (λ is. absurd (let h : None ≡ Some e = is in cc))))
 
+-- the name of an encoding and the encoding of a name undo each other
 pub names_are_inverse : NamesAreInverse
 names_are_inverse name e = (name_taken name e, λ is. ap encoding_of (sym is) ∙ name_found e)
