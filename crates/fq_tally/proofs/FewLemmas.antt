@@ -6,9 +6,8 @@ use Rattle.std.proofs.lemmas.Bool.{cond-true, cond-false, and_parts, leb-true, l
 use Rattle.std.proofs.lemmas.Simd.{Each1-from_get_or, Each1-chunk, Each2-of}
 use lib.Lanes.{Each1, Each2, zip2, chunk, put_chunk}
 use Rattle.fq_text.specs.declared.encoding.Encoding.{Encoding}
-use Rattle.fq_text.specs.declared.encoding.Encoding.TheVariants.{Sanger, Illumina13, Solexa}
 use Rattle.fq_text.specs.Scores.{lowest, is_scored, value_of}
-use Rattle.fq_text.proofs.ScoreLemmas.{value_small}
+use Rattle.fq_text.proofs.ScoreLemmas.{low_base, value_small}
 use Rattle.fq_trim.specs.Keeping.{scores}
 use Rattle.fq_pair.specs.Summaries.{capped_sum}
 use Rattle.fq_tally.specs.declared.columns.Columns.{Columns}
@@ -180,12 +179,11 @@ placed_short at ns short =
     (le-leb (length (replicate at 0 ++ ns)) 10000 (omega (arith, length-shifted at ns)))
 
 scored_low : (e : Encoding) (b : ℕ) → is_scored e b ≡ true → 33 ≤ b
-scored_low Sanger b is = let low : 33 ≤ b =
-    leb-true 33 b (and_parts (nat_le (lowest Sanger) b) (nat_le b 126) is).0 in omega arith
-scored_low Illumina13 b is = let low : 64 ≤ b =
-    leb-true 64 b (and_parts (nat_le (lowest Illumina13) b) (nat_le b 126) is).0 in omega arith
-scored_low Solexa b is = let low : 59 ≤ b =
-    leb-true 59 b (and_parts (nat_le (lowest Solexa) b) (nat_le b 126) is).0 in omega arith
+scored_low e b is =
+    let low = low_base e in
+    let least : lowest e ≤ b =
+    leb-true (lowest e) b (and_parts (nat_le (lowest e) b) (nat_le b 126) is).0 in
+    omega arith
 
 not_none : (e : Encoding) (b : ℕ) → is_scored e b ≡ true → eqb b 0 ≡ false
 not_none e b is = let low = scored_low e b is in ne_eqb b 0 (λ z. omega arith)
