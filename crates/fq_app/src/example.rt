@@ -13,9 +13,9 @@ ghost use Rattle.fq_files_run.specs.declared.account.Account.{Account};
 ghost use Rattle.fq_app.specs.declared.unshown.Unshown.TheVariants.{Unrun};
 
 use crate::unshown::Unshown;
-use fq_files_run::{Account, CALL_LIMIT};
+use fq_files_run::Account;
 use fq_pair::{Counts, summary};
-use fq_run::{Ending, Outcome, Outlets, Settings, run_threads};
+use fq_run::{CALL_LIMIT, Ending, Outcome, Outlets, Settings, run_threads};
 use fq_text::{Encoding, Feed, MemoryRefused, OutOfMemory, Outlet, ScriptFeed, ScriptOutlet};
 use fq_trim::Steps;
 use fq_work::OpenGate;

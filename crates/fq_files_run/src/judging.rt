@@ -6,11 +6,8 @@ ghost use Rattle.fq_files_run.specs.Judging.{settings_of, wrong_with};
 
 use crate::refusal::Refusal;
 use fq_cli::{Request, encoding_of, report_is_input, same_name};
-use fq_run_core::Settings;
+use fq_run_core::{CALL_LIMIT, Settings};
 use fq_trim::Steps;
-
-/// Limit of the read calls of an input and of the turns at a gate: 2 to the power of 40.
-pub const CALL_LIMIT: u64 = 1 << 40;
 
 /// Returns the settings of the run, or the first thing that is wrong with the request.
 pub fn judge(request: &Request<'_>) -> Result<Settings, Refusal>

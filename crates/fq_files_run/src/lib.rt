@@ -17,7 +17,7 @@ mod reporting;
 
 pub use account::Account;
 pub use feeds::{Feeds, inputs_done};
-pub use judging::{CALL_LIMIT, judge};
+pub use judging::judge;
 pub use opening::{Devices, open};
 pub use outcome_line::{LANE_LINE, MEMORY_LINE, fault_line, settled, status_of};
 pub use outputs::store;

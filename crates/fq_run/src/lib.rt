@@ -27,8 +27,8 @@ mod confirming;
 pub mod laws;
 
 pub use fq_run_core::{
-    BadSetting, Ending, MixedEnding, Outcome, Outlets, Settings, SettingsBuilder, run_serial,
-    run_serial_mixed,
+    BadSetting, CALL_LIMIT, Ending, MixedEnding, Outcome, Outlets, Settings, SettingsBuilder,
+    run_serial, run_serial_mixed,
 };
 pub use fq_text::{Encoding, Feed, FromRead, FromWrite, Outlet, ScriptFeed, ScriptOutlet};
 pub use fq_trim::Steps;

@@ -31,6 +31,6 @@ pub use interleaved::run_serial_mixed;
 pub use occurred::end_outcome;
 pub use outcome::Outcome;
 pub use outlets::Outlets;
-pub use settings::{BadSetting, Settings};
+pub use settings::{BadSetting, CALL_LIMIT, Settings};
 pub use settings_builder::SettingsBuilder;
 pub use two_texts::run_serial;

@@ -18,7 +18,7 @@ const MOST_DEPTH: u64 = 64;
 /// The largest number of bytes that one read call asks for.
 const MOST_BYTES: u64 = 1_048_576;
 /// The largest number of read calls per input, and of turns at a gate: 2^40.
-pub(crate) const MOST_TURNS: u64 = 1_099_511_627_776;
+pub const CALL_LIMIT: u64 = 1_099_511_627_776;
 
 /// The first setting that is out of range.
 #[derive(Clone, Copy, Debug, PartialEq, Eq, Error)]
@@ -152,8 +152,8 @@ impl Settings {
         in_range(MOST_PAIRS, block_pairs, BadSetting::BlockPairs)?;
         in_range(MOST_DEPTH, depth, BadSetting::Depth)?;
         in_range(MOST_BYTES, chunk, BadSetting::Chunk)?;
-        in_range(MOST_TURNS, max_reads, BadSetting::MaxReads)?;
-        in_range(MOST_TURNS, gate_turns, BadSetting::GateTurns)?;
+        in_range(CALL_LIMIT, max_reads, BadSetting::MaxReads)?;
+        in_range(CALL_LIMIT, gate_turns, BadSetting::GateTurns)?;
         Ok(Settings {
             encoding,
             steps,

@@ -2,7 +2,7 @@
 
 ghost use Rattle.std.specs.Prelude.{◌≡◌};
 
-use crate::settings::{BadSetting, MOST_TURNS, Settings};
+use crate::settings::{BadSetting, CALL_LIMIT, Settings};
 use fq_text::Encoding;
 use fq_trim::Steps;
 use std::marker::Model;
@@ -58,8 +58,8 @@ impl SettingsBuilder {
             block_pairs: 1024,
             depth: 4,
             chunk: 65_536,
-            max_reads: MOST_TURNS,
-            gate_turns: MOST_TURNS,
+            max_reads: CALL_LIMIT,
+            gate_turns: CALL_LIMIT,
         }
     }
 

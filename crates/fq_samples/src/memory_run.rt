@@ -7,8 +7,8 @@ ghost use Rattle.fq_run_core.specs.Devices.{outlet_states, AreHealthy};
 
 use fq_pair::{Counts, Out};
 use fq_run::{
-    BadSetting, Ending, MixedEnding, Outcome, Outlets, Settings, run_serial, run_serial_mixed,
-    run_threads, run_threads_mixed,
+    BadSetting, CALL_LIMIT, Ending, MixedEnding, Outcome, Outlets, Settings, run_serial,
+    run_serial_mixed, run_threads, run_threads_mixed,
 };
 use fq_tally::Tally;
 use fq_text::{Encoding, Feed, Outlet, ScriptFeed, ScriptOutlet};
@@ -17,9 +17,6 @@ use fq_work::Gate;
 use std::alloc::Global;
 use std::sync::{Arc, Wait};
 use std::thread::Threads;
-
-// How often a run may read, or ask its gate, if nothing else is set.
-const CALLS: u64 = 1 << 40;
 
 /// The inputs of a run, its settings, and how its devices cut and fail.
 #[derive(Clone, Copy)]
@@ -101,8 +98,8 @@ impl<'a> MemoryRun<'a> {
             block_pairs: 1024,
             depth: 4,
             chunk: 65_536,
-            max_reads: CALLS,
-            gate_turns: CALLS,
+            max_reads: CALL_LIMIT,
+            gate_turns: CALL_LIMIT,
             tallied: false,
             cut: 1000,
             fails_at_read: 0,

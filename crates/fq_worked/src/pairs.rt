@@ -21,11 +21,10 @@ use anyhow::{Result, bail};
 use fq_pair::{
     InputFault, MixedSource, Out, Pair, PairReader, PairSource, PairView, Texts, summary,
 };
+use fq_run_core::CALL_LIMIT;
 use fq_text::{Encoding, Feed, ScriptFeed, Source};
 use fq_trim::Steps;
 use std::alloc::Global;
-
-const LONG: u64 = 1 << 40;
 
 // A source that can also give its pairs away.
 trait PairGiver {
@@ -66,8 +65,8 @@ fn source_of(
     ensures encoding { IfOk result (λ source. source.encoding ≡ encoding) }
 {
     let chunk = given.number("chunk", 1000)? as usize;
-    let max_reads = given.number("max reads", LONG)?;
-    if chunk == 0 || chunk > 1_048_576 || max_reads == 0 || max_reads > LONG {
+    let max_reads = given.number("max reads", CALL_LIMIT)?;
+    if chunk == 0 || chunk > 1_048_576 || max_reads == 0 || max_reads > CALL_LIMIT {
         bail!("no such reads");
     }
     let feed = ScriptFeed::new(alloc, text, 1000, fail_at)?;

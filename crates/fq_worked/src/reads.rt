@@ -16,11 +16,10 @@ use crate::answers::Answers;
 use crate::encoding_in;
 use crate::row::Given;
 use anyhow::{Result, bail};
+use fq_run_core::CALL_LIMIT;
 use fq_text::{Encoding, FastqRecord, Feed, FeedFailed, ReadView, ScriptFeed, Source, TextFault};
 use std::alloc::Global;
 use std::fmt::Write;
-
-const LONG: u64 = 1 << 40;
 
 /// A feed that counts its read calls.
 #[derive(Drop)]
@@ -53,8 +52,8 @@ fn feed_of(alloc: Global, given: &Given<'_>) -> Result<Counting>
 // Makes the source of a row.
 fn source_of(alloc: Global, given: &Given<'_>) -> Result<Source<Counting>> {
     let chunk = given.number("chunk", 1000)? as usize;
-    let max_reads = given.number("max reads", LONG)?;
-    if chunk == 0 || chunk > 1_048_576 || max_reads == 0 || max_reads > LONG {
+    let max_reads = given.number("max reads", CALL_LIMIT)?;
+    if chunk == 0 || chunk > 1_048_576 || max_reads == 0 || max_reads > CALL_LIMIT {
         bail!("no such reads");
     }
     let encoding = encoding_in(given)?;
