@@ -98,8 +98,8 @@ impl Settings {
     ghost use Rattle.fq_run_core.specs.Choices.{Choices, AreInRange, checked, tallying, usual};
 
     /// The program's default settings, to change and then to [`build`](SettingsBuilder::build):
-    /// names are compared; 4 workers, blocks of 1,024 pairs, lanes of 4 blocks, read calls of 65,536
-    /// bytes; no limit below 2^40 on read calls and on turns at a gate.
+    /// names are compared; 4 workers, blocks of 1,024 pairs, lanes of 4 blocks, and read calls of
+    /// 65,536 bytes, of which an input may have 2^40, as a gate may have turns.
     ///
     /// - `encoding`: how the quality bytes of both inputs encode Phred scores.
     /// - `steps`: the trimming steps.
