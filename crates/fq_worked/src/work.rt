@@ -298,7 +298,7 @@ fn put_replies(alloc: Global, answers: &mut Answers, replies: &mut Rx<Reply>) ->
     ensures closed { OnOk result (replies.new.marked ≡ true) }
 {
     let mut said = String::new(alloc);
-    for _ in 0..ROOM {
+    for _place in 0..ROOM {
         if let Some(reply) = next_item(alloc, replies)? {
             put_reply(alloc, answers, &mut said, &reply)?;
         }
