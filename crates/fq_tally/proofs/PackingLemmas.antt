@@ -12,20 +12,24 @@ use Rattle.fq_tally.specs.Packing.{bases_tables, reads_tables, columns_tables, s
 
 -- counts of bases, packed number by number, are their tables
 pub bases_packed : (ts : List (List ℕ)) (t : BaseTally) →
-    ts ++ ((t.bases ∷ []) ∷ []) ++ ((t.at_least_20 ∷ []) ∷ []) ++ ((t.at_least_30 ∷ []) ∷ []) ++ ((t.score_sum ∷ []) ∷ []) ++ ((t.gc ∷ []) ∷ []) ++ ((t.n ∷ []) ∷ []) ≡ ts ++ bases_tables t
+    ts ++ ((t.bases ∷ []) ∷ []) ++ ((t.at_least_20 ∷ []) ∷ [])
+    ++ ((t.at_least_30 ∷ []) ∷ []) ++ ((t.score_sum ∷ []) ∷ []) ++ ((t.gc ∷ []) ∷ [])
+    ++ ((t.n ∷ []) ∷ []) ≡ ts ++ bases_tables t
 bases_packed [] t = refl
 bases_packed (u ∷ ts) t = ap (λ us. u ∷ us) (bases_packed ts t)
 
 -- eight columns, packed one by one, are their tables
 pub columns_packed : (ts : List (List ℕ)) (t : Columns) →
-    ts ++ (t.bases ∷ []) ++ (t.score_sum ∷ []) ++ (t.q30_bases ∷ []) ++ (t.a ∷ []) ++ (t.c ∷ []) ++ (t.g ∷ []) ++ (t.t ∷ []) ++ (t.n ∷ []) ≡ ts ++ columns_tables t
+    ts ++ (t.bases ∷ []) ++ (t.score_sum ∷ []) ++ (t.q30_bases ∷ []) ++ (t.a ∷ [])
+    ++ (t.c ∷ []) ++ (t.g ∷ []) ++ (t.t ∷ []) ++ (t.n ∷ []) ≡ ts ++ columns_tables t
 columns_packed [] t = refl
 columns_packed (u ∷ ts) t = ap (λ us. u ∷ us) (columns_packed ts t)
 
 -- counts of reads, packed piece by piece, are their tables
 pub reads_packed : (ts : List (List ℕ)) (t : ReadsTally) →
     ts ++ ((t.reads ∷ []) ∷ []) ++ bases_tables
-    t.bases ++ ((t.shortest ∷ []) ∷ []) ++ ((t.longest ∷ []) ∷ []) ++ (t.lengths ∷ []) ++ (t.mean_scores ∷ []) ++ (t.gc_percents ∷ []) ≡ ts ++ reads_tables t
+    t.bases ++ ((t.shortest ∷ []) ∷ []) ++ ((t.longest ∷ []) ∷ []) ++ (t.lengths ∷ [])
+    ++ (t.mean_scores ∷ []) ++ (t.gc_percents ∷ []) ≡ ts ++ reads_tables t
 reads_packed [] t = refl
 reads_packed (u ∷ ts) t = ap (λ us. u ∷ us) (reads_packed ts t)
 
@@ -52,7 +56,8 @@ three_packed ts ts₁ ts₂ ts₃ x y z t first second third before paired unpai
 -- counts of a side, packed piece by piece, are their tables
 pub side_packed : (ts : List (List ℕ)) (t : SideTally) →
     ts ++ reads_tables t.before ++ reads_tables t.paired ++ reads_tables
-    t.unpaired ++ ((t.front ∷ []) ∷ []) ++ ((t.behind ∷ []) ∷ []) ++ (t.removed_front ∷ []) ++ (t.removed_behind ∷ [])
+    t.unpaired ++ ((t.front ∷ []) ∷ []) ++ ((t.behind ∷ []) ∷ [])
+    ++ (t.removed_front ∷ []) ++ (t.removed_behind ∷ [])
     ++ side_columns_tables t.positions ++ steps_tables t.steps ≡ ts ++ side_tables t
 side_packed [] t = refl
 side_packed (u ∷ ts) t = ap (λ us. u ∷ us) (side_packed ts t)

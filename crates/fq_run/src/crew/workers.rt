@@ -13,8 +13,8 @@ use std::sync::{Arc, Wait};
 use std::thread;
 use std::thread::{PromisedHandle, Threads};
 
-/// Starts a worker for each seat, and returns their handles. If one was refused, returns the handles
-/// of those that were started before it.
+/// Starts a worker for each seat, and returns their handles. If one was refused, returns the
+/// handles of those that were started before it.
 pub(crate) fn start_workers<R: Threads + Wait + Copy + Send + 'static, H: Gate + 'static>(
     alloc: Global,
     rt: &R,

@@ -38,7 +38,8 @@ returns c =
     sym (length-take-le (c.args.to - c.args.from) (drop c.args.from seq)
     (omega (arith, length-drop c.args.from seq))) in
     let low = c.count_of-counted.ensures.low ∙ counted e 20 _ c.least_byte-low.ensures.least part in
-    let high = c.count_of-counted.ensures.high ∙ counted e 30 _ c.least_byte-high.ensures.least part in
+    let high = c.count_of-counted.ensures.high
+    ∙ counted e 30 _ c.least_byte-high.ensures.least part in
     let sum = c.score_sum-sum.ensures in
     let gc = c.count_of-counted.ensures.gc in
     let n = c.count_of-counted.ensures.n in
