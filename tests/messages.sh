@@ -1,7 +1,6 @@
 #!/usr/bin/env bash
 # Usual mistakes, and the line on standard error for each: by the name fq_prog without a reason, with
-# --explain and by the name tibzharuk with one, and with tibzharuk --no-explain without. A mistake
-# whose reason only the system knows has no reason.
+# --explain and by the name tibzharuk with one, and with tibzharuk --no-explain without.
 set -uo pipefail
 . "$(dirname "$0")/common.bash"
 find_program
@@ -13,11 +12,14 @@ outs=(p1 u1 p2 u2)
 many=(CROP:1 CROP:1 CROP:1 CROP:1 CROP:1 CROP:1 CROP:1 CROP:1 CROP:1 CROP:1 CROP:1 CROP:1 CROP:1)
 many+=("${many[@]}" "${many[@]}" "${many[@]}" "${many[@]}")
 steps='is no step (LEADING, TRAILING, SLIDINGWINDOW, CROP, HEADCROP, AVGQUAL, MINLEN, TOPHRED33)'
-full='not all of it could be written. Is the disk full?'
+full='No space left on device'
+none='No such file or directory'
+rights='Permission denied'
+zipped='The file looks compressed, by gzip or as BAM'
 
 # The files of a call: two pairs, in two files and in one, and what is mistaken for them.
 make_files() {
-  rm -rf r1.fq r2.fq both.fq empty.fq cut.fq gz.fq fasta.fq other.fq first.fq d p1 u1 p2 u2
+  rm -rf r1.fq r2.fq both.fq empty.fq cut.fq gz.fq bam.fq fasta.fq other.fq first.fq link.fq d p1 u1 p2 u2
   printf '@p1/1\nACGT\n+\n#!II\n@p2/1\nGGCC\n+\nIIII\n' > r1.fq
   printf '@p1/2\nTTTT\n+\nIIII\n@p2/2\nAAAA\n+\n!!!"\n' > r2.fq
   printf '@p1/1\nACGT\n+\n#!II\n@p1/2\nTTTT\n+\nIIII\n' > both.fq
@@ -26,7 +28,9 @@ make_files() {
   : > empty.fq
   head -c 28 r2.fq > cut.fq
   gzip -nc r1.fq > gz.fq
+  printf 'BAM\001\n' > bam.fq
   printf '>p1/1\nACGT\n' > fasta.fq
+  ln -s r1.fq link.fq
   printf '@p2/2\nAAAA\n+\n!!!"\n@p1/2\nTTTT\n+\nIIII\n' > other.fq
   mkdir d
 }
@@ -79,19 +83,24 @@ both 2 'same name: both.fq' 'it is an input and the output of reverse unpaired r
 both 2 'same name: r2.fq' 'it is an input and the trim log' PE --trimlog r2.fq r1.fq r2.fq "${outs[@]}" CROP:1
 both 2 'same name: r2.fq' 'it is an input and the report' PE --report r2.fq r1.fq r2.fq "${outs[@]}" CROP:1
 both 4 'cannot read r1.fq' 'it is given twice' PE r1.fq r1.fq "${outs[@]}" CROP:1
-both 4 'cannot read nosuch.fq' '' PE nosuch.fq r2.fq "${outs[@]}" CROP:1
-both 4 'cannot read nosuch.fq' '' PE nosuch.fq nosuch.fq "${outs[@]}" CROP:1
-both 4 'cannot read d' '' IL d "${outs[@]}" CROP:1
+both 4 'cannot read nosuch.fq' "$none" PE nosuch.fq r2.fq "${outs[@]}" CROP:1
+both 4 'cannot read nosuch.fq' "$none" PE nosuch.fq nosuch.fq "${outs[@]}" CROP:1
+both 4 'cannot read link.fq' 'it is given twice' PE r1.fq link.fq "${outs[@]}" CROP:1
+both 4 'cannot read r1.fq/x' 'Not a directory' PE r1.fq/x r2.fq "${outs[@]}" CROP:1
+both 4 'cannot read d' 'it is a directory' IL d "${outs[@]}" CROP:1
 both 4 'cannot write p1' 'it is also an output' PE r1.fq r2.fq p1 u1 p1 u2 CROP:1
 both 4 'cannot write u1' 'it is also an output' IL both.fq p1 u1 p2 u1 CROP:1
 both 4 'cannot write p2' 'it is also an output' PE --trimlog p2 r1.fq r2.fq "${outs[@]}" CROP:1
 both 4 'cannot write p1' 'it is also an output' PE --report p1 r1.fq r2.fq "${outs[@]}" CROP:1
-both 4 'cannot write d' '' PE r1.fq r2.fq d u1 p2 u2 CROP:1
-both 4 'cannot write no/p1' '' PE r1.fq r2.fq no/p1 u1 no/p1 u2 CROP:1
+both 4 'cannot write d' 'it is a directory' PE r1.fq r2.fq d u1 p2 u2 CROP:1
+both 4 'cannot write no/p1' "$none" PE r1.fq r2.fq no/p1 u1 no/p1 u2 CROP:1
+both 4 'cannot write link.fq' 'it leads to an input (r1.fq or r2.fq)' PE r1.fq r2.fq p1 link.fq p2 u2 CROP:1
+both 4 'cannot write link.fq' 'it leads to the input r1.fq' IL --report link.fq r1.fq "${outs[@]}" CROP:1
 
 row='inputs'
-both 3 'input: forward record 1: NoTitle' 'gz.fq: the record does not begin with @' PE gz.fq r2.fq "${outs[@]}" CROP:1
-both 3 'input: reverse record 1: NoTitle' 'fasta.fq: the record does not begin with @' PE r1.fq fasta.fq "${outs[@]}" CROP:1
+both 3 'input: forward record 1: NoTitle' "gz.fq: the record does not begin with @. $zipped" PE gz.fq r2.fq "${outs[@]}" CROP:1
+both 3 'input: forward record 1: NoTitle' 'bam.fq: the record does not begin with @. The file looks like BAM' IL bam.fq "${outs[@]}" CROP:1
+both 3 'input: reverse record 1: NoTitle' 'fasta.fq: the record does not begin with @. The file looks like FASTA' PE r1.fq fasta.fq "${outs[@]}" CROP:1
 both 3 'input: forward record 1: BadQuality' 'r1.fq: a quality byte has no score in the encoding illumina13 (see --encoding)' PE --encoding illumina13 r1.fq r2.fq "${outs[@]}" CROP:1
 both 3 'input: reverse record 2: NoPlus' 'cut.fq: the file ends before the line that begins with +' PE r1.fq cut.fq "${outs[@]}" CROP:1
 both 3 'input: forward record 1: MateMissing' 'empty.fq: the file ends before this record, and r2.fq has it' PE empty.fq r2.fq "${outs[@]}" CROP:1
@@ -106,6 +115,30 @@ both 4 'write failed: trim log' "/dev/full: $full" IL --trimlog /dev/full --no-n
 
 row='no mistake'
 line 0 '' ./tibzharuk PE r1.fq r2.fq "${outs[@]}" CROP:1
+
+both 4 'write failed: report' "/dev/full: $full" PE --report /dev/full r1.fq r2.fq "${outs[@]}" CROP:1
+
+# As root every file can be read, so a user without rights makes these calls.
+row='rights'
+reader=()
+if [ "$(id -u)" -eq 0 ]; then reader=(setpriv --reuid 65534 --regid 65534 --clear-groups); fi
+# closed STATUS LINE WORDS..: the same for a call by a user who may read r2.fq alone, and write nothing
+closed() {
+  local status=$1 line=$2 got
+  shift 2
+  make_files
+  chmod 755 . && chmod 000 r1.fq && chmod 555 d
+  got=$("${reader[@]}" "$@" 2>&1 > /dev/null)
+  [ $? -eq "$status" ] || fail "'$*' ends with another status than $status"
+  [ "$got" = "$line" ] || fail "'$*' prints '$got' in place of '$line'"
+  chmod 755 d
+}
+if [ "$(id -u)" -ne 0 ] || command -v setpriv > /dev/null; then
+  cp -L tibzharuk reachable && chmod 755 reachable
+  closed 4 'cannot read r1.fq' ./reachable PE r1.fq r2.fq "${outs[@]}" CROP:1
+  closed 4 "cannot read r1.fq: $rights" ./reachable PE --explain r1.fq r2.fq "${outs[@]}" CROP:1
+  closed 4 "cannot write d/p1: $rights" ./reachable PE --explain r2.fq both.fq d/p1 u1 p2 u2 CROP:1
+fi
 
 row='the report has the line without the reason'
 make_files

@@ -1,5 +1,5 @@
 -- What is reported for a refusal, and for a run that was made.
-use Rattle.std.proofs.Common.{◌≡◌, ◌≢◌, ◌⊎◌, ◌∙◌, ℕ, suc, Bool, IsTrue, IsSome, Option, Some, None, [], ◌∷◌, List, length, inl, inr, ⊎_elim, refl, sym, ap, subst, arith}
+use Rattle.std.proofs.Common.{◌≡◌, ◌≢◌, ◌⊎◌, ◌∙◌, ℕ, suc, Bool, true, false, IsTrue, IsSome, Option, Some, None, [], ◌∷◌, List, codes, length, inl, inr, ⊎_elim, refl, sym, ap, subst, arith}
 use Rattle.std.proofs.lemmas.List.{take_all}
 use Rattle.std.specs.List.{All}
 use Rattle.fq_files.specs.Holding.{Holding, Names, IsUnchanged, MayRefuse}
@@ -12,7 +12,9 @@ use Rattle.fq_run.specs.Outcome.{Outcome}
 use Rattle.fq_run.specs.Outcome.TheVariants.{Lane}
 use Rattle.fq_run.specs.Endings.{ends_whole}
 use Rattle.fq_files_run.specs.Faults.{settled, outcome_status}
-use Rattle.fq_reasons.specs.Lines.{line_of, ending_line}
+use Rattle.fq_text.specs.Written.{line}
+use Rattle.fq_text.specs.declared.seen.Seen.{Seen}
+use Rattle.fq_reasons.specs.Lines.{explained, line_of, ending_line, report_line}
 use Rattle.fq_cli.specs.Requests.{Asking, input_name}
 use Rattle.fq_cli.specs.Words.{AskedFor, asked_pairs, pairs_asked}
 use Rattle.fq_cli.specs.declared.words.Asked.{Asked}
@@ -22,7 +24,7 @@ use Rattle.fq_files_run.specs.Leaving.{RefusalLeaves, ReportLeft, HoldFirstPairs
 use Rattle.fq_files_run.proofs.EndingLemmas.{done_is_whole, ends_so}
 use Rattle.fq_files_run.proofs.LeavingLemmas.{refusal_untrimmed, report_untrimmed, whole_first}
 use Rattle.fq_files_run.specs.Refusals.{status_of}
-use Rattle.fq_app.specs.Answers.{Device, EndsWhole, IsRefusal, IsEnding, IsUnprinted, IsUntold, IsUnreported, IsReportLeft, IsReportUncut, LacksMemory, NamesRefused, NamesDevice, PairsAnswered, Refuses, Tells, TookLine, memory_line, print_line, report_line}
+use Rattle.fq_app.specs.Answers.{Device, EndsWhole, IsRefusal, IsEnding, IsUnprinted, IsUntold, IsUnreported, IsReportLeft, IsReportUncut, LacksMemory, NamesRefused, NamesDevice, PairsAnswered, Refuses, Tells, TookLine, memory_line, print_line}
 use Rattle.fq_files_run.specs.declared.refusal.Refusal.{Refusal}
 use Rattle.fq_files_run.specs.declared.reporting.Reported.{Reported}
 use Rattle.fq_files_run.specs.declared.reporting.Reported.TheVariants as report
@@ -61,12 +63,12 @@ refusal_fails (why.SameName out) = (
   (λ e. absurd (omega (arith, e))),
   (λ e. absurd (omega (arith, e))),
 )
-refusal_fails (why.Source side) = (
+refusal_fails (why.Source side cause) = (
   (λ e. absurd (omega (arith, e))),
   (λ e. absurd (omega (arith, e))),
   (λ e. absurd (omega (arith, e))),
 )
-refusal_fails (why.Target out) = (
+refusal_fails (why.Target out cause) = (
   (λ e. absurd (omega (arith, e))),
   (λ e. absurd (omega (arith, e))),
   (λ e. absurd (omega (arith, e))),
@@ -76,7 +78,7 @@ refusal_fails why.SameReport = (
   (λ e. absurd (omega (arith, e))),
   (λ e. absurd (omega (arith, e))),
 )
-refusal_fails why.Report = (
+refusal_fails (why.Report cause) = (
   (λ e. absurd (omega (arith, e))),
   (λ e. absurd (omega (arith, e))),
   (λ e. absurd (omega (arith, e))),
@@ -272,21 +274,23 @@ module _ (a : Asking) (told : Bool) (old new : Holding) (outcome : Outcome) (cou
   is_uncut (inr written) tells name named = inr (held_as report.Written written tells name named)
 
   -- the line of a run that was made
-  pub told_line : (out err : Device) (status : ℕ) → Tells a outcome reported out err status →
-      TookLine a told old new out err status
-  told_line out err status (inl (which, inl ending)) = record {
-    text = ending_line a outcome;
+  pub told_line : (seen : Seen) (out err : Device) (status : ℕ) →
+      Tells a seen outcome reported out err status → TookLine a told old new out err status
+  told_line seen out err status (inl (which, inl ending)) = record {
+    text = ending_line a seen outcome;
     fits = inl (inr (record {
       outcome = outcome;
+      seen = seen;
       status_is = sym ending.0;
-      text_is = refl;
+      text_is =
+          refl;
       left =
           run.ended;
       unreported = is_empty which;
     }));
     took = ending.1;
   }
-  told_line out err status (inl (which, inr (inl unprinted))) = record {
+  told_line seen out err status (inl (which, inr (inl unprinted))) = record {
     text = print_line;
     fits = inr (inl (record {
       status_is = unprinted.1.1;
@@ -303,13 +307,14 @@ module _ (a : Asking) (told : Bool) (old new : Holding) (outcome : Outcome) (cou
     }));
     took = unprinted.1.2;
   }
-  told_line out err status (inl (which, inr (inr untold))) =
+  told_line seen out err status (inl (which, inr (inr untold))) =
       lacks_line a told old new out err status untold.1
       (λ tells. inr (outcome, run.ended tells untold.0)) (λ tells. is_uncut which tells)
-  told_line out err status (inr (inl failed)) =
+  told_line seen out err status (inr (inl failed)) =
       let due = due_as report.Failed failed.0 (λ e. absurd (cc e)) in record {
-        text = report_line;
+        text = report_line a failed.2.0;
         fits = inr (inr (inr (record {
+          said = failed.2.0;
           status_is = failed.1;
           text_is = refl;
           left = λ tells. (
@@ -320,9 +325,9 @@ module _ (a : Asking) (told : Bool) (old new : Holding) (outcome : Outcome) (cou
           );
           begun = held_as report.Failed failed.0;
         })));
-        took = failed.2;
+        took = failed.2.1;
       }
-  told_line out err status (inr (inr lacks)) =
+  told_line seen out err status (inr (inr lacks)) =
       let due = due_as (report.OutOfMemory lacks.0.0) lacks.0.1 (λ e. absurd (cc e)) in
       lacks_line a told old new out err status lacks.1
       (λ tells. inr (outcome, run.ended tells (not_lane outcome due)))
@@ -358,33 +363,34 @@ four_not_lane outcome four lane = let six : outcome_status outcome ≡ 6 = ap ou
 
 -- what has failed
 pub failed_device : (a : Asking) (tells : Bool) (old : Holding) (refuses opened : Names)
-    (failed : Failed) (out err : Device) (status : ℕ) (outcome : Outcome) (reported : Reported)
-    → (outcome ≢ Lane → HasFailed a tells old failed outcome) →
+    (failed : Failed) (out err : Device) (status : ℕ) (seen : Seen) (outcome : Outcome)
+    (reported : Reported) → (outcome ≢ Lane → HasFailed a tells old failed outcome) →
     (IsTrue tells → settled outcome ≡ outcome) →
     (reported ≡ report.Failed → ReportFailed a failed)
-    → Tells a outcome reported out err status → status ≡ 4 →
+    → Tells a seen outcome reported out err status → status ≡ 4 →
     NamesDevice a tells old refuses opened failed out err
-failed_device a tells old refuses opened failed out err status outcome reported fails as_it_is
+failed_device a tells old refuses opened failed out err status seen outcome reported fails as_it_is
     report_fails (inl (which, inl ending)) four =
     let is = sym ending.0 ∙ four in
     inr (inl (record {
       outcome = outcome;
+      seen = seen;
       status_is = is;
       told = ending.1;
       has_failed =
           fails (four_not_lane outcome is);
       as_it_is = as_it_is;
     }))
-failed_device a tells old refuses opened failed out err status outcome reported fails as_it_is
+failed_device a tells old refuses opened failed out err status seen outcome reported fails as_it_is
     report_fails (inl (which, inr (inl unprinted))) four =
     inr (inr (inl (unprinted.1.0, unprinted.1.2)))
-failed_device a tells old refuses opened failed out err status outcome reported fails as_it_is
+failed_device a tells old refuses opened failed out err status seen outcome reported fails as_it_is
     report_fails (inl (which, inr (inr untold))) four =
     absurd (four_not_five status four untold.1.status_is)
-failed_device a tells old refuses opened failed out err status outcome reported fails as_it_is
+failed_device a tells old refuses opened failed out err status seen outcome reported fails as_it_is
     report_fails (inr (inl unwritten)) four =
     inr (inr (inr (report_fails unwritten.0, unwritten.2)))
-failed_device a tells old refuses opened failed out err status outcome reported fails as_it_is
+failed_device a tells old refuses opened failed out err status seen outcome reported fails as_it_is
     report_fails (inr (inr lacks)) four =
     absurd (four_not_five status four lacks.1.status_is)
 
@@ -451,3 +457,12 @@ among_all P kind [] among all = absurd among
 among_all P kind (k ∷ ks) (inl same) all = subst P (sym same) (all 0 k (omega arith))
 among_all P kind (k ∷ ks) (inr more) all = among_all P kind ks more
     (λ i d below. all (suc i) d (omega (arith, below)))
+
+-- the line of a report that could not be written, without a reason
+pub plain_report : (a : Asking) → line (codes "write failed: report") ≡ report_line a None
+plain_report a = ap line (sym (unexplained a.explain))
+  where
+    unexplained : (b : Bool) → explained b (codes "write failed: report") None
+        ≡ codes "write failed: report"
+    unexplained true = refl
+    unexplained false = refl

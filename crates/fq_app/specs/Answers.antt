@@ -1,9 +1,11 @@
 -- How a call of the program ends.
-use Rattle.std.specs.Prelude.{◌≡◌, ◌≢◌, ◌⊎◌, ℕ, ◌<◌, Bool, IsTrue, IsSome, Some, None, List, [], ◌++◌, codes, length, take}
+use Rattle.std.specs.Prelude.{◌≡◌, ◌≢◌, ◌⊎◌, ℕ, ◌<◌, Bool, IsTrue, IsSome, Option, Some, None, List, [], ◌++◌, codes, length, take}
 use Rattle.std.specs.List.{All}
 use Rattle.fq_text.specs.Devices.{OutletState}
 use Rattle.fq_text.specs.Written.{line}
 use Rattle.fq_text.specs.declared.memory.MemoryRefused.{MemoryRefused}
+use Rattle.fq_text.specs.declared.seen.Seen.{Seen}
+use Rattle.fq_text.specs.declared.seen.SystemError.{SystemError}
 use Rattle.fq_files.specs.Holding.{Holding, Names, IsUnchanged, MayRefuse}
 use Rattle.fq_pair.specs.declared.counts.Counts.{Counts}
 use Rattle.fq_pair.specs.declared.side.Side.{Side}
@@ -18,7 +20,7 @@ use Rattle.fq_cli.specs.Requests.{Asking, input_name}
 use Rattle.fq_files_run.specs.Judging.{wrong_with}
 use Rattle.fq_files_run.specs.Refusals.{status_of}
 use Rattle.fq_files_run.specs.Faults.{memory_words, settled, outcome_status, outcome_line}
-use Rattle.fq_reasons.specs.Lines.{line_of, ending_line}
+use Rattle.fq_reasons.specs.Lines.{line_of, ending_line, report_line}
 use Rattle.fq_files_run.specs.Trimming.{IsNoOutput, TrimsFiles}
 use Rattle.fq_files_run.specs.Leaving.{RefusalLeaves, ReportLeft, HoldFirstPairs, AreLeft, TellsInputs}
 use Rattle.fq_files_run.specs.Opening.{IsRefusable}
@@ -63,10 +65,11 @@ pub record TookPart (d : Device) (text : List ℕ) : Type 0 where
 pub record EndsWhole (a : Asking) (old new : Holding) (out err : Device) (status : ℕ) : Type 0 where
   pub outcome : Outcome
   pub counts : Counts
+  pub seen : Seen
   pub trims : TrimsFiles a old new outcome counts
   pub status_is : outcome_status outcome ≡ status
   pub printed : TookPart out (summary_of counts)
-  pub told : TookText err (ending_line a outcome)
+  pub told : TookText err (ending_line a seen outcome)
 
 abbrev pub memory_line : List ℕ
 memory_line = line memory_words
@@ -74,8 +77,9 @@ memory_line = line memory_words
 abbrev pub print_line : List ℕ
 print_line = line (codes "cannot print")
 
-abbrev pub report_line : List ℕ
-report_line = line (codes "write failed: report")
+-- standard error took the line of a report that could not be written
+abbrev pub TookReportLine : Asking → Device → Type 0
+TookReportLine a err = (said : Option (Option SystemError)) × TookText err (report_line a said)
 
 -- memory was refused, and standard error took the line for it
 pub record LacksMemory (err : Device) (status : ℕ) : Type 0 where
@@ -94,12 +98,14 @@ pub record IsRefusal (a : Asking) (tells : Bool)
   pub report_left : IsTrue tells → (name : List ℕ) →
       a.report ≡ Some name → IsNoOutput a name → ReportLeft why (old name) (new name)
 
--- an outcome of the run has this status and this line
+-- an outcome of the run has this status and this line, whose reason is what the device can say that
+-- the outcome names
 pub record IsEnding (a : Asking) (tells : Bool)
     (old new : Holding) (status : ℕ) (text : List ℕ) : Type 0 where
   pub outcome : Outcome
+  pub seen : Seen
   pub status_is : outcome_status outcome ≡ status
-  pub text_is : ending_line a outcome ≡ text
+  pub text_is : ending_line a seen outcome ≡ text
   pub left : IsTrue tells → outcome ≢ Lane → HoldFirstPairs a old new outcome
   pub unreported : IsTrue tells → outcome_status outcome ≢ 0 →
       outcome_status outcome ≢ 3 → (name : List ℕ) → a.report ≡ Some name →
@@ -120,8 +126,9 @@ pub record IsUnprinted (a : Asking) (tells : Bool)
 -- be written
 pub record IsUnreported (a : Asking) (tells : Bool)
     (old new : Holding) (status : ℕ) (text : List ℕ) : Type 0 where
+  pub said : Option (Option SystemError)
   pub status_is : status ≡ 4
-  pub text_is : text ≡ report_line
+  pub text_is : text ≡ report_line a said
   pub left : IsTrue tells →
       (outcome : Outcome) × (counts : Counts) × TrimsFiles a old new outcome counts
   pub begun : IsTrue tells → (name : List ℕ) → a.report ≡ Some name → BeginsReport a old new name
@@ -163,11 +170,11 @@ Reports text outcome out err status =
 
 -- `Reports` holds if the report was written or none was due; otherwise standard error took the line
 -- for a report that was not written or for which memory was refused
-abbrev pub Tells : Asking → Outcome → Reported → Device → Device → ℕ → Type 0
-Tells a outcome reported out err status =
+abbrev pub Tells : Asking → Seen → Outcome → Reported → Device → Device → ℕ → Type 0
+Tells a seen outcome reported out err status =
     (((reported ≡ report.NotDue) ⊎ (reported ≡ report.Written))
-    × Reports (ending_line a outcome) outcome out err status)
-    ⊎ (((reported ≡ report.Failed) × (status ≡ 4) × TookText err report_line)
+    × Reports (ending_line a seen outcome) outcome out err status)
+    ⊎ (((reported ≡ report.Failed) × (status ≡ 4) × TookReportLine a err)
     ⊎ (((refused : MemoryRefused) × (reported ≡ report.OutOfMemory refused))
     × LacksMemory err status))
 
@@ -192,8 +199,9 @@ pub record NamesRefused (a : Asking) (tells : Bool)
 pub record NamesFailed (a : Asking) (tells : Bool)
     (old : Holding) (failed : Failed) (err : Device) : Type 0 where
   pub outcome : Outcome
+  pub seen : Seen
   pub status_is : outcome_status outcome ≡ 4
-  pub told : TookText err (ending_line a outcome)
+  pub told : TookText err (ending_line a seen outcome)
   pub has_failed : HasFailed a tells old failed outcome
   pub as_it_is : IsTrue tells → settled outcome ≡ outcome
 
@@ -205,7 +213,7 @@ NamesDevice a tells old refuses opened failed out err =
     NamesRefused a tells old refuses opened err
     ⊎ (NamesFailed a tells old failed err
     ⊎ (((out.failures ≢ 0) × TookText err print_line)
-    ⊎ (ReportFailed a failed × TookText err report_line)))
+    ⊎ (ReportFailed a failed × TookReportLine a err)))
 
 -- the file of the report holds what it held before, or nothing, or a first part of the defined
 -- report

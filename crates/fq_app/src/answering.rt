@@ -27,7 +27,7 @@ use clap::error::ErrorKind;
 use fq_cli::{Asked, Request, read_words};
 use fq_files::Files;
 use fq_files_run::{Refusal, Reported};
-use fq_text::{MemoryRefused, Outlet, send};
+use fq_text::{MemoryRefused, Outlet, Seen, send};
 use std::alloc::{AllocError, Global};
 use std::sync::Wait;
 use std::thread::Threads;
@@ -206,8 +206,8 @@ fn tell<O: Outlet, E: Outlet>(
         → TookPart (device_of O.state out.old out.new) (summary_of completed.now.account.counts) }
     ensures finished { result ≡ 0 → ((O.state out.new).failures ≡ 0) × (err.new ≡ err.old) }
     ensures told { (result ≡ 0) ⊎ (result ≡ 3) → TookText (device_of E.state err.old err.new)
-        (ending_line (asking_of request.now) completed.now.account.outcome) }
-    ensures line { result ≢ 0 → Tells (asking_of request.now)
+        (ending_line (asking_of request.now) completed.now.seen completed.now.account.outcome) }
+    ensures line { result ≢ 0 → Tells (asking_of request.now) completed.now.seen
         completed.now.account.outcome completed.now.reported
         (device_of O.state out.old out.new) (device_of E.state err.old err.new) result }
     ensures memory { result ≡ 5 → (out.new ≡ out.old)
@@ -219,9 +219,16 @@ fn tell<O: Outlet, E: Outlet>(
 {
     match completed.reported {
         Reported::NotDue | Reported::Written => {
-            tell_account(alloc, Some(request), &completed.account, out, err)
+            tell_account(
+                alloc,
+                Some(request),
+                completed.seen,
+                &completed.account,
+                out,
+                err,
+            )
         }
-        Reported::Failed => cannot_report(err),
+        Reported::Failed => cannot_report(alloc, request, completed.report_error, err),
         Reported::OutOfMemory(refused) => out_of_memory(err, refused),
     }
 }
@@ -267,7 +274,7 @@ fn print_example<R: Threads + Wait + Copy + Send + 'static, O: Outlet, E: Outlet
             Ok(()) => 0,
             Err(_) => cannot_print(err),
         },
-        Err(Unshown::Unrun(account)) => tell_account(alloc, None, &account, out, err),
+        Err(Unshown::Unrun(ran)) => tell_account(alloc, None, Seen::NOTHING, &ran, out, err),
         Err(Unshown::Memory(refused)) => out_of_memory(err, refused),
     }
 }

@@ -26,7 +26,7 @@ pub(crate) fn refusal_status(refusal: Refusal) -> u8
         | Refusal::Setting(_)
         | Refusal::SameName(_)
         | Refusal::SameReport => 2,
-        Refusal::Source(_) | Refusal::Target(_) | Refusal::Report => 4,
+        Refusal::Source(..) | Refusal::Target(..) | Refusal::Report(_) => 4,
         Refusal::Memory(_) => 5,
     }
 }
@@ -60,13 +60,13 @@ fn plain_line(alloc: Global, request: &Request<'_>, refusal: Refusal) -> Result<
             format!(in alloc; "bad setting: {name}\n")
         }
         Refusal::SameName(out) => same_name_line(alloc, output_name(request, out)),
-        Refusal::Source(side) => {
+        Refusal::Source(side, _) => {
             let name = request.input_name(side);
             format!(in alloc; "cannot read {name}\n")
         }
-        Refusal::Target(out) => unwritten_line(alloc, output_name(request, out)),
+        Refusal::Target(out, _) => unwritten_line(alloc, output_name(request, out)),
         Refusal::SameReport => same_name_line(alloc, report_name(request)),
-        Refusal::Report => unwritten_line(alloc, report_name(request)),
+        Refusal::Report(_) => unwritten_line(alloc, report_name(request)),
         Refusal::Memory(_) => String::from_str(alloc, MEMORY_LINE),
     }
 }

@@ -4,7 +4,7 @@ ghost use Rattle.std.specs.Prelude.{◌≡◌, ◌≢◌, ◌⊎◌, true, false
 ghost use Rattle.std.specs.Option.{option_map};
 ghost use Rattle.std.specs.String.{string_bytes};
 ghost use Rattle.fq_pair.specs.Summaries.{summary_of};
-ghost use Rattle.fq_app.specs.Answers.{device_of, TookText, TookPart, Reports, LacksMemory, memory_line, print_line, report_line};
+ghost use Rattle.fq_app.specs.Answers.{device_of, TookText, TookPart, Reports, LacksMemory, TookReportLine, memory_line, print_line};
 ghost use Rattle.fq_files_run.specs.Faults.{outcome_status};
 ghost use Rattle.fq_cli.specs.Requests.{asking_of};
 ghost use Rattle.fq_reasons.specs.Lines.{line_for};
@@ -12,16 +12,18 @@ ghost use Rattle.fq_reasons.specs.Lines.{line_for};
 use fq_cli::Request;
 use fq_files_run::{Account, LANE_LINE, MEMORY_LINE, fault_line, status_of};
 use fq_pair::{Counts, summary};
-use fq_reasons::ending_line;
+use fq_reasons::{REPORT_LINE, ending_line, report_line};
 use fq_run::Outcome;
-use fq_text::{MemoryRefused, OutOfMemory, Outlet, send};
+use fq_text::{MemoryRefused, OutOfMemory, Outlet, Seen, SystemError, send};
 use std::alloc::Global;
 
 /// Prints the summary to `out` if the run ended whole, and the line of a fault to `err`. The run is
-/// that of a request, or that of the example. Returns the exit status.
+/// that of a request, or that of the example. `seen` is what the device can say that the outcome
+/// names. Returns the exit status.
 pub(crate) fn tell_account<O: Outlet, E: Outlet>(
     alloc: Global,
     request: Option<&Request<'_>>,
+    seen: Seen,
     account: &Account,
     out: &mut O,
     err: &mut E,
@@ -41,9 +43,9 @@ pub(crate) fn tell_account<O: Outlet, E: Outlet>(
     // The line of the outcome went to `err`.
     ensures told { (result ≡ 0) ⊎ (result ≡ 3)
         → TookText (device_of E.state err.old err.new)
-        (line_for (option_map (λ r. asking_of r.now) request.entry) account.now.outcome) }
+        (line_for (option_map (λ r. asking_of r.now) request.entry) seen account.now.outcome) }
     ensures line { result ≢ 0 → Reports
-        (line_for (option_map (λ r. asking_of r.now) request.entry) account.now.outcome)
+        (line_for (option_map (λ r. asking_of r.now) request.entry) seen account.now.outcome)
         account.now.outcome
         (device_of O.state out.old out.new) (device_of E.state err.old err.new) result }
     ensures memory { result ≡ 5 → (out.new ≡ out.old)
@@ -62,7 +64,7 @@ pub(crate) fn tell_account<O: Outlet, E: Outlet>(
         let _ = send(err, LANE_LINE.as_bytes());
         return 6;
     }
-    let line = match told_line(alloc, request, account.outcome) {
+    let line = match told_line(alloc, request, seen, account.outcome) {
         Ok(line) => line,
         Err(e) => return out_of_memory(err, MemoryRefused::from(e)),
     };
@@ -85,17 +87,18 @@ pub(crate) fn tell_account<O: Outlet, E: Outlet>(
 fn told_line(
     alloc: Global,
     request: Option<&Request<'_>>,
+    seen: Seen,
     outcome: Outcome,
 ) -> Result<String, OutOfMemory>
     ensures { IfOk result (λ text. string_bytes text
-        ≡ line_for (option_map (λ r. asking_of r.now) request.entry) outcome) }
+        ≡ line_for (option_map (λ r. asking_of r.now) request.entry) seen outcome) }
 {
     let Some(request) = request else {
         let mut line = String::new(alloc);
         fault_line(alloc, &mut line, outcome)?;
         return Ok(line);
     };
-    ending_line(alloc, request, outcome)
+    ending_line(alloc, request, seen, outcome)
 }
 
 // Prints the summary. Returns whether `out` took all of it.
@@ -135,12 +138,31 @@ pub(crate) fn cannot_print<E: Outlet>(err: &mut E) -> u8
     4
 }
 
-/// Reports on `err` that the report was not written. Returns the exit status, 4.
-pub(crate) fn cannot_report<E: Outlet>(err: &mut E) -> u8
+/// Reports on `err` that the report was not written, and why if the request asks for that. Returns
+/// the exit status, 4.
+pub(crate) fn cannot_report<E: Outlet>(
+    alloc: Global,
+    request: &Request<'_>,
+    error: Option<SystemError>,
+    err: &mut E,
+) -> u8
     requires { (E.state err.old).failures ≡ 0 }
     ensures status { result ≡ 4 }
-    ensures told { TookText (device_of E.state err.old err.new) report_line }
+    ensures told { TookReportLine (asking_of request.now) (device_of E.state err.old err.new) }
 {
-    let _ = send(err, b"write failed: report\n");
+    match report_line(alloc, request, error) {
+        Ok(text) => fail_with(err, text.as_str()),
+        // Without memory the line has no reason.
+        Err(_) => fail_with(err, REPORT_LINE),
+    }
+}
+
+// Reports this line on `err`. Returns the exit status, 4.
+fn fail_with<E: Outlet>(err: &mut E, text: &str) -> u8
+    requires { (E.state err.old).failures ≡ 0 }
+    ensures status { result ≡ 4 }
+    ensures told { TookText (device_of E.state err.old err.new) text.now }
+{
+    let _ = send(err, text.as_bytes());
     4
 }

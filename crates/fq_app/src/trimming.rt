@@ -16,11 +16,12 @@ ghost use Rattle.fq_files.specs.Holding.{Holding, IsUnchanged};
 use fq_cli::Request;
 use fq_files::Files;
 use fq_files_run::{
-    Account, Devices, Feeds, Refusal, Reported, inputs_done, judge, open, store, store_report,
+    Account, Devices, Feeds, Refusal, Reported, inputs_done, judge, open, seen_of, store,
+    store_report,
 };
 use fq_pair::Side;
 use fq_run::{Outcome, Outlets, Settings, run_threads, run_threads_mixed};
-use fq_text::{Feed, MemoryRefused, OutOfMemory, Outlet};
+use fq_text::{Feed, MemoryRefused, OutOfMemory, Outlet, Seen, SystemError};
 use fq_work::OpenGate;
 use std::alloc::Global;
 use std::sync::{Arc, Wait};
@@ -33,6 +34,10 @@ pub struct Completed {
     pub account: Account,
     /// What became of its report.
     pub reported: Reported,
+    /// What the device that the outcome names can say.
+    pub seen: Seen,
+    /// Why the outlet of the report failed, if it did.
+    pub report_error: Option<SystemError>,
 }
 
 /// Trims the pairs of the inputs into the outputs.
@@ -123,10 +128,15 @@ fn complete<R: Threads + Wait + Copy + Send + 'static, T: Files>(
         report,
     } = devices;
     let Ran { account, feeds } = run(alloc, rt, settings, gate, feeds, &mut outlets);
-    inputs_done(request, files, feeds);
-    store(request, files, outlets);
+    let inputs = inputs_done(request, files, feeds);
+    let errors = store(request, files, outlets);
     let reported = store_report(alloc, request, files, settings.encoding(), &account, report);
-    Completed { account, reported }
+    Completed {
+        seen: seen_of(account.outcome, &inputs, &errors),
+        reported: reported.0,
+        report_error: reported.1,
+        account,
+    }
 }
 
 // How a run went, and the feeds that it returned.

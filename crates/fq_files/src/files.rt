@@ -1,18 +1,29 @@
 //! Files by name.
 
 ghost use Rattle.std.specs.Prelude.{◌≡◌, ◌≢◌, ◌<◌, ◌⊎◌, ℕ, Bool, List, false, Some, None, Err, [], IsTrue, IsSome, IfOk, OnOk, OnErr};
+ghost use Rattle.fq_text.specs.Looks.{look_of};
 ghost use Rattle.fq_files.specs.Holding.{Holding, Names, IsUnchanged, KeepsOthers, KeepsNames, MayRefuse};
 
-use fq_text::{Feed, OutOfMemory, Outlet};
+use fq_text::{Feed, OutOfMemory, Outlet, Seen, SystemError};
 use thiserror::Error;
+
+/// Why a file is refused.
+#[derive(Clone, Copy, Debug, PartialEq, Eq)]
+pub enum Cause {
+    /// The system refused it: there is no such file, or it can't be opened or created.
+    System(SystemError),
+    /// It is already an input.
+    Input,
+    /// It is already an output.
+    Output,
+}
 
 /// Why a file can't be read or written.
 #[derive(Clone, Copy, Debug, PartialEq, Eq, Error)]
 pub enum FileFault {
-    /// There is no such file, it can't be opened or created, or it is already an input or an
-    /// output.
+    /// The file was refused.
     #[error("the file was refused")]
-    Refused,
+    Refused(Cause),
     /// Memory was refused.
     #[error("out of memory")]
     OutOfMemory,
@@ -79,7 +90,7 @@ pub trait Files {
         ensures given { IfOk result (λ feed. IsTrue (tells_bytes self.old)
             → bytes_of self.old name.now ≡ Some (Self.In.state feed).to_come) }
         ensures refused { IsTrue (tells_bytes self.old)
-            → result ≡ Err FileFault.Refused
+            → (cause : Cause) → result ≡ Err (FileFault.Refused cause)
             → (bytes_of self.old name.now ≡ None) ⊎ IsTrue (is_open self.old name.now) }
         ensures unchanged { IsTrue (tells_bytes self.old)
             → IsUnchanged (bytes_of self.old) (bytes_of self.new) }
@@ -94,15 +105,19 @@ pub trait Files {
         ensures failed { has_failed self.new ≡ has_failed self.old }
         ensures flushed { is_unflushed self.new ≡ is_unflushed self.old };
 
-    /// Hands a feed back: if it failed, a device of this name has failed. No file changes. The name
-    /// must be held, as it is once [`source`](Files::source) has returned `Ok` for it.
-    fn source_done(&mut self, name: &str, feed: Self::In)
+    /// Hands a feed back: if it failed, a device of this name has failed. Returns why, and what the
+    /// file looks like, as far as that is known. No file changes. The name must be held, as it is
+    /// once [`source`](Files::source) has returned `Ok` for it.
+    fn source_done(&mut self, name: &str, feed: Self::In) -> Seen
         requires { IsTrue (tells_bytes self.old) → IsSome (bytes_of self.old name.now) }
         ensures unchanged { IsTrue (tells_bytes self.old)
             → IsUnchanged (bytes_of self.old) (bytes_of self.new) }
         ensures told { tells_bytes self.new ≡ tells_bytes self.old }
         ensures refusing { refuses self.new ≡ refuses self.old }
         ensures opened { is_open self.new ≡ is_open self.old }
+        ensures why { (Self.In.state feed).failures ≡ 0 → result.error ≡ None }
+        ensures look { IsTrue (tells_bytes self.old) → (bytes : List ℕ)
+            → bytes_of self.old name.now ≡ Some bytes → result.look ≡ look_of bytes }
         ensures failed { 0 < (Self.In.state feed).failures → IsTrue (has_failed self.new name.now) }
         ensures sound { (Self.In.state feed).failures ≡ 0
             → has_failed self.new ≡ has_failed self.old }
@@ -153,7 +168,7 @@ pub trait Files {
         ensures others { IsTrue (tells_bytes self.old)
             → KeepsOthers (bytes_of self.old) (bytes_of self.new) name.now }
         ensures told { tells_bytes self.new ≡ tells_bytes self.old }
-        ensures rightly { result ≡ Err FileFault.Refused
+        ensures rightly { (cause : Cause) → result ≡ Err (FileFault.Refused cause)
             → MayRefuse (refuses self.old) (is_open self.old) name.now }
         ensures refusing { refuses self.new ≡ refuses self.old }
         ensures opened { is_open self.new ≡ is_open self.old }
@@ -161,9 +176,9 @@ pub trait Files {
         ensures flushed { is_unflushed self.new ≡ is_unflushed self.old };
 
     /// Hands an outlet back: the file holds what the outlet has taken, and if the outlet failed, a
-    /// device of this name has failed. The name must be held, as it is once
-    /// [`target`](Files::target) has returned `Ok` for it.
-    fn done(&mut self, name: &str, target: Self::Target)
+    /// device of this name has failed. Returns why, as far as that is known. The name must be held,
+    /// as it is once [`target`](Files::target) has returned `Ok` for it.
+    fn done(&mut self, name: &str, target: Self::Target) -> Option<SystemError>
         requires { IsTrue (tells_bytes self.old) → IsSome (bytes_of self.old name.now) }
         ensures stored { IsTrue (tells_bytes self.old) → IsTrue (Self.Target.state target).tells
             → bytes_of self.new name.now ≡ Some (Self.Target.state target).taken }
@@ -174,6 +189,7 @@ pub trait Files {
         ensures told { tells_bytes self.new ≡ tells_bytes self.old }
         ensures refusing { refuses self.new ≡ refuses self.old }
         ensures opened { is_open self.new ≡ is_open self.old }
+        ensures why { (Self.Target.state target).failures ≡ 0 → result ≡ None }
         ensures failed { 0 < (Self.Target.state target).failures
             → IsTrue (has_failed self.new name.now) }
         ensures sound { (Self.Target.state target).failures ≡ 0

@@ -6,6 +6,6 @@ mod files;
 mod memory;
 mod system;
 
-pub use files::{FileFault, Files};
+pub use files::{Cause, FileFault, Files};
 pub use memory::{MemoryFiles, MemoryTarget};
 pub use system::{SystemFiles, SystemTarget};

@@ -1,9 +1,17 @@
 //! Files in memory.
 
-use crate::files::{FileFault, Files};
-use fq_text::{Feed, OutOfMemory, Outlet, OutletFailed, ScriptFeed};
+use crate::files::{Cause, FileFault, Files};
+use fq_text::{Feed, Look, OutOfMemory, Outlet, OutletFailed, ScriptFeed, Seen, SystemError};
 use std::alloc::Global;
 use std::collections::{BTreeMap, BTreeSet};
+
+// The numbers by which Linux says that there is no such file, that a call failed, and that there is
+// no memory.
+const MISSING: SystemError = SystemError { number: 2 };
+
+const FAILED: SystemError = SystemError { number: 5 };
+
+const NO_MEMORY: SystemError = SystemError { number: 12 };
 
 /// Files in memory. Their bytes are known to the proof.
 ///
@@ -114,7 +122,7 @@ impl Files for MemoryFiles {
             ≡ record { bytes = feed.bytes; cut = usize.MAX; fails_in = 0; failures = 0 }) }
 
         // As for all files whose bytes are known to the proof.
-        ensures refused { result ≡ Err FileFault.Refused
+        ensures refused { (cause : Cause) → result ≡ Err (FileFault.Refused cause)
             → (bytes_in self.old name.now ≡ None) ⊎ IsTrue (opened_in self.old name.now) }
         ensures unchanged { IsUnchanged (bytes_in self.old) (bytes_in self.new) }
         ensures opened { OnOk result (IsTrue (opened_in self.new name.now)) }
@@ -127,18 +135,26 @@ impl Files for MemoryFiles {
         ensures flushed { unflushed_in self.new ≡ unflushed_in self.old }
     {
         if self.leads_to_input(name) {
-            return Err(FileFault::Refused);
+            return Err(FileFault::Refused(Cause::Input));
         }
-        let bytes = self.held.get(name).ok_or(FileFault::Refused)?;
+        let missing = FileFault::Refused(Cause::System(MISSING));
+        let bytes = self.held.get(name).ok_or(missing)?;
         let feed = ScriptFeed::new(self.alloc, bytes, usize::MAX, 0)?;
         self.note_input(name)?;
         Ok(feed)
     }
 
-    fn source_done(&mut self, _name: &str, feed: ScriptFeed) {
+    fn source_done(&mut self, name: &str, feed: ScriptFeed) -> Seen {
+        let look = match self.held.get(name) {
+            Some(bytes) => Look::of(bytes),
+            None => Look::Unknown,
+        };
+        let mut error = None;
         if feed.failures() > 0 {
             self.has_failed = true;
+            error = Some(FAILED);
         }
+        Seen { error, look }
     }
 
     fn leads_to_input(&self, name: &str) -> bool
@@ -149,15 +165,17 @@ impl Files for MemoryFiles {
 
     fn target(&mut self, name: &str) -> Result<MemoryTarget, FileFault> {
         if self.leads_to_input(name) {
-            return Err(FileFault::Refused);
+            return Err(FileFault::Refused(Cause::Input));
         }
         self.put(name, &[])?;
         Ok(MemoryTarget::new(self.alloc))
     }
 
-    fn done(&mut self, name: &str, target: MemoryTarget) {
+    fn done(&mut self, name: &str, target: MemoryTarget) -> Option<SystemError> {
+        let mut error = None;
         if target.failures > 0 {
             self.has_failed = true;
+            error = Some(NO_MEMORY);
         }
         if !target.is_flushed {
             self.has_unflushed = true;
@@ -165,6 +183,7 @@ impl Files for MemoryFiles {
         if let Some(bytes) = self.held.get_mut(name) {
             *bytes = target.into_bytes();
         }
+        error
     }
 }
 

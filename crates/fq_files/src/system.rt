@@ -1,13 +1,21 @@
 //! Files of the operating system.
 
 use crate::device::major_of;
-use crate::files::{FileFault, Files};
-use fq_text::{Feed, FromRead, OutOfMemory, Outlet, OutletFailed, write_to};
+use crate::files::{Cause, FileFault, Files};
+use fq_text::{Feed, FromRead, OutOfMemory, Outlet, OutletFailed, Seen, SystemError, write_to};
 use std::alloc::Global;
 use std::fs::{self, File, Metadata, OpenFile, OpenOptions};
-use std::io::Write;
+use std::io::{self, Write};
 use std::os::unix::fs::MetadataExt;
 use std::rt;
+
+// The number by which Linux says that a file is a directory (`EISDIR`).
+const IS_DIRECTORY: SystemError = SystemError { number: 21 };
+
+// The fault of a file that the system refused with this error.
+fn refused(error: io::Error) -> FileFault {
+    FileFault::Refused(Cause::System(SystemError::of(error)))
+}
 
 /// What identifies a file of the system: its device, and its number (inode) there.
 #[derive(Clone, Copy, PartialEq, Eq)]
@@ -106,25 +114,24 @@ impl<'a, R: rt::Files<File = File>> Files for SystemFiles<'a, R> {
     ghost is_unflushed = { λ files _. files.has_unflushed };
 
     fn source(&mut self, name: &str) -> Result<FromRead<File>, FileFault> {
-        let Ok(file) = File::open(self.runtime, name) else {
-            return Err(FileFault::Refused);
-        };
-        let Ok(metadata) = file.metadata() else {
-            return Err(FileFault::Refused);
-        };
+        let file = File::open(self.runtime, name).map_err(refused)?;
+        let metadata = file.metadata().map_err(refused)?;
         let identity = Identity::of(&metadata);
-        let is_twice = metadata.is_file() && self.is_input(identity);
-        if metadata.is_dir() || is_twice {
-            return Err(FileFault::Refused);
+        if metadata.is_dir() {
+            return Err(FileFault::Refused(Cause::System(IS_DIRECTORY)));
+        }
+        if metadata.is_file() && self.is_input(identity) {
+            return Err(FileFault::Refused(Cause::Input));
         }
         self.inputs.push(identity).map_err(OutOfMemory::from)?;
         Ok(FromRead::new(file))
     }
 
-    fn source_done(&mut self, _name: &str, feed: FromRead<File>) {
+    fn source_done(&mut self, _name: &str, feed: FromRead<File>) -> Seen {
         if feed.failures() > 0 {
             self.has_failed = true;
         }
+        feed.seen()
     }
 
     fn leads_to_input(&self, name: &str) -> bool {
@@ -137,29 +144,29 @@ impl<'a, R: rt::Files<File = File>> Files for SystemFiles<'a, R> {
         // input nor another output.
         let mut options = OpenOptions::new();
         let opened = options.write(true).create(true).open(self.runtime, name);
-        let Ok(file) = opened else {
-            return Err(FileFault::Refused);
-        };
-        let Ok(metadata) = file.metadata() else {
-            return Err(FileFault::Refused);
-        };
+        let file = opened.map_err(refused)?;
+        let metadata = file.metadata().map_err(refused)?;
         let identity = Identity::of(&metadata);
-        if self.is_input(identity) || self.is_output(identity) {
-            return Err(FileFault::Refused);
+        if self.is_input(identity) {
+            return Err(FileFault::Refused(Cause::Input));
+        }
+        if self.is_output(identity) {
+            return Err(FileFault::Refused(Cause::Output));
         }
         let is_regular = metadata.is_file();
         if is_regular {
             self.outputs.push(identity).map_err(OutOfMemory::from)?;
             // An empty file isn't truncated: ext4 would begin to write it to the disk as soon as it
             // is closed.
-            if metadata.len() > 0 && file.set_len(0).is_err() {
-                return Err(FileFault::Refused);
+            if metadata.len() > 0 {
+                file.set_len(0).map_err(refused)?;
             }
         }
         Ok(SystemTarget {
             file,
             syncs: is_regular && self.syncs(identity),
             failed_calls: 0,
+            error: SystemError { number: 0 },
             is_flushed: false,
         })
     }
@@ -168,13 +175,15 @@ impl<'a, R: rt::Files<File = File>> Files for SystemFiles<'a, R> {
         self.syncs_always = true;
     }
 
-    fn done(&mut self, _name: &str, target: SystemTarget<File>) {
-        if target.failed_calls > 0 {
-            self.has_failed = true;
-        }
+    fn done(&mut self, _name: &str, target: SystemTarget<File>) -> Option<SystemError> {
         if !target.is_flushed {
             self.has_unflushed = true;
         }
+        if target.failed_calls == 0 {
+            return None;
+        }
+        self.has_failed = true;
+        Some(target.error)
     }
 }
 
@@ -194,6 +203,8 @@ pub struct SystemTarget<W> {
     // Whether a flush waits. Pipes and terminals have no disk to wait for.
     syncs: bool,
     failed_calls: u64,
+    // Why the last failed call failed.
+    error: SystemError,
     // Whether the last of the writes and flushes was a flush that succeeded.
     is_flushed: bool,
 }
@@ -201,12 +212,16 @@ pub struct SystemTarget<W> {
 impl<W> SystemTarget<W> {
     ghost use Rattle.std.specs.Prelude.{◌≡◌, ◌<◌, ◌+◌};
 
-    // Counts one more failure.
-    fn fail(&mut self) -> OutletFailed
+    // Counts one more failure, and keeps why.
+    fn fail(&mut self, error: SystemError) -> OutletFailed
         requires { self.old.failed_calls < u64.MAX }
-        ensures { self.new ≡ record self.old { failed_calls = self.old.failed_calls + 1 } }
+        ensures { self.new ≡ record self.old {
+          failed_calls = self.old.failed_calls + 1;
+          error = error;
+        } }
     {
         self.failed_calls += 1;
+        self.error = error;
         OutletFailed
     }
 }
@@ -236,7 +251,7 @@ impl<W: Write + OpenFile> Outlet for SystemTarget<W> {
         self.is_flushed = false;
         match write_to(&mut self.file, bytes) {
             Ok(n) => Ok(n),
-            Err(OutletFailed) => Err(self.fail()),
+            Err(error) => Err(self.fail(error)),
         }
     }
 
@@ -248,8 +263,10 @@ impl<W: Write + OpenFile> Outlet for SystemTarget<W> {
         ensures writer { self.new.file ≡ self.old.file }
     {
         self.is_flushed = false;
-        if self.syncs && self.file.sync_data().is_err() {
-            return Err(self.fail());
+        if self.syncs {
+            if let Err(e) = self.file.sync_data() {
+                return Err(self.fail(SystemError::of(e)));
+            }
         }
         self.is_flushed = true;
         Ok(())

@@ -14,7 +14,7 @@ use Rattle.fq_run_core.specs.declared.outcome.Outcome.TheVariants.{Spawn, Write}
 use Rattle.fq_run_core.specs.Devices.{OutletStates, OutletsTook}
 use Rattle.fq_run_core.specs.Endings.{Run, AreFirst, AreTold, EveryEnding, all_pairs, trimmed_outcome}
 use Rattle.fq_run_core.specs.Fates.{Fate, Unbroken, failed_outlet, block_begun, part_begun, IsCutShort}
-use Rattle.fq_files_run.specs.Refusals.{IsMemory}
+use Rattle.fq_files_run.specs.Refusals.{IsMemory, IsReport}
 use Rattle.fq_files_run.specs.declared.refusal.Refusal.{Refusal}
 use Rattle.fq_files_run.specs.declared.refusal.Refusal.TheVariants as why
 use Rattle.fq_cli.specs.Requests.{Asking, InputNames}
@@ -61,23 +61,23 @@ leaves_unchanged a why.Encoding old new early same = same
 leaves_unchanged a (why.Step fault) old new early same = same
 leaves_unchanged a (why.Setting bad) old new early same = same
 leaves_unchanged a (why.SameName out) old new early same = same
-leaves_unchanged a (why.Source side) old new early same = same
-leaves_unchanged a (why.Target out) old new early same = absurd (cc early)
+leaves_unchanged a (why.Source side cause) old new early same = same
+leaves_unchanged a (why.Target out cause) old new early same = absurd (cc early)
 leaves_unchanged a why.SameReport old new early same = same
-leaves_unchanged a why.Report old new early same = absurd (cc early)
+leaves_unchanged a (why.Report cause) old new early same = absurd (cc early)
 leaves_unchanged a (why.Memory lacked) old new early same = λ out name named. inl (same name)
 
 -- an output or the report that leads to an input is refused, and the files are unchanged
 pub spares_all : (a : Asking) (refusal : Refusal) (old new : Holding) → IsTrue (is_late refusal) →
     IsUnchanged old new → RefusalLeaves a refusal old new
-spares_all a (why.Target out) old new late same = inr same
-spares_all a why.Report old new late same = inr same
+spares_all a (why.Target out cause) old new late same = inr same
+spares_all a (why.Report cause) old new late same = inr same
 spares_all a (why.Memory lacked) old new late same = λ out name named. inl (same name)
 spares_all a why.Encoding old new late same = absurd (cc late)
 spares_all a (why.Step fault) old new late same = absurd (cc late)
 spares_all a (why.Setting bad) old new late same = absurd (cc late)
 spares_all a (why.SameName out) old new late same = absurd (cc late)
-spares_all a (why.Source side) old new late same = absurd (cc late)
+spares_all a (why.Source side cause) old new late same = absurd (cc late)
 spares_all a why.SameReport old new late same = absurd (cc late)
 
 -- a refusal after the inputs are opened says only that both inputs exist
@@ -85,9 +85,9 @@ pub tells_late : (inputs : InputNames) (refusal : Refusal) (old : Holding) (refu
     (forward reverse : List ℕ) → IsTrue (is_late refusal)
     → old inputs.forward ≡ Some forward → old inputs.reverse ≡ Some reverse →
     TellsInputs inputs refusal old refuses opened
-tells_late inputs (why.Target out) old refuses opened forward reverse late first second =
+tells_late inputs (why.Target out cause) old refuses opened forward reverse late first second =
     (subst IsSome (sym first) refl, subst IsSome (sym second) refl)
-tells_late inputs why.Report old refuses opened forward reverse late first second =
+tells_late inputs (why.Report cause) old refuses opened forward reverse late first second =
     (subst IsSome (sym first) refl, subst IsSome (sym second) refl)
 tells_late inputs (why.Memory lacked) old refuses opened forward reverse late first second = tt
 tells_late inputs why.Encoding old refuses opened forward reverse late first second =
@@ -98,7 +98,7 @@ tells_late inputs (why.Setting bad) old refuses opened forward reverse late firs
     absurd (cc late)
 tells_late inputs (why.SameName out) old refuses opened forward reverse late first second =
     absurd (cc late)
-tells_late inputs (why.Source side) old refuses opened forward reverse late first second =
+tells_late inputs (why.Source side cause) old refuses opened forward reverse late first second =
     absurd (cc late)
 tells_late inputs why.SameReport old refuses opened forward reverse late first second =
     absurd (cc late)
@@ -110,12 +110,12 @@ refusal_untrimmed a why.Encoding old new left = λ out name named. inl (left nam
 refusal_untrimmed a (why.Step fault) old new left = λ out name named. inl (left name)
 refusal_untrimmed a (why.Setting bad) old new left = λ out name named. inl (left name)
 refusal_untrimmed a (why.SameName out) old new left = λ o name named. inl (left name)
-refusal_untrimmed a (why.Source side) old new left = λ out name named. inl (left name)
-refusal_untrimmed a (why.Target out) old new left =
+refusal_untrimmed a (why.Source side cause) old new left = λ out name named. inl (left name)
+refusal_untrimmed a (why.Target out cause) old new left =
     ⊎_elim (λ stops. stops_untrimmed a out old new stops) (λ same out name named. inl (same name))
     left
 refusal_untrimmed a why.SameReport old new left = λ out name named. inl (left name)
-refusal_untrimmed a why.Report old new left =
+refusal_untrimmed a (why.Report cause) old new left =
     ⊎_elim (λ empty out name named. inr (empty out name named))
     (λ same out name named. inl (same name)) left
 refusal_untrimmed a (why.Memory lacked) old new left = left
@@ -133,8 +133,8 @@ leaves_since a why.Encoding old mid new same left = λ name. left name ∙ same 
 leaves_since a (why.Step fault) old mid new same left = λ name. left name ∙ same name
 leaves_since a (why.Setting bad) old mid new same left = λ name. left name ∙ same name
 leaves_since a (why.SameName out) old mid new same left = λ name. left name ∙ same name
-leaves_since a (why.Source side) old mid new same left = λ name. left name ∙ same name
-leaves_since a (why.Target out) old mid new same left = ⊎_elim
+leaves_since a (why.Source side cause) old mid new same left = λ name. left name ∙ same name
+leaves_since a (why.Target out cause) old mid new same left = ⊎_elim
     (λ stops. inl (record {
       before = stops.before;
       there = λ name named. unchanged_or_nothing (old name) (mid name) (new name) (same name)
@@ -143,7 +143,7 @@ leaves_since a (why.Target out) old mid new same left = ⊎_elim
     }))
     (λ kept. inr (λ name. kept name ∙ same name)) left
 leaves_since a why.SameReport old mid new same left = λ name. left name ∙ same name
-leaves_since a why.Report old mid new same left =
+leaves_since a (why.Report cause) old mid new same left =
     ⊎_elim (λ empty. inl empty) (λ kept. inr (λ name. kept name ∙ same name)) left
 leaves_since a (why.Memory lacked) old mid new same left =
     λ out name named. unchanged_or_nothing (old name) (mid name) (new name) (same name)
@@ -193,19 +193,19 @@ report_behind why.Encoding old new same = same
 report_behind (why.Step fault) old new same = same
 report_behind (why.Setting bad) old new same = same
 report_behind (why.SameName out) old new same = same
-report_behind (why.Source side) old new same = same
-report_behind (why.Target out) old new same = same
+report_behind (why.Source side cause) old new same = same
+report_behind (why.Target out cause) old new same = same
 report_behind why.SameReport old new same = same
-report_behind why.Report old new same = inl same
+report_behind (why.Report cause) old new same = inl same
 report_behind (why.Memory lacked) old new same = inl same
 
 -- the report itself was refused, or memory for it
 pub report_refused : (refusal : Refusal) (old new : Option (List ℕ)) →
-    (refusal ≡ why.Report) ⊎ IsMemory refusal → (new ≡ old) ⊎ (new ≡ Some []) →
+    IsReport refusal ⊎ IsMemory refusal → (new ≡ old) ⊎ (new ≡ Some []) →
     ReportLeft refusal old new
 report_refused refusal old new is left =
     let P : Refusal → Type 0 = λ r. ReportLeft r old new in
-    ⊎_elim (λ report. subst P (sym report) left) (λ memory. subst P (sym memory.1) left) is
+    ⊎_elim (λ report. subst P (sym report.1) left) (λ memory. subst P (sym memory.1) left) is
 
 -- what each refusal leaves in the file of the report
 left_or_nothing : (refusal : Refusal) (old new : Option (List ℕ)) → ReportLeft refusal old new →
@@ -214,10 +214,10 @@ left_or_nothing why.Encoding old new left = inl left
 left_or_nothing (why.Step fault) old new left = inl left
 left_or_nothing (why.Setting bad) old new left = inl left
 left_or_nothing (why.SameName out) old new left = inl left
-left_or_nothing (why.Source side) old new left = inl left
-left_or_nothing (why.Target out) old new left = inl left
+left_or_nothing (why.Source side cause) old new left = inl left
+left_or_nothing (why.Target out cause) old new left = inl left
 left_or_nothing why.SameReport old new left = inl left
-left_or_nothing why.Report old new left = left
+left_or_nothing (why.Report cause) old new left = left
 left_or_nothing (why.Memory lacked) old new left = left
 
 -- a refusal leaves in the file of the report what it held before, or nothing

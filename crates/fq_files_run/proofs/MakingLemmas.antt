@@ -7,7 +7,7 @@ use Rattle.fq_pair.specs.declared.out.Out.{Out}
 use Rattle.fq_pair.specs.declared.out.Out.TheVariants.{ForwardPaired, ForwardUnpaired, ReversePaired, ReverseUnpaired, Log}
 use Rattle.fq_files.specs.Holding.{Holding, KeepsOthers}
 use Rattle.fq_run_core.specs.Devices.{place}
-use Rattle.fq_files_run.specs.Refusals.{IsMemory}
+use Rattle.fq_files_run.specs.Refusals.{IsMemory, IsTarget, IsReport}
 use Rattle.fq_files_run.specs.declared.refusal.Refusal.{Refusal}
 use Rattle.fq_files_run.specs.declared.refusal.Refusal.TheVariants as why
 use Rattle.fq_cli.specs.Requests.{Asking, output_name}
@@ -213,11 +213,11 @@ stops_untrimmed a this start new stops out name named = ⊎_elim
 -- what the files hold after an output was refused
 leaves_made : (a : Asking) (start old new : Holding) (this : Out) (refusal : Refusal) →
     AreMade a start (place this) old → IsUnmade a this old new →
-    (refusal ≡ why.Target this) ⊎ IsMemory refusal → RefusalLeaves a refusal start new
+    IsTarget this refusal ⊎ IsMemory refusal → RefusalLeaves a refusal start new
 leaves_made a start old new this refusal first unmade is =
     let stops = stops_at a start old new this first unmade in
     let P : Refusal → Type 0 = λ r. RefusalLeaves a r start new in
-    ⊎_elim (λ target. subst P (sym target) (inl stops))
+    ⊎_elim (λ target. subst P (sym target.1) (inl stops))
     (λ memory. subst P (sym memory.1) (stops_untrimmed a this start new stops)) is
 
 -- A call for one more output: the output is made, or it is refused.
@@ -236,7 +236,7 @@ module _ (a : Asking) (start : Holding) (this : Out) (name : List ℕ)
 
   -- if the output is refused, the files hold what its refusal leaves
   pub none_more : (refusal : Refusal) → (IsTrue told_old → (new name ≡ old name)
-      ⊎ (new name ≡ Some [])) → (refusal ≡ why.Target this) ⊎ IsMemory refusal →
+      ⊎ (new name ≡ Some [])) → IsTarget this refusal ⊎ IsMemory refusal →
       Unmade a refusal start told_new new
   none_more refusal there is told =
       let before = along told_old told_new (sym told_is) told in
@@ -293,10 +293,10 @@ still_empty a old new empty there others out name named = ⊎_elim
 
 -- if the report is not made after the outputs, they stay empty
 pub report_unmade : (a : Asking) (refusal : Refusal) (old new : Holding) →
-    (refusal ≡ why.Report) ⊎ IsMemory refusal
+    IsReport refusal ⊎ IsMemory refusal
     → ((out : Out) (name : List ℕ) → output_name a out ≡ Some name → new name ≡ Some []) →
     RefusalLeaves a refusal old new
 report_unmade a refusal old new is empty =
     let P : Refusal → Type 0 = λ r. RefusalLeaves a r old new in
-    ⊎_elim (λ report. subst P (sym report) (inl empty))
+    ⊎_elim (λ report. subst P (sym report.1) (inl empty))
     (λ memory. subst P (sym memory.1) (λ out name named. inr (empty out name named))) is

@@ -1,8 +1,8 @@
 -- What a refusal leaves, in the order in which inputs are opened and outputs are made.
-use Rattle.std.proofs.Common.{◌≡◌, ◌≢◌, ◌⊎◌, ◌∙◌, ℕ, Bool, true, false, IsTrue, IsSome, Option, Some, None, is_some, option_map, Ok, Err, Result, List, [], refl, sym, subst, inl, inr, ⊎_elim}
+use Rattle.std.proofs.Common.{◌≡◌, ◌≢◌, ◌⊎◌, ◌∙◌, ℕ, Bool, true, false, IsTrue, IsSome, Option, Some, None, is_some, option_map, Ok, Err, Result, List, [], refl, sym, ap, subst, inl, inr, ⊎_elim}
 use Rattle.std.specs.Prelude.{IfSome, if◌then◌else◌, unwrap_or}
 use Rattle.fq_text.specs.Devices.{OutletState}
-use Rattle.fq_files.specs.Holding.{Holding, Names, KeepsNames, MayRefuse}
+use Rattle.fq_files.specs.Holding.{Holding, Names, IsUnchanged, KeepsNames, MayRefuse}
 use Rattle.fq_pair.specs.declared.out.Out.{Out}
 use Rattle.fq_pair.specs.declared.out.Out.TheVariants.{ForwardPaired, ForwardUnpaired, ReversePaired, ReverseUnpaired, Log}
 use Rattle.fq_pair.specs.declared.side.Side.{Side}
@@ -16,12 +16,13 @@ use Rattle.fq_run_core.specs.declared.settings.BadSetting.{BadSetting}
 use Rattle.fq_cli.specs.Requests.{Asking, InputNames, encoding_of, input_name, is_input, output_name, same_log, same_name, report_is_input}
 use Rattle.fq_files_run.specs.declared.refusal.Refusal.{Refusal}
 use Rattle.fq_files_run.specs.declared.refusal.Refusal.TheVariants as why
-use Rattle.fq_files_run.specs.Refusals.{status_of, IsMemory}
+use Rattle.fq_files_run.specs.Refusals.{status_of, IsMemory, IsSource, IsReport}
 use Rattle.fq_files_run.specs.Judging.{choices_of, judged, with_steps, with_encoding, settings_of, wrong_among, wrong_with}
 use Rattle.fq_files_run.specs.Trimming.{Opened, IsNoOutput, KeepsUnnamed, AreFed, IsEmptyOutlet}
-use Rattle.fq_files_run.specs.Leaving.{AreThere, RefusalLeaves, ReportLeft, is_late}
+use Rattle.fq_files_run.specs.Leaving.{AreThere, TellsInputs, RefusalLeaves, ReportLeft, is_late}
 use Rattle.fq_files_run.specs.Opening.{AreApart, IsMade, IsRefusable, IsRefused, IsUnopened, MayLead}
 use Rattle.fq_files_run.proofs.LeavingLemmas.{tells_late}
+use Rattle.fq_files_run.proofs.MakingLemmas.{this_or_other}
 
 some_there : (o : Option (List ℕ)) (bytes : List ℕ) → o ≡ Some bytes → IsSome o
 some_there o bytes is = let P : Option (List ℕ) → Type 0 = λ x. IsSome x in subst P (sym is) refl
@@ -67,30 +68,30 @@ refused_late a refusal tells refuses opened old new inputs behind late refused f
     }
 
 -- a refusal of the report, or of memory for it, comes after the inputs, and its status is not 2
-pub report_late : (refusal : Refusal) → (refusal ≡ why.Report) ⊎ IsMemory refusal →
+pub report_late : (refusal : Refusal) → IsReport refusal ⊎ IsMemory refusal →
     IsTrue (is_late refusal)
 report_late refusal is = let P : Refusal → Type 0 = λ r. IsTrue (is_late r) in
-    ⊎_elim (λ report. subst P (sym report) refl) (λ memory. subst P (sym memory.1) refl) is
+    ⊎_elim (λ report. subst P (sym report.1) refl) (λ memory. subst P (sym memory.1) refl) is
 
 -- a refusal that can come once both inputs are opened doesn't have exit status 2
 pub late_status : (refusal : Refusal) → IsTrue (is_late refusal) → status_of refusal ≢ 2
-late_status (why.Target out) late e = absurd (cc e)
-late_status why.Report late e = absurd (cc e)
+late_status (why.Target out cause) late e = absurd (cc e)
+late_status (why.Report cause) late e = absurd (cc e)
 late_status (why.Memory lacked) late e = absurd (cc e)
 late_status why.Encoding late e = absurd (cc late)
 late_status (why.Step fault) late e = absurd (cc late)
 late_status (why.Setting bad) late e = absurd (cc late)
 late_status (why.SameName out) late e = absurd (cc late)
-late_status (why.Source side) late e = absurd (cc late)
+late_status (why.Source side cause) late e = absurd (cc late)
 late_status why.SameReport late e = absurd (cc late)
 
 -- ---- before the first file is opened
 
 -- a refusal that comes before the first file is opened
 is_first : Refusal → Bool
-is_first (why.Source side) = false
-is_first (why.Target out) = false
-is_first why.Report = false
+is_first (why.Source side cause) = false
+is_first (why.Target out cause) = false
+is_first (why.Report cause) = false
 is_first _ = true
 
 judged_first : (r : Result Choices BadSetting) (report : Option (List ℕ)) (refusal : Refusal) →
@@ -165,8 +166,8 @@ first_refused a (why.SameName out) tells refuses opened files first =
       report_left =
           λ told name named free. refl;
     }
-first_refused a (why.Source side) tells refuses opened files first = absurd (cc first)
-first_refused a (why.Target out) tells refuses opened files first = absurd (cc first)
+first_refused a (why.Source side cause) tells refuses opened files first = absurd (cc first)
+first_refused a (why.Target out cause) tells refuses opened files first = absurd (cc first)
 first_refused a why.SameReport tells refuses opened files first =
     record {
       refused = tt;
@@ -175,7 +176,7 @@ first_refused a why.SameReport tells refuses opened files first =
       report_left =
           λ told name named free. refl;
     }
-first_refused a why.Report tells refuses opened files first = absurd (cc first)
+first_refused a (why.Report cause) tells refuses opened files first = absurd (cc first)
 first_refused a (why.Memory lacked) tells refuses opened files first =
     record {
       refused = tt;
@@ -196,14 +197,15 @@ wrong_refused a refusal tells refuses opened files wrong =
 -- what holds of the name that was refused
 pub refusable_so : (a : Asking) (P Q : List ℕ → Type 0) (refusal : Refusal) →
     ((name : List ℕ) → P name → Q name) → IsRefusable a P refusal → IsRefusable a Q refusal
-refusable_so a P Q (why.Target out) so refused = (refused.0, refused.1, so refused.0 refused.2)
-refusable_so a P Q why.Report so refused = (refused.0, refused.1, so refused.0 refused.2)
+refusable_so a P Q (why.Target out cause) so refused =
+    (refused.0, refused.1, so refused.0 refused.2)
+refusable_so a P Q (why.Report cause) so refused = (refused.0, refused.1, so refused.0 refused.2)
 refusable_so a P Q (why.Memory lacked) so refused = refused
 refusable_so a P Q why.Encoding so refused = refused
 refusable_so a P Q (why.Step fault) so refused = refused
 refusable_so a P Q (why.Setting bad) so refused = refused
 refusable_so a P Q (why.SameName out) so refused = refused
-refusable_so a P Q (why.Source side) so refused = refused
+refusable_so a P Q (why.Source side cause) so refused = refused
 refusable_so a P Q why.SameReport so refused = refused
 
 -- a name that may be refused after the inputs are opened
@@ -269,13 +271,13 @@ report_differs a name free named is =
 no_input : (a : Asking) (P : List ℕ → Type 0) (refusal : Refusal) → same_name a ≡ None →
     report_is_input a ≡ false → IsRefusable a (λ name. IsTrue (is_input a.inputs name) ⊎ P name)
     refusal → IsRefusable a P refusal
-no_input a P (why.Target out) outputs report refused = (
+no_input a P (why.Target out cause) outputs report refused = (
   refused.0,
   refused.1,
   ⊎_elim (λ is. absurd (differs_from a out refused.0 outputs refused.1 is))
       (λ other. other) refused.2,
 )
-no_input a P why.Report outputs report refused = (
+no_input a P (why.Report cause) outputs report refused = (
   refused.0,
   refused.1,
   ⊎_elim (λ is. absurd (report_differs a refused.0 report refused.1 is))
@@ -286,7 +288,7 @@ no_input a P why.Encoding outputs report refused = refused
 no_input a P (why.Step fault) outputs report refused = refused
 no_input a P (why.Setting bad) outputs report refused = refused
 no_input a P (why.SameName out) outputs report refused = refused
-no_input a P (why.Source side) outputs report refused = refused
+no_input a P (why.Source side cause) outputs report refused = refused
 no_input a P why.SameReport outputs report refused = refused
 
 right_names : (a : Asking) (r : Result Choices Refusal) (same : Option Out) (same_report : Bool) →
@@ -346,3 +348,25 @@ pub taken_unmap : {X : Type 0} (state : X → OutletState) (o : Option X) →
     IfSome (option_map state o) IsEmptyOutlet → IfSome o (λ x. (state x).taken ≡ [])
 taken_unmap state None empty = empty
 taken_unmap state (Some x) empty = empty.taken
+
+-- ---- the reverse input
+
+-- it was refused after the forward one was opened, which changed no file
+pub tells_reverse : (inputs : InputNames) (refusal : Refusal) (old mid : Holding)
+    (refuses opened led : Names) → IsMemory refusal ⊎ (IsSource Reverse refusal
+    × ((mid inputs.reverse ≡ None) ⊎ IsTrue (led inputs.reverse))) → IsSome (old inputs.forward) →
+    IsUnchanged old mid → ((name : List ℕ) → name ≢ inputs.forward → IsTrue (led name) →
+    MayRefuse refuses opened name) → TellsInputs inputs refusal old refuses opened
+tells_reverse inputs refusal old mid refuses opened led (inl memory) there same linked =
+    let P : Refusal → Type 0 = λ r. TellsInputs inputs r old refuses opened in
+    subst P (sym memory.1) tt
+tells_reverse inputs refusal old mid refuses opened led (inr source) there same linked =
+    let P : Refusal → Type 0 = λ r. TellsInputs inputs r old refuses opened in
+    subst P (sym source.0.1) (
+      there,
+      ⊎_elim (λ none. inl (sym (same inputs.reverse) ∙ none))
+          (λ leads. inr (⊎_elim
+          (λ one. let twice : inputs.reverse ≡ inputs.forward = cc in inl twice)
+          (λ other. inr (linked inputs.reverse (λ twice. other (ap Some (sym twice))) leads))
+          (this_or_other (Some inputs.forward) inputs.reverse))) source.1,
+    )

@@ -71,15 +71,15 @@ AreEmptied a new = (out : Out) (name : List ℕ) → output_name a out ≡ Some 
 -- What a refusal leaves in the outputs. If the report could not be made, they are empty. If the
 -- output or the report leads to an input, nothing has changed.
 abbrev pub RefusalLeaves : Asking → Refusal → Holding → Holding → Type 0
-RefusalLeaves a (why.Target out) old new = StopsAt a out old new ⊎ IsUnchanged old new
-RefusalLeaves a why.Report old new = AreEmptied a new ⊎ IsUnchanged old new
+RefusalLeaves a (why.Target out cause) old new = StopsAt a out old new ⊎ IsUnchanged old new
+RefusalLeaves a (why.Report cause) old new = AreEmptied a new ⊎ IsUnchanged old new
 RefusalLeaves a (why.Memory refused) old new = AreUntrimmed a old new
 RefusalLeaves a _ old new = IsUnchanged old new
 
 -- what a refusal leaves in the report's file: what it held before, or nothing if the report itself
 -- or memory was refused
 abbrev pub ReportLeft : Refusal → Option (List ℕ) → Option (List ℕ) → Type 0
-ReportLeft why.Report old new = (new ≡ old) ⊎ (new ≡ Some [])
+ReportLeft (why.Report cause) old new = (new ≡ old) ⊎ (new ≡ Some [])
 ReportLeft (why.Memory refused) old new = (new ≡ old) ⊎ (new ≡ Some [])
 ReportLeft _ old new = new ≡ old
 
@@ -93,25 +93,25 @@ AreThere inputs old = IsSome (old inputs.forward) × IsSome (old inputs.reverse)
 -- forward one was opened, as the same file. An output or the report is refused only if both inputs
 -- exist. Given are the names that may be refused, and those that led to an input before the call.
 abbrev pub TellsInputs : InputNames → Refusal → Holding → Names → Names → Type 0
-TellsInputs inputs (why.Source side.Forward) old refuses opened =
+TellsInputs inputs (why.Source side.Forward cause) old refuses opened =
     (old inputs.forward ≡ None) ⊎ IsTrue (opened inputs.forward)
-TellsInputs inputs (why.Source side.Reverse) old refuses opened =
+TellsInputs inputs (why.Source side.Reverse cause) old refuses opened =
     IsSome (old inputs.forward) × ((old inputs.reverse ≡ None)
     ⊎ ((inputs.reverse ≡ inputs.forward) ⊎ MayRefuse refuses opened inputs.reverse))
-TellsInputs inputs (why.Target out) old refuses opened = AreThere inputs old
-TellsInputs inputs why.Report old refuses opened = AreThere inputs old
+TellsInputs inputs (why.Target out cause) old refuses opened = AreThere inputs old
+TellsInputs inputs (why.Report cause) old refuses opened = AreThere inputs old
 TellsInputs inputs _ old refuses opened = Unit {0}
 
 -- a refusal that can come before the first output is made
 abbrev pub is_early : Refusal → Bool
-is_early (why.Target out) = false
-is_early why.Report = false
+is_early (why.Target out cause) = false
+is_early (why.Report cause) = false
 is_early _ = true
 
 -- a refusal that can come once both inputs are opened, before an output is written
 abbrev pub is_late : Refusal → Bool
-is_late (why.Target out) = true
-is_late why.Report = true
+is_late (why.Target out cause) = true
+is_late (why.Report cause) = true
 is_late (why.Memory refused) = true
 is_late _ = false
 

@@ -7,3 +7,4 @@ pub mod Faults
 pub mod Reporting
 pub mod Opening
 pub mod Completing
+pub mod Seeing

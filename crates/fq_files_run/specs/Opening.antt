@@ -37,8 +37,8 @@ pub record AreOpened (a : Asking) (tells : Bool) (old new : Holding)
 
 -- an output or the report is refused only under a name of which this holds
 abbrev pub IsRefusable : Asking → (List ℕ → Type 0) → Refusal → Type 0
-IsRefusable a P (why.Target out) = (name : List ℕ) × (output_name a out ≡ Some name) × P name
-IsRefusable a P why.Report = (name : List ℕ) × (a.report ≡ Some name) × P name
+IsRefusable a P (why.Target out cause) = (name : List ℕ) × (output_name a out ≡ Some name) × P name
+IsRefusable a P (why.Report cause) = (name : List ℕ) × (a.report ≡ Some name) × P name
 IsRefusable a P _ = Unit {0}
 
 -- A name that leads to an input once these inputs are opened: it is the name of one, it led to an

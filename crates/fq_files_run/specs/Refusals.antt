@@ -1,6 +1,9 @@
 -- The exit status and the line on standard error for each refusal.
 use Rattle.std.specs.Prelude.{◌≡◌, ℕ, List, [], ◌++◌, codes, decimal, unwrap_or}
 use Rattle.fq_text.specs.declared.memory.MemoryRefused.{MemoryRefused}
+use Rattle.fq_files.specs.declared.files.Cause.{Cause}
+use Rattle.fq_pair.specs.declared.out.Out.{Out}
+use Rattle.fq_pair.specs.declared.side.Side.{Side}
 use Rattle.fq_trim.specs.declared.fault.StepFaultKind.{StepFaultKind}
 use Rattle.fq_trim.specs.declared.fault.StepFaultKind.TheVariants as step
 use Rattle.fq_run_core.specs.declared.settings.BadSetting.{BadSetting}
@@ -16,15 +19,25 @@ status_of Encoding = 2
 status_of (Step fault) = 2
 status_of (Setting bad) = 2
 status_of (SameName out) = 2
-status_of (Source side) = 4
-status_of (Target out) = 4
+status_of (Source side cause) = 4
+status_of (Target out cause) = 4
 status_of SameReport = 2
-status_of Report = 4
+status_of (Report cause) = 4
 status_of (Memory refused) = 5
 
 -- memory was refused
 abbrev pub IsMemory : Refusal → Type 0
 IsMemory refusal = (refused : MemoryRefused) × (refusal ≡ Memory refused)
+
+-- the input of this side was refused, this output, or the report
+abbrev pub IsSource : Side → Refusal → Type 0
+IsSource side refusal = (cause : Cause) × (refusal ≡ Source side cause)
+
+abbrev pub IsTarget : Out → Refusal → Type 0
+IsTarget out refusal = (cause : Cause) × (refusal ≡ Target out cause)
+
+abbrev pub IsReport : Refusal → Type 0
+IsReport refusal = (cause : Cause) × (refusal ≡ Report cause)
 
 abbrev pub step_fault_name : StepFaultKind → List ℕ
 step_fault_name step.NoSteps = codes "NoSteps"
@@ -49,8 +62,8 @@ words_of a (Step fault) =
     codes "bad step " ++ decimal fault.place ++ codes ": " ++ step_fault_name fault.kind
 words_of a (Setting bad) = codes "bad setting: " ++ setting_name bad
 words_of a (SameName out) = codes "same name: " ++ unwrap_or (output_name a out) []
-words_of a (Source side) = codes "cannot read " ++ input_name a.inputs side
-words_of a (Target out) = codes "cannot write " ++ unwrap_or (output_name a out) []
+words_of a (Source side cause) = codes "cannot read " ++ input_name a.inputs side
+words_of a (Target out cause) = codes "cannot write " ++ unwrap_or (output_name a out) []
 words_of a SameReport = codes "same name: " ++ unwrap_or a.report []
-words_of a Report = codes "cannot write " ++ unwrap_or a.report []
+words_of a (Report cause) = codes "cannot write " ++ unwrap_or a.report []
 words_of a (Memory refused) = memory_words

@@ -4,17 +4,17 @@ ghost use Rattle.std.specs.Prelude.{◌≡◌, ◌≢◌, ◌⊎◌, ℕ, List, 
 ghost use Rattle.std.specs.Option.{option_map};
 ghost use Rattle.fq_files.specs.Holding.{IsUnchanged, MayRefuse};
 ghost use Rattle.fq_cli.specs.Requests.{asking_of, input_name};
-ghost use Rattle.fq_files_run.specs.Refusals.{status_of, IsMemory};
+ghost use Rattle.fq_files_run.specs.Refusals.{status_of, IsMemory, IsSource};
 ghost use Rattle.fq_files_run.specs.Trimming.{IsFed, opened_of, left_of, form_of, AreFresh, AreFed};
 ghost use Rattle.fq_files_run.specs.Leaving.{AreThere, TellsInputs, is_early};
 ghost use Rattle.fq_files_run.specs.Opening.{MayLead};
 ghost use Rattle.fq_files_run.specs.Completing.{IsFeedCounted, AreFeedsCounted};
 
-use crate::refusal::{Refusal, file_refused};
+use crate::refusal::{Refusal, source_refused};
 use fq_cli::{Inputs, Request};
 use fq_files::Files;
 use fq_pair::Side;
-use fq_text::Feed;
+use fq_text::{Feed, Seen};
 
 /// The opened inputs.
 #[derive(Drop)]
@@ -23,6 +23,15 @@ pub enum Feeds<F> {
     Apart { forward: F, reverse: F },
     /// One interleaved feed: each forward read comes before its reverse mate.
     Interleaved(F),
+}
+
+/// What the feeds of a run can say after it. An interleaved feed speaks for both sides.
+#[derive(Clone, Copy)]
+pub struct InputsSeen {
+    /// That of the forward reads.
+    pub forward: Seen,
+    /// That of the reverse reads.
+    pub reverse: Seen,
 }
 
 /// Opens the inputs in the order of the command line. With `--sync`, each flush of an output will
@@ -82,7 +91,7 @@ fn input<T: Files>(request: &Request<'_>, files: &mut T, side: Side) -> Result<T
         → IsTrue (T.is_open files.new other)
         → MayRefuse (T.refuses files.old) (T.is_open files.old) other }
     ensures missing { IfErr result (λ why. IsMemory why
-        ⊎ ((why ≡ Refusal.Source side) × (IsTrue (T.tells_bytes files.old)
+        ⊎ (IsSource side why × (IsTrue (T.tells_bytes files.old)
         → (T.bytes_of files.old (input_name (asking_of request.now).inputs side) ≡ None)
         ⊎ IsTrue (T.is_open files.old (input_name (asking_of request.now).inputs side))))) }
     ensures early { IfErr result (λ why. IsTrue (is_early why)) }
@@ -90,12 +99,16 @@ fn input<T: Files>(request: &Request<'_>, files: &mut T, side: Side) -> Result<T
 {
     files
         .source(request.input_name(side))
-        .map_err(|fault| file_refused(fault, Refusal::Source(side)))
+        .map_err(|fault| source_refused(fault, side))
 }
 
 /// Hands the feeds back to their files, which count the failed ones. A feed that was lost with its
-/// thread counts as not failed.
-pub fn inputs_done<T: Files>(request: &Request<'_>, files: &mut T, feeds: Feeds<Option<T::In>>)
+/// thread counts as not failed. Returns what the feeds can say.
+pub fn inputs_done<T: Files>(
+    request: &Request<'_>,
+    files: &mut T,
+    feeds: Feeds<Option<T::In>>,
+) -> InputsSeen
     requires there { IsTrue (T.tells_bytes files.old)
         → AreThere (asking_of request.now).inputs (T.bytes_of files.old) }
     requires form { form_of feeds ≡ (asking_of request.now).inputs.form }
@@ -109,15 +122,27 @@ pub fn inputs_done<T: Files>(request: &Request<'_>, files: &mut T, feeds: Feeds<
 {
     match feeds {
         Feeds::Apart { forward, reverse } => {
-            input_done(request, files, Side::Forward, forward);
-            input_done(request, files, Side::Reverse, reverse);
+            let forward = input_done(request, files, Side::Forward, forward);
+            let reverse = input_done(request, files, Side::Reverse, reverse);
+            InputsSeen { forward, reverse }
         }
-        Feeds::Interleaved(both) => input_done(request, files, Side::Forward, both),
+        Feeds::Interleaved(both) => {
+            let both = input_done(request, files, Side::Forward, both);
+            InputsSeen {
+                forward: both,
+                reverse: both,
+            }
+        }
     }
 }
 
 // Hands the feed of a side back, if the run returned it.
-fn input_done<T: Files>(request: &Request<'_>, files: &mut T, side: Side, feed: Option<T::In>)
+fn input_done<T: Files>(
+    request: &Request<'_>,
+    files: &mut T,
+    side: Side,
+    feed: Option<T::In>,
+) -> Seen
     requires { IsTrue (T.tells_bytes files.old)
         → AreThere (asking_of request.now).inputs (T.bytes_of files.old) }
     ensures unchanged { IsTrue (T.tells_bytes files.old)
@@ -128,7 +153,8 @@ fn input_done<T: Files>(request: &Request<'_>, files: &mut T, side: Side, feed: 
         (option_map T.In.state feed) (T.has_failed files.old) (T.has_failed files.new) }
     ensures flushed { T.is_unflushed files.new ≡ T.is_unflushed files.old }
 {
-    if let Some(feed) = feed {
-        files.source_done(request.input_name(side), feed);
+    match feed {
+        Some(feed) => files.source_done(request.input_name(side), feed),
+        None => Seen::NOTHING,
     }
 }

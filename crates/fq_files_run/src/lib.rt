@@ -14,12 +14,14 @@ mod outcome_line;
 mod outputs;
 mod refusal;
 mod reporting;
+mod seeing;
 
 pub use account::Account;
-pub use feeds::{Feeds, inputs_done};
+pub use feeds::{Feeds, InputsSeen, inputs_done};
 pub use judging::judge;
 pub use opening::{Devices, open};
 pub use outcome_line::{LANE_LINE, MEMORY_LINE, fault_line, settled, status_of};
 pub use outputs::store;
 pub use refusal::Refusal;
 pub use reporting::{Reported, store_report, without_end};
+pub use seeing::seen_of;

@@ -12,7 +12,7 @@ use crate::outputs::outputs;
 use crate::refusal::Refusal;
 use crate::reporting::report_target;
 use fq_cli::Request;
-use fq_files::Files;
+use fq_files::{Cause, Files};
 use fq_pair::Out;
 use fq_run_core::Outlets;
 
@@ -47,10 +47,10 @@ pub fn open<T: Files>(
 {
     let feeds = inputs(request, files)?;
     if let Some(out) = input_among_outputs(request, files) {
-        return Err(Refusal::Target(out));
+        return Err(Refusal::Target(out, Cause::Input));
     }
     if input_as_report(request, files) {
-        return Err(Refusal::Report);
+        return Err(Refusal::Report(Cause::Input));
     }
     let outlets = outputs(request, files)?;
     let report = report_target(request, files)?;
@@ -66,7 +66,7 @@ fn input_among_outputs<T: Files>(request: &Request<'_>, files: &T) -> Option<Out
     ensures none { result ≡ None → IsTrue (T.tells_bytes files.now)
         → AreApart (asking_of request.now) (T.is_open files.now) }
     ensures refused { IfSome result (λ out. IsRefusable (asking_of request.now)
-        (λ name. IsTrue (T.is_open files.now name)) (Refusal.Target out)) }
+        (λ name. IsTrue (T.is_open files.now name)) (Refusal.Target out Cause.Input)) }
 {
     if files.leads_to_input(request.forward_paired) {
         return Some(Out::ForwardPaired);
@@ -91,7 +91,7 @@ fn input_as_report<T: Files>(request: &Request<'_>, files: &T) -> bool
     ensures none { result ≡ false → IsTrue (T.tells_bytes files.now) → (name : List ℕ)
         → (asking_of request.now).report ≡ Some name → T.is_open files.now name ≡ false }
     ensures refused { IsTrue result → IsRefusable (asking_of request.now)
-        (λ name. IsTrue (T.is_open files.now name)) Refusal.Report }
+        (λ name. IsTrue (T.is_open files.now name)) (Refusal.Report Cause.Input) }
 {
     request
         .report

@@ -4,20 +4,19 @@ ghost use Rattle.std.specs.Prelude.{◌≡◌, ◌≢◌, ◌⊎◌, [], suc, Is
 ghost use Rattle.fq_files.specs.Holding.{Holding, KeepsNames, MayRefuse};
 ghost use Rattle.fq_run_core.specs.Devices.{OutletStates, outlet_at, outlet_states, place, AreHealthy, AreFlushed};
 ghost use Rattle.fq_cli.specs.Requests.{asking_of, output_name};
-ghost use Rattle.fq_files_run.specs.declared.refusal.Refusal.{Refusal as Refused};
-ghost use Rattle.fq_files_run.specs.Refusals.{status_of, IsMemory};
+ghost use Rattle.fq_files_run.specs.Refusals.{status_of, IsMemory, IsTarget};
 ghost use Rattle.fq_files_run.specs.Trimming.{AreHeld, AreEmpty};
 ghost use Rattle.fq_files_run.specs.Leaving.{is_late};
 ghost use Rattle.fq_files_run.specs.Making.{Made, Unmade, Stored};
 ghost use Rattle.fq_files_run.specs.Opening.{IsRefusable};
 ghost use Rattle.fq_files_run.specs.Completing.{Failed, AreCounted};
 
-use crate::refusal::{Refusal, file_refused};
+use crate::refusal::{Refusal, target_refused};
 use fq_cli::Request;
 use fq_files::Files;
 use fq_pair::Out;
 use fq_run_core::Outlets;
-use fq_text::Outlet;
+use fq_text::{Outlet, SystemError};
 
 /// Makes each output, empty, in the order of [`Out`].
 pub(crate) fn outputs<T: Files>(
@@ -78,7 +77,7 @@ fn output<T: Files>(request: &Request<'_>, files: &mut T, out: Out) -> Result<T:
         start (place out) (T.tells_bytes files.old) (T.bytes_of files.old)
         → Unmade (asking_of request.now) why
         start (T.tells_bytes files.new) (T.bytes_of files.new)) }
-    ensures why { IfErr result (λ why. (why ≡ Refused.Target out) ⊎ IsMemory why) }
+    ensures why { IfErr result (λ why. IsTarget out why ⊎ IsMemory why) }
     ensures opened { IfErr result (λ why. IsTrue (is_late why)) }
     ensures told { T.tells_bytes files.new ≡ T.tells_bytes files.old }
     ensures names { IsTrue (T.tells_bytes files.old)
@@ -95,11 +94,16 @@ fn output<T: Files>(request: &Request<'_>, files: &mut T, out: Out) -> Result<T:
     };
     files
         .target(name)
-        .map_err(|fault| file_refused(fault, Refusal::Target(out)))
+        .map_err(|fault| target_refused(fault, out))
 }
 
-/// Hands each outlet back: its file then holds what the outlet has taken.
-pub fn store<T: Files>(request: &Request<'_>, files: &mut T, outlets: Outlets<T::Target>)
+/// Hands each outlet back: its file then holds what the outlet has taken. Returns why each failed,
+/// if it did.
+pub fn store<T: Files>(
+    request: &Request<'_>,
+    files: &mut T,
+    outlets: Outlets<T::Target>,
+) -> Outlets<Option<SystemError>>
     requires { IsTrue (T.tells_bytes files.old)
         → AreHeld (asking_of request.now) (T.bytes_of files.old) }
     ensures stored { Stored (asking_of request.now)
@@ -121,17 +125,30 @@ pub fn store<T: Files>(request: &Request<'_>, files: &mut T, outlets: Outlets<T:
         reverse_unpaired,
         log,
     } = outlets;
-    store_one(request, files, Out::ForwardPaired, forward_paired);
-    store_one(request, files, Out::ForwardUnpaired, forward_unpaired);
-    store_one(request, files, Out::ReversePaired, reverse_paired);
-    store_one(request, files, Out::ReverseUnpaired, reverse_unpaired);
-    if let (Some(_), Some(log)) = (request.log, log) {
-        store_one(request, files, Out::Log, log);
+    let forward_paired = store_one(request, files, Out::ForwardPaired, forward_paired);
+    let forward_unpaired = store_one(request, files, Out::ForwardUnpaired, forward_unpaired);
+    let reverse_paired = store_one(request, files, Out::ReversePaired, reverse_paired);
+    let reverse_unpaired = store_one(request, files, Out::ReverseUnpaired, reverse_unpaired);
+    let log = match (request.log, log) {
+        (Some(_), Some(log)) => Some(store_one(request, files, Out::Log, log)),
+        _ => None,
+    };
+    Outlets {
+        forward_paired,
+        forward_unpaired,
+        reverse_paired,
+        reverse_unpaired,
+        log,
     }
 }
 
 // Hands one outlet back. Those of the outputs before it have been handed back.
-fn store_one<T: Files>(request: &Request<'_>, files: &mut T, out: Out, outlet: T::Target)
+fn store_one<T: Files>(
+    request: &Request<'_>,
+    files: &mut T,
+    out: Out,
+    outlet: T::Target,
+) -> Option<SystemError>
     requires wanted { IsSome (output_name (asking_of request.now) out) }
     requires held { IsTrue (T.tells_bytes files.old)
         → AreHeld (asking_of request.now) (T.bytes_of files.old) }
@@ -158,5 +175,5 @@ fn store_one<T: Files>(request: &Request<'_>, files: &mut T, out: Out, outlet: T
     let Some(name) = request.output_name(out) else {
         unreachable!()
     };
-    files.done(name, outlet);
+    files.done(name, outlet)
 }

@@ -3,7 +3,7 @@
 ghost use Rattle.std.specs.Prelude.{◌≡◌, ◌≢◌, ◌⊎◌};
 ghost use Rattle.fq_files_run.specs.Refusals.{status_of, IsMemory};
 
-use fq_files::FileFault;
+use fq_files::{Cause, FileFault};
 use fq_pair::{Out, Side};
 use fq_run_core::BadSetting;
 use fq_text::{MemoryRefused, OutOfMemory};
@@ -22,13 +22,13 @@ pub enum Refusal {
     /// This output has the name of an input.
     SameName(Out),
     /// The input of this side can't be read.
-    Source(Side),
+    Source(Side, Cause),
     /// This output can't be written.
-    Target(Out),
+    Target(Out, Cause),
     /// The report has the name of an input.
     SameReport,
     /// The report can't be written.
-    Report,
+    Report(Cause),
     /// Memory was refused.
     Memory(MemoryRefused),
 }
@@ -43,16 +43,44 @@ impl From<OutOfMemory> for Refusal {
     }
 }
 
-/// Returns `refused`, or `Refusal::Memory` if the file was refused for lack of memory.
-pub(crate) fn file_refused(fault: FileFault, refused: Refusal) -> Refusal
-    ensures refused { fault ≡ FileFault.Refused → result ≡ refused }
-    ensures memory { fault ≡ FileFault.OutOfMemory → IsMemory result }
-    ensures either { (result ≡ refused) ⊎ IsMemory result }
-    ensures late { status_of refused ≢ 2 → status_of result ≢ 2 }
+/// The refusal of the input of this side.
+pub(crate) fn source_refused(fault: FileFault, side: Side) -> Refusal
+    ensures why { IsMemory result ⊎ ((cause : Cause) × (fault ≡ FileFault.Refused cause)
+        × (result ≡ Refusal.Source side cause)) }
+    ensures late { status_of result ≢ 2 }
 {
     match fault {
-        FileFault::Refused => refused,
-        // The fault stands for the error of std.
-        FileFault::OutOfMemory => Refusal::Memory(MemoryRefused::from(OutOfMemory)),
+        FileFault::Refused(cause) => Refusal::Source(side, cause),
+        FileFault::OutOfMemory => no_memory(),
     }
+}
+
+/// The refusal of this output.
+pub(crate) fn target_refused(fault: FileFault, out: Out) -> Refusal
+    ensures why { ((cause : Cause) × (fault ≡ FileFault.Refused cause)
+        × (result ≡ Refusal.Target out cause)) ⊎ IsMemory result }
+    ensures late { status_of result ≢ 2 }
+{
+    match fault {
+        FileFault::Refused(cause) => Refusal::Target(out, cause),
+        FileFault::OutOfMemory => no_memory(),
+    }
+}
+
+/// The refusal of the report.
+pub(crate) fn report_refused(fault: FileFault) -> Refusal
+    ensures why { ((cause : Cause) × (fault ≡ FileFault.Refused cause)
+        × (result ≡ Refusal.Report cause)) ⊎ IsMemory result }
+{
+    match fault {
+        FileFault::Refused(cause) => Refusal::Report(cause),
+        FileFault::OutOfMemory => no_memory(),
+    }
+}
+
+// Memory was refused for a file. Its fault stands for the error of std.
+fn no_memory() -> Refusal
+    ensures { IsMemory result }
+{
+    Refusal::Memory(MemoryRefused::from(OutOfMemory))
 }

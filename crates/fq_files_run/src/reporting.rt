@@ -7,21 +7,20 @@ ghost use Rattle.fq_text.specs.Written.{line};
 ghost use Rattle.fq_report.specs.Facts.{names_of as named};
 ghost use Rattle.fq_report.specs.Reports.{text_of};
 ghost use Rattle.fq_cli.specs.Requests.{asking_of, names_of};
-ghost use Rattle.fq_files_run.specs.declared.refusal.Refusal.{Refusal as Refused};
 ghost use Rattle.fq_files_run.specs.Faults.{outcome_status};
-ghost use Rattle.fq_files_run.specs.Refusals.{IsMemory};
+ghost use Rattle.fq_files_run.specs.Refusals.{IsMemory, IsReport};
 ghost use Rattle.fq_files_run.specs.Reporting.{report_inputs, run_facts, IsTextOf, TookReport};
 ghost use Rattle.fq_files_run.specs.Opening.{IsRefusable};
 ghost use Rattle.fq_files_run.specs.Completing.{KeepsFailed, ReportFailed};
 
 use crate::account::Account;
 use crate::outcome_line::{fault_line, status_of};
-use crate::refusal::{Refusal, file_refused};
+use crate::refusal::{Refusal, report_refused};
 use fq_cli::{Inputs, Request, VERSION};
 use fq_files::Files;
 use fq_report::{Inputs as NamedInputs, Report, report_text};
 use fq_tally::Tally;
-use fq_text::{Encoding, MemoryRefused, OutOfMemory, Outlet, OutletFailed, send};
+use fq_text::{Encoding, MemoryRefused, OutOfMemory, Outlet, OutletFailed, SystemError, send};
 use std::alloc::Global;
 
 /// What became of the report of a run.
@@ -53,7 +52,7 @@ pub(crate) fn report_target<T: Files>(
     ensures made { OnOk result (IsTrue (T.tells_bytes files.old)
         → (name : List ℕ) → (asking_of request.now).report ≡ Some name
         → IsSome (T.bytes_of files.new name)) }
-    ensures why { IfErr result (λ why. (why ≡ Refused.Report) ⊎ IsMemory why) }
+    ensures why { IfErr result (λ why. IsReport why ⊎ IsMemory why) }
     ensures left { IfErr result (λ why. IsTrue (T.tells_bytes files.old)
         → (name : List ℕ) → (asking_of request.now).report ≡ Some name
         → (T.bytes_of files.new name ≡ T.bytes_of files.old name)
@@ -74,13 +73,12 @@ pub(crate) fn report_target<T: Files>(
     let Some(name) = request.report else {
         return Ok(None);
     };
-    let target = files
-        .target(name)
-        .map_err(|fault| file_refused(fault, Refusal::Report))?;
+    let target = files.target(name).map_err(|fault| report_refused(fault))?;
     Ok(Some(target))
 }
 
 /// Writes the report if one was asked for and the run ended whole, and hands its outlet back.
+/// Returns what became of the report, and why its outlet failed if it did.
 pub fn store_report<T: Files>(
     alloc: Global,
     request: &Request<'_>,
@@ -88,44 +86,44 @@ pub fn store_report<T: Files>(
     encoding: Encoding,
     account: &Account,
     target: Option<T::Target>,
-) -> Reported
+) -> (Reported, Option<SystemError>)
     requires there { is_some target ≡ is_some (asking_of request.now).report }
     requires fresh { IfSome target (λ t. (T.Target.state t).failures ≡ 0) }
     requires held { IsTrue (T.tells_bytes files.old)
         → (name : List ℕ) → (asking_of request.now).report ≡ Some name
         → IsSome (T.bytes_of files.old name) }
-    ensures due { result ≢ Reported.NotDue
+    ensures due { result.0 ≢ Reported.NotDue
         → (outcome_status account.now.outcome ≡ 0) ⊎ (outcome_status account.now.outcome ≡ 3) }
-    ensures not_due { result ≡ Reported.NotDue → IsSome (asking_of request.now).report
+    ensures not_due { result.0 ≡ Reported.NotDue → IsSome (asking_of request.now).report
         → (outcome_status account.now.outcome ≢ 0) × (outcome_status account.now.outcome ≢ 3) }
     ensures took { IsTrue (T.tells_bytes files.old)
         → IfSome target (λ t. IsTrue (T.Target.state t).tells)
         → IfSome target (λ t. (T.Target.state t).taken ≡ [])
         → (name : List ℕ) → (asking_of request.now).report ≡ Some name
         → (bytes : List ℕ) × (T.bytes_of files.new name ≡ Some bytes)
-        × TookReport result (asking_of request.now) encoding account.now [] bytes }
+        × TookReport result.0 (asking_of request.now) encoding account.now [] bytes }
     ensures others { IsTrue (T.tells_bytes files.old)
         → (name : List ℕ) → (asking_of request.now).report ≢ Some name
         → T.bytes_of files.new name ≡ T.bytes_of files.old name }
     ensures told { T.tells_bytes files.new ≡ T.tells_bytes files.old }
     ensures leading { T.is_open files.new ≡ T.is_open files.old }
-    ensures failed { result ≡ Reported.Failed
+    ensures failed { result.0 ≡ Reported.Failed
         → ReportFailed (asking_of request.now) (T.has_failed files.new) }
-    ensures sound { result ≢ Reported.Failed → T.has_failed files.new ≡ T.has_failed files.old }
+    ensures sound { result.0 ≢ Reported.Failed → T.has_failed files.new ≡ T.has_failed files.old }
     ensures still { KeepsFailed (T.has_failed files.old) (T.has_failed files.new) }
     // If the run ended whole, a report that is written is flushed.
     ensures flushed { (outcome_status account.now.outcome ≡ 0)
         ⊎ (outcome_status account.now.outcome ≡ 3)
-        → (result ≡ Reported.NotDue) ⊎ (result ≡ Reported.Written)
+        → (result.0 ≡ Reported.NotDue) ⊎ (result.0 ≡ Reported.Written)
         → T.is_unflushed files.new ≡ T.is_unflushed files.old }
 {
     match (request.report, target) {
         (Some(name), Some(mut target)) => {
             let reported = write_report(alloc, request, encoding, account, &mut target);
-            files.done(name, target);
-            reported
+            let error = files.done(name, target);
+            (reported, error)
         }
-        _ => Reported::NotDue,
+        _ => (Reported::NotDue, None),
     }
 }
 

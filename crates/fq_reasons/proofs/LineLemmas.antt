@@ -1,6 +1,7 @@
 -- Lines with a reason, and lines without.
 use Rattle.std.proofs.Common.{◌≡◌, ◌∙◌, ◌++◌, ℕ, Bool, true, false, Option, Some, None, List, codes, refl, ap, sym}
 use Rattle.fq_text.specs.Written.{line}
+use Rattle.fq_text.specs.declared.seen.Seen.{Seen}
 use Rattle.fq_run_core.specs.declared.outcome.Outcome.{Outcome}
 use Rattle.fq_run_core.specs.declared.outcome.Outcome.TheVariants.{Spawn, Lane, Gate, Memory, Write, Read, Endless, Input, Finished}
 use Rattle.fq_cli.specs.Requests.{Asking}
@@ -31,76 +32,83 @@ known b words reason text e is = ap (explained b words) is
 -- The line of an outcome.
 
 -- if no reason is asked for, the line of an outcome has none
-pub unasked_ending : (a : Asking) (o : Outcome) → a.explain ≡ false →
-    ending_line_when a o ≡ line_when o
-unasked_ending a Finished e = refl
-unasked_ending a Spawn e = ap line (unasked a.explain (outcome_words Spawn) None e)
-unasked_ending a Lane e = ap line (unasked a.explain (outcome_words Lane) None e)
-unasked_ending a Gate e = ap line (unasked a.explain (outcome_words Gate) None e)
-unasked_ending a Memory e = ap line (unasked a.explain (outcome_words Memory) None e)
-unasked_ending a (Write out) e =
-    ap line (unasked a.explain (outcome_words (Write out)) (ending_reason a (Write out)) e)
-unasked_ending a (Read side) e =
-    ap line (unasked a.explain (outcome_words (Read side)) (ending_reason a (Read side)) e)
-unasked_ending a (Endless side) e =
-    ap line (unasked a.explain (outcome_words (Endless side)) (ending_reason a (Endless side)) e)
-unasked_ending a (Input fault) e =
-    ap line (unasked a.explain (outcome_words (Input fault)) (ending_reason a (Input fault)) e)
+pub unasked_ending : (a : Asking) (seen : Seen) (o : Outcome) → a.explain ≡ false →
+    ending_line_when a seen o ≡ line_when o
+unasked_ending a seen Finished e = refl
+unasked_ending a seen Spawn e = ap line (unasked a.explain (outcome_words Spawn) None e)
+unasked_ending a seen Lane e = ap line (unasked a.explain (outcome_words Lane) None e)
+unasked_ending a seen Gate e = ap line (unasked a.explain (outcome_words Gate) None e)
+unasked_ending a seen Memory e = ap line (unasked a.explain (outcome_words Memory) None e)
+unasked_ending a seen (Write out) e =
+    ap line (unasked a.explain (outcome_words (Write out)) (ending_reason a seen (Write out)) e)
+unasked_ending a seen (Read side) e =
+    ap line (unasked a.explain (outcome_words (Read side)) (ending_reason a seen (Read side)) e)
+unasked_ending a seen (Endless side) e =
+    ap line (unasked a.explain (outcome_words (Endless side)) (ending_reason a seen (Endless side))
+    e)
+unasked_ending a seen (Input fault) e =
+    ap line (unasked a.explain (outcome_words (Input fault)) (ending_reason a seen (Input fault)) e)
 
 -- if no reason is known, the line of an outcome has none
-pub unknown_ending : (a : Asking) (o : Outcome) → ending_reason a o ≡ None →
-    ending_line_when a o ≡ line_when o
-unknown_ending a Finished none = refl
-unknown_ending a Spawn none = ap line (unknown a.explain (outcome_words Spawn) None refl)
-unknown_ending a Lane none = ap line (unknown a.explain (outcome_words Lane) None refl)
-unknown_ending a Gate none = ap line (unknown a.explain (outcome_words Gate) None refl)
-unknown_ending a Memory none = ap line (unknown a.explain (outcome_words Memory) None refl)
-unknown_ending a (Write out) none =
-    ap line (unknown a.explain (outcome_words (Write out)) (ending_reason a (Write out)) none)
-unknown_ending a (Read side) none =
-    ap line (unknown a.explain (outcome_words (Read side)) (ending_reason a (Read side)) none)
-unknown_ending a (Endless side) none =
-    ap line (unknown a.explain (outcome_words (Endless side)) (ending_reason a (Endless side)) none)
-unknown_ending a (Input fault) none =
-    ap line (unknown a.explain (outcome_words (Input fault)) (ending_reason a (Input fault)) none)
+pub unknown_ending : (a : Asking) (seen : Seen) (o : Outcome) → ending_reason a seen o ≡ None →
+    ending_line_when a seen o ≡ line_when o
+unknown_ending a seen Finished none = refl
+unknown_ending a seen Spawn none = ap line (unknown a.explain (outcome_words Spawn) None refl)
+unknown_ending a seen Lane none = ap line (unknown a.explain (outcome_words Lane) None refl)
+unknown_ending a seen Gate none = ap line (unknown a.explain (outcome_words Gate) None refl)
+unknown_ending a seen Memory none = ap line (unknown a.explain (outcome_words Memory) None refl)
+unknown_ending a seen (Write out) none =
+    ap line (unknown a.explain (outcome_words (Write out)) (ending_reason a seen (Write out)) none)
+unknown_ending a seen (Read side) none =
+    ap line (unknown a.explain (outcome_words (Read side)) (ending_reason a seen (Read side)) none)
+unknown_ending a seen (Endless side) none =
+    ap line (unknown a.explain (outcome_words (Endless side)) (ending_reason a seen (Endless side))
+    none)
+unknown_ending a seen (Input fault) none =
+    ap line (unknown a.explain (outcome_words (Input fault)) (ending_reason a seen (Input fault))
+    none)
 
 -- an outcome that has a reason has a line, to which the reason is added
-pub record IsAdded (a : Asking) (o : Outcome) (text : List ℕ) : Type 0 where
+pub record IsAdded (a : Asking) (seen : Seen) (o : Outcome) (text : List ℕ) : Type 0 where
   -- the line without a reason is that of the outcome's words
   pub plain : line_when o ≡ line (outcome_words o)
   -- these words with the reason are the line with a reason
-  pub whole : line (outcome_words o ++ codes ": " ++ text) ≡ ending_line_when a o
+  pub whole : line (outcome_words o ++ codes ": " ++ text) ≡ ending_line_when a seen o
 
 -- a reason that is asked for and known is added to the line of its outcome
-pub known_ending : (a : Asking) (o : Outcome) (text : List ℕ) → a.explain ≡ true →
-    ending_reason a o ≡ Some text → IsAdded a o text
-known_ending a Finished text e is = absurd (cc is)
-known_ending a Spawn text e is = absurd (cc is)
-known_ending a Lane text e is = absurd (cc is)
-known_ending a Gate text e is = absurd (cc is)
-known_ending a Memory text e is = absurd (cc is)
-known_ending a (Write out) text e is = record {
+pub known_ending : (a : Asking) (seen : Seen) (o : Outcome) (text : List ℕ) → a.explain ≡ true →
+    ending_reason a seen o ≡ Some text → IsAdded a seen o text
+known_ending a seen Finished text e is = absurd (cc is)
+known_ending a seen Spawn text e is = absurd (cc is)
+known_ending a seen Lane text e is = absurd (cc is)
+known_ending a seen Gate text e is = absurd (cc is)
+known_ending a seen Memory text e is = absurd (cc is)
+known_ending a seen (Write out) text e is = record {
   plain = refl;
   whole =
-      sym (ap line (known a.explain (outcome_words (Write out)) (ending_reason a (Write out)) text e
+      sym (ap line (known a.explain (outcome_words (Write out)) (ending_reason a seen (Write out))
+      text e
       is));
 }
-known_ending a (Read side) text e is = record {
+known_ending a seen (Read side) text e is = record {
   plain = refl;
   whole =
-      sym (ap line (known a.explain (outcome_words (Read side)) (ending_reason a (Read side)) text e
+      sym (ap line (known a.explain (outcome_words (Read side)) (ending_reason a seen (Read side))
+      text e
       is));
 }
-known_ending a (Endless side) text e is = record {
+known_ending a seen (Endless side) text e is = record {
   plain = refl;
   whole =
-      sym (ap line (known a.explain (outcome_words (Endless side)) (ending_reason a (Endless side))
+      sym (ap line (known a.explain (outcome_words (Endless side)) (ending_reason a seen
+      (Endless side))
       text e is));
 }
-known_ending a (Input fault) text e is = record {
+known_ending a seen (Input fault) text e is = record {
   plain = refl;
   whole =
-      sym (ap line (known a.explain (outcome_words (Input fault)) (ending_reason a (Input fault))
+      sym (ap line (known a.explain (outcome_words (Input fault)) (ending_reason a seen
+      (Input fault))
       text
       e is));
 }

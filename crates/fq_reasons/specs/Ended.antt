@@ -1,7 +1,11 @@
 -- Why a run ended before all pairs were trimmed, in words that say what to look at.
-use Rattle.std.specs.Prelude.{ℕ, Option, Some, None, List, [], ◌++◌, codes, unwrap_or}
+use Rattle.std.specs.Prelude.{ℕ, ◌==◌, Option, Some, None, List, [], ◌++◌, codes, unwrap_or, if◌then◌else◌}
 use Rattle.fq_text.specs.declared.fault.TextFault.{TextFault}
 use Rattle.fq_text.specs.declared.fault.TextFault.TheVariants as text
+use Rattle.fq_text.specs.declared.seen.Look.{Look}
+use Rattle.fq_text.specs.declared.seen.Look.TheVariants.{Gzip, Bam, Fasta, Unknown}
+use Rattle.fq_text.specs.declared.seen.Seen.{Seen}
+use Rattle.fq_text.specs.declared.seen.SystemError.{SystemError}
 use Rattle.fq_pair.specs.declared.side.Side.{Side}
 use Rattle.fq_pair.specs.declared.side.Side.TheVariants.{Forward, Reverse}
 use Rattle.fq_pair.specs.declared.fault.InputFault.{InputFault}
@@ -10,30 +14,50 @@ use Rattle.fq_pair.specs.Forms.{Form, TwoTexts, InterleavedText}
 use Rattle.fq_run_core.specs.declared.outcome.Outcome.{Outcome}
 use Rattle.fq_run_core.specs.declared.outcome.Outcome.TheVariants.{Write, Read, Endless, Input}
 use Rattle.fq_cli.specs.Requests.{Asking, InputNames, input_name, output_name}
+use Rattle.fq_reasons.specs.Causes.{device_words}
 
 -- what is wrong with a file
 abbrev pub file_reason : List ℕ → List ℕ → List ℕ
 file_reason name words = name ++ codes ": " ++ words
 
--- what is wrong with a record of a FASTQ file whose qualities have this encoding
-abbrev pub record_reason : List ℕ → TextFault → List ℕ
-record_reason encoding (text.NoTitle k) = codes "the record does not begin with @"
-record_reason encoding (text.BadSequence k) =
+-- why a file was not written
+abbrev pub written_reason : List ℕ → Option SystemError → List ℕ
+written_reason name error =
+    file_reason name (device_words error (codes "not all of it could be written"))
+
+-- what a file looks like whose record k does not begin as it must; only the first one tells
+abbrev pub look_of_file : Look → List ℕ
+look_of_file Gzip = codes ". The file looks compressed, by gzip or as BAM"
+look_of_file Bam = codes ". The file looks like BAM"
+look_of_file Fasta = codes ". The file looks like FASTA"
+look_of_file Unknown = []
+
+abbrev pub look_words : ℕ → Look → List ℕ
+look_words k look = if k == 1 then look_of_file look else []
+
+abbrev pub title_reason : List ℕ → List ℕ
+title_reason look = codes "the record does not begin with @" ++ look
+
+-- what is wrong with a record of a FASTQ file whose qualities have this encoding, and whose first
+-- bytes look so
+abbrev pub record_reason : List ℕ → Look → TextFault → List ℕ
+record_reason encoding look (text.NoTitle k) = title_reason (look_words k look)
+record_reason encoding look (text.BadSequence k) =
     codes "a sequence line begins with @, or holds a space or an unprintable byte"
-record_reason encoding (text.NoPlus k) =
+record_reason encoding look (text.NoPlus k) =
     codes "the file ends before the line that begins with +"
-record_reason encoding (text.PlusDiffers k) =
+record_reason encoding look (text.PlusDiffers k) =
     codes "the line that begins with + holds another title"
-record_reason encoding (text.BadQuality k) =
+record_reason encoding look (text.BadQuality k) =
     codes "a quality byte has no score in the encoding " ++ encoding ++ codes " (see --encoding)"
-record_reason encoding (text.QualityLong k) = codes "the quality is longer than the sequence"
-record_reason encoding (text.QualityShort k) =
+record_reason encoding look (text.QualityLong k) = codes "the quality is longer than the sequence"
+record_reason encoding look (text.QualityShort k) =
     codes "the file ends before the quality is as long as the sequence"
-record_reason encoding (text.TooLong k) =
+record_reason encoding look (text.TooLong k) =
     codes "a line or the sequence has more than 1048576 bytes"
-record_reason encoding text.Read = codes "it could not be read to its end"
-record_reason encoding text.Endless = codes "it does not end"
-record_reason encoding text.OutOfMemory = codes "memory was refused"
+record_reason encoding look text.Read = codes "it could not be read to its end"
+record_reason encoding look text.Endless = codes "it does not end"
+record_reason encoding look text.OutOfMemory = codes "memory was refused"
 
 -- the side of the mate
 abbrev pub other_side : Side → Side
@@ -55,19 +79,19 @@ names_reason inputs TwoTexts = codes "the reads of " ++ inputs.forward ++ codes 
 names_reason inputs InterleavedText = file_reason inputs.forward
     (codes "the reads of the pair have different names (see --no-name-check)")
 
-abbrev pub input_reason : Asking → InputFault → List ℕ
-input_reason a (Text side fault) =
-    file_reason (input_name a.inputs side) (record_reason a.encoding fault)
-input_reason a (MateMissing side k) = missing_reason a.inputs a.inputs.form side
-input_reason a (NamesDiffer k) = names_reason a.inputs a.inputs.form
+abbrev pub input_reason : Asking → Look → InputFault → List ℕ
+input_reason a look (Text side fault) =
+    file_reason (input_name a.inputs side) (record_reason a.encoding look fault)
+input_reason a look (MateMissing side k) = missing_reason a.inputs a.inputs.form side
+input_reason a look (NamesDiffer k) = names_reason a.inputs a.inputs.form
 
--- why the run ended so, as far as the outcome and the arguments show
-abbrev pub ending_reason : Asking → Outcome → Option (List ℕ)
-ending_reason a (Write out) = Some (file_reason (unwrap_or (output_name a out) [])
-    (codes "not all of it could be written. Is the disk full?"))
-ending_reason a (Read side) =
-    Some (file_reason (input_name a.inputs side) (codes "it could not be read to its end"))
-ending_reason a (Endless side) = Some (file_reason (input_name a.inputs side)
+-- why the run ended so, for what the device can say that the outcome names
+abbrev pub ending_reason : Asking → Seen → Outcome → Option (List ℕ)
+ending_reason a seen (Write out) =
+    Some (written_reason (unwrap_or (output_name a out) []) seen.error)
+ending_reason a seen (Read side) = Some (file_reason (input_name a.inputs side)
+    (device_words seen.error (codes "it could not be read to its end")))
+ending_reason a seen (Endless side) = Some (file_reason (input_name a.inputs side)
     (codes "it has not ended after 1099511627776 read calls"))
-ending_reason a (Input fault) = Some (input_reason a fault)
-ending_reason a _ = None
+ending_reason a seen (Input fault) = Some (input_reason a seen.look fault)
+ending_reason a seen _ = None

@@ -1,3 +1,4 @@
+pub mod Causes
 pub mod Refused
 pub mod Ended
 pub mod Lines

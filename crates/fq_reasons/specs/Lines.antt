@@ -1,6 +1,9 @@
 -- The lines on standard error, with a reason if one is asked for and known.
-use Rattle.std.specs.Prelude.{ℕ, Bool, true, false, Option, Some, None, List, [], ◌++◌, codes}
+use Rattle.std.specs.Prelude.{ℕ, Bool, true, false, Option, Some, None, List, [], ◌++◌, codes, unwrap_or}
+use Rattle.std.specs.Option.{option_map}
 use Rattle.fq_text.specs.Written.{line}
+use Rattle.fq_text.specs.declared.seen.Seen.{Seen}
+use Rattle.fq_text.specs.declared.seen.SystemError.{SystemError}
 use Rattle.fq_run_core.specs.declared.outcome.Outcome.{Outcome}
 use Rattle.fq_run_core.specs.declared.outcome.Outcome.TheVariants.{Finished}
 use Rattle.fq_cli.specs.Requests.{Asking}
@@ -8,7 +11,7 @@ use Rattle.fq_files_run.specs.Faults.{settled, outcome_words, outcome_line}
 use Rattle.fq_files_run.specs.Refusals.{words_of}
 use Rattle.fq_files_run.specs.declared.refusal.Refusal.{Refusal}
 use Rattle.fq_reasons.specs.Refused.{refusal_reason}
-use Rattle.fq_reasons.specs.Ended.{ending_reason}
+use Rattle.fq_reasons.specs.Ended.{written_reason, ending_reason}
 
 -- the words of a line, and the reason after them if lines are to say why
 abbrev pub explained : Bool → List ℕ → Option (List ℕ) → List ℕ
@@ -20,16 +23,26 @@ explained false words reason = words
 abbrev pub line_of : Asking → Refusal → List ℕ
 line_of a why = line (explained a.explain (words_of a why) (refusal_reason a why))
 
-abbrev pub ending_line_when : Asking → Outcome → List ℕ
-ending_line_when a Finished = []
-ending_line_when a outcome =
-    line (explained a.explain (outcome_words outcome) (ending_reason a outcome))
+abbrev pub ending_line_when : Asking → Seen → Outcome → List ℕ
+ending_line_when a seen Finished = []
+ending_line_when a seen outcome =
+    line (explained a.explain (outcome_words outcome) (ending_reason a seen outcome))
 
--- the line of an outcome of this request; empty if the run finished
-abbrev pub ending_line : Asking → Outcome → List ℕ
-ending_line a outcome = ending_line_when a (settled outcome)
+-- the line of an outcome of this request, for what the device can say that the outcome names; empty
+-- if the run finished
+abbrev pub ending_line : Asking → Seen → Outcome → List ℕ
+ending_line a seen outcome = ending_line_when a seen (settled outcome)
 
 -- the same, also of a run that nobody asked for, as that of the example
-abbrev pub line_for : Option Asking → Outcome → List ℕ
-line_for (Some a) outcome = ending_line a outcome
-line_for None outcome = outcome_line outcome
+abbrev pub line_for : Option Asking → Seen → Outcome → List ℕ
+line_for (Some a) seen outcome = ending_line a seen outcome
+line_for None seen outcome = outcome_line outcome
+
+-- why the report could not be written, for what its device can say
+abbrev pub report_reason : Asking → Option SystemError → List ℕ
+report_reason a error = written_reason (unwrap_or a.report []) error
+
+-- the line of a report that could not be written; it has no reason if memory for that was refused
+abbrev pub report_line : Asking → Option (Option SystemError) → List ℕ
+report_line a said =
+    line (explained a.explain (codes "write failed: report") (option_map (report_reason a) said))

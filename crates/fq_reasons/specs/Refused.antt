@@ -7,14 +7,12 @@ use Rattle.fq_trim.specs.declared.fault.StepFaultKind.{StepFaultKind}
 use Rattle.fq_trim.specs.declared.fault.StepFaultKind.TheVariants as step
 use Rattle.fq_pair.specs.declared.out.Out.{Out}
 use Rattle.fq_pair.specs.declared.out.Out.TheVariants.{ForwardPaired, ForwardUnpaired, ReversePaired, ReverseUnpaired, Log}
-use Rattle.fq_pair.specs.declared.side.Side.{Side}
-use Rattle.fq_pair.specs.declared.side.Side.TheVariants.{Forward, Reverse}
-use Rattle.fq_pair.specs.Forms.{Form, TwoTexts, InterleavedText}
 use Rattle.fq_run_core.specs.declared.settings.BadSetting.{BadSetting}
 use Rattle.fq_run_core.specs.declared.settings.BadSetting.TheVariants as setting
-use Rattle.fq_cli.specs.Requests.{Asking, InputNames}
+use Rattle.fq_cli.specs.Requests.{Asking}
 use Rattle.fq_files_run.specs.declared.refusal.Refusal.{Refusal}
 use Rattle.fq_files_run.specs.declared.refusal.Refusal.TheVariants.{Encoding, Step, Setting, SameName, Source, Target, SameReport, Report, Memory}
+use Rattle.fq_reasons.specs.Causes.{source_reason, target_reason}
 
 -- Steps.
 
@@ -104,48 +102,15 @@ role_of ReversePaired = codes "the output of reverse paired reads"
 role_of ReverseUnpaired = codes "the output of reverse unpaired reads"
 role_of Log = codes "the trim log"
 
--- both inputs have one name: the second can't be opened beside the first
-abbrev pub is_twice : InputNames → Form → Side → Bool
-is_twice inputs TwoTexts Reverse = bytes_eq inputs.forward inputs.reverse
-is_twice inputs TwoTexts Forward = false
-is_twice inputs InterleavedText side = false
-
--- one of the four outputs of reads has this name
-abbrev pub is_output : Asking → List ℕ → Bool
-is_output a name = bytes_eq name a.forward_paired || (bytes_eq name a.forward_unpaired
-    || (bytes_eq name a.reverse_paired || bytes_eq name a.reverse_unpaired))
-
--- an output that is made before this one has its name
-abbrev pub is_taken : Asking → Out → Bool
-is_taken a ForwardPaired = false
-is_taken a ForwardUnpaired = bytes_eq a.forward_unpaired a.forward_paired
-is_taken a ReversePaired = bytes_eq a.reverse_paired a.forward_paired
-    || bytes_eq a.reverse_paired a.forward_unpaired
-is_taken a ReverseUnpaired = bytes_eq a.reverse_unpaired a.forward_paired
-    || (bytes_eq a.reverse_unpaired a.forward_unpaired
-    || bytes_eq a.reverse_unpaired a.reverse_paired)
-is_taken a Log = is_output a (unwrap_or a.log [])
-
--- an output has the name of the report
-abbrev pub is_report_taken : Asking → List ℕ → Bool
-is_report_taken a name = is_output a name || bytes_eq name (unwrap_or a.log [])
-
--- a reason that is given if it holds
-abbrev pub given_if : Bool → List ℕ → Option (List ℕ)
-given_if true reason = Some reason
-given_if false reason = None
-
--- why the request was refused, as far as its arguments show
+-- why the request was refused
 abbrev pub refusal_reason : Asking → Refusal → Option (List ℕ)
 refusal_reason a Encoding =
     Some (codes "it can be sanger (Phred+33), illumina13 (Phred+64) or solexa")
 refusal_reason a (Step fault) = Some (step_reason a fault.kind (step_word a fault.place))
 refusal_reason a (Setting bad) = setting_reason a bad
 refusal_reason a (SameName out) = Some (codes "it is an input and " ++ role_of out)
-refusal_reason a (Source side) =
-    given_if (is_twice a.inputs a.inputs.form side) (codes "it is given twice")
-refusal_reason a (Target out) = given_if (is_taken a out) (codes "it is also an output")
+refusal_reason a (Source side cause) = Some (source_reason cause)
+refusal_reason a (Target out cause) = Some (target_reason a.inputs cause)
 refusal_reason a SameReport = Some (codes "it is an input and the report")
-refusal_reason a Report =
-    given_if (is_report_taken a (unwrap_or a.report [])) (codes "it is also an output")
+refusal_reason a (Report cause) = Some (target_reason a.inputs cause)
 refusal_reason a (Memory refused) = None

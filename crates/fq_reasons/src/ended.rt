@@ -4,42 +4,55 @@ ghost use Rattle.std.specs.Prelude.{◌≡◌, ◌++◌, IfOk, codes, unwrap_or}
 ghost use Rattle.std.specs.Option.{option_map};
 ghost use Rattle.std.specs.String.{string_bytes};
 ghost use Rattle.fq_cli.specs.Requests.{asking_of, names_of};
-ghost use Rattle.fq_reasons.specs.Ended.{file_reason, record_reason, missing_reason, names_reason, other_side, input_reason, ending_reason};
+ghost use Rattle.fq_reasons.specs.Ended.{file_reason, written_reason, record_reason, missing_reason, names_reason, other_side, title_reason, look_words, input_reason, ending_reason};
 
+use crate::causes::device_words;
 use fq_cli::{Inputs, Request};
 use fq_pair::{InputFault, Side};
 use fq_run_core::Outcome;
-use fq_text::{OutOfMemory, TextFault};
+use fq_text::{Look, OutOfMemory, Seen, SystemError, TextFault};
 use std::alloc::Global;
 
-/// Why the run ended so, as far as the outcome and the arguments show.
+/// Why the run ended so. `seen` is what the device can say that the outcome names.
 pub(crate) fn ending_reason(
     alloc: Global,
     request: &Request<'_>,
+    seen: Seen,
     outcome: Outcome,
 ) -> Result<Option<String>, OutOfMemory>
     ensures { IfOk result (λ reason. option_map string_bytes reason
-        ≡ ending_reason (asking_of request.now) outcome) }
+        ≡ ending_reason (asking_of request.now) seen outcome) }
 {
     match outcome {
         Outcome::Write(out) => {
             let name = request.output_name(out).unwrap_or("");
-            let words = "not all of it could be written. Is the disk full?";
-            Ok(Some(file_reason(alloc, name, words)?))
+            Ok(Some(written_reason(alloc, name, seen.error)?))
         }
         Outcome::Read(side) => {
-            let words = "it could not be read to its end";
-            Ok(Some(file_reason(alloc, request.input_name(side), words)?))
+            let words = device_words(alloc, seen.error, "it could not be read to its end")?;
+            Ok(Some(file_reason(alloc, request.input_name(side), words.as_str())?))
         }
         Outcome::Endless(side) => {
             let words = "it has not ended after 1099511627776 read calls";
             Ok(Some(file_reason(alloc, request.input_name(side), words)?))
         }
-        Outcome::Input(fault) => Ok(Some(input_reason(alloc, request, fault)?)),
+        Outcome::Input(fault) => Ok(Some(input_reason(alloc, request, seen.look, fault)?)),
         Outcome::Spawn | Outcome::Lane | Outcome::Gate | Outcome::Memory | Outcome::Finished => {
             Ok(None)
         }
     }
+}
+
+/// Why a file was not written.
+pub(crate) fn written_reason(
+    alloc: Global,
+    name: &str,
+    error: Option<SystemError>,
+) -> Result<String, OutOfMemory>
+    ensures { IfOk result (λ text. string_bytes text ≡ written_reason name.now error) }
+{
+    let words = device_words(alloc, error, "not all of it could be written")?;
+    file_reason(alloc, name, words.as_str())
 }
 
 // What is wrong with a file.
@@ -53,14 +66,15 @@ fn file_reason(alloc: Global, name: &str, words: &str) -> Result<String, OutOfMe
 fn input_reason(
     alloc: Global,
     request: &Request<'_>,
+    look: Look,
     fault: InputFault,
 ) -> Result<String, OutOfMemory>
     ensures { IfOk result (λ text. string_bytes text
-        ≡ input_reason (asking_of request.now) fault) }
+        ≡ input_reason (asking_of request.now) look fault) }
 {
     match fault {
         InputFault::Text(side, fault) => {
-            let words = record_reason(alloc, request.encoding, fault)?;
+            let words = record_reason(alloc, request.encoding, look, fault)?;
             file_reason(alloc, request.input_name(side), words.as_str())
         }
         InputFault::MateMissing(side, _) => missing_reason(alloc, request.inputs, side),
@@ -68,13 +82,19 @@ fn input_reason(
     }
 }
 
-// What is wrong with a record of a FASTQ file whose qualities have this encoding.
-fn record_reason(alloc: Global, encoding: &str, fault: TextFault) -> Result<String, OutOfMemory>
-    ensures { IfOk result (λ text. string_bytes text ≡ record_reason encoding.now fault) }
+// What is wrong with a record of a FASTQ file whose qualities have this encoding, and whose first
+// bytes look so.
+fn record_reason(
+    alloc: Global,
+    encoding: &str,
+    look: Look,
+    fault: TextFault,
+) -> Result<String, OutOfMemory>
+    ensures { IfOk result (λ text. string_bytes text ≡ record_reason encoding.now look fault) }
 {
     let words = match fault {
         TextFault::BadQuality(_) => return quality_reason(alloc, encoding),
-        TextFault::NoTitle(_) => "the record does not begin with @",
+        TextFault::NoTitle(k) => return title_reason(alloc, look_words(k, look)),
         TextFault::BadSequence(_) => {
             "a sequence line begins with @, or holds a space or an unprintable byte"
         }
@@ -90,6 +110,25 @@ fn record_reason(alloc: Global, encoding: &str, fault: TextFault) -> Result<Stri
         TextFault::OutOfMemory => "memory was refused",
     };
     String::from_str(alloc, words)
+}
+
+// That a record does not begin as it must, and what the file looks like.
+fn title_reason(alloc: Global, look: &str) -> Result<String, OutOfMemory>
+    ensures { IfOk result (λ text. string_bytes text ≡ title_reason look.now) }
+{
+    format!(in alloc; "the record does not begin with @{look}")
+}
+
+// What a file looks like whose first record does not begin as it must.
+fn look_words(k: u64, look: Look) -> &'static str
+    ensures { result.now ≡ look_words k look }
+{
+    match (k, look) {
+        (1, Look::Gzip) => ". The file looks compressed, by gzip or as BAM",
+        (1, Look::Bam) => ". The file looks like BAM",
+        (1, Look::Fasta) => ". The file looks like FASTA",
+        _ => "",
+    }
 }
 
 // What is wrong with a quality byte.

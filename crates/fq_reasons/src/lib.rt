@@ -1,13 +1,14 @@
 //! Why a request was refused, and why a run ended early, in words that say what to change. The
 //! option `--explain` asks for these reasons.
 //!
-//! This is an inner layer of the program `fq_prog`, between `fq_files_run`, which knows what was refused
-//! or went wrong, and `fq_app`, which reports it. A reason is made of the fault and the
-//! arguments alone.
+//! This is an inner layer of the program `fq_prog`, between `fq_files_run`, which knows what was
+//! refused or went wrong, and `fq_app`, which reports it. A reason is made of the fault, the
+//! arguments, and what the device said that failed.
 #![tactic(auto)]
 
+mod causes;
 mod ended;
 mod lines;
 mod refused;
 
-pub use lines::{ending_line, explained_refusal};
+pub use lines::{REPORT_LINE, ending_line, explained_refusal, report_line};

@@ -1,19 +1,22 @@
 //! Lines on standard error, with a reason if one is asked for and known.
 
-ghost use Rattle.std.specs.Prelude.{◌≡◌, ◌++◌, ℕ, List, IfOk, codes};
+ghost use Rattle.std.specs.Prelude.{◌≡◌, ◌++◌, ℕ, List, Some, IfOk, codes};
 ghost use Rattle.std.specs.String.{string_bytes};
 ghost use Rattle.fq_text.specs.Written.{line};
 ghost use Rattle.fq_cli.specs.Requests.{asking_of};
 ghost use Rattle.fq_files_run.specs.Refusals.{words_of};
-ghost use Rattle.fq_reasons.specs.Lines.{line_of, ending_line};
+ghost use Rattle.fq_reasons.specs.Lines.{line_of, ending_line, report_line};
 
-use crate::ended::ending_reason;
+use crate::ended::{ending_reason, written_reason};
 use crate::refused::refusal_reason;
 use fq_cli::Request;
 use fq_files_run::{Refusal, fault_line, settled, without_end};
 use fq_run_core::Outcome;
-use fq_text::OutOfMemory;
+use fq_text::{OutOfMemory, Seen, SystemError};
 use std::alloc::Global;
+
+/// The line of a report that could not be written, with its line end and without a reason.
+pub const REPORT_LINE: &str = "write failed: report\n";
 
 /// Adds the reason to the line of a refusal of this request, if it is asked for and known.
 pub fn explained_refusal(
@@ -35,24 +38,43 @@ pub fn explained_refusal(
 }
 
 /// The line of an outcome of this request, with its line end and, if it is asked for and known,
-/// the reason. It is empty if the run finished.
+/// the reason. It is empty if the run finished. `seen` is what the device can say that the outcome
+/// names.
 pub fn ending_line(
     alloc: Global,
     request: &Request<'_>,
+    seen: Seen,
     outcome: Outcome,
 ) -> Result<String, OutOfMemory>
     ensures { IfOk result (λ text. string_bytes text
-        ≡ ending_line (asking_of request.now) outcome) }
+        ≡ ending_line (asking_of request.now) seen outcome) }
 {
     let mut line = String::new(alloc);
     fault_line(alloc, &mut line, outcome)?;
     if !request.explain {
         return Ok(line);
     }
-    match ending_reason(alloc, request, settled(outcome))? {
+    match ending_reason(alloc, request, seen, settled(outcome))? {
         Some(reason) => with_reason(alloc, line.as_str(), reason.as_str()),
         None => Ok(line),
     }
+}
+
+/// The line of a report that could not be written, with its line end and, if it is asked for, the
+/// reason.
+pub fn report_line(
+    alloc: Global,
+    request: &Request<'_>,
+    error: Option<SystemError>,
+) -> Result<String, OutOfMemory>
+    ensures { IfOk result (λ text. string_bytes text
+        ≡ report_line (asking_of request.now) (Some error)) }
+{
+    if !request.explain {
+        return String::from_str(alloc, REPORT_LINE);
+    }
+    let reason = written_reason(alloc, request.report.unwrap_or(""), error)?;
+    explained(alloc, "write failed: report", reason.as_str())
 }
 
 // A line with this reason after its words.

@@ -1,14 +1,15 @@
 //! Why a request was refused.
 
-ghost use Rattle.std.specs.Prelude.{◌≡◌, ◌++◌, [], IfOk, codes, decimal, unwrap_or};
+ghost use Rattle.std.specs.Prelude.{◌≡◌, ◌++◌, IfOk, codes, decimal};
 ghost use Rattle.std.specs.Option.{option_map};
 ghost use Rattle.std.specs.String.{string_bytes};
-ghost use Rattle.fq_cli.specs.Requests.{asking_of, output_name};
-ghost use Rattle.fq_reasons.specs.Refused.{step_word, step_name, step_names, numbers_of, example_of, is_like_file, too_many_files, must_have, step_reason, range_words, setting_reason, role_of, is_twice, is_output, is_taken, is_report_taken, given_if, refusal_reason};
+ghost use Rattle.fq_cli.specs.Requests.{asking_of};
+ghost use Rattle.fq_reasons.specs.Refused.{step_word, step_name, step_names, numbers_of, example_of, is_like_file, too_many_files, must_have, step_reason, range_words, setting_reason, role_of, refusal_reason};
 
-use fq_cli::{Inputs, Request};
+use crate::causes::{source_reason, target_reason};
+use fq_cli::Request;
 use fq_files_run::Refusal;
-use fq_pair::{Out, Side};
+use fq_pair::Out;
 use fq_run_core::BadSetting;
 use fq_text::OutOfMemory;
 use fq_trim::{StepFault, StepFaultKind};
@@ -18,7 +19,7 @@ use std::alloc::Global;
 const STEP_NAMES: &str =
     "LEADING, TRAILING, SLIDINGWINDOW, CROP, HEADCROP, AVGQUAL, MINLEN, TOPHRED33";
 
-/// Why the request was refused, as far as its arguments show.
+/// Why the request was refused.
 pub(crate) fn refusal_reason(
     alloc: Global,
     request: &Request<'_>,
@@ -28,30 +29,21 @@ pub(crate) fn refusal_reason(
         ≡ refusal_reason (asking_of request.now) refusal) }
 {
     match refusal {
-        Refusal::Encoding => given_if(
-            alloc,
-            true,
-            "it can be sanger (Phred+33), illumina13 (Phred+64) or solexa",
-        ),
+        Refusal::Encoding => {
+            let words = "it can be sanger (Phred+33), illumina13 (Phred+64) or solexa";
+            Ok(Some(String::from_str(alloc, words)?))
+        }
         Refusal::Step(fault) => Ok(Some(step_fault_reason(alloc, request, fault)?)),
         Refusal::Setting(bad) => setting_reason(alloc, request, bad),
         Refusal::SameName(out) => Ok(Some(same_reason(alloc, role_of(out))?)),
-        Refusal::Source(side) => given_if(alloc, is_twice(request, side), "it is given twice"),
-        Refusal::Target(out) => given_if(alloc, is_taken(request, out), "it is also an output"),
-        Refusal::SameReport => given_if(alloc, true, "it is an input and the report"),
-        Refusal::Report => given_if(alloc, is_report_taken(request), "it is also an output"),
+        Refusal::Source(_, cause) => Ok(Some(source_reason(alloc, cause)?)),
+        Refusal::SameReport => {
+            Ok(Some(String::from_str(alloc, "it is an input and the report")?))
+        }
+        Refusal::Target(_, cause) | Refusal::Report(cause) => {
+            Ok(Some(target_reason(alloc, request.inputs, cause)?))
+        }
         Refusal::Memory(_) => Ok(None),
-    }
-}
-
-// The reason if it holds.
-fn given_if(alloc: Global, holds: bool, reason: &str) -> Result<Option<String>, OutOfMemory>
-    ensures { IfOk result (λ text. option_map string_bytes text ≡ given_if holds reason.now) }
-{
-    if holds {
-        Ok(Some(String::from_str(alloc, reason)?))
-    } else {
-        Ok(None)
     }
 }
 
@@ -73,60 +65,6 @@ fn role_of(out: Out) -> &'static str
         Out::ReverseUnpaired => "the output of reverse unpaired reads",
         Out::Log => "the trim log",
     }
-}
-
-// Whether the input of this side can't be opened because the other input has its name.
-fn is_twice(request: &Request<'_>, side: Side) -> bool
-    ensures { result ≡ is_twice (asking_of request.now).inputs
-        (asking_of request.now).inputs.form side }
-{
-    match (request.inputs, side) {
-        (Inputs::Apart { forward, reverse }, Side::Reverse) => forward == reverse,
-        (Inputs::Apart { .. }, Side::Forward) | (Inputs::Interleaved(_), _) => false,
-    }
-}
-
-// Whether one of the four outputs of reads has this name.
-fn is_output(request: &Request<'_>, name: &str) -> bool
-    ensures { result ≡ is_output (asking_of request.now) name.now }
-{
-    name == request.forward_paired
-        || name == request.forward_unpaired
-        || name == request.reverse_paired
-        || name == request.reverse_unpaired
-}
-
-// Whether an output that is made before this one has its name.
-fn is_taken(request: &Request<'_>, out: Out) -> bool
-    ensures { result ≡ is_taken (asking_of request.now) out }
-{
-    let first = request.forward_paired;
-    let second = request.forward_unpaired;
-    let third = request.reverse_paired;
-    let fourth = request.reverse_unpaired;
-    match out {
-        Out::ForwardPaired => false,
-        Out::ForwardUnpaired => second == first,
-        Out::ReversePaired => third == first || third == second,
-        Out::ReverseUnpaired => fourth == first || fourth == second || fourth == third,
-        Out::Log => is_output(request, log_name(request)),
-    }
-}
-
-// Whether an output has the name of the report.
-fn is_report_taken(request: &Request<'_>) -> bool
-    ensures { result ≡ is_report_taken (asking_of request.now)
-        (unwrap_or (asking_of request.now).report []) }
-{
-    let report = request.report.unwrap_or("");
-    is_output(request, report) || report == log_name(request)
-}
-
-// The name of the log, empty if there is none.
-fn log_name<'a>(request: &Request<'a>) -> &'a str
-    ensures { result.now ≡ unwrap_or (asking_of request.now).log [] }
-{
-    request.log.unwrap_or("")
 }
 
 // The option that is out of its range, and the range. No option changes the last two settings.

@@ -2,8 +2,10 @@
 //!
 //! `call: WORD ..` gives the arguments, `file NAME: TEXT` a file that exists, and
 //! `trouble: NAME WHAT` what goes wrong with a file: a number (that read or write of the file
-//! fails), `refused`, `memory` (the file is refused because memory was) or `input` (the file leads
-//! to an input). With `print fails at: N`, write N to standard output fails.
+//! fails), `refused`, `twice` (it is already an input), `taken` (it is already an output), `memory`
+//! (the file is refused because memory was) or `input` (the file leads to an input). The system's
+//! error of a file that is refused or fails is `error` (0: none). With `print fails at: N`, write N
+//! to standard output fails.
 //!
 //! Answers: `status`, `out`, `err`, `printed` (which of the two were written to), and each file by
 //! its name.
@@ -12,8 +14,8 @@ ghost use Rattle.std.specs.Prelude.{◌≡◌, true, false, None};
 
 use anyhow::{Context, Result};
 use fq_app::program;
-use fq_files::{FileFault, Files, MemoryFiles};
-use fq_text::{ScriptFeed, ScriptOutlet};
+use fq_files::{Cause, FileFault, Files, MemoryFiles};
+use fq_text::{Feed, Look, Outlet, ScriptFeed, ScriptOutlet, Seen, SystemError};
 use fq_worked::{Answers, Given};
 use std::alloc::Global;
 use std::sync::Wait;
@@ -39,10 +41,19 @@ struct TroubledFiles<'a> {
     held: MemoryFiles,
     name: &'a str,
     trouble: Trouble,
+    // The system's error of the file that fails.
+    error: SystemError,
     alloc: Global,
 }
 
 impl TroubledFiles<'_> {
+    // Why a device failed that has failed so often.
+    fn error_of(&self, failures: u64) -> Option<SystemError>
+        ensures { failures ≡ 0 → result ≡ None }
+    {
+        if failures > 0 { Some(self.error) } else { None }
+    }
+
     // Returns the number of the call of this file that fails, or 0; or why the file is refused.
     fn failing_call(&self, name: &str) -> std::result::Result<u64, FileFault> {
         if name != self.name {
@@ -77,11 +88,16 @@ impl Files for TroubledFiles<'_> {
         let call = self.failing_call(name)?;
         match self.held.get(name) {
             Some(bytes) => Ok(ScriptFeed::new(self.alloc, bytes, 1000, call)?),
-            None => Err(FileFault::Refused),
+            None => Err(FileFault::Refused(Cause::System(self.error))),
         }
     }
 
-    fn source_done(&mut self, _name: &str, _feed: ScriptFeed) {}
+    fn source_done(&mut self, name: &str, feed: ScriptFeed) -> Seen {
+        Seen {
+            error: self.error_of(feed.failures()),
+            look: Look::of(self.held.get(name).unwrap_or(b"")),
+        }
+    }
 
     fn leads_to_input(&self, name: &str) -> bool {
         name == self.name && matches!(self.trouble, Trouble::Input)
@@ -93,9 +109,10 @@ impl Files for TroubledFiles<'_> {
         Ok(ScriptOutlet::new(self.alloc, 1000, call, false))
     }
 
-    fn done(&mut self, name: &str, target: ScriptOutlet) {
+    fn done(&mut self, name: &str, target: ScriptOutlet) -> Option<SystemError> {
         // If memory is refused, the file stays empty and the row fails.
         let _ = self.held.put(name, target.bytes());
+        self.error_of(target.failures())
     }
 }
 
@@ -111,12 +128,14 @@ fn files_of(alloc: Global, given: &Given<'_>) -> Result<MemoryFiles> {
 }
 
 // The file that causes trouble, and the kind of trouble.
-fn trouble_of<'a>(given: &'a Given<'_>) -> Result<(&'a str, Trouble)> {
+fn trouble_of<'a>(given: &'a Given<'_>, error: SystemError) -> Result<(&'a str, Trouble)> {
     let Some((name, what)) = given.text("trouble")?.split_once(' ') else {
         return Ok(("", Trouble::Nothing));
     };
     let trouble = match what {
-        "refused" => Trouble::Refused(FileFault::Refused),
+        "refused" => Trouble::Refused(FileFault::Refused(Cause::System(error))),
+        "twice" => Trouble::Refused(FileFault::Refused(Cause::Input)),
+        "taken" => Trouble::Refused(FileFault::Refused(Cause::Output)),
         "memory" => Trouble::Refused(FileFault::OutOfMemory),
         "input" => Trouble::Input,
         _ => Trouble::Call(what.parse::<u64>().context("no such trouble")?),
@@ -196,17 +215,22 @@ pub fn answer<R: Threads + Wait + Copy + Send + 'static>(
     given.allow(&[
         "call",
         "trouble",
+        "error",
         "print fails at",
         "file f",
         "file r",
         "file i",
     ])?;
     let words: Vec<&str> = given.text("call")?.split(' ').collect(alloc)?;
-    let (name, trouble) = trouble_of(given)?;
+    let error = SystemError {
+        number: given.number("error", 0)? as u32,
+    };
+    let (name, trouble) = trouble_of(given, error)?;
     let mut files = TroubledFiles {
         held: files_of(alloc, given)?,
         name,
         trouble,
+        error,
         alloc,
     };
     let print_fails_at = given.number("print fails at", 0)?;

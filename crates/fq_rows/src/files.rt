@@ -46,7 +46,7 @@ pub fn answer(alloc: Global, given: &Given<'_>, answers: &mut Answers) -> Result
     let mut files = MemoryFiles::new(alloc);
     answers.put_yes(
         "refused",
-        matches!(files.source("f"), Err(FileFault::Refused)),
+        matches!(files.source("f"), Err(FileFault::Refused(_))),
     )?;
     files.put("f", given.bytes("text"))?;
     if given.text("sync")? == "yes" {

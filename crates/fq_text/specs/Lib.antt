@@ -2,6 +2,7 @@ pub mod Lines
 pub mod Scores
 pub mod Grammar
 pub mod Devices
+pub mod Looks
 pub mod Phases
 pub mod Reading
 pub mod Sources

@@ -1,10 +1,11 @@
 //! Readers and writers of the standard library, as devices.
 
-ghost use Rattle.std.specs.Prelude.{◌≡◌, ◌<◌, ◌≤◌, ◌+◌, length, IfOk, is_ok, if◌then◌else◌};
+ghost use Rattle.std.specs.Prelude.{◌≡◌, ◌<◌, ◌≤◌, ◌+◌, None, length, IfOk, is_ok, if◌then◌else◌};
 ghost use Rattle.std.specs.Io.KnownBytes.{Keeps, ReadConsumes, WriteAppends};
 
 use crate::feed::{Feed, FeedFailed};
 use crate::outlet::{Outlet, OutletFailed};
+use crate::seen::{Look, Seen, SystemError};
 use std::io::{Read, Write};
 use std::marker::Model;
 
@@ -12,12 +13,17 @@ use std::marker::Model;
 ///
 /// The bytes of the feed are not known to the proof, since those of a file are not. Each error
 /// counts as a failed read call, also one that only says that a signal came
-/// (`ErrorKind::Interrupted`). The error itself is dropped: a feed reports that it failed, but not
-/// why.
+/// (`ErrorKind::Interrupted`). [`seen`](FromRead::seen) says why the last one failed: a read call
+/// returns only that it did.
 #[derive(Drop)]
 pub struct FromRead<R: Read> {
     reader: R,
     failed_reads: u64,
+    // Why the last failed read call failed.
+    error: SystemError,
+    // Whether no byte was read yet, and what the first bytes looked like.
+    is_unread: bool,
+    look: Look,
 }
 
 impl<R: Read> Model for FromRead<R> {
@@ -36,6 +42,24 @@ impl<R: Read> FromRead<R> {
         FromRead {
             reader,
             failed_reads: 0,
+            error: SystemError { number: 0 },
+            is_unread: true,
+            look: Look::Unknown,
+        }
+    }
+
+    /// Why the last failed read call failed, if one failed, and what the first bytes looked like.
+    pub fn seen(&self) -> Seen
+        ensures { self.now.failures ≡ 0 → result.error ≡ None }
+    {
+        let error = if self.failed_reads > 0 {
+            Some(self.error)
+        } else {
+            None
+        };
+        Seen {
+            error,
+            look: self.look,
         }
     }
 
@@ -46,6 +70,9 @@ impl<R: Read> FromRead<R> {
         let FromRead {
             reader,
             failed_reads: _,
+            error: _,
+            is_unread: _,
+            look: _,
         } = self;
         reader
     }
@@ -64,11 +91,20 @@ impl<R: Read> Feed for FromRead<R> {
         ensures reader { ReadConsumes (R.remaining self.old.inner)
             (R.remaining self.new.inner) result buf.new }
     {
-        let Ok(n) = self.reader.read(buf) else {
-            self.failed_reads += 1;
-            return Err(FeedFailed);
-        };
-        Ok(n)
+        match self.reader.read(buf) {
+            Ok(n) => {
+                if self.is_unread && n > 0 {
+                    self.is_unread = false;
+                    self.look = Look::of(&buf[..n]);
+                }
+                Ok(n)
+            }
+            Err(e) => {
+                self.failed_reads += 1;
+                self.error = SystemError::of(e);
+                Err(FeedFailed)
+            }
+        }
     }
 
     fn failures(&self) -> u64 {
@@ -76,9 +112,10 @@ impl<R: Read> Feed for FromRead<R> {
     }
 }
 
-/// Writes the first n of these bytes by one call of the writer, and returns n. A write that takes
-/// none of the bytes that it is given is a failure.
-pub fn write_to<W: Write>(writer: &mut W, bytes: &[u8]) -> Result<usize, OutletFailed>
+/// Writes the first n of these bytes by one call of the writer, and returns n, or why it failed. A
+/// write that takes none of the bytes that it is given is a failure, for which the system has no
+/// number.
+pub fn write_to<W: Write>(writer: &mut W, bytes: &[u8]) -> Result<usize, SystemError>
     ensures within { IfOk result (λ n. n ≤ length bytes.now) }
     ensures some { IfOk result (λ n. 0 < length bytes.now → 0 < n) }
     // If the bytes of the writer are known, they grow as a write makes them grow.
@@ -86,9 +123,9 @@ pub fn write_to<W: Write>(writer: &mut W, bytes: &[u8]) -> Result<usize, OutletF
         (W.contents writer.new) result bytes.now }
 {
     match writer.write(bytes) {
-        Ok(0) if !bytes.is_empty() => Err(OutletFailed),
+        Ok(0) if !bytes.is_empty() => Err(SystemError { number: 0 }),
         Ok(n) => Ok(n),
-        Err(_) => Err(OutletFailed),
+        Err(e) => Err(SystemError::of(e)),
     }
 }
 
@@ -169,7 +206,7 @@ impl<W: Write> Outlet for FromWrite<W> {
         self.is_flushed = false;
         match write_to(&mut self.writer, bytes) {
             Ok(n) => Ok(n),
-            Err(OutletFailed) => Err(self.fail()),
+            Err(_) => Err(self.fail()),
         }
     }
 

@@ -123,7 +123,50 @@ fn a_readers_error_is_a_failure(rt: HostRuntime) {
     let mut feed = FromRead::new(Signalled { calls: 0 });
     assert_read(&rt, &mut feed, &mut buf, Err(FeedFailed), 1);
     assert_read(&rt, &mut feed, &mut buf, Ok(0), 1);
+    let error = Some(SystemError { number: 0 });
+    assert_eq!(rt;
+        feed.seen(),
+        Seen {
+            error,
+            look: Look::Unknown
+        }
+    );
     assert_eq!(rt; feed.into_inner().calls, 1);
+}
+
+#[test]
+fn a_reader_that_ends_has_no_error(rt: HostRuntime) {
+    let mut buf = [0u8; 2];
+    let mut feed = FromRead::new(b">abc".as_slice());
+    assert_eq!(rt; feed.seen(), Seen::NOTHING);
+    assert_read(&rt, &mut feed, &mut buf, Ok(2), 0);
+    assert_read(&rt, &mut feed, &mut buf, Ok(2), 0);
+    let error = None;
+    assert_eq!(rt;
+        feed.seen(),
+        Seen {
+            error,
+            look: Look::Fasta
+        }
+    );
+}
+
+#[test]
+fn errors_have_the_systems_number(rt: HostRuntime) {
+    let full = io::Error::from_raw_os_error(28);
+    assert_eq!(rt; SystemError::of(full), SystemError { number: 28 });
+    let other = io::Error::from(ErrorKind::StorageFull);
+    assert_eq!(rt; SystemError::of(other), SystemError { number: 0 });
+}
+
+#[test]
+fn first_bytes_show_what_a_file_is(rt: HostRuntime) {
+    assert_eq!(rt; Look::of(b"\x1f\x8b"), Look::Gzip);
+    assert_eq!(rt; Look::of(b"\x1f"), Look::Unknown);
+    assert_eq!(rt; Look::of(b"BAM\x01x"), Look::Bam);
+    assert_eq!(rt; Look::of(b">"), Look::Fasta);
+    assert_eq!(rt; Look::of(b"@p\n"), Look::Unknown);
+    assert_eq!(rt; Look::of(b""), Look::Unknown);
 }
 
 #[test]

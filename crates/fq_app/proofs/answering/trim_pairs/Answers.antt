@@ -23,7 +23,8 @@ returns-in-Ok-clause-pairs g c =
       held = c.in-Ok.ensures.completed.report;
     } in
     let line : c.tell.result ≢ 0 → TookLine a _ _ _ _ _ c.tell.result =
-    λ some. told_line a _ _ _ account.outcome account.counts reported run _ _ _
+    λ some. told_line a _ _ _ account.outcome account.counts reported run
+    c.in-Ok.completed.seen _ _ _
     (c.tell.ensures.line some) in
     let whole : (c.tell.result ≡ 0) ⊎ (c.tell.result ≡ 3) →
     IsTrue (g.T.Files.tells_bytes c.args.files.now) → EndsWhole a _ _ _ _ c.tell.result =
@@ -32,6 +33,7 @@ returns-in-Ok-clause-pairs g c =
     record {
       outcome = account.outcome;
       counts = account.counts;
+      seen = c.in-Ok.completed.seen;
       trims = c.in-Ok.ensures.completed.trims told
           (ends_so account.outcome c.tell.result status ends);
       status_is = status;
@@ -61,7 +63,7 @@ returns-in-Ok-clause-device g c = λ four.
     let completed = c.in-Ok.ensures.completed in
     failed_device (asking_of c.args.request.now) _ _ _ _ _
     (device_of g.O.Outlet.state c.args.out.now c.tell.new.out) _ _
-    c.in-Ok.completed.account.outcome c.in-Ok.completed.reported
+    c.in-Ok.completed.seen c.in-Ok.completed.account.outcome c.in-Ok.completed.reported
     completed.failed completed.as_it_is completed.report_failed
     (c.tell.ensures.line (λ zero. absurd (omega (arith, four, zero)))) four
 

@@ -13,11 +13,11 @@ use Rattle.fq_files_run.proofs.CompletingLemmas.{IsHeld, first_pairs, report_of_
 use Rattle.fq_app.proofs.trimming.complete.Goals as goal
 
 -- the file of each output exists when the outlets are handed back
-pub store-requires-after_bounds : goal.store-requires-after_bounds
-store-requires-after_bounds g c κs within = λ told out name named.
-    let before = along _ _ (sym c.inputs_done.ensures.told) told in
+pub store-errors-requires-after_bounds : goal.store-errors-requires-after_bounds
+store-errors-requires-after_bounds g c κs within = λ told out name named.
+    let before = along _ _ (sym c.inputs_done-inputs.ensures.told) told in
     let P : Option (List ℕ) → Type 0 = λ bytes. IsSome bytes in
-    subst P (sym (c.inputs_done.ensures.unchanged before name))
+    subst P (sym (c.inputs_done-inputs.ensures.unchanged before name))
     (c.requires.ready.held before out name named)
 
 -- a run on opened devices is completed, has its witness, and makes no further name an input
@@ -25,7 +25,7 @@ pub returns : goal.returns
 returns g c = record {
   witnessed = c.run-account.ensures.witnessed;
   leading = c.store_report-reported.ensures.leading
-      ∙ (c.store.ensures.leading ∙ c.inputs_done.ensures.leading);
+      ∙ (c.store-errors.ensures.leading ∙ c.inputs_done-inputs.ensures.leading);
   completed = λ start opened settings.
       let a = asking_of c.args.request.now in
       let choices = c.args.settings.now in
@@ -37,8 +37,8 @@ returns g c = record {
       let left = left_of g.T.In.Feed.state c.run-account.result.feeds in
       let account = c.run-account.result.account in
       let run = run_in inputs before after left account in
-      let done = c.inputs_done.ensures in
-      let stored = c.store.ensures in
+      let done = c.inputs_done-inputs.ensures in
+      let stored = c.store-errors.ensures in
       let reported = c.store_report-reported.ensures in
       let are_told : IsTrue told_0 → AreTold run =
       λ told. record {

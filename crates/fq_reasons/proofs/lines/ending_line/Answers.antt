@@ -13,12 +13,13 @@ use Rattle.fq_reasons.proofs.lines.ending_line.Goals as goal
 pub returns-in-Some : goal.returns-in-Some
 returns-in-Some c =
     let a = asking_of c.args.request.now in
+    let seen = c.args.seen in
     let o = settled c.args.outcome in
     let text = string_bytes c.in-Some.reason in
-    let is : ending_reason a o ≡ Some text =
-    ap (ending_reason a) (sym c.settled.ensures) ∙ sym c.in_ok-reason.ensures
+    let is : ending_reason a seen o ≡ Some text =
+    ap (ending_reason a seen) (sym c.settled.ensures) ∙ sym c.in_ok-reason.ensures
     ∙ ap (option_map string_bytes) c.in-Some.is in
-    let add = known_ending a o text c.if-not-request.false is in
+    let add = known_ending a seen o text c.if-not-request.false is in
     let plain = c.as_str.ensures.value ∙ (c.in_ok-fault_line.ensures.ok
     ∙ ap (λ bytes. bytes ++ outcome_line c.args.outcome) c.new-line.ensures.bytes)
     ∙ add.plain in
