@@ -31,14 +31,11 @@ impl<'a> Names<'a> {
 
     /// Gives each of these names its part of a word. Names and parts are separated by `/`.
     pub fn put_parts(&mut self, alloc: Global, names: &'a str, word: &str) -> Result<()> {
-        let mut rest = word;
-        for name in names.split('/') {
-            let (part, others) = rest.split_once('/').unwrap_or((rest, ""));
-            self.put(name, Vec::from_slice(alloc, part.as_bytes())?)?;
-            rest = others;
+        if word.split('/').count() != names.split('/').count() {
+            bail!("{word:?} has another number of parts than {names:?}");
         }
-        if !rest.is_empty() {
-            bail!("{word:?} has more parts than {names:?}");
+        for (name, part) in names.split('/').zip(word.split('/')) {
+            self.put(name, Vec::from_slice(alloc, part.as_bytes())?)?;
         }
         Ok(())
     }
