@@ -4,7 +4,9 @@ ghost use Rattle.std.specs.Prelude.{◌≡◌, ◌+◌, ◌<◌, ◌^◌, false,
 
 use super::frame::{SEVEN_COUNTS, assert_ended, forward_feed, outlets, seven_pairs};
 use fq_run::Outcome;
+use fq_samples::SEVEN_STEPS;
 use fq_text::{Feed, FeedFailed, ScriptFeed};
+use fq_trim::Steps;
 use fq_work::Gate;
 use std::alloc::Global;
 use std::hint;
@@ -81,7 +83,7 @@ fn assert_reads_ahead<R: Abort + Threads + Wait + Copy + Send + 'static>(
     depth: u64,
     wanted: u64,
 ) -> Result<(), Fail> {
-    let run = seven_pairs(depth)?;
+    let run = seven_pairs(depth, Steps::parse(SEVEN_STEPS)?);
     let reads = Arc::new(alloc, AtomicU64::new(0))?;
     let gate = JustSoManyReads {
         wanted,

@@ -6,8 +6,7 @@ ghost use Rattle.fq_run_core.specs.Devices.{outlet_states, AreHealthy};
 use fq_pair::Counts;
 use fq_run::{Outcome, Outlets};
 use fq_samples::{
-    Left, MemoryRun, SEVEN_FORWARD, SEVEN_REVERSE, SEVEN_STEPS, TWO_FORWARD, TWO_REVERSE,
-    TWO_STEPS, Written, in_order,
+    Left, MemoryRun, SEVEN_FORWARD, SEVEN_REVERSE, TWO_FORWARD, TWO_REVERSE, Written, in_order,
 };
 use fq_text::{Outlet, ScriptFeed, ScriptOutlet};
 use fq_trim::Steps;
@@ -33,31 +32,29 @@ pub const SEVEN_COUNTS: Counts = Counts {
     dropped: 0,
 };
 
-/// The two pairs by these workers, in blocks of one, through lanes of one. The gate is asked once
+/// The two pairs by these workers and steps, in blocks of one, through lanes of one. The gate is asked once
 /// about a block.
-pub fn two_pairs(workers: u64) -> Result<MemoryRun<'static>, Fail> {
-    let steps = Steps::parse(TWO_STEPS)?;
-    Ok(MemoryRun {
+pub fn two_pairs(workers: u64, steps: Steps) -> MemoryRun<'static> {
+    MemoryRun {
         workers,
         block_pairs: 1,
         depth: 1,
         gate_turns: 1,
         ..MemoryRun::new(TWO_FORWARD, Some(TWO_REVERSE), steps)
-    })
+    }
 }
 
-/// The seven pairs by one worker, in blocks of one, through lanes of this depth. Each read call
-/// gives a record.
-pub fn seven_pairs(depth: u64) -> Result<MemoryRun<'static>, Fail> {
-    let steps = Steps::parse(SEVEN_STEPS)?;
-    Ok(MemoryRun {
+/// The seven pairs by one worker and these steps, in blocks of one, through lanes of this depth.
+/// Each read call gives a record.
+pub fn seven_pairs(depth: u64, steps: Steps) -> MemoryRun<'static> {
+    MemoryRun {
         workers: 1,
         block_pairs: 1,
         depth,
         chunk: 18,
         gate_turns: 1,
         ..MemoryRun::new(SEVEN_FORWARD, Some(SEVEN_REVERSE), steps)
-    })
+    }
 }
 
 /// The feed of the forward text.

@@ -9,8 +9,11 @@ use super::frame::{
 };
 use fq_pair::Counts;
 use fq_run::{Outcome, Outlets};
-use fq_samples::{MemoryRun, SEVEN_WRITTEN, TWO_WRITTEN, Written, in_order};
+use fq_samples::{
+    MemoryRun, SEVEN_STEPS, SEVEN_WRITTEN, TWO_STEPS, TWO_WRITTEN, Written, in_order,
+};
 use fq_text::{Feed, FeedFailed, Outlet, OutletFailed, ScriptFeed, ScriptOutlet};
+use fq_trim::Steps;
 use fq_work::{Gate, OpenGate};
 use std::alloc::Global;
 use std::hint;
@@ -77,7 +80,7 @@ impl Gate for BothAtOnce {
 
 #[test]
 fn two_workers_see_each_other_through_the_gate(rt: HostRuntime) -> Result<(), Fail> {
-    let run = two_pairs(2)?;
+    let run = two_pairs(2, Steps::parse(TWO_STEPS)?);
     let mut outlets = outlets(rt.alloc(), &run)?;
     let gate = BothAtOnce {
         meeting: Meeting::new(LOOKS),
@@ -91,7 +94,7 @@ fn two_workers_see_each_other_through_the_gate(rt: HostRuntime) -> Result<(), Fa
 
 #[test]
 fn one_worker_sees_no_other(rt: HostRuntime) -> Result<(), Fail> {
-    let run = two_pairs(1)?;
+    let run = two_pairs(1, Steps::parse(TWO_STEPS)?);
     let mut outlets = outlets(rt.alloc(), &run)?;
     let gate = BothAtOnce {
         meeting: Meeting::new(FEW_LOOKS),
@@ -211,7 +214,7 @@ fn seeing(alloc: Global, run: &MemoryRun<'_>) -> Result<(SeeingFeed, Outlets<See
 
 #[test]
 fn a_reader_and_a_writer_see_each_other(rt: HostRuntime) -> Result<(), Fail> {
-    let run = seven_pairs(1)?;
+    let run = seven_pairs(1, Steps::parse(SEVEN_STEPS)?);
     let (forward, mut outlets) = seeing(rt.alloc(), &run)?;
     let left = run
         .go_over(&rt, rt.alloc(), OpenGate, forward, &mut outlets)?
