@@ -32,8 +32,8 @@ pub const SEVEN_COUNTS: Counts = Counts {
     dropped: 0,
 };
 
-/// The two pairs by these workers and steps, in blocks of one, through lanes of one. The gate is asked once
-/// about a block.
+/// The two pairs by these workers and steps, in blocks of one, through lanes of one. The gate is
+/// asked once about a block.
 pub fn two_pairs(workers: u64, steps: Steps) -> MemoryRun<'static> {
     MemoryRun {
         workers,
