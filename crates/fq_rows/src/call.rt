@@ -223,7 +223,7 @@ pub fn answer<R: Threads + Wait + Copy + Send + 'static>(
     ])?;
     let words: Vec<&str> = given.text("call")?.split(' ').collect(alloc)?;
     let error = SystemError {
-        number: given.number("error", 0)? as u32,
+        number: u32::try_from(given.number("error", 0)?)?,
     };
     let (name, trouble) = trouble_of(given, error)?;
     let mut files = TroubledFiles {

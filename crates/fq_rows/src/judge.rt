@@ -151,20 +151,19 @@ fn outlets(alloc: Global) -> Option<Box<Outlets<FlushedOutlet>>>
     Box::new(alloc, new_outlets(alloc)).ok()
 }
 
-// The run over seven pairs, or over eleven interleaved records.
-fn run_of(way: Way) -> Result<MemoryRun<'static>> {
-    let steps = Steps::parse(SEVEN_STEPS)?;
+// The run by these steps over seven pairs, or over eleven interleaved records.
+fn run_of(way: Way, steps: Steps) -> MemoryRun<'static> {
     let run = if way.interleaved {
         MemoryRun::new(ELEVEN_INTERLEAVED, None, steps)
     } else {
         MemoryRun::new(SEVEN_FORWARD, Some(SEVEN_REVERSE), steps)
     };
-    Ok(MemoryRun {
+    MemoryRun {
         workers: if way.threads { 2 } else { 0 },
         block_pairs: BLOCK_PAIRS as u64,
         cut: CUT,
         ..run
-    })
+    }
 }
 
 // How a run ended. It is an error if only one feed came back.
@@ -228,7 +227,7 @@ fn run_and_judge<R: Threads + Wait + Copy + Send + 'static>(
     rt: &R,
     way: Way,
 ) -> Result<Option<Ended>> {
-    let run = run_of(way)?;
+    let run = run_of(way, Steps::parse(SEVEN_STEPS)?);
     let Some(mut outlets) = outlets(alloc) else {
         return Ok(None);
     };

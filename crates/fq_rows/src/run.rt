@@ -44,36 +44,32 @@ fn failing_flush(given: &Given<'_>) -> Result<Option<Out>> {
     }
 }
 
-// The texts and the steps of a row.
-fn plain_run<'a>(alloc: Global, given: &'a Given<'_>) -> Result<MemoryRun<'a>> {
-    let steps = Steps::parse(&words_of(alloc, given.text("steps")?)?)?;
+// The run of a row with these steps, before its settings.
+fn plain_run<'a>(given: &'a Given<'_>, steps: Steps) -> MemoryRun<'a> {
     match given.find("interleaved") {
-        Some(text) => Ok(MemoryRun::new(text, None, steps)),
-        None => Ok(MemoryRun::new(given.bytes("forward"), Some(given.bytes("reverse")), steps)),
+        Some(text) => MemoryRun::new(text, None, steps),
+        None => MemoryRun::new(given.bytes("forward"), Some(given.bytes("reverse")), steps),
     }
 }
 
-// The run of a row.
-fn run_of<'a>(alloc: Global, given: &'a Given<'_>) -> Result<MemoryRun<'a>> {
-    let plain = plain_run(alloc, given)?;
-    Ok(MemoryRun {
-        encoding: encoding_in(given)?,
-        check_names: given.text("names")? != "unchecked",
-        workers: given.number("workers", plain.workers)?,
-        block_pairs: given.number("block", plain.block_pairs)?,
-        depth: given.number("depth", plain.depth)?,
-        chunk: given.number("chunk", plain.chunk)?,
-        max_reads: given.number("max reads", plain.max_reads)?,
-        gate_turns: given.number("gate turns", plain.gate_turns)?,
-        tallied: given.text("tally")? == "yes",
-        cut: given.number("cut", 1000)? as usize,
-        fails_at_read: given.number("fails at read", 0)?,
-        reverse_fails_at_read: given.number("reverse fails at read", 0)?,
-        fails_at_write: failing_write(given)?,
-        fails_at_flush: failing_flush(given)?,
-        logs: given.text("without log")? != "yes",
-        ..plain
-    })
+// Gives a run the settings of a row.
+fn put_settings(given: &Given<'_>, run: &mut MemoryRun<'_>) -> Result<()> {
+    run.encoding = encoding_in(given)?;
+    run.check_names = given.text("names")? != "unchecked";
+    run.workers = given.number("workers", run.workers)?;
+    run.block_pairs = given.number("block", run.block_pairs)?;
+    run.depth = given.number("depth", run.depth)?;
+    run.chunk = given.number("chunk", run.chunk)?;
+    run.max_reads = given.number("max reads", run.max_reads)?;
+    run.gate_turns = given.number("gate turns", run.gate_turns)?;
+    run.tallied = given.text("tally")? == "yes";
+    run.cut = given.number("cut", 1000)? as usize;
+    run.fails_at_read = given.number("fails at read", 0)?;
+    run.reverse_fails_at_read = given.number("reverse fails at read", 0)?;
+    run.fails_at_write = failing_write(given)?;
+    run.fails_at_flush = failing_flush(given)?;
+    run.logs = given.text("without log")? != "yes";
+    Ok(())
 }
 
 // Runs as a row says, and puts what the run left.
@@ -208,7 +204,9 @@ pub fn answer<R: Threads + Wait + Copy + Send + 'static>(
         "fails at write",
         "fails at flush",
     ])?;
-    let run = run_of(alloc, given)?;
+    let steps = Steps::parse(&words_of(alloc, given.text("steps")?)?)?;
+    let mut run = plain_run(given, steps);
+    put_settings(given, &mut run)?;
     if run.cut == 0 {
         bail!("no such cut");
     }
