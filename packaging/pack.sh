@@ -123,7 +123,7 @@ changelog() {
 overrides() {
   cat packaging/lintian-overrides
   if [ -z "${DEBEMAIL-}" ]; then
-    echo '# The owner has given no public address yet (docs/DECISIONS.md).'
+    echo '# The project has no public address yet (docs/DECISIONS.md).'
     printf 'tibzharuk binary: %s\n' 'bogus-mail-host Maintainer *' 'root-in-contact Maintainer *' 'bogus-mail-host-in-debian-changelog *'
   fi
 }
