@@ -17,7 +17,13 @@ NEEDS_KIT = @bash packaging/needs.sh
 
 # Lists the targets, each with the comment above it.
 help:
-	@awk '/^# /{ said = said " " substr($$0, 3); next } /^[a-z-]+:/{ sub(":.*", ""); printf "make %-14s%s\n", $$0, said } { said = "" }' Makefile
+	@awk '/^# / { said = said " " substr($$0, 3); next } \
+	  /^[a-z-]+:/ { sub(":.*", ""); line = sprintf("make %-14s", $$0); count = split(said, words, " "); \
+	    for (i = 1; i <= count; i++) { \
+	      if (length(line words[i]) > 79) { print line; line = sprintf("%19s", "") } \
+	      line = line " " words[i] } \
+	    print line } \
+	  { said = "" }' Makefile
 
 # Trims the reads in examples/, within two minutes of a clone, and shows what comes out: with the
 # proved program if it is built, else with a build that isn't proved.
@@ -72,7 +78,8 @@ gate:
 	$(NEEDS_KIT)
 	@bash .ci/run
 
-# Tries the wrong bodies in wrong-bodies/ too, of every crate or with CRATE=fq_trim of one.
+# Tries the wrong bodies in wrong-bodies/ too, of every crate, and the recipes of CONTRIBUTING.md;
+# with CRATE=fq_trim the wrong bodies of that crate alone.
 deep:
 	$(NEEDS_KIT)
 	@bash packaging/deep.sh $(CRATE)
