@@ -51,9 +51,10 @@ for crate; do
     echo "deep: there is no directory crates/$crate/wrong-bodies" >&2
     exit 2
   fi
+  mkdir -p "$room/crates/$crate/must-fail"
   mv -n "$room/crates/$crate"/wrong-bodies/*.edit "$room/crates/$crate/must-fail/"
   for edit in "crates/$crate"/{must-fail,wrong-bodies}/*.edit; do
-    wanted+=("$crate/${edit##*/}")
+    if [ -e "$edit" ]; then wanted+=("$crate/${edit##*/}"); fi
   done
 done
 echo "deep: ${#wanted[@]} wrong bodies of $# crates, including those of the gate"
