@@ -9,6 +9,8 @@
 #   in docs/PROVED.md is in the code.
 # - What is made of the help and of the schema of a report is as packaging/made.py makes it.
 # - The version and its day are those of CHANGELOG.md everywhere (packaging/version.sh).
+# - README.md has at most 200 lines, and each time and size in it is one of bench/README.md. The
+#   counts of wrong bodies and of rows are those of the tree, and documents name one kit.
 # - Each file, and each heading, that a document links to exists.
 # - Every line of a document, outside tables and code, is at most 100 columns wide (DOCUMENTS_WIDTH
 #   sets another width, 0 none), and so are comments, clauses, definitions and proofs in crates/. No
@@ -209,6 +211,25 @@ documents() {
   git ls-files --cached --others --exclude-standard -- '*.md' 2> /dev/null || find . -name '*.md' -not -path '*/out/*' -printf '%P\n'
 }
 
+# Numbers that are in several places are the same there.
+compare_numbers() {
+  local number count rows
+  count=$(wc -l < README.md)
+  [ "$count" -le 200 ] || fail "README.md has $count lines, over 200"
+  while IFS= read -r number; do
+    grep -qwF -- "$number" bench/README.md || fail "README.md says $number, and bench/README.md doesn't"
+  done < <(sed -n '/^## Why another trimmer/,/^## /p' README.md | grep -oE '[0-9]+([.][0-9]+)+' | sort -u)
+  count=$(find crates -path '*/out' -prune -o -path '*/must-fail/*.edit' -print | wc -l)
+  while IFS= read -r number; do
+    [ "$number" -eq "$count" ] || fail "docs/GATE.md lists $number wrong bodies in must-fail/, and there are $count"
+  done < <(grep '^|' docs/GATE.md | grep -oE '[0-9]+ wrong bodies' | grep -oE '[0-9]+')
+  rows=$(grep -oE '^[0-9]+' crates/fq_rows/stdout)
+  number=$(tr '\n' ' ' < docs/ARCHITECTURE.md | grep -oE 'some [0-9]+ of them' | grep -oE '[0-9]+')
+  [ $(((rows + 5) / 10)) -eq $(((number + 5) / 10)) ] || fail "docs/ARCHITECTURE.md says some $number rows, and fq_rows has $rows"
+  count=$(documents | xargs grep -ohE 'rattle-kit-[0-9a-z]+' | sort -u | wc -l)
+  [ "$count" -le 1 ] || fail "documents name $count kits"
+}
+
 # The targets of the links of a document, without those to the Internet.
 links() { grep -oE '\]\([^) ]+\)' "$1" | sed 's/^](//; s/)$//' | grep -vE '^[a-z]+:'; }
 
@@ -319,6 +340,7 @@ first_run
 compare_crates
 compare_proved
 call_library
+compare_numbers
 follow_links
 if [ "$width" -gt 0 ]; then
   measure_width
