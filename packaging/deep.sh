@@ -10,8 +10,8 @@ Copies the crates, moves crates/CRATE/wrong-bodies/*.edit into crates/CRATE/must
 and runs 'rt ci CRATE..' there. Without CRATE it tries the edits of every crate, and the recipes of
 CONTRIBUTING.md (tests/rehearsal.sh --try). The last line is 'N wrong bodies refused, M not'.
 From kit 13f on, 'rt ci' doesn't prove again what it proved before in any checkout on this machine.
-So after a gate only the edits take time, about 28 processor seconds each. Each refused edit is kept
-at once, so after an interruption the next run tries only the others. The 'rt ci' of an older kit
+So after a gate only the edits take time (docs/GATE.md says how much). Each refused edit is kept at
+once, so after an interruption the next run tries only the others. The 'rt ci' of an older kit
 takes no crates. With such a kit 'rt must-fail CRATE..' tries the edits, over a copy of what
 'make build' or 'make check' left of the crates below."
   exit
