@@ -2,31 +2,10 @@
 use Rattle.std.specs.Prelude.{ℕ, Bool, false, unwrap_or, ◌||◌, Option, Some, None, List, map, if◌then◌else◌}
 use Rattle.std.specs.Option.{option_map}
 use Rattle.std.specs.Str.{bytes_eq}
-pub use Rattle.fq_text.specs.Scores.{encoding_of}
 use Rattle.fq_pair.specs.declared.out.Out.{Out}
 use Rattle.fq_pair.specs.declared.out.Out.TheVariants.{ForwardPaired, ForwardUnpaired, ReversePaired, ReverseUnpaired, Log}
-use Rattle.fq_pair.specs.declared.side.Side.{Side}
-use Rattle.fq_pair.specs.declared.side.Side.TheVariants.{Forward, Reverse}
-use Rattle.fq_pair.specs.Forms.{Form, TwoTexts, InterleavedText}
+pub use Rattle.fq_pair.specs.Inputs.{InputNames, two_files, interleaved_file, names_of, input_name}
 use Rattle.fq_cli.specs.declared.request.Request.{Request}
-use Rattle.fq_cli.specs.declared.request.Inputs.{Inputs}
-use Rattle.fq_cli.specs.declared.request.Inputs.TheVariants.{Apart, Interleaved}
-
--- The names of the inputs, and their form. An interleaved file holds both sides.
-pub record InputNames : Type 0 where
-  pub form : Form
-  pub forward : List ℕ
-  pub reverse : List ℕ
-
-abbrev pub two_files : List ℕ → List ℕ → InputNames
-two_files forward reverse = record { form = TwoTexts; forward = forward; reverse = reverse }
-
-abbrev pub interleaved_file : List ℕ → InputNames
-interleaved_file both = record { form = InterleavedText; forward = both; reverse = both }
-
-abbrev pub names_of : Inputs → InputNames
-names_of (Apart forward reverse) = two_files forward.now reverse.now
-names_of (Interleaved both) = interleaved_file both.now
 
 -- What to trim, as the command line gives it.
 pub record Asking : Type 0 where
@@ -68,10 +47,6 @@ asking_of r = record {
 }
 
 -- Names.
-
-abbrev pub input_name : InputNames → Side → List ℕ
-input_name inputs Forward = inputs.forward
-input_name inputs Reverse = inputs.reverse
 
 -- the name of an output, if it is to be written
 abbrev pub output_name : Asking → Out → Option (List ℕ)

@@ -10,6 +10,7 @@ mod laws;
 mod request;
 mod words;
 
+pub use fq_pair::Inputs;
 pub use laws::usual_command_lines;
-pub use request::{Inputs, Request, encoding_of, report_is_input, same_name};
+pub use request::{Request, report_is_input, same_name};
 pub use words::{Asked, VERSION, read_words};

@@ -1,19 +1,9 @@
 //! Requests: what to trim, from which files and into which.
 
 ghost use Rattle.std.specs.Prelude.{◌≡◌, option_map};
-ghost use Rattle.fq_cli.specs.Requests.{asking_of, encoding_of, same_name, output_name, input_name, is_input, report_is_input};
+ghost use Rattle.fq_cli.specs.Requests.{asking_of, same_name, output_name, input_name, is_input, report_is_input};
 
-use fq_pair::{Out, Side};
-use fq_text::Encoding;
-
-/// The input files, by their names.
-#[derive(Clone, Copy)]
-pub enum Inputs<'a> {
-    /// Forward and reverse reads, in one file each.
-    Apart { forward: &'a str, reverse: &'a str },
-    /// One interleaved file: a forward read, then its reverse mate, and so on.
-    Interleaved(&'a str),
-}
+use fq_pair::{Inputs, Out, Side};
 
 /// What to trim, as the command line gives it. The ranges of its numbers and the texts of its
 /// encoding and steps are not checked yet.
@@ -53,13 +43,6 @@ pub struct Request<'a> {
     pub report: Option<&'a str>,
     /// The arguments that name the steps.
     pub steps: Vec<&'a str>,
-}
-
-/// The encoding with this name, as `--encoding` takes it: [`Encoding::of_name`].
-pub fn encoding_of(name: &str) -> Option<Encoding>
-    ensures { result ≡ encoding_of name.now }
-{
-    Encoding::of_name(name)
 }
 
 /// The first output, in the order of [`Out`], that has the name of an input.

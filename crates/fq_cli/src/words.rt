@@ -7,8 +7,9 @@ ghost use Rattle.fq_cli.specs.Requests.{asking_of, names_of};
 ghost use Rattle.fq_cli.specs.Words.{default_rule, file_rule, flag_rule, number_rule, option_rule, option_rules, output_rules, steps_rule, trimming_app, pairs_app, interleaved_app, program_app, text_in, number_in, flag_in, is_own_name, is_own_call, explains, inputs_in, asking_in, asked_of, words_fault, asked_pairs, IsArg, IsCommand, AreArgs, AskedFor};
 
 use crate::help;
-use crate::request::{Inputs, Request};
+use crate::request::Request;
 use clap::{Arg, ArgAction, ArgMatches, Command, Error};
+use fq_pair::Inputs;
 use std::alloc::{AllocError, Global};
 
 /// The program's version.

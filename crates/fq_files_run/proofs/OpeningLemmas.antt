@@ -2,6 +2,7 @@
 use Rattle.std.proofs.Common.{◌≡◌, ◌≢◌, ◌⊎◌, ◌∙◌, ℕ, Bool, true, false, IsTrue, IsSome, Option, Some, None, is_some, option_map, Ok, Err, Result, List, [], refl, sym, ap, subst, inl, inr, ⊎_elim}
 use Rattle.std.specs.Prelude.{IfSome, if◌then◌else◌, unwrap_or}
 use Rattle.fq_text.specs.Devices.{OutletState}
+use Rattle.fq_text.specs.Scores.{encoding_of}
 use Rattle.fq_files.specs.Holding.{Holding, Names, IsUnchanged, KeepsNames, MayRefuse}
 use Rattle.fq_pair.specs.declared.out.Out.{Out}
 use Rattle.fq_pair.specs.declared.out.Out.TheVariants.{ForwardPaired, ForwardUnpaired, ReversePaired, ReverseUnpaired, Log}
@@ -13,7 +14,7 @@ use Rattle.fq_trim.specs.declared.fault.StepFault.{StepFault}
 use Rattle.fq_trim.specs.Words.{steps_of}
 use Rattle.fq_run_core.specs.Choices.{Choices, checked}
 use Rattle.fq_run_core.specs.declared.settings.BadSetting.{BadSetting}
-use Rattle.fq_cli.specs.Requests.{Asking, InputNames, encoding_of, input_name, is_input, output_name, same_log, same_name, report_is_input}
+use Rattle.fq_cli.specs.Requests.{Asking, InputNames, input_name, is_input, output_name, same_log, same_name, report_is_input}
 use Rattle.fq_files_run.specs.declared.refusal.Refusal.{Refusal}
 use Rattle.fq_files_run.specs.declared.refusal.Refusal.TheVariants as why
 use Rattle.fq_files_run.specs.Refusals.{status_of, IsMemory, IsSource, IsReport}

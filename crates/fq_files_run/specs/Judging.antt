@@ -1,13 +1,14 @@
 -- What is wrong with a request, before a file is opened.
 use Rattle.std.specs.Prelude.{◌^◌, ℕ, Bool, true, false, Option, Some, None, Result, Ok, Err, List}
 use Rattle.fq_text.specs.declared.encoding.Encoding.{Encoding}
+use Rattle.fq_text.specs.Scores.{encoding_of}
 use Rattle.fq_trim.specs.declared.step.Step.{Step}
 use Rattle.fq_trim.specs.declared.fault.StepFault.{StepFault}
 use Rattle.fq_trim.specs.Words.{steps_of}
 use Rattle.fq_pair.specs.declared.out.Out.{Out}
 use Rattle.fq_run_core.specs.Choices.{Choices, checked, tallying}
 use Rattle.fq_run_core.specs.declared.settings.BadSetting.{BadSetting}
-use Rattle.fq_cli.specs.Requests.{Asking, encoding_of, same_name, report_is_input}
+use Rattle.fq_cli.specs.Requests.{Asking, same_name, report_is_input}
 use Rattle.fq_files_run.specs.declared.refusal.Refusal.{Refusal}
 use Rattle.fq_files_run.specs.declared.refusal.Refusal.TheVariants as why
 

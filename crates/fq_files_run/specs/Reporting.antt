@@ -3,7 +3,6 @@ use Rattle.std.specs.Prelude.{◌≡◌, ℕ, Option, Some, None, Ok, List, [], 
 use Rattle.fq_text.specs.declared.encoding.Encoding.{Encoding}
 use Rattle.fq_pair.specs.declared.counts.Counts.{Counts}
 use Rattle.fq_pair.specs.Pairing.{Pairs}
-use Rattle.fq_pair.specs.Forms.{Form, TwoTexts, InterleavedText}
 use Rattle.fq_pair.specs.Outputs.{counts_of}
 use Rattle.fq_tally.specs.declared.tally.Tally.{Tally}
 use Rattle.fq_tally.specs.Courses.{alone}
@@ -15,7 +14,7 @@ use Rattle.fq_run_core.specs.Endings.{trimmed_outcome}
 use Rattle.fq_files.specs.Holding.{Holding}
 use Rattle.fq_report.specs.Facts as facts
 use Rattle.fq_report.specs.Reports.{text_of}
-use Rattle.fq_cli.specs.Requests.{Asking, InputNames}
+use Rattle.fq_cli.specs.Requests.{Asking}
 use Rattle.fq_files_run.specs.Faults.{settled, input_words}
 use Rattle.fq_files_run.specs.Judging.{settings_of}
 use Rattle.fq_files_run.specs.Trimming.{pairs_of}
@@ -33,20 +32,12 @@ words_when _ = None
 abbrev pub fault_words : Outcome → Option (List ℕ)
 fault_words outcome = words_when (settled outcome)
 
--- the names of the inputs, in their form
-abbrev pub inputs_in : Form → List ℕ → List ℕ → facts.InputNames
-inputs_in TwoTexts forward reverse = facts.TwoFiles forward reverse
-inputs_in InterleavedText forward reverse = facts.InterleavedFile forward
-
-abbrev pub report_inputs : InputNames → facts.InputNames
-report_inputs names = inputs_in names.form names.forward names.reverse
-
 -- what was asked for and counted, and how the run ended
 abbrev pub run_facts : Asking → Encoding → Outcome → Counts → Tally → facts.Facts
 run_facts a encoding outcome counts tally = record {
   program = codes "fq_prog";
   version = codes "1.2.0";
-  inputs = report_inputs a.inputs;
+  inputs = a.inputs;
   forward_paired = a.forward_paired;
   forward_unpaired = a.forward_unpaired;
   reverse_paired = a.reverse_paired;

@@ -5,8 +5,9 @@ ghost use Rattle.fq_cli.specs.Requests.{asking_of};
 ghost use Rattle.fq_files_run.specs.Judging.{settings_of, wrong_with};
 
 use crate::refusal::Refusal;
-use fq_cli::{Request, encoding_of, report_is_input, same_name};
+use fq_cli::{Request, report_is_input, same_name};
 use fq_run_core::{CALL_LIMIT, Settings};
+use fq_text::Encoding;
 use fq_trim::Steps;
 
 /// Returns the settings of the run, or the first thing that is wrong with the request.
@@ -29,7 +30,7 @@ pub fn judge(request: &Request<'_>) -> Result<Settings, Refusal>
 fn settings_of(request: &Request<'_>) -> Result<Settings, Refusal>
     ensures { result ≡ settings_of (asking_of request.now) }
 {
-    let encoding = encoding_of(request.encoding).ok_or(Refusal::Encoding)?;
+    let encoding = Encoding::of_name(request.encoding).ok_or(Refusal::Encoding)?;
     let steps = Steps::parse(&request.steps).map_err(|fault| Refusal::Step(fault))?;
     let settings = Settings::new(
         encoding,

@@ -4,21 +4,20 @@ ghost use Rattle.std.specs.Prelude.{◌≡◌, ◌≢◌, ◌⊎◌, ◌++◌, �
 ghost use Rattle.std.specs.String.{string_bytes};
 ghost use Rattle.fq_files.specs.Holding.{KeepsOthers, KeepsNames, MayRefuse};
 ghost use Rattle.fq_text.specs.Written.{line};
-ghost use Rattle.fq_report.specs.Facts.{names_of as named};
 ghost use Rattle.fq_report.specs.Reports.{text_of};
-ghost use Rattle.fq_cli.specs.Requests.{asking_of, names_of};
+ghost use Rattle.fq_cli.specs.Requests.{asking_of};
 ghost use Rattle.fq_files_run.specs.Faults.{outcome_status};
 ghost use Rattle.fq_files_run.specs.Refusals.{IsMemory, IsReport};
-ghost use Rattle.fq_files_run.specs.Reporting.{report_inputs, run_facts, IsTextOf, TookReport};
+ghost use Rattle.fq_files_run.specs.Reporting.{run_facts, IsTextOf, TookReport};
 ghost use Rattle.fq_files_run.specs.Opening.{IsRefusable};
 ghost use Rattle.fq_files_run.specs.Completing.{KeepsFailed, ReportFailed};
 
 use crate::account::Account;
 use crate::outcome_line::{fault_line, status_of};
 use crate::refusal::{Refusal, report_refused};
-use fq_cli::{Inputs, Request, VERSION};
+use fq_cli::{Request, VERSION};
 use fq_files::Files;
-use fq_report::{Inputs as NamedInputs, Report, report_text};
+use fq_report::{Report, report_text};
 use fq_tally::Tally;
 use fq_text::{Encoding, MemoryRefused, OutOfMemory, Outlet, OutletFailed, SystemError, send};
 use std::alloc::Global;
@@ -206,7 +205,7 @@ fn run_text<'a>(
         &Report {
             program: "fq_prog",
             version: VERSION,
-            inputs: named_inputs(request.inputs),
+            inputs: request.inputs,
             forward_paired: request.forward_paired,
             forward_unpaired: request.forward_unpaired,
             reverse_paired: request.reverse_paired,
@@ -229,14 +228,4 @@ pub fn without_end(text: &str) -> Option<&str>
     ensures none { text.now ≡ [] → result ≡ None }
 {
     text.strip_suffix('\n')
-}
-
-// The names of the inputs, for the report.
-fn named_inputs<'a>(inputs: Inputs<'a>) -> NamedInputs<'a>
-    ensures { named result ≡ report_inputs (names_of inputs.entry) }
-{
-    match inputs {
-        Inputs::Apart { forward, reverse } => NamedInputs::Apart { forward, reverse },
-        Inputs::Interleaved(both) => NamedInputs::Interleaved(both),
-    }
 }

@@ -4,6 +4,7 @@ pub mod PairSources
 pub mod Interleaved
 pub mod InterleavedSources
 pub mod Forms
+pub mod Inputs
 pub mod Walks
 pub mod Outputs
 pub mod Summaries

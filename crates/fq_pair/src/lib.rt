@@ -8,6 +8,7 @@
 mod answer;
 mod counts;
 mod fault;
+mod inputs;
 mod interleaved_source;
 mod log_line;
 mod name;
@@ -20,6 +21,7 @@ mod texts;
 
 pub use counts::{Counts, summary};
 pub use fault::InputFault;
+pub use inputs::Inputs;
 pub use interleaved_source::MixedSource;
 pub use name::{NameLengths, name_of, names_match};
 pub use out::Out;

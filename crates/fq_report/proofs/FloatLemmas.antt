@@ -1,6 +1,8 @@
 -- A report has no float, so its value determines its text.
 use Rattle.std.proofs.Common.{◌≡◌, ℕ, suc, Bool, true, false, ◌==◌, if◌then◌else◌, Option, Some, None, List, [], ◌∷◌, map, refl}
 use Rattle.fq_pair.specs.declared.counts.Counts.{Counts}
+use Rattle.fq_pair.specs.Forms.{Form, TwoTexts, InterleavedText}
+use Rattle.fq_pair.specs.Inputs.{InputNames}
 use Rattle.fq_tally.specs.declared.columns.Columns.{Columns}
 use Rattle.fq_tally.specs.declared.reads.ReadsTally.{ReadsTally}
 use Rattle.fq_tally.specs.declared.side.SideTally.{SideTally}
@@ -9,17 +11,18 @@ use Rattle.serde_json.specs.Data.{Data, null}
 use Rattle.serde_json.specs.View.{items_of}
 use Rattle.serde_json.specs.Written.{has_float, items_have_float}
 use Rattle.fq_report.specs.Values.{count, list, optional_text}
-use Rattle.fq_report.specs.Facts.{InputNames, TwoFiles, InterleavedFile, Facts}
+use Rattle.fq_report.specs.Facts.{Facts}
 use Rattle.fq_report.specs.Reports.{inputs_value, outputs_value, pairs_value, length_value, rows_from, counts, positions_value, reads_value, removed_value, side_value, sides_value, done_value, step_value, steps_from, report_value}
 
 text_no_float : (text : Option (List ℕ)) → has_float (optional_text text) ≡ false
 text_no_float (Some text) = refl
 text_no_float None = refl
 
-inputs_no_float : (inputs : InputNames) → has_float (inputs_value inputs) ≡ false
+inputs_no_float : (inputs : InputNames) (form : Form) →
+    has_float (inputs_value inputs form) ≡ false
 unfolding inputs_value
-inputs_no_float (TwoFiles forward reverse) = refl
-inputs_no_float (InterleavedFile both) = refl
+inputs_no_float inputs TwoTexts = refl
+inputs_no_float inputs InterleavedText = refl
 
 outputs_no_float : (f : Facts) → has_float (outputs_value f) ≡ false
 unfolding outputs_value
@@ -114,7 +117,7 @@ unfolding report_value
 report_no_float f =
     rw (
       text_no_float f.fault,
-      inputs_no_float f.inputs,
+      inputs_no_float f.inputs f.inputs.form,
       outputs_no_float f,
       pairs_no_float
           f.counts,

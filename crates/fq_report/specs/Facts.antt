@@ -3,19 +3,9 @@ use Rattle.std.specs.Prelude.{ℕ, Bool, Option, List, map}
 use Rattle.std.specs.Option.{option_map}
 use Rattle.fq_text.specs.declared.encoding.Encoding.{Encoding}
 use Rattle.fq_pair.specs.declared.counts.Counts.{Counts}
+use Rattle.fq_pair.specs.Inputs.{InputNames, names_of}
 use Rattle.fq_tally.specs.declared.tally.Tally.{Tally}
-use Rattle.fq_report.specs.declared.report.Inputs.{Inputs}
-use Rattle.fq_report.specs.declared.report.Inputs.TheVariants.{Apart, Interleaved}
 use Rattle.fq_report.specs.declared.report.Report.{Report}
-
--- the inputs, by name
-pub data InputNames : Type 0 where
-  TwoFiles : List ℕ → List ℕ → InputNames
-  InterleavedFile : List ℕ → InputNames
-
-abbrev pub names_of : Inputs → InputNames
-names_of (Apart forward reverse) = TwoFiles forward.now reverse.now
-names_of (Interleaved both) = InterleavedFile both.now
 
 pub record Facts : Type 0 where
   pub program : List ℕ

@@ -24,7 +24,7 @@ pub record AreSideParts (t : SideTally) (parts : SideParts) : Type 0 where
   pub unpaired : view parts.unpaired ≡ reads_value t.unpaired t.positions.unpaired
 
 pub record ArePartsOf (f : Facts) (parts : Parts) : Type 0 where
-  pub inputs : view parts.inputs ≡ inputs_value f.inputs
+  pub inputs : view parts.inputs ≡ inputs_value f.inputs f.inputs.form
   pub outputs : view parts.outputs ≡ outputs_value f
   pub fault : view parts.fault ≡ optional_text f.fault
   pub pairs : view parts.pairs ≡ pairs_value f.counts

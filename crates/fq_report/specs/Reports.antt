@@ -5,6 +5,8 @@ use Rattle.std.specs.Prelude.{List, [], ◌∷◌, codes, get_or, map}
 use Rattle.fq_text.specs.Scores.{encoding_name}
 use Rattle.fq_text.specs.Written.{line}
 use Rattle.fq_pair.specs.declared.counts.Counts.{Counts}
+use Rattle.fq_pair.specs.Forms.{Form, TwoTexts, InterleavedText}
+use Rattle.fq_pair.specs.Inputs.{InputNames}
 use Rattle.fq_tally.specs.declared.columns.Columns.{Columns}
 use Rattle.fq_tally.specs.declared.reads.ReadsTally.{ReadsTally}
 use Rattle.fq_tally.specs.declared.steps.StepsTally.{StepsTally}
@@ -13,26 +15,26 @@ use Rattle.fq_tally.specs.declared.tally.Tally.{Tally}
 use Rattle.serde_json.specs.Data.{Data, null, boolean, string}
 use Rattle.serde_json.specs.Written.{compact_text}
 use Rattle.fq_report.specs.Values.{count, optional_text, list, fields}
-use Rattle.fq_report.specs.Facts.{InputNames, TwoFiles, InterleavedFile, Facts}
+use Rattle.fq_report.specs.Facts.{Facts}
 
 -- Of the call.
 
 -- the command that takes such inputs
-abbrev pub command_of : InputNames → List ℕ
-command_of (TwoFiles forward reverse) = codes "PE"
-command_of (InterleavedFile both) = codes "IL"
+abbrev pub command_of : Form → List ℕ
+command_of TwoTexts = codes "PE"
+command_of InterleavedText = codes "IL"
 
 -- how the run ended: at a fault of its inputs, or at their end
 abbrev pub outcome_of : Option (List ℕ) → List ℕ
 outcome_of (Some line) = codes "fault"
 outcome_of None = codes "finished"
 
-unfoldable pub inputs_value : InputNames → Data
-inputs_value (TwoFiles forward reverse) = fields (
-    (codes "forward", string forward)
-    ∷ (codes "reverse", string reverse) ∷ [])
-inputs_value (InterleavedFile both) = fields (
-    (codes "interleaved", string both) ∷ [])
+unfoldable pub inputs_value : InputNames → Form → Data
+inputs_value inputs TwoTexts = fields (
+    (codes "forward", string inputs.forward)
+    ∷ (codes "reverse", string inputs.reverse) ∷ [])
+inputs_value inputs InterleavedText = fields (
+    (codes "interleaved", string inputs.forward) ∷ [])
 
 unfoldable pub outputs_value : Facts → Data
 outputs_value f = fields (
@@ -140,10 +142,10 @@ sides_value t = fields (
 
 unfoldable pub report_value : Facts → Data
 report_value f = fields (
-    (codes "command", string (command_of f.inputs))
+    (codes "command", string (command_of f.inputs.form))
     ∷ (codes "encoding", string (encoding_name f.encoding))
     ∷ (codes "fault", optional_text f.fault)
-    ∷ (codes "inputs", inputs_value f.inputs)
+    ∷ (codes "inputs", inputs_value f.inputs f.inputs.form)
     ∷ (codes "name_check", boolean f.check_names)
     ∷ (codes "outcome", string (outcome_of f.fault))
     ∷ (codes "outputs", outputs_value f)

@@ -7,4 +7,4 @@
 mod counted;
 mod report;
 
-pub use report::{Inputs, Report, report_text};
+pub use report::{Report, report_text};

@@ -4,26 +4,18 @@ ghost use Rattle.std.specs.Prelude.{◌≡◌, IfOk, option_map};
 ghost use Rattle.std.specs.String.{string_bytes};
 ghost use Rattle.serde_json.specs.View.{view};
 ghost use Rattle.fq_report.specs.Values.{optional_text};
-ghost use Rattle.fq_report.specs.Facts.{names_of, facts_of};
+ghost use Rattle.fq_pair.specs.Inputs.{names_of};
+ghost use Rattle.fq_report.specs.Facts.{facts_of};
 ghost use Rattle.fq_report.specs.Reports.{command_of, outcome_of};
 ghost use Rattle.fq_report.specs.Reports.{inputs_value, outputs_value, report_value, text_of};
 ghost use Rattle.fq_report.specs.Parts.{ArePartsOf};
 
 use crate::counted::{pairs_value, sides_value, steps_value};
-use fq_pair::Counts;
+use fq_pair::{Counts, Inputs};
 use fq_tally::Tally;
 use fq_text::{Encoding, OutOfMemory};
 use serde_json::{Value, json};
 use std::alloc::Global;
-
-/// The names of the inputs.
-#[derive(Clone, Copy)]
-pub enum Inputs<'a> {
-    /// Forward and reverse reads, each in a file.
-    Apart { forward: &'a str, reverse: &'a str },
-    /// One interleaved file: each forward read is followed by its reverse mate.
-    Interleaved(&'a str),
-}
 
 /// The facts of a run that reached the end of its inputs, or a fault of its inputs.
 #[derive(Clone, Copy)]
@@ -125,7 +117,7 @@ fn report_value(alloc: Global, report: &Report<'_>) -> Result<Value, OutOfMemory
 
 // The command that takes these inputs.
 fn command_of(inputs: Inputs<'_>) -> &'static str
-    ensures { result.now ≡ command_of (names_of inputs.entry) }
+    ensures { result.now ≡ command_of (names_of inputs.entry).form }
 {
     match inputs {
         Inputs::Apart { .. } => "PE",
@@ -146,7 +138,8 @@ fn outcome_of(fault: Option<&str>) -> &'static str
 // The names of the inputs.
 #[tactic(auto, unfolding(crate::specs::Reports::inputs_value))]
 fn inputs_value(alloc: Global, inputs: Inputs<'_>) -> Result<Value, OutOfMemory>
-    ensures { IfOk result (λ v. view v ≡ inputs_value (names_of inputs.entry)) }
+    ensures { IfOk result (λ v. view v
+        ≡ inputs_value (names_of inputs.entry) (names_of inputs.entry).form) }
 {
     match inputs {
         Inputs::Apart { forward, reverse } => {

@@ -9,7 +9,8 @@ use crate::row::Given;
 use crate::tallies::tally_in;
 use crate::{encoding_in, words_of};
 use anyhow::Result;
-use fq_report::{Inputs, Report, report_text};
+use fq_pair::Inputs;
+use fq_report::{Report, report_text};
 use std::alloc::Global;
 use std::str;
 

@@ -20,7 +20,7 @@ returns c =
     subst P (λ i. text_of (record {
       program = codes "fq_prog";
       version = codes "1.2.0";
-      inputs = c.named_inputs.ensures i;
+      inputs = a.inputs;
       forward_paired = a.forward_paired;
       forward_unpaired = a.forward_unpaired;
       reverse_paired = a.reverse_paired;
