@@ -14,8 +14,8 @@ use Rattle.fq_text.specs.declared.fault.Fault.TheVariants as fault
 abbrev not_lf : ℕ → Bool
 not_lf b = not (eqb b 10)
 
--- no line holds an LF
-abbrev clean : List ℕ → Bool
+-- a line has no LF
+abbrev pub clean : List ℕ → Bool
 clean l = list_all not_lf l
 
 clean_first : (b : ℕ) (ps : List (List ℕ)) → eqb b 10 ≡ false → list_all clean ps ≡ true →
@@ -48,7 +48,8 @@ clean_map [] all = refl
 clean_map (p ∷ ps) all = let parts = and_parts _ _ all in
     and_from _ _ (clean_without_cr p parts.0) (clean_map ps parts.1)
 
-clean_lines : (text : List ℕ) → list_all clean (lines text) ≡ true
+-- no line of a text has an LF
+pub clean_lines : (text : List ℕ) → list_all clean (lines text) ≡ true
 clean_lines text = clean_map (pieces text) (clean_pieces text)
 
 -- what a record without fault passed
@@ -209,7 +210,8 @@ module _ (encoding : Encoding) where
         scores = quality.valid;
       })
 
-  lawful_lines : (ls : List (List ℕ)) (r : Read) (behind : List (List ℕ)) →
+  -- the record at the front of lines is valid
+  pub lawful_lines : (ls : List (List ℕ)) (r : Read) (behind : List (List ℕ)) →
       list_all clean ls ≡ true → front encoding ls ≡ Found r behind → IsLawful r
   lawful_lines [] r behind all is = absurd (let h : End ≡ Found r behind = is in cc)
   lawful_lines ([] ∷ ls) r behind all is = lawful_lines ls r behind all is

@@ -1,11 +1,11 @@
 -- Bytes that have a score, and the names of encodings.
-use Rattle.std.proofs.Common.{◌≡◌, ℕ, zero, suc, ◌+◌, ◌-◌, ◌<◌, ◌≤◌, nat_le, nat_lt, Bool, true, ◌&&◌, eqb, Option, Some, None, unwrap_or, cond, List, [], ◌∷◌, length, map, get_or, refl, ap, sym, ◌∙◌, arith, ⊎_elim}
+use Rattle.std.proofs.Common.{◌≡◌, ℕ, ◌+◌, ◌-◌, ◌<◌, ◌≤◌, nat_le, nat_lt, Bool, true, eqb, Option, Some, None, unwrap_or, cond, List, [], ◌∷◌, length, map, get_or, refl, ap, sym, ◌∙◌, arith, ⊎_elim}
 use Rattle.std.proofs.lemmas.Slice.Eq.{bytes_eq-Decides}
 use Rattle.std.specs.Str.{bytes_eq}
 use Rattle.std.specs.List.{list_all}
 use Rattle.std.proofs.lemmas.List.{get_or_past}
 use Rattle.std.proofs.lemmas.List.Folds.{list_all_at}
-use Rattle.std.proofs.lemmas.Bool.{cond-true, cond-false, cases_Bool, cases_lt, and_parts, and_from, leb-true, le-leb, eqb-true, false≢true}
+use Rattle.std.proofs.lemmas.Bool.{cond-true, cond-false, cases_Bool, cases_lt, and_parts, and_from, leb-true, le-leb, eqb-true, false≢true, agree_below, agree_below_at}
 use Rattle.fq_text.specs.declared.encoding.Encoding.{Encoding}
 use Rattle.fq_text.specs.declared.encoding.Encoding.TheVariants.{Sanger, Illumina13, Solexa}
 use Rattle.fq_text.specs.declared.encoding.TheConstants.{PHRED_OF_SOLEXA}
@@ -49,22 +49,12 @@ value_small Solexa b is =
     (λ from. let e : phred_of_solexa b ≡ b - 64 = cond-false (nat_lt b 74) _ _ from in omega arith)
     (cases_Bool (nat_lt b 74))
 
--- what holds of each number below n holds of k
-all_below : ℕ → (ℕ → Bool) → Bool
-all_below zero p = true
-all_below (suc n) p = p n && all_below n p
-
-below_at : (n : ℕ) (p : ℕ → Bool) (k : ℕ) → all_below n p ≡ true → k < n → p k ≡ true
-unfolding all_below
-below_at zero p k all lt = absurd (omega arith)
-below_at (suc n) p k all lt =
-    let parts = and_parts _ _ all in
-    ⊎_elim (λ less. below_at n p k parts.1 less) (λ from. let last : k ≡ n = omega arith in
-    ap p last ∙ parts.0) (cases_lt k n)
+-- the table in the code has this score for byte k + 59
+abbrev in_table : ℕ → Bool
+in_table k = eqb (get_or PHRED_OF_SOLEXA k 0) (phred_of_solexa (k + 59))
 
 -- the table in the code, from byte 59 on, is that of the definition
-table_below : all_below 68 (λ k. eqb (get_or PHRED_OF_SOLEXA k 0) (phred_of_solexa (k + 59))) ≡ true
-unfolding all_below
+table_below : agree_below in_table (λ k. true) 68 ≡ true
 table_below = refl
 
 -- the table in the code has the score of each byte that has one in Solexa's encoding
@@ -75,7 +65,8 @@ table_at k b is place =
     let least : 59 ≤ b = leb-true 59 b parts.0 in
     let most : b ≤ 126 = leb-true b 126 parts.1 in
     let byte : k + 59 ≡ b = omega arith in
-    eqb-true _ _ (below_at 68 _ k table_below (omega arith)) ∙ ap phred_of_solexa byte
+    eqb-true _ _ (agree_below_at in_table (λ k. true) 68 k table_below (omega arith))
+    ∙ ap phred_of_solexa byte
 
 -- a byte is its score and the offset
 pub with_offset : (e : Encoding) (added b : ℕ) → Some added ≡ offset e → added ≤ lowest e →
