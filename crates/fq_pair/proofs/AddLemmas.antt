@@ -77,17 +77,17 @@ log_with old room new side steps o read name bases same put named counted is =
     ∙ ap (λ (n : ℕ). old ++ log_line_of (name_of side read.title) n (places_of o)) counted
     ∙ ap (λ (xs : List ℕ). old ++ log_line side xs read) (sym is)
 
+-- a log with the lines of a pair
+abbrev pub with_lines : List Step → Mates → List ℕ → List ℕ
+with_lines steps m log = (log ++ log_line Forward (kept_places steps m.forward) m.forward)
+    ++ log_line Reverse (kept_places steps m.reverse) m.reverse
+
 module _ (steps : List Step) (m : Mates) (old : Outputs) where
   abbrev forward_text : Mates → List ℕ
   forward_text n = record_text steps n.forward
 
   abbrev reverse_text : Mates → List ℕ
   reverse_text n = record_text steps n.reverse
-
-  -- the log with the lines of the pair
-  abbrev pub log_added : List ℕ
-  log_added = (old.log ++ log_line Forward (kept_places steps m.forward) m.forward) ++ log_line
-      Reverse (kept_places steps m.reverse) m.reverse
 
   -- if both mates survive, the record of each goes to the paired text of its side
   pub both_added : is_empty (kept_places steps m.forward) ≡ false →
@@ -97,7 +97,7 @@ module _ (steps : List Step) (m : Mates) (old : Outputs) where
         forward_unpaired = old.forward_unpaired;
         reverse_paired = old.reverse_paired ++ record_text steps m.reverse;
         reverse_unpaired = old.reverse_unpaired;
-        log = log_added;
+        log = with_lines steps m old.log;
         counts = record {
           pairs = old.counts.pairs + 1;
           both = old.counts.both + 1;
@@ -134,7 +134,7 @@ module _ (steps : List Step) (m : Mates) (old : Outputs) where
         forward_unpaired = old.forward_unpaired ++ record_text steps m.forward;
         reverse_paired = old.reverse_paired;
         reverse_unpaired = old.reverse_unpaired;
-        log = log_added;
+        log = with_lines steps m old.log;
         counts = record {
           pairs = old.counts.pairs + 1;
           both = old.counts.both;
@@ -172,7 +172,7 @@ module _ (steps : List Step) (m : Mates) (old : Outputs) where
         forward_unpaired = old.forward_unpaired;
         reverse_paired = old.reverse_paired;
         reverse_unpaired = old.reverse_unpaired ++ record_text steps m.reverse;
-        log = log_added;
+        log = with_lines steps m old.log;
         counts = record {
           pairs = old.counts.pairs + 1;
           both = old.counts.both;
@@ -210,7 +210,7 @@ module _ (steps : List Step) (m : Mates) (old : Outputs) where
         forward_unpaired = old.forward_unpaired;
         reverse_paired = old.reverse_paired;
         reverse_unpaired = old.reverse_unpaired;
-        log = log_added;
+        log = with_lines steps m old.log;
         counts = record {
           pairs = old.counts.pairs + 1;
           both = old.counts.both;

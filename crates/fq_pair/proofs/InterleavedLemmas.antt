@@ -1,6 +1,6 @@
 -- Two records of one source, one after the other.
-use Rattle.std.proofs.Common.{◌≡◌, ℕ, suc, ◌+◌, ◌*◌, ◌⊎◌, ⊎_elim, Bool, true, false, IsTrue, Err, List, [], ◌++◌, length, refl, ap, sym, subst, ◌∙◌, add-one, arith}
-use Rattle.std.proofs.lemmas.Bool.{cond-true, cond-false, cases_Bool}
+use Rattle.std.proofs.Common.{◌≡◌, ℕ, suc, ◌+◌, ◌*◌, ◌≤◌, ◌⊎◌, ⊎_elim, Bool, true, false, IsTrue, Err, List, [], ◌++◌, length, refl, ap, sym, subst, ◌∙◌, add-one, arith}
+use Rattle.std.proofs.lemmas.Bool.{cond-true, cond-false, cases_Bool, both_ways}
 use Rattle.std.proofs.lemmas.List.{length-append}
 use Rattle.fq_text.specs.Devices.{FeedState}
 use Rattle.fq_text.specs.declared.encoding.Encoding.{Encoding}
@@ -17,8 +17,8 @@ use Rattle.fq_pair.specs.declared.fault.InputFault.TheVariants.{Text, MateMissin
 use Rattle.fq_pair.specs.Mates.{mates_in}
 use Rattle.fq_pair.specs.Pairing.{Pairs, belong, Stopped, Met}
 use Rattle.fq_pair.specs.Interleaved.{side_after, interleaved_pairs, meeting_after, interleaved_meeting}
-use Rattle.fq_pair.specs.PairSources.{is_outside, is_cut, if_cut, if_endless}
-use Rattle.fq_pair.specs.InterleavedSources.{front_of, GivesPair, IsNext, StopsPairs, asked, stopped}
+use Rattle.fq_pair.specs.PairSources.{is_outside, is_cut, is_cut_short, if_cut, if_endless}
+use Rattle.fq_pair.specs.InterleavedSources.{front_of, GivesPair, IsNext, StopsPairs, WasReading, asked, stopped}
 use Rattle.fq_pair.proofs.FrontLemmas.{front_more}
 use Rattle.fq_pair.proofs.TakenLemmas.{front_fewer, no_records, one_record}
 use Rattle.fq_pair.specs.Walks.{SideState, side_state, Draws, Uses}
@@ -79,6 +79,16 @@ module _ {F : Type 0} (state : F → FeedState) (a b c : Sourced F) (p : KeepsCo
             both.at_line;
       }
 
+  -- after the first record the second decides what comes first
+  front_behind : (kept : Read) (check : Bool) (given : ℕ) (before : Bool) (f : Read) →
+      GivesRecord state a b f → IsTrue (state a.feed).tells →
+      front_of state (asked a kept check given before)
+      ≡ meeting_after check (suc given) f (front b.encoding (lines (rest_in state b)))
+  front_behind kept check given before f first told =
+      ap (interleaved_meeting check a.encoding (suc given)) (first.record_is told)
+      ∙ ap (λ (e : Encoding). meeting_after check (suc given) f
+      (front e (lines (rest_in state b)))) (sym p.encoding)
+
   -- two records that were given make a pair if their names allow it
   pub two_given : (kept : Read) (check : Bool) (given : ℕ) (before now : Bool) (f r : Read) →
       GivesRecord state a b f → GivesRecord state b c r → belong check (mates_in f r) ≡ true →
@@ -90,9 +100,7 @@ module _ {F : Type 0} (state : F → FeedState) (a b c : Sourced F) (p : KeepsCo
       let n = suc given in
       let pair_is : IsTrue (state a.feed).tells →
       front_of state (asked a kept check given before) ≡ Met (mates_in f r) ls ls = λ told.
-      ap (interleaved_meeting check a.encoding n) (first.record_is told)
-      ∙ ap (λ (e : Encoding). meeting_after check n f (front e (lines (rest_in state b))))
-      (sym p.encoding)
+      front_behind kept check given before f first told
       ∙ ap (meeting_after check n f) (second.record_is (p.told ∙ told))
       ∙ cond-true (belong check (mates_in f r)) (Met (mates_in f r) ls ls) (Stopped (NamesDiffer n))
       together in
@@ -284,9 +292,7 @@ module _ {F : Type 0} (state : F → FeedState) (a b c : Sourced F) (p : KeepsCo
       let fault_is : IsTrue (state a.feed).tells → is_outside why ≡ false →
       front_of state (asked a kept check given before) ≡ Stopped (Text Reverse why) =
       λ told inside.
-      ap (interleaved_meeting check a.encoding n) (first.record_is told)
-      ∙ ap (λ (e : Encoding). meeting_after check n f (front e (lines (rest_in state b))))
-      (sym p.encoding)
+      front_behind state a b c p q kept check given before f first told
       ∙ stops_behind check n f (front b.encoding (lines (rest_in state b))) (b.given + 1) why number
       inside (stops.fault_is (p.told ∙ told)) in
       record {
@@ -307,33 +313,34 @@ module _ {F : Type 0} (state : F → FeedState) (a b c : Sourced F) (p : KeepsCo
         current = refl;
       }
 
+  -- a fault that is not one of the text
+  pair_stops : (why : InputFault) → is_cut_short why ≡ false → if_cut (IsNext state a c) why →
+      if_endless (c.max_reads ≤ c.taken) (c.max_reads ≤ c.taken) why → WasReading a c why →
+      (IsTrue (state a.feed).tells →
+      front_of state (asked a kept check given before) ≡ Stopped why) →
+      StopsPairs state (asked a kept check given before) (stopped c check given (Err why)) why
+  pair_stops why uncut next endless reading fault_is = record {
+    fault_is = λ told inside. fault_is told;
+    left = λ told inside. interleaved_left_stopped state (asked a kept check given before) why
+        (fault_is told);
+    lacks = λ cut. absurd (both_ways (is_cut_short why) uncut cut);
+    next = next;
+    going = λ cut. absurd (both_ways (is_cut_short why) uncut cut);
+    endless = endless;
+    reading = reading;
+    given = refl;
+    last = refl;
+    current = refl;
+  }
+
   -- if the text ends after a forward mate, the reverse mate is missing
   pub mate_missing : EndsText state b c →
       (let why = MateMissing Reverse (given + 1) in
       StopsPairs state (asked a kept check given before) (stopped c check given (Err why)) why)
-  mate_missing ends =
-      let n = suc given in
-      let fault_is : IsTrue (state a.feed).tells → false ≡ false →
-      front_of state (asked a kept check given before)
-      ≡ Stopped (MateMissing Reverse (given + 1)) = λ told inside.
-      ap (interleaved_meeting check a.encoding n) (first.record_is told)
-      ∙ ap (λ (e : Encoding). meeting_after check n f (front e (lines (rest_in state b))))
-      (sym p.encoding)
-      ∙ ap (meeting_after check n f) (ends.end_is (p.told ∙ told))
-      ∙ ap (λ k. Stopped (MateMissing Reverse k)) (sym (add-one given)) in
-      record {
-        fault_is = fault_is;
-        left = λ told inside. interleaved_left_stopped state (asked a kept check given before)
-            (MateMissing Reverse (given + 1)) (fault_is told inside);
-        lacks = λ cut. absurd cc;
-        next = tt;
-        going = λ cut. absurd cc;
-        endless = tt;
-        reading = tt;
-        given = refl;
-        last = refl;
-        current = refl;
-      }
+  mate_missing ends = pair_stops (MateMissing Reverse (given + 1)) refl tt tt tt (λ told.
+      front_behind state a b c p q kept check given before f first told
+      ∙ ap (meeting_after check (suc given) f) (ends.end_is (p.told ∙ told))
+      ∙ ap (λ k. Stopped (MateMissing Reverse k)) (sym (add-one given)))
 
   -- two records that were given make no pair if their names differ
   pub names_differ : (r : Read) (why : InputFault) → why ≡ NamesDiffer (given + 1) →
@@ -341,29 +348,12 @@ module _ {F : Type 0} (state : F → FeedState) (a b c : Sourced F) (p : KeepsCo
       StopsPairs state (asked a kept check given before) (stopped c check given (Err why)) why
   names_differ r why is second apart =
       let n = suc given in
-      let P : InputFault → Type 0 = λ y. StopsPairs state (asked a kept check given before)
-      (stopped c check given (Err y)) y in
       let ls = lines (rest_in state c) in
-      let fault_is : IsTrue (state a.feed).tells → false ≡ false →
-      front_of state (asked a kept check given before) ≡ Stopped (NamesDiffer (given + 1)) =
-      λ told inside.
-      ap (interleaved_meeting check a.encoding n) (first.record_is told)
-      ∙ ap (λ (e : Encoding). meeting_after check n f (front e (lines (rest_in state b))))
-      (sym p.encoding)
+      subst (λ (y : InputFault). StopsPairs state (asked a kept check given before)
+      (stopped c check given (Err y)) y) (sym is)
+      (pair_stops (NamesDiffer (given + 1)) refl tt tt tt (λ told.
+      front_behind state a b c p q kept check given before f first told
       ∙ ap (meeting_after check n f) (second.record_is (p.told ∙ told))
       ∙ cond-false (belong check (mates_in f r)) (Met (mates_in f r) ls ls)
       (Stopped (NamesDiffer n)) apart
-      ∙ ap (λ k. Stopped (NamesDiffer k)) (sym (add-one given)) in
-      subst P (sym is) (record {
-        fault_is = fault_is;
-        left = λ told inside. interleaved_left_stopped state (asked a kept check given before)
-            (NamesDiffer (given + 1)) (fault_is told inside);
-        lacks = λ cut. absurd cc;
-        next = tt;
-        going = λ cut. absurd cc;
-        endless = tt;
-        reading = tt;
-        given = refl;
-        last = refl;
-        current = refl;
-      })
+      ∙ ap (λ k. Stopped (NamesDiffer k)) (sym (add-one given))))

@@ -5,6 +5,7 @@ use Rattle.fq_text.specs.declared.encoding.Encoding.TheVariants.{Sanger}
 use Rattle.fq_text.specs.declared.fault.TextFault.TheVariants.{NoTitle, PlusDiffers, NoPlus, BadSequence}
 use Rattle.fq_trim.specs.declared.step.Step.{Step}
 use Rattle.fq_trim.specs.declared.step.Step.TheVariants.{Leading, Trailing, MinLen, SlidingWindow}
+use Rattle.fq_pair.specs.declared.counts.Counts.{Counts}
 use Rattle.fq_pair.specs.declared.side.Side.TheVariants.{Forward, Reverse}
 use Rattle.fq_pair.specs.declared.fault.InputFault.TheVariants.{Text, MateMissing, NamesDiffer}
 use Rattle.fq_pair.specs.Mates.{Mates, mates_in, name_of, names_match}
@@ -253,31 +254,19 @@ seven_pairs_trimmed : let left =
 unfolding digits
 seven_pairs_trimmed = (refl, refl)
 
+-- the counts of the first five of these pairs
+abbrev five : Counts
+five = record { pairs = 5; both = 4; forward_only = 1; reverse_only = 0; dropped = 0 }
+
 six_and_five : let left =
     pairs true Sanger 0
     (codes "@n1/1\nACGT\n+\nIIII\n@n2/1\nACGT\n+\n##II\n@n3/1\nACGT\n+\nIIII\n@n4/1\nACGT\n+\n##II\n@n5/1\nACGT\n+\nIIII\n@n6/1\nACGT\n+\n##II\n") (codes "@n1/2\nTTTT\n+\nII##\n@n2/2\nTTTT\n+\nII##\n@n3/2\nTTTT\n+\n!!!!\n@n4/2\nTTTT\n+\nII##\n@n5/2\nTTTT\n+\nII##\n") in
-    (left.fault ≡ Some (MateMissing Reverse 6))
-    × (counts_of trimming left.mates ≡ record {
-      pairs = 5;
-      both = 4;
-      forward_only =
-          1;
-      reverse_only = 0;
-      dropped = 0;
-    })
+    (left.fault ≡ Some (MateMissing Reverse 6)) × (counts_of trimming left.mates ≡ five)
 six_and_five = (refl, refl)
 
 eleven_interleaved : let left = interleaved_pairs true Sanger 0
     (codes "@n1/1\nACGT\n+\nIIII\n@n1/2\nTTTT\n+\nII##\n@n2/1\nACGT\n+\n##II\n@n2/2\nTTTT\n+\nII##\n@n3/1\nACGT\n+\nIIII\n@n3/2\nTTTT\n+\n!!!!\n@n4/1\nACGT\n+\n##II\n@n4/2\nTTTT\n+\nII##\n@n5/1\nACGT\n+\nIIII\n@n5/2\nTTTT\n+\nII##\n@n6/1\nACGT\n+\n##II\n") in
-    (left.fault ≡ Some (MateMissing Reverse 6))
-    × (counts_of trimming left.mates ≡ record {
-      pairs = 5;
-      both = 4;
-      forward_only =
-          1;
-      reverse_only = 0;
-      dropped = 0;
-    })
+    (left.fault ≡ Some (MateMissing Reverse 6)) × (counts_of trimming left.mates ≡ five)
 eleven_interleaved = (refl, refl)
 
 -- The summary.

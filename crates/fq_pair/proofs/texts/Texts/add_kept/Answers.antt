@@ -1,15 +1,18 @@
-use Rattle.std.proofs.Common.{length, take, ◌+◌, ap, sym, subst, ◌∙◌}
+use Rattle.std.proofs.Common.{length, take, ◌+◌, refl, ap, sym, subst, ◌∙◌}
 use Rattle.fq_pair.specs.declared.counts.Counts.{Counts}
 use Rattle.fq_pair.specs.declared.name.NameLengths.{NameLengths}
 use Rattle.fq_pair.specs.declared.side.Side.TheVariants.{Forward, Reverse}
 use Rattle.fq_pair.specs.declared.texts.Texts.TheInside.{Inside}
 use Rattle.fq_pair.specs.Mates.{mates_in}
 use Rattle.fq_pair.specs.Outputs.{Outputs, IsWithin}
-use Rattle.fq_pair.proofs.AddLemmas.{kept_survives, dropped_is_gone, same_outputs, text_with, log_with, both_added, forward_added, reverse_added, none_added}
+use Rattle.fq_pair.proofs.AddLemmas.{kept_survives, dropped_is_gone, same_outputs, text_with, log_with, with_lines, both_added, forward_added, reverse_added, none_added}
 use Rattle.fq_pair.proofs.KeptLemmas.{kept_within_read}
 use Rattle.fq_pair.proofs.NameLemmas.{named}
 use Rattle.fq_pair.proofs.texts.Texts.add_kept.Goals as goal
 use Rattle.fq_pair.proofs.texts.Texts.add_kept.Goals.{in-Some-Some+in_ok-make_room-in-Some-Some+in_ok-make_room-in-Some-Some-2, in-Some-None+in_ok-make_room-in-Some-None, in-None-Some+in_ok-make_room-in-None-Some, in-None-None}
+
+abbrev one_more : Counts → Counts
+one_more n = record n { pairs = n.pairs + 1 }
 
 -- what is kept of a mate lies within it
 pub make_room-requires : goal.make_room-requires
@@ -98,6 +101,14 @@ returns-clause-ok c =
     let rp = ap (λ (o : Outputs). o.reverse_paired) c.self.view_is in
     let ru = ap (λ (o : Outputs). o.reverse_unpaired) c.self.view_is in
     let log = c.in_ok-reserve.ensures.items ∙ ap (λ (o : Outputs). o.log) c.self.view_is in
+    let lines = log_with _ _ _ Reverse steps r m.reverse
+    (take c.args.names.reverse c.title-reverse_title.result.now)
+    (length c.seq-reverse_seq.result.now)
+    (log_with _ _ _ Forward steps f m.forward
+    (take c.args.names.forward c.title-forward_title.result.now)
+    (length c.seq-forward_seq.result.now) refl c.put_line.ensures.items forward_name
+    (ap length c.seq-forward_seq.ensures) forward) c.put_line-2.ensures.items reverse_name
+    (ap length c.seq-reverse_seq.ensures) reverse in
     let counts = ap (λ (o : Outputs). o.counts) c.self.view_is in
     elim c.match-forward.branch [
       | in-Some-Some+in_ok-make_room-in-Some-Some+in_ok-make_room-in-Some-Some-2 w ↦
@@ -115,17 +126,8 @@ returns-clause-ok c =
           ∙ rp) (ap (λ (i : Inside). i.reverse_paired.items) inside
           ∙ w.put_kept-in-Some-Some.ensures) recode reverse is_r)
           (ap (λ (i : Inside). i.reverse_unpaired.items) inside ∙ ru)
-          (log_with _ _ _ Reverse steps r m.reverse
-          (take c.args.names.reverse c.title-reverse_title.result.now)
-          (length c.seq-reverse_seq.result.now)
-          (log_with old.log _ _ Forward steps f m.forward
-          (take c.args.names.forward c.title-forward_title.result.now)
-          (length c.seq-forward_seq.result.now) (ap (λ (i : Inside). i.log.items) inside
-          ∙ log) c.put_line.ensures.items forward_name (ap length c.seq-forward_seq.ensures)
-          forward) c.put_line-2.ensures.items reverse_name (ap length c.seq-reverse_seq.ensures)
-          reverse)
-          (ap (λ (i : Inside). let n : Counts = i.counts in let k : Counts =
-          record n { pairs = n.pairs + 1 } in k) inside
+          (lines ∙ ap (with_lines steps m) (ap (λ (i : Inside). i.log.items) inside ∙ log))
+          (ap (λ (i : Inside). one_more i.counts) inside
           ∙ ap (λ (n : Counts). let k : Counts =
           record n { pairs = n.pairs + 1; both = n.both + 1 } in k) counts)
           ∙ sym (both_added steps m old (kept_survives _ f w.in-Some-Some.forward forward is_f)
@@ -142,17 +144,8 @@ returns-clause-ok c =
           ∙ w.put_kept-in-Some-None.ensures) recode forward is_f)
           (ap (λ (i : Inside). i.reverse_paired.items) inside ∙ rp)
           (ap (λ (i : Inside). i.reverse_unpaired.items) inside ∙ ru)
-          (log_with _ _ _ Reverse steps r m.reverse
-          (take c.args.names.reverse c.title-reverse_title.result.now)
-          (length c.seq-reverse_seq.result.now)
-          (log_with old.log _ _ Forward steps f m.forward
-          (take c.args.names.forward c.title-forward_title.result.now)
-          (length c.seq-forward_seq.result.now) (ap (λ (i : Inside). i.log.items) inside
-          ∙ log) c.put_line.ensures.items forward_name (ap length c.seq-forward_seq.ensures)
-          forward) c.put_line-2.ensures.items reverse_name (ap length c.seq-reverse_seq.ensures)
-          reverse)
-          (ap (λ (i : Inside). let n : Counts = i.counts in let k : Counts =
-          record n { pairs = n.pairs + 1 } in k) inside
+          (lines ∙ ap (with_lines steps m) (ap (λ (i : Inside). i.log.items) inside ∙ log))
+          (ap (λ (i : Inside). one_more i.counts) inside
           ∙ ap (λ (n : Counts). let k : Counts =
           record n { pairs = n.pairs + 1; forward_only = n.forward_only + 1 } in k) counts)
           ∙ sym (forward_added steps m old (kept_survives _ f w.in-Some-None.forward forward is_f)
@@ -169,17 +162,8 @@ returns-clause-ok c =
           (w.in_ok-make_room-in-None-Some.ensures.items
           ∙ ru) (ap (λ (i : Inside). i.reverse_unpaired.items) inside
           ∙ w.put_kept-in-None-Some.ensures) recode reverse is_r)
-          (log_with _ _ _ Reverse steps r m.reverse
-          (take c.args.names.reverse c.title-reverse_title.result.now)
-          (length c.seq-reverse_seq.result.now)
-          (log_with old.log _ _ Forward steps f m.forward
-          (take c.args.names.forward c.title-forward_title.result.now)
-          (length c.seq-forward_seq.result.now) (ap (λ (i : Inside). i.log.items) inside
-          ∙ log) c.put_line.ensures.items forward_name (ap length c.seq-forward_seq.ensures)
-          forward) c.put_line-2.ensures.items reverse_name (ap length c.seq-reverse_seq.ensures)
-          reverse)
-          (ap (λ (i : Inside). let n : Counts = i.counts in let k : Counts =
-          record n { pairs = n.pairs + 1 } in k) inside
+          (lines ∙ ap (with_lines steps m) (ap (λ (i : Inside). i.log.items) inside ∙ log))
+          (ap (λ (i : Inside). one_more i.counts) inside
           ∙ ap (λ (n : Counts). let k : Counts =
           record n { pairs = n.pairs + 1; reverse_only = n.reverse_only + 1 } in k) counts)
           ∙ sym (reverse_added steps m old (dropped_is_gone _ f forward is_f)
@@ -193,17 +177,8 @@ returns-clause-ok c =
           (ap (λ (i : Inside). i.forward_unpaired.items) inside ∙ fu)
           (ap (λ (i : Inside). i.reverse_paired.items) inside ∙ rp)
           (ap (λ (i : Inside). i.reverse_unpaired.items) inside ∙ ru)
-          (log_with _ _ _ Reverse steps r m.reverse
-          (take c.args.names.reverse c.title-reverse_title.result.now)
-          (length c.seq-reverse_seq.result.now)
-          (log_with old.log _ _ Forward steps f m.forward
-          (take c.args.names.forward c.title-forward_title.result.now)
-          (length c.seq-forward_seq.result.now) (ap (λ (i : Inside). i.log.items) inside
-          ∙ log) c.put_line.ensures.items forward_name (ap length c.seq-forward_seq.ensures)
-          forward) c.put_line-2.ensures.items reverse_name (ap length c.seq-reverse_seq.ensures)
-          reverse)
-          (ap (λ (i : Inside). let n : Counts = i.counts in let k : Counts =
-          record n { pairs = n.pairs + 1 } in k) inside
+          (lines ∙ ap (with_lines steps m) (ap (λ (i : Inside). i.log.items) inside ∙ log))
+          (ap (λ (i : Inside). one_more i.counts) inside
           ∙ ap (λ (n : Counts). let k : Counts =
           record n { pairs = n.pairs + 1; dropped = n.dropped + 1 } in k) counts)
           ∙ sym (none_added steps m old (dropped_is_gone _ f forward is_f)
