@@ -12,7 +12,7 @@ use Rattle.fq_trim.proofs.PlaceLemmas.{all_taken, all_dropped}
 use Rattle.fq_tally.specs.declared.columns.Columns.{Columns}
 use Rattle.fq_tally.specs.Rows.{rows_plus}
 use Rattle.fq_tally.specs.Columns.{columns_from, columns_plus}
-use Rattle.fq_tally.specs.Counting.{IsFew, AreFew, HoldsFew, is_lane, lanes_at, first_rows}
+use Rattle.fq_tally.specs.Counting.{IsFew, AreFew, HoldsFew, most_reads, is_lane, lanes_at, first_rows}
 use Rattle.fq_tally.proofs.ColumnLemmas.{Small, grown_within, columns_same, columns_assoc, columns_joined}
 use Rattle.fq_tally.proofs.FewLemmas.{lanes_are_columns, lanes_moved, lanes_behind, lanes_more, lanes_cut}
 
@@ -235,35 +235,66 @@ rest_in_first old new rows at from k m e seq qual bases bytes s q k_is m_is same
     ∙ ap (columns_plus old) (lanes_are_columns (at + from) e (drop from seq) (drop from qual)
     (all_dropped (is_scored e) qual from scored) (omega arith) (omega arith))
 
--- One more read among a few.
-pub read_added : (totals x y : Columns) (rows reached reads at end : ℕ) (e : Encoding)
-    (seq qual : List ℕ) → AreFew rows reached reads x → reached ≤ rows → end ≤ rows →
-    y ≡ columns_plus x (columns_from at e seq qual) → length qual ≡ length seq →
-    end ≡ at + length seq → end ≤ 10000 → list_all (is_scored e) qual ≡ true →
-    columns_plus totals (first_rows (max reached end) y)
-    ≡ columns_plus (columns_plus totals (first_rows reached x)) (columns_from at e seq qual)
-read_added totals x y rows reached reads at end e seq qual few near room here same end_is within
-    scored =
-    let as_lanes = lanes_are_columns at e seq qual scored same (omega arith) in
-    ap (λ z. columns_plus totals (first_rows (max reached end) z)) (here
-    ∙ ap (columns_plus x) (sym as_lanes))
-    ∙ ap (columns_plus totals) (lanes_cut x rows reached (max reached end) reads at e seq qual few
-    scored same (omega arith) (omega arith))
-    ∙ ap (λ z. columns_plus totals (columns_plus (first_rows reached x) z)) as_lanes
-    ∙ sym (columns_assoc totals (first_rows reached x) (columns_from at e seq qual))
+-- One more read among a few, in rows that reach as far as it does.
+module _ (at : ℕ) (e : Encoding) (seq qual : List ℕ) {x y : Columns}
+    {last reached reached' reads : ℕ} (holds : HoldsFew last reached reads x)
+    (reach : reached' ≡ max reached (at + length seq)) (fits : at + length seq ≤ last)
+    (here : y ≡ columns_plus x (columns_from at e seq qual)) (same : length qual ≡ length seq)
+    (scored : list_all (is_scored e) qual ≡ true) where
+  as_lanes : lanes_at at e seq qual ≡ columns_from at e seq qual
+  as_lanes = let near = holds.near in lanes_are_columns at e seq qual scored same (omega arith)
 
--- with one more read, the rows are such as one more read can give
-pub read_few : (x y : Columns) (rows reached reads at end : ℕ) (e : Encoding) (seq qual : List ℕ) →
-    AreFew rows reached reads x → end ≤ rows →
-    y ≡ columns_plus x (columns_from at e seq qual) → length qual ≡ length seq →
-    end ≡ at + length seq → end ≤ 10000 → list_all (is_scored e) qual ≡ true →
-    AreFew rows (max reached end) (reads + 1) y
-read_few x y rows reached reads at end e seq qual few room here same end_is within scored =
-    let as_lanes = lanes_are_columns at e seq qual scored same (omega arith) in
-    subst (λ z. AreFew rows (max reached end) (reads + 1) z) (ap (columns_plus x) as_lanes
-    ∙ sym here)
-    (lanes_more x rows reached (max reached end) reads at e seq qual few scored same (omega arith)
-    (omega arith) (omega arith))
+  -- with totals and the rows that were reached, it is counted besides what these were
+  pub read_added : (totals : Columns) {t : Columns} →
+      columns_plus totals (first_rows reached x) ≡ t →
+      columns_plus totals (first_rows reached' y) ≡ columns_plus t (columns_from at e seq qual)
+  read_added totals view =
+      let within = holds.within in
+      ap (λ z. columns_plus totals (first_rows reached' z)) (here ∙ ap (columns_plus x)
+      (sym as_lanes))
+      ∙ ap (columns_plus totals) (lanes_cut x (last + 32) reached reached' reads at e seq qual
+      holds.few scored same reach (omega arith))
+      ∙ ap (λ z. columns_plus totals (columns_plus (first_rows reached x) z)) as_lanes
+      ∙ sym (columns_assoc totals (first_rows reached x) (columns_from at e seq qual))
+      ∙ ap (λ z. columns_plus z (columns_from at e seq qual)) view
+
+  -- the rows are such as one more read can give
+  read_few : AreFew (last + 32) reached' (reads + 1) y
+  read_few =
+      let near = holds.near in
+      let room = holds.room in
+      subst (λ z. AreFew (last + 32) reached' (reads + 1) z) (ap (columns_plus x) as_lanes
+      ∙ sym here)
+      (lanes_more x (last + 32) reached reached' reads at e seq qual holds.few scored same
+      (omega arith) (omega arith) (omega arith))
+
+  -- if there is room for a further read, these are again a few
+  pub read_held : reads + 1 < most_reads → HoldsFew last reached' (reads + 1) y
+  read_held more =
+      let within = holds.within in
+      record { few = read_few; within = omega arith; near = holds.near; room = more }
+
+  -- the rows that were reached are such as the most reads that a counter holds can give
+  pub read_full : AreFew reached' reached' most_reads y
+  read_full =
+      let within = holds.within in
+      let room = holds.room in
+      few_weaker y (last + 32) reached' reached' reached' (reads + 1) most_reads read_few
+      (omega arith) (omega arith) (omega arith)
+
+  -- after all were moved, the counter holds none
+  pub read_moved : (z : Columns) →
+      ((rows : ℕ) → AreFew rows reached' most_reads y → AreFew rows 0 0 z) → HoldsFew last 0 0 z
+  read_moved z none =
+      let room = holds.room in
+      let rows = last + 32 in
+      record {
+        few = none rows (few_weaker y rows rows reached' reached' (reads + 1) most_reads read_few
+            (omega arith) (omega arith) (omega arith));
+        within = omega arith;
+        near = holds.near;
+        room = omega arith;
+      }
 
 -- One more byte is converted.
 pub converted_next : (f : ℕ → ℕ) (bytes scores : List ℕ) (i r : ℕ) →

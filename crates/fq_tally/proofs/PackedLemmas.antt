@@ -45,9 +45,7 @@ module _ (b w l b' w' l' : List ℕ) where
 pub joined_whole : (hs ts : List Head) (b w l b' w' l' : List ℕ) → AreWhole hs b w l →
     AreWhole ts b' w' l' → AreWhole (hs ++ ts) (b ++ b') (w ++ w') (l ++ l')
 joined_whole [] ts b w l b' w' l' whole more =
-    subst (λ x. AreWhole ts (x ++ b') (w ++ w') (l ++ l')) (sym whole.0)
-    (subst (λ y. AreWhole ts b' (y ++ w') (l ++ l')) (sym whole.1)
-    (subst (λ z. AreWhole ts b' w' (z ++ l')) (sym whole.2) more))
+    rw (whole.0, whole.1, whole.2) more
 joined_whole (h ∷ hs) ts b w l b' w' l' whole more =
     let n = h.rows in
     let v = h.width in
@@ -56,21 +54,17 @@ joined_whole (h ∷ hs) ts b w l b' w' l' whole more =
     l' whole.2 more in (
       whole.0,
       longer b w l b' w' l' v n le,
-      subst (λ x. AreWhole (hs ++ ts) x (words_after v n (w ++ w')) (longs_after v n (l ++ l')))
-          (sym (bytes_left b w l b' w' l' v n le))
-          (subst (λ y. AreWhole (hs ++ ts) (bytes_after v n b ++ b') y (longs_after v n (l ++ l')))
-          (sym (words_left b w l b' w' l' v n le))
-          (subst (λ z. AreWhole (hs ++ ts) (bytes_after v n b ++ b') (words_after v n w ++ w') z)
-          (sym (longs_left b w l b' w' l' v n le)) rest)),
+      rw (
+        bytes_left b w l b' w' l' v n le,
+        words_left b w l b' w' l' v n le,
+        longs_left b w l b' w' l' v n le,
+      ) rest,
     )
 
 -- lists with more behind them hold the tables of the first heads, and then those of the others
 pub joined_tables : (hs ts : List Head) (b w l b' w' l' : List ℕ) → AreWhole hs b w l →
     tables_in (hs ++ ts) (b ++ b') (w ++ w') (l ++ l') ≡ tables_in hs b w l ++ tables_in ts b' w' l'
-joined_tables [] ts b w l b' w' l' whole =
-    ap (λ x. tables_in ts (x ++ b') (w ++ w') (l ++ l')) whole.0
-    ∙ ap (λ y. tables_in ts b' (y ++ w') (l ++ l')) whole.1
-    ∙ ap (λ z. tables_in ts b' w' (z ++ l')) whole.2
+joined_tables [] ts b w l b' w' l' whole = rw (whole.0, whole.1, whole.2) refl
 joined_tables (h ∷ hs) ts b w l b' w' l' whole =
     let n = h.rows in
     let v = h.width in
@@ -78,13 +72,11 @@ joined_tables (h ∷ hs) ts b w l b' w' l' whole =
     let rest = joined_tables hs ts (bytes_after v n b) (words_after v n w) (longs_after v n l) b' w'
     l' whole.2 in
     ap₂ (λ t us. t ∷ us) (taken b w l b' w' l' v n le)
-    (ap (λ x. tables_in (hs ++ ts) x (words_after v n (w ++ w')) (longs_after v n (l ++ l')))
-    (bytes_left b w l b' w' l' v n le)
-    ∙ ap (λ y. tables_in (hs ++ ts) (bytes_after v n b ++ b') y (longs_after v n (l ++ l')))
-    (words_left b w l b' w' l' v n le)
-    ∙ ap (λ z. tables_in (hs ++ ts) (bytes_after v n b ++ b') (words_after v n w ++ w') z)
-    (longs_left b w l b' w' l' v n le)
-    ∙ rest)
+    (rw (
+      bytes_left b w l b' w' l' v n le,
+      words_left b w l b' w' l' v n le,
+      longs_left b w l b' w' l' v n le,
+    ) rest)
 
 -- One table.
 abbrev pub head_of : ℕ → Width → Head
@@ -179,20 +171,21 @@ all_at_most counts n most limit size within below k =
     (cases_lt k n)
 
 -- One table more.
-module _ (hs hs' : List Head) (b b' w w' l l' counts : List ℕ) (n : ℕ) (v : Width)
-    (whole : AreWhole hs b w l) (heads : hs' ≡ hs ++ (head_of n v ∷ []))
-    (bytes : b' ≡ b ++ bytes_of v counts) (words : w' ≡ w ++ words_of v counts) (longs : l'
-    ≡ l ++ longs_of v counts) (is : n ≡ length counts) where
+module _ (hs : List Head) (b w l counts : List ℕ) (v : Width) {hs' : List Head}
+    {b' w' l' : List ℕ} (whole : AreWhole hs b w l)
+    (heads : hs' ≡ hs ++ (head_of (length counts) v ∷ [])) (bytes : b' ≡ b ++ bytes_of v counts)
+    (words : w' ≡ w ++ words_of v counts) (longs : l' ≡ l ++ longs_of v counts) where
   -- with one more table, the lists hold all rows of each, and no more
   pub pushed_whole : length counts ≤ 10002 → AreWhole hs' b' w' l'
   pushed_whole few =
-      rw (heads, bytes, words, longs) (joined_whole hs (head_of n v ∷ []) b w l (bytes_of v counts)
-      (words_of v counts) (longs_of v counts) whole (one_whole v n counts is few))
+      rw (heads, bytes, words, longs) (joined_whole hs (head_of (length counts) v ∷ []) b w l
+      (bytes_of v counts) (words_of v counts) (longs_of v counts) whole
+      (one_whole v (length counts) counts refl few))
 
   -- with one more table, the tables are those before, and then that one
   pub pushed_tables : tables_in hs' b' w' l' ≡ tables_in hs b w l ++ (counts ∷ [])
   pushed_tables =
       rw (heads, bytes, words, longs)
-      (joined_tables hs (head_of n v ∷ []) b w l (bytes_of v counts) (words_of v counts)
-      (longs_of v counts) whole
-      ∙ ap (λ ts. tables_in hs b w l ++ ts) (one_table v n counts is))
+      (joined_tables hs (head_of (length counts) v ∷ []) b w l (bytes_of v counts)
+      (words_of v counts) (longs_of v counts) whole
+      ∙ ap (λ ts. tables_in hs b w l ++ ts) (one_table v (length counts) counts refl))

@@ -79,6 +79,16 @@ length-rows_plus [] ys = omega arith
 length-rows_plus (x ∷ xs) [] = omega arith
 length-rows_plus (x ∷ xs) (y ∷ ys) = let more = length-rows_plus xs ys in omega arith
 
+-- rows that were made to reach a row have it
+pub grown_row : (xs zs : List ℕ) (row : ℕ) → zs ≡ rows_plus xs (replicate (row + 1) 0) →
+    row < length zs
+grown_row xs zs row is = omega (
+  arith,
+  ap length is,
+  length-rows_plus xs (replicate (row + 1) 0),
+  length-replicate {A = ℕ} (row + 1) 0,
+)
+
 -- one row more is added
 pub plus_more : (xs ys : List ℕ) (i : ℕ) → i < length xs → i < length ys →
     rows_plus xs (take (suc i) ys) ≡ set (rows_plus xs (take i ys)) i (capped_sum
@@ -131,3 +141,9 @@ grown_plus [] (y ∷ ys) small =
 grown_plus (x ∷ xs) (y ∷ ys) small =
     let same : capped_sum (capped_sum x 0) y ≡ capped_sum x y = omega arith in
     ap₂ (λ n ns. n ∷ ns) same (grown_plus xs ys (λ k. small (suc k)))
+
+-- of rows that are set to 0 in turn the first i count 0, and those after them are as they were
+pub record AreCleared (i : ℕ) (rows old : List ℕ) : Type 0 where
+  pub size : length rows ≡ length old
+  pub front : (k : ℕ) → k < i → get_or rows k 0 ≡ 0
+  pub after : (k : ℕ) → i ≤ k → get_or rows k 0 ≡ get_or old k 0

@@ -1,5 +1,5 @@
 -- The bases of a side by their position, as they are counted once each.
-use Rattle.std.proofs.Common.{◌≡◌, ℕ, ◌+◌, ◌-◌, ◌≤◌, Bool, true, false, cond, Some, List, ◌++◌, length, take, drop, refl, ap, sym, ◌∙◌, arith}
+use Rattle.std.proofs.Common.{◌≡◌, ℕ, ◌+◌, ◌-◌, ◌≤◌, Bool, true, false, cond, Some, List, ◌++◌, length, take, drop, refl, ap, ap₂, sym, ◌∙◌, arith}
 use Rattle.std.specs.List.{list_all}
 use Rattle.std.proofs.lemmas.List.{take_all, take_rest, take-append-drop, length-drop, length-take-le}
 use Rattle.fq_text.specs.declared.encoding.Encoding.{Encoding}
@@ -9,14 +9,15 @@ use Rattle.fq_trim.specs.declared.trimming.Kept.{Kept}
 use Rattle.fq_trim.proofs.PlaceLemmas.{all_taken, all_dropped}
 use Rattle.fq_pair.specs.Outputs.{places_of}
 use Rattle.fq_tally.specs.declared.columns.Columns.{Columns}
+use Rattle.fq_tally.specs.declared.side_positions.SidePositions.TheInside.{Inside}
 use Rattle.fq_tally.specs.Courses.{part_at, whole}
-use Rattle.fq_tally.specs.Columns.{columns_from, columns_of, columns_plus}
+use Rattle.fq_tally.specs.Columns.{no_columns, columns_from, columns_of, columns_plus}
 use Rattle.fq_tally.specs.Parts.{AreBases}
 use Rattle.fq_tally.specs.SideColumns.{SideColumns, with_before, with_after, with_columns, side_columns_plus}
 use Rattle.fq_tally.proofs.CourseLemmas.{part}
 use Rattle.fq_tally.proofs.ColumnLemmas.{columns_assoc, columns_joined}
 use Rattle.fq_tally.proofs.SideColumnSums.{columns_swap, columns_four}
-use Rattle.fq_tally.proofs.SideLemmas.{kept_is_left}
+use Rattle.fq_tally.proofs.SideLemmas.{kept_is_left, kept_part}
 
 -- the columns of a side, from the five that are counted
 abbrev pub side_of : Columns → Columns → Columns → Columns → Columns → SideColumns
@@ -32,37 +33,82 @@ three before paired unpaired = record { before = before; paired = paired; unpair
 three_are : {b b' p p' u u' : Columns} → b ≡ b' → p ≡ p' → u ≡ u' → three b p u ≡ three b' p' u'
 three_are b p u = cc
 
-module _ (p u r v w x : Columns) where
+-- the columns of a side with these five counters
+abbrev pub side_in : Inside → SideColumns
+side_in p = side_of p.paired.value p.unpaired.value p.rest.value p.paired_moved.value
+    p.unpaired_moved.value
+
+-- One counter of a side counts more: what it counted, y, and the columns x.
+module _ (p : Inside) (x : Columns) {y now : Columns} {t : SideColumns} (view : side_in p ≡ t)
+    (more : now ≡ columns_plus y x) where
+  counted : {counter : Columns} → y ≡ counter → now ≡ columns_plus counter x
+  counted was = more ∙ ap (λ z. columns_plus z x) was
+
   -- bases counted in the rest are counted as they were read, and not after trimming
-  pub rest_more : side_of p u (columns_plus r x) v w ≡ with_before x (side_of p u r v w)
-  rest_more = three_are (columns_swap r x (columns_plus p u)) refl refl
-
-  -- bases counted as moved and paired are left of a read that survives with its mate
-  pub paired_moved_more : side_of p u r (columns_plus v x) w ≡ with_after x true (side_of p u r v w)
-  paired_moved_more = three_are refl (sym (columns_assoc p v x)) refl
-
-  -- bases counted as moved and unpaired are left of a read that survives alone
-  pub unpaired_moved_more : side_of p u r v (columns_plus w x)
-      ≡ with_after x false (side_of p u r v w)
-  unpaired_moved_more = three_are refl refl (sym (columns_assoc u w x))
-
-  -- bases counted as paired are counted both as they were read and as left with a mate
-  pub paired_more : side_of (columns_plus p x) u r v w
-      ≡ with_before x (with_after x true (side_of p u r v w))
-  paired_more =
-      three_are
-      (ap (columns_plus r) (columns_swap p x u) ∙ sym (columns_assoc r (columns_plus p u) x))
-      (columns_swap p x v)
+  pub rest_more : y ≡ p.rest.value → side_of p.paired.value p.unpaired.value now
+      p.paired_moved.value p.unpaired_moved.value ≡ with_before x t
+  rest_more was =
+      ap (λ z. side_of p.paired.value p.unpaired.value z p.paired_moved.value
+      p.unpaired_moved.value) (counted was)
+      ∙ three_are (columns_swap p.rest.value x (columns_plus p.paired.value p.unpaired.value)) refl
       refl
+      ∙ ap (with_before x) view
 
-  -- bases counted as unpaired are counted both as they were read and as left alone
-  pub unpaired_more : side_of p (columns_plus u x) r v w
-      ≡ with_before x (with_after x false (side_of p u r v w))
-  unpaired_more =
-      three_are
-      (ap (columns_plus r) (sym (columns_assoc p u x)) ∙ sym (columns_assoc r (columns_plus p u) x))
-      refl
-      (columns_swap u x w)
+  module _ {survives : Bool} where
+    -- bases counted as moved and paired are left of a read that survives with its mate
+    pub paired_moved_more : y ≡ p.paired_moved.value → survives ≡ true →
+        side_of p.paired.value p.unpaired.value p.rest.value now p.unpaired_moved.value
+        ≡ with_after x survives t
+    paired_moved_more was is =
+        ap (λ z. side_of p.paired.value p.unpaired.value p.rest.value z p.unpaired_moved.value)
+        (counted was)
+        ∙ three_are refl (sym (columns_assoc p.paired.value p.paired_moved.value x)) refl
+        ∙ ap₂ (with_after x) (sym is) view
+
+    -- bases counted as moved and unpaired are left of a read that survives alone
+    pub unpaired_moved_more : y ≡ p.unpaired_moved.value → survives ≡ false →
+        side_of p.paired.value p.unpaired.value p.rest.value p.paired_moved.value now
+        ≡ with_after x survives t
+    unpaired_moved_more was is =
+        ap (side_of p.paired.value p.unpaired.value p.rest.value p.paired_moved.value)
+        (counted was)
+        ∙ three_are refl refl (sym (columns_assoc p.unpaired.value p.unpaired_moved.value x))
+        ∙ ap₂ (with_after x) (sym is) view
+
+    -- bases counted as paired are counted both as they were read and as left with a mate
+    pub paired_more : y ≡ p.paired.value → survives ≡ true →
+        side_of now p.unpaired.value p.rest.value p.paired_moved.value p.unpaired_moved.value
+        ≡ with_before x (with_after x survives t)
+    paired_more was is =
+        ap (λ z. side_of z p.unpaired.value p.rest.value p.paired_moved.value
+        p.unpaired_moved.value) (counted was)
+        ∙ three_are
+        (ap (columns_plus p.rest.value) (columns_swap p.paired.value x p.unpaired.value)
+        ∙ sym (columns_assoc p.rest.value (columns_plus p.paired.value p.unpaired.value) x))
+        (columns_swap p.paired.value x p.paired_moved.value) refl
+        ∙ ap₂ (λ b s. with_before x (with_after x b s)) (sym is) view
+
+    -- bases counted as unpaired are counted both as they were read and as left alone
+    pub unpaired_more : y ≡ p.unpaired.value → survives ≡ false →
+        side_of p.paired.value now p.rest.value p.paired_moved.value p.unpaired_moved.value
+        ≡ with_before x (with_after x survives t)
+    unpaired_more was is =
+        ap (λ z. side_of p.paired.value z p.rest.value p.paired_moved.value
+        p.unpaired_moved.value) (counted was)
+        ∙ three_are
+        (ap (columns_plus p.rest.value) (sym (columns_assoc p.paired.value p.unpaired.value x))
+        ∙ sym (columns_assoc p.rest.value (columns_plus p.paired.value p.unpaired.value) x))
+        refl (columns_swap p.unpaired.value x p.unpaired_moved.value)
+        ∙ ap₂ (λ b s. with_before x (with_after x b s)) (sym is) view
+
+-- columns of two counters, added in turn to none
+pub both_added : {none first both x y a b : Columns} → none ≡ no_columns →
+    first ≡ columns_plus none x → x ≡ a → both ≡ columns_plus first y → y ≡ b →
+    both ≡ columns_plus a b
+both_added {x = x} {y = y} {a = a} none_is first_is x_is both_is y_is =
+    both_is
+    ∙ ap (λ z. columns_plus z y) (first_is ∙ ap (λ z. columns_plus z x) none_is ∙ x_is)
+    ∙ ap (columns_plus a) y_is
 
 -- sides added up
 pub side_of_both : (p u r v w p' u' r' v' w' : Columns) →
@@ -93,7 +139,7 @@ in_place x rest all mate_survives t is =
     three_are before refl refl
 
 -- a read of which bases are kept
-pub survivor_columns : (read : Read) (k : Kept) (mate_survives : Bool) (t : SideColumns) →
+survivor_columns : (read : Read) (k : Kept) (mate_survives : Bool) (t : SideColumns) →
     with_columns read (part_at (places_of (Some k)) (whole read)) mate_survives t
     ≡ with_before (columns_of (whole read))
     (with_after (columns_of (part_at (places_of (Some k)) (whole read))) mate_survives t)
@@ -101,6 +147,19 @@ survivor_columns read k mate_survives t =
     let left = part_at (places_of (Some k)) (whole read) in
     ap (λ (b : Bool). with_before (columns_of (whole read))
     (cond b (with_after (columns_of left) mate_survives t) t)) (kept_is_left read k)
+
+-- all bases of a read, and those that are left, are what is counted of it
+pub left_counted : (read : Read) (k : Kept) (mate_survives : Bool) (t : SideColumns) (e : Encoding)
+    (seq qual : List ℕ) → e ≡ read.encoding → seq ≡ read.seq → qual ≡ read.qual →
+    k.stop ≤ length read.seq → length read.qual ≡ length read.seq →
+    with_before (columns_of (whole read)) (with_after
+    (columns_from 0 e (take (k.stop - k.start) (drop k.start seq))
+    (take (k.stop - k.start) (drop k.start qual))) mate_survives t)
+    ≡ with_columns read (part_at (places_of (Some k)) (whole read)) mate_survives t
+left_counted read k mate_survives t e seq qual e_is seq_is qual_is within same =
+    ap (λ (x : Columns). with_before (columns_of (whole read)) (with_after x mate_survives t))
+    (ap columns_of (kept_part read k e seq qual e_is seq_is qual_is within same))
+    ∙ sym (survivor_columns read k mate_survives t)
 
 -- a read that lost nothing at its start, and is cut after what is left
 pub cut_columns : (read : Read) (k : Kept) (e : Encoding) (seq qual : List ℕ) → e ≡ read.encoding →

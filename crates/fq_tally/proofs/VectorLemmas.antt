@@ -1,10 +1,10 @@
 -- Bytes that are counted in a vector.
-use Rattle.std.proofs.Common.{◌≡◌, ◌≤◌, ◌+◌, ◌-◌, ◌*◌, ◌%◌, ◌^◌, Fits, w8, ℕ, zero, suc, ◌<◌, Bool, true, false, not, ◌&&◌, ◌||◌, eqb, cond, count_by, sum, List, [], ◌∷◌, ◌++◌, length, get_or, map, take, drop, replicate, refl, sym, ap, ap₂, ◌∙◌, arith, ⊎_elim}
+use Rattle.std.proofs.Common.{◌≡◌, ◌≤◌, ◌+◌, ◌-◌, ◌*◌, ◌%◌, ◌^◌, Fits, w8, ℕ, zero, suc, ◌<◌, Bool, true, false, ◌||◌, eqb, cond, count_by, sum, List, [], ◌∷◌, ◌++◌, length, get_or, map, take, drop, replicate, refl, sym, ap, ap₂, ◌∙◌, arith}
 use Rattle.std.specs.List.{sum_by}
 use Rattle.std.specs.Int.Bits.{and_zero_r}
 use Rattle.std.proofs.Math.Seq.{take-add}
 use Rattle.std.proofs.lemmas.List.{drop-drop, length-map}
-use Rattle.std.proofs.lemmas.Bool.{and_parts, cases_lt, false≢true}
+use Rattle.std.proofs.lemmas.Bool.{agree_below, agree_below_at}
 use Rattle.std.proofs.lemmas.List.Sums.{sum_by-cons, sum_by-append}
 use Rattle.std.proofs.lemmas.List.Folds.{sum_by-replicate}
 use Rattle.std.proofs.lemmas.Nat.{and_mask}
@@ -164,45 +164,28 @@ pub counted_on : (p : ℕ → Bool) → p 0 ≡ false → (bytes vector : List �
 counted_on p never = summed_on (λ x. cond (p x) 1 0) (ap (λ b. cond b 1 0) never)
 
 -- Letters in either case: those of upper case lack one bit.
-all_below : ℕ → (ℕ → Bool) → Bool
-all_below zero p = true
-all_below (suc n) p = p n && all_below n p
+-- byte x with the bit of lower case is letter l
+abbrev is_letter : ℕ → ℕ → Bool
+is_letter l x = eqb (bit_or x 32) (97 + l)
 
-below_at : (n : ℕ) (p : ℕ → Bool) (k : ℕ) → all_below n p ≡ true → k < n → p k ≡ true
-unfolding all_below
-below_at zero p k all lt = absurd (omega arith)
-below_at (suc n) p k all lt =
-    let parts = and_parts _ _ all in
-    ⊎_elim (λ less. below_at n p k parts.1 less) (λ from. let last : k ≡ n = omega arith in
-    ap p last ∙ parts.0) (cases_lt k n)
+-- byte x is letter l of either case
+abbrev is_in_case : ℕ → ℕ → Bool
+is_in_case l x = eqb x (65 + l) || eqb x (97 + l)
 
-same_answer : Bool → Bool → Bool
-same_answer a b = cond a b (not b)
-
-same_from : (a b : Bool) → same_answer a b ≡ true → a ≡ b
-unfolding same_answer
-same_from true true is = refl
-same_from true false is = absurd (false≢true is)
-same_from false true is = absurd (false≢true is)
-same_from false false is = refl
-
-in_case : ℕ → ℕ → Bool
-in_case l x = same_answer (eqb (bit_or x 32) (97 + l)) (eqb x (65 + l) || eqb x (97 + l))
-
-cases_below : all_below 26 (λ l. all_below 256 (in_case l)) ≡ true
-unfolding all_below in_case same_answer
-cases_below = refl
+letters_agree : agree_below (λ l. agree_below (is_letter l) (is_in_case l) 256) (λ l. true) 26
+    ≡ true
+letters_agree = refl
 
 one_letter : (letter x : ℕ) → 97 ≤ letter → letter ≤ 122 → x < 256 →
     eqb (bit_or x 32) letter ≡ (eqb x (letter - 32) || eqb x letter)
-unfolding in_case
 one_letter letter x low high small =
     let l : ℕ = letter - 97 in
     let whole : 97 + l ≡ letter = omega arith in
     let upper : 65 + l ≡ letter - 32 = omega arith in
     let same =
-    same_from _ _ (below_at 256 (in_case l) x (below_at 26 (λ k. all_below 256 (in_case k)) l
-    cases_below (omega arith)) small) in
+    agree_below_at (is_letter l) (is_in_case l) 256 x
+    (agree_below_at (λ k. agree_below (is_letter k) (is_in_case k) 256) (λ k. true) 26 l
+    letters_agree (omega arith)) small in
     ap (λ n. eqb (bit_or x 32) n) (sym whole) ∙ same ∙ ap₂ (λ m n. eqb x m || eqb x n) upper whole
 
 each_letter : (letter : ℕ) (v : List ℕ) → 97 ≤ letter → letter ≤ 122 → Each1 (Fits w8) v →

@@ -21,18 +21,14 @@ loop-i-init c =
 
 pub index-requires : goal.index-requires
 index-requires c =
-    let rows = c.rows-rows.ensures in
-    let below = c.loop-i-test.true in
-    let long = grown_long c.args.self.now (counts_of c.args.table)
-    c.loop-i.self-inside.counts.items c.loop-i.i c.loop-i.invariant.sum (omega arith) in
+    let long = grown_long c.args.self.now (counts_of c.args.table) _ _ c.loop-i.invariant.sum
+    (omega (arith, c.rows-rows.ensures, c.loop-i-test.true)) in
     omega (arith, c.loop-i.self-inside.counts.ok.0)
 
 pub index_mut-requires : goal.index_mut-requires
 index_mut-requires c =
-    let rows = c.rows-rows.ensures in
-    let below = c.loop-i-test.true in
-    let long = grown_long c.args.self.now (counts_of c.args.table)
-    c.loop-i.self-inside.counts.items c.loop-i.i c.loop-i.invariant.sum (omega arith) in
+    let long = grown_long c.args.self.now (counts_of c.args.table) _ _ c.loop-i.invariant.sum
+    (omega (arith, c.rows-rows.ensures, c.loop-i-test.true)) in
     omega (arith, c.loop-i.self-inside.counts.ok.0)
 
 pub loop-i-preserved : goal.loop-i-preserved

@@ -1,7 +1,8 @@
-use Rattle.std.proofs.Common.{◌≡◌, ℕ, ◌+◌, ◌-◌, Bool, not, cond, Some, List, length, min, ap, sym, ◌∙◌, arith}
+use Rattle.std.proofs.Common.{◌≡◌, ℕ, ◌+◌, ◌-◌, Bool, not, cond, Some, List, length, min, ap, ap₂, sym, ◌∙◌, arith}
 use Rattle.fq_pair.specs.Outputs.{places_of}
 use Rattle.fq_pair.specs.Summaries.{capped_sum}
 use Rattle.fq_tally.specs.declared.bases.BaseTally.{BaseTally}
+use Rattle.fq_tally.specs.declared.reads.ReadsTally.{ReadsTally}
 use Rattle.fq_tally.specs.declared.side.SideTally.{SideTally}
 use Rattle.fq_tally.specs.Rows.{counted}
 use Rattle.fq_tally.specs.Courses.{part_at, whole}
@@ -66,54 +67,34 @@ returns c =
     ap (λ (n : ℕ). n - k.stop) size in
     let sum = c.saturating_add-self.ensures in
     let sum_behind = c.saturating_add-self-2.ensures in
-    let made : Bool → SideTally = λ mate_survives. record {
+    let made : Bool → SideTally = λ mate_survives. record old {
       before = with_part (whole read) old.before;
       paired = cond mate_survives (with_part left old.paired) old.paired;
       unpaired = cond (not mate_survives) (with_part left old.unpaired) old.unpaired;
-      front = capped_sum old.front k.start;
-      behind = capped_sum old.behind (length read.seq - k.stop);
-      removed_front = counted k.start old.removed_front;
-      removed_behind = counted (length read.seq - k.stop) old.removed_behind;
-      positions = with_columns read left c.args.mate_survives old.positions;
-      steps = old.steps;
     } in
+    let is : c.if-mate_survives.self ≡ made c.args.mate_survives =
     elim c.if-mate_survives.branch [
-      | then-mate_survives w ↦
-          let is = w.self-is in
-          let a = ap (λ (t : SideTally). t.before) is ∙ before in
-          let b = ap (λ (t : SideTally). t.paired) is ∙ w.add-then-mate_survives.ensures
-          ∙ ap (λ (x : BaseTally). with_bases x old.paired) c.kept_bases-left.ensures in
-          let d = ap (λ (t : SideTally). t.unpaired) is in
-          let f = ap (λ (t : SideTally). t.front) is in
-          let g = ap (λ (t : SideTally). t.behind) is in
-          let h = ap (λ (t : SideTally). t.steps) is in
-          let i = c.count.ensures ∙ ap (λ (t : SideTally). counted k.start t.removed_front) is in
-          let j = c.count-2.ensures
-          ∙ ap (λ (t : SideTally). counted (length c.seq-seq.result.now - k.stop)
-          t.removed_behind) is ∙ ap (λ (n : ℕ). counted n old.removed_behind) rest in
-          let l = c.add_survivor.ensures
-          ∙ ap (λ (t : SideTally). with_columns read left c.args.mate_survives t.positions)
-          is in
-          parts_are a b d (front_is old.front k.start f sum)
-          (behind_is old.behind k.stop (length read.seq) g size sum_behind) i j l h
-          ∙ sym (ap made w.if-mate_survives.true) ∙ sym (survivor read k c.args.mate_survives old)
-      | else-mate_survives w ↦
-          let is = w.self-is in
-          let a = ap (λ (t : SideTally). t.before) is ∙ before in
-          let b = ap (λ (t : SideTally). t.paired) is in
-          let d = ap (λ (t : SideTally). t.unpaired) is ∙ w.add-else-mate_survives.ensures
-          ∙ ap (λ (x : BaseTally). with_bases x old.unpaired) c.kept_bases-left.ensures in
-          let f = ap (λ (t : SideTally). t.front) is in
-          let g = ap (λ (t : SideTally). t.behind) is in
-          let h = ap (λ (t : SideTally). t.steps) is in
-          let i = c.count.ensures ∙ ap (λ (t : SideTally). counted k.start t.removed_front) is in
-          let j = c.count-2.ensures
-          ∙ ap (λ (t : SideTally). counted (length c.seq-seq.result.now - k.stop)
-          t.removed_behind) is ∙ ap (λ (n : ℕ). counted n old.removed_behind) rest in
-          let l = c.add_survivor.ensures
-          ∙ ap (λ (t : SideTally). with_columns read left c.args.mate_survives t.positions)
-          is in
-          parts_are a b d (front_is old.front k.start f sum)
-          (behind_is old.behind k.stop (length read.seq) g size sum_behind) i j l h
-          ∙ sym (ap made w.if-mate_survives.false) ∙ sym (survivor read k c.args.mate_survives old)
-    ]
+      | then-mate_survives w ↦ w.self-is
+          ∙ ap₂ (λ (b p : ReadsTally). let t : SideTally =
+          record old { before = b; paired = p } in t) before (w.add-then-mate_survives.ensures
+          ∙ ap (λ (x : BaseTally). with_bases x old.paired) c.kept_bases-left.ensures)
+          ∙ sym (ap made w.if-mate_survives.true)
+      | else-mate_survives w ↦ w.self-is
+          ∙ ap₂ (λ (b u : ReadsTally). let t : SideTally =
+          record old { before = b; unpaired = u } in t) before (w.add-else-mate_survives.ensures
+          ∙ ap (λ (x : BaseTally). with_bases x old.unpaired) c.kept_bases-left.ensures)
+          ∙ sym (ap made w.if-mate_survives.false)
+    ] in
+    parts_are (ap (λ (t : SideTally). t.before) is) (ap (λ (t : SideTally). t.paired) is)
+    (ap (λ (t : SideTally). t.unpaired) is)
+    (front_is old.front k.start (ap (λ (t : SideTally). t.front) is) sum)
+    (behind_is old.behind k.stop (length read.seq) (ap (λ (t : SideTally). t.behind) is) size
+    sum_behind)
+    (c.count.ensures ∙ ap (λ (t : SideTally). counted k.start t.removed_front) is)
+    (c.count-2.ensures
+    ∙ ap (λ (t : SideTally). counted (length c.seq-seq.result.now - k.stop) t.removed_behind) is
+    ∙ ap (λ (n : ℕ). counted n old.removed_behind) rest)
+    (c.add_survivor.ensures
+    ∙ ap (λ (t : SideTally). with_columns read left c.args.mate_survives t.positions) is)
+    (ap (λ (t : SideTally). t.steps) is)
+    ∙ sym (survivor read k c.args.mate_survives old)

@@ -1,12 +1,10 @@
-use Rattle.std.proofs.Common.{◌≡◌, ◌-◌, Some, length, take, drop, ap, sym, ◌∙◌, arith}
-use Rattle.fq_pair.specs.Outputs.{places_of}
+use Rattle.std.proofs.Common.{◌≡◌, ◌-◌, length, take, drop, ap, ◌∙◌, arith}
 use Rattle.fq_tally.specs.declared.columns.Columns.{Columns}
 use Rattle.fq_tally.specs.Columns.{columns_from, columns_of}
-use Rattle.fq_tally.specs.Courses.{part_at, whole}
+use Rattle.fq_tally.specs.Courses.{whole}
 use Rattle.fq_tally.specs.SideColumns.{SideColumns, with_before, with_after}
 use Rattle.fq_tally.proofs.CourseLemmas.{part}
-use Rattle.fq_tally.proofs.SideLemmas.{kept_part}
-use Rattle.fq_tally.proofs.SideColumnLemmas.{between_are_bases, kept_are_bases, in_place, survivor_columns, cut_columns, all_columns}
+use Rattle.fq_tally.proofs.SideColumnLemmas.{between_are_bases, kept_are_bases, in_place, left_counted, cut_columns, all_columns}
 use Rattle.fq_tally.proofs.side_positions.SidePositions.add_survivor.Goals as goal
 
 -- what is left of a read that lost bases at its start has a score for each base
@@ -50,36 +48,28 @@ pub returns-then-start-gt0 : goal.returns-then-start-gt0
 returns-then-start-gt0 c =
     let read = c.args.read.now in
     let k = c.args.kept in
-    let mate_survives = c.args.mate_survives in
-    let old = c.args.self.now in
     let e = c.encoding-encoding.result in
     let seq = c.seq-seq.result.now in
     let qual = c.qual-qual.result.now in
     let x = columns_from 0 e (take (k.stop - k.start) (drop k.start seq))
     (take (k.stop - k.start) (drop k.start qual)) in
-    let left = columns_of (part_at (places_of (Some k)) (whole read)) in
-    let x_is : x ≡ left =
-    ap columns_of (kept_part read k e seq qual c.encoding-encoding.ensures c.seq-seq.ensures
-    c.qual-qual.ensures c.requires c.title.ensures.lawful.same_len) in
     let read_is : part e seq qual ≡ whole read =
     let e_is = c.encoding-encoding.ensures in
     let seq_is = c.seq-seq.ensures in
     let qual_is = c.qual-qual.ensures in cc in
     c.add_moved.ensures
-    ∙ ap (with_after x mate_survives) c.add_rest.ensures
-    ∙ ap (λ (y : Columns). with_before (columns_from 0 e seq qual) (with_after y mate_survives old))
-    x_is
-    ∙ ap (λ (y : Columns). with_before y (with_after left mate_survives old))
+    ∙ ap (with_after x c.args.mate_survives) c.add_rest.ensures
+    ∙ ap (λ (y : Columns). with_before y (with_after x c.args.mate_survives c.args.self.now))
     (ap columns_of read_is)
-    ∙ sym (survivor_columns read k mate_survives old)
+    ∙ left_counted read k c.args.mate_survives c.args.self.now e seq qual
+    c.encoding-encoding.ensures c.seq-seq.ensures c.qual-qual.ensures c.requires
+    c.title.ensures.lawful.same_len
 
 -- a read that lost bases only at its end is counted: the lost ones, and the others in place
 pub returns-then-stop-seq : goal.returns-then-stop-seq
 returns-then-stop-seq c =
     let read = c.args.read.now in
     let k = c.args.kept in
-    let mate_survives = c.args.mate_survives in
-    let old = c.args.self.now in
     let e = c.encoding-encoding.result in
     let seq = c.seq-seq.result.now in
     let qual = c.qual-qual.result.now in
@@ -89,45 +79,32 @@ returns-then-stop-seq c =
     (take (k.stop - k.start) (drop k.start qual)) in
     let rest = columns_from k.stop e (take (length seq - k.stop) (drop k.stop seq))
     (take (length qual - k.stop) (drop k.stop qual)) in
-    let left = columns_of (part_at (places_of (Some k)) (whole read)) in
-    let x_is : x ≡ left =
-    ap columns_of (kept_part read k e seq qual c.encoding-encoding.ensures c.seq-seq.ensures
-    c.qual-qual.ensures c.requires lawful.same_len) in
     let both = cut_columns read k e seq qual c.encoding-encoding.ensures c.seq-seq.ensures
     c.qual-qual.ensures c.requires lawful.same_len lawful.seq_fits lawful.scores start in
     c.add_in_place.ensures
-    ∙ ap (λ (t : SideColumns). with_before x (with_after x mate_survives t))
+    ∙ ap (λ (t : SideColumns). with_before x (with_after x c.args.mate_survives t))
     c.add_rest-then-stop-seq.ensures
-    ∙ in_place x rest (columns_of (whole read)) mate_survives old both
-    ∙ ap (λ (y : Columns). with_before (columns_of (whole read)) (with_after y mate_survives old))
-    x_is
-    ∙ sym (survivor_columns read k mate_survives old)
+    ∙ in_place x rest (columns_of (whole read)) c.args.mate_survives c.args.self.now both
+    ∙ left_counted read k c.args.mate_survives c.args.self.now e seq qual
+    c.encoding-encoding.ensures c.seq-seq.ensures c.qual-qual.ensures c.requires lawful.same_len
 
 -- a read that lost nothing is counted: all of its bases in place
 pub returns-else-stop-seq : goal.returns-else-stop-seq
 returns-else-stop-seq c =
     let read = c.args.read.now in
     let k = c.args.kept in
-    let mate_survives = c.args.mate_survives in
-    let old = c.args.self.now in
     let e = c.encoding-encoding.result in
     let seq = c.seq-seq.result.now in
     let qual = c.qual-qual.result.now in
-    let lawful = c.title.ensures.lawful in
+    let same = c.title.ensures.lawful.same_len in
     let start : k.start ≡ 0 = let none = c.if-start-gt0.false in omega arith in
     let seq_len = ap length c.seq-seq.ensures in
     let end = c.if-stop-seq.false in
     let x = columns_from 0 e (take (k.stop - k.start) (drop k.start seq))
     (take (k.stop - k.start) (drop k.start qual)) in
-    let left = columns_of (part_at (places_of (Some k)) (whole read)) in
-    let x_is : x ≡ left =
-    ap columns_of (kept_part read k e seq qual c.encoding-encoding.ensures c.seq-seq.ensures
-    c.qual-qual.ensures c.requires lawful.same_len) in
     let all : x ≡ columns_of (whole read) = all_columns read k e seq qual
-    c.encoding-encoding.ensures c.seq-seq.ensures c.qual-qual.ensures (omega arith)
-    lawful.same_len start in
+    c.encoding-encoding.ensures c.seq-seq.ensures c.qual-qual.ensures (omega arith) same start in
     c.add_in_place-else-stop-seq.ensures
-    ∙ ap (λ (y : Columns). with_before y (with_after x mate_survives old)) all
-    ∙ ap (λ (y : Columns). with_before (columns_of (whole read)) (with_after y mate_survives old))
-    x_is
-    ∙ sym (survivor_columns read k mate_survives old)
+    ∙ ap (λ (y : Columns). with_before y (with_after x c.args.mate_survives c.args.self.now)) all
+    ∙ left_counted read k c.args.mate_survives c.args.self.now e seq qual
+    c.encoding-encoding.ensures c.seq-seq.ensures c.qual-qual.ensures c.requires same

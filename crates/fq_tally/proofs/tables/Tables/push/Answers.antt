@@ -1,4 +1,4 @@
-use Rattle.std.proofs.Common.{◌∷◌, [], ◌++◌, length, refl, ap, ◌∙◌}
+use Rattle.std.proofs.Common.{◌∷◌, [], ◌++◌, length, ap, ◌∙◌}
 use Rattle.fq_tally.proofs.PackedLemmas.{head_of, pushed_whole, pushed_tables}
 use Rattle.fq_tally.proofs.tables.Tables.push.Goals as goal
 
@@ -7,26 +7,18 @@ pub invariant_of-self-2 : goal.invariant_of-self-2
 invariant_of-self-2 c =
     let old = c.self.inside in
     let counts = c.args.counts.now in
-    let heads = c.push_reserved.ensures.items
-    ∙ ap (λ hs. hs ++ (head_of (length counts) c.in_ok-width.width ∷ []))
-    c.reserve.ensures.items in
-    pushed_whole old.heads.items c.push_reserved.new.self.items old.bytes.items
-    c.push_counts.new.bytes.items old.words.items c.push_counts.new.words.items old.longs.items
-    c.push_counts.new.longs.items counts (length counts) c.in_ok-width.width
-    c.self.invariant heads c.in_ok-width.ensures.bytes c.in_ok-width.ensures.words
-    c.in_ok-width.ensures.longs refl c.requires
+    pushed_whole old.heads.items old.bytes.items old.words.items old.longs.items counts
+    c.in_ok-width.width c.self.invariant (c.push_reserved.ensures.items
+    ∙ ap (λ hs. hs ++ (head_of (length counts) c.in_ok-width.width ∷ [])) c.reserve.ensures.items)
+    c.in_ok-width.ensures.bytes c.in_ok-width.ensures.words c.in_ok-width.ensures.longs c.requires
 
 -- the counts are one more table after the others
 pub returns : goal.returns
 returns c =
     let old = c.self.inside in
     let counts = c.args.counts.now in
-    let heads = c.push_reserved.ensures.items
-    ∙ ap (λ hs. hs ++ (head_of (length counts) c.in_ok-width.width ∷ []))
-    c.reserve.ensures.items in
-    pushed_tables old.heads.items c.push_reserved.new.self.items old.bytes.items
-    c.push_counts.new.bytes.items old.words.items c.push_counts.new.words.items old.longs.items
-    c.push_counts.new.longs.items counts (length counts) c.in_ok-width.width
-    c.self.invariant heads c.in_ok-width.ensures.bytes c.in_ok-width.ensures.words
-    c.in_ok-width.ensures.longs refl
+    pushed_tables old.heads.items old.bytes.items old.words.items old.longs.items counts
+    c.in_ok-width.width c.self.invariant (c.push_reserved.ensures.items
+    ∙ ap (λ hs. hs ++ (head_of (length counts) c.in_ok-width.width ∷ [])) c.reserve.ensures.items)
+    c.in_ok-width.ensures.bytes c.in_ok-width.ensures.words c.in_ok-width.ensures.longs
     ∙ ap (λ ts. ts ++ (counts ∷ [])) c.self.view_is
