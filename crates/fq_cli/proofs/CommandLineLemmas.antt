@@ -40,11 +40,18 @@ low_fault s w kinds =
 abbrev pub stopped_at : Text → List Text → Walk
 stopped_at name rest = record (walk_from nothing_held) { stopped = Some (name, rest) }
 
+-- the walk over the program's words stops at this name, and keeps the words after it
+abbrev pub StopsAt : Text → Type 0
+StopsAt name = (rest : List Text) → walk (built program_app).top.rules
+    (names_of (built program_app)) nothing_held (name ∷ rest) ≡ stopped_at name rest
+
+-- neither this name nor the words kept after it have a fault in the walk over the program's words
+abbrev pub KeepsAfter : Text → Type 0
+KeepsAfter name = (rest : List Text) → walk_fault (built program_app).top
+    (names_of (built program_app)) (walk_from nothing_held) (name ∷ rest) ≡ []
+
 -- the walk over the program's words stops at `PE`, and keeps the words after it
-pub pairs_stop : (rest : List Text) → walk (built program_app).top.rules
-    (names_of (built program_app))
-    nothing_held (codes "PE" ∷ rest)
-    ≡ stopped_at (codes "PE") rest
+pub pairs_stop : StopsAt (codes "PE")
 unfolding clap_on_literals program_app pairs_app interleaved_app
 pairs_stop rest = words_kept (built program_app).top.rules (names_of (built program_app)) rest
     (stopped_at (codes "PE") []) (codes "PE") [] refl
@@ -58,9 +65,7 @@ pairs_entered program rest = ap (λ (w : Walk). entered (built program_app) w.st
     (pairs_stop rest)
 
 -- neither `PE` nor the words kept after it have a fault in the walk over the program's words
-pub pairs_kept : (rest : List Text) → walk_fault (built program_app).top
-    (names_of (built program_app))
-    (walk_from nothing_held) (codes "PE" ∷ rest) ≡ []
+pub pairs_kept : KeepsAfter (codes "PE")
 unfolding clap_on_literals program_app pairs_app interleaved_app
 pairs_kept rest = kept_faultless (built program_app).top (names_of (built program_app)) rest
     (stopped_at (codes "PE") []) (codes "PE") [] refl
@@ -74,10 +79,7 @@ pairs_parse program rest sound =
     ap₂ top_fault (pairs_stop rest) (pairs_kept rest) ∙ ap (λ kinds. or_else kinds []) sound
 
 -- the walk over the program's words stops at `IL`, and keeps the words after it
-pub mixed_stop : (rest : List Text) → walk (built program_app).top.rules
-    (names_of (built program_app))
-    nothing_held (codes "IL" ∷ rest)
-    ≡ stopped_at (codes "IL") rest
+pub mixed_stop : StopsAt (codes "IL")
 unfolding clap_on_literals program_app pairs_app interleaved_app
 mixed_stop rest = words_kept (built program_app).top.rules (names_of (built program_app)) rest
     (stopped_at (codes "IL") []) (codes "IL") [] refl
@@ -91,9 +93,7 @@ mixed_entered program rest = ap (λ (w : Walk). entered (built program_app) w.st
     (mixed_stop rest)
 
 -- neither `IL` nor the words kept after it have a fault in the walk over the program's words
-pub mixed_kept : (rest : List Text) → walk_fault (built program_app).top
-    (names_of (built program_app))
-    (walk_from nothing_held) (codes "IL" ∷ rest) ≡ []
+pub mixed_kept : KeepsAfter (codes "IL")
 unfolding clap_on_literals program_app pairs_app interleaved_app
 mixed_kept rest = kept_faultless (built program_app).top (names_of (built program_app)) rest
     (stopped_at (codes "IL") []) (codes "IL") [] refl

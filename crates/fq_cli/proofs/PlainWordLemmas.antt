@@ -114,17 +114,23 @@ value_faults s w (word ∷ words) =
     or_else (step_fault s w.position w.held value)
     (value_faults s (value_walk s.rules w word) words)
 
-turn_value : (s : Shape) (w : Walk) (word : Text) → IsOpen w → IsPlain word →
-    turn_fault s [] w word ≡ step_fault s w.position w.held value
-turn_value s w word is plain =
-    let met : Held × Step =
+-- the fault at a plain word is that of what it is taken for
+turn_met : (s : Shape) (w : Walk) (word : Text) (met : Held × Step) → w.stopped ≡ None →
+    IsPlain word → word_met s.rules [] w.is_trailing w.waiting w.position word w.held ≡ met →
+    turn_fault s [] w word ≡ step_fault s w.position met.0 met.1
+turn_met s w word met goes plain is =
+    let found : Held × Step =
     word_met s.rules [] w.is_trailing w.waiting w.position word w.held in
     ap (λ o. if is_some o then [] else or_else
     (word_fault s [] w.is_trailing w.waiting word w.held)
-    (step_fault s w.position met.0 met.1)) is.goes
-    ∙ ap (λ kinds. or_else kinds (step_fault s w.position met.0 met.1))
+    (step_fault s w.position found.0 found.1)) goes
+    ∙ ap (λ kinds. or_else kinds (step_fault s w.position found.0 found.1))
     (plain_fault s w.is_trailing w.waiting word w.held plain)
-    ∙ ap (λ (m : Held × Step). step_fault s w.position m.0 m.1)
+    ∙ ap (λ (m : Held × Step). step_fault s w.position m.0 m.1) is
+
+turn_value : (s : Shape) (w : Walk) (word : Text) → IsOpen w → IsPlain word →
+    turn_fault s [] w word ≡ step_fault s w.position w.held value
+turn_value s w word is plain = turn_met s w word (w.held, value) is.goes plain
     (to_value s.rules word plain w.is_trailing w.waiting w.position w.held is.rests)
 
 -- the faults of plain words are those of words that go to the positionals
@@ -194,14 +200,7 @@ option_walked rules id word w is plain =
 pub option_faultless : (s : Shape) (id word : Text) (w : Walk) → IsWaiting id w →
     IsPlain word → turn_fault s [] w word ≡ []
 option_faultless s id word w is plain =
-    let met : Held × Step =
-    word_met s.rules [] w.is_trailing w.waiting w.position word w.held in
-    ap (λ o. if is_some o then [] else or_else
-    (word_fault s [] w.is_trailing w.waiting word w.held)
-    (step_fault s w.position met.0 met.1)) is.goes
-    ∙ ap (λ kinds. or_else kinds (step_fault s w.position met.0 met.1))
-    (plain_fault s w.is_trailing w.waiting word w.held plain)
-    ∙ ap (λ (m : Held × Step). step_fault s w.position m.0 m.1)
+    turn_met s w word (plain_word s.rules (option id) word w.held) is.goes plain
     (option_met_value s.rules id word w is plain)
 
 -- Words after a subcommand.
