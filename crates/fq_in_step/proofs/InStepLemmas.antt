@@ -6,7 +6,7 @@ use Rattle.std.proofs.lemmas.Bool.{cond-true}
 use Rattle.std.proofs.lemmas.List.{length-map}
 use Rattle.std.proofs.lemmas.List.Sums.{take_while-cons}
 use Rattle.std.proofs.lemmas.List.Folds.{flat_map-map}
-use Rattle.std.proofs.lemmas.List.Elements.{All-nil, All-cons, All-head, All-tail, All-filter}
+use Rattle.std.proofs.lemmas.List.Elements.{All-head, All-tail, All-filter, All-map, All-weaker}
 use Rattle.fq_text.specs.declared.encoding.Encoding.{Encoding}
 use Rattle.fq_text.specs.Grammar.{Read}
 use Rattle.fq_text.specs.Records.{Records, records}
@@ -23,22 +23,6 @@ use Rattle.fq_in_step.proofs.ReadLemmas.{many_again}
 use Rattle.fq_in_step.proofs.CountLemmas.{counts_add_up}
 
 -- Reads of one side.
-
-forward_in : (check : Bool) (e : Encoding) (ms : List Mates) → All (IsPairIn check e) ms →
-    All (IsReadIn e) (forward_reads ms)
-forward_in check e [] all = All-nil (IsReadIn e)
-forward_in check e (m ∷ ms) all =
-    All-cons (IsReadIn e) m.forward (forward_reads ms)
-    (All-head (IsPairIn check e) m ms all).forward
-    (forward_in check e ms (All-tail (IsPairIn check e) m ms all))
-
-reverse_in : (check : Bool) (e : Encoding) (ms : List Mates) → All (IsPairIn check e) ms →
-    All (IsReadIn e) (reverse_reads ms)
-reverse_in check e [] all = All-nil (IsReadIn e)
-reverse_in check e (m ∷ ms) all =
-    All-cons (IsReadIn e) m.reverse (reverse_reads ms)
-    (All-head (IsPairIn check e) m ms all).reverse
-    (reverse_in check e ms (All-tail (IsPairIn check e) m ms all))
 
 -- a text of records gives its reads, and their number
 gives : (steps : List Step) (e : Encoding) (reads : List Read) (count : ℕ) (text : List ℕ) →
@@ -59,25 +43,29 @@ gives steps e reads count text is size are plain =
 
 module _ (check : Bool) (steps : List Step) (e : Encoding) (ms : List Mates)
     (all : All (IsPairIn check e) ms) where
+  -- the records of one mate of each pair that is chosen are those of its reads
+  side_gives : (mate : Mates → Read) → ((m : Mates) → IsPairIn check e m → IsReadIn e (mate m)) →
+      (test : Mates → Bool) →
+      IsReadAgain steps e (map mate (filter test ms)) (length (filter test ms))
+      (flat_map (λ (m : Mates). record_text steps (mate m)) (filter test ms))
+  side_gives mate valid test =
+      let chosen = filter test ms in
+      gives steps e (map mate chosen) (length chosen)
+      (flat_map (λ (m : Mates). record_text steps (mate m)) chosen)
+      (sym (flat_map-map (record_text steps) mate chosen)) (length-map chosen mate)
+      (All-map (IsReadIn e) mate chosen
+      (All-weaker (IsPairIn check e) (λ (m : Mates). IsReadIn e (mate m)) valid chosen
+      (All-filter test (IsPairIn check e) ms all)))
+
   forward_gives : (test : Mates → Bool) →
       IsReadAgain steps e (forward_reads (filter test ms)) (length (filter test ms))
       (forward_records steps test ms)
-  forward_gives test =
-      let chosen = filter test ms in
-      gives steps e (forward_reads chosen) (length chosen) (forward_records steps test ms)
-      (sym (flat_map-map (record_text steps) (λ (m : Mates). m.forward) chosen))
-      (length-map chosen (λ (m : Mates). m.forward))
-      (forward_in check e chosen (All-filter test (IsPairIn check e) ms all))
+  forward_gives = side_gives (λ (m : Mates). m.forward) (λ m is. is.forward)
 
   reverse_gives : (test : Mates → Bool) →
       IsReadAgain steps e (reverse_reads (filter test ms)) (length (filter test ms))
       (reverse_records steps test ms)
-  reverse_gives test =
-      let chosen = filter test ms in
-      gives steps e (reverse_reads chosen) (length chosen) (reverse_records steps test ms)
-      (sym (flat_map-map (record_text steps) (λ (m : Mates). m.reverse) chosen))
-      (length-map chosen (λ (m : Mates). m.reverse))
-      (reverse_in check e chosen (All-filter test (IsPairIn check e) ms all))
+  reverse_gives = side_gives (λ (m : Mates). m.reverse) (λ m is. is.reverse)
 
 -- Pairs.
 

@@ -33,6 +33,15 @@ record UpTo (test : ℕ → Bool) (n : ℕ) : Type 0 where
   hi : ℕ
   is : IsBetween test n 0 hi
 
+none_between : (test : ℕ → Bool) → IsBetween test 0 0 0
+none_between test = record {
+  order = omega arith;
+  within = omega arith;
+  before = λ k lt in_n. absurd (omega arith);
+  inside = λ k from lt. absurd (omega arith);
+  behind = λ k from lt. absurd (omega arith);
+}
+
 more_from : (test : ℕ → Bool) (n lo : ℕ) → IsBetween test n lo n → (lo < n → test n ≡ true) →
     (test n ≡ true) ⊎ (test n ≡ false) → From test (suc n)
 more_from test n lo b on (inl is) = record {
@@ -73,16 +82,7 @@ last_rises test (suc n) lo b rises some = rises n (omega arith)
     (b.inside n (omega arith) (omega arith))
 
 from_there : (test : ℕ → Bool) (n : ℕ) → Rises test n → From test n
-from_there test zero rises = record {
-  lo = 0;
-  is = record {
-    order = omega arith;
-    within = omega arith;
-    before = λ k lt in_n. absurd (omega arith);
-    inside = λ k from lt. absurd (omega arith);
-    behind = λ k from lt. absurd (omega arith);
-  };
-}
+from_there test zero rises = record { lo = 0; is = none_between test }
 from_there test (suc n) rises =
     let others = from_there test n (fewer_rises test n rises) in
     more_from test n others.lo others.is (last_rises test n others.lo others.is rises)
@@ -130,16 +130,7 @@ last_falls test (suc n) hi b falls is = ⊎_elim
     (cases_lt hi (suc n))
 
 up_to_there : (test : ℕ → Bool) (n : ℕ) → Falls test n → UpTo test n
-up_to_there test zero falls = record {
-  hi = 0;
-  is = record {
-    order = omega arith;
-    within = omega arith;
-    before = λ k lt in_n. absurd (omega arith);
-    inside = λ k from lt. absurd (omega arith);
-    behind = λ k from lt. absurd (omega arith);
-  };
-}
+up_to_there test zero falls = record { hi = 0; is = none_between test }
 up_to_there test (suc n) falls =
     let others = up_to_there test n (fewer_falls test n falls) in
     more_up_to test n others.hi others.is (last_falls test n others.hi others.is falls)

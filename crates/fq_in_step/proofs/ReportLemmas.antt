@@ -16,7 +16,7 @@ use Rattle.fq_tally.specs.declared.side.SideTally.{SideTally}
 use Rattle.fq_tally.specs.declared.tally.Tally.{Tally}
 use Rattle.fq_tally.specs.Rows.{with_one, row_of, counted_all}
 use Rattle.fq_tally.specs.Courses.{Part, whole, Course, after, alone, course_of, course, part_at, survives}
-use Rattle.fq_tally.specs.Tallies.{with_part, with_read, with_pair, no_tally}
+use Rattle.fq_tally.specs.Tallies.{with_part, with_read, with_pair, no_side, no_tally}
 use Rattle.fq_tally.proofs.CourseLemmas.{alone_length}
 use Rattle.fq_tally.proofs.LeftLaws.{not_empty, survives_as_kept}
 use Rattle.fq_tally.proofs.RowLemmas.{length-with_one}
@@ -360,28 +360,16 @@ adds_up steps t a b o g all both only c same_a same_b same_o =
 -- on each side the dropped reads and the survivors add up to the reads before trimming
 pub reports_add_up : ReportsAddUp
 reports_add_up check e steps ms are some few =
-    let start : BothSides steps no_tally 0 0 0 0 = record {
-      forward_gone = 0;
-      reverse_gone = 0;
-      forward = record {
-        before = refl;
-        paired = refl;
-        unpaired = refl;
-        dropped = refl;
-        rows =
-            omega arith;
-        sum_is = refl;
-      };
-      reverse = record {
-        before = refl;
-        paired = refl;
-        unpaired = refl;
-        dropped = refl;
-        rows =
-            omega arith;
-        sum_is = refl;
-      };
+    let none : Counts steps no_side 0 0 0 0 = record {
+      before = refl;
+      paired = refl;
+      unpaired = refl;
+      dropped = refl;
+      rows = omega arith;
+      sum_is = refl;
     } in
+    let start : BothSides steps no_tally 0 0 0 0 =
+    record { forward_gone = 0; reverse_gone = 0; forward = none; reverse = none } in
     let end = all_counted check e steps ms no_tally 0 0 0 0 (some_step steps some) are (omega arith)
     start in
     let t = fold (with_pair (alone steps)) no_tally ms in (

@@ -1,16 +1,15 @@
 -- Inputs give pairs of valid reads, whose names match if they are checked.
-use Rattle.std.proofs.Common.{◌≡◌, ℕ, zero, suc, Bool, true, false, not, eqb, List, [], ◌∷◌, ◌++◌, length, map, flat_map, take_while, refl, ap, sym, subst, ◌∙◌, ⊎_elim}
+use Rattle.std.proofs.Common.{◌≡◌, ℕ, zero, suc, Bool, true, List, [], ◌∷◌, length, take_while, refl, ap, sym, subst, ◌∙◌, ⊎_elim}
 use Rattle.std.specs.List.{All, list_all}
-use Rattle.std.proofs.lemmas.Bool.{cond-true, cond-false, cases_Bool, and_parts, and_from, not_from_false}
+use Rattle.std.proofs.lemmas.Bool.{cond-true, cond-false, cases_Bool, and_parts}
 use Rattle.std.proofs.lemmas.List.Sums.{take_while-cons}
 use Rattle.std.proofs.lemmas.List.Folds.{list_all-append}
 use Rattle.std.proofs.lemmas.List.Elements.{All-nil, All-cons, All-head, All-tail}
 use Rattle.fq_text.specs.declared.encoding.Encoding.{Encoding}
-use Rattle.fq_text.specs.Lines.{pieces, before_first_piece, without_cr, lines}
+use Rattle.fq_text.specs.Lines.{lines}
 use Rattle.fq_text.specs.Grammar.{Read, Front, End, Faulty, Found, front}
 use Rattle.fq_text.specs.Records.{from_front, records_within, records}
-use Rattle.fq_text.proofs.LawfulLemmas.{front_is_lawful, front_encoding}
-use Rattle.fq_text.proofs.WrittenLemmas.{ends_in_cr_lf}
+use Rattle.fq_text.proofs.LawfulLemmas.{clean, clean_lines, lawful_lines, front_encoding}
 use Rattle.fq_pair.specs.Mates.{Mates, mates_in}
 use Rattle.fq_pair.specs.Pairing.{mates_of, belong}
 use Rattle.fq_pair.specs.Interleaved.{interleaved_mates}
@@ -18,61 +17,12 @@ use Rattle.fq_pair.specs.Forms.{TwoTexts, InterleavedText}
 use Rattle.fq_pair.proofs.TakenLemmas.{front_takes}
 use Rattle.fq_in_step.specs.InStep.{IsReadIn, IsPairIn, InputsGivePairs}
 
--- Lines.
-
--- a line has no LF
-abbrev clean : List ℕ → Bool
-clean l = list_all (λ (b : ℕ). not (eqb b 10)) l
-
-clean_first : (b : ℕ) (ps : List (List ℕ)) → eqb b 10 ≡ false → list_all clean ps ≡ true →
-    list_all clean (before_first_piece b ps) ≡ true
-clean_first b [] off all = and_from _ _ (and_from _ _ (not_from_false _ off) refl) refl
-clean_first b (p ∷ ps) off all = let parts = and_parts _ _ all in
-    and_from _ _ (and_from _ _ (not_from_false _ off) parts.0) parts.1
-
-clean_pieces : (text : List ℕ) → list_all clean (pieces text) ≡ true
-clean_pieces [] = refl
-clean_pieces (b ∷ bs) = ⊎_elim
-    (λ is. ap (list_all clean) (cond-true (eqb b 10) ([] ∷ pieces bs) (before_first_piece b
-    (pieces bs)) is) ∙ clean_pieces bs)
-    (λ is. ap (list_all clean) (cond-false (eqb b 10) ([] ∷ pieces bs) (before_first_piece b
-    (pieces bs)) is) ∙ clean_first b (pieces bs) is (clean_pieces bs))
-    (cases_Bool (eqb b 10))
-
-clean_without_cr : (l : List ℕ) → clean l ≡ true → clean (without_cr l) ≡ true
-clean_without_cr [] all = refl
-clean_without_cr (b ∷ []) all = ⊎_elim
-    (λ is. ap clean (cond-true (eqb b 13) [] (b ∷ []) is))
-    (λ is. ap clean (cond-false (eqb b 13) [] (b ∷ []) is) ∙ all)
-    (cases_Bool (eqb b 13))
-clean_without_cr (b ∷ c ∷ bs) all = let parts = and_parts _ _ all in
-    and_from _ _ parts.0 (clean_without_cr (c ∷ bs) parts.1)
-
-clean_map : (ps : List (List ℕ)) → list_all clean ps ≡ true →
-    list_all clean (map without_cr ps) ≡ true
-clean_map [] all = refl
-clean_map (p ∷ ps) all = let parts = and_parts _ _ all in
-    and_from _ _ (clean_without_cr p parts.0) (clean_map ps parts.1)
-
-clean_lines : (text : List ℕ) → list_all clean (lines text) ≡ true
-clean_lines text = clean_map (pieces text) (clean_pieces text)
-
--- such lines are the lines of their text
-text_of_lines : (ls : List (List ℕ)) → list_all clean ls ≡ true →
-    lines (flat_map (λ (l : List ℕ). l ++ 13 ∷ 10 ∷ []) ls) ≡ ls
-text_of_lines [] all = refl
-text_of_lines (l ∷ ls) all =
-    let parts = and_parts _ _ all in
-    ends_in_cr_lf l parts.0 (flat_map (λ (m : List ℕ). m ++ 13 ∷ 10 ∷ []) ls)
-    ∙ ap (λ (ms : List (List ℕ)). l ∷ ms) (text_of_lines ls parts.1)
-
 -- Reads.
 
 front_is_read : (e : Encoding) (ls : List (List ℕ)) (r : Read) (rest : List (List ℕ)) →
     list_all clean ls ≡ true → front e ls ≡ Found r rest → IsReadIn e r
 front_is_read e ls r rest all is = record {
-  lawful = front_is_lawful e (flat_map (λ (l : List ℕ). l ++ 13 ∷ 10 ∷ []) ls) r rest
-      (ap (front e) (text_of_lines ls all) ∙ is);
+  lawful = lawful_lines e ls r rest all is;
   same = front_encoding e ls r rest is;
 }
 
