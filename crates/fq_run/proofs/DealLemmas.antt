@@ -103,6 +103,24 @@ module _ {T : Type 0} where
   every_there (y ∷ xs) x (suc k) w lt e = every_there xs x k w (omega arith)
       (λ h. e (inner_after (length xs) w k lt h))
 
+  -- if each turn of one list begins that of another, the lists begin alike, and so do the turns of
+  -- what follows
+  after_first : (x y : T) (xs ys : List T) (w : ℕ) → 0 < w →
+      ((j : ℕ) → j < w → IsPrefix (every j w (x ∷ xs)) (every j w (y ∷ ys))) →
+      (x ≡ y) × ((j : ℕ) → j < w → IsPrefix (every j w xs) (every j w ys))
+  after_first x y xs ys w pos pre =
+      let p = pre 0 pos in
+      let q : x ∷ (every (w - 1) w xs ++ p.0) ≡ y ∷ every (w - 1) w ys = p.1 in
+      let head : x ≡ y = cc in
+      let tail : every (w - 1) w xs ++ p.0 ≡ every (w - 1) w ys = cc in
+      let P : ℕ → Type 0 = λ k. IsPrefix (every k w xs) (every k w ys) in (
+        head,
+        λ j lt. elim (cases_lt (suc j) w) [
+          | inl more ↦ pre (suc j) more
+          | inr last ↦ subst P (let e : w - 1 ≡ j = omega arith in e) (p.0, tail)
+        ],
+      )
+
   -- a list whose turns have all come, up to a list that has no more, is the whole list
   pub whole_from_turns : (xs ys : List T) (w : ℕ) → 0 < w →
       ((j : ℕ) → j < w → IsPrefix (every j w xs) (every j w ys)) →
@@ -116,17 +134,8 @@ module _ {T : Type 0} where
       let p = (pre 0 pos).1 in
       cc
   whole_from_turns (x ∷ xs) (y ∷ ys) w pos pre end =
-      let p = pre 0 pos in
-      let q : x ∷ (every (w - 1) w xs ++ p.0) ≡ y ∷ every (w - 1) w ys = p.1 in
-      let head : x ≡ y = cc in
-      let tail : every (w - 1) w xs ++ p.0 ≡ every (w - 1) w ys = cc in
-      let pre' : (j : ℕ) → j < w → IsPrefix (every j w xs) (every j w ys) = λ j lt.
-      (let P : ℕ → Type 0 = λ k. IsPrefix (every k w xs) (every k w ys) in
-      elim (cases_lt (suc j) w) [
-        | inl more ↦ pre (suc j) more
-        | inr last ↦ subst P (let e : w - 1
-            ≡ j = omega arith in e) (p.0, tail)
-      ]) in
+      let first = after_first x y xs ys w pos pre in
+      let head : x ≡ y = first.0 in
       let end' : every (length xs % w) w ys ≡ every (length xs % w) w xs =
       (let P : ℕ → Type 0 = λ k. every k w (y ∷ ys) ≡ every k w (x ∷ xs) in
       let Q : ℕ → Type 0 = λ k. every k w ys ≡ every k w xs in
@@ -138,7 +147,7 @@ module _ {T : Type 0} where
             let t : every (w - 1) w ys ≡ every (w - 1) w xs = cc in
             subst Q (let e : w - 1 ≡ length xs % w = omega arith in e) t)
       ]) in
-      let rest : xs ≡ ys = whole_from_turns xs ys w pos pre' end' in
+      let rest : xs ≡ ys = whole_from_turns xs ys w pos first.1 end' in
       cc
 
 module _ {T : Type 0} where
@@ -150,19 +159,9 @@ module _ {T : Type 0} where
       let p = (pre 0 pos).1 in
       cc
   prefix_from_turns (x ∷ xs) (y ∷ ys) w pos pre =
-      let p = pre 0 pos in
-      let q : x ∷ (every (w - 1) w xs ++ p.0) ≡ y ∷ every (w - 1) w ys = p.1 in
-      let head : x ≡ y = cc in
-      let tail : every (w - 1) w xs ++ p.0 ≡ every (w - 1) w ys = cc in
-      let pre' : (j : ℕ) → j < w → IsPrefix (every j w xs) (every j w ys) = λ j lt.
-      (let P : ℕ → Type 0 = λ k. IsPrefix (every k w xs) (every k w ys) in
-      elim (cases_lt (suc j) w) [
-        | inl more ↦ pre (suc j) more
-        | inr last ↦ subst P (let e : w - 1
-            ≡ j = omega arith in e) (p.0, tail)
-      ]) in
-      let rest = prefix_from_turns xs ys w pos pre' in
-      (rest.0, ap (λ z. z ∷ (xs ++ rest.0)) head ∙ ap (λ zs. y ∷ zs) rest.1)
+      let first = after_first x y xs ys w pos pre in
+      let rest = prefix_from_turns xs ys w pos first.1 in
+      (rest.0, ap (λ z. z ∷ (xs ++ rest.0)) first.0 ∙ ap (λ zs. y ∷ zs) rest.1)
 
 -- what is dealt of mapped members is what is dealt of the members, mapped
 pub every-map : {A B : Type 0} (f : A → B) (k w : ℕ) (xs : List A) →

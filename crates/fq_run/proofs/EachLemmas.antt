@@ -1,9 +1,14 @@
 -- Facts about members at the same index, and what is known of new lanes.
-use Rattle.std.proofs.Common.{◌≡◌, false, List, [], ◌∷◌, ◌++◌, length, sym, ap, ◌∙◌, subst, Result, Ok, Err, IfOk}
+use Rattle.std.proofs.Common.{◌≡◌, ℕ, ◌+◌, false, List, [], ◌∷◌, ◌++◌, length, length-append, sym, ap, ◌∙◌, subst, arith, Result, Ok, Err, IfOk}
 use Rattle.std.specs.List.{AllZip}
 use Rattle.fq_lane.specs.History.{History, Name}
 use Rattle.fq_run.specs.Each.{Each3}
 use Rattle.fq_run.specs.lanes.Laying.{fresh}
+
+-- as many members were made as were taken, after one more of each
+pub one_counted : {A : Type 0} {new old : ℕ} (taken : List A) (x : A) → new ≡ old + 1 →
+    old ≡ length taken → new ≡ length (taken ++ x ∷ [])
+one_counted taken x more same = omega (arith, length-append taken (x ∷ []))
 
 module _ {A B : Type 0} (R : A → B → Type 0) where
   -- what holds at each index of two lists still holds after a member is added to each

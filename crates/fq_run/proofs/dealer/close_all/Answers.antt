@@ -1,19 +1,14 @@
-use Rattle.std.proofs.Common.{arith, subst, ◌∙◌, length-append, [], ◌∷◌}
+use Rattle.std.proofs.Common.{subst, ◌∙◌}
 use Rattle.fq_run.specs.dealer.Dealt.{Closed}
-use Rattle.fq_run.proofs.EachLemmas.{zip_pushed}
+use Rattle.fq_run.proofs.EachLemmas.{one_counted, zip_pushed}
 use Rattle.fq_run.proofs.dealer.close_all.Goals as goal
 
 -- one more lane is closed: its end, if it has one, is what was sent, with the mark
 pub loop-ends-preserved : goal.loop-ends-preserved
 loop-ends-preserved c = record {
   room = c.push_reserved.ensures.capacity ∙ c.loop-ends.invariant.room;
-  count = omega (
-    arith,
-    c.push_reserved.ensures.len,
-    c.loop-ends.invariant.count,
-    length-append
-        c.loop-ends.yielded (c.in-Some.ends ∷ []),
-  );
+  count = one_counted c.loop-ends.yielded c.in-Some.ends c.push_reserved.ensures.len
+      c.loop-ends.invariant.count;
   closed = zip_pushed Closed _ _ _ _ _ c.loop-ends.invariant.closed
       (subst (λ to. Closed to c.close.result) c.ends.view_is c.close.ensures)
       c.push_reserved.ensures.items;

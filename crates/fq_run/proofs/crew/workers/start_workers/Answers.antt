@@ -1,20 +1,15 @@
 -- One more worker is started.
-use Rattle.std.proofs.Common.{arith, ◌∙◌, length-append, [], ◌∷◌}
+use Rattle.std.proofs.Common.{◌∙◌}
 use Rattle.fq_run.specs.crew.Workers.{Seated}
-use Rattle.fq_run.proofs.EachLemmas.{zip_pushed}
+use Rattle.fq_run.proofs.EachLemmas.{one_counted, zip_pushed}
 use Rattle.fq_run.proofs.crew.workers.start_workers.Goals as goal
 
 -- the handle of one more worker names the ends of its seat
 pub loop-ends-preserved : goal.loop-ends-preserved
 loop-ends-preserved g c = record {
   room = c.push_reserved.ensures.capacity ∙ c.loop-ends.invariant.room;
-  count = omega (
-    arith,
-    c.push_reserved.ensures.len,
-    c.loop-ends.invariant.count,
-    length-append
-        c.loop-ends.yielded (c.in-Some.ends ∷ []),
-  );
+  count = one_counted c.loop-ends.yielded c.in-Some.ends c.push_reserved.ensures.len
+      c.loop-ends.invariant.count;
   seated = zip_pushed (Seated c.args.settings.now.tallied c.args.settings.now.steps) _ _ _ _ _
       c.loop-ends.invariant.seated c.in-Some-start_worker.ensures c.push_reserved.ensures.items;
 }
