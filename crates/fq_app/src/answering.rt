@@ -17,10 +17,10 @@ ghost use Rattle.clap.specs.Words.{kind_of};
 ghost use Rattle.clap.specs.declared.error.kind.ErrorKind.TheVariants.{DisplayHelp, DisplayVersion, OutOfMemory};
 
 use crate::example::example;
+use crate::example_failed::ExampleFailed;
 use crate::refusal_line::{refusal_line, refusal_status};
 use crate::telling::{cannot_print, cannot_report, out_of_memory, tell_account};
 use crate::trimming::{Completed, trim_files};
-use crate::unshown::Unshown;
 use crate::usage::usage_lines;
 use clap::Error;
 use clap::error::ErrorKind;
@@ -274,8 +274,8 @@ fn print_example<R: Threads + Wait + Copy + Send + 'static, O: Outlet, E: Outlet
             Ok(()) => 0,
             Err(_) => cannot_print(err),
         },
-        Err(Unshown::Unrun(ran)) => tell_account(alloc, None, Seen::NOTHING, &ran, out, err),
-        Err(Unshown::Memory(refused)) => out_of_memory(err, refused),
+        Err(ExampleFailed::Unrun(ran)) => tell_account(alloc, None, Seen::NOTHING, &ran, out, err),
+        Err(ExampleFailed::Memory(refused)) => out_of_memory(err, refused),
     }
 }
 

@@ -10,9 +10,9 @@ ghost use Rattle.fq_app.specs.Example.{AreEmpty, example_choices, example_text, 
 ghost use Rattle.fq_files_run.specs.Faults.{outcome_status};
 ghost use Rattle.fq_files_run.specs.Trimming.{pairs_of, TrimsPairs};
 ghost use Rattle.fq_files_run.specs.declared.account.Account.{Account};
-ghost use Rattle.fq_app.specs.declared.unshown.Unshown.TheVariants.{Unrun};
+ghost use Rattle.fq_app.specs.declared.example_failed.ExampleFailed.TheVariants.{Unrun};
 
-use crate::unshown::Unshown;
+use crate::example_failed::ExampleFailed;
 use fq_files_run::Account;
 use fq_pair::{Counts, summary};
 use fq_run::{CALL_LIMIT, Ending, Outcome, Outlets, Settings, run_threads};
@@ -103,7 +103,7 @@ impl From<OutOfMemory> for Why {
 pub(crate) fn example<R: Threads + Wait + Copy + Send + 'static>(
     alloc: Global,
     rt: &R,
-) -> Result<Vec<u8>, Unshown>
+) -> Result<Vec<u8>, ExampleFailed>
     ensures text { IfOk result (λ text. text.items ≡ example_text) }
     ensures unrun { IfErr result (λ why. (account : Account)
         → why ≡ Unrun account → outcome_status account.outcome ≡ 6) }
@@ -111,14 +111,14 @@ pub(crate) fn example<R: Threads + Wait + Copy + Send + 'static>(
     match text(alloc, rt) {
         Ok(text) => Ok(text),
         // The example's settings ask for no tally.
-        Err(Why::Unrun(outcome, counts)) => Err(Unshown::Unrun(Account {
+        Err(Why::Unrun(outcome, counts)) => Err(ExampleFailed::Unrun(Account {
             outcome,
             counts,
             tally: None,
             unended: None,
             refused: None,
         })),
-        Err(Why::Memory(refused)) => Err(Unshown::Memory(refused)),
+        Err(Why::Memory(refused)) => Err(ExampleFailed::Memory(refused)),
     }
 }
 

@@ -7,10 +7,10 @@
 
 mod answering;
 mod example;
+mod example_failed;
 mod refusal_line;
 mod telling;
 mod trimming;
-mod unshown;
 mod usage;
 
 pub use answering::program;
