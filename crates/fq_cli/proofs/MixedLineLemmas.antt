@@ -6,7 +6,7 @@ use Rattle.clap.specs.Walk.{Text, Row, Walk, value, settled, walk_from, walk, no
 use Rattle.clap.specs.Faults.{settle_fault, step_fault, walk_fault, defaults_fault, check_fault, level_fault}
 use Rattle.clap.proofs.OnLiterals.{clap_on_literals}
 use Rattle.fq_cli.specs.Requests.{Asking, interleaved_file}
-use Rattle.fq_cli.specs.Words.{most, is_own_name, asked_in, asking_in, pairs_asked}
+use Rattle.fq_cli.specs.Words.{most, is_own_name, asked_in, asking_in, pairs_asked, AskedFor}
 use Rattle.fq_cli.specs.CommandLines.{IsPlain, FitsIfGiven, Options, option_words, asking_with, ArePlain, MixedPairsAreAskedFor}
 use Rattle.fq_cli.proofs.PlainWordLemmas.{IsOpen, value_walk, value_faults, values_walked, value_faults_are, faults_then}
 use Rattle.fq_cli.proofs.OptionLemmas.{mixed_input, mixed_others, mixed_leaf, opened, after_options, options_sound, options_read, options_faultless}
@@ -195,31 +195,26 @@ module _ (f fp fu rp ru : Text) (o : Options) (plain : ArePlain o) (step : Text)
       ∙ mixed_end_sound f fp fu rp ru step steps o.log o.report o.encoding o.threads
 
   mixed_ask : (program : Text) →
-      pairs_asked (program ∷ codes "IL" ∷ (option_words o ++ mixed_words))
-      ≡ Some (asking_with (is_own_name program) o (interleaved_file f) (record {
+      AskedFor (program ∷ codes "IL" ∷ (option_words o ++ mixed_words))
+      (Some (asking_with (is_own_name program) o (interleaved_file f) (record {
         forward_paired = fp;
-        forward_unpaired =
-            fu;
+        forward_unpaired = fu;
         reverse_paired = rp;
         reverse_unpaired = ru;
-      }) (step ∷ steps))
+      }) (step ∷ steps)))
   unfolding pairs_asked
-  mixed_ask program =
-      ap (asked_in (is_own_name program)) (mixed_entered program (option_words o ++ mixed_words))
-      ∙ ap (λ (w : Walk). asked_in (is_own_name program)
-      (Some (codes "IL", finished mixed_leaf.rules w.held))) mixed_walk
-      ∙ mixed_found f fp fu rp ru step (is_own_name program) steps o plain.threads
+  mixed_ask program = record {
+    parse = mixed_parse program (option_words o ++ mixed_words) mixed_level;
+    ask = ap (asked_in (is_own_name program))
+        (mixed_entered program (option_words o ++ mixed_words))
+        ∙ ap (λ (w : Walk). asked_in (is_own_name program)
+        (Some (codes "IL", finished mixed_leaf.rules w.held))) mixed_walk
+        ∙ mixed_found f fp fu rp ru step (is_own_name program) steps o plain.threads;
+  }
 
 -- `IL [options] I FP FU RP RU STEPS..` asks for these names, steps and values
 pub mixed_pairs_are_asked_for : MixedPairsAreAskedFor
 mixed_pairs_are_asked_for program f o names [] plain are all = absurd (are.some refl)
 mixed_pairs_are_asked_for program f o names (step ∷ steps) plain are all =
-    let words = mixed_words f names.forward_paired names.forward_unpaired names.reverse_paired
-    names.reverse_unpaired o plain step steps are.fit all in
-    record {
-      parse = mixed_parse program (option_words o ++ words)
-          (mixed_level f names.forward_paired names.forward_unpaired names.reverse_paired
-          names.reverse_unpaired o plain step steps are.fit all);
-      ask = mixed_ask f names.forward_paired names.forward_unpaired names.reverse_paired
-          names.reverse_unpaired o plain step steps are.fit all program;
-    }
+    mixed_ask f names.forward_paired names.forward_unpaired names.reverse_paired
+    names.reverse_unpaired o plain step steps are.fit all program

@@ -6,7 +6,7 @@ use Rattle.clap.specs.Walk.{Text, Row, Walk, value, settled, walk_from, walk, no
 use Rattle.clap.specs.Faults.{settle_fault, step_fault, walk_fault, defaults_fault, check_fault, level_fault}
 use Rattle.clap.proofs.OnLiterals.{clap_on_literals}
 use Rattle.fq_cli.specs.Requests.{Asking, two_files}
-use Rattle.fq_cli.specs.Words.{most, is_own_name, asked_in, asking_in, pairs_asked}
+use Rattle.fq_cli.specs.Words.{most, is_own_name, asked_in, asking_in, pairs_asked, AskedFor}
 use Rattle.fq_cli.specs.CommandLines.{IsPlain, FitsIfGiven, Options, option_words, asking_with, ArePlain, PairsAreAskedFor}
 use Rattle.fq_cli.proofs.PlainWordLemmas.{IsOpen, value_walk, value_faults, values_walked, value_faults_are, faults_then}
 use Rattle.fq_cli.proofs.OptionLemmas.{pairs_input, pairs_others, pairs_leaf, opened, after_options, options_sound, options_read, options_faultless}
@@ -195,31 +195,26 @@ module _ (f r fp fu rp ru : Text) (o : Options) (plain : ArePlain o) (step : Tex
       ∙ pairs_end_sound f r fp fu rp ru step steps o.log o.report o.encoding o.threads
 
   pairs_ask : (program : Text) →
-      pairs_asked (program ∷ codes "PE" ∷ (option_words o ++ pairs_words))
-      ≡ Some (asking_with (is_own_name program) o (two_files f r) (record {
+      AskedFor (program ∷ codes "PE" ∷ (option_words o ++ pairs_words))
+      (Some (asking_with (is_own_name program) o (two_files f r) (record {
         forward_paired = fp;
-        forward_unpaired =
-            fu;
+        forward_unpaired = fu;
         reverse_paired = rp;
         reverse_unpaired = ru;
-      }) (step ∷ steps))
+      }) (step ∷ steps)))
   unfolding pairs_asked
-  pairs_ask program =
-      ap (asked_in (is_own_name program)) (pairs_entered program (option_words o ++ pairs_words))
-      ∙ ap (λ (w : Walk). asked_in (is_own_name program)
-      (Some (codes "PE", finished pairs_leaf.rules w.held))) pairs_walk
-      ∙ pairs_found f r fp fu rp ru step (is_own_name program) steps o plain.threads
+  pairs_ask program = record {
+    parse = pairs_parse program (option_words o ++ pairs_words) pairs_level;
+    ask = ap (asked_in (is_own_name program))
+        (pairs_entered program (option_words o ++ pairs_words))
+        ∙ ap (λ (w : Walk). asked_in (is_own_name program)
+        (Some (codes "PE", finished pairs_leaf.rules w.held))) pairs_walk
+        ∙ pairs_found f r fp fu rp ru step (is_own_name program) steps o plain.threads;
+  }
 
 -- `PE [options] F R FP FU RP RU STEPS..` asks for these names, steps and values
 pub pairs_are_asked_for : PairsAreAskedFor
 pairs_are_asked_for program f r o names [] plain are all = absurd (are.some refl)
 pairs_are_asked_for program f r o names (step ∷ steps) plain are all =
-    let words = pairs_words f r names.forward_paired names.forward_unpaired names.reverse_paired
-    names.reverse_unpaired o plain step steps are.fit all in
-    record {
-      parse = pairs_parse program (option_words o ++ words)
-          (pairs_level f r names.forward_paired names.forward_unpaired names.reverse_paired
-          names.reverse_unpaired o plain step steps are.fit all);
-      ask = pairs_ask f r names.forward_paired names.forward_unpaired names.reverse_paired
-          names.reverse_unpaired o plain step steps are.fit all program;
-    }
+    pairs_ask f r names.forward_paired names.forward_unpaired names.reverse_paired
+    names.reverse_unpaired o plain step steps are.fit all program
