@@ -2,7 +2,8 @@
 use Rattle.std.proofs.Common.{◌≡◌, ◌≢◌, ◌⊎◌, ◌∙◌, ℕ, suc, Bool, true, false, IsTrue, IsSome, Option, Some, None, [], ◌∷◌, List, codes, length, inl, inr, ⊎_elim, refl, sym, ap, subst, arith}
 use Rattle.std.proofs.lemmas.List.{take_all}
 use Rattle.std.specs.List.{All}
-use Rattle.fq_files.specs.Holding.{Holding, Names, IsUnchanged, MayRefuse}
+use Rattle.fq_files.specs.Holding.{Holding, IsUnchanged}
+use Rattle.fq_files.specs.States.{FilesState, MayRefuse}
 use Rattle.fq_pair.specs.declared.counts.Counts.{Counts}
 use Rattle.fq_pair.specs.declared.side.Side.{Side}
 use Rattle.clap.specs.Kinds.{IsAmong, Kinds}
@@ -29,7 +30,7 @@ use Rattle.fq_files_run.specs.declared.refusal.Refusal.{Refusal}
 use Rattle.fq_files_run.specs.declared.reporting.Reported.{Reported}
 use Rattle.fq_files_run.specs.declared.reporting.Reported.TheVariants as report
 use Rattle.fq_files_run.specs.Opening.{IsRefusable}
-use Rattle.fq_files_run.specs.Completing.{Failed, HasFailed, ReportFailed}
+use Rattle.fq_files_run.specs.Completing.{HasFailed, ReportFailed}
 use Rattle.fq_files_run.specs.Reporting.{HoldsReport, ReportHeld}
 use Rattle.fq_files_run.specs.declared.refusal.Refusal.TheVariants as why
 
@@ -102,11 +103,12 @@ refuses_fails a refusal err status (inr lacks) =
     )
 
 -- refused memory has its line
-lacks_line : (a : Asking) (told : Bool) (old new : Holding) (out err : Device) (status : ℕ) →
-    LacksMemory err status → (IsTrue told → AreLeft a old new)
-    → (IsTrue told → (name : List ℕ) → a.report ≡ Some name → IsReportUncut a old new name) →
-    TookLine a told old new out err status
-lacks_line a told old new out err status lacks left report_left = record {
+lacks_line : (a : Asking) (old new : FilesState) (out err : Device) (status : ℕ) →
+    LacksMemory err status → (IsTrue old.tells → AreLeft a old.bytes new.bytes)
+    → (IsTrue old.tells → (name : List ℕ) → a.report ≡ Some name →
+    IsReportUncut a old.bytes new.bytes name) →
+    TookLine a old new out err status
+lacks_line a old new out err status lacks left report_left = record {
   text = memory_line;
   fits = inr (inr (inl (record {
     status_is = lacks.status_is;
@@ -136,25 +138,28 @@ uncut_left a old new name uncut = ⊎_elim (λ kept. inl kept)
     (λ holds. whole_begins a old new name holds) uncut
 
 -- a request that ends because memory was refused
-pub lacks_answer : (a : Asking) (told : Bool) (old new : Holding) (out err : Device) (status : ℕ) →
-    LacksMemory err status → (IsTrue told → AreLeft a old new)
-    → (IsTrue told → (name : List ℕ) → a.report ≡ Some name → IsReportUncut a old new name)
-    → (IsTrue told → (side : Side) → old (input_name a.inputs side) ≡ None → IsUnchanged old new) →
-    PairsAnswered a told old new out err status
-lacks_answer a told old new out err status lacks left report_left unopened =
+pub lacks_answer : (a : Asking) (old new : FilesState) (out err : Device) (status : ℕ) →
+    LacksMemory err status → (IsTrue old.tells → AreLeft a old.bytes new.bytes)
+    → (IsTrue old.tells → (name : List ℕ) → a.report ≡ Some name →
+    IsReportUncut a old.bytes new.bytes name)
+    → (IsTrue old.tells → (side : Side) → old.bytes (input_name a.inputs side) ≡ None →
+    IsUnchanged old.bytes new.bytes) →
+    PairsAnswered a old new out err status
+lacks_answer a old new out err status lacks left report_left unopened =
     let five = lacks.status_is in
     record {
       whole = λ ends. absurd (⊎_elim (λ zero. omega (arith, zero, five)) (λ three. omega
           (arith, three, five)) ends);
       wrong = λ refusal is. inr lacks;
       right = λ two. absurd (omega (arith, two, five));
-      line = λ other. lacks_line a told old new out err status lacks left report_left;
+      line = λ other. lacks_line a old new out err status lacks left report_left;
       known = λ one. absurd (omega (arith, one, five));
       left = λ other. left;
       reported =
           λ ends. absurd (⊎_elim (λ zero. omega (arith, zero, five)) (λ three. omega
           (arith, three, five)) ends);
-      report_left = λ tells name named. uncut_left a old new name (report_left tells name named);
+      report_left = λ tells name named. uncut_left a old.bytes new.bytes name
+          (report_left tells name named);
       unopened = unopened;
     }
 
@@ -163,16 +168,17 @@ there_is None none = absurd (none refl)
 there_is (Some x) none = refl
 
 -- a request that is refused
-pub refused_answer : (a : Asking) (told : Bool) (old new : Holding) (out err : Device) (status : ℕ)
+pub refused_answer : (a : Asking) (old new : FilesState) (out err : Device) (status : ℕ)
     (refusal : Refusal) → Refuses a refusal err status
     → ((other : Refusal) → wrong_with a ≡ Some other → refusal ≡ other) →
     (wrong_with a ≡ None → status_of refusal ≢ 2)
-    → (IsTrue told → RefusalLeaves a refusal old new)
-    → (IsTrue told → (name : List ℕ) → a.report ≡ Some name → IsNoOutput a name →
-    ReportLeft refusal (old name) (new name))
-    → (IsTrue told → (side : Side) → old (input_name a.inputs side) ≡ None → IsUnchanged old new) →
-    PairsAnswered a told old new out err status
-refused_answer a told old new out err status refusal (inl refuses) first late left report_left
+    → (IsTrue old.tells → RefusalLeaves a refusal old.bytes new.bytes)
+    → (IsTrue old.tells → (name : List ℕ) → a.report ≡ Some name → IsNoOutput a name →
+    ReportLeft refusal (old.bytes name) (new.bytes name))
+    → (IsTrue old.tells → (side : Side) → old.bytes (input_name a.inputs side) ≡ None →
+    IsUnchanged old.bytes new.bytes) →
+    PairsAnswered a old new out err status
+refused_answer a old new out err status refusal (inl refuses) first late left report_left
     unopened =
     let own = refusal_fails refusal in
     let is = refuses.0 in
@@ -196,38 +202,39 @@ refused_answer a told old new out err status refusal (inl refuses) first late le
         took = refuses.1;
       };
       known = λ one. own.1 (sym is ∙ one);
-      left = λ other tells. inl (refusal_untrimmed a refusal old new (left tells));
+      left = λ other tells. inl (refusal_untrimmed a refusal old.bytes new.bytes (left tells));
       reported =
           λ ends. absurd (⊎_elim (λ zero. own.0 (sym is ∙ zero)) (λ three. own.2 (sym is ∙ three))
           ends);
       report_left =
-          λ tells name named. inl (report_untrimmed a refusal old new (left tells)
+          λ tells name named. inl (report_untrimmed a refusal old.bytes new.bytes (left tells)
           (report_left tells) name named);
       unopened = unopened;
     }
-refused_answer a told old new out err status refusal (inr lacks) first late left report_left
+refused_answer a old new out err status refusal (inr lacks) first late left report_left
     unopened =
-    lacks_answer a told old new out err status lacks
-    (λ tells. inl (refusal_untrimmed a refusal old new (left tells)))
-    (λ tells name named. inl (report_untrimmed a refusal old new (left tells) (report_left tells)
-    name named)) unopened
+    lacks_answer a old new out err status lacks
+    (λ tells. inl (refusal_untrimmed a refusal old.bytes new.bytes (left tells)))
+    (λ tells name named. inl (report_untrimmed a refusal old.bytes new.bytes (left tells)
+    (report_left tells) name named)) unopened
 
 -- What is known of a run that was made: what its outputs hold, whether its report was due, and what
 -- the report holds.
-pub record IsRun (a : Asking) (told : Bool) (old new : Holding) (outcome : Outcome)
+pub record IsRun (a : Asking) (old new : FilesState) (outcome : Outcome)
     (counts : Counts) (reported : Reported) : Type 0 where
   -- if it ended whole, all pairs were trimmed
-  pub trims : IsTrue told → IsTrue (ends_whole outcome) → TrimsFiles a old new outcome counts
+  pub trims : IsTrue old.tells → IsTrue (ends_whole outcome) →
+      TrimsFiles a old.bytes new.bytes outcome counts
   -- unless a lane was not confirmed, the outputs hold the texts of first pairs
-  pub ended : IsTrue told → outcome ≢ Lane → HoldFirstPairs a old new outcome
+  pub ended : IsTrue old.tells → outcome ≢ Lane → HoldFirstPairs a old.bytes new.bytes outcome
   -- a report is due only if the status is 0 or 3
   pub due : reported ≢ report.NotDue → (outcome_status outcome ≡ 0) ⊎ (outcome_status outcome ≡ 3)
   -- if one was asked for and not due, the status is neither 0 nor 3
   pub not_due : reported ≡ report.NotDue → IsSome a.report →
       (outcome_status outcome ≢ 0) × (outcome_status outcome ≢ 3)
   -- what the file of the report holds depends on what became of the report
-  pub held : IsTrue told → (name : List ℕ) → a.report ≡ Some name →
-      ReportHeld reported a old new name
+  pub held : IsTrue old.tells → (name : List ℕ) → a.report ≡ Some name →
+      ReportHeld reported a old.bytes new.bytes name
 
 is_wanted : (o : Option (List ℕ)) (name : List ℕ) → o ≡ Some name → IsSome o
 is_wanted (Some n) name e = refl
@@ -239,11 +246,12 @@ not_lane outcome is lane =
     let six : outcome_status outcome ≡ 6 = ap outcome_status lane in
     ⊎_elim (λ zero. omega (arith, six, zero)) (λ three. omega (arith, six, three)) is
 
-module _ (a : Asking) (told : Bool) (old new : Holding) (outcome : Outcome) (counts : Counts)
-    (reported : Reported) (run : IsRun a told old new outcome counts reported) where
-  held_as : (is : Reported) → reported ≡ is → IsTrue told → (name : List ℕ) → a.report ≡ Some name →
-      ReportHeld is a old new name
-  held_as is same tells name named = let P : Reported → Type 0 = λ r. ReportHeld r a old new name in
+module _ (a : Asking) (old new : FilesState) (outcome : Outcome) (counts : Counts)
+    (reported : Reported) (run : IsRun a old new outcome counts reported) where
+  held_as : (is : Reported) → reported ≡ is → IsTrue old.tells → (name : List ℕ) →
+      a.report ≡ Some name → ReportHeld is a old.bytes new.bytes name
+  held_as is same tells name named =
+      let P : Reported → Type 0 = λ r. ReportHeld r a old.bytes new.bytes name in
       subst P same (run.held tells name named)
 
   due_as : (is : Reported) → reported ≡ is → is ≢ report.NotDue →
@@ -253,29 +261,30 @@ module _ (a : Asking) (told : Bool) (old new : Holding) (outcome : Outcome) (cou
   -- if the run ended whole, a report that was written or not due holds the defined text
   pub is_held : (reported ≡ report.NotDue) ⊎ (reported ≡ report.Written) →
       (outcome_status outcome ≡ 0) ⊎ (outcome_status outcome ≡ 3)
-      → IsTrue told → (name : List ℕ) → a.report ≡ Some name → HoldsReport a old new name
+      → IsTrue old.tells → (name : List ℕ) → a.report ≡ Some name →
+      HoldsReport a old.bytes new.bytes name
   is_held (inl none) ends tells name named =
       let other = run.not_due none (is_wanted a.report name named) in
       absurd (⊎_elim other.0 other.1 ends)
   is_held (inr written) ends tells name named = held_as report.Written written tells name named
 
   -- if the run did not end whole, the report is empty
-  is_empty : (reported ≡ report.NotDue) ⊎ (reported ≡ report.Written) → IsTrue told →
+  is_empty : (reported ≡ report.NotDue) ⊎ (reported ≡ report.Written) → IsTrue old.tells →
       outcome_status outcome ≢ 0 → outcome_status outcome ≢ 3
-      → (name : List ℕ) → a.report ≡ Some name → new name ≡ Some []
+      → (name : List ℕ) → a.report ≡ Some name → new.bytes name ≡ Some []
   is_empty (inl none) tells some other name named = held_as report.NotDue none tells name named
   is_empty (inr written) tells some other name named =
       absurd (⊎_elim some other (due_as report.Written written (λ e. absurd (cc e))))
 
   -- a report that was written or not due is whole or empty
-  is_uncut : (reported ≡ report.NotDue) ⊎ (reported ≡ report.Written) → IsTrue told →
-      (name : List ℕ) → a.report ≡ Some name → IsReportUncut a old new name
+  is_uncut : (reported ≡ report.NotDue) ⊎ (reported ≡ report.Written) → IsTrue old.tells →
+      (name : List ℕ) → a.report ≡ Some name → IsReportUncut a old.bytes new.bytes name
   is_uncut (inl none) tells name named = inl (inr (held_as report.NotDue none tells name named))
   is_uncut (inr written) tells name named = inr (held_as report.Written written tells name named)
 
   -- the line of a run that was made
   pub told_line : (seen : Seen) (out err : Device) (status : ℕ) →
-      Tells a seen outcome reported out err status → TookLine a told old new out err status
+      Tells a seen outcome reported out err status → TookLine a old new out err status
   told_line seen out err status (inl (which, inl ending)) = record {
     text = ending_line a seen outcome;
     fits = inl (inr (record {
@@ -308,7 +317,7 @@ module _ (a : Asking) (told : Bool) (old new : Holding) (outcome : Outcome) (cou
     took = unprinted.1.2;
   }
   told_line seen out err status (inl (which, inr (inr untold))) =
-      lacks_line a told old new out err status untold.1
+      lacks_line a old new out err status untold.1
       (λ tells. inr (outcome, run.ended tells untold.0)) (λ tells. is_uncut which tells)
   told_line seen out err status (inr (inl failed)) =
       let due = due_as report.Failed failed.0 (λ e. absurd (cc e)) in record {
@@ -329,7 +338,7 @@ module _ (a : Asking) (told : Bool) (old new : Holding) (outcome : Outcome) (cou
       }
   told_line seen out err status (inr (inr lacks)) =
       let due = due_as (report.OutOfMemory lacks.0.0) lacks.0.1 (λ e. absurd (cc e)) in
-      lacks_line a told old new out err status lacks.1
+      lacks_line a old new out err status lacks.1
       (λ tells. inr (outcome, run.ended tells (not_lane outcome due)))
       (λ tells name named. inl (inr (held_as (report.OutOfMemory lacks.0.0) lacks.0.1 tells name
       named)))
@@ -340,12 +349,12 @@ four_not_five : (n : ℕ) → n ≡ 4 → n ≡ 5 → ⊥
 four_not_five n four five = absurd (omega (arith, four, five))
 
 -- what was refused
-pub refused_device : (a : Asking) (tells : Bool) (old : Holding) (refuses opened : Names)
+pub refused_device : (a : Asking) (old : FilesState)
     (err : Device) (status : ℕ) (refusal : Refusal) → Refuses a refusal err status
-    → (IsTrue tells → TellsInputs a.inputs refusal old refuses opened) →
-    IsRefusable a (MayRefuse refuses opened) refusal → status ≡ 4 →
-    NamesRefused a tells old refuses opened err
-refused_device a tells old refuses opened err status refusal (inl refuses_so) inputs refused four =
+    → (IsTrue old.tells → TellsInputs a.inputs refusal old) →
+    IsRefusable a (MayRefuse old) refusal → status ≡ 4 →
+    NamesRefused a old err
+refused_device a old err status refusal (inl refuses_so) inputs refused four =
     record {
       why = refusal;
       status_is = sym refuses_so.0 ∙ four;
@@ -354,7 +363,7 @@ refused_device a tells old refuses opened err status refusal (inl refuses_so) in
           inputs;
       refused = refused;
     }
-refused_device a tells old refuses opened err status refusal (inr lacks) inputs refused four =
+refused_device a old err status refusal (inr lacks) inputs refused four =
     absurd (four_not_five status four lacks.status_is)
 
 four_not_lane : (outcome : Outcome) → outcome_status outcome ≡ 4 → outcome ≢ Lane
@@ -362,14 +371,14 @@ four_not_lane outcome four lane = let six : outcome_status outcome ≡ 6 = ap ou
     absurd (omega (arith, four, six))
 
 -- what has failed
-pub failed_device : (a : Asking) (tells : Bool) (old : Holding) (refuses opened : Names)
-    (failed : Failed) (out err : Device) (status : ℕ) (seen : Seen) (outcome : Outcome)
-    (reported : Reported) → (outcome ≢ Lane → HasFailed a tells old failed outcome) →
-    (IsTrue tells → settled outcome ≡ outcome) →
-    (reported ≡ report.Failed → ReportFailed a failed)
+pub failed_device : (a : Asking) (old new : FilesState)
+    (out err : Device) (status : ℕ) (seen : Seen) (outcome : Outcome)
+    (reported : Reported) → (outcome ≢ Lane → HasFailed a old new outcome) →
+    (IsTrue old.tells → settled outcome ≡ outcome) →
+    (reported ≡ report.Failed → ReportFailed a new)
     → Tells a seen outcome reported out err status → status ≡ 4 →
-    NamesDevice a tells old refuses opened failed out err
-failed_device a tells old refuses opened failed out err status seen outcome reported fails as_it_is
+    NamesDevice a old new out err
+failed_device a old new out err status seen outcome reported fails as_it_is
     report_fails (inl (which, inl ending)) four =
     let is = sym ending.0 ∙ four in
     inr (inl (record {
@@ -381,16 +390,16 @@ failed_device a tells old refuses opened failed out err status seen outcome repo
           fails (four_not_lane outcome is);
       as_it_is = as_it_is;
     }))
-failed_device a tells old refuses opened failed out err status seen outcome reported fails as_it_is
+failed_device a old new out err status seen outcome reported fails as_it_is
     report_fails (inl (which, inr (inl unprinted))) four =
     inr (inr (inl (unprinted.1.0, unprinted.1.2)))
-failed_device a tells old refuses opened failed out err status seen outcome reported fails as_it_is
+failed_device a old new out err status seen outcome reported fails as_it_is
     report_fails (inl (which, inr (inr untold))) four =
     absurd (four_not_five status four untold.1.status_is)
-failed_device a tells old refuses opened failed out err status seen outcome reported fails as_it_is
+failed_device a old new out err status seen outcome reported fails as_it_is
     report_fails (inr (inl unwritten)) four =
     inr (inr (inr (report_fails unwritten.0, unwritten.2)))
-failed_device a tells old refuses opened failed out err status seen outcome reported fails as_it_is
+failed_device a old new out err status seen outcome reported fails as_it_is
     report_fails (inr (inr lacks)) four =
     absurd (four_not_five status four lacks.1.status_is)
 
@@ -411,37 +420,40 @@ is_left a old new name report.Failed begins = inr begins
 is_left a old new name (report.OutOfMemory lacked) empty = inl (inr empty)
 
 -- what the line of a run says about the files
-fits_left : (a : Asking) (told : Bool) (old new : Holding) (out : Device) (status : ℕ)
-    (text : List ℕ) → (IsRefusal a told old new status text ⊎ IsEnding a told old new status text)
-    ⊎ (IsUnprinted a told old new out status text
-    ⊎ (IsUntold a told old new status text ⊎ IsUnreported a told old new status text)) →
-    status ≢ 6 → IsTrue told → AreLeft a old new
-fits_left a told old new out status text (inl (inl refusal)) other tells =
-    inl (refusal_untrimmed a refusal.why old new (refusal.left tells))
-fits_left a told old new out status text (inl (inr ending)) other tells =
+fits_left : (a : Asking) (old new : FilesState) (out : Device) (status : ℕ)
+    (text : List ℕ) → (IsRefusal a old new status text ⊎ IsEnding a old new status text)
+    ⊎ (IsUnprinted a old new out status text
+    ⊎ (IsUntold a old new status text ⊎ IsUnreported a old new status text)) →
+    status ≢ 6 → IsTrue old.tells → AreLeft a old.bytes new.bytes
+fits_left a old new out status text (inl (inl refusal)) other tells =
+    inl (refusal_untrimmed a refusal.why old.bytes new.bytes (refusal.left tells))
+fits_left a old new out status text (inl (inr ending)) other tells =
     inr (
       ending.outcome,
       ending.left tells (λ lane. other (sym ending.status_is
           ∙ ap outcome_status lane)),
     )
-fits_left a told old new out status text (inr (inl unprinted)) other tells =
-    let all = unprinted.left tells in inr (all.0, whole_first a old new all.0 all.1 all.3)
-fits_left a told old new out status text (inr (inr (inl untold))) other tells = untold.left tells
-fits_left a told old new out status text (inr (inr (inr unreported))) other tells =
-    let all = unreported.left tells in inr (all.0, whole_first a old new all.0 all.1 all.2)
+fits_left a old new out status text (inr (inl unprinted)) other tells =
+    let all = unprinted.left tells in
+    inr (all.0, whole_first a old.bytes new.bytes all.0 all.1 all.3)
+fits_left a old new out status text (inr (inr (inl untold))) other tells = untold.left tells
+fits_left a old new out status text (inr (inr (inr unreported))) other tells =
+    let all = unreported.left tells in
+    inr (all.0, whole_first a old.bytes new.bytes all.0 all.1 all.2)
 
 zero_or : (n : ℕ) → (n ≡ 0) ⊎ (n ≢ 0)
 zero_or n = grind arith
 
 -- what a call leaves in the files, at every status except that of an unconfirmed lane
-pub left_so : (a : Asking) (told : Bool) (old new : Holding) (out err : Device) (status : ℕ)
-    → ((status ≡ 0) ⊎ (status ≡ 3) → IsTrue told → EndsWhole a old new out err status) →
-    (status ≢ 0 → TookLine a told old new out err status)
-    → status ≢ 6 → IsTrue told → AreLeft a old new
-left_so a told old new out err status whole line other tells = ⊎_elim
+pub left_so : (a : Asking) (old new : FilesState) (out err : Device) (status : ℕ)
+    → ((status ≡ 0) ⊎ (status ≡ 3) → IsTrue old.tells →
+    EndsWhole a old.bytes new.bytes out err status) →
+    (status ≢ 0 → TookLine a old new out err status)
+    → status ≢ 6 → IsTrue old.tells → AreLeft a old.bytes new.bytes
+left_so a old new out err status whole line other tells = ⊎_elim
     (λ zero. let ends = whole (inl zero) tells in
-    inr (ends.outcome, whole_first a old new ends.outcome ends.counts ends.trims))
-    (λ some. let took = line some in fits_left a told old new out status took.text took.fits other
+    inr (ends.outcome, whole_first a old.bytes new.bytes ends.outcome ends.counts ends.trims))
+    (λ some. let took = line some in fits_left a old new out status took.text took.fits other
     tells)
     (zero_or status)
 

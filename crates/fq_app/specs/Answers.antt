@@ -6,7 +6,8 @@ use Rattle.fq_text.specs.Written.{line}
 use Rattle.fq_text.specs.declared.memory.MemoryRefused.{MemoryRefused}
 use Rattle.fq_text.specs.declared.seen.Seen.{Seen}
 use Rattle.fq_text.specs.declared.seen.SystemError.{SystemError}
-use Rattle.fq_files.specs.Holding.{Holding, Names, IsUnchanged, MayRefuse}
+use Rattle.fq_files.specs.Holding.{Holding, IsUnchanged}
+use Rattle.fq_files.specs.States.{FilesState, MayRefuse}
 use Rattle.fq_pair.specs.declared.counts.Counts.{Counts}
 use Rattle.fq_pair.specs.declared.side.Side.{Side}
 use Rattle.fq_pair.specs.Summaries.{summary_of}
@@ -24,7 +25,7 @@ use Rattle.fq_reasons.specs.Lines.{line_of, ending_line, report_line}
 use Rattle.fq_files_run.specs.Trimming.{IsNoOutput, TrimsFiles}
 use Rattle.fq_files_run.specs.Leaving.{RefusalLeaves, ReportLeft, HoldFirstPairs, AreLeft, TellsInputs}
 use Rattle.fq_files_run.specs.Opening.{IsRefusable}
-use Rattle.fq_files_run.specs.Completing.{Failed, HasFailed, ReportFailed}
+use Rattle.fq_files_run.specs.Completing.{HasFailed, ReportFailed}
 use Rattle.fq_files_run.specs.Reporting.{HoldsReport, BeginsReport}
 use Rattle.fq_files_run.specs.declared.reporting.Reported.{Reported}
 use Rattle.fq_files_run.specs.declared.reporting.Reported.TheVariants as report
@@ -89,49 +90,51 @@ pub record LacksMemory (err : Device) (status : ℕ) : Type 0 where
 -- What standard error takes, and what the files of the outputs hold then.
 
 -- a refusal of the request has this status and this line
-pub record IsRefusal (a : Asking) (tells : Bool)
-    (old new : Holding) (status : ℕ) (text : List ℕ) : Type 0 where
+pub record IsRefusal (a : Asking)
+    (old new : FilesState) (status : ℕ) (text : List ℕ) : Type 0 where
   pub why : Refusal
   pub status_is : status_of why ≡ status
   pub text_is : line_of a why ≡ text
-  pub left : IsTrue tells → RefusalLeaves a why old new
-  pub report_left : IsTrue tells → (name : List ℕ) →
-      a.report ≡ Some name → IsNoOutput a name → ReportLeft why (old name) (new name)
+  pub left : IsTrue old.tells → RefusalLeaves a why old.bytes new.bytes
+  pub report_left : IsTrue old.tells → (name : List ℕ) → a.report ≡ Some name →
+      IsNoOutput a name → ReportLeft why (old.bytes name) (new.bytes name)
 
 -- an outcome of the run has this status and this line, whose reason is what the device can say that
 -- the outcome names
-pub record IsEnding (a : Asking) (tells : Bool)
-    (old new : Holding) (status : ℕ) (text : List ℕ) : Type 0 where
+pub record IsEnding (a : Asking)
+    (old new : FilesState) (status : ℕ) (text : List ℕ) : Type 0 where
   pub outcome : Outcome
   pub seen : Seen
   pub status_is : outcome_status outcome ≡ status
   pub text_is : ending_line a seen outcome ≡ text
-  pub left : IsTrue tells → outcome ≢ Lane → HoldFirstPairs a old new outcome
-  pub unreported : IsTrue tells → outcome_status outcome ≢ 0 →
+  pub left : IsTrue old.tells → outcome ≢ Lane → HoldFirstPairs a old.bytes new.bytes outcome
+  pub unreported : IsTrue old.tells → outcome_status outcome ≢ 0 →
       outcome_status outcome ≢ 3 → (name : List ℕ) → a.report ≡ Some name →
-      new name ≡ Some []
+      new.bytes name ≡ Some []
 
 -- all pairs were trimmed, and standard output failed, so the summary was not printed
-pub record IsUnprinted (a : Asking) (tells : Bool)
-    (old new : Holding) (out : Device) (status : ℕ) (text : List ℕ) : Type 0 where
+pub record IsUnprinted (a : Asking)
+    (old new : FilesState) (out : Device) (status : ℕ) (text : List ℕ) : Type 0 where
   pub status_is : status ≡ 4
   pub failed : out.failures ≢ 0
   pub text_is : text ≡ print_line
-  pub left : IsTrue tells →
+  pub left : IsTrue old.tells →
       (outcome : Outcome) × (counts : Counts)
-      × (outcome_status outcome ≡ 0) × TrimsFiles a old new outcome counts
-  pub reported : IsTrue tells → (name : List ℕ) → a.report ≡ Some name → HoldsReport a old new name
+      × (outcome_status outcome ≡ 0) × TrimsFiles a old.bytes new.bytes outcome counts
+  pub reported : IsTrue old.tells → (name : List ℕ) →
+      a.report ≡ Some name → HoldsReport a old.bytes new.bytes name
 
 -- all pairs were trimmed, up to the end of the inputs or a fault in them, and the report could not
 -- be written
-pub record IsUnreported (a : Asking) (tells : Bool)
-    (old new : Holding) (status : ℕ) (text : List ℕ) : Type 0 where
+pub record IsUnreported (a : Asking)
+    (old new : FilesState) (status : ℕ) (text : List ℕ) : Type 0 where
   pub said : Option (Option SystemError)
   pub status_is : status ≡ 4
   pub text_is : text ≡ report_line a said
-  pub left : IsTrue tells →
-      (outcome : Outcome) × (counts : Counts) × TrimsFiles a old new outcome counts
-  pub begun : IsTrue tells → (name : List ℕ) → a.report ≡ Some name → BeginsReport a old new name
+  pub left : IsTrue old.tells →
+      (outcome : Outcome) × (counts : Counts) × TrimsFiles a old.bytes new.bytes outcome counts
+  pub begun : IsTrue old.tells → (name : List ℕ) →
+      a.report ≡ Some name → BeginsReport a old.bytes new.bytes name
 
 -- the file of the report holds what it held before, or nothing, or the whole report
 abbrev pub IsReportUncut : Asking → Holding → Holding → List ℕ → Type 0
@@ -139,21 +142,21 @@ IsReportUncut a old new name = ((new name ≡ old name) ⊎ (new name ≡ Some [
     ⊎ HoldsReport a old new name
 
 -- memory for the line or the summary was refused
-pub record IsUntold (a : Asking) (tells : Bool)
-    (old new : Holding) (status : ℕ) (text : List ℕ) : Type 0 where
+pub record IsUntold (a : Asking)
+    (old new : FilesState) (status : ℕ) (text : List ℕ) : Type 0 where
   pub status_is : status ≡ 5
   pub text_is : text ≡ memory_line
-  pub left : IsTrue tells → AreLeft a old new
-  pub report_left : IsTrue tells →
-      (name : List ℕ) → a.report ≡ Some name → IsReportUncut a old new name
+  pub left : IsTrue old.tells → AreLeft a old.bytes new.bytes
+  pub report_left : IsTrue old.tells →
+      (name : List ℕ) → a.report ≡ Some name → IsReportUncut a old.bytes new.bytes name
 
 -- standard error took the line of one of these, which has this status, and nothing else
-pub record TookLine (a : Asking) (tells : Bool)
-    (old new : Holding) (out err : Device) (status : ℕ) : Type 0 where
+pub record TookLine (a : Asking)
+    (old new : FilesState) (out err : Device) (status : ℕ) : Type 0 where
   pub text : List ℕ
-  pub fits : (IsRefusal a tells old new status text ⊎ IsEnding a tells old new status text)
-      ⊎ (IsUnprinted a tells old new out status text
-      ⊎ (IsUntold a tells old new status text ⊎ IsUnreported a tells old new status text))
+  pub fits : (IsRefusal a old new status text ⊎ IsEnding a old new status text)
+      ⊎ (IsUnprinted a old new out status text
+      ⊎ (IsUntold a old new status text ⊎ IsUnreported a old new status text))
   pub took : TookText err text
 
 -- standard output failed, and standard error took the line for that
@@ -187,33 +190,30 @@ Refuses a why err status = ((status ≡ status_of why) × TookText err (line_of 
 
 -- a file was refused: an input that does not exist or is an input already, or an output or a report
 -- under a name that may be refused or led to an input before the call
-pub record NamesRefused (a : Asking) (tells : Bool)
-    (old : Holding) (refuses opened : Names) (err : Device) : Type 0 where
+pub record NamesRefused (a : Asking) (old : FilesState) (err : Device) : Type 0 where
   pub why : Refusal
   pub status_is : status_of why ≡ 4
   pub told : TookText err (line_of a why)
-  pub inputs : IsTrue tells → TellsInputs a.inputs why old refuses opened
-  pub refused : IsRefusable a (MayRefuse refuses opened) why
+  pub inputs : IsTrue old.tells → TellsInputs a.inputs why old
+  pub refused : IsRefusable a (MayRefuse old) why
 
 -- a device of that name has failed, or the input of that side is endless
-pub record NamesFailed (a : Asking) (tells : Bool)
-    (old : Holding) (failed : Failed) (err : Device) : Type 0 where
+pub record NamesFailed (a : Asking) (old new : FilesState) (err : Device) : Type 0 where
   pub outcome : Outcome
   pub seen : Seen
   pub status_is : outcome_status outcome ≡ 4
   pub told : TookText err (ending_line a seen outcome)
-  pub has_failed : HasFailed a tells old failed outcome
-  pub as_it_is : IsTrue tells → settled outcome ≡ outcome
+  pub has_failed : HasFailed a old new outcome
+  pub as_it_is : IsTrue old.tells → settled outcome ≡ outcome
 
 -- the line names a refused file, a failed device or an endless input; or standard output or the
 -- report's device has failed
-abbrev pub NamesDevice : Asking → Bool → Holding →
-    Names → Names → Failed → Device → Device → Type 0
-NamesDevice a tells old refuses opened failed out err =
-    NamesRefused a tells old refuses opened err
-    ⊎ (NamesFailed a tells old failed err
+abbrev pub NamesDevice : Asking → FilesState → FilesState → Device → Device → Type 0
+NamesDevice a old new out err =
+    NamesRefused a old err
+    ⊎ (NamesFailed a old new err
     ⊎ (((out.failures ≢ 0) × TookText err print_line)
-    ⊎ (ReportFailed a failed × TookReportLine a err)))
+    ⊎ (ReportFailed a new × TookReportLine a err)))
 
 -- the file of the report holds what it held before, or nothing, or a first part of the defined
 -- report
@@ -222,21 +222,21 @@ IsReportLeft a old new name = ((new name ≡ old name) ⊎ (new name ≡ Some []
     ⊎ BeginsReport a old new name
 
 -- How a call with a request ends: the pairs are trimmed, or the request is refused.
-pub record PairsAnswered (a : Asking) (told : Bool)
-    (old new : Holding) (out err : Device) (status : ℕ) : Type 0 where
-  pub whole : (status ≡ 0) ⊎ (status ≡ 3) → IsTrue told →
-      EndsWhole a old new out err status
+pub record PairsAnswered (a : Asking)
+    (old new : FilesState) (out err : Device) (status : ℕ) : Type 0 where
+  pub whole : (status ≡ 0) ⊎ (status ≡ 3) → IsTrue old.tells →
+      EndsWhole a old.bytes new.bytes out err status
   pub wrong : (why : Refusal) → wrong_with a ≡ Some why → Refuses a why err status
   pub right : status ≡ 2 → IsSome (wrong_with a)
-  pub line : status ≢ 0 → TookLine a told old new out err status
+  pub line : status ≢ 0 → TookLine a old new out err status
   pub known : status ≢ 1
-  pub left : status ≢ 6 → IsTrue told → AreLeft a old new
-  pub reported : (status ≡ 0) ⊎ (status ≡ 3) →
-      IsTrue told → (name : List ℕ) → a.report ≡ Some name → HoldsReport a old new name
-  pub report_left : IsTrue told →
-      (name : List ℕ) → a.report ≡ Some name → IsReportLeft a old new name
-  pub unopened : IsTrue told → (side : Side) →
-      old (input_name a.inputs side) ≡ None → IsUnchanged old new
+  pub left : status ≢ 6 → IsTrue old.tells → AreLeft a old.bytes new.bytes
+  pub reported : (status ≡ 0) ⊎ (status ≡ 3) → IsTrue old.tells → (name : List ℕ) →
+      a.report ≡ Some name → HoldsReport a old.bytes new.bytes name
+  pub report_left : IsTrue old.tells →
+      (name : List ℕ) → a.report ≡ Some name → IsReportLeft a old.bytes new.bytes name
+  pub unopened : IsTrue old.tells → (side : Side) →
+      old.bytes (input_name a.inputs side) ≡ None → IsUnchanged old.bytes new.bytes
 
 -- Why the example was not printed: standard output failed, memory was refused, a thread was
 -- refused, or a lane was not confirmed.

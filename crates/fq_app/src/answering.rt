@@ -64,7 +64,7 @@ pub fn program<'a, R: Threads + Wait + Copy + Send + 'static, T: Files, O: Outle
     // Arguments that parse as `PE` or `IL` are carried out: the pairs are trimmed, or `err` gets
     // the reason why not. A wrong request is refused before a file is touched.
     ensures pairs { (a : Asking) → AskedFor (map (λ word. word.now) words.entry.now) (Some a)
-        → PairsAnswered a (T.tells_bytes files.old) (T.bytes_of files.old) (T.bytes_of files.new)
+        → PairsAnswered a (T.state files.old) (T.state files.new)
         (device_of O.state out.old out.new) (device_of E.state err.old err.new) result }
     ensures wrong { (a : Asking) → AskedFor (map (λ word. word.now) words.entry.now) (Some a)
         → IsSome (wrong_with a) → files.new ≡ files.old }
@@ -74,38 +74,36 @@ pub fn program<'a, R: Threads + Wait + Copy + Send + 'static, T: Files, O: Outle
     // At every status except 6 each file of an output holds what it held before, or nothing, or
     // these files are in step for the first pairs, up to the block in which a write failed.
     ensures in_step { (a : Asking) → AskedFor (map (λ word. word.now) words.entry.now) (Some a)
-        → (result ≡ 0) ⊎ (result ≡ 3) → IsTrue (T.tells_bytes files.old)
-        → FilesAreInStep a (T.bytes_of files.old) (T.bytes_of files.new)
+        → (result ≡ 0) ⊎ (result ≡ 3) → IsTrue (T.state files.old).tells
+        → FilesAreInStep a (T.state files.old).bytes (T.state files.new).bytes
         (device_of O.state out.old out.new) result }
     ensures left_in_step { (a : Asking)
         → AskedFor (map (λ word. word.now) words.entry.now) (Some a)
-        → result ≢ 6 → IsTrue (T.tells_bytes files.old)
-        → AreUntrimmed a (T.bytes_of files.old) (T.bytes_of files.new)
-        ⊎ FilesAreInStepUpTo a (T.bytes_of files.old) (T.bytes_of files.new) }
+        → result ≢ 6 → IsTrue (T.state files.old).tells
+        → AreUntrimmed a (T.state files.old).bytes (T.state files.new).bytes
+        ⊎ FilesAreInStepUpTo a (T.state files.old).bytes (T.state files.new).bytes }
 
     // At status 4 the line names a file or device that was indeed refused or has failed. At 0 and 3
     // no device of the files has failed, and each output, the log and the report were flushed after
     // their last write.
     ensures device { (a : Asking) → AskedFor (map (λ word. word.now) words.entry.now) (Some a)
         → result ≡ 4
-        → NamesDevice a (T.tells_bytes files.old) (T.bytes_of files.old)
-        (T.refuses files.old) (T.is_open files.old) (T.has_failed files.new)
+        → NamesDevice a (T.state files.old) (T.state files.new)
         (device_of O.state out.old out.new) (device_of E.state err.old err.new) }
-    ensures sound { (result ≡ 0) ⊎ (result ≡ 3) → T.has_failed files.new ≡ T.has_failed files.old }
+    ensures sound { (result ≡ 0) ⊎ (result ≡ 3)
+        → (T.state files.new).has_failed ≡ (T.state files.old).has_failed }
     ensures flushed { (result ≡ 0) ⊎ (result ≡ 3)
-        → T.is_unflushed files.new ≡ T.is_unflushed files.old }
+        → (T.state files.new).is_unflushed ≡ (T.state files.old).is_unflushed }
 
     // Only the files of the outputs and of the report change.
     ensures rest { (a : Asking) → AskedFor (map (λ word. word.now) words.entry.now) (Some a)
-        → IsTrue (T.tells_bytes files.old)
-        → KeepsUnnamed a (T.bytes_of files.old) (T.bytes_of files.new) }
+        → IsTrue (T.state files.old).tells
+        → KeepsUnnamed a (T.state files.old).bytes (T.state files.new).bytes }
 
     // If an output or the report leads to an input, no file changes, and the status is neither 0
     // nor 3.
     ensures spared { (a : Asking) → AskedFor (map (λ word. word.now) words.entry.now) (Some a)
-        → IsTrue (T.tells_bytes files.old)
-        → SparesInputs a (T.is_open files.new) ((result ≢ 0) × (result ≢ 3))
-        (T.bytes_of files.old) (T.bytes_of files.new) }
+        → SparesInputs a ((result ≢ 0) × (result ≢ 3)) (T.state files.old) (T.state files.new) }
 
     // Other arguments touch no file. `EXAMPLE` is printed unless `out`, memory or a thread fails.
     // Arguments that don't parse are refused; help and the version are printed.
@@ -159,22 +157,20 @@ fn trim_pairs<R: Threads + Wait + Copy + Send + 'static, T: Files, O: Outlet, E:
 ) -> u8
     requires out { (O.state out.old).failures ≡ 0 }
     requires err { (E.state err.old).failures ≡ 0 }
-    ensures pairs { PairsAnswered (asking_of request.now)
-        (T.tells_bytes files.old) (T.bytes_of files.old) (T.bytes_of files.new)
+    ensures pairs { PairsAnswered (asking_of request.now) (T.state files.old) (T.state files.new)
         (device_of O.state out.old out.new) (device_of E.state err.old err.new) result }
-    ensures device { result ≡ 4 → NamesDevice (asking_of request.now)
-        (T.tells_bytes files.old) (T.bytes_of files.old) (T.refuses files.old)
-        (T.is_open files.old) (T.has_failed files.new) (device_of O.state out.old out.new)
-        (device_of E.state err.old err.new) }
-    ensures sound { (result ≡ 0) ⊎ (result ≡ 3) → T.has_failed files.new ≡ T.has_failed files.old }
+    ensures device { result ≡ 4
+        → NamesDevice (asking_of request.now) (T.state files.old) (T.state files.new)
+        (device_of O.state out.old out.new) (device_of E.state err.old err.new) }
+    ensures sound { (result ≡ 0) ⊎ (result ≡ 3)
+        → (T.state files.new).has_failed ≡ (T.state files.old).has_failed }
     ensures flushed { (result ≡ 0) ⊎ (result ≡ 3)
-        → T.is_unflushed files.new ≡ T.is_unflushed files.old }
+        → (T.state files.new).is_unflushed ≡ (T.state files.old).is_unflushed }
     ensures wrong { IsSome (wrong_with (asking_of request.now)) → files.new ≡ files.old }
-    ensures rest { IsTrue (T.tells_bytes files.old)
-        → KeepsUnnamed (asking_of request.now) (T.bytes_of files.old) (T.bytes_of files.new) }
-    ensures spared { IsTrue (T.tells_bytes files.old)
-        → SparesInputs (asking_of request.now) (T.is_open files.new)
-        ((result ≢ 0) × (result ≢ 3)) (T.bytes_of files.old) (T.bytes_of files.new) }
+    ensures rest { IsTrue (T.state files.old).tells → KeepsUnnamed (asking_of request.now)
+        (T.state files.old).bytes (T.state files.new).bytes }
+    ensures spared { SparesInputs (asking_of request.now)
+        ((result ≢ 0) × (result ≢ 3)) (T.state files.old) (T.state files.new) }
     ensures finished { result ≡ 0 → ((O.state out.new).failures ≡ 0) × (err.new ≡ err.old) }
     ensures quiet { result ≢ 0 → result ≢ 3 → (O.state out.new).failures ≡ 0 → out.new ≡ out.old }
     ensures failed { (O.state out.new).failures ≢ 0

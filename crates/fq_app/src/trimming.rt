@@ -11,7 +11,8 @@ ghost use Rattle.fq_files_run.specs.Judging.{settings_of, wrong_with};
 ghost use Rattle.fq_files_run.specs.Trimming.{KeepsUnnamed, opened_of, left_of, form_of, run_in, AreFresh};
 ghost use Rattle.fq_files_run.specs.Opening.{AreReady, AreOpened, IsRefused, SparesInputs};
 ghost use Rattle.fq_files_run.specs.Completing.{IsCompleted, IsWitnessed};
-ghost use Rattle.fq_files.specs.Holding.{Holding, IsUnchanged};
+ghost use Rattle.fq_files.specs.Holding.{IsUnchanged};
+ghost use Rattle.fq_files.specs.States.{FilesState, IsSound, OnlyStores};
 
 use fq_cli::Request;
 use fq_files::Files;
@@ -53,27 +54,22 @@ pub fn trim_files<R: Threads + Wait + Copy + Send + 'static, T: Files>(
     files: &mut T,
 ) -> Result<Completed, Refusal>
     ensures completed { IfOk result (λ completed. IsCompleted (asking_of request.now)
-        (T.tells_bytes files.old) (T.bytes_of files.old) (T.bytes_of files.new)
-        (T.has_failed files.old) (T.has_failed files.new)
-        (T.is_unflushed files.old) (T.is_unflushed files.new)
+        (T.state files.old) (T.state files.new)
         completed.account.outcome completed.account.counts completed.reported) }
     ensures refused { IfErr result (λ why.
-        IsRefused (asking_of request.now) why
-        (T.tells_bytes files.old) (T.refuses files.old) (T.is_open files.old)
-        (T.bytes_of files.old) (T.bytes_of files.new)) }
-    ensures unfailed { OnErr result (T.has_failed files.new ≡ T.has_failed files.old) }
-    ensures flushed { OnErr result (T.is_unflushed files.new ≡ T.is_unflushed files.old) }
+        IsRefused (asking_of request.now) why (T.state files.old) (T.state files.new)) }
+    ensures unfailed { OnErr result (IsSound (T.state files.old) (T.state files.new)) }
 
-    ensures rest { IsTrue (T.tells_bytes files.old)
-        → KeepsUnnamed (asking_of request.now) (T.bytes_of files.old) (T.bytes_of files.new) }
+    ensures rest { IsTrue (T.state files.old).tells
+        → KeepsUnnamed (asking_of request.now)
+        (T.state files.old).bytes (T.state files.new).bytes }
 
     // Refused memory and an unconfirmed lane have a witness.
     ensures witnessed { IfOk result (λ completed. IsWitnessed completed.account) }
 
     // If an output or the report leads to an input, no file changes.
-    ensures spared { IsTrue (T.tells_bytes files.old)
-        → SparesInputs (asking_of request.now) (T.is_open files.new)
-        (IsErr result) (T.bytes_of files.old) (T.bytes_of files.new) }
+    ensures spared { SparesInputs (asking_of request.now)
+        (IsErr result) (T.state files.old) (T.state files.new) }
 
     // If the request is wrong, no file is opened.
     ensures wrong { (why : Refused) → wrong_with (asking_of request.now) ≡ Some why
@@ -82,9 +78,9 @@ pub fn trim_files<R: Threads + Wait + Copy + Send + 'static, T: Files>(
         → IfErr result (λ why. status_of why ≢ 2) }
 
     // If an input does not exist, no output is made.
-    ensures unopened { IsTrue (T.tells_bytes files.old) → (side : Side)
-        → T.bytes_of files.old (input_name (asking_of request.now).inputs side) ≡ None
-        → IsUnchanged (T.bytes_of files.old) (T.bytes_of files.new) }
+    ensures unopened { IsTrue (T.state files.old).tells → (side : Side)
+        → (T.state files.old).bytes (input_name (asking_of request.now).inputs side) ≡ None
+        → IsUnchanged (T.state files.old).bytes (T.state files.new).bytes }
 {
     let settings = judge(request)?;
     let gate = match Arc::new(alloc, OpenGate) {
@@ -107,19 +103,16 @@ fn complete<R: Threads + Wait + Copy + Send + 'static, T: Files>(
     devices: Devices<T::In, T::Target>,
 ) -> Completed
     requires ready { AreReady (asking_of request.now)
-        (T.tells_bytes files.old) (T.bytes_of files.old)
-        (opened_of T.In.state devices.feeds)
+        (T.state files.old) (opened_of T.In.state devices.feeds)
         (outlet_states T.Target.state devices.outlets) (option_map T.Target.state devices.report) }
-    ensures completed { (start : Holding)
-        → AreOpened (asking_of request.now) (T.tells_bytes files.old) start (T.bytes_of files.old)
-        (opened_of T.In.state devices.feeds)
+    ensures completed { (start : FilesState) → IsSound start (T.state files.old)
+        → AreOpened (asking_of request.now)
+        start (T.state files.old) (opened_of T.In.state devices.feeds)
         (outlet_states T.Target.state devices.outlets) (option_map T.Target.state devices.report)
         → settings_of (asking_of request.now) ≡ Ok settings.now
-        → IsCompleted (asking_of request.now) (T.tells_bytes files.old) start (T.bytes_of files.new)
-        (T.has_failed files.old) (T.has_failed files.new)
-        (T.is_unflushed files.old) (T.is_unflushed files.new)
+        → IsCompleted (asking_of request.now) start (T.state files.new)
         result.account.outcome result.account.counts result.reported }
-    ensures leading { T.is_open files.new ≡ T.is_open files.old }
+    ensures kept { OnlyStores (T.state files.old) (T.state files.new) }
     ensures witnessed { IsWitnessed result.account }
 {
     let Devices {

@@ -1,5 +1,5 @@
 -- What a file system holds: for each name its bytes, if it has that name.
-use Rattle.std.specs.Prelude.{◌≡◌, ◌≢◌, ◌⊎◌, ℕ, Bool, Option, IsSome, IsTrue, List}
+use Rattle.std.specs.Prelude.{◌≡◌, ◌≢◌, ℕ, Option, IsSome, List}
 
 -- the bytes of each name
 abbrev pub Holding : Type 0
@@ -16,11 +16,3 @@ KeepsOthers old new name = (other : List ℕ) → other ≢ name → new other �
 -- no name is removed
 abbrev pub KeepsNames : Holding → Holding → Type 0
 KeepsNames old new = (name : List ℕ) → IsSome (old name) → IsSome (new name)
-
--- some names
-abbrev pub Names : Type 0
-Names = List ℕ → Bool
-
--- this name may be refused, or it leads to an input
-abbrev pub MayRefuse : Names → Names → List ℕ → Type 0
-MayRefuse refuses opened name = IsTrue (refuses name) ⊎ IsTrue (opened name)

@@ -1,3 +1,4 @@
 pub mod Devices
 pub mod Holding
 pub mod Memory
+pub mod States

@@ -35,14 +35,15 @@ impl MemoryFiles {
     ghost use Rattle.std.specs.Prelude.{◌≡◌, ◌≢◌, ℕ, true, false, Some, None, List, IsTrue, OnOk, OnErr};
     ghost use Rattle.std.specs.Option.{option_map};
     ghost use Rattle.fq_files.specs.Holding.{KeepsOthers, KeepsNames, IsUnchanged};
-    ghost use Rattle.fq_files.specs.Memory.{bytes_in, opened_in, failed_in, unflushed_in};
+    ghost use Rattle.fq_files.specs.Memory.{bytes_in, state_of};
+    ghost use Rattle.fq_files.specs.States.{OnlyOpens, OnlyWrites};
 
     /// Files that hold no name.
     pub fn new(alloc: Global) -> MemoryFiles
         ensures nothing { (name : List ℕ) → bytes_in result name ≡ None }
-        ensures unopened { (name : List ℕ) → opened_in result name ≡ false }
-        ensures sound { (name : List ℕ) → failed_in result name ≡ false }
-        ensures flushed { (name : List ℕ) → unflushed_in result name ≡ false }
+        ensures unopened { (name : List ℕ) → (state_of result).is_open name ≡ false }
+        ensures sound { (name : List ℕ) → (state_of result).has_failed name ≡ false }
+        ensures flushed { (name : List ℕ) → (state_of result).is_unflushed name ≡ false }
     {
         MemoryFiles {
             held: BTreeMap::new(alloc),
@@ -59,9 +60,7 @@ impl MemoryFiles {
         ensures held { KeepsNames (bytes_in self.old) (bytes_in self.new) }
         ensures others { KeepsOthers (bytes_in self.old) (bytes_in self.new) name.now }
         ensures err { OnErr result (IsUnchanged (bytes_in self.old) (bytes_in self.new)) }
-        ensures opened { opened_in self.new ≡ opened_in self.old }
-        ensures failed { failed_in self.new ≡ failed_in self.old }
-        ensures flushed { unflushed_in self.new ≡ unflushed_in self.old }
+        ensures kept { OnlyWrites (state_of self.old) (state_of self.new) }
     {
         let key = String::from_str(self.alloc, name)?;
         let bytes = Vec::from_slice(self.alloc, bytes)?;
@@ -78,15 +77,13 @@ impl MemoryFiles {
 
     // Notes that a name was opened as an input. If memory is refused, nothing changes.
     fn note_input(&mut self, name: &str) -> Result<(), OutOfMemory>
-        ensures noted { OnOk result (opened_in self.new name.now ≡ true) }
+        ensures noted { OnOk result (IsTrue ((state_of self.new).is_open name.now)) }
         ensures others { (other : List ℕ) → other ≢ name.now
-            → opened_in self.new other ≡ opened_in self.old other }
-        ensures remains { (other : List ℕ) → IsTrue (opened_in self.old other)
-            → IsTrue (opened_in self.new other) }
-        ensures err { OnErr result (opened_in self.new ≡ opened_in self.old) }
-        ensures held { IsUnchanged (bytes_in self.old) (bytes_in self.new) }
-        ensures failed { failed_in self.new ≡ failed_in self.old }
-        ensures flushed { unflushed_in self.new ≡ unflushed_in self.old }
+            → (state_of self.new).is_open other ≡ (state_of self.old).is_open other }
+        ensures remains { (other : List ℕ) → IsTrue ((state_of self.old).is_open other)
+            → IsTrue ((state_of self.new).is_open other) }
+        ensures err { OnErr result (state_of self.new ≡ state_of self.old) }
+        ensures kept { OnlyOpens (state_of self.old) (state_of self.new) }
     {
         let key = String::from_str(self.alloc, name)?;
         self.inputs.insert(key)?;
@@ -96,24 +93,14 @@ impl MemoryFiles {
 
 impl Files for MemoryFiles {
     ghost use Rattle.std.specs.Prelude.{◌≡◌, ◌≢◌, ◌⊎◌, ℕ, true, false, Some, None, Err, List, IsTrue, IfOk, OnOk, OnErr};
-    ghost use Rattle.fq_files.specs.Holding.{IsUnchanged, MayRefuse};
-    ghost use Rattle.fq_files.specs.Memory.{bytes_in, opened_in, failed_in, unflushed_in};
+    ghost use Rattle.fq_files.specs.Memory.{bytes_in, state_of};
+    ghost use Rattle.fq_files.specs.States.{MayRefuse, OnlyOpens};
 
     type In = ScriptFeed;
 
     type Target = MemoryTarget;
 
-    ghost tells_bytes = { λ _. true };
-
-    ghost bytes_of = { bytes_in };
-
-    ghost refuses = { λ _ _. false };
-
-    ghost is_open = { opened_in };
-
-    ghost has_failed = { failed_in };
-
-    ghost is_unflushed = { unflushed_in };
+    ghost state = { state_of };
 
     fn source(&mut self, name: &str) -> Result<ScriptFeed, FileFault>
         // A feed of the name's bytes. No read call is cut short or fails.
@@ -123,16 +110,15 @@ impl Files for MemoryFiles {
 
         // As for all files whose bytes are known to the proof.
         ensures refused { (cause : Cause) → result ≡ Err (FileFault.Refused cause)
-            → (bytes_in self.old name.now ≡ None) ⊎ IsTrue (opened_in self.old name.now) }
-        ensures unchanged { IsUnchanged (bytes_in self.old) (bytes_in self.new) }
-        ensures opened { OnOk result (IsTrue (opened_in self.new name.now)) }
-        ensures unopened { OnErr result (opened_in self.new ≡ opened_in self.old) }
-        ensures remains { (other : List ℕ) → IsTrue (opened_in self.old other)
-            → IsTrue (opened_in self.new other) }
-        ensures linked { (other : List ℕ) → other ≢ name.now → IsTrue (opened_in self.new other)
-            → MayRefuse (λ _. false) (opened_in self.old) other }
-        ensures failed { failed_in self.new ≡ failed_in self.old }
-        ensures flushed { unflushed_in self.new ≡ unflushed_in self.old }
+            → (bytes_in self.old name.now ≡ None)
+            ⊎ IsTrue ((state_of self.old).is_open name.now) }
+        ensures kept { OnlyOpens (state_of self.old) (state_of self.new) }
+        ensures opened { OnOk result (IsTrue ((state_of self.new).is_open name.now)) }
+        ensures unopened { OnErr result (state_of self.new ≡ state_of self.old) }
+        ensures remains { (other : List ℕ) → IsTrue ((state_of self.old).is_open other)
+            → IsTrue ((state_of self.new).is_open other) }
+        ensures linked { (other : List ℕ) → other ≢ name.now
+            → IsTrue ((state_of self.new).is_open other) → MayRefuse (state_of self.old) other }
     {
         if self.leads_to_input(name) {
             return Err(FileFault::Refused(Cause::Input));
@@ -158,7 +144,7 @@ impl Files for MemoryFiles {
     }
 
     fn leads_to_input(&self, name: &str) -> bool
-        ensures { result ≡ opened_in self.now name.now }
+        ensures { result ≡ (state_of self.now).is_open name.now }
     {
         self.inputs.contains(name)
     }

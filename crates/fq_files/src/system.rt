@@ -101,17 +101,14 @@ impl<'a, R: rt::Files<File = File>> Files for SystemFiles<'a, R> {
 
     type Target = SystemTarget<File>;
 
-    ghost tells_bytes = { λ _. false };
-
-    ghost bytes_of = { λ _ _. None };
-
-    ghost refuses = { λ _ _. true };
-
-    ghost is_open = { λ _ _. true };
-
-    ghost has_failed = { λ files _. files.has_failed };
-
-    ghost is_unflushed = { λ files _. files.has_unflushed };
+    ghost state = { λ files. record {
+      tells = false;
+      bytes = λ _. None;
+      refuses = λ _. true;
+      is_open = λ _. true;
+      has_failed = λ _. files.has_failed;
+      is_unflushed = λ _. files.has_unflushed;
+    } };
 
     fn source(&mut self, name: &str) -> Result<FromRead<File>, FileFault> {
         let file = File::open(self.runtime, name).map_err(refused)?;

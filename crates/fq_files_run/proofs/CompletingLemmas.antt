@@ -1,8 +1,8 @@
 -- A run that was made, and what its files hold.
-use Rattle.std.proofs.Common.{◌≡◌, ◌≢◌, ◌⊎◌, ◌++◌, ◌∙◌, ℕ, Bool, IsTrue, Option, Some, None, is_some, Ok, List, [], refl, subst}
+use Rattle.std.proofs.Common.{◌≡◌, ◌≢◌, ◌⊎◌, ◌++◌, ◌∙◌, ℕ, IsTrue, Option, Some, None, is_some, Ok, List, [], refl, subst}
 use Rattle.fq_files.specs.Holding.{Holding}
 use Rattle.fq_text.specs.declared.encoding.Encoding.{Encoding}
-use Rattle.fq_text.specs.Devices.{FeedState, OutletState}
+use Rattle.fq_text.specs.Devices.{FeedState}
 use Rattle.fq_pair.specs.declared.side.Side.{Side}
 use Rattle.fq_pair.specs.declared.side.Side.TheVariants.{Forward, Reverse}
 use Rattle.fq_pair.specs.Forms.{Form}
@@ -16,7 +16,6 @@ use Rattle.fq_cli.specs.Requests.{Asking}
 use Rattle.fq_files_run.specs.Judging.{settings_of}
 use Rattle.fq_files_run.specs.Faults.{outcome_status}
 use Rattle.fq_files_run.specs.Trimming.{Opened, AreEmpty, TrimsPairs, TrimsFiles, pairs_of, run_in}
-use Rattle.fq_files_run.specs.Opening.{AreOpened}
 use Rattle.fq_files_run.specs.Leaving.{HoldFirstPairs}
 use Rattle.fq_files_run.specs.Reporting.{TookReport, ReportHeld, report_of}
 use Rattle.fq_files_run.specs.declared.account.Account.{Account}
@@ -131,15 +130,6 @@ report_of_run a c old new run account encoding reported name bytes settings form
       text_is = subst P form (text_is a c (all_pairs c run) account text is (counts
           ∙ trimmed.counts) (outcome ∙ trimmed.outcome) (tally ∙ trimmed.tally));
     }) at (subst R encoding_is took)
-
--- ---- the same facts about equal feeds and outlets
-
--- it makes no difference which of two equal flags says that the bytes of the files are known
-pub opened_as : (a : Asking) (x y : Bool) (old new : Holding) (inputs : Opened)
-    (outlets : OutletStates) (report : Option OutletState) → x ≡ y →
-    AreOpened a x old new inputs outlets report → AreOpened a y old new inputs outlets report
-opened_as a x y old new inputs outlets report same opened = let P : Bool → Type 0 =
-    λ tells. AreOpened a tells old new inputs outlets report in subst P same opened
 
 -- the feeds that came back
 pub sides_in : (inputs : Opened) (before after : OutletStates) (left : Side →

@@ -1,11 +1,12 @@
 -- Outlets that were handed back, and their failures.
 use Rattle.std.proofs.Common.{◌≡◌, ℕ, suc, ◌<◌, IsTrue, Option, Some, IfSome, List, refl, sym, ap, subst, ◌∙◌, arith, ⊎_elim}
 use Rattle.fq_text.specs.Devices.{OutletState}
+use Rattle.fq_files.specs.States.{FilesState}
 use Rattle.fq_pair.specs.declared.out.Out.{Out}
 use Rattle.fq_pair.specs.declared.out.Out.TheVariants.{ForwardPaired, ForwardUnpaired, ReversePaired, ReverseUnpaired, Log}
 use Rattle.fq_run_core.specs.Devices.{OutletStates, AreHealthy, outlet_at, place}
 use Rattle.fq_cli.specs.Requests.{Asking, output_name}
-use Rattle.fq_files_run.specs.Completing.{Failed, KeepsFailed, AreCounted}
+use Rattle.fq_files_run.specs.Completing.{KeepsFailed, AreCounted}
 use Rattle.fq_files_run.proofs.StoreLemmas.{same_place, below_next}
 
 healthy_at : (states : OutletStates) → AreHealthy states → (out : Out) (outlet : OutletState) →
@@ -26,9 +27,9 @@ healthy_at states healthy Log outlet at = let P : Option OutletState → Type 0 
     λ o. IfSome o (λ log. log.failures ≡ 0) in subst P at healthy.log
 
 -- as long as no outlet is handed back, the names with failed devices are the same
-pub none_counted : (a : Asking) (states : OutletStates) (failed : Failed) →
-    AreCounted a states 0 failed failed
-none_counted a states failed =
+pub none_counted : (a : Asking) (states : OutletStates) (files : FilesState) →
+    AreCounted a states 0 files files
+none_counted a states files =
     record {
       failed = λ out name outlet below. absurd (omega (arith, below));
       sound =
@@ -38,10 +39,10 @@ none_counted a states failed =
 
 -- one more outlet is handed back
 pub one_counted : (a : Asking) (states : OutletStates) (this : Out) (name : List ℕ)
-    (outlet : OutletState) (start old new : Failed) → output_name a this ≡ Some name →
+    (outlet : OutletState) (start old new : FilesState) → output_name a this ≡ Some name →
     outlet_at this states ≡ Some outlet
-    → (0 < outlet.failures → IsTrue (new name)) → (outlet.failures ≡ 0 → new ≡ old) →
-    KeepsFailed old new
+    → (0 < outlet.failures → IsTrue (new.has_failed name))
+    → (outlet.failures ≡ 0 → new.has_failed ≡ old.has_failed) → KeepsFailed old new
     → AreCounted a states (place this) start old → AreCounted a states (suc (place this)) start new
 one_counted a states this name outlet start old new named at fails sound still first = record {
   failed = λ out n o below out_named out_at_is some. ⊎_elim
@@ -52,7 +53,7 @@ one_counted a states this name outlet start old new named at fails sound still f
       ∙ (ap (λ (x : Out). outlet_at x states) is ∙ at) in
       let n_is : n ≡ name = cc in
       let o_is : o ≡ outlet = cc in
-      let P : List ℕ → Type 0 = λ x. IsTrue (new x) in
+      let P : List ℕ → Type 0 = λ x. IsTrue (new.has_failed x) in
       let Q : OutletState → Type 0 = λ x. 0 < x.failures in
       subst P (sym n_is) (fails (subst Q o_is some)))
       (below_next (place out) (place this) below);
@@ -61,16 +62,16 @@ one_counted a states this name outlet start old new named at fails sound still f
 }
 
 -- without a log, all outlets are handed back after the fourth
-pub no_log_counted : (a : Asking) (states : OutletStates) (start failed : Failed)
+pub no_log_counted : (a : Asking) (states : OutletStates) (start files : FilesState)
     → ((name : List ℕ) (outlet : OutletState) → output_name a Log ≡ Some name →
-    outlet_at Log states ≡ Some outlet → ⊥) → AreCounted a states 4 start failed →
-    AreCounted a states 5 start failed
-no_log_counted a states start failed none counted =
+    outlet_at Log states ≡ Some outlet → ⊥) → AreCounted a states 4 start files →
+    AreCounted a states 5 start files
+no_log_counted a states start files none counted =
     record { failed = five; sound = counted.sound; still = counted.still }
   where
     five : (out : Out) (name : List ℕ) (outlet : OutletState) → place out < 5 →
         output_name a out ≡ Some name → outlet_at out states ≡ Some outlet → 0 < outlet.failures →
-        IsTrue (failed name)
+        IsTrue (files.has_failed name)
     five ForwardPaired name outlet below = counted.failed ForwardPaired name outlet (omega arith)
     five ForwardUnpaired name outlet below =
         counted.failed ForwardUnpaired name outlet (omega arith)

@@ -3,6 +3,7 @@ use Rattle.std.proofs.Common.{◌≡◌, ◌≢◌, ◌++◌, ℕ, zero, suc, �
 use Rattle.std.specs.Prelude.{take_while}
 use Rattle.std.proofs.lemmas.List.{length-take}
 use Rattle.fq_files.specs.Holding.{Holding}
+use Rattle.fq_files.specs.States.{FilesState}
 use Rattle.fq_text.specs.declared.encoding.Encoding.{Encoding}
 use Rattle.fq_text.specs.Devices.{FeedState, OutletState}
 use Rattle.fq_text.specs.Grammar as grammar
@@ -28,7 +29,7 @@ use Rattle.fq_cli.specs.Requests.{Asking, input_name, output_name}
 use Rattle.fq_files_run.specs.Faults.{settled}
 use Rattle.fq_files_run.specs.Judging.{settings_of}
 use Rattle.fq_files_run.specs.Trimming.{Opened, AreFed}
-use Rattle.fq_files_run.specs.Completing.{Failed, HasFailed, AreFeedsCounted, AreCounted}
+use Rattle.fq_files_run.specs.Completing.{HasFailed, KeepsFailed, AreFeedsCounted, AreCounted}
 
 -- ---- outlets that failed
 
@@ -271,23 +272,23 @@ as_it_is c run trims = settled_if run.outcome (λ whole.
 
 -- ---- the failure that is reported
 
-has_failed : (a : Asking) (tells : Bool) (old : Holding) (failed : Failed) (o : Outcome)
+has_failed : (a : Asking) (old new : FilesState) (o : Outcome)
     → ((out : Out) → o ≡ Write out → (name : List ℕ) × (output_name a out ≡ Some name) × IsTrue
-    (failed name))
-    → ((side : Side) → o ≡ Read side → IsTrue (failed (input_name a.inputs side)))
-    → ((side : Side) → o ≡ Endless side → IsTrue tells →
+    (new.has_failed name))
+    → ((side : Side) → o ≡ Read side → IsTrue (new.has_failed (input_name a.inputs side)))
+    → ((side : Side) → o ≡ Endless side → IsTrue old.tells →
     (c : Choices) × (bytes : List ℕ) × (settings_of a ≡ Ok c)
-    × (old (input_name a.inputs side) ≡ Some bytes) × (c.max_reads ≤ length bytes))
-    → HasFailed a tells old failed o
-has_failed a tells old failed Spawn write read endless = tt
-has_failed a tells old failed Lane write read endless = tt
-has_failed a tells old failed Gate write read endless = tt
-has_failed a tells old failed Memory write read endless = tt
-has_failed a tells old failed (Write out) write read endless = write out refl
-has_failed a tells old failed (Read side) write read endless = read side refl
-has_failed a tells old failed (Endless side) write read endless = endless side refl
-has_failed a tells old failed (Input found) write read endless = tt
-has_failed a tells old failed Finished write read endless = tt
+    × (old.bytes (input_name a.inputs side) ≡ Some bytes) × (c.max_reads ≤ length bytes))
+    → HasFailed a old new o
+has_failed a old new Spawn write read endless = tt
+has_failed a old new Lane write read endless = tt
+has_failed a old new Gate write read endless = tt
+has_failed a old new Memory write read endless = tt
+has_failed a old new (Write out) write read endless = write out refl
+has_failed a old new (Read side) write read endless = read side refl
+has_failed a old new (Endless side) write read endless = endless side refl
+has_failed a old new (Input found) write read endless = tt
+has_failed a old new Finished write read endless = tt
 
 -- the bytes of the input of a side, in a run of these inputs
 bytes_in : (a : Asking) (old : Holding) (inputs : Opened) (run : Run) →
@@ -307,16 +308,16 @@ one_or_more n is = omega (arith, is)
 
 -- The failure that a run reports is one of the device that it names, among the feeds and outlets
 -- that were handed back.
-pub fails_as_told : (a : Asking) (tells : Bool) (old : Holding) (c : Choices) (inputs : Opened)
-    (run : Run) (left : Side → Option FeedState) (x y z w : Failed)
+pub fails_as_told : (a : Asking) (old : FilesState) (c : Choices) (inputs : Opened)
+    (run : Run) (left : Side → Option FeedState) (x y z w : FilesState)
     → settings_of a ≡ Ok c → run.forward ≡ inputs.forward → run.reverse ≡ inputs.reverse →
     is_some run.outlets.log ≡ is_some a.log
     → ((side : Side) → feed_left side run ≡ left side) →
-    (IsTrue tells → AreFed inputs a.inputs old) → EveryEnding c run
+    (IsTrue old.tells → AreFed inputs a.inputs old.bytes) → EveryEnding c run
     → AreFeedsCounted a.inputs left x y → AreCounted a run.outlets_left 5 y z →
-    ((name : List ℕ) → IsTrue (z name) → IsTrue (w name)) → HasFailed a tells old w run.outcome
-fails_as_told a tells old c inputs run left x y z w settings forward reverse log sides fed every
-    feeds outlets still = has_failed a tells old w run.outcome
+    KeepsFailed z w → HasFailed a old w run.outcome
+fails_as_told a old c inputs run left x y z w settings forward reverse log sides fed every
+    feeds outlets still = has_failed a old w run.outcome
     (λ out is.
     let had = write_failed c run every out is in
     let name = wanted_output a run.outlets log out had.was in (
@@ -330,7 +331,7 @@ fails_as_told a tells old c inputs run left x y z w settings forward reverse log
     let some = one_or_more _ (subst P (sides side) (every.outcome.read side is)) in
     still _ (outlets.still _ (feeds.failed side some)))
     (λ side is told.
-    let there = bytes_in a old inputs run forward reverse (fed told) side in
+    let there = bytes_in a old.bytes inputs run forward reverse (fed told) side in
     (c, (feed_of side run).to_come, settings, there.1, endless_input c run every side is there.0))
   where
     below_five : (out : Out) → place out < 5

@@ -1,7 +1,8 @@
 -- What the files of the outputs hold if the program does not end whole.
 use Rattle.std.proofs.Common.{◌≡◌, ◌≢◌, ℕ, IsTrue, IsSome, Option, Some, None, List, [], ◌++◌, refl, sym, ap, subst, ◌∙◌, inl, inr, ◌⊎◌, ⊎_elim}
 use Rattle.std.proofs.lemmas.List.{append-nil}
-use Rattle.fq_files.specs.Holding.{Holding, Names, IsUnchanged}
+use Rattle.fq_files.specs.Holding.{Holding, IsUnchanged}
+use Rattle.fq_files.specs.States.{FilesState}
 use Rattle.fq_pair.specs.declared.counts.Counts.{Counts}
 use Rattle.fq_pair.specs.declared.fault.InputFault.{InputFault}
 use Rattle.fq_pair.specs.declared.out.Out.{Out}
@@ -81,26 +82,26 @@ spares_all a (why.Source side cause) old new late same = absurd (cc late)
 spares_all a why.SameReport old new late same = absurd (cc late)
 
 -- a refusal after the inputs are opened says only that both inputs exist
-pub tells_late : (inputs : InputNames) (refusal : Refusal) (old : Holding) (refuses opened : Names)
+pub tells_late : (inputs : InputNames) (refusal : Refusal) (old : FilesState)
     (forward reverse : List ℕ) → IsTrue (is_late refusal)
-    → old inputs.forward ≡ Some forward → old inputs.reverse ≡ Some reverse →
-    TellsInputs inputs refusal old refuses opened
-tells_late inputs (why.Target out cause) old refuses opened forward reverse late first second =
+    → old.bytes inputs.forward ≡ Some forward → old.bytes inputs.reverse ≡ Some reverse →
+    TellsInputs inputs refusal old
+tells_late inputs (why.Target out cause) old forward reverse late first second =
     (subst IsSome (sym first) refl, subst IsSome (sym second) refl)
-tells_late inputs (why.Report cause) old refuses opened forward reverse late first second =
+tells_late inputs (why.Report cause) old forward reverse late first second =
     (subst IsSome (sym first) refl, subst IsSome (sym second) refl)
-tells_late inputs (why.Memory lacked) old refuses opened forward reverse late first second = tt
-tells_late inputs why.Encoding old refuses opened forward reverse late first second =
+tells_late inputs (why.Memory lacked) old forward reverse late first second = tt
+tells_late inputs why.Encoding old forward reverse late first second =
     absurd (cc late)
-tells_late inputs (why.Step fault) old refuses opened forward reverse late first second =
+tells_late inputs (why.Step fault) old forward reverse late first second =
     absurd (cc late)
-tells_late inputs (why.Setting bad) old refuses opened forward reverse late first second =
+tells_late inputs (why.Setting bad) old forward reverse late first second =
     absurd (cc late)
-tells_late inputs (why.SameName out) old refuses opened forward reverse late first second =
+tells_late inputs (why.SameName out) old forward reverse late first second =
     absurd (cc late)
-tells_late inputs (why.Source side cause) old refuses opened forward reverse late first second =
+tells_late inputs (why.Source side cause) old forward reverse late first second =
     absurd (cc late)
-tells_late inputs why.SameReport old refuses opened forward reverse late first second =
+tells_late inputs why.SameReport old forward reverse late first second =
     absurd (cc late)
 
 -- if something was refused, nothing was trimmed

@@ -1,15 +1,15 @@
 -- Outputs that are made one after the other.
-use Rattle.std.proofs.Common.{◌≡◌, ◌≢◌, ℕ, suc, ◌<◌, ◌≤◌, Bool, true, false, IsTrue, IsSome, Option, Some, None, List, [], refl, sym, ap, subst, ◌∙◌, arith, inl, inr, ◌⊎◌, ⊎_elim}
+use Rattle.std.proofs.Common.{◌≡◌, ◌≢◌, ℕ, suc, ◌<◌, ◌≤◌, true, false, IsTrue, IsSome, Option, Some, None, List, [], refl, sym, ap, subst, ◌∙◌, arith, inl, inr, ◌⊎◌, ⊎_elim}
 use Rattle.std.proofs.lemmas.Bool.{cases_Bool}
 use Rattle.std.proofs.lemmas.Slice.Eq.{bytes_eq-Decides}
 use Rattle.std.specs.Str.{bytes_eq}
 use Rattle.fq_pair.specs.declared.out.Out.{Out}
 use Rattle.fq_pair.specs.declared.out.Out.TheVariants.{ForwardPaired, ForwardUnpaired, ReversePaired, ReverseUnpaired, Log}
 use Rattle.fq_files.specs.Holding.{Holding, KeepsOthers}
+use Rattle.fq_files.specs.States.{FilesState, OnlyWrites}
 use Rattle.fq_run_core.specs.Devices.{place}
 use Rattle.fq_files_run.specs.Refusals.{IsMemory, IsTarget, IsReport}
 use Rattle.fq_files_run.specs.declared.refusal.Refusal.{Refusal}
-use Rattle.fq_files_run.specs.declared.refusal.Refusal.TheVariants as why
 use Rattle.fq_cli.specs.Requests.{Asking, output_name}
 use Rattle.fq_files_run.specs.Trimming.{IsNoOutput, KeepsRest, AreHeld}
 use Rattle.fq_files_run.specs.Leaving.{AreUntrimmed, StopsAt, RefusalLeaves}
@@ -50,13 +50,9 @@ unmade_of a this name old new named there others = record {
   others = λ other free. others other (λ same. free (named ∙ ap Some (sym same)));
 }
 
--- whether the bytes of files are known to the proof never changes
-pub along : (a b : Bool) → a ≡ b → IsTrue b → IsTrue a
-along a b e told = subst IsTrue (sym e) told
-
 -- at the start no output has been made, and no file has changed
-pub none_made : (a : Asking) (start : Holding) (tells : Bool) → Made a start 0 tells start
-none_made a start tells told = record {
+pub none_made : (a : Asking) (start : Holding) → AreMade a start 0 start
+none_made a start = record {
   empty = λ out name named below. absurd (omega (arith, below));
   kept = λ name behind. refl;
 }
@@ -223,36 +219,40 @@ leaves_made a start old new this refusal first unmade is =
 -- A call for one more output: the output is made, or it is refused.
 module _ (a : Asking) (start : Holding) (this : Out) (name : List ℕ)
     (named : output_name a this ≡ Some name)
-    (old new : Holding) (told_old told_new : Bool) (told_is : told_new ≡ told_old)
-    (first : Made a start (place this) told_old old) (others : IsTrue told_old →
-    KeepsOthers old new name) where
+    (old new : FilesState) (kept : OnlyWrites old new)
+    (first : Made a start (place this) old) (others : IsTrue old.tells →
+    KeepsOthers old.bytes new.bytes name) where
+  before : IsTrue new.tells → IsTrue old.tells
+  before told = subst IsTrue (ap (λ (files : FilesState). files.tells) kept) told
+
   -- if the output is made, one more has been made
-  pub one_made : (IsTrue told_old → new name ≡ Some []) →
-      Made a start (suc (place this)) told_new new
+  pub one_made : (IsTrue old.tells → new.bytes name ≡ Some []) →
+      Made a start (suc (place this)) new
   one_made emptied told =
-      let before = along told_old told_new (sym told_is) told in
-      next_made a start old new this (first before)
-      (made_of a this name old new named (emptied before) (others before))
+      next_made a start old.bytes new.bytes this (first (before told))
+      (made_of a this name old.bytes new.bytes named (emptied (before told))
+      (others (before told)))
 
   -- if the output is refused, the files hold what its refusal leaves
-  pub none_more : (refusal : Refusal) → (IsTrue told_old → (new name ≡ old name)
-      ⊎ (new name ≡ Some [])) → IsTarget this refusal ⊎ IsMemory refusal →
-      Unmade a refusal start told_new new
+  pub none_more : (refusal : Refusal) → (IsTrue old.tells → (new.bytes name ≡ old.bytes name)
+      ⊎ (new.bytes name ≡ Some [])) → IsTarget this refusal ⊎ IsMemory refusal →
+      Unmade a refusal start new
   none_more refusal there is told =
-      let before = along told_old told_new (sym told_is) told in
-      let unmade = unmade_of a this name old new named (there before) (others before) in
+      let unmade = unmade_of a this name old.bytes new.bytes named (there (before told))
+      (others (before told)) in
       record {
-        rest = rest_unmade a start old new this (first before) unmade;
-        leaves = leaves_made a start old new this refusal (first before) unmade is;
+        rest = rest_unmade a start old.bytes new.bytes this (first (before told)) unmade;
+        leaves = leaves_made a start old.bytes new.bytes this refusal (first (before told))
+            unmade is;
       }
 
 -- without a log, all outputs are made after the fourth
-pub no_log_made : (a : Asking) (start files : Holding) (tells : Bool) → output_name a Log ≡ None →
-    Made a start 4 tells files → Made a start 5 tells files
-no_log_made a start files tells none made told = record {
-  empty = λ out name named below. ⊎_elim (λ before. (made told).empty out name named before)
+pub no_log_made : (a : Asking) (start files : Holding) → output_name a Log ≡ None →
+    AreMade a start 4 files → AreMade a start 5 files
+no_log_made a start files none made = record {
+  empty = λ out name named below. ⊎_elim (λ before. made.empty out name named before)
       (λ four. absurd (not_log out name four named)) (below_next (place out) 4 below);
-  kept = λ name behind. (made told).kept name (λ out named. let more = behind out named in
+  kept = λ name behind. made.kept name (λ out named. let more = behind out named in
       omega (arith, more));
 }
   where

@@ -3,7 +3,9 @@ use Rattle.std.proofs.Common.{◌≡◌, ◌≢◌, ◌⊎◌, ◌∙◌, ℕ, B
 use Rattle.std.specs.Prelude.{IfSome, if◌then◌else◌, unwrap_or}
 use Rattle.fq_text.specs.Devices.{OutletState}
 use Rattle.fq_text.specs.Scores.{encoding_of}
-use Rattle.fq_files.specs.Holding.{Holding, Names, IsUnchanged, KeepsNames, MayRefuse}
+use Rattle.fq_files.specs.Holding.{Holding, KeepsNames}
+use Rattle.fq_files.specs.States.{FilesState, Names, MayRefuse, OnlyOpens}
+use Rattle.fq_files.proofs.StateLemmas.{same_as}
 use Rattle.fq_pair.specs.declared.out.Out.{Out}
 use Rattle.fq_pair.specs.declared.out.Out.TheVariants.{ForwardPaired, ForwardUnpaired, ReversePaired, ReverseUnpaired, Log}
 use Rattle.fq_pair.specs.declared.side.Side.{Side}
@@ -21,7 +23,7 @@ use Rattle.fq_files_run.specs.Refusals.{status_of, IsMemory, IsSource, IsReport}
 use Rattle.fq_files_run.specs.Judging.{choices_of, judged, with_steps, with_encoding, settings_of, wrong_among, wrong_with}
 use Rattle.fq_files_run.specs.Trimming.{Opened, IsNoOutput, KeepsUnnamed, AreFed, IsEmptyOutlet}
 use Rattle.fq_files_run.specs.Leaving.{AreThere, TellsInputs, RefusalLeaves, ReportLeft, is_late}
-use Rattle.fq_files_run.specs.Opening.{AreApart, IsMade, IsRefusable, IsRefused, IsUnopened, MayLead}
+use Rattle.fq_files_run.specs.Opening.{IsMade, IsRefusable, IsRefused, IsUnopened, MayLead}
 use Rattle.fq_files_run.proofs.LeavingLemmas.{tells_late}
 use Rattle.fq_files_run.proofs.MakingLemmas.{this_or_other}
 
@@ -49,23 +51,25 @@ still_there inputs names old new fed keeps = (
 )
 
 -- an output was refused, or the report
-pub refused_late : (a : Asking) (refusal : Refusal) (tells : Bool) (refuses opened : Names)
-    (old new : Holding) (inputs : Opened) → IsTrue (is_late refusal) → status_of refusal ≢ 2 →
-    IsRefusable a (MayLead a.inputs refuses opened) refusal
-    → (IsTrue tells → AreFed inputs a.inputs old) → (IsTrue tells → RefusalLeaves a refusal old new)
-    → (IsTrue tells → (name : List ℕ) → a.report ≡ Some name → IsNoOutput a name →
-    ReportLeft refusal (old name) (new name)) → (IsTrue tells → KeepsUnnamed a old new) →
-    IsUnopened a refusal tells refuses opened old new
-refused_late a refusal tells refuses opened old new inputs behind late refused fed left report_left
+pub refused_late : (a : Asking) (refusal : Refusal) (old new : FilesState) (inputs : Opened) →
+    IsTrue (is_late refusal) → status_of refusal ≢ 2 →
+    IsRefusable a (MayLead a.inputs old) refusal
+    → (IsTrue old.tells → AreFed inputs a.inputs old.bytes) →
+    (IsTrue old.tells → RefusalLeaves a refusal old.bytes new.bytes)
+    → (IsTrue old.tells → (name : List ℕ) → a.report ≡ Some name → IsNoOutput a name →
+    ReportLeft refusal (old.bytes name) (new.bytes name)) →
+    (IsTrue old.tells → KeepsUnnamed a old.bytes new.bytes) → IsUnopened a refusal old new
+refused_late a refusal old new inputs behind late refused fed left report_left
     rest = record {
       late = late;
       refused = refused;
-      inputs = λ told. tells_late a.inputs refusal old refuses opened _ _ behind
+      inputs = λ told. tells_late a.inputs refusal old _ _ behind
           (fed told).forward.bytes_are (fed told).reverse.bytes_are;
       left = left;
       report_left = report_left;
       rest = rest;
-      unopened = λ told side none. absurd (fed_there inputs a.inputs old (fed told) side none);
+      unopened = λ told side none.
+          absurd (fed_there inputs a.inputs old.bytes (fed told) side none);
     }
 
 -- a refusal of the report, or of memory for it, comes after the inputs, and its status is not 2
@@ -131,11 +135,10 @@ wrong_first a (Ok c) None true refusal is e = let one : why.SameReport ≡ refus
     subst (λ (r : Refusal). IsTrue (is_first r)) one refl
 wrong_first a (Ok c) None false refusal is e = absurd (cc e)
 
-first_refused : (a : Asking) (refusal : Refusal) (tells : Bool) (refuses opened : Names)
-    (files : Holding) → IsTrue (is_first refusal) →
-    IsRefused a refusal tells refuses opened files files
+first_refused : (a : Asking) (refusal : Refusal) (files : FilesState) →
+    IsTrue (is_first refusal) → IsRefused a refusal files files
 unfolding is_first
-first_refused a why.Encoding tells refuses opened files first =
+first_refused a why.Encoding files first =
     record {
       refused = tt;
       inputs = λ told. tt;
@@ -143,7 +146,7 @@ first_refused a why.Encoding tells refuses opened files first =
       report_left =
           λ told name named free. refl;
     }
-first_refused a (why.Step fault) tells refuses opened files first =
+first_refused a (why.Step fault) files first =
     record {
       refused = tt;
       inputs = λ told. tt;
@@ -151,7 +154,7 @@ first_refused a (why.Step fault) tells refuses opened files first =
       report_left =
           λ told name named free. refl;
     }
-first_refused a (why.Setting bad) tells refuses opened files first =
+first_refused a (why.Setting bad) files first =
     record {
       refused = tt;
       inputs = λ told. tt;
@@ -159,7 +162,7 @@ first_refused a (why.Setting bad) tells refuses opened files first =
       report_left =
           λ told name named free. refl;
     }
-first_refused a (why.SameName out) tells refuses opened files first =
+first_refused a (why.SameName out) files first =
     record {
       refused = tt;
       inputs = λ told. tt;
@@ -167,9 +170,9 @@ first_refused a (why.SameName out) tells refuses opened files first =
       report_left =
           λ told name named free. refl;
     }
-first_refused a (why.Source side cause) tells refuses opened files first = absurd (cc first)
-first_refused a (why.Target out cause) tells refuses opened files first = absurd (cc first)
-first_refused a why.SameReport tells refuses opened files first =
+first_refused a (why.Source side cause) files first = absurd (cc first)
+first_refused a (why.Target out cause) files first = absurd (cc first)
+first_refused a why.SameReport files first =
     record {
       refused = tt;
       inputs = λ told. tt;
@@ -177,8 +180,8 @@ first_refused a why.SameReport tells refuses opened files first =
       report_left =
           λ told name named free. refl;
     }
-first_refused a (why.Report cause) tells refuses opened files first = absurd (cc first)
-first_refused a (why.Memory lacked) tells refuses opened files first =
+first_refused a (why.Report cause) files first = absurd (cc first)
+first_refused a (why.Memory lacked) files first =
     record {
       refused = tt;
       inputs = λ told. tt;
@@ -188,11 +191,9 @@ first_refused a (why.Memory lacked) tells refuses opened files first =
     }
 
 -- the request was wrong
-pub wrong_refused : (a : Asking) (refusal : Refusal) (tells : Bool) (refuses opened : Names)
-    (files : Holding) → wrong_with a ≡ Some refusal →
-    IsRefused a refusal tells refuses opened files files
-wrong_refused a refusal tells refuses opened files wrong =
-    first_refused a refusal tells refuses opened files
+pub wrong_refused : (a : Asking) (refusal : Refusal) (files : FilesState) →
+    wrong_with a ≡ Some refusal → IsRefused a refusal files files
+wrong_refused a refusal files wrong = first_refused a refusal files
     (wrong_first a (settings_of a) (same_name a) (report_is_input a) refusal refl wrong)
 
 -- what holds of the name that was refused
@@ -210,11 +211,14 @@ refusable_so a P Q (why.Source side cause) so refused = refused
 refusable_so a P Q why.SameReport so refused = refused
 
 -- a name that may be refused after the inputs are opened
-pub refusable_since : (a : Asking) (x y : Names) (before after : Names) (refusal : Refusal) →
-    x ≡ y → ((name : List ℕ) → IsTrue (after name) → MayLead a.inputs y before name)
-    → IsRefusable a (MayRefuse x after) refusal → IsRefusable a (MayLead a.inputs y before) refusal
-refusable_since a x y before after refusal same led refused =
-    refusable_so a (MayRefuse x after) (MayLead a.inputs y before) refusal
+pub refusable_since : (a : Asking) (old : FilesState) (refuses opened : Names)
+    (refusal : Refusal) → refuses ≡ old.refuses →
+    ((name : List ℕ) → IsTrue (opened name) → MayLead a.inputs old name) →
+    IsRefusable a (λ name. IsTrue (refuses name) ⊎ IsTrue (opened name)) refusal →
+    IsRefusable a (MayLead a.inputs old) refusal
+refusable_since a old refuses opened refusal same led refused =
+    refusable_so a (λ name. IsTrue (refuses name) ⊎ IsTrue (opened name)) (MayLead a.inputs old)
+    refusal
     (λ name. ⊎_elim (λ may. inr (inl (subst (λ (r : Names). IsTrue (r name)) same may)))
     (λ leads. led name leads)) refused
 
@@ -301,15 +305,16 @@ right_names a (Ok c) None false right = (refl, refl)
 
 -- an output or the report of a right request is refused only under a name that may be refused, or
 -- led to an input before
-pub refusable_right : (a : Asking) (refuses opened : Names) (refusal : Refusal) →
-    wrong_with a ≡ None → IsRefusable a (MayLead a.inputs refuses opened) refusal →
-    IsRefusable a (MayRefuse refuses opened) refusal
-refusable_right a refuses opened refusal right refused =
+pub refusable_right : (a : Asking) (old : FilesState) (refusal : Refusal) →
+    wrong_with a ≡ None → IsRefusable a (MayLead a.inputs old) refusal →
+    IsRefusable a (MayRefuse old) refusal
+refusable_right a old refusal right refused =
     let names = right_names a (settings_of a) (same_name a) (report_is_input a) right in
-    no_input a (MayRefuse refuses opened) refusal names.0 names.1 refused
+    no_input a (MayRefuse old) refusal names.0 names.1 refused
 
 -- no output leads to an input, and nor does the report
-pub leads_nowhere : (a : Asking) (before after : Names) → after ≡ before → AreApart a before →
+pub leads_nowhere : (a : Asking) (before after : Names) → after ≡ before
+    → ((out : Out) (name : List ℕ) → output_name a out ≡ Some name → before name ≡ false) →
     ((name : List ℕ) → a.report ≡ Some name → before name ≡ false) → (name : List ℕ) →
     IsMade a name → IsTrue (after name) → ⊥
 leads_nowhere a before after same outputs report name made leads =
@@ -353,19 +358,20 @@ taken_unmap state (Some x) empty = empty.taken
 -- ---- the reverse input
 
 -- it was refused after the forward one was opened, which changed no file
-pub tells_reverse : (inputs : InputNames) (refusal : Refusal) (old mid : Holding)
-    (refuses opened led : Names) → IsMemory refusal ⊎ (IsSource Reverse refusal
-    × ((mid inputs.reverse ≡ None) ⊎ IsTrue (led inputs.reverse))) → IsSome (old inputs.forward) →
-    IsUnchanged old mid → ((name : List ℕ) → name ≢ inputs.forward → IsTrue (led name) →
-    MayRefuse refuses opened name) → TellsInputs inputs refusal old refuses opened
-tells_reverse inputs refusal old mid refuses opened led (inl memory) there same linked =
-    let P : Refusal → Type 0 = λ r. TellsInputs inputs r old refuses opened in
+pub tells_reverse : (inputs : InputNames) (refusal : Refusal) (old mid : FilesState) →
+    IsMemory refusal ⊎ (IsSource Reverse refusal
+    × ((mid.bytes inputs.reverse ≡ None) ⊎ IsTrue (mid.is_open inputs.reverse))) →
+    IsSome (old.bytes inputs.forward) → OnlyOpens old mid →
+    ((name : List ℕ) → name ≢ inputs.forward → IsTrue (mid.is_open name) → MayRefuse old name) →
+    TellsInputs inputs refusal old
+tells_reverse inputs refusal old mid (inl memory) there kept linked =
+    let P : Refusal → Type 0 = λ r. TellsInputs inputs r old in
     subst P (sym memory.1) tt
-tells_reverse inputs refusal old mid refuses opened led (inr source) there same linked =
-    let P : Refusal → Type 0 = λ r. TellsInputs inputs r old refuses opened in
+tells_reverse inputs refusal old mid (inr source) there kept linked =
+    let P : Refusal → Type 0 = λ r. TellsInputs inputs r old in
     subst P (sym source.0.1) (
       there,
-      ⊎_elim (λ none. inl (sym (same inputs.reverse) ∙ none))
+      ⊎_elim (λ none. inl (sym (same_as _ _ kept inputs.reverse) ∙ none))
           (λ leads. inr (⊎_elim
           (λ one. let twice : inputs.reverse ≡ inputs.forward = cc in inl twice)
           (λ other. inr (linked inputs.reverse (λ twice. other (ap Some (sym twice))) leads))

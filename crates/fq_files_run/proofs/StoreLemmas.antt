@@ -1,13 +1,14 @@
 -- Outlets that are handed back one after the other.
-use Rattle.std.proofs.Common.{◌≡◌, ℕ, suc, ◌<◌, ◌==◌, Bool, IsTrue, Some, List, refl, sym, ap, subst, ◌∙◌, arith, if◌then◌else◌, ◌⊎◌, ⊎_elim}
+use Rattle.std.proofs.Common.{◌≡◌, ℕ, suc, ◌<◌, ◌==◌, IsTrue, Some, List, refl, sym, ap, subst, ◌∙◌, arith, if◌then◌else◌, ◌⊎◌, ⊎_elim}
 use Rattle.fq_pair.specs.declared.out.Out.{Out}
 use Rattle.fq_pair.specs.declared.out.Out.TheVariants.{ForwardPaired, ForwardUnpaired, ReversePaired, ReverseUnpaired, Log}
 use Rattle.fq_files.specs.Holding.{Holding, KeepsOthers}
+use Rattle.fq_files.specs.States.{FilesState, OnlyStores}
 use Rattle.fq_text.specs.Devices.{OutletState}
 use Rattle.fq_run_core.specs.Devices.{OutletStates, outlet_at, place}
 use Rattle.fq_cli.specs.Requests.{Asking, output_name}
 use Rattle.fq_files_run.specs.Trimming.{HasOwnName}
-use Rattle.fq_files_run.specs.Making.{HoldFirst, Stored}
+use Rattle.fq_files_run.specs.Making.{AreStored, HoldFirst, Stored}
 use Rattle.fq_files_run.proofs.RestLemmas.{rest_of, then_rest}
 
 -- the file of each output that has a name of its own holds what its outlet has taken, if the
@@ -43,9 +44,9 @@ pub below_next : (m n : ℕ) → m < suc n → (m < n) ⊎ (m ≡ n)
 below_next m n h = grind arith
 
 -- as long as no outlet is handed back, no file has changed
-pub none_stored : (a : Asking) (states : OutletStates) (files : Holding) (tells : Bool) →
-    Stored a files states 0 tells files
-none_stored a states files tells told = record {
+pub none_stored : (a : Asking) (states : OutletStates) (files : Holding) →
+    AreStored a files states 0 files
+none_stored a states files = record {
   rest = λ name free. refl;
   hold =
       λ out name outlet h. absurd (omega arith);
@@ -76,30 +77,28 @@ module _ (a : Asking) (states : OutletStates) (old new : Holding) where
 
 -- one more outlet has been handed back, by a call that keeps the others
 pub one_stored : (a : Asking) (start : Holding) (states : OutletStates) (this : Out) (name : List ℕ)
-    (outlet : OutletState) (old new : Holding) (told_old told_new : Bool) →
+    (outlet : OutletState) (old new : FilesState) →
     output_name a this ≡ Some name → outlet_at this states ≡ Some outlet
-    → told_new ≡ told_old → (IsTrue told_old → IsTrue outlet.tells → new name ≡ Some outlet.taken) →
-    (IsTrue told_old → KeepsOthers old new name)
-    → Stored a start states (place this) told_old old →
-    Stored a start states (suc (place this)) told_new new
-one_stored a start states this name outlet old new told_old told_new named at told_is kept others
-    first told =
-    let before = subst IsTrue told_is told in
+    → OnlyStores old new →
+    (IsTrue old.tells → IsTrue outlet.tells → new.bytes name ≡ Some outlet.taken) →
+    (IsTrue old.tells → KeepsOthers old.bytes new.bytes name)
+    → Stored a start states (place this) old → Stored a start states (suc (place this)) new
+one_stored a start states this name outlet old new named at only kept others first told =
+    let before = subst IsTrue (ap (λ (files : FilesState). files.tells) only) told in
     record {
-      rest = then_rest a start old new (first before).rest
-          (rest_of a this name old new named (others before));
-      hold = next_first a states old new this name outlet named at (first before).hold (kept before)
-          (others before);
+      rest = then_rest a start old.bytes new.bytes (first before).rest
+          (rest_of a this name old.bytes new.bytes named (others before));
+      hold = next_first a states old.bytes new.bytes this name outlet named at (first before).hold
+          (kept before) (others before);
     }
 
 -- without a log, all outlets are handed back after the fourth
 pub no_log_stored : (a : Asking) (start : Holding) (states : OutletStates) (files : Holding)
-    (tells : Bool)
     → ((name : List ℕ) (outlet : OutletState) → output_name a Log ≡ Some name →
-    outlet_at Log states ≡ Some outlet → ⊥) → Stored a start states 4 tells files →
-    Stored a start states 5 tells files
-no_log_stored a start states files tells none stored told =
-    record { rest = (stored told).rest; hold = five (stored told).hold }
+    outlet_at Log states ≡ Some outlet → ⊥) → AreStored a start states 4 files →
+    AreStored a start states 5 files
+no_log_stored a start states files none stored =
+    record { rest = stored.rest; hold = five stored.hold }
   where
     five : HoldFirst 4 a states files → HoldFirst 5 a states files
     five first ForwardPaired name outlet below = first ForwardPaired name outlet (omega arith)

@@ -1,6 +1,7 @@
 -- What the files of the outputs hold if the program does not end whole.
 use Rattle.std.specs.Prelude.{◌≡◌, ◌<◌, ◌≤◌, ◌⊎◌, ℕ, Bool, true, false, Option, Some, None, IsSome, IsTrue, Ok, List, [], ◌++◌}
-use Rattle.fq_files.specs.Holding.{Holding, Names, IsUnchanged, MayRefuse}
+use Rattle.fq_files.specs.Holding.{Holding, IsUnchanged}
+use Rattle.fq_files.specs.States.{FilesState, MayRefuse}
 use Rattle.fq_pair.specs.declared.out.Out.{Out}
 use Rattle.fq_pair.specs.declared.side.Side.TheVariants as side
 use Rattle.fq_pair.specs.Mates.{Mates}
@@ -91,16 +92,16 @@ AreThere inputs old = IsSome (old inputs.forward) × IsSome (old inputs.reverse)
 
 -- The input that is named does not exist, or is an input already: before the call, or, after the
 -- forward one was opened, as the same file. An output or the report is refused only if both inputs
--- exist. Given are the names that may be refused, and those that led to an input before the call.
-abbrev pub TellsInputs : InputNames → Refusal → Holding → Names → Names → Type 0
-TellsInputs inputs (why.Source side.Forward cause) old refuses opened =
-    (old inputs.forward ≡ None) ⊎ IsTrue (opened inputs.forward)
-TellsInputs inputs (why.Source side.Reverse cause) old refuses opened =
-    IsSome (old inputs.forward) × ((old inputs.reverse ≡ None)
-    ⊎ ((inputs.reverse ≡ inputs.forward) ⊎ MayRefuse refuses opened inputs.reverse))
-TellsInputs inputs (why.Target out cause) old refuses opened = AreThere inputs old
-TellsInputs inputs (why.Report cause) old refuses opened = AreThere inputs old
-TellsInputs inputs _ old refuses opened = Unit {0}
+-- exist. Given are the files before the call.
+abbrev pub TellsInputs : InputNames → Refusal → FilesState → Type 0
+TellsInputs inputs (why.Source side.Forward cause) old =
+    (old.bytes inputs.forward ≡ None) ⊎ IsTrue (old.is_open inputs.forward)
+TellsInputs inputs (why.Source side.Reverse cause) old =
+    IsSome (old.bytes inputs.forward) × ((old.bytes inputs.reverse ≡ None)
+    ⊎ ((inputs.reverse ≡ inputs.forward) ⊎ MayRefuse old inputs.reverse))
+TellsInputs inputs (why.Target out cause) old = AreThere inputs old.bytes
+TellsInputs inputs (why.Report cause) old = AreThere inputs old.bytes
+TellsInputs inputs _ old = Unit {0}
 
 -- a refusal that can come before the first output is made
 abbrev pub is_early : Refusal → Bool

@@ -1,7 +1,8 @@
 -- Outputs that are made one after the other, and then handed back one after the other, in the order
 -- of `Out`.
-use Rattle.std.specs.Prelude.{◌≡◌, ◌<◌, ◌≤◌, ℕ, Bool, IsTrue, Some, List, []}
+use Rattle.std.specs.Prelude.{◌≡◌, ◌<◌, ◌≤◌, ℕ, IsTrue, Some, List, []}
 use Rattle.fq_files.specs.Holding.{Holding}
+use Rattle.fq_files.specs.States.{FilesState}
 use Rattle.fq_pair.specs.declared.out.Out.{Out}
 use Rattle.fq_text.specs.Devices.{OutletState}
 use Rattle.fq_run_core.specs.Devices.{OutletStates, outlet_at, place}
@@ -23,11 +24,11 @@ pub record StopsMaking (a : Asking) (why : Refusal) (start files : Holding) : Ty
   pub leaves : RefusalLeaves a why start files
 
 -- the first n outputs have been made, if the bytes of the files are known
-abbrev pub Made : Asking → Holding → ℕ → Bool → Holding → Type 0
-Made a start n tells files = IsTrue tells → AreMade a start n files
+abbrev pub Made : Asking → Holding → ℕ → FilesState → Type 0
+Made a start n files = IsTrue files.tells → AreMade a start n files.bytes
 
-abbrev pub Unmade : Asking → Refusal → Holding → Bool → Holding → Type 0
-Unmade a why start tells files = IsTrue tells → StopsMaking a why start files
+abbrev pub Unmade : Asking → Refusal → Holding → FilesState → Type 0
+Unmade a why start files = IsTrue files.tells → StopsMaking a why start files.bytes
 
 -- those of the first n outputs that have a name of their own hold what their outlets have taken
 abbrev pub HoldFirst : ℕ → Asking → OutletStates → Holding → Type 0
@@ -42,5 +43,5 @@ pub record AreStored (a : Asking) (start : Holding)
   pub hold : HoldFirst n a states files
 
 -- the outlets of the first n outputs have been handed back, if the bytes of the files are known
-abbrev pub Stored : Asking → Holding → OutletStates → ℕ → Bool → Holding → Type 0
-Stored a start states n tells files = IsTrue tells → AreStored a start states n files
+abbrev pub Stored : Asking → Holding → OutletStates → ℕ → FilesState → Type 0
+Stored a start states n files = IsTrue files.tells → AreStored a start states n files.bytes

@@ -2,7 +2,7 @@
 
 ghost use Rattle.std.specs.Prelude.{◌≡◌, ◌≢◌, ◌⊎◌, ℕ, List, None, IsTrue, IfOk, IfErr};
 ghost use Rattle.std.specs.Option.{option_map};
-ghost use Rattle.fq_files.specs.Holding.{IsUnchanged, MayRefuse};
+ghost use Rattle.fq_files.specs.States.{MayRefuse, OnlyFails, OnlyOpens};
 ghost use Rattle.fq_cli.specs.Requests.{asking_of, input_name};
 ghost use Rattle.fq_files_run.specs.Refusals.{status_of, IsMemory, IsSource};
 ghost use Rattle.fq_files_run.specs.Trimming.{IsFed, opened_of, left_of, form_of, AreFresh, AreFed};
@@ -43,21 +43,14 @@ pub(crate) fn inputs<T: Files>(
     ensures fresh { IfOk result (λ feeds. AreFresh (opened_of T.In.state feeds)) }
     ensures form { IfOk result (λ feeds. (opened_of T.In.state feeds).form
         ≡ (asking_of request.now).inputs.form) }
-    ensures fed { IfOk result (λ feeds. IsTrue (T.tells_bytes files.old)
+    ensures fed { IfOk result (λ feeds. IsTrue (T.state files.old).tells
         → AreFed (opened_of T.In.state feeds)
-        (asking_of request.now).inputs (T.bytes_of files.old)) }
-    ensures unchanged { IsTrue (T.tells_bytes files.old)
-        → IsUnchanged (T.bytes_of files.old) (T.bytes_of files.new) }
-    ensures told { T.tells_bytes files.new ≡ T.tells_bytes files.old }
-    ensures refusing { T.refuses files.new ≡ T.refuses files.old }
-    ensures failed { T.has_failed files.new ≡ T.has_failed files.old }
-    ensures flushed { T.is_unflushed files.new ≡ T.is_unflushed files.old }
-    ensures linked { (name : List ℕ) → IsTrue (T.is_open files.new name)
-        → MayLead (asking_of request.now).inputs
-        (T.refuses files.old) (T.is_open files.old) name }
-    ensures inputs { IfErr result (λ why. IsTrue (T.tells_bytes files.old)
-        → TellsInputs (asking_of request.now).inputs why
-        (T.bytes_of files.old) (T.refuses files.old) (T.is_open files.old)) }
+        (asking_of request.now).inputs (T.state files.old).bytes) }
+    ensures kept { OnlyOpens (T.state files.old) (T.state files.new) }
+    ensures linked { (name : List ℕ) → IsTrue ((T.state files.new).is_open name)
+        → MayLead (asking_of request.now).inputs (T.state files.old) name }
+    ensures inputs { IfErr result (λ why. IsTrue (T.state files.old).tells
+        → TellsInputs (asking_of request.now).inputs why (T.state files.old)) }
     ensures early { IfErr result (λ why. IsTrue (is_early why)) }
     ensures late { IfErr result (λ why. status_of why ≢ 2) }
 {
@@ -78,22 +71,16 @@ pub(crate) fn inputs<T: Files>(
 // Opens the input of a side.
 fn input<T: Files>(request: &Request<'_>, files: &mut T, side: Side) -> Result<T::In, Refusal>
     ensures fresh { IfOk result (λ feed. (T.In.state feed).failures ≡ 0) }
-    ensures fed { IfOk result (λ feed. IsTrue (T.tells_bytes files.old)
+    ensures fed { IfOk result (λ feed. IsTrue (T.state files.old).tells
         → IsFed (T.In.state feed).tells (T.In.state feed).to_come
-        (T.bytes_of files.old (input_name (asking_of request.now).inputs side))) }
-    ensures unchanged { IsTrue (T.tells_bytes files.old)
-        → IsUnchanged (T.bytes_of files.old) (T.bytes_of files.new) }
-    ensures told { T.tells_bytes files.new ≡ T.tells_bytes files.old }
-    ensures refusing { T.refuses files.new ≡ T.refuses files.old }
-    ensures failed { T.has_failed files.new ≡ T.has_failed files.old }
-    ensures flushed { T.is_unflushed files.new ≡ T.is_unflushed files.old }
+        ((T.state files.old).bytes (input_name (asking_of request.now).inputs side))) }
+    ensures kept { OnlyOpens (T.state files.old) (T.state files.new) }
     ensures linked { (other : List ℕ) → other ≢ input_name (asking_of request.now).inputs side
-        → IsTrue (T.is_open files.new other)
-        → MayRefuse (T.refuses files.old) (T.is_open files.old) other }
-    ensures missing { IfErr result (λ why. IsMemory why
-        ⊎ (IsSource side why × (IsTrue (T.tells_bytes files.old)
-        → (T.bytes_of files.old (input_name (asking_of request.now).inputs side) ≡ None)
-        ⊎ IsTrue (T.is_open files.old (input_name (asking_of request.now).inputs side))))) }
+        → IsTrue ((T.state files.new).is_open other) → MayRefuse (T.state files.old) other }
+    ensures missing { let name = input_name (asking_of request.now).inputs side in
+        IfErr result (λ why. IsMemory why
+        ⊎ (IsSource side why × (IsTrue (T.state files.old).tells
+        → ((T.state files.old).bytes name ≡ None) ⊎ IsTrue ((T.state files.old).is_open name)))) }
     ensures early { IfErr result (λ why. IsTrue (is_early why)) }
     ensures late { IfErr result (λ why. status_of why ≢ 2) }
 {
@@ -109,16 +96,12 @@ pub fn inputs_done<T: Files>(
     files: &mut T,
     feeds: Feeds<Option<T::In>>,
 ) -> InputsSeen
-    requires there { IsTrue (T.tells_bytes files.old)
-        → AreThere (asking_of request.now).inputs (T.bytes_of files.old) }
+    requires there { IsTrue (T.state files.old).tells
+        → AreThere (asking_of request.now).inputs (T.state files.old).bytes }
     requires form { form_of feeds ≡ (asking_of request.now).inputs.form }
-    ensures unchanged { IsTrue (T.tells_bytes files.old)
-        → IsUnchanged (T.bytes_of files.old) (T.bytes_of files.new) }
-    ensures told { T.tells_bytes files.new ≡ T.tells_bytes files.old }
-    ensures leading { T.is_open files.new ≡ T.is_open files.old }
+    ensures kept { OnlyFails (T.state files.old) (T.state files.new) }
     ensures counted { AreFeedsCounted (asking_of request.now).inputs
-        (left_of T.In.state feeds) (T.has_failed files.old) (T.has_failed files.new) }
-    ensures flushed { T.is_unflushed files.new ≡ T.is_unflushed files.old }
+        (left_of T.In.state feeds) (T.state files.old) (T.state files.new) }
 {
     match feeds {
         Feeds::Apart { forward, reverse } => {
@@ -143,15 +126,11 @@ fn input_done<T: Files>(
     side: Side,
     feed: Option<T::In>,
 ) -> Seen
-    requires { IsTrue (T.tells_bytes files.old)
-        → AreThere (asking_of request.now).inputs (T.bytes_of files.old) }
-    ensures unchanged { IsTrue (T.tells_bytes files.old)
-        → IsUnchanged (T.bytes_of files.old) (T.bytes_of files.new) }
-    ensures told { T.tells_bytes files.new ≡ T.tells_bytes files.old }
-    ensures leading { T.is_open files.new ≡ T.is_open files.old }
+    requires { IsTrue (T.state files.old).tells
+        → AreThere (asking_of request.now).inputs (T.state files.old).bytes }
+    ensures kept { OnlyFails (T.state files.old) (T.state files.new) }
     ensures counted { IsFeedCounted (input_name (asking_of request.now).inputs side)
-        (option_map T.In.state feed) (T.has_failed files.old) (T.has_failed files.new) }
-    ensures flushed { T.is_unflushed files.new ≡ T.is_unflushed files.old }
+        (option_map T.In.state feed) (T.state files.old) (T.state files.new) }
 {
     match feed {
         Some(feed) => files.source_done(request.input_name(side), feed),

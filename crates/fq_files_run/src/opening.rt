@@ -2,6 +2,7 @@
 
 ghost use Rattle.std.specs.Prelude.{◌≡◌, ℕ, List, false, Some, None, IsTrue, IsErr, IfSome, IfOk, IfErr};
 ghost use Rattle.std.specs.Option.{option_map};
+ghost use Rattle.fq_files.specs.States.{IsSound};
 ghost use Rattle.fq_run_core.specs.Devices.{outlet_states};
 ghost use Rattle.fq_cli.specs.Requests.{asking_of};
 ghost use Rattle.fq_files_run.specs.Trimming.{opened_of};
@@ -31,19 +32,13 @@ pub fn open<T: Files>(
     files: &mut T,
 ) -> Result<Devices<T::In, T::Target>, Refusal>
     ensures opened { IfOk result (λ devices. AreOpened (asking_of request.now)
-        (T.tells_bytes files.old) (T.bytes_of files.old) (T.bytes_of files.new)
-        (opened_of T.In.state devices.feeds)
+        (T.state files.old) (T.state files.new) (opened_of T.In.state devices.feeds)
         (outlet_states T.Target.state devices.outlets) (option_map T.Target.state devices.report)) }
     ensures unopened { IfErr result (λ why.
-        IsUnopened (asking_of request.now) why
-        (T.tells_bytes files.old) (T.refuses files.old) (T.is_open files.old)
-        (T.bytes_of files.old) (T.bytes_of files.new)) }
-    ensures spared { IsTrue (T.tells_bytes files.old)
-        → SparesInputs (asking_of request.now) (T.is_open files.new)
-        (IsErr result) (T.bytes_of files.old) (T.bytes_of files.new) }
-    ensures told { T.tells_bytes files.new ≡ T.tells_bytes files.old }
-    ensures failed { T.has_failed files.new ≡ T.has_failed files.old }
-    ensures flushed { T.is_unflushed files.new ≡ T.is_unflushed files.old }
+        IsUnopened (asking_of request.now) why (T.state files.old) (T.state files.new)) }
+    ensures spared { SparesInputs (asking_of request.now)
+        (IsErr result) (T.state files.old) (T.state files.new) }
+    ensures sound { IsSound (T.state files.old) (T.state files.new) }
 {
     let feeds = inputs(request, files)?;
     if let Some(out) = input_among_outputs(request, files) {
@@ -63,10 +58,10 @@ pub fn open<T: Files>(
 
 // Returns the first output that leads to an input.
 fn input_among_outputs<T: Files>(request: &Request<'_>, files: &T) -> Option<Out>
-    ensures none { result ≡ None → IsTrue (T.tells_bytes files.now)
-        → AreApart (asking_of request.now) (T.is_open files.now) }
+    ensures none { result ≡ None → IsTrue (T.state files.now).tells
+        → AreApart (asking_of request.now) (T.state files.now) }
     ensures refused { IfSome result (λ out. IsRefusable (asking_of request.now)
-        (λ name. IsTrue (T.is_open files.now name)) (Refusal.Target out Cause.Input)) }
+        (λ name. IsTrue ((T.state files.now).is_open name)) (Refusal.Target out Cause.Input)) }
 {
     if files.leads_to_input(request.forward_paired) {
         return Some(Out::ForwardPaired);
@@ -88,10 +83,11 @@ fn input_among_outputs<T: Files>(request: &Request<'_>, files: &T) -> Option<Out
 
 // Whether the report leads to an input.
 fn input_as_report<T: Files>(request: &Request<'_>, files: &T) -> bool
-    ensures none { result ≡ false → IsTrue (T.tells_bytes files.now) → (name : List ℕ)
-        → (asking_of request.now).report ≡ Some name → T.is_open files.now name ≡ false }
+    ensures none { result ≡ false → IsTrue (T.state files.now).tells → (name : List ℕ)
+        → (asking_of request.now).report ≡ Some name
+        → (T.state files.now).is_open name ≡ false }
     ensures refused { IsTrue result → IsRefusable (asking_of request.now)
-        (λ name. IsTrue (T.is_open files.now name)) (Refusal.Report Cause.Input) }
+        (λ name. IsTrue ((T.state files.now).is_open name)) (Refusal.Report Cause.Input) }
 {
     request
         .report

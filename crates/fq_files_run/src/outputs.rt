@@ -1,7 +1,8 @@
 //! Makes the files of the outputs, and hands their outlets back after the run.
 
 ghost use Rattle.std.specs.Prelude.{◌≡◌, ◌≢◌, ◌⊎◌, [], suc, IsTrue, IsSome, IfOk, IfErr, OnOk, is_some};
-ghost use Rattle.fq_files.specs.Holding.{Holding, KeepsNames, MayRefuse};
+ghost use Rattle.fq_files.specs.Holding.{Holding, KeepsNames};
+ghost use Rattle.fq_files.specs.States.{FilesState, MayRefuse, OnlyStores, OnlyWrites};
 ghost use Rattle.fq_run_core.specs.Devices.{OutletStates, outlet_at, outlet_states, place, AreHealthy, AreFlushed};
 ghost use Rattle.fq_cli.specs.Requests.{asking_of, output_name};
 ghost use Rattle.fq_files_run.specs.Refusals.{status_of, IsMemory, IsTarget};
@@ -9,7 +10,7 @@ ghost use Rattle.fq_files_run.specs.Trimming.{AreHeld, AreEmpty};
 ghost use Rattle.fq_files_run.specs.Leaving.{is_late};
 ghost use Rattle.fq_files_run.specs.Making.{Made, Unmade, Stored};
 ghost use Rattle.fq_files_run.specs.Opening.{IsRefusable};
-ghost use Rattle.fq_files_run.specs.Completing.{Failed, AreCounted};
+ghost use Rattle.fq_files_run.specs.Completing.{AreCounted};
 
 use crate::refusal::{Refusal, target_refused};
 use fq_cli::Request;
@@ -24,23 +25,19 @@ pub(crate) fn outputs<T: Files>(
     files: &mut T,
 ) -> Result<Outlets<T::Target>, Refusal>
     ensures healthy { IfOk result (λ outlets. AreHealthy (outlet_states T.Target.state outlets)) }
-    ensures empty { IfOk result (λ outlets. IsTrue (T.tells_bytes files.old)
+    ensures empty { IfOk result (λ outlets. IsTrue (T.state files.old).tells
         → AreEmpty (outlet_states T.Target.state outlets)) }
     ensures log { IfOk result (λ outlets. is_some outlets.log
         ≡ is_some (asking_of request.now).log) }
     ensures made { OnOk result (Made (asking_of request.now)
-        (T.bytes_of files.old) 5 (T.tells_bytes files.new) (T.bytes_of files.new)) }
+        (T.state files.old).bytes 5 (T.state files.new)) }
     ensures unmade { IfErr result (λ why. Unmade (asking_of request.now)
-        why (T.bytes_of files.old) (T.tells_bytes files.new) (T.bytes_of files.new)) }
-    ensures told { T.tells_bytes files.new ≡ T.tells_bytes files.old }
-    ensures names { IsTrue (T.tells_bytes files.old)
-        → KeepsNames (T.bytes_of files.old) (T.bytes_of files.new) }
+        why (T.state files.old).bytes (T.state files.new)) }
+    ensures names { IsTrue (T.state files.old).tells
+        → KeepsNames (T.state files.old).bytes (T.state files.new).bytes }
     ensures refused { IfErr result (λ why. IsRefusable (asking_of request.now)
-        (MayRefuse (T.refuses files.old) (T.is_open files.old)) why) }
-    ensures refusing { T.refuses files.new ≡ T.refuses files.old }
-    ensures leading { T.is_open files.new ≡ T.is_open files.old }
-    ensures failed { T.has_failed files.new ≡ T.has_failed files.old }
-    ensures flushed { T.is_unflushed files.new ≡ T.is_unflushed files.old }
+        (MayRefuse (T.state files.old)) why) }
+    ensures kept { OnlyWrites (T.state files.old) (T.state files.new) }
     ensures opened { IfErr result (λ why. IsTrue (is_late why)) }
     ensures late { IfErr result (λ why. status_of why ≢ 2) }
 {
@@ -65,29 +62,23 @@ pub(crate) fn outputs<T: Files>(
 fn output<T: Files>(request: &Request<'_>, files: &mut T, out: Out) -> Result<T::Target, Refusal>
     requires { IsSome (output_name (asking_of request.now) out) }
     ensures fresh { IfOk result (λ target. (T.Target.state target).failures ≡ 0) }
-    ensures telling { IfOk result (λ target. IsTrue (T.tells_bytes files.old)
+    ensures telling { IfOk result (λ target. IsTrue (T.state files.old).tells
         → IsTrue (T.Target.state target).tells) }
-    ensures nothing { IfOk result (λ target. IsTrue (T.tells_bytes files.old)
+    ensures nothing { IfOk result (λ target. IsTrue (T.state files.old).tells
         → (T.Target.state target).taken ≡ []) }
-    ensures made { OnOk result ((start : Holding) → Made (asking_of request.now)
-        start (place out) (T.tells_bytes files.old) (T.bytes_of files.old)
-        → Made (asking_of request.now) start
-        (suc (place out)) (T.tells_bytes files.new) (T.bytes_of files.new)) }
-    ensures unmade { IfErr result (λ why. (start : Holding) → Made (asking_of request.now)
-        start (place out) (T.tells_bytes files.old) (T.bytes_of files.old)
-        → Unmade (asking_of request.now) why
-        start (T.tells_bytes files.new) (T.bytes_of files.new)) }
+    ensures made { OnOk result ((start : Holding)
+        → Made (asking_of request.now) start (place out) (T.state files.old)
+        → Made (asking_of request.now) start (suc (place out)) (T.state files.new)) }
+    ensures unmade { IfErr result (λ why. (start : Holding)
+        → Made (asking_of request.now) start (place out) (T.state files.old)
+        → Unmade (asking_of request.now) why start (T.state files.new)) }
     ensures why { IfErr result (λ why. IsTarget out why ⊎ IsMemory why) }
     ensures opened { IfErr result (λ why. IsTrue (is_late why)) }
-    ensures told { T.tells_bytes files.new ≡ T.tells_bytes files.old }
-    ensures names { IsTrue (T.tells_bytes files.old)
-        → KeepsNames (T.bytes_of files.old) (T.bytes_of files.new) }
+    ensures names { IsTrue (T.state files.old).tells
+        → KeepsNames (T.state files.old).bytes (T.state files.new).bytes }
     ensures refused { IfErr result (λ why. IsRefusable (asking_of request.now)
-        (MayRefuse (T.refuses files.old) (T.is_open files.old)) why) }
-    ensures refusing { T.refuses files.new ≡ T.refuses files.old }
-    ensures leading { T.is_open files.new ≡ T.is_open files.old }
-    ensures failed { T.has_failed files.new ≡ T.has_failed files.old }
-    ensures flushed { T.is_unflushed files.new ≡ T.is_unflushed files.old }
+        (MayRefuse (T.state files.old)) why) }
+    ensures kept { OnlyWrites (T.state files.old) (T.state files.new) }
 {
     let Some(name) = request.output_name(out) else {
         unreachable!()
@@ -104,19 +95,17 @@ pub fn store<T: Files>(
     files: &mut T,
     outlets: Outlets<T::Target>,
 ) -> Outlets<Option<SystemError>>
-    requires { IsTrue (T.tells_bytes files.old)
-        → AreHeld (asking_of request.now) (T.bytes_of files.old) }
-    ensures stored { Stored (asking_of request.now)
-        (T.bytes_of files.old) (outlet_states T.Target.state outlets) 5
-        (T.tells_bytes files.new) (T.bytes_of files.new) }
-    ensures names { IsTrue (T.tells_bytes files.old)
-        → KeepsNames (T.bytes_of files.old) (T.bytes_of files.new) }
-    ensures told { T.tells_bytes files.new ≡ T.tells_bytes files.old }
-    ensures leading { T.is_open files.new ≡ T.is_open files.old }
+    requires { IsTrue (T.state files.old).tells
+        → AreHeld (asking_of request.now) (T.state files.old).bytes }
+    ensures stored { Stored (asking_of request.now) (T.state files.old).bytes
+        (outlet_states T.Target.state outlets) 5 (T.state files.new) }
+    ensures names { IsTrue (T.state files.old).tells
+        → KeepsNames (T.state files.old).bytes (T.state files.new).bytes }
+    ensures kept { OnlyStores (T.state files.old) (T.state files.new) }
     ensures counted { AreCounted (asking_of request.now)
-        (outlet_states T.Target.state outlets) 5 (T.has_failed files.old) (T.has_failed files.new) }
+        (outlet_states T.Target.state outlets) 5 (T.state files.old) (T.state files.new) }
     ensures flushed { AreFlushed (outlet_states T.Target.state outlets)
-        → T.is_unflushed files.new ≡ T.is_unflushed files.old }
+        → (T.state files.new).is_unflushed ≡ (T.state files.old).is_unflushed }
 {
     let Outlets {
         forward_paired,
@@ -150,27 +139,23 @@ fn store_one<T: Files>(
     outlet: T::Target,
 ) -> Option<SystemError>
     requires wanted { IsSome (output_name (asking_of request.now) out) }
-    requires held { IsTrue (T.tells_bytes files.old)
-        → AreHeld (asking_of request.now) (T.bytes_of files.old) }
-    ensures held { IsTrue (T.tells_bytes files.new)
-        → AreHeld (asking_of request.now) (T.bytes_of files.new) }
+    requires held { IsTrue (T.state files.old).tells
+        → AreHeld (asking_of request.now) (T.state files.old).bytes }
+    ensures held { IsTrue (T.state files.new).tells
+        → AreHeld (asking_of request.now) (T.state files.new).bytes }
     ensures stored { (start : Holding) (states : OutletStates)
         → outlet_at out states ≡ Some (T.Target.state outlet)
-        → Stored (asking_of request.now) start
-        states (place out) (T.tells_bytes files.old) (T.bytes_of files.old)
-        → Stored (asking_of request.now) start
-        states (suc (place out)) (T.tells_bytes files.new) (T.bytes_of files.new) }
-    ensures names { IsTrue (T.tells_bytes files.old)
-        → KeepsNames (T.bytes_of files.old) (T.bytes_of files.new) }
-    ensures told { T.tells_bytes files.new ≡ T.tells_bytes files.old }
-    ensures leading { T.is_open files.new ≡ T.is_open files.old }
-    ensures counted { (start : Failed) (states : OutletStates)
+        → Stored (asking_of request.now) start states (place out) (T.state files.old)
+        → Stored (asking_of request.now) start states (suc (place out)) (T.state files.new) }
+    ensures names { IsTrue (T.state files.old).tells
+        → KeepsNames (T.state files.old).bytes (T.state files.new).bytes }
+    ensures kept { OnlyStores (T.state files.old) (T.state files.new) }
+    ensures counted { (start : FilesState) (states : OutletStates)
         → outlet_at out states ≡ Some (T.Target.state outlet)
-        → AreCounted (asking_of request.now) states (place out) start (T.has_failed files.old)
-        → AreCounted (asking_of request.now)
-        states (suc (place out)) start (T.has_failed files.new) }
+        → AreCounted (asking_of request.now) states (place out) start (T.state files.old)
+        → AreCounted (asking_of request.now) states (suc (place out)) start (T.state files.new) }
     ensures flushed { IsTrue (T.Target.state outlet).is_flushed
-        → T.is_unflushed files.new ≡ T.is_unflushed files.old }
+        → (T.state files.new).is_unflushed ≡ (T.state files.old).is_unflushed }
 {
     let Some(name) = request.output_name(out) else {
         unreachable!()

@@ -2,7 +2,8 @@
 
 ghost use Rattle.std.specs.Prelude.{◌≡◌, ◌≢◌, ◌⊎◌, ◌++◌, ℕ, List, true, false, Some, None, [], take, is_some, option_map, IsTrue, IsSome, IfOk, IfSome, OnOk, OnErr, IfErr};
 ghost use Rattle.std.specs.String.{string_bytes};
-ghost use Rattle.fq_files.specs.Holding.{KeepsOthers, KeepsNames, MayRefuse};
+ghost use Rattle.fq_files.specs.Holding.{KeepsNames};
+ghost use Rattle.fq_files.specs.States.{MayRefuse, OnlyStores, OnlyWrites};
 ghost use Rattle.fq_text.specs.Written.{line};
 ghost use Rattle.fq_report.specs.Reports.{text_of};
 ghost use Rattle.fq_cli.specs.Requests.{asking_of};
@@ -44,30 +45,26 @@ pub(crate) fn report_target<T: Files>(
     ensures there { IfOk result (λ target. is_some target
         ≡ is_some (asking_of request.now).report) }
     ensures fresh { IfOk result (λ target. IfSome target (λ t. (T.Target.state t).failures ≡ 0)) }
-    ensures telling { IfOk result (λ target. IsTrue (T.tells_bytes files.old)
+    ensures telling { IfOk result (λ target. IsTrue (T.state files.old).tells
         → IfSome target (λ t. IsTrue (T.Target.state t).tells)) }
-    ensures nothing { IfOk result (λ target. IsTrue (T.tells_bytes files.old)
+    ensures nothing { IfOk result (λ target. IsTrue (T.state files.old).tells
         → IfSome target (λ t. (T.Target.state t).taken ≡ [])) }
-    ensures made { OnOk result (IsTrue (T.tells_bytes files.old)
+    ensures made { OnOk result (IsTrue (T.state files.old).tells
         → (name : List ℕ) → (asking_of request.now).report ≡ Some name
-        → IsSome (T.bytes_of files.new name)) }
+        → IsSome ((T.state files.new).bytes name)) }
     ensures why { IfErr result (λ why. IsReport why ⊎ IsMemory why) }
-    ensures left { IfErr result (λ why. IsTrue (T.tells_bytes files.old)
+    ensures left { IfErr result (λ why. IsTrue (T.state files.old).tells
         → (name : List ℕ) → (asking_of request.now).report ≡ Some name
-        → (T.bytes_of files.new name ≡ T.bytes_of files.old name)
-        ⊎ (T.bytes_of files.new name ≡ Some [])) }
-    ensures held { IsTrue (T.tells_bytes files.old)
-        → KeepsNames (T.bytes_of files.old) (T.bytes_of files.new) }
-    ensures others { IsTrue (T.tells_bytes files.old)
+        → ((T.state files.new).bytes name ≡ (T.state files.old).bytes name)
+        ⊎ ((T.state files.new).bytes name ≡ Some [])) }
+    ensures held { IsTrue (T.state files.old).tells
+        → KeepsNames (T.state files.old).bytes (T.state files.new).bytes }
+    ensures others { IsTrue (T.state files.old).tells
         → (name : List ℕ) → (asking_of request.now).report ≢ Some name
-        → T.bytes_of files.new name ≡ T.bytes_of files.old name }
-    ensures told { T.tells_bytes files.new ≡ T.tells_bytes files.old }
+        → (T.state files.new).bytes name ≡ (T.state files.old).bytes name }
     ensures refused { IfErr result (λ why. IsRefusable (asking_of request.now)
-        (MayRefuse (T.refuses files.old) (T.is_open files.old)) why) }
-    ensures refusing { T.refuses files.new ≡ T.refuses files.old }
-    ensures leading { T.is_open files.new ≡ T.is_open files.old }
-    ensures failed { T.has_failed files.new ≡ T.has_failed files.old }
-    ensures flushed { T.is_unflushed files.new ≡ T.is_unflushed files.old }
+        (MayRefuse (T.state files.old)) why) }
+    ensures kept { OnlyWrites (T.state files.old) (T.state files.new) }
 {
     let Some(name) = request.report else {
         return Ok(None);
@@ -88,33 +85,33 @@ pub fn store_report<T: Files>(
 ) -> (Reported, Option<SystemError>)
     requires there { is_some target ≡ is_some (asking_of request.now).report }
     requires fresh { IfSome target (λ t. (T.Target.state t).failures ≡ 0) }
-    requires held { IsTrue (T.tells_bytes files.old)
+    requires held { IsTrue (T.state files.old).tells
         → (name : List ℕ) → (asking_of request.now).report ≡ Some name
-        → IsSome (T.bytes_of files.old name) }
+        → IsSome ((T.state files.old).bytes name) }
     ensures due { result.0 ≢ Reported.NotDue
         → (outcome_status account.now.outcome ≡ 0) ⊎ (outcome_status account.now.outcome ≡ 3) }
     ensures not_due { result.0 ≡ Reported.NotDue → IsSome (asking_of request.now).report
         → (outcome_status account.now.outcome ≢ 0) × (outcome_status account.now.outcome ≢ 3) }
-    ensures took { IsTrue (T.tells_bytes files.old)
+    ensures took { IsTrue (T.state files.old).tells
         → IfSome target (λ t. IsTrue (T.Target.state t).tells)
         → IfSome target (λ t. (T.Target.state t).taken ≡ [])
         → (name : List ℕ) → (asking_of request.now).report ≡ Some name
-        → (bytes : List ℕ) × (T.bytes_of files.new name ≡ Some bytes)
+        → (bytes : List ℕ) × ((T.state files.new).bytes name ≡ Some bytes)
         × TookReport result.0 (asking_of request.now) encoding account.now [] bytes }
-    ensures others { IsTrue (T.tells_bytes files.old)
+    ensures others { IsTrue (T.state files.old).tells
         → (name : List ℕ) → (asking_of request.now).report ≢ Some name
-        → T.bytes_of files.new name ≡ T.bytes_of files.old name }
-    ensures told { T.tells_bytes files.new ≡ T.tells_bytes files.old }
-    ensures leading { T.is_open files.new ≡ T.is_open files.old }
+        → (T.state files.new).bytes name ≡ (T.state files.old).bytes name }
+    ensures kept { OnlyStores (T.state files.old) (T.state files.new) }
     ensures failed { result.0 ≡ Reported.Failed
-        → ReportFailed (asking_of request.now) (T.has_failed files.new) }
-    ensures sound { result.0 ≢ Reported.Failed → T.has_failed files.new ≡ T.has_failed files.old }
-    ensures still { KeepsFailed (T.has_failed files.old) (T.has_failed files.new) }
+        → ReportFailed (asking_of request.now) (T.state files.new) }
+    ensures sound { result.0 ≢ Reported.Failed
+        → (T.state files.new).has_failed ≡ (T.state files.old).has_failed }
+    ensures still { KeepsFailed (T.state files.old) (T.state files.new) }
     // If the run ended whole, a report that is written is flushed.
     ensures flushed { (outcome_status account.now.outcome ≡ 0)
         ⊎ (outcome_status account.now.outcome ≡ 3)
         → (result.0 ≡ Reported.NotDue) ⊎ (result.0 ≡ Reported.Written)
-        → T.is_unflushed files.new ≡ T.is_unflushed files.old }
+        → (T.state files.new).is_unflushed ≡ (T.state files.old).is_unflushed }
 {
     match (request.report, target) {
         (Some(name), Some(mut target)) => {

@@ -72,17 +72,14 @@ impl Files for TroubledFiles<'_> {
 
     type Target = ScriptOutlet;
 
-    ghost tells_bytes = { λ _. false };
-
-    ghost bytes_of = { λ _ _. None };
-
-    ghost refuses = { λ _ _. true };
-
-    ghost is_open = { λ _ _. true };
-
-    ghost has_failed = { λ _ _. true };
-
-    ghost is_unflushed = { λ _ _. true };
+    ghost state = { λ _. record {
+      tells = false;
+      bytes = λ _. None;
+      refuses = λ _. true;
+      is_open = λ _. true;
+      has_failed = λ _. true;
+      is_unflushed = λ _. true;
+    } };
 
     fn source(&mut self, name: &str) -> std::result::Result<ScriptFeed, FileFault> {
         let call = self.failing_call(name)?;

@@ -16,24 +16,22 @@ returns-in-Ok-Pairs-clause-device g c = λ a asked four.
     let shape : asked_pairs c.in-Ok-Pairs.field-0 ≡ Some (asking_of c.in-Ok-Pairs.request) =
     rw c.in-Ok-Pairs.field-0-is refl in
     let same = asks_this _ _ _ a c.in-Ok-Pairs.ensures.ok.ask shape asked in
-    let P : Asking → Type 0 = λ x. NamesDevice x (g.T.Files.tells_bytes c.args.files.now)
-    (g.T.Files.bytes_of c.args.files.now) (g.T.Files.refuses c.args.files.now)
-    (g.T.Files.is_open c.args.files.now)
-    (g.T.Files.has_failed c.trim_pairs.new.files)
+    let P : Asking → Type 0 = λ x. NamesDevice x (g.T.Files.state c.args.files.now)
+    (g.T.Files.state c.trim_pairs.new.files)
     (device_of g.O.Outlet.state c.args.out.now c.trim_pairs.new.out)
     (device_of g.E.Outlet.state c.args.err.now c.trim_pairs.new.err) in
     subst P same (c.trim_pairs.ensures.device four)
 
 -- for the request that was read, no file changes if an output or the report leads to an input
 pub returns-in-Ok-Pairs-clause-spared : goal.returns-in-Ok-Pairs-clause-spared
-returns-in-Ok-Pairs-clause-spared g c = λ a asked told.
+returns-in-Ok-Pairs-clause-spared g c = λ a asked.
     let shape : asked_pairs c.in-Ok-Pairs.field-0 ≡ Some (asking_of c.in-Ok-Pairs.request) =
     rw c.in-Ok-Pairs.field-0-is refl in
     let same = asks_this _ _ _ a c.in-Ok-Pairs.ensures.ok.ask shape asked in
-    let P : Asking → Type 0 = λ x. SparesInputs x (g.T.Files.is_open c.trim_pairs.new.files)
+    let P : Asking → Type 0 = λ x. SparesInputs x
     ((c.trim_pairs.result ≢ 0) × (c.trim_pairs.result ≢ 3))
-    (g.T.Files.bytes_of c.args.files.now) (g.T.Files.bytes_of c.trim_pairs.new.files) in
-    subst P same (c.trim_pairs.ensures.spared told)
+    (g.T.Files.state c.args.files.now) (g.T.Files.state c.trim_pairs.new.files) in
+    subst P same c.trim_pairs.ensures.spared
 
 -- for the request that was read, the files are in step at status 0 and 3
 pub returns-in-Ok-Pairs-clause-in_step : goal.returns-in-Ok-Pairs-clause-in_step
@@ -41,8 +39,8 @@ returns-in-Ok-Pairs-clause-in_step g c = λ a asked.
     let shape : asked_pairs c.in-Ok-Pairs.field-0 ≡ Some (asking_of c.in-Ok-Pairs.request) =
     rw c.in-Ok-Pairs.field-0-is refl in
     let same = asks_this _ _ _ a c.in-Ok-Pairs.ensures.ok.ask shape asked in
-    let P : Asking → Type 0 = λ x. PairsAnswered x (g.T.Files.tells_bytes c.args.files.now)
-    (g.T.Files.bytes_of c.args.files.now) (g.T.Files.bytes_of c.trim_pairs.new.files)
+    let P : Asking → Type 0 = λ x. PairsAnswered x
+    (g.T.Files.state c.args.files.now) (g.T.Files.state c.trim_pairs.new.files)
     (device_of g.O.Outlet.state c.args.out.now c.trim_pairs.new.out)
     (device_of g.E.Outlet.state c.args.err.now c.trim_pairs.new.err) c.trim_pairs.result in
     let answered = subst P same c.trim_pairs.ensures.pairs in
@@ -54,8 +52,8 @@ returns-in-Ok-Pairs-clause-left_in_step g c = λ a asked.
     let shape : asked_pairs c.in-Ok-Pairs.field-0 ≡ Some (asking_of c.in-Ok-Pairs.request) =
     rw c.in-Ok-Pairs.field-0-is refl in
     let same = asks_this _ _ _ a c.in-Ok-Pairs.ensures.ok.ask shape asked in
-    let P : Asking → Type 0 = λ x. PairsAnswered x (g.T.Files.tells_bytes c.args.files.now)
-    (g.T.Files.bytes_of c.args.files.now) (g.T.Files.bytes_of c.trim_pairs.new.files)
+    let P : Asking → Type 0 = λ x. PairsAnswered x
+    (g.T.Files.state c.args.files.now) (g.T.Files.state c.trim_pairs.new.files)
     (device_of g.O.Outlet.state c.args.out.now c.trim_pairs.new.out)
     (device_of g.E.Outlet.state c.args.err.now c.trim_pairs.new.err) c.trim_pairs.result in
     let answered = subst P same c.trim_pairs.ensures.pairs in
@@ -68,7 +66,7 @@ returns-in-Err-clause-pairs g c = λ a asked.
     let memory : kind_of c.in-Err.error ≡ OutOfMemory =
     ⊎_elim (λ e. e) (λ none. absurd none) (subst P asked.parse c.in-Err.ensures.err) in
     let five = c.refuse_words.ensures.no_memory memory in
-    lacks_answer a _ _ _ _ _ _ (c.refuse_words.ensures.memory five).1
+    lacks_answer a _ _ _ _ _ (c.refuse_words.ensures.memory five).1
     (λ told. inl (λ out name named. inl refl)) (λ told name named. inl (inl refl))
     (λ told side none name. refl)
 

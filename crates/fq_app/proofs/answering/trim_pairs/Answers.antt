@@ -1,4 +1,5 @@
-use Rattle.std.proofs.Common.{◌≡◌, ◌≢◌, ◌⊎◌, IsTrue, inl, subst, sym, arith}
+use Rattle.std.proofs.Common.{◌≡◌, ◌≢◌, ◌⊎◌, IsTrue, inl, ap, subst, sym, arith}
+use Rattle.fq_files.specs.States.{FilesState}
 use Rattle.fq_files_run.specs.Faults.{outcome_status}
 use Rattle.fq_app.specs.Answers.{device_of, TookLine, EndsWhole}
 use Rattle.fq_cli.specs.Requests.{asking_of}
@@ -13,8 +14,8 @@ returns-in-Ok-clause-pairs g c =
     let a = asking_of c.args.request.now in
     let account = c.in-Ok.completed.account in
     let reported = c.in-Ok.completed.reported in
-    let run : IsRun a (g.T.Files.tells_bytes c.args.files.now) (g.T.Files.bytes_of c.args.files.now)
-    (g.T.Files.bytes_of c.trim_files.new.files) account.outcome account.counts reported =
+    let run : IsRun a (g.T.Files.state c.args.files.now) (g.T.Files.state c.trim_files.new.files)
+    account.outcome account.counts reported =
     record {
       trims = c.in-Ok.ensures.completed.trims;
       ended = c.in-Ok.ensures.completed.ended;
@@ -22,12 +23,12 @@ returns-in-Ok-clause-pairs g c =
       not_due = c.in-Ok.ensures.completed.not_due;
       held = c.in-Ok.ensures.completed.report;
     } in
-    let line : c.tell.result ≢ 0 → TookLine a _ _ _ _ _ c.tell.result =
-    λ some. told_line a _ _ _ account.outcome account.counts reported run
+    let line : c.tell.result ≢ 0 → TookLine a _ _ _ _ c.tell.result =
+    λ some. told_line a _ _ account.outcome account.counts reported run
     c.in-Ok.completed.seen _ _ _
     (c.tell.ensures.line some) in
     let whole : (c.tell.result ≡ 0) ⊎ (c.tell.result ≡ 3) →
-    IsTrue (g.T.Files.tells_bytes c.args.files.now) → EndsWhole a _ _ _ _ c.tell.result =
+    IsTrue (g.T.Files.state c.args.files.now).tells → EndsWhole a _ _ _ _ c.tell.result =
     λ ends told.
     let status = c.tell.ensures.whole ends in
     record {
@@ -46,11 +47,11 @@ returns-in-Ok-clause-pairs g c =
       right = λ two. absurd (c.tell.ensures.known.1 two);
       line = line;
       known = c.tell.ensures.known.0;
-      left = left_so a _ _ _ _ _ _ whole line;
+      left = left_so a _ _ _ _ _ whole line;
       reported = λ ends told name named.
           let is : (outcome_status account.outcome ≡ 0) ⊎ (outcome_status account.outcome ≡ 3) =
           subst (λ n. (n ≡ 0) ⊎ (n ≡ 3)) (sym (c.tell.ensures.whole ends)) ends in
-          is_held a _ _ _ account.outcome account.counts reported run (c.tell.ensures.reported ends)
+          is_held a _ _ account.outcome account.counts reported run (c.tell.ensures.reported ends)
           is told name named;
       report_left = λ told name named. is_left a _ _ name reported
           (c.in-Ok.ensures.completed.report told name named);
@@ -61,7 +62,7 @@ returns-in-Ok-clause-pairs g c =
 pub returns-in-Ok-clause-device : goal.returns-in-Ok-clause-device
 returns-in-Ok-clause-device g c = λ four.
     let completed = c.in-Ok.ensures.completed in
-    failed_device (asking_of c.args.request.now) _ _ _ _ _
+    failed_device (asking_of c.args.request.now) _ _
     (device_of g.O.Outlet.state c.args.out.now c.tell.new.out) _ _
     c.in-Ok.completed.seen c.in-Ok.completed.account.outcome c.in-Ok.completed.reported
     completed.failed completed.as_it_is completed.report_failed
@@ -89,7 +90,7 @@ returns-in-Ok-clause-wrong g c = λ wrong.
 
 -- a refusal answers the request
 pub returns-in-Err-clause-pairs : goal.returns-in-Err-clause-pairs
-returns-in-Err-clause-pairs g c = refused_answer _ _ _ _ _ _ _ c.in-Err.refusal c.refuse.ensures
+returns-in-Err-clause-pairs g c = refused_answer _ _ _ _ _ _ c.in-Err.refusal c.refuse.ensures
     (λ why is. let same = (c.in-Err.ensures.wrong why is).0 in
     cc same) (λ none. c.in-Err.ensures.right none)
     c.in-Err.ensures.refused.left c.in-Err.ensures.refused.report_left c.in-Err.ensures.unopened
@@ -97,7 +98,7 @@ returns-in-Err-clause-pairs g c = refused_answer _ _ _ _ _ _ _ c.in-Err.refusal 
 -- at status 4 the line of a refusal names the file that was refused
 pub returns-in-Err-clause-device : goal.returns-in-Err-clause-device
 returns-in-Err-clause-device g c =
-    λ four. inl (refused_device (asking_of c.args.request.now) _ _ _ _ _ _ c.in-Err.refusal
+    λ four. inl (refused_device (asking_of c.args.request.now) _ _ _ c.in-Err.refusal
     c.refuse.ensures
     c.in-Err.ensures.refused.inputs c.in-Err.ensures.refused.refused four)
 
@@ -110,11 +111,13 @@ returns-in-Err-clause-spared g c = λ told name made leads. (
 
 -- no device of the files has failed in a call that was refused
 pub returns-in-Err-clause-sound : goal.returns-in-Err-clause-sound
-returns-in-Err-clause-sound g c = λ ends. c.in-Err.ensures.unfailed
+returns-in-Err-clause-sound g c =
+    λ ends. ap (λ (files : FilesState). files.has_failed) c.in-Err.ensures.unfailed
 
 -- a call that was refused leaves no further outlet unflushed
 pub returns-in-Err-clause-flushed : goal.returns-in-Err-clause-flushed
-returns-in-Err-clause-flushed g c = λ ends. c.in-Err.ensures.flushed
+returns-in-Err-clause-flushed g c =
+    λ ends. ap (λ (files : FilesState). files.is_unflushed) c.in-Err.ensures.unfailed
 
 -- the refusal of a wrong request changes no file
 pub returns-in-Err-clause-wrong : goal.returns-in-Err-clause-wrong

@@ -1,10 +1,11 @@
-use Rattle.std.proofs.Common.{◌∙◌, ℕ, IsTrue, IsSome, Option, List, refl, sym, subst}
+use Rattle.std.proofs.Common.{◌∙◌, ℕ, IsTrue, IsSome, Option, List, refl, sym, ap, subst}
 use Rattle.fq_pair.specs.declared.side.Side.TheVariants.{Forward, Reverse}
 use Rattle.fq_run.specs.Devices.{outlet_states}
 use Rattle.fq_run.specs.Endings.{AreTold}
 use Rattle.fq_cli.specs.Requests.{asking_of}
 use Rattle.fq_files_run.specs.Trimming.{opened_of, left_of, run_in}
-use Rattle.fq_files_run.proofs.MakingLemmas.{along}
+use Rattle.fq_files.specs.States.{FilesState}
+use Rattle.fq_files.proofs.StateLemmas.{same_as, store_fail, then_store, told_as, told_before}
 use Rattle.fq_files_run.proofs.StoreLemmas.{all_hold}
 use Rattle.fq_files_run.proofs.EndingLemmas.{ends_so}
 use Rattle.fq_files_run.proofs.FailureLemmas.{as_it_is, fails_as_told, feed_sound, not_lane, outlets_flushed, outlets_sound}
@@ -15,21 +16,27 @@ use Rattle.fq_app.proofs.trimming.complete.Goals as goal
 -- the file of each output exists when the outlets are handed back
 pub store-errors-requires-after_bounds : goal.store-errors-requires-after_bounds
 store-errors-requires-after_bounds g c κs within = λ told out name named.
-    let before = along _ _ (sym c.inputs_done-inputs.ensures.told) told in
+    let kept = c.inputs_done-inputs.ensures.kept in
+    let before = told_before _ _ kept told in
     let P : Option (List ℕ) → Type 0 = λ bytes. IsSome bytes in
-    subst P (sym (c.inputs_done-inputs.ensures.unchanged before name))
+    subst P (sym (same_as _ _ kept name))
     (c.requires.ready.held before out name named)
 
 -- a run on opened devices is completed, has its witness, and makes no further name an input
 pub returns : goal.returns
 returns g c = record {
   witnessed = c.run-account.ensures.witnessed;
-  leading = c.store_report-reported.ensures.leading
-      ∙ (c.store-errors.ensures.leading ∙ c.inputs_done-inputs.ensures.leading);
-  completed = λ start opened settings.
+  kept =
+      let files = g.T.Files.state in
+      let started = files c.args.files.now in
+      let fed = files c.inputs_done-inputs.new.files in
+      let stored = files c.store-errors.new.files in
+      then_store started fed _ (store_fail started fed c.inputs_done-inputs.ensures.kept)
+      (then_store fed stored _ c.store-errors.ensures.kept c.store_report-reported.ensures.kept);
+  completed = λ start since opened settings.
       let a = asking_of c.args.request.now in
       let choices = c.args.settings.now in
-      let told_0 = g.T.Files.tells_bytes c.args.files.now in
+      let files = g.T.Files.state in
       let state = g.T.Target.Outlet.state in
       let inputs = opened_of g.T.In.Feed.state c.args.devices.feeds in
       let before = outlet_states state c.args.devices.outlets in
@@ -40,16 +47,18 @@ returns g c = record {
       let done = c.inputs_done-inputs.ensures in
       let stored = c.store-errors.ensures in
       let reported = c.store_report-reported.ensures in
-      let are_told : IsTrue told_0 → AreTold run =
+      let same = same_as _ _ done.kept in
+      let are_told : IsTrue start.tells → AreTold run =
       λ told. record {
         forward = (opened.fed told).forward.told;
         reverse =
             (opened.fed told).reverse.told;
       } in
-      let held : IsTrue told_0 →
-      IsHeld a choices start (g.T.Files.bytes_of c.store_report-reported.new.files) run =
+      let held : IsTrue start.tells →
+      IsHeld a choices start.bytes (files c.store_report-reported.new.files).bytes run =
       λ told.
-      let told_2 = along _ _ stored.told (along _ _ done.told told) in
+      let told_0 = told_as _ _ since told in
+      let told_2 = told_as _ _ stored.kept (told_as _ _ done.kept told_0) in
       record {
         settings = settings;
         form = opened.ready.form;
@@ -57,7 +66,7 @@ returns g c = record {
         forward_is = (opened.fed told).forward.bytes_are;
         reverse_is = (opened.fed told).reverse.bytes_are;
         log = opened.ready.log;
-        empty = opened.ready.empty told;
+        empty = opened.ready.empty told_0;
         hold = λ out name outlet own at tells. reported.others told_2 name own.report
             ∙ all_hold a after _ (stored.stored told_2).hold out name outlet own at tells;
       } in
@@ -67,22 +76,25 @@ returns g c = record {
         ended = λ told other. first_pairs a choices _ _ run (held told)
             (c.run-account.ensures.every other);
         rest = λ told name free other.
-            let told_2 = along _ _ stored.told (along _ _ done.told told) in
+            let told_0 = told_as _ _ since told in
+            let told_2 = told_as _ _ stored.kept (told_as _ _ done.kept told_0) in
             reported.others told_2 name other
             ∙ ((stored.stored told_2).rest name free
-            ∙ (done.unchanged told name ∙ opened.rest told name free other));
+            ∙ (same name ∙ opened.rest told name free other));
         due = reported.due;
         not_due = reported.not_due;
         report = λ told name named.
-            let told_2 = along _ _ stored.told (along _ _ done.told told) in
-            let empty = opened.ready.report_empty told in
+            let told_0 = told_as _ _ since told in
+            let told_2 = told_as _ _ stored.kept (told_as _ _ done.kept told_0) in
+            let empty = opened.ready.report_empty told_0 in
             let took = reported.took told_2 (tells_unmap state c.args.devices.report empty)
             (taken_unmap state c.args.devices.report empty) name named in
             report_of_run a choices _ _ run account _ _ name took.0 settings opened.ready.form
             (opened.fed told).forward.bytes_are (opened.fed told).reverse.bytes_are
             refl refl refl (λ whole. c.run-account.ensures.whole whole (are_told told))
             c.encoding.ensures reported.due took.1 took.2;
-        failed = λ other. fails_as_told a told_0 start choices inputs run left _ _ _ _ settings refl
+        failed = λ other. fails_as_told a start choices inputs run left _ _ _
+            (files c.store_report-reported.new.files) settings refl
             refl opened.ready.log (sides_in inputs before after left account) opened.fed
             (c.run-account.ensures.every other) done.counted stored.counted reported.still;
         as_it_is =
@@ -93,12 +105,15 @@ returns g c = record {
             let every = c.run-account.ensures.every (not_lane account.outcome whole) in
             reported.sound written
             ∙ (stored.counted.sound (outlets_sound choices run every whole opened.ready.healthy)
-            ∙ done.counted.sound (feed_sound choices run every whole Forward)
-            (feed_sound choices run every whole Reverse));
+            ∙ (done.counted.sound (feed_sound choices run every whole Forward)
+            (feed_sound choices run every whole Reverse)
+            ∙ ap (λ (state : FilesState). state.has_failed) since));
         flushed = λ ends written.
             let whole = ends_so account.outcome _ refl ends in
             let every = c.run-account.ensures.every (not_lane account.outcome whole) in
             reported.flushed ends written
-            ∙ (stored.flushed (outlets_flushed choices run every whole) ∙ done.flushed);
+            ∙ (stored.flushed (outlets_flushed choices run every whole)
+            ∙ (ap (λ (state : FilesState). state.is_unflushed) done.kept
+            ∙ ap (λ (state : FilesState). state.is_unflushed) since));
       };
 }

@@ -1,16 +1,13 @@
-use Rattle.std.proofs.Common.{sym}
 use Rattle.std.proofs.lemmas.Result.{err_from_is_err_and}
 use Rattle.fq_cli.specs.Requests.{asking_of}
-use Rattle.fq_files_run.proofs.MakingLemmas.{along}
 use Rattle.fq_files_run.proofs.OpeningLemmas.{refusable_right, wrong_refused}
-use Rattle.fq_files_run.proofs.CompletingLemmas.{opened_as}
 use Rattle.fq_app.proofs.trimming.trim_files.Goals as goal
 
 -- the refusal of a wrong request is true, and no file has changed
 pub returns-in_err-settings-clause-refused : goal.returns-in_err-settings-clause-refused
 returns-in_err-settings-clause-refused g c =
     let p = err_from_is_err_and c.from_residual.result c.from_residual.ensures.1 in
-    rw (p.1, p.2) (wrong_refused (asking_of c.args.request.now) _ _ _ _ _
+    rw (p.1, p.2) (wrong_refused (asking_of c.args.request.now) _ _
     c.in_err-settings.ensures.wrong)
 
 -- the refusal of a file or of memory is true, and the files hold what it leaves
@@ -20,8 +17,8 @@ returns-in_err-devices-clause-refused g c =
     c.from_residual-in_err-devices.ensures.1 in
     let unopened = c.in_err-devices.ensures.unopened in
     rw (p.1, p.2) (record {
-      refused = refusable_right (asking_of c.args.request.now) _ _ _
-          c.in_ok-settings.ensures.right unopened.refused;
+      refused = refusable_right (asking_of c.args.request.now)
+          (g.T.Files.state c.args.files.now) _ c.in_ok-settings.ensures.right unopened.refused;
       inputs = unopened.inputs;
       left =
           unopened.left;
@@ -37,9 +34,7 @@ returns-in_err-devices-clause-spared g c = λ told name made leads. (
 
 -- a run changes only the files of the outputs and of the report
 pub returns-clause-rest : goal.returns-clause-rest
-returns-clause-rest g c = λ told.
+returns-clause-rest g c =
     let devices = c.in_ok-devices.ensures in
-    let completed =
-    c.complete.ensures.completed _ (opened_as _ _ _ _ _ _ _ _ (sym devices.told) devices.opened)
-    c.in_ok-settings.ensures.settings in
-    completed.rest (along _ _ devices.told told)
+    (c.complete.ensures.completed _ devices.sound devices.opened
+    c.in_ok-settings.ensures.settings).rest

@@ -11,7 +11,7 @@ returns-clause-made g c =
     let named = sym c.output_name.ensures ∙ ap (option_map (λ name. name.now)) c.in-Some.is in
     cases_mapped c.target.result c.map_err.result _ _ _ c.map_err.ensures.cases
     (λ target made start first. one_made (asking_of c.args.request.now) start c.args.out _ named
-    _ _ _ _ c.target.ensures.told first c.target.ensures.others
+    _ _ c.target.ensures.kept first c.target.ensures.others
     (rw made at c.target.ensures.emptied))
     (λ fault why failed gave. tt)
 
@@ -23,5 +23,5 @@ returns-clause-unmade g c =
     (λ target made. tt)
     (λ fault why failed gave start first. none_more (asking_of c.args.request.now) start c.args.out
     _ named
-    _ _ _ _ c.target.ensures.told first c.target.ensures.others _
+    _ _ c.target.ensures.kept first c.target.ensures.others _
     (rw failed at c.target.ensures.refused) (search rules))

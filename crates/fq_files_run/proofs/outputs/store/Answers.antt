@@ -11,7 +11,7 @@ use Rattle.fq_files_run.proofs.outputs.store.Goals.{in_default-via-in-Some+in_de
 pub returns-in-Some-Some-clause-stored : goal.returns-in-Some-Some-clause-stored
 returns-in-Some-Some-clause-stored g c =
     let a = asking_of c.args.request.now in
-    let stored_1 = c.store_one-forward_paired.ensures.stored _ _ refl (none_stored a _ _ _) in
+    let stored_1 = c.store_one-forward_paired.ensures.stored _ _ refl (λ told. none_stored a _ _) in
     let stored_2 = c.store_one-forward_unpaired.ensures.stored _ _ refl stored_1 in
     let stored_3 = c.store_one-reverse_paired.ensures.stored _ _ refl stored_2 in
     let stored_4 = c.store_one-reverse_unpaired.ensures.stored _ _ refl stored_3 in
@@ -23,18 +23,18 @@ returns-in_default-clause-stored g c =
     let a = asking_of c.args.request.now in
     let states = outlet_states g.T.Target.Outlet.state c.args.outlets in
     let stored_1 =
-    c.store_one-forward_paired.ensures.stored _ states refl (none_stored a states _ _) in
+    c.store_one-forward_paired.ensures.stored _ states refl (λ told. none_stored a states _) in
     let stored_2 = c.store_one-forward_unpaired.ensures.stored _ _ refl stored_1 in
     let stored_3 = c.store_one-reverse_paired.ensures.stored _ _ refl stored_2 in
     let stored_4 = c.store_one-reverse_unpaired.ensures.stored _ _ refl stored_3 in
-    no_log_stored a _ states _ _ (λ name outlet named at. elim c.in_default.branch [
+    λ told. no_log_stored a _ states _ (λ name outlet named at. elim c.in_default.branch [
       | in_default-via-in-Some+in_default w ↦
           let none : outlet_at Log states ≡ None = rw w.in_default.is-1 refl in
           let bad : None ≡ Some outlet = sym none ∙ at in cc
       | in_default-via-in_default w ↦
           let none : output_name a Log ≡ None = rw w.in_default.is-0 refl in
           let bad : None ≡ Some name = sym none ∙ named in cc
-    ]) stored_4
+    ]) (stored_4 told)
 
 -- with a trim log, the failures of all five outlets are known
 pub returns-in-Some-Some-clause-counted : goal.returns-in-Some-Some-clause-counted

@@ -1,7 +1,7 @@
 use Rattle.std.proofs.Common.{◌∙◌, sym, ap}
 use Rattle.std.specs.Option.{option_map}
+use Rattle.fq_files.proofs.StateLemmas.{told_before}
 use Rattle.fq_cli.specs.Requests.{asking_of}
-use Rattle.fq_files_run.proofs.MakingLemmas.{along}
 use Rattle.fq_files_run.proofs.StoreLemmas.{one_stored}
 use Rattle.fq_files_run.proofs.CountingLemmas.{one_counted}
 use Rattle.fq_files_run.proofs.outputs.store_one.Goals as goal
@@ -14,7 +14,7 @@ done-requires-after_bounds g c κs within = λ told. c.requires.held told c.args
 -- the file of each output still exists
 pub returns-clause-held : goal.returns-clause-held
 returns-clause-held g c = λ told out name named.
-    let before = along _ _ (sym c.done.ensures.told) told in
+    let before = told_before _ _ c.done.ensures.kept told in
     c.done.ensures.held before name (c.requires.held before out name named)
 
 -- one more output's file holds what its outlet has taken
@@ -22,9 +22,9 @@ pub returns-clause-stored : goal.returns-clause-stored
 returns-clause-stored g c = λ start states at first.
     let outlet = g.T.Target.Outlet.state c.args.outlet in
     let named = sym c.output_name.ensures ∙ ap (option_map (λ name. name.now)) c.in-Some.is in
-    one_stored (asking_of c.args.request.now) start states c.args.out c.in-Some.name.now outlet _ _
-    _ _ named at
-    c.done.ensures.told c.done.ensures.stored c.done.ensures.others first
+    one_stored (asking_of c.args.request.now) start states c.args.out c.in-Some.name.now outlet
+    (g.T.Files.state c.args.files.now) (g.T.Files.state c.done.new.self) named at
+    c.done.ensures.kept c.done.ensures.stored c.done.ensures.others first
 
 -- the failures of one more outlet are known
 pub returns-clause-counted : goal.returns-clause-counted

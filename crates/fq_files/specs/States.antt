@@ -1,0 +1,53 @@
+-- Files as contracts see them, and what a call leaves as it was.
+use Rattle.std.specs.Prelude.{◌≡◌, ◌⊎◌, ℕ, Bool, IsTrue, List}
+use Rattle.fq_files.specs.Holding.{Holding}
+
+-- some names
+abbrev pub Names : Type 0
+Names = List ℕ → Bool
+
+pub record FilesState : Type 0 where
+  -- Whether the bytes of these files are known to the proof. This never changes.
+  pub tells : Bool
+  -- The bytes of each name that is held.
+  pub bytes : Holding
+  -- Whether this name may be refused as an output for another reason than memory, or may lead to
+  -- the file of another name, as a link does. This never changes.
+  pub refuses : Names
+  -- Whether this name leads to a file that was opened as an input. Each name that was opened does,
+  -- and never stops doing so; another name does only if it may lead to the file of another name.
+  pub is_open : Names
+  -- Whether a device of this name has failed. A failure may count for other names too; without a
+  -- failure nothing counts.
+  pub has_failed : Names
+  -- Whether a target of this name was handed back that was not flushed after its last write. It may
+  -- count for other names too; without such a target nothing counts.
+  pub is_unflushed : Names
+
+-- this name may be refused, or it leads to an input
+abbrev pub MayRefuse : FilesState → List ℕ → Type 0
+MayRefuse files name = IsTrue (files.refuses name) ⊎ IsTrue (files.is_open name)
+
+-- only which names lead to an input has changed
+abbrev pub OnlyOpens : FilesState → FilesState → Type 0
+OnlyOpens old new = new ≡ record old { is_open = new.is_open }
+
+-- only which names have a device that failed has changed
+abbrev pub OnlyFails : FilesState → FilesState → Type 0
+OnlyFails old new = new ≡ record old { has_failed = new.has_failed }
+
+-- only bytes have changed
+abbrev pub OnlyWrites : FilesState → FilesState → Type 0
+OnlyWrites old new = new ≡ record old { bytes = new.bytes }
+
+-- only bytes have changed, and which names have a device that failed or was not flushed
+abbrev pub OnlyStores : FilesState → FilesState → Type 0
+OnlyStores old new = new ≡ record old {
+  bytes = new.bytes;
+  has_failed = new.has_failed;
+  is_unflushed = new.is_unflushed;
+}
+
+-- since then no device has failed, and each target that was handed back was flushed
+abbrev pub IsSound : FilesState → FilesState → Type 0
+IsSound old new = new ≡ record old { bytes = new.bytes; is_open = new.is_open }
