@@ -19,7 +19,7 @@ zipped='The file looks compressed, by gzip or as BAM'
 
 # The files of a call: two pairs, in two files and in one, and what is mistaken for them.
 make_files() {
-  rm -rf r1.fq r2.fq both.fq empty.fq cut.fq gz.fq bam.fq fasta.fq other.fq first.fq link.fq d p1 u1 p2 u2
+  rm -rf r1.fq r2.fq both.fq empty.fq cut.fq gz.fq bam.fq fasta.fq other.fq odd.fq long.fq first.fq link.fq d p1 u1 p2 u2
   printf '@p1/1\nACGT\n+\n#!II\n@p2/1\nGGCC\n+\nIIII\n' > r1.fq
   printf '@p1/2\nTTTT\n+\nIIII\n@p2/2\nAAAA\n+\n!!!"\n' > r2.fq
   printf '@p1/1\nACGT\n+\n#!II\n@p1/2\nTTTT\n+\nIIII\n' > both.fq
@@ -32,6 +32,8 @@ make_files() {
   printf '>p1/1\nACGT\n' > fasta.fq
   ln -s r1.fq link.fq
   printf '@p2/2\nAAAA\n+\n!!!"\n@p1/2\nTTTT\n+\nIIII\n' > other.fq
+  printf '@/1 a name of no byte\nACGT\n+\n#!II\n@\a\033[31mp\303\251/2\nTTTT\n+\nIIII\n' > odd.fq
+  printf '@%s/1\nACGT\n+\n#!II\n' "$(printf 'p%.0s' {1..100000})" > long.fq
   mkdir d
 }
 
@@ -106,8 +108,11 @@ both 3 'input: reverse record 2: NoPlus' 'cut.fq: the file ends before the line 
 both 3 'input: forward record 1: MateMissing' 'empty.fq: the file ends before this record, and r2.fq has it' PE empty.fq r2.fq "${outs[@]}" CROP:1
 both 3 'input: reverse record 2: MateMissing' 'first.fq: the file ends before this record, and r1.fq has it' PE r1.fq first.fq "${outs[@]}" CROP:1
 both 3 'input: reverse record 2: MateMissing' 'both.fq: the file ends after a forward read' IL both.fq "${outs[@]}" CROP:1
-both 3 'input: record 1: NamesDiffer' 'the reads of r1.fq and other.fq have different names (see --no-name-check)' PE r1.fq other.fq "${outs[@]}" CROP:1
-both 3 'input: record 1: NamesDiffer' 'r1.fq: the reads of the pair have different names (see --no-name-check)' IL r1.fq "${outs[@]}" CROP:1
+both 3 'input: record 1: NamesDiffer' "r1.fq has 'p1' and other.fq has 'p2' (see --no-name-check)" PE r1.fq other.fq "${outs[@]}" CROP:1
+both 3 'input: record 1: NamesDiffer' "r1.fq: the pair has the names 'p1' and 'p2/1' (see --no-name-check)" IL r1.fq "${outs[@]}" CROP:1
+both 3 'input: record 1: NamesDiffer' "odd.fq has '' and r2.fq has 'p1' (see --no-name-check)" PE odd.fq r2.fq "${outs[@]}" CROP:1
+both 3 'input: record 1: NamesDiffer' "odd.fq: the pair has the names '' and '??[31mp??' (see --no-name-check)" IL odd.fq "${outs[@]}" CROP:1
+both 3 'input: record 1: NamesDiffer' "long.fq has '$(printf 'p%.0s' {1..100})' and r2.fq has 'p1' (see --no-name-check)" PE long.fq r2.fq "${outs[@]}" CROP:1
 
 row='devices'
 both 4 'write failed: forward paired' "/dev/full: $full" PE r1.fq r2.fq /dev/full u1 p2 u2 CROP:1

@@ -245,12 +245,12 @@ refused 3 'trim_gz: input: reverse record 1501: MateMissing: data/a2.gz: the fil
 refused 3 'trim_gz: input: reverse record 1501: MateMissing: data/a2.gz: the file ends before this record, and data/f.gz has it' -1 data/f.gz -2 data/a2.gz --report out/report "${rest[@]}"
 
 row='files that are not mates'
-refused 3 'trim_gz: input: record 1: NamesDiffer: the reads of data/f.gz and data/b2.gz have different names (see --no-name-check)' -1 data/f.gz -2 data/b2.gz "${rest[@]}"
+refused 3 "trim_gz: input: record 1: NamesDiffer: data/f.gz has 'r1' and data/b2.gz has 'r1501' (see --no-name-check)" -1 data/f.gz -2 data/b2.gz "${rest[@]}"
 
 row='files that are not mates, if a closed pipe gives no signal'
 (
   trap '' PIPE
-  refused 3 'trim_gz: input: record 1: NamesDiffer: the reads of data/f.gz and data/b2.gz have different names (see --no-name-check)' -1 data/f.gz -2 data/b2.gz "${rest[@]}"
+  refused 3 "trim_gz: input: record 1: NamesDiffer: data/f.gz has 'r1' and data/b2.gz has 'r1501' (see --no-name-check)" -1 data/f.gz -2 data/b2.gz "${rest[@]}"
   exit "$failed"
 ) || failed=1
 

@@ -14,7 +14,6 @@ use Rattle.fq_run.specs.Outcome.TheVariants.{Lane}
 use Rattle.fq_run.specs.Endings.{ends_whole}
 use Rattle.fq_files_run.specs.Faults.{settled, outcome_status}
 use Rattle.fq_text.specs.Written.{line}
-use Rattle.fq_text.specs.declared.seen.Seen.{Seen}
 use Rattle.fq_reasons.specs.Lines.{explained, line_of, ending_line, report_line}
 use Rattle.fq_cli.specs.Requests.{Asking, input_name}
 use Rattle.fq_cli.specs.Words.{AskedFor, asked_pairs, pairs_asked}
@@ -27,6 +26,7 @@ use Rattle.fq_files_run.proofs.LeavingLemmas.{refusal_untrimmed, report_untrimme
 use Rattle.fq_files_run.specs.Refusals.{status_of}
 use Rattle.fq_app.specs.Answers.{Device, EndsWhole, IsRefusal, IsEnding, IsUnprinted, IsUntold, IsUnreported, IsReportLeft, IsReportUncut, LacksMemory, NamesRefused, NamesDevice, PairsAnswered, Refuses, Tells, TookLine, memory_line, print_line}
 use Rattle.fq_files_run.specs.declared.refusal.Refusal.{Refusal}
+use Rattle.fq_files_run.specs.declared.seeing.EndingSeen.{EndingSeen}
 use Rattle.fq_files_run.specs.declared.reporting.Reported.{Reported}
 use Rattle.fq_files_run.specs.declared.reporting.Reported.TheVariants as report
 use Rattle.fq_files_run.specs.Opening.{IsRefusable}
@@ -283,7 +283,7 @@ module _ (a : Asking) (old new : FilesState) (outcome : Outcome) (counts : Count
   is_uncut (inr written) tells name named = inr (held_as report.Written written tells name named)
 
   -- the line of a run that was made
-  pub told_line : (seen : Seen) (out err : Device) (status : ℕ) →
+  pub told_line : (seen : EndingSeen) (out err : Device) (status : ℕ) →
       Tells a seen outcome reported out err status → TookLine a old new out err status
   told_line seen out err status (inl (which, inl ending)) = record {
     text = ending_line a seen outcome;
@@ -372,7 +372,7 @@ four_not_lane outcome four lane = let six : outcome_status outcome ≡ 6 = ap ou
 
 -- what has failed
 pub failed_device : (a : Asking) (old new : FilesState)
-    (out err : Device) (status : ℕ) (seen : Seen) (outcome : Outcome)
+    (out err : Device) (status : ℕ) (seen : EndingSeen) (outcome : Outcome)
     (reported : Reported) → (outcome ≢ Lane → HasFailed a old new outcome) →
     (IsTrue old.tells → settled outcome ≡ outcome) →
     (reported ≡ report.Failed → ReportFailed a new)

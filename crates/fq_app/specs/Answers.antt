@@ -4,7 +4,6 @@ use Rattle.std.specs.List.{All}
 use Rattle.fq_text.specs.Devices.{OutletState}
 use Rattle.fq_text.specs.Written.{line}
 use Rattle.fq_text.specs.declared.memory.MemoryRefused.{MemoryRefused}
-use Rattle.fq_text.specs.declared.seen.Seen.{Seen}
 use Rattle.fq_text.specs.declared.seen.SystemError.{SystemError}
 use Rattle.fq_files.specs.Holding.{Holding, IsUnchanged}
 use Rattle.fq_files.specs.States.{FilesState, MayRefuse}
@@ -27,6 +26,7 @@ use Rattle.fq_files_run.specs.Leaving.{RefusalLeaves, ReportLeft, HoldFirstPairs
 use Rattle.fq_files_run.specs.Opening.{IsRefusable}
 use Rattle.fq_files_run.specs.Completing.{HasFailed, ReportFailed}
 use Rattle.fq_files_run.specs.Reporting.{HoldsReport, BeginsReport}
+use Rattle.fq_files_run.specs.declared.seeing.EndingSeen.{EndingSeen}
 use Rattle.fq_files_run.specs.declared.reporting.Reported.{Reported}
 use Rattle.fq_files_run.specs.declared.reporting.Reported.TheVariants as report
 
@@ -66,7 +66,7 @@ pub record TookPart (d : Device) (text : List ℕ) : Type 0 where
 pub record EndsWhole (a : Asking) (old new : Holding) (out err : Device) (status : ℕ) : Type 0 where
   pub outcome : Outcome
   pub counts : Counts
-  pub seen : Seen
+  pub seen : EndingSeen
   pub trims : TrimsFiles a old new outcome counts
   pub status_is : outcome_status outcome ≡ status
   pub printed : TookPart out (summary_of counts)
@@ -104,7 +104,7 @@ pub record IsRefusal (a : Asking)
 pub record IsEnding (a : Asking)
     (old new : FilesState) (status : ℕ) (text : List ℕ) : Type 0 where
   pub outcome : Outcome
-  pub seen : Seen
+  pub seen : EndingSeen
   pub status_is : outcome_status outcome ≡ status
   pub text_is : ending_line a seen outcome ≡ text
   pub left : IsTrue old.tells → outcome ≢ Lane → HoldFirstPairs a old.bytes new.bytes outcome
@@ -173,7 +173,7 @@ Reports text outcome out err status =
 
 -- `Reports` holds if the report was written or none was due; otherwise standard error took the line
 -- for a report that was not written or for which memory was refused
-abbrev pub Tells : Asking → Seen → Outcome → Reported → Device → Device → ℕ → Type 0
+abbrev pub Tells : Asking → EndingSeen → Outcome → Reported → Device → Device → ℕ → Type 0
 Tells a seen outcome reported out err status =
     (((reported ≡ report.NotDue) ⊎ (reported ≡ report.Written))
     × Reports (ending_line a seen outcome) outcome out err status)
@@ -200,7 +200,7 @@ pub record NamesRefused (a : Asking) (old : FilesState) (err : Device) : Type 0 
 -- a device of that name has failed, or the input of that side is endless
 pub record NamesFailed (a : Asking) (old new : FilesState) (err : Device) : Type 0 where
   pub outcome : Outcome
-  pub seen : Seen
+  pub seen : EndingSeen
   pub status_is : outcome_status outcome ≡ 4
   pub told : TookText err (ending_line a seen outcome)
   pub has_failed : HasFailed a old new outcome

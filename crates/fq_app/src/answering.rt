@@ -26,7 +26,7 @@ use clap::Error;
 use clap::error::ErrorKind;
 use fq_cli::{Asked, Request, read_words};
 use fq_files::Files;
-use fq_files_run::{Refusal, Reported};
+use fq_files_run::{EndingSeen, Refusal, Reported};
 use fq_text::{MemoryRefused, Outlet, Seen, send};
 use std::alloc::{AllocError, Global};
 use std::sync::Wait;
@@ -218,7 +218,7 @@ fn tell<O: Outlet, E: Outlet>(
             tell_account(
                 alloc,
                 Some(request),
-                completed.seen,
+                &completed.seen,
                 &completed.account,
                 out,
                 err,
@@ -270,7 +270,10 @@ fn print_example<R: Threads + Wait + Copy + Send + 'static, O: Outlet, E: Outlet
             Ok(()) => 0,
             Err(_) => cannot_print(err),
         },
-        Err(ExampleFailed::Unrun(ran)) => tell_account(alloc, None, Seen::NOTHING, &ran, out, err),
+        Err(ExampleFailed::Unrun(ran)) => {
+            let seen = EndingSeen::of_device(Seen::NOTHING);
+            tell_account(alloc, None, &seen, &ran, out, err)
+        }
         Err(ExampleFailed::Memory(refused)) => out_of_memory(err, refused),
     }
 }

@@ -10,20 +10,20 @@ ghost use Rattle.fq_cli.specs.Requests.{asking_of};
 ghost use Rattle.fq_reasons.specs.Lines.{line_for};
 
 use fq_cli::Request;
-use fq_files_run::{Account, LANE_LINE, MEMORY_LINE, fault_line, status_of};
+use fq_files_run::{Account, EndingSeen, LANE_LINE, MEMORY_LINE, fault_line, status_of};
 use fq_pair::{Counts, summary};
 use fq_reasons::{REPORT_LINE, ending_line, report_line};
 use fq_run::Outcome;
-use fq_text::{MemoryRefused, OutOfMemory, Outlet, Seen, SystemError, send};
+use fq_text::{MemoryRefused, OutOfMemory, Outlet, SystemError, send};
 use std::alloc::Global;
 
 /// Prints the summary to `out` if the run ended whole, and the line of a fault to `err`. The run is
-/// that of a request, or that of the example. `seen` is what the device can say that the outcome
-/// names. Returns the exit status.
+/// that of a request, or that of the example. `seen` is what can be said of the outcome. Returns
+/// the exit status.
 pub(crate) fn tell_account<O: Outlet, E: Outlet>(
     alloc: Global,
     request: Option<&Request<'_>>,
-    seen: Seen,
+    seen: &EndingSeen,
     account: &Account,
     out: &mut O,
     err: &mut E,
@@ -43,9 +43,9 @@ pub(crate) fn tell_account<O: Outlet, E: Outlet>(
     // The line of the outcome went to `err`.
     ensures told { (result ≡ 0) ⊎ (result ≡ 3)
         → TookText (device_of E.state err.old err.new)
-        (line_for (option_map (λ r. asking_of r.now) request.entry) seen account.now.outcome) }
+        (line_for (option_map (λ r. asking_of r.now) request.entry) seen.now account.now.outcome) }
     ensures line { result ≢ 0 → Reports
-        (line_for (option_map (λ r. asking_of r.now) request.entry) seen account.now.outcome)
+        (line_for (option_map (λ r. asking_of r.now) request.entry) seen.now account.now.outcome)
         account.now.outcome
         (device_of O.state out.old out.new) (device_of E.state err.old err.new) result }
     ensures memory { result ≡ 5 → (out.new ≡ out.old)
@@ -87,11 +87,11 @@ pub(crate) fn tell_account<O: Outlet, E: Outlet>(
 fn told_line(
     alloc: Global,
     request: Option<&Request<'_>>,
-    seen: Seen,
+    seen: &EndingSeen,
     outcome: Outcome,
 ) -> Result<String, OutOfMemory>
     ensures { IfOk result (λ text. string_bytes text
-        ≡ line_for (option_map (λ r. asking_of r.now) request.entry) seen outcome) }
+        ≡ line_for (option_map (λ r. asking_of r.now) request.entry) seen.now outcome) }
 {
     let Some(request) = request else {
         let mut line = String::new(alloc);

@@ -17,12 +17,12 @@ ghost use Rattle.fq_files.specs.States.{FilesState, IsSound, OnlyStores};
 use fq_cli::Request;
 use fq_files::Files;
 use fq_files_run::{
-    Account, Devices, Feeds, Refusal, Reported, inputs_done, judge, open, seen_of, store,
-    store_report,
+    Account, Devices, EndingSeen, Feeds, Refusal, Reported, inputs_done, judge, open, seen_of,
+    store, store_report,
 };
-use fq_pair::Side;
+use fq_pair::{Side, UnmatchedNames};
 use fq_run::{Outcome, Outlets, Settings, run_threads, run_threads_mixed};
-use fq_text::{Feed, MemoryRefused, OutOfMemory, Outlet, Seen, SystemError};
+use fq_text::{Feed, MemoryRefused, OutOfMemory, Outlet, SystemError};
 use fq_work::OpenGate;
 use std::alloc::Global;
 use std::sync::{Arc, Wait};
@@ -35,8 +35,8 @@ pub struct Completed {
     pub account: Account,
     /// What became of its report.
     pub reported: Reported,
-    /// What the device that the outcome names can say.
-    pub seen: Seen,
+    /// What can be said of the outcome.
+    pub seen: EndingSeen,
     /// Why the outlet of the report failed, if it did.
     pub report_error: Option<SystemError>,
 }
@@ -120,22 +120,27 @@ fn complete<R: Threads + Wait + Copy + Send + 'static, T: Files>(
         mut outlets,
         report,
     } = devices;
-    let Ran { account, feeds } = run(alloc, rt, settings, gate, feeds, &mut outlets);
+    let Ran {
+        account,
+        unmatched,
+        feeds,
+    } = run(alloc, rt, settings, gate, feeds, &mut outlets);
     let inputs = inputs_done(request, files, feeds);
     let errors = store(request, files, outlets);
     let reported = store_report(alloc, request, files, settings.encoding(), &account, report);
     Completed {
-        seen: seen_of(account.outcome, &inputs, &errors),
+        seen: seen_of(account.outcome, unmatched, &inputs, &errors),
         reported: reported.0,
         report_error: reported.1,
         account,
     }
 }
 
-// How a run went, and the feeds that it returned.
+// How a run went, the names at which it ended if they don't match, and the feeds that it returned.
 #[derive(Drop)]
 struct Ran<F> {
     account: Account,
+    unmatched: Option<UnmatchedNames>,
     feeds: Feeds<Option<F>>,
 }
 
@@ -172,6 +177,7 @@ fn run<R: Threads + Wait + Copy + Send + 'static, F: Feed + Drop + Send + 'stati
                     unended: ending.unended,
                     refused: ending.refused,
                 },
+                unmatched: ending.unmatched,
                 feeds: Feeds::Apart {
                     forward: ending.forward,
                     reverse: ending.reverse,
@@ -188,6 +194,7 @@ fn run<R: Threads + Wait + Copy + Send + 'static, F: Feed + Drop + Send + 'stati
                     unended: ending.unended,
                     refused: ending.refused,
                 },
+                unmatched: ending.unmatched,
                 feeds: Feeds::Interleaved(ending.feed),
             }
         }

@@ -24,4 +24,4 @@ pub use outcome_line::{LANE_LINE, MEMORY_LINE, fault_line, settled, status_of};
 pub use outputs::store;
 pub use refusal::Refusal;
 pub use reporting::{Reported, store_report, without_end};
-pub use seeing::seen_of;
+pub use seeing::{EndingSeen, seen_of};

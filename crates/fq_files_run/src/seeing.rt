@@ -1,30 +1,63 @@
-//! What the devices of a run can say of its outcome.
+//! What can be said of the outcome of a run.
 
 ghost use Rattle.std.specs.Prelude.{◌≡◌};
-ghost use Rattle.fq_files_run.specs.Seeing.{input_seen, error_of, seen_when};
+ghost use Rattle.fq_files_run.specs.Seeing.{input_seen, error_of, device_seen, seen_when};
 ghost use Rattle.fq_files_run.specs.Faults.{settled};
 
 use crate::feeds::InputsSeen;
 use crate::outcome_line::settled;
-use fq_pair::{InputFault, Out, Side};
+use fq_pair::{InputFault, Out, Side, UnmatchedNames};
 use fq_run_core::{Outcome, Outlets};
 use fq_text::{Look, Seen, SystemError};
 
-/// What the device that the outcome names can say.
+/// What can be said of the outcome of a run.
+#[derive(Drop)]
+pub struct EndingSeen {
+    /// Why the device failed that the outcome names.
+    pub error: Option<SystemError>,
+    /// What the first bytes of the input looked like that the outcome names.
+    pub look: Look,
+    /// The names of the mates at which the run ended, if they don't match.
+    pub unmatched: Option<UnmatchedNames>,
+}
+
+impl EndingSeen {
+    /// What a device can say, and no names.
+    pub fn of_device(seen: Seen) -> EndingSeen
+        ensures { result ≡ device_seen seen }
+    {
+        EndingSeen {
+            error: seen.error,
+            look: seen.look,
+            unmatched: None,
+        }
+    }
+}
+
+/// What can be said of an outcome: by the device that it names, or by names that don't match.
 pub fn seen_of(
     outcome: Outcome,
+    unmatched: Option<UnmatchedNames>,
     inputs: &InputsSeen,
     outlets: &Outlets<Option<SystemError>>,
-) -> Seen
-    ensures { result ≡ seen_when inputs.now outlets.now (settled outcome) }
+) -> EndingSeen
+    ensures { result ≡ seen_when unmatched inputs.now outlets.now (settled outcome) }
 {
     match settled(outcome) {
-        Outcome::Write(out) => Seen {
+        Outcome::Write(out) => EndingSeen {
             error: error_of(outlets, out),
             look: Look::Unknown,
+            unmatched: None,
         },
-        Outcome::Read(side) | Outcome::Input(InputFault::Text(side, _)) => input_seen(inputs, side),
-        _ => Seen::NOTHING,
+        Outcome::Read(side) | Outcome::Input(InputFault::Text(side, _)) => {
+            EndingSeen::of_device(input_seen(inputs, side))
+        }
+        Outcome::Input(InputFault::NamesDiffer(_)) => EndingSeen {
+            error: None,
+            look: Look::Unknown,
+            unmatched,
+        },
+        _ => EndingSeen::of_device(Seen::NOTHING),
     }
 }
 

@@ -284,7 +284,7 @@ module _ {F : Type 0} (state : F → FeedState) (a b c : Sourced F) (p : KeepsCo
   -- a fault after a forward mate
   pub second_stops : (why : TextFault) → a.given ≡ 2 * given → StopsText state b c why →
       StopsPairs state (asked a kept check given before)
-      (stopped c check given (Err (Text Reverse why))) (Text Reverse why)
+      (stopped c f check given (Err (Text Reverse why))) (Text Reverse why)
   second_stops why even stops =
       let one = first.given in
       let n = suc given in
@@ -318,7 +318,7 @@ module _ {F : Type 0} (state : F → FeedState) (a b c : Sourced F) (p : KeepsCo
       if_endless (c.max_reads ≤ c.taken) (c.max_reads ≤ c.taken) why → WasReading a c why →
       (IsTrue (state a.feed).tells →
       front_of state (asked a kept check given before) ≡ Stopped why) →
-      StopsPairs state (asked a kept check given before) (stopped c check given (Err why)) why
+      StopsPairs state (asked a kept check given before) (stopped c f check given (Err why)) why
   pair_stops why uncut next endless reading fault_is = record {
     fault_is = λ told inside. fault_is told;
     left = λ told inside. interleaved_left_stopped state (asked a kept check given before) why
@@ -336,7 +336,7 @@ module _ {F : Type 0} (state : F → FeedState) (a b c : Sourced F) (p : KeepsCo
   -- if the text ends after a forward mate, the reverse mate is missing
   pub mate_missing : EndsText state b c →
       (let why = MateMissing Reverse (given + 1) in
-      StopsPairs state (asked a kept check given before) (stopped c check given (Err why)) why)
+      StopsPairs state (asked a kept check given before) (stopped c f check given (Err why)) why)
   mate_missing ends = pair_stops (MateMissing Reverse (given + 1)) refl tt tt tt (λ told.
       front_behind state a b c p q kept check given before f first told
       ∙ ap (meeting_after check (suc given) f) (ends.end_is (p.told ∙ told))
@@ -345,12 +345,12 @@ module _ {F : Type 0} (state : F → FeedState) (a b c : Sourced F) (p : KeepsCo
   -- two records that were given make no pair if their names differ
   pub names_differ : (r : Read) (why : InputFault) → why ≡ NamesDiffer (given + 1) →
       GivesRecord state b c r → belong check (mates_in f r) ≡ false →
-      StopsPairs state (asked a kept check given before) (stopped c check given (Err why)) why
+      StopsPairs state (asked a kept check given before) (stopped c f check given (Err why)) why
   names_differ r why is second apart =
       let n = suc given in
       let ls = lines (rest_in state c) in
       subst (λ (y : InputFault). StopsPairs state (asked a kept check given before)
-      (stopped c check given (Err y)) y) (sym is)
+      (stopped c f check given (Err y)) y) (sym is)
       (pair_stops (NamesDiffer (given + 1)) refl tt tt tt (λ told.
       front_behind state a b c p q kept check given before f first told
       ∙ ap (meeting_after check n f) (second.record_is (p.told ∙ told))

@@ -15,10 +15,12 @@ use Rattle.fq_pair.specs.Pairing.{Pairs, PairFront, Ended, Stopped, Met, belong,
 use Rattle.fq_pair.specs.Interleaved.{side_after, interleaved_pairs, interleaved_front}
 use Rattle.fq_pair.specs.PairSources.{is_from_outside, is_cut_short, if_cut, if_endless, failed_on, pair_of}
 
--- A source of pairs: the source of both mates, whether names are checked, how many pairs were
--- given, the end or the fault once that was returned, and the current pair.
+-- A source of pairs: the source of both mates, the forward mate that was read last, whether names
+-- are checked, how many pairs were given, the end or the fault once that was returned, and the
+-- current pair.
 pub record InterleavedSourced (F : Type 0) : Type 0 where
   pub source : Sourced F
+  pub forward : Read
   pub check_names : Bool
   pub given : ℕ
   pub last : Option (Result (Unit {0}) InputFault)
@@ -131,13 +133,20 @@ pub record IsReady {F : Type 0} (source : Sourced F) (given : ℕ) : Type 0 wher
 abbrev pub asked : {F : Type 0} → Sourced F → Read → Bool → ℕ → Bool → InterleavedSourced F
 asked source forward check given has_pair = record {
   source = source;
+  forward = forward;
   check_names = check;
   given = given;
   last = None;
   current = pair_of has_pair (Some forward) source.current;
 }
 
-abbrev pub stopped : {F : Type 0} → Sourced F → Bool → ℕ → Result (Unit {0}) InputFault →
+abbrev pub stopped : {F : Type 0} → Sourced F → Read → Bool → ℕ → Result (Unit {0}) InputFault →
     InterleavedSourced F
-stopped source check given last =
-    record { source = source; check_names = check; given = given; last = Some last; current = None }
+stopped source forward check given last = record {
+  source = source;
+  forward = forward;
+  check_names = check;
+  given = given;
+  last = Some last;
+  current = None;
+}

@@ -38,6 +38,16 @@ name_of side title = without_end (mark_of side) (before_first is_gap title)
 abbrev pub names_match : List ℕ → List ℕ → Bool
 names_match forward reverse = bytes_eq (name_of Forward forward) (name_of Reverse reverse)
 
+-- the names of two mates
+pub record MateNames : Type 0 where
+  pub forward : List ℕ
+  pub reverse : List ℕ
+
+-- the names in two titles
+abbrev pub names_in : List ℕ → List ℕ → MateNames
+names_in forward reverse =
+    record { forward = name_of Forward forward; reverse = name_of Reverse reverse }
+
 -- the lengths of the names in two titles
 abbrev pub lengths_of : List ℕ → List ℕ → NameLengths
 lengths_of forward reverse = record {

@@ -1,5 +1,6 @@
 -- A source of pairs from two texts, and what its calls return.
 use Rattle.std.specs.Prelude.{◌≡◌, ℕ, ◌+◌, ◌*◌, ◌≤◌, ◌⊎◌, Bool, true, false, IsTrue, Option, Some, None, IfSome, Result, []}
+use Rattle.std.specs.Option.{IsSomeAnd, option_map}
 use Rattle.std.specs.declared.result.Result.TheVariants as res
 use Rattle.fq_text.specs.Devices.{FeedState}
 use Rattle.fq_text.specs.declared.fault.TextFault.{TextFault}
@@ -10,9 +11,9 @@ use Rattle.fq_text.specs.Sources.{Sourced, rest_in, held, KeepsCount, GivesRecor
 use Rattle.fq_pair.specs.declared.side.Side.{Side}
 use Rattle.fq_pair.specs.declared.side.Side.TheVariants.{Forward, Reverse}
 use Rattle.fq_pair.specs.declared.fault.InputFault.{InputFault}
-use Rattle.fq_pair.specs.declared.fault.InputFault.TheVariants.{Text}
+use Rattle.fq_pair.specs.declared.fault.InputFault.TheVariants.{Text, NamesDiffer}
 use Rattle.fq_pair.specs.declared.name.NameLengths.{NameLengths}
-use Rattle.fq_pair.specs.Mates.{Mates, mates_in, name_lengths}
+use Rattle.fq_pair.specs.Mates.{Mates, MateNames, mates_in, name_lengths, names_in, names_match}
 use Rattle.fq_pair.specs.Pairing.{Pairs, PairFront, Ended, Stopped, Met, belong, pair_front, pairs, with_pair}
 
 -- A source of pairs: the sources of its mates, whether names are checked, how many pairs were
@@ -173,6 +174,24 @@ pair_of true (Some forward) (Some reverse) = Some (mates_in forward reverse)
 -- if there is a current pair, these are the lengths of its names
 abbrev pub HasNames : Option NameLengths → Option Mates → Type 0
 HasNames names current = IfSome current (λ m. names ≡ Some (name_lengths m))
+
+-- names that don't match were returned as the fault
+abbrev pub is_unmatched : Option (Result (Unit {0}) InputFault) → Bool
+is_unmatched (Some (res.Err (NamesDiffer k))) = true
+is_unmatched _ = false
+
+-- after that, the mates that have these names are the current records
+abbrev pub KeepsUnmatched : Option (Result (Unit {0}) InputFault) → Option Read → Option Read →
+    Type 0
+KeepsUnmatched (Some (res.Err (NamesDiffer k))) forward reverse =
+    IsSomeAnd (pair_of true forward reverse)
+    (λ m. names_match m.forward.title m.reverse.title ≡ false)
+KeepsUnmatched _ forward reverse = Unit {0}
+
+-- the names of two current records
+abbrev pub names_held : Option Read → Option Read → Option MateNames
+names_held forward reverse =
+    option_map (λ m. names_in m.forward.title m.reverse.title) (pair_of true forward reverse)
 
 -- a source of pairs that goes on, and one that has stopped
 abbrev pub asked : {F G : Type 0} → Sourced F → Sourced G → Bool → ℕ → Bool → PairSourced F G

@@ -1,11 +1,11 @@
 //! Reads pairs from one interleaved feed, in which mates alternate.
 
-ghost use Rattle.std.specs.Prelude.{◌≡◌, ◌↔◌, Bool, ℕ, ◌+◌, ◌*◌, ◌≤◌, ◌^◌, true, false, Some, None, Ok, IfOk, IfErr, IfSome, IsSome, IsTrue, MatchOption, is_some};
+ghost use Rattle.std.specs.Prelude.{◌≡◌, ◌↔◌, Bool, ℕ, ◌+◌, ◌*◌, ◌≤◌, ◌^◌, true, false, Some, None, Ok, Err, IfOk, IfErr, IfSome, IsSome, IsTrue, MatchOption, is_some};
 ghost use Rattle.std.specs.Option.{IsSomeAnd};
 ghost use Rattle.std.specs.Result.{result_and};
 ghost use Rattle.fq_text.specs.Reading.{text_limit};
 ghost use Rattle.fq_text.specs.Sources.{KeepsCount};
-ghost use Rattle.fq_pair.specs.PairSources.{IsBounded, pair_of, HasNames};
+ghost use Rattle.fq_pair.specs.PairSources.{IsBounded, pair_of, HasNames, KeepsUnmatched, is_unmatched, names_held};
 ghost use Rattle.fq_pair.specs.InterleavedSources.{asked, stopped, GivesPair, EndsPairs, StopsPairs, failed_in, IsReady};
 
 use crate::answer::{keep, read_record};
@@ -13,7 +13,9 @@ use crate::fault::InputFault;
 use crate::name::NameLengths;
 use crate::pair::{Pair, PairView, check_mates};
 use crate::side::Side;
-use fq_text::{FastqRecord, Feed, Source};
+use crate::unmatched::UnmatchedNames;
+use fq_text::{FastqRecord, Feed, OutOfMemory, Source};
+use std::alloc::Global;
 use std::marker::Model;
 use std::mem;
 
@@ -40,13 +42,14 @@ pub struct MixedSource<F: Feed> {
 impl<F: Feed> Model for MixedSource<F> {
     ghost use Rattle.std.specs.Prelude.{◌≡◌, ◌*◌, ◌≤◌, ◌^◌, Some, None, is_some};
     ghost use Rattle.fq_text.specs.Reading.{text_limit};
-    ghost use Rattle.fq_pair.specs.PairSources.{IsBounded, pair_of, HasNames};
+    ghost use Rattle.fq_pair.specs.PairSources.{IsBounded, pair_of, HasNames, KeepsUnmatched};
     ghost use Rattle.fq_pair.specs.InterleavedSources.{InterleavedSourced, IsReady};
 
     ghost Value = { InterleavedSourced F };
 
     ghost view = { λ s. record {
       source = s.source;
+      forward = s.forward;
       check_names = s.check_names;
       given = s.given;
       last = s.last;
@@ -57,7 +60,8 @@ impl<F: Feed> Model for MixedSource<F> {
         × (2 * s.given ≤ s.source.given)
         × (s.given ≤ text_limit)
         × (s.last ≡ None → IsReady s.source s.given)
-        × HasNames s.names (pair_of (is_some s.names) (Some s.forward) s.source.current) };
+        × HasNames s.names (pair_of (is_some s.names) (Some s.forward) s.source.current)
+        × KeepsUnmatched s.last (Some s.forward) s.source.current };
 }
 
 impl<F: Feed> MixedSource<F> {
@@ -70,6 +74,7 @@ impl<F: Feed> MixedSource<F> {
         requires { IsUnasked source }
         ensures { result ≡ record {
           source = source;
+          forward = result.forward;
           check_names = check_names;
           given = 0;
           last = None;
@@ -200,6 +205,25 @@ impl<F: Feed> MixedSource<F> {
         }
     }
 
+    /// The names of the mates at which the source stopped, if its last result is
+    /// [`InputFault::NamesDiffer`].
+    pub fn unmatched_names(&self, alloc: Global) -> Result<Option<UnmatchedNames>, OutOfMemory>
+        ensures some { IfOk result (λ o. IsSome o → is_unmatched self.now.last ≡ true) }
+        ensures none { result ≡ Ok None → is_unmatched self.now.last ≡ false }
+        ensures names { IfOk result (λ o. IfSome o (λ names.
+            names_held (Some self.now.forward) self.now.source.current ≡ Some names)) }
+    {
+        match self.last {
+            Some(Err(InputFault::NamesDiffer(_))) => {
+                let reverse = self.source.record();
+                let forward = self.forward.title();
+                let names = UnmatchedNames::of_titles(alloc, forward, reverse.title())?;
+                Ok(Some(names))
+            }
+            _ => Ok(None),
+        }
+    }
+
     /// Returns the feed. Bytes that were read but not used yet are dropped.
     pub fn into_feed(self) -> F
         ensures { result ≡ self.source.feed }
@@ -229,13 +253,15 @@ fn advance_mates<F: Feed>(
         IsSome reverse_copy.old → reverse_copy.new ≡ source.new.current }
     ensures end { result ≡ Ok false →
         EndsPairs F.state (asked source.old forward.old check_names given (is_some names.old))
-        (stopped source.new check_names given (Ok tt)) }
+        (stopped source.new forward.new check_names given (Ok tt)) }
     ensures fault { IfErr result (λ why.
         StopsPairs F.state (asked source.old forward.old check_names given (is_some names.old))
-        (stopped source.new check_names given (Err why)) why) }
+        (stopped source.new forward.new check_names given (Err why)) why) }
     ensures in_hand { IsTrue (is_some names.new) ↔ result ≡ Ok true }
     ensures names { HasNames names.new
         (pair_of (is_some names.new) (Some forward.new) source.new.current) }
+    ensures unmatched { IfErr result (λ why.
+        KeepsUnmatched (Some (Err why)) (Some forward.new) source.new.current) }
     ensures failures { (F.state source.new.feed).failures
         ≡ (F.state source.old.feed).failures + failed_in result }
     ensures count { KeepsCount F.state source.old source.new }

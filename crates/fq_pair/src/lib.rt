@@ -18,6 +18,7 @@ mod pair_source;
 mod reader;
 mod side;
 mod texts;
+mod unmatched;
 
 pub use counts::{Counts, summary};
 pub use fault::InputFault;
@@ -30,3 +31,4 @@ pub use pair_source::PairSource;
 pub use reader::PairReader;
 pub use side::Side;
 pub use texts::Texts;
+pub use unmatched::UnmatchedNames;

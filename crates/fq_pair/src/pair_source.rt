@@ -1,11 +1,11 @@
 //! Reads pairs from two feeds.
 
-ghost use Rattle.std.specs.Prelude.{◌≡◌, ◌↔◌, Bool, ℕ, suc, ◌+◌, ◌*◌, ◌≤◌, ◌^◌, true, false, Some, None, Ok, IfOk, IfErr, IfSome, IsSome, IsTrue, MatchOption, is_some};
+ghost use Rattle.std.specs.Prelude.{◌≡◌, ◌↔◌, Bool, ℕ, suc, ◌+◌, ◌*◌, ◌≤◌, ◌^◌, true, false, Some, None, Ok, IfOk, Err, IfErr, IfSome, IsSome, IsTrue, MatchOption, is_some};
 ghost use Rattle.std.specs.Option.{IsSomeAnd};
 ghost use Rattle.std.specs.Result.{result_and};
 ghost use Rattle.fq_text.specs.Reading.{text_limit};
 ghost use Rattle.fq_text.specs.Sources.{KeepsCount};
-ghost use Rattle.fq_pair.specs.PairSources.{pair_of, asked, stopped, GivesPair, EndsPairs, StopsPairs, failed_on, IsBounded, IsReady, HasNames};
+ghost use Rattle.fq_pair.specs.PairSources.{pair_of, asked, stopped, GivesPair, EndsPairs, StopsPairs, failed_on, IsBounded, IsReady, HasNames, KeepsUnmatched, is_unmatched, names_held};
 ghost use Rattle.fq_pair.specs.declared.side.Side.TheVariants.{Forward, Reverse};
 
 use crate::answer::{keep, read_record};
@@ -13,7 +13,9 @@ use crate::fault::InputFault;
 use crate::name::NameLengths;
 use crate::pair::{Pair, PairView, check_mates};
 use crate::side::Side;
-use fq_text::{FastqRecord, Feed, Source};
+use crate::unmatched::UnmatchedNames;
+use fq_text::{FastqRecord, Feed, OutOfMemory, Source};
+use std::alloc::Global;
 use std::marker::Model;
 
 /// Reads the pairs of two texts in order: record k of the forward text with record k of the reverse
@@ -37,7 +39,7 @@ pub struct PairSource<F: Feed, G: Feed> {
 impl<F: Feed, G: Feed> Model for PairSource<F, G> {
     ghost use Rattle.std.specs.Prelude.{◌≡◌, ◌≤◌, ◌^◌, None, is_some};
     ghost use Rattle.fq_text.specs.Reading.{text_limit};
-    ghost use Rattle.fq_pair.specs.PairSources.{PairSourced, pair_of, IsBounded, IsReady, HasNames};
+    ghost use Rattle.fq_pair.specs.PairSources.{PairSourced, pair_of, IsBounded, IsReady, HasNames, KeepsUnmatched};
 
     ghost Value = { PairSourced F G };
 
@@ -57,7 +59,8 @@ impl<F: Feed, G: Feed> Model for PairSource<F, G> {
         × (s.given ≤ s.reverse.given)
         × (s.given ≤ text_limit)
         × (s.last ≡ None → IsReady s.forward s.reverse s.given)
-        × HasNames s.names (pair_of (is_some s.names) s.forward.current s.reverse.current) };
+        × HasNames s.names (pair_of (is_some s.names) s.forward.current s.reverse.current)
+        × KeepsUnmatched s.last s.forward.current s.reverse.current };
 }
 
 impl<F: Feed, G: Feed> PairSource<F, G> {
@@ -219,6 +222,25 @@ impl<F: Feed, G: Feed> PairSource<F, G> {
         }
     }
 
+    /// The names of the mates at which the source stopped, if its last result is
+    /// [`InputFault::NamesDiffer`].
+    pub fn unmatched_names(&self, alloc: Global) -> Result<Option<UnmatchedNames>, OutOfMemory>
+        ensures some { IfOk result (λ o. IsSome o → is_unmatched self.now.last ≡ true) }
+        ensures none { result ≡ Ok None → is_unmatched self.now.last ≡ false }
+        ensures names { IfOk result (λ o. IfSome o (λ names.
+            names_held self.now.forward.current self.now.reverse.current ≡ Some names)) }
+    {
+        match self.last {
+            Some(Err(InputFault::NamesDiffer(_))) => {
+                let forward = self.forward.record();
+                let reverse = self.reverse.record();
+                let names = UnmatchedNames::of_titles(alloc, forward.title(), reverse.title())?;
+                Ok(Some(names))
+            }
+            _ => Ok(None),
+        }
+    }
+
     /// Returns both feeds. Bytes that were read but not used yet are dropped.
     pub fn into_feeds(self) -> (F, G)
         ensures forward { result.0 ≡ self.forward.feed }
@@ -270,6 +292,8 @@ fn advance_mates<F: Feed, G: Feed>(
     ensures in_hand { IsTrue (is_some names.new) ↔ result ≡ Ok true }
     ensures names { HasNames names.new
         (pair_of (is_some names.new) forward.new.current reverse.new.current) }
+    ensures unmatched { IfErr result (λ why.
+        KeepsUnmatched (Some (Err why)) forward.new.current reverse.new.current) }
     ensures forward_failures { (F.state forward.new.feed).failures
         ≡ (F.state forward.old.feed).failures + failed_on Forward result }
     ensures reverse_failures { (G.state reverse.new.feed).failures

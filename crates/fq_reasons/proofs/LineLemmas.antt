@@ -1,11 +1,11 @@
 -- Lines with a reason, and lines without.
 use Rattle.std.proofs.Common.{◌≡◌, ◌∙◌, ◌++◌, ℕ, Bool, true, false, Option, Some, None, List, codes, refl, ap, sym}
 use Rattle.fq_text.specs.Written.{line}
-use Rattle.fq_text.specs.declared.seen.Seen.{Seen}
 use Rattle.fq_run_core.specs.declared.outcome.Outcome.{Outcome}
 use Rattle.fq_run_core.specs.declared.outcome.Outcome.TheVariants.{Spawn, Lane, Gate, Memory, Write, Read, Endless, Input, Finished}
 use Rattle.fq_cli.specs.Requests.{Asking}
 use Rattle.fq_files_run.specs.Faults.{outcome_words, line_when}
+use Rattle.fq_files_run.specs.declared.seeing.EndingSeen.{EndingSeen}
 use Rattle.fq_reasons.specs.Ended.{ending_reason}
 use Rattle.fq_reasons.specs.Lines.{explained, ending_line_when}
 
@@ -32,7 +32,7 @@ known b words reason text e is = ap (explained b words) is
 -- The line of an outcome.
 
 -- if no reason is asked for, the line of an outcome has none
-pub unasked_ending : (a : Asking) (seen : Seen) (o : Outcome) → a.explain ≡ false →
+pub unasked_ending : (a : Asking) (seen : EndingSeen) (o : Outcome) → a.explain ≡ false →
     ending_line_when a seen o ≡ line_when o
 unasked_ending a seen Finished e = refl
 unasked_ending a seen Spawn e = ap line (unasked a.explain (outcome_words Spawn) None e)
@@ -50,8 +50,8 @@ unasked_ending a seen (Input fault) e =
     ap line (unasked a.explain (outcome_words (Input fault)) (ending_reason a seen (Input fault)) e)
 
 -- if no reason is known, the line of an outcome has none
-pub unknown_ending : (a : Asking) (seen : Seen) (o : Outcome) → ending_reason a seen o ≡ None →
-    ending_line_when a seen o ≡ line_when o
+pub unknown_ending : (a : Asking) (seen : EndingSeen) (o : Outcome) →
+    ending_reason a seen o ≡ None → ending_line_when a seen o ≡ line_when o
 unknown_ending a seen Finished none = refl
 unknown_ending a seen Spawn none = ap line (unknown a.explain (outcome_words Spawn) None refl)
 unknown_ending a seen Lane none = ap line (unknown a.explain (outcome_words Lane) None refl)
@@ -69,15 +69,15 @@ unknown_ending a seen (Input fault) none =
     none)
 
 -- an outcome that has a reason has a line, to which the reason is added
-pub record IsAdded (a : Asking) (seen : Seen) (o : Outcome) (text : List ℕ) : Type 0 where
+pub record IsAdded (a : Asking) (seen : EndingSeen) (o : Outcome) (text : List ℕ) : Type 0 where
   -- the line without a reason is that of the outcome's words
   pub plain : line_when o ≡ line (outcome_words o)
   -- these words with the reason are the line with a reason
   pub whole : line (outcome_words o ++ codes ": " ++ text) ≡ ending_line_when a seen o
 
 -- a reason that is asked for and known is added to the line of its outcome
-pub known_ending : (a : Asking) (seen : Seen) (o : Outcome) (text : List ℕ) → a.explain ≡ true →
-    ending_reason a seen o ≡ Some text → IsAdded a seen o text
+pub known_ending : (a : Asking) (seen : EndingSeen) (o : Outcome) (text : List ℕ) →
+    a.explain ≡ true → ending_reason a seen o ≡ Some text → IsAdded a seen o text
 known_ending a seen Finished text e is = absurd (cc is)
 known_ending a seen Spawn text e is = absurd (cc is)
 known_ending a seen Lane text e is = absurd (cc is)

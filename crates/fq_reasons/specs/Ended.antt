@@ -1,19 +1,22 @@
 -- Why a run ended before all pairs were trimmed, in words that say what to look at.
-use Rattle.std.specs.Prelude.{ℕ, ◌==◌, Option, Some, None, List, [], ◌++◌, codes, unwrap_or, if◌then◌else◌}
+use Rattle.std.specs.Prelude.{ℕ, ◌==◌, Option, Some, None, List, [], ◌++◌, codes, map, take, unwrap_or, if◌then◌else◌}
+use Rattle.std.specs.Char.{is_ascii_graphic}
+use Rattle.std.specs.Str.{bytes_eq}
 use Rattle.fq_text.specs.declared.fault.TextFault.{TextFault}
 use Rattle.fq_text.specs.declared.fault.TextFault.TheVariants as text
 use Rattle.fq_text.specs.declared.seen.Look.{Look}
 use Rattle.fq_text.specs.declared.seen.Look.TheVariants.{Gzip, Bam, Fasta, Unknown}
-use Rattle.fq_text.specs.declared.seen.Seen.{Seen}
 use Rattle.fq_text.specs.declared.seen.SystemError.{SystemError}
 use Rattle.fq_pair.specs.declared.side.Side.{Side}
 use Rattle.fq_pair.specs.declared.side.Side.TheVariants.{Forward, Reverse}
 use Rattle.fq_pair.specs.declared.fault.InputFault.{InputFault}
 use Rattle.fq_pair.specs.declared.fault.InputFault.TheVariants.{Text, MateMissing, NamesDiffer}
+use Rattle.fq_pair.specs.Mates.{MateNames}
 use Rattle.fq_pair.specs.Forms.{Form, TwoTexts, InterleavedText}
 use Rattle.fq_run_core.specs.declared.outcome.Outcome.{Outcome}
 use Rattle.fq_run_core.specs.declared.outcome.Outcome.TheVariants.{Write, Read, Endless, Input}
 use Rattle.fq_cli.specs.Requests.{Asking, InputNames, input_name, output_name}
+use Rattle.fq_files_run.specs.declared.seeing.EndingSeen.{EndingSeen}
 use Rattle.fq_reasons.specs.Causes.{device_words}
 
 -- what is wrong with a file
@@ -72,26 +75,50 @@ missing_reason inputs TwoTexts side = input_name inputs side
 missing_reason inputs InterleavedText side =
     file_reason (input_name inputs side) (codes "the file ends after a forward read")
 
--- the mates don't belong to each other
+-- a byte of a name as it is shown: a question mark stands for each that doesn't print
+abbrev pub shown_byte : ℕ → ℕ
+shown_byte byte = if is_ascii_graphic byte then byte else 63
+
+-- the first 100 bytes of a name
+abbrev pub shown_name : List ℕ → List ℕ
+shown_name name = map shown_byte (take 100 name)
+
+-- the mates have these names, and so don't belong to each other
+abbrev pub unmatched_reason : InputNames → Form → MateNames → List ℕ
+unmatched_reason inputs TwoTexts names = inputs.forward ++ codes " has '"
+    ++ shown_name names.forward ++ codes "' and " ++ inputs.reverse ++ codes " has '"
+    ++ shown_name names.reverse ++ codes "' (see --no-name-check)"
+unmatched_reason inputs InterleavedText names = inputs.forward
+    ++ codes ": the pair has the names '" ++ shown_name names.forward ++ codes "' and '"
+    ++ shown_name names.reverse ++ codes "' (see --no-name-check)"
+
+-- the mates don't belong to each other, and their names are not known
 abbrev pub names_reason : InputNames → Form → List ℕ
 names_reason inputs TwoTexts = codes "the reads of " ++ inputs.forward ++ codes " and "
     ++ inputs.reverse ++ codes " have different names (see --no-name-check)"
 names_reason inputs InterleavedText = file_reason inputs.forward
     (codes "the reads of the pair have different names (see --no-name-check)")
 
-abbrev pub input_reason : Asking → Look → InputFault → List ℕ
-input_reason a look (Text side fault) =
-    file_reason (input_name a.inputs side) (record_reason a.encoding look fault)
-input_reason a look (MateMissing side k) = missing_reason a.inputs a.inputs.form side
-input_reason a look (NamesDiffer k) = names_reason a.inputs a.inputs.form
+-- the names differ; they are shown if they are known to, and are never shown if they are the same
+abbrev pub differ_reason : InputNames → Option MateNames → List ℕ
+differ_reason inputs (Some names) =
+    if bytes_eq names.forward names.reverse then names_reason inputs inputs.form
+    else unmatched_reason inputs inputs.form names
+differ_reason inputs None = names_reason inputs inputs.form
 
--- why the run ended so, for what the device can say that the outcome names
-abbrev pub ending_reason : Asking → Seen → Outcome → Option (List ℕ)
+abbrev pub input_reason : Asking → EndingSeen → InputFault → List ℕ
+input_reason a seen (Text side fault) =
+    file_reason (input_name a.inputs side) (record_reason a.encoding seen.look fault)
+input_reason a seen (MateMissing side k) = missing_reason a.inputs a.inputs.form side
+input_reason a seen (NamesDiffer k) = differ_reason a.inputs seen.unmatched
+
+-- why the run ended so, for what can be said of the outcome
+abbrev pub ending_reason : Asking → EndingSeen → Outcome → Option (List ℕ)
 ending_reason a seen (Write out) =
     Some (written_reason (unwrap_or (output_name a out) []) seen.error)
 ending_reason a seen (Read side) = Some (file_reason (input_name a.inputs side)
     (device_words seen.error (codes "it could not be read to its end")))
 ending_reason a seen (Endless side) = Some (file_reason (input_name a.inputs side)
     (codes "it has not ended after 1099511627776 read calls"))
-ending_reason a seen (Input fault) = Some (input_reason a seen.look fault)
+ending_reason a seen (Input fault) = Some (input_reason a seen fault)
 ending_reason a seen _ = None

@@ -2,7 +2,6 @@
 use Rattle.std.specs.Prelude.{ℕ, Bool, true, false, Option, Some, None, List, [], ◌++◌, codes, unwrap_or}
 use Rattle.std.specs.Option.{option_map}
 use Rattle.fq_text.specs.Written.{line}
-use Rattle.fq_text.specs.declared.seen.Seen.{Seen}
 use Rattle.fq_text.specs.declared.seen.SystemError.{SystemError}
 use Rattle.fq_run_core.specs.declared.outcome.Outcome.{Outcome}
 use Rattle.fq_run_core.specs.declared.outcome.Outcome.TheVariants.{Finished}
@@ -10,6 +9,7 @@ use Rattle.fq_cli.specs.Requests.{Asking}
 use Rattle.fq_files_run.specs.Faults.{settled, outcome_words, outcome_line}
 use Rattle.fq_files_run.specs.Refusals.{words_of}
 use Rattle.fq_files_run.specs.declared.refusal.Refusal.{Refusal}
+use Rattle.fq_files_run.specs.declared.seeing.EndingSeen.{EndingSeen}
 use Rattle.fq_reasons.specs.Refused.{refusal_reason}
 use Rattle.fq_reasons.specs.Ended.{written_reason, ending_reason}
 
@@ -23,18 +23,18 @@ explained false words reason = words
 abbrev pub line_of : Asking → Refusal → List ℕ
 line_of a why = line (explained a.explain (words_of a why) (refusal_reason a why))
 
-abbrev pub ending_line_when : Asking → Seen → Outcome → List ℕ
+abbrev pub ending_line_when : Asking → EndingSeen → Outcome → List ℕ
 ending_line_when a seen Finished = []
 ending_line_when a seen outcome =
     line (explained a.explain (outcome_words outcome) (ending_reason a seen outcome))
 
--- the line of an outcome of this request, for what the device can say that the outcome names; empty
+-- the line of an outcome of this request, for what can be said of it; empty
 -- if the run finished
-abbrev pub ending_line : Asking → Seen → Outcome → List ℕ
+abbrev pub ending_line : Asking → EndingSeen → Outcome → List ℕ
 ending_line a seen outcome = ending_line_when a seen (settled outcome)
 
 -- the same, also of a run that nobody asked for, as that of the example
-abbrev pub line_for : Option Asking → Seen → Outcome → List ℕ
+abbrev pub line_for : Option Asking → EndingSeen → Outcome → List ℕ
 line_for (Some a) seen outcome = ending_line a seen outcome
 line_for None seen outcome = outcome_line outcome
 

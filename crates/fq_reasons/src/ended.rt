@@ -1,27 +1,28 @@
 //! Why a run ended before all pairs were trimmed.
 
-ghost use Rattle.std.specs.Prelude.{◌≡◌, ◌++◌, IfOk, codes, unwrap_or};
+ghost use Rattle.std.specs.Prelude.{◌≡◌, ◌<◌, ◌++◌, IfOk, Some, codes, unwrap_or};
 ghost use Rattle.std.specs.Option.{option_map};
 ghost use Rattle.std.specs.String.{string_bytes};
 ghost use Rattle.fq_cli.specs.Requests.{asking_of, names_of};
-ghost use Rattle.fq_reasons.specs.Ended.{file_reason, written_reason, record_reason, missing_reason, names_reason, other_side, title_reason, look_words, input_reason, ending_reason};
+ghost use Rattle.fq_reasons.specs.Ended.{file_reason, written_reason, record_reason, missing_reason, names_reason, unmatched_reason, differ_reason, shown_name, shown_byte, other_side, title_reason, look_words, input_reason, ending_reason};
 
 use crate::causes::device_words;
 use fq_cli::{Inputs, Request};
-use fq_pair::{InputFault, Side};
+use fq_files_run::EndingSeen;
+use fq_pair::{InputFault, Side, UnmatchedNames};
 use fq_run_core::Outcome;
-use fq_text::{Look, OutOfMemory, Seen, SystemError, TextFault};
+use fq_text::{Look, OutOfMemory, SystemError, TextFault};
 use std::alloc::Global;
 
-/// Why the run ended so. `seen` is what the device can say that the outcome names.
+/// Why the run ended so. `seen` is what can be said of the outcome.
 pub(crate) fn ending_reason(
     alloc: Global,
     request: &Request<'_>,
-    seen: Seen,
+    seen: &EndingSeen,
     outcome: Outcome,
 ) -> Result<Option<String>, OutOfMemory>
     ensures { IfOk result (λ reason. option_map string_bytes reason
-        ≡ ending_reason (asking_of request.now) seen outcome) }
+        ≡ ending_reason (asking_of request.now) seen.now outcome) }
 {
     match outcome {
         Outcome::Write(out) => {
@@ -36,7 +37,7 @@ pub(crate) fn ending_reason(
             let words = "it has not ended after 1099511627776 read calls";
             Ok(Some(file_reason(alloc, request.input_name(side), words)?))
         }
-        Outcome::Input(fault) => Ok(Some(input_reason(alloc, request, seen.look, fault)?)),
+        Outcome::Input(fault) => Ok(Some(input_reason(alloc, request, seen, fault)?)),
         Outcome::Spawn | Outcome::Lane | Outcome::Gate | Outcome::Memory | Outcome::Finished => {
             Ok(None)
         }
@@ -66,19 +67,22 @@ fn file_reason(alloc: Global, name: &str, words: &str) -> Result<String, OutOfMe
 fn input_reason(
     alloc: Global,
     request: &Request<'_>,
-    look: Look,
+    seen: &EndingSeen,
     fault: InputFault,
 ) -> Result<String, OutOfMemory>
     ensures { IfOk result (λ text. string_bytes text
-        ≡ input_reason (asking_of request.now) look fault) }
+        ≡ input_reason (asking_of request.now) seen.now fault) }
 {
     match fault {
         InputFault::Text(side, fault) => {
-            let words = record_reason(alloc, request.encoding, look, fault)?;
+            let words = record_reason(alloc, request.encoding, seen.look, fault)?;
             file_reason(alloc, request.input_name(side), words.as_str())
         }
         InputFault::MateMissing(side, _) => missing_reason(alloc, request.inputs, side),
-        InputFault::NamesDiffer(_) => names_reason(alloc, request.inputs),
+        InputFault::NamesDiffer(_) => match &seen.unmatched {
+            Some(names) => differ_reason(alloc, request.inputs, names),
+            None => names_reason(alloc, request.inputs),
+        },
     }
 }
 
@@ -160,6 +164,96 @@ fn ends_first(alloc: Global, short: &str, long: &str) -> Result<String, OutOfMem
         ++ codes ": the file ends before this record, and " ++ long.now ++ codes " has it") }
 {
     format!(in alloc; "{short}: the file ends before this record, and {long} has it")
+}
+
+// That names differ. Names that are the same are never shown.
+fn differ_reason(
+    alloc: Global,
+    inputs: Inputs<'_>,
+    names: &UnmatchedNames,
+) -> Result<String, OutOfMemory>
+    ensures { IfOk result (λ text. string_bytes text
+        ≡ differ_reason (names_of inputs.entry) (Some names.now)) }
+{
+    if names.forward() == names.reverse() {
+        return names_reason(alloc, inputs);
+    }
+    unmatched_reason(alloc, inputs, names)
+}
+
+// Which names the mates have.
+fn unmatched_reason(
+    alloc: Global,
+    inputs: Inputs<'_>,
+    names: &UnmatchedNames,
+) -> Result<String, OutOfMemory>
+    ensures { IfOk result (λ text. string_bytes text
+        ≡ unmatched_reason (names_of inputs.entry) (names_of inputs.entry).form names.now) }
+{
+    let first = shown_name(alloc, names.forward())?;
+    let second = shown_name(alloc, names.reverse())?;
+    match inputs {
+        Inputs::Apart { forward, reverse } => {
+            names_apart(alloc, forward, first.as_str(), reverse, second.as_str())
+        }
+        Inputs::Interleaved(both) => names_together(alloc, both, first.as_str(), second.as_str()),
+    }
+}
+
+// The names of two mates in two files.
+fn names_apart(
+    alloc: Global,
+    forward: &str,
+    first: &str,
+    reverse: &str,
+    second: &str,
+) -> Result<String, OutOfMemory>
+    ensures { IfOk result (λ text. string_bytes text
+        ≡ forward.now ++ codes " has '" ++ first.now ++ codes "' and " ++ reverse.now
+        ++ codes " has '" ++ second.now ++ codes "' (see --no-name-check)") }
+{
+    format!(in alloc; "{forward} has '{first}' and {reverse} has '{second}' (see --no-name-check)")
+}
+
+// The names of two mates in one file.
+fn names_together(
+    alloc: Global,
+    both: &str,
+    first: &str,
+    second: &str,
+) -> Result<String, OutOfMemory>
+    ensures { IfOk result (λ text. string_bytes text
+        ≡ both.now ++ codes ": the pair has the names '" ++ first.now ++ codes "' and '"
+        ++ second.now ++ codes "' (see --no-name-check)") }
+{
+    format!(in alloc;
+        "{both}: the pair has the names '{first}' and '{second}' (see --no-name-check)"
+    )
+}
+
+// The first 100 bytes of a name. A name comes from a file, so it may be long, and may have bytes
+// that don't print.
+fn shown_name(alloc: Global, name: &[u8]) -> Result<String, OutOfMemory>
+    ensures { IfOk result (λ text. string_bytes text ≡ shown_name name.now) }
+{
+    let front = &name[..name.len().min(100)];
+    let mut text = String::new(alloc);
+    for byte in front.iter() {
+        text.push(shown_byte(*byte))?;
+    }
+    Ok(text)
+}
+
+// A byte of a name, or a question mark if it doesn't print.
+fn shown_byte(byte: u8) -> char
+    ensures value { result ≡ shown_byte byte }
+    ensures ascii { result < 128 }
+{
+    if byte.is_ascii_graphic() {
+        char::from(byte)
+    } else {
+        '?'
+    }
 }
 
 // Which files don't belong to each other.

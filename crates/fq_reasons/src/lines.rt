@@ -10,9 +10,9 @@ ghost use Rattle.fq_reasons.specs.Lines.{line_of, ending_line, report_line};
 use crate::ended::{ending_reason, written_reason};
 use crate::refused::refusal_reason;
 use fq_cli::Request;
-use fq_files_run::{Refusal, fault_line, settled, without_end};
+use fq_files_run::{EndingSeen, Refusal, fault_line, settled, without_end};
 use fq_run_core::Outcome;
-use fq_text::{OutOfMemory, Seen, SystemError};
+use fq_text::{OutOfMemory, SystemError};
 use std::alloc::Global;
 
 /// The line of a report that could not be written, with its line end and without a reason.
@@ -38,16 +38,15 @@ pub fn explained_refusal(
 }
 
 /// The line of an outcome of this request, with its line end and, if it is asked for and known,
-/// the reason. It is empty if the run finished. `seen` is what the device can say that the outcome
-/// names.
+/// the reason. It is empty if the run finished. `seen` is what can be said of the outcome.
 pub fn ending_line(
     alloc: Global,
     request: &Request<'_>,
-    seen: Seen,
+    seen: &EndingSeen,
     outcome: Outcome,
 ) -> Result<String, OutOfMemory>
     ensures { IfOk result (λ text. string_bytes text
-        ≡ ending_line (asking_of request.now) seen outcome) }
+        ≡ ending_line (asking_of request.now) seen.now outcome) }
 {
     let mut line = String::new(alloc);
     fault_line(alloc, &mut line, outcome)?;

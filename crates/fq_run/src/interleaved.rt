@@ -1,15 +1,16 @@
 //! A run on several threads, over one interleaved input.
 
-ghost use Rattle.std.specs.Prelude.{◌≡◌, ◌≢◌, None, IsTrue, IsSome};
+ghost use Rattle.std.specs.Prelude.{◌≡◌, ◌≢◌, true, None, IsTrue, IsSome};
 ghost use Rattle.std.specs.Option.{option_map};
 ghost use Rattle.fq_run_core.specs.Devices.{outlet_states, AreHealthy};
+ghost use Rattle.fq_run_core.specs.Outcomes.{is_unmatched};
 ghost use Rattle.fq_run_core.specs.Endings.{interleaved_run_of, AreTold, ends_whole, IsTrimmed, IsUntouched, EveryEnding};
 ghost use Rattle.fq_run.specs.Threads.{IsThreaded};
 
 use crate::conclusion::Conclusion;
 use crate::threads::run;
 use fq_pair::{Counts, MixedSource};
-use fq_run_core::shared::{Halt, Occurred, ReadingEnd, open_interleaved};
+use fq_run_core::shared::{Halt, Occurred, ReadingEnd, names_at, open_interleaved};
 use fq_run_core::{MixedEnding, Outcome, Outlets, Settings};
 use fq_text::{Feed, Outlet};
 use fq_work::Gate;
@@ -41,6 +42,7 @@ pub fn run_threads_mixed<
     ensures lane { result.outcome ≡ Outcome.Lane → IsSome result.unended }
     ensures no_other { IsSome result.unended → result.outcome ≡ Outcome.Lane }
     ensures memory { result.outcome ≡ Outcome.Memory → IsSome result.refused }
+    ensures unmatched { IsSome result.unmatched → is_unmatched result.outcome ≡ true }
     ensures feed { result.feed ≡ None → result.outcome ≡ Outcome.Spawn }
     // If a thread was refused, the outlets are unchanged, and so is the feed if it is handed back.
     ensures untouched { let run = interleaved_run_of F.state (outlet_states O.state)
@@ -76,11 +78,12 @@ fn begin<
 ) -> MixedEnding<F>
     requires feed { (F.state feed).failures ≡ 0 }
     requires outlets { AreHealthy (outlet_states O.state outlets.old) }
-    ensures { IsThreaded settings.now (interleaved_run_of F.state (outlet_states O.state)
+    ensures threaded { IsThreaded settings.now (interleaved_run_of F.state (outlet_states O.state)
         feed outlets.old outlets.new result) result.unended result.refused }
+    ensures unmatched { IsSome result.unmatched → is_unmatched result.outcome ≡ true }
 {
     match open_interleaved(alloc, settings, feed) {
-        Ok(source) => ending_of(run(alloc, rt, settings, gate, source, outlets)),
+        Ok(source) => ending_of(alloc, run(alloc, rt, settings, gate, source, outlets)),
         Err(feed) => {
             // Refused memory comes before a failed flush in the order of `Outcome`.
             let _ = outlets.flush_after(None);
@@ -91,17 +94,19 @@ fn begin<
                 feed: Some(feed),
                 unended: None,
                 refused: Occurred::new(Halt::NONE, Some(ReadingEnd::Memory), None).refused(),
+                unmatched: None,
             }
         }
     }
 }
 
 // The ending of a run over an interleaved input.
-fn ending_of<F: Feed>(conclusion: Conclusion<MixedSource<F>>) -> MixedEnding<F>
+fn ending_of<F: Feed>(alloc: Global, conclusion: Conclusion<MixedSource<F>>) -> MixedEnding<F>
     ensures outcome { result.outcome ≡ conclusion.outcome }
     ensures total { record { counts = result.counts; tally = result.tally } ≡ conclusion.total }
     ensures unended { result.unended ≡ conclusion.unended }
     ensures refused { result.refused ≡ conclusion.refused }
+    ensures unmatched { IsSome result.unmatched → is_unmatched result.outcome ≡ true }
     ensures feed { result.feed ≡ option_map (λ s. s.source.feed) conclusion.source }
 {
     let Conclusion {
@@ -111,12 +116,20 @@ fn ending_of<F: Feed>(conclusion: Conclusion<MixedSource<F>>) -> MixedEnding<F>
         unended,
         refused,
     } = conclusion;
+    let (names, feed) = match source {
+        Some(source) => (
+            source.unmatched_names(alloc).unwrap_or(None),
+            Some(source.into_feed()),
+        ),
+        None => (None, None),
+    };
     MixedEnding {
         outcome,
         counts: total.counts,
         tally: total.tally,
-        feed: source.map(MixedSource::into_feed),
+        feed,
         unended,
         refused,
+        unmatched: names_at(outcome, names),
     }
 }

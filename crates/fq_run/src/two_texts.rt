@@ -1,15 +1,16 @@
 //! A run on several threads, over two inputs.
 
-ghost use Rattle.std.specs.Prelude.{◌≡◌, ◌≢◌, ◌↔◌, None, IsTrue, IsSome};
+ghost use Rattle.std.specs.Prelude.{◌≡◌, ◌≢◌, ◌↔◌, true, None, IsTrue, IsSome};
 ghost use Rattle.std.specs.Option.{option_map};
 ghost use Rattle.fq_run_core.specs.Devices.{outlet_states, AreHealthy};
+ghost use Rattle.fq_run_core.specs.Outcomes.{is_unmatched};
 ghost use Rattle.fq_run_core.specs.Endings.{run_of, AreTold, ends_whole, IsTrimmed, IsUntouched, EveryEnding};
 ghost use Rattle.fq_run.specs.Threads.{IsThreaded};
 
 use crate::conclusion::Conclusion;
 use crate::threads::run;
 use fq_pair::{Counts, PairSource};
-use fq_run_core::shared::{Halt, Occurred, ReadingEnd, open};
+use fq_run_core::shared::{Halt, Occurred, ReadingEnd, names_at, open};
 use fq_run_core::{Ending, Outcome, Outlets, Settings};
 use fq_text::{Feed, Outlet};
 use fq_work::Gate;
@@ -67,6 +68,7 @@ pub fn run_threads<
     ensures lane { result.outcome ≡ Outcome.Lane → IsSome result.unended }
     ensures no_other { IsSome result.unended → result.outcome ≡ Outcome.Lane }
     ensures memory { result.outcome ≡ Outcome.Memory → IsSome result.refused }
+    ensures unmatched { IsSome result.unmatched → is_unmatched result.outcome ≡ true }
     ensures forward { result.forward ≡ None → result.outcome ≡ Outcome.Spawn }
     ensures reverse { result.reverse ≡ None → result.outcome ≡ Outcome.Spawn }
     ensures together { (result.forward ≡ None) ↔ (result.reverse ≡ None) }
@@ -107,11 +109,12 @@ fn begin<
     requires forward { (F.state forward).failures ≡ 0 }
     requires reverse { (G.state reverse).failures ≡ 0 }
     requires outlets { AreHealthy (outlet_states O.state outlets.old) }
-    ensures { IsThreaded settings.now (run_of F.state G.state (outlet_states O.state)
+    ensures threaded { IsThreaded settings.now (run_of F.state G.state (outlet_states O.state)
         forward reverse outlets.old outlets.new result) result.unended result.refused }
+    ensures unmatched { IsSome result.unmatched → is_unmatched result.outcome ≡ true }
 {
     match open(alloc, settings, forward, reverse) {
-        Ok(source) => ending_of(run(alloc, rt, settings, gate, source, outlets)),
+        Ok(source) => ending_of(alloc, run(alloc, rt, settings, gate, source, outlets)),
         Err((forward, reverse)) => {
             // Refused memory comes before a failed flush in the order of `Outcome`.
             let _ = outlets.flush_after(None);
@@ -123,17 +126,22 @@ fn begin<
                 reverse: Some(reverse),
                 unended: None,
                 refused: Occurred::new(Halt::NONE, Some(ReadingEnd::Memory), None).refused(),
+                unmatched: None,
             }
         }
     }
 }
 
 // The ending of a run over two inputs.
-fn ending_of<F: Feed, G: Feed>(conclusion: Conclusion<PairSource<F, G>>) -> Ending<F, G>
+fn ending_of<F: Feed, G: Feed>(
+    alloc: Global,
+    conclusion: Conclusion<PairSource<F, G>>,
+) -> Ending<F, G>
     ensures outcome { result.outcome ≡ conclusion.outcome }
     ensures total { record { counts = result.counts; tally = result.tally } ≡ conclusion.total }
     ensures unended { result.unended ≡ conclusion.unended }
     ensures refused { result.refused ≡ conclusion.refused }
+    ensures unmatched { IsSome result.unmatched → is_unmatched result.outcome ≡ true }
     ensures forward { result.forward ≡ option_map (λ s. s.forward.feed) conclusion.source }
     ensures reverse { result.reverse ≡ option_map (λ s. s.reverse.feed) conclusion.source }
 {
@@ -144,12 +152,13 @@ fn ending_of<F: Feed, G: Feed>(conclusion: Conclusion<PairSource<F, G>>) -> Endi
         unended,
         refused,
     } = conclusion;
-    let (forward, reverse) = match source {
+    let (names, forward, reverse) = match source {
         Some(source) => {
+            let names = source.unmatched_names(alloc).unwrap_or(None);
             let (forward, reverse) = source.into_feeds();
-            (Some(forward), Some(reverse))
+            (names, Some(forward), Some(reverse))
         }
-        None => (None, None),
+        None => (None, None, None),
     };
     Ending {
         outcome,
@@ -159,5 +168,6 @@ fn ending_of<F: Feed, G: Feed>(conclusion: Conclusion<PairSource<F, G>>) -> Endi
         reverse,
         unended,
         refused,
+        unmatched: names_at(outcome, names),
     }
 }

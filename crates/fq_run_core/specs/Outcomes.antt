@@ -36,6 +36,11 @@ end_of (Some (Text side fault)) = text_outcome side fault
 end_of (Some (MateMissing side n)) = Input (MateMissing side n)
 end_of (Some (NamesDiffer n)) = Input (NamesDiffer n)
 
+-- a pair has names that don't match
+abbrev pub is_unmatched : Outcome → Bool
+is_unmatched (Input (NamesDiffer n)) = true
+is_unmatched _ = false
+
 -- memory was refused
 abbrev pub is_memory : Outcome → Bool
 is_memory Memory = true

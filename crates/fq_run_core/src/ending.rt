@@ -1,8 +1,11 @@
 //! What a run returns.
 
+ghost use Rattle.std.specs.Prelude.{◌≡◌, true, IsSome};
+ghost use Rattle.fq_run_core.specs.Outcomes.{is_unmatched};
+
 use crate::outcome::Outcome;
 use fq_lane::NotEnded;
-use fq_pair::Counts;
+use fq_pair::{Counts, InputFault, UnmatchedNames};
 use fq_tally::Tally;
 use fq_text::MemoryRefused;
 
@@ -25,6 +28,10 @@ pub struct Ending<F, G> {
     pub unended: Option<NotEnded>,
     /// The witness that memory was refused: `Some` whenever the outcome is [`Outcome::Memory`].
     pub refused: Option<MemoryRefused>,
+    /// The names of the mates at which the run ended: `Some` only if the outcome is
+    /// [`Outcome::Input`] with [`InputFault::NamesDiffer`]. `None` also if memory for them was
+    /// refused.
+    pub unmatched: Option<UnmatchedNames>,
 }
 
 /// How a run over one interleaved input ended, and what it returns.
@@ -43,4 +50,19 @@ pub struct MixedEnding<F> {
     pub unended: Option<NotEnded>,
     /// The witness that memory was refused: `Some` whenever the outcome is [`Outcome::Memory`].
     pub refused: Option<MemoryRefused>,
+    /// The names of the mates at which the run ended: `Some` only if the outcome is
+    /// [`Outcome::Input`] with [`InputFault::NamesDiffer`]. `None` also if memory for them was
+    /// refused.
+    pub unmatched: Option<UnmatchedNames>,
+}
+
+/// Returns these names if the outcome is that a pair has names that don't match.
+pub fn names_at(outcome: Outcome, names: Option<UnmatchedNames>) -> Option<UnmatchedNames>
+    ensures only { IsSome result → is_unmatched outcome ≡ true }
+    ensures same { is_unmatched outcome ≡ true → result ≡ names }
+{
+    match outcome {
+        Outcome::Input(InputFault::NamesDiffer(_)) => names,
+        _ => None,
+    }
 }

@@ -1,14 +1,14 @@
 //! A run on one thread, over one interleaved input.
 
-ghost use Rattle.std.specs.Prelude.{◌≡◌, ◌≤◌, None, IsTrue, IsSome};
+ghost use Rattle.std.specs.Prelude.{◌≡◌, ◌≤◌, true, None, IsTrue, IsSome};
 ghost use Rattle.fq_pair.specs.Forms.{InterleavedText};
 ghost use Rattle.fq_run_core.specs.Devices.{outlet_states, AreHealthy};
 ghost use Rattle.fq_run_core.specs.Writing.{Runs, no_halt};
-ghost use Rattle.fq_run_core.specs.Outcomes.{rank};
+ghost use Rattle.fq_run_core.specs.Outcomes.{rank, is_unmatched};
 ghost use Rattle.fq_run_core.specs.declared.outcome.Outcome.TheVariants.{Memory};
 ghost use Rattle.fq_run_core.specs.Endings.{interleaved_run_of, AreTold, ends_whole, IsTrimmed, EveryEnding};
 
-use crate::ending::MixedEnding;
+use crate::ending::{MixedEnding, names_at};
 use crate::halt::Halt;
 use crate::occurred::Occurred;
 use crate::opening::open_interleaved;
@@ -37,6 +37,7 @@ pub fn run_serial_mixed<F: Feed, O: Outlet>(
     ensures serial { 4 ≤ rank result.outcome }
     ensures unended { result.unended ≡ None }
     ensures memory { result.outcome ≡ Memory → IsSome result.refused }
+    ensures unmatched { IsSome result.unmatched → is_unmatched result.outcome ≡ true }
     // At `Input` and `Finished` all pairs before the fault or the end of the input were trimmed.
     ensures whole { let run = interleaved_run_of F.state (outlet_states O.state)
         feed outlets.old outlets.new result in
@@ -49,6 +50,7 @@ pub fn run_serial_mixed<F: Feed, O: Outlet>(
 {
     let Pass {
         written,
+        unmatched,
         feeds: feed,
     } = pass(alloc, settings, feed, outlets);
     let Written { total, why, failed } = written;
@@ -60,6 +62,7 @@ pub fn run_serial_mixed<F: Feed, O: Outlet>(
         feed: Some(feed),
         unended: None,
         refused: Occurred::new(Halt::NONE, why, failed).refused(),
+        unmatched: names_at(Occurred::new(Halt::NONE, why, failed).outcome(), unmatched),
     }
 }
 
@@ -80,10 +83,12 @@ fn pass<F: Feed, O: Outlet>(
     match open_interleaved(alloc, settings, feed) {
         Ok(mut source) => Pass {
             written: write_blocks(alloc, settings, &mut source, outlets),
+            unmatched: source.unmatched_names(alloc).unwrap_or(None),
             feeds: source.into_feed(),
         },
         Err(feed) => Pass {
             written: Written::nothing(),
+            unmatched: None,
             feeds: feed,
         },
     }

@@ -1,14 +1,14 @@
 //! A run on one thread, over two inputs.
 
-ghost use Rattle.std.specs.Prelude.{◌≡◌, ◌≤◌, None, IsTrue, IsSome};
+ghost use Rattle.std.specs.Prelude.{◌≡◌, ◌≤◌, true, None, IsTrue, IsSome};
 ghost use Rattle.fq_run_core.specs.Devices.{outlet_states, AreHealthy};
 ghost use Rattle.fq_pair.specs.Forms.{TwoTexts};
 ghost use Rattle.fq_run_core.specs.Writing.{Runs, no_halt};
-ghost use Rattle.fq_run_core.specs.Outcomes.{rank};
+ghost use Rattle.fq_run_core.specs.Outcomes.{rank, is_unmatched};
 ghost use Rattle.fq_run_core.specs.declared.outcome.Outcome.TheVariants.{Memory};
 ghost use Rattle.fq_run_core.specs.Endings.{run_of, AreTold, ends_whole, IsTrimmed, EveryEnding};
 
-use crate::ending::Ending;
+use crate::ending::{Ending, names_at};
 use crate::halt::Halt;
 use crate::occurred::Occurred;
 use crate::opening::open;
@@ -51,6 +51,7 @@ pub fn run_serial<F: Feed, G: Feed, O: Outlet>(
     ensures serial { 4 ≤ rank result.outcome }
     ensures unended { result.unended ≡ None }
     ensures memory { result.outcome ≡ Memory → IsSome result.refused }
+    ensures unmatched { IsSome result.unmatched → is_unmatched result.outcome ≡ true }
     // At `Input` and `Finished` all pairs before the fault or the end of the input were trimmed.
     ensures whole { let run = run_of F.state G.state (outlet_states O.state)
         forward reverse outlets.old outlets.new result in
@@ -63,6 +64,7 @@ pub fn run_serial<F: Feed, G: Feed, O: Outlet>(
 {
     let Pass {
         written,
+        unmatched,
         feeds: (forward, reverse),
     } = pass(alloc, settings, forward, reverse, outlets);
     let Written { total, why, failed } = written;
@@ -75,6 +77,7 @@ pub fn run_serial<F: Feed, G: Feed, O: Outlet>(
         reverse: Some(reverse),
         unended: None,
         refused: Occurred::new(Halt::NONE, why, failed).refused(),
+        unmatched: names_at(Occurred::new(Halt::NONE, why, failed).outcome(), unmatched),
     }
 }
 
@@ -97,10 +100,12 @@ fn pass<F: Feed, G: Feed, O: Outlet>(
     match open(alloc, settings, forward, reverse) {
         Ok(mut source) => Pass {
             written: write_blocks(alloc, settings, &mut source, outlets),
+            unmatched: source.unmatched_names(alloc).unwrap_or(None),
             feeds: source.into_feeds(),
         },
         Err(feeds) => Pass {
             written: Written::nothing(),
+            unmatched: None,
             feeds,
         },
     }

@@ -4,7 +4,7 @@ ghost use Rattle.std.specs.Prelude.{◌≡◌};
 
 use crate::reading_end::ReadingEnd;
 use crate::total::Total;
-use fq_pair::Out;
+use fq_pair::{Out, UnmatchedNames};
 
 /// What became of the pairs of a run.
 pub(crate) struct Written {
@@ -19,6 +19,8 @@ pub(crate) struct Written {
 /// What became of the pairs of a run, and the feeds as the run left them.
 pub(crate) struct Pass<T> {
     pub(crate) written: Written,
+    /// The names of the mates at which reading stopped, if they don't match.
+    pub(crate) unmatched: Option<UnmatchedNames>,
     pub(crate) feeds: T,
 }
 

@@ -82,6 +82,11 @@ returns-in-Ok-clause-flushed g c = λ ends.
     subst (λ n. (n ≡ 0) ⊎ (n ≡ 3)) (sym (c.tell.ensures.whole ends)) ends in
     c.in-Ok.ensures.completed.flushed is (c.tell.ensures.reported ends)
 
+-- if an output or the report leads to an input, no run is made
+pub returns-in-Ok-clause-spared : goal.returns-in-Ok-clause-spared
+returns-in-Ok-clause-spared g c = λ told name made leads.
+    let failed = (c.in-Ok.ensures.spared told name made leads).0 in absurd (cc failed)
+
 -- of a wrong request no run is made, and no file has changed
 pub returns-in-Ok-clause-wrong : goal.returns-in-Ok-clause-wrong
 returns-in-Ok-clause-wrong g c = λ wrong.

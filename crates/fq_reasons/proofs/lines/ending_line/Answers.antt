@@ -13,7 +13,7 @@ use Rattle.fq_reasons.proofs.lines.ending_line.Goals as goal
 pub returns-in-Some : goal.returns-in-Some
 returns-in-Some c =
     let a = asking_of c.args.request.now in
-    let seen = c.args.seen in
+    let seen = c.args.seen.now in
     let o = settled c.args.outcome in
     let text = string_bytes c.in-Some.reason in
     let is : ending_reason a seen o ≡ Some text =

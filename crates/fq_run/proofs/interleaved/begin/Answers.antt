@@ -8,8 +8,8 @@ use Rattle.fq_run.proofs.StartLemmas.{closed, refused}
 use Rattle.fq_run.proofs.interleaved.begin.Goals as goal
 
 -- what is promised of the run over the source holds of the run over its feed
-pub returns-in-Ok : goal.returns-in-Ok
-returns-in-Ok g c =
+pub returns-in-Ok-clause-threaded : goal.returns-in-Ok-clause-threaded
+returns-in-Ok-clause-threaded g c =
     let f = g.F.Feed in
     let fs = f.state in
     let e = c.ending_of.ensures in
@@ -19,8 +19,8 @@ returns-in-Ok g c =
     c.run.result _ _ _ _ _ _ e.outcome e.total e.unended e.refused e.feed e.feed c.run.ensures
 
 -- if memory for the source is refused, the feed is as it was, and the outlets are only flushed
-pub returns-in-Err : goal.returns-in-Err
-returns-in-Err g c =
+pub returns-in-Err-clause-threaded : goal.returns-in-Err-clause-threaded
+returns-in-Err-clause-threaded g c =
     let f = g.F.Feed in
     let fs = f.state in
     let back = c.in-Err.ensures.err in
