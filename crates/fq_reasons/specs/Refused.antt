@@ -1,5 +1,5 @@
 -- Why a request was refused, in words that say what to change.
-use Rattle.std.specs.Prelude.{ℕ, ◌-◌, ◌==◌, ◌||◌, Bool, true, false, nat_eq, Option, Some, None, List, [], ◌++◌, codes, decimal, length, slice_index_or, unwrap_or, if◌then◌else◌}
+use Rattle.std.specs.Prelude.{ℕ, ◌-◌, ◌==◌, ◌||◌, Bool, true, false, nat_eq, Option, Some, None, List, [], ◌++◌, codes, decimal, length, slice_index_or, if◌then◌else◌}
 use Rattle.std.specs.List.{before_first, ends_with, list_any}
 use Rattle.std.specs.Str.{bytes_eq}
 use Rattle.fq_trim.specs.declared.fault.StepFault.{StepFault}

@@ -14,11 +14,11 @@ ghost use Rattle.std.specs.Prelude.{◌≡◌, ◌<◌, ◌^◌, false, [], IfSo
 ghost use Rattle.fq_run.specs.Devices.{outlet_states, AreHealthy};
 
 use anyhow::{Result, bail};
+use fq_memory_run::{Left, MemoryRun, in_order};
 use fq_pair::{Counts, InputFault, Side};
 use fq_run::{Outcome, Outlets};
 use fq_samples::{
-    ELEVEN_INTERLEAVED, Front, Left, MemoryRun, SEVEN_FORWARD, SEVEN_REVERSE, SEVEN_STEPS,
-    front_in_order, in_order,
+    ELEVEN_INTERLEAVED, Front, SEVEN_FORWARD, SEVEN_REVERSE, SEVEN_STEPS, front_in_order,
 };
 use fq_text::{Outlet, OutletFailed, ScriptOutlet};
 use fq_trim::Steps;

@@ -16,9 +16,10 @@
 //! have it whole. Instead of both, `amiss` says why the outputs are not those of the first pairs.
 
 use anyhow::{Context, Result, bail};
+use fq_memory_run::{Left, MemoryRun, in_order};
 use fq_pair::Out;
 use fq_run::Outlets;
-use fq_samples::{Left, MemoryRun, ScriptGate, front_in_order, in_order};
+use fq_samples::{ScriptGate, front_in_order};
 use fq_text::{Outlet, ScriptOutlet};
 use fq_trim::Steps;
 use fq_work::OpenGate;

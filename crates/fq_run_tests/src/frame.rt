@@ -3,11 +3,10 @@
 ghost use Rattle.std.specs.Prelude.{◌≡◌, IfOk};
 ghost use Rattle.fq_run_core.specs.Devices.{outlet_states, AreHealthy};
 
+use fq_memory_run::{Left, MemoryRun, in_order};
 use fq_pair::Counts;
 use fq_run::{Outcome, Outlets};
-use fq_samples::{
-    Left, MemoryRun, SEVEN_FORWARD, SEVEN_REVERSE, TWO_FORWARD, TWO_REVERSE, Written, in_order,
-};
+use fq_samples::{SEVEN_FORWARD, SEVEN_REVERSE, TWO_FORWARD, TWO_REVERSE, Written};
 use fq_text::{Outlet, ScriptFeed, ScriptOutlet};
 use fq_trim::Steps;
 use std::alloc::Global;

@@ -7,11 +7,10 @@ use super::frame::{
     SEVEN_COUNTS, TWO_COUNTS, assert_ended, assert_texts, assert_written, forward_feed, outlets,
     seven_pairs, two_pairs,
 };
+use fq_memory_run::{MemoryRun, in_order};
 use fq_pair::Counts;
 use fq_run::{Outcome, Outlets};
-use fq_samples::{
-    MemoryRun, SEVEN_STEPS, SEVEN_WRITTEN, TWO_STEPS, TWO_WRITTEN, Written, in_order,
-};
+use fq_samples::{SEVEN_STEPS, SEVEN_WRITTEN, TWO_STEPS, TWO_WRITTEN, Written};
 use fq_text::{Feed, FeedFailed, Outlet, OutletFailed, ScriptFeed, ScriptOutlet};
 use fq_trim::Steps;
 use fq_work::{Gate, OpenGate};

@@ -1,10 +1,9 @@
 //! Worked texts: pairs whose trimmed bases were counted by hand. The tests of the other crates use
-//! them, each at its own level. And runs over texts in memory.
+//! them, each at its own level.
 #![tactic(auto)]
 
 mod fronts;
 mod gate;
-mod memory_run;
 mod read;
 mod seven;
 mod source;
@@ -13,7 +12,6 @@ mod written;
 
 pub use fronts::{Front, front_in_order};
 pub use gate::ScriptGate;
-pub use memory_run::{Left, MemoryRun, in_order};
 pub use read::lawful_read;
 pub use seven::{
     ELEVEN_INTERLEAVED, FIVE_REVERSE, FIVE_WRITTEN, SEVEN_FORWARD, SEVEN_REVERSE, SEVEN_STEPS,
