@@ -1,5 +1,5 @@
 -- Device numbers, as the C library's `makedev` makes them.
-use Rattle.std.proofs.Common.{◌≡◌, ℕ, refl}
+use Rattle.std.proofs.Common.{◌≡◌, refl}
 use Rattle.fq_files.specs.Devices.{device_of}
 
 -- 0:27, a file system in memory, and the first with a minor number of nine bits.
