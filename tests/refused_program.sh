@@ -1,6 +1,6 @@
 #!/usr/bin/env bash
 # Refuses each memory growth of the built program in turn, until a run meets no refusal: of PE, also
-# with a report, of IL, of EXAMPLE, of --help, and of an argument that is not UTF-8. A run that met
+# with a report and with reasons, of IL, of EXAMPLE, of --help, and of an argument that is not UTF-8. A run that met
 # a refusal must report that memory was refused (status 5) or that a thread was refused for lack of
 # memory (status 6), and print nothing. At most one growth in each call may be refused without any
 # effect: one that the program can do without. With a report there are more, and the report is the
@@ -32,7 +32,10 @@ sweep() {
     status=$?
     [ -s refused ] || break
     case "$status $(cat err)" in
-      '5 out of memory' | '6 cannot start a thread') [ -z "$said" ] || wrong "$number" "$1" "printed '$said'" ;;
+      '5 out of memory' | '6 cannot start a thread' | ${REASONS:-without reasons})
+        [ -z "$said" ] || wrong "$number" "$1" "printed '$said'"
+        cat err >> lines
+        ;;
       "$ending")
         unseen=$((unseen + 1))
         [ -z "${WANTED-}" ] || cmp "$WANTED" report || wrong "$number" "$1" 'another report'
@@ -72,6 +75,14 @@ sweep PE --threads 2 --block 1 --trimlog log f r fp fu rp ru LEADING:3
 # unseen, and the report is the same.
 "$program" PE --threads 2 --block 1 --report wanted f r fp fu rp ru LEADING:3 MINLEN:2 > summary || wrong 0 PE 'the run without a refusal'
 WANTED=wanted sweep PE --threads 2 --block 1 --report report f r fp fu rp ru LEADING:3 MINLEN:2
+REASONS='@(5 out of memory|6 cannot start a thread): *' WANTED=wanted sweep PE --explain --threads 2 --block 1 --report report f r fp fu rp ru LEADING:3 MINLEN:2
+for line in \
+  'out of memory: it was refused before a pair was trimmed' \
+  'out of memory: it was refused while pairs were trimmed; smaller --threads, --block or --depth take less' \
+  'out of memory: it was refused for the report; the outputs are written' \
+  'cannot start a thread: --threads is 2, and one more thread reads'; do
+  grep -qxF "$line" lines || wrong any PE "no call printed '$line'"
+done
 sweep IL --threads 2 --block 1 --trimlog log i fp fu rp ru LEADING:3
 sweep EXAMPLE
 sweep --help

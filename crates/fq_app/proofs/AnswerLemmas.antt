@@ -10,11 +10,11 @@ use Rattle.clap.specs.Kinds.{IsAmong, Kinds}
 use Rattle.clap.specs.Words.{Text}
 use Rattle.clap.specs.declared.error.kind.ErrorKind.{ErrorKind}
 use Rattle.fq_run.specs.Outcome.{Outcome}
-use Rattle.fq_run.specs.Outcome.TheVariants.{Lane}
+use Rattle.fq_run.specs.Outcome.TheVariants.{Spawn, Lane, Gate, Memory, Write, Read, Endless, Input, Finished}
 use Rattle.fq_run.specs.Endings.{ends_whole}
-use Rattle.fq_files_run.specs.Faults.{settled, outcome_status}
+use Rattle.fq_files_run.specs.Faults.{settled, status_when, outcome_status, line_when, memory_words}
 use Rattle.fq_text.specs.Written.{line}
-use Rattle.fq_reasons.specs.Lines.{explained, line_of, ending_line, report_line}
+use Rattle.fq_reasons.specs.Lines.{explained, line_of, ending_line, ending_line_when, line_for, report_line, report_memory_line}
 use Rattle.fq_cli.specs.Requests.{Asking, input_name}
 use Rattle.fq_cli.specs.Words.{AskedFor, asked_pairs, pairs_asked}
 use Rattle.fq_cli.specs.declared.words.Asked.{Asked}
@@ -24,7 +24,7 @@ use Rattle.fq_files_run.specs.Leaving.{RefusalLeaves, ReportLeft, HoldFirstPairs
 use Rattle.fq_files_run.proofs.EndingLemmas.{done_is_whole, ends_so}
 use Rattle.fq_files_run.proofs.LeavingLemmas.{refusal_untrimmed, report_untrimmed, whole_first}
 use Rattle.fq_files_run.specs.Refusals.{status_of}
-use Rattle.fq_app.specs.Answers.{Device, EndsWhole, IsRefusal, IsEnding, IsUnprinted, IsUntold, IsUnreported, IsReportLeft, IsReportUncut, LacksMemory, NamesRefused, NamesDevice, PairsAnswered, Refuses, Tells, TookLine, memory_line, print_line}
+use Rattle.fq_app.specs.Answers.{Device, EndsWhole, IsRefusal, IsEnding, IsUnprinted, IsUntold, IsUnreported, IsReportLeft, IsReportUncut, LacksMemory, TookMemoryLine, TookText, NamesRefused, NamesDevice, PairsAnswered, Refuses, Reports, Tells, TookLine, memory_line, print_line}
 use Rattle.fq_files_run.specs.declared.refusal.Refusal.{Refusal}
 use Rattle.fq_files_run.specs.declared.seeing.EndingSeen.{EndingSeen}
 use Rattle.fq_files_run.specs.declared.reporting.Reported.{Reported}
@@ -102,23 +102,33 @@ refuses_fails a refusal err status (inr lacks) =
       (λ three. absurd (omega (arith, three, five))),
     )
 
+-- refused memory has its line, or that of a report
+untold_line : (a : Asking) (old new : FilesState) (out err : Device) (status : ℕ) (text : List ℕ) →
+    status ≡ 5 → (text ≡ memory_line) ⊎ (text ≡ report_memory_line a) → TookText err text
+    → (IsTrue old.tells → AreLeft a old.bytes new.bytes)
+    → (IsTrue old.tells → (name : List ℕ) → a.report ≡ Some name →
+    IsReportUncut a old.bytes new.bytes name) →
+    TookLine a old new out err status
+untold_line a old new out err status text five is took left report_left = record {
+  text = text;
+  fits = inr (inr (inl (record {
+    status_is = five;
+    text_is = is;
+    left = left;
+    report_left = report_left;
+  })));
+  took = took;
+}
+
 -- refused memory has its line
 lacks_line : (a : Asking) (old new : FilesState) (out err : Device) (status : ℕ) →
     LacksMemory err status → (IsTrue old.tells → AreLeft a old.bytes new.bytes)
     → (IsTrue old.tells → (name : List ℕ) → a.report ≡ Some name →
     IsReportUncut a old.bytes new.bytes name) →
     TookLine a old new out err status
-lacks_line a old new out err status lacks left report_left = record {
-  text = memory_line;
-  fits = inr (inr (inl (record {
-    status_is = lacks.status_is;
-    text_is = refl;
-    left =
-        left;
-    report_left = report_left;
-  })));
-  took = lacks.told;
-}
+lacks_line a old new out err status lacks left report_left =
+    untold_line a old new out err status memory_line lacks.status_is (inl refl) lacks.told left
+    report_left
 
 -- a whole report is a first part of itself
 whole_begins : (a : Asking) (old new : Holding) (name : List ℕ) → HoldsReport a old new name →
@@ -338,7 +348,7 @@ module _ (a : Asking) (old new : FilesState) (outcome : Outcome) (counts : Count
       }
   told_line seen out err status (inr (inr lacks)) =
       let due = due_as (report.OutOfMemory lacks.0.0) lacks.0.1 (λ e. absurd (cc e)) in
-      lacks_line a old new out err status lacks.1
+      untold_line a old new out err status (report_memory_line a) lacks.1 (inr refl) lacks.2
       (λ tells. inr (outcome, run.ended tells (not_lane outcome due)))
       (λ tells name named. inl (inr (held_as (report.OutOfMemory lacks.0.0) lacks.0.1 tells name
       named)))
@@ -401,7 +411,7 @@ failed_device a old new out err status seen outcome reported fails as_it_is
     inr (inr (inr (report_fails unwritten.0, unwritten.2)))
 failed_device a old new out err status seen outcome reported fails as_it_is
     report_fails (inr (inr lacks)) four =
-    absurd (four_not_five status four lacks.1.status_is)
+    absurd (four_not_five status four lacks.1)
 
 -- a report that was written or not due has not failed
 pub not_failed : (reported : Reported) → (reported ≡ report.NotDue) ⊎ (reported ≡ report.Written) →
@@ -478,3 +488,76 @@ plain_report a = ap line (sym (unexplained a.explain))
         ≡ codes "write failed: report"
     unexplained true = refl
     unexplained false = refl
+
+-- ---- the line for refused memory
+
+-- it has a reason if one was asked for
+pub memory_took : (b : Bool) (err : Device) (reason : List ℕ) →
+    TookText err (line (explained b memory_words (Some reason))) → TookMemoryLine err
+memory_took true err reason took = inr (reason, took)
+memory_took false err reason took = inl took
+
+-- a refusal with status 5 has that line
+pub refuses_memory : (a : Asking) (refusal : Refusal) (err : Device) (status : ℕ) →
+    Refuses a refusal err status → status ≡ 5 → TookMemoryLine err
+refuses_memory a (why.Memory lacked) err status (inl told) five =
+    memory_took a.explain err _ told.1
+refuses_memory a why.Encoding err status (inl told) five =
+    absurd (omega (arith, told.0, five))
+refuses_memory a (why.Step fault) err status (inl told) five =
+    absurd (omega (arith, told.0, five))
+refuses_memory a (why.Setting bad) err status (inl told) five =
+    absurd (omega (arith, told.0, five))
+refuses_memory a (why.SameName out) err status (inl told) five =
+    absurd (omega (arith, told.0, five))
+refuses_memory a (why.Source side cause) err status (inl told) five =
+    absurd (omega (arith, told.0, five))
+refuses_memory a (why.Target out cause) err status (inl told) five =
+    absurd (omega (arith, told.0, five))
+refuses_memory a why.SameReport err status (inl told) five =
+    absurd (omega (arith, told.0, five))
+refuses_memory a (why.Report cause) err status (inl told) five =
+    absurd (omega (arith, told.0, five))
+refuses_memory a refusal err status (inr lacks) five = inl lacks.told
+
+-- so has an outcome with status 5
+ending_memory : (a : Asking) (seen : EndingSeen) (o : Outcome) (err : Device) →
+    status_when o ≡ 5 → TookText err (ending_line_when a seen o) → TookMemoryLine err
+ending_memory a seen Memory err five took = memory_took a.explain err _ took
+ending_memory a seen Finished err five took = absurd (omega (arith, five))
+ending_memory a seen Spawn err five took = absurd (omega (arith, five))
+ending_memory a seen Lane err five took = absurd (omega (arith, five))
+ending_memory a seen Gate err five took = absurd (omega (arith, five))
+ending_memory a seen (Write out) err five took = absurd (omega (arith, five))
+ending_memory a seen (Read side) err five took = absurd (omega (arith, five))
+ending_memory a seen (Endless side) err five took = absurd (omega (arith, five))
+ending_memory a seen (Input fault) err five took = absurd (omega (arith, five))
+
+plain_memory : (o : Outcome) (err : Device) → status_when o ≡ 5 → TookText err (line_when o) →
+    TookMemoryLine err
+plain_memory Memory err five took = inl took
+plain_memory Finished err five took = absurd (omega (arith, five))
+plain_memory Spawn err five took = absurd (omega (arith, five))
+plain_memory Lane err five took = absurd (omega (arith, five))
+plain_memory Gate err five took = absurd (omega (arith, five))
+plain_memory (Write out) err five took = absurd (omega (arith, five))
+plain_memory (Read side) err five took = absurd (omega (arith, five))
+plain_memory (Endless side) err five took = absurd (omega (arith, five))
+plain_memory (Input fault) err five took = absurd (omega (arith, five))
+
+-- also in a run that nobody asked for
+pub told_memory : (asked : Option Asking) (seen : EndingSeen) (outcome : Outcome) (err : Device) →
+    outcome_status outcome ≡ 5 → TookText err (line_for asked seen outcome) → TookMemoryLine err
+told_memory (Some a) seen outcome err five took =
+    ending_memory a seen (settled outcome) err five took
+told_memory None seen outcome err five took = plain_memory (settled outcome) err five took
+
+-- at an outcome of status 6, status 5 is that of refused memory for its line
+pub reports_lack : (text : List ℕ) (outcome : Outcome) (out err : Device) (status : ℕ) →
+    outcome_status outcome ≡ 6 → Reports text outcome out err status → status ≡ 5 →
+    LacksMemory err status
+reports_lack text outcome out err status six (inl told) five =
+    absurd (omega (arith, told.0, six, five))
+reports_lack text outcome out err status six (inr (inl unprinted)) five =
+    absurd (omega (arith, unprinted.1.1, five))
+reports_lack text outcome out err status six (inr (inr untold)) five = untold.1

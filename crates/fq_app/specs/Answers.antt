@@ -20,7 +20,7 @@ use Rattle.fq_cli.specs.Requests.{Asking, input_name}
 use Rattle.fq_files_run.specs.Judging.{wrong_with}
 use Rattle.fq_files_run.specs.Refusals.{status_of}
 use Rattle.fq_files_run.specs.Faults.{memory_words, settled, outcome_status, outcome_line}
-use Rattle.fq_reasons.specs.Lines.{line_of, ending_line, report_line}
+use Rattle.fq_reasons.specs.Lines.{line_of, ending_line, report_line, report_memory_line}
 use Rattle.fq_files_run.specs.Trimming.{IsNoOutput, TrimsFiles}
 use Rattle.fq_files_run.specs.Leaving.{RefusalLeaves, ReportLeft, HoldFirstPairs, AreLeft, TellsInputs}
 use Rattle.fq_files_run.specs.Opening.{IsRefusable}
@@ -87,6 +87,11 @@ pub record LacksMemory (err : Device) (status : ℕ) : Type 0 where
   pub status_is : status ≡ 5
   pub told : TookText err memory_line
 
+-- standard error took the line for refused memory, without a reason or with one
+abbrev pub TookMemoryLine : Device → Type 0
+TookMemoryLine err = TookText err memory_line
+    ⊎ ((reason : List ℕ) × TookText err (line (memory_words ++ codes ": " ++ reason)))
+
 -- What standard error takes, and what the files of the outputs hold then.
 
 -- a refusal of the request has this status and this line
@@ -141,11 +146,11 @@ abbrev pub IsReportUncut : Asking → Holding → Holding → List ℕ → Type 
 IsReportUncut a old new name = ((new name ≡ old name) ⊎ (new name ≡ Some []))
     ⊎ HoldsReport a old new name
 
--- memory for the line or the summary was refused
+-- memory for the line, the summary or the report was refused
 pub record IsUntold (a : Asking)
     (old new : FilesState) (status : ℕ) (text : List ℕ) : Type 0 where
   pub status_is : status ≡ 5
-  pub text_is : text ≡ memory_line
+  pub text_is : (text ≡ memory_line) ⊎ (text ≡ report_memory_line a)
   pub left : IsTrue old.tells → AreLeft a old.bytes new.bytes
   pub report_left : IsTrue old.tells →
       (name : List ℕ) → a.report ≡ Some name → IsReportUncut a old.bytes new.bytes name
@@ -179,7 +184,7 @@ Tells a seen outcome reported out err status =
     × Reports (ending_line a seen outcome) outcome out err status)
     ⊎ (((reported ≡ report.Failed) × (status ≡ 4) × TookReportLine a err)
     ⊎ (((refused : MemoryRefused) × (reported ≡ report.OutOfMemory refused))
-    × LacksMemory err status))
+    × (status ≡ 5) × TookText err (report_memory_line a)))
 
 -- standard error took the line of the refusal, or memory was refused for that line
 abbrev pub Refuses : Asking → Refusal → Device → ℕ → Type 0

@@ -7,7 +7,7 @@ ghost use Rattle.fq_files_run.specs.Trimming.{KeepsUnnamed};
 ghost use Rattle.fq_files_run.specs.Leaving.{AreUntrimmed};
 ghost use Rattle.fq_files_run.specs.Opening.{SparesInputs};
 ghost use Rattle.fq_cli.specs.Words.{AskedFor, words_fault};
-ghost use Rattle.fq_app.specs.Answers.{device_of, TookText, TookPart, TookLines, LacksMemory, LacksPrint, IsUnshown, Refuses, Tells, NamesDevice, PairsAnswered, AreRefused, IsCall, AreCalls, print_line};
+ghost use Rattle.fq_app.specs.Answers.{device_of, TookText, TookPart, TookLines, LacksMemory, TookMemoryLine, LacksPrint, IsUnshown, Refuses, Tells, NamesDevice, PairsAnswered, AreRefused, IsCall, AreCalls, print_line};
 ghost use Rattle.fq_app.specs.Example.{example_text};
 ghost use Rattle.fq_app.specs.FilesInStep.{FilesAreInStep, FilesAreInStepUpTo};
 ghost use Rattle.fq_files_run.specs.Faults.{outcome_status};
@@ -19,7 +19,7 @@ ghost use Rattle.clap.specs.declared.error.kind.ErrorKind.TheVariants.{DisplayHe
 use crate::example::example;
 use crate::example_failed::ExampleFailed;
 use crate::refusal_line::{refusal_line, refusal_status};
-use crate::telling::{cannot_print, cannot_report, out_of_memory, tell_account};
+use crate::telling::{cannot_print, cannot_report, lacks_report, out_of_memory, tell_account};
 use crate::trimming::{Completed, trim_files};
 use crate::usage::usage_lines;
 use clap::Error;
@@ -131,13 +131,15 @@ pub fn program<'a, R: Threads + Wait + Copy + Send + 'static, T: Files, O: Outle
 
     // At status 0 `err` has taken nothing and `out` the whole text. Unless `out` failed, nothing is
     // printed at statuses other than 0 and 3. If it failed, the status is 3, or 4 with the line for
-    // that. Refused memory is reported as such.
+    // that. Refused memory is reported as such; only a request may have a reason for it.
     ensures finished { result ≡ 0 → ((O.state out.new).failures ≡ 0) × (err.new ≡ err.old) }
     ensures quiet { result ≢ 0 → result ≢ 3 → (O.state out.new).failures ≡ 0 → out.new ≡ out.old }
     ensures failed { (O.state out.new).failures ≢ 0
         → (result ≡ 3) ⊎ ((result ≡ 4) × TookText (device_of E.state err.old err.new) print_line) }
     ensures memory { result ≡ 5 → (out.new ≡ out.old)
-        × LacksMemory (device_of E.state err.old err.new) result }
+        × TookMemoryLine (device_of E.state err.old err.new) }
+    ensures unread { words_fault (map (λ word. word.now) words.entry.now) ≢ [] → result ≡ 5
+        → LacksMemory (device_of E.state err.old err.new) result }
 {
     match read_words(alloc, words) {
         Ok(Asked::Example) => print_example(alloc, rt, out, err),
@@ -176,7 +178,7 @@ fn trim_pairs<R: Threads + Wait + Copy + Send + 'static, T: Files, O: Outlet, E:
     ensures failed { (O.state out.new).failures ≢ 0
         → (result ≡ 3) ⊎ ((result ≡ 4) × TookText (device_of E.state err.old err.new) print_line) }
     ensures memory { result ≡ 5 → (out.new ≡ out.old)
-        × LacksMemory (device_of E.state err.old err.new) result }
+        × TookMemoryLine (device_of E.state err.old err.new) }
 {
     match trim_files(alloc, rt, request, files) {
         Ok(completed) => tell(alloc, request, &completed, out, err),
@@ -207,7 +209,7 @@ fn tell<O: Outlet, E: Outlet>(
         completed.now.account.outcome completed.now.reported
         (device_of O.state out.old out.new) (device_of E.state err.old err.new) result }
     ensures memory { result ≡ 5 → (out.new ≡ out.old)
-        × LacksMemory (device_of E.state err.old err.new) result }
+        × TookMemoryLine (device_of E.state err.old err.new) }
     ensures quiet { result ≢ 0 → result ≢ 3 → (O.state out.new).failures ≡ 0 → out.new ≡ out.old }
     ensures failed { (O.state out.new).failures ≢ 0
         → (result ≡ 3) ⊎ ((result ≡ 4) × TookText (device_of E.state err.old err.new) print_line) }
@@ -225,7 +227,7 @@ fn tell<O: Outlet, E: Outlet>(
             )
         }
         Reported::Failed => cannot_report(alloc, request, completed.report_error, err),
-        Reported::OutOfMemory(refused) => out_of_memory(err, refused),
+        Reported::OutOfMemory(refused) => lacks_report(request, err, refused),
     }
 }
 

@@ -1,18 +1,18 @@
 //! What the program reports at its end.
 
-ghost use Rattle.std.specs.Prelude.{◌≡◌, ◌≢◌, ◌⊎◌, true, false, IfOk, OnErr};
+ghost use Rattle.std.specs.Prelude.{◌≡◌, ◌≢◌, ◌⊎◌, true, false, [], IfOk, OnErr};
 ghost use Rattle.std.specs.Option.{option_map};
 ghost use Rattle.std.specs.String.{string_bytes};
 ghost use Rattle.fq_pair.specs.Summaries.{summary_of};
-ghost use Rattle.fq_app.specs.Answers.{device_of, TookText, TookPart, Reports, LacksMemory, TookReportLine, memory_line, print_line};
+ghost use Rattle.fq_app.specs.Answers.{device_of, TookText, TookPart, Reports, LacksMemory, TookMemoryLine, TookReportLine, print_line};
 ghost use Rattle.fq_files_run.specs.Faults.{outcome_status};
 ghost use Rattle.fq_cli.specs.Requests.{asking_of};
-ghost use Rattle.fq_reasons.specs.Lines.{line_for};
+ghost use Rattle.fq_reasons.specs.Lines.{line_for, report_memory_line};
 
 use fq_cli::Request;
 use fq_files_run::{Account, EndingSeen, LANE_LINE, MEMORY_LINE, fault_line, status_of};
 use fq_pair::{Counts, summary};
-use fq_reasons::{REPORT_LINE, ending_line, report_line};
+use fq_reasons::{REPORT_LINE, ending_line, lane_line, report_line, report_memory_line};
 use fq_run::Outcome;
 use fq_text::{MemoryRefused, OutOfMemory, Outlet, SystemError, send};
 use std::alloc::Global;
@@ -49,7 +49,7 @@ pub(crate) fn tell_account<O: Outlet, E: Outlet>(
         account.now.outcome
         (device_of O.state out.old out.new) (device_of E.state err.old err.new) result }
     ensures memory { result ≡ 5 → (out.new ≡ out.old)
-        × LacksMemory (device_of E.state err.old err.new) result }
+        × TookMemoryLine (device_of E.state err.old err.new) }
 
     // Unless `out` failed, nothing is printed at statuses other than 0 and 3. If it failed, the
     // status is 3, or 4 with the line for that.
@@ -61,7 +61,7 @@ pub(crate) fn tell_account<O: Outlet, E: Outlet>(
     if matches!(account.outcome, Outcome::Lane) {
         // This line takes no memory, because `Reports` allows refused memory for every outcome
         // except this one.
-        let _ = send(err, LANE_LINE.as_bytes());
+        send_line(err, told_lane(request));
         return 6;
     }
     let line = match told_line(alloc, request, seen, account.outcome) {
@@ -78,9 +78,29 @@ pub(crate) fn tell_account<O: Outlet, E: Outlet>(
             return cannot_print(err);
         }
     }
-    // A failed write to `err` has nowhere to be reported.
-    let _ = send(err, line.as_bytes());
+    send_line(err, line.as_str());
     status
+}
+
+// Sends a line to `err`. A failed write there has nowhere to be reported.
+fn send_line<E: Outlet>(err: &mut E, line: &str)
+    requires { (E.state err.old).failures ≡ 0 }
+    ensures told { TookText (device_of E.state err.old err.new) line.now }
+    ensures empty { line.now ≡ [] → err.new ≡ err.old }
+{
+    let _ = send(err, line.as_bytes());
+}
+
+// The line of a lane that is not confirmed, with the reason if the request asks for it. It takes no
+// memory.
+fn told_lane(request: Option<&Request<'_>>) -> &'static str
+    ensures { (seen : EndingSeen) → result.now
+        ≡ line_for (option_map (λ r. asking_of r.now) request.entry) seen Outcome.Lane }
+{
+    match request {
+        Some(request) => lane_line(request),
+        None => LANE_LINE,
+    }
 }
 
 // The line of an outcome, with the reason if the request asks for it.
@@ -124,7 +144,23 @@ pub fn out_of_memory<E: Outlet>(err: &mut E, _refused: MemoryRefused) -> u8
     requires { (E.state err.old).failures ≡ 0 }
     ensures { LacksMemory (device_of E.state err.old err.new) result }
 {
-    let _ = send(err, MEMORY_LINE.as_bytes());
+    send_line(err, MEMORY_LINE);
+    5
+}
+
+/// Reports on `err` that memory for the report was refused, for which there must be a witness.
+/// Returns the exit status, 5.
+pub(crate) fn lacks_report<E: Outlet>(
+    request: &Request<'_>,
+    err: &mut E,
+    _refused: MemoryRefused,
+) -> u8
+    requires { (E.state err.old).failures ≡ 0 }
+    ensures status { result ≡ 5 }
+    ensures told { TookText (device_of E.state err.old err.new)
+        (report_memory_line (asking_of request.now)) }
+{
+    send_line(err, report_memory_line(request));
     5
 }
 
@@ -134,7 +170,7 @@ pub(crate) fn cannot_print<E: Outlet>(err: &mut E) -> u8
     ensures status { result ≡ 4 }
     ensures told { TookText (device_of E.state err.old err.new) print_line }
 {
-    let _ = send(err, b"cannot print\n");
+    send_line(err, "cannot print\n");
     4
 }
 
@@ -163,6 +199,6 @@ fn fail_with<E: Outlet>(err: &mut E, text: &str) -> u8
     ensures status { result ≡ 4 }
     ensures told { TookText (device_of E.state err.old err.new) text.now }
 {
-    let _ = send(err, text.as_bytes());
+    send_line(err, text);
     4
 }

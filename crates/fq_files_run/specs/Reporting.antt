@@ -32,9 +32,10 @@ words_when _ = None
 abbrev pub fault_words : Outcome → Option (List ℕ)
 fault_words outcome = words_when (settled outcome)
 
--- what was asked for and counted, and how the run ended
-abbrev pub run_facts : Asking → Encoding → Outcome → Counts → Tally → facts.Facts
-run_facts a encoding outcome counts tally = record {
+-- what was asked for and counted, with the words of the steps and of the fault
+abbrev pub asked_facts : Asking → Encoding → List (List ℕ) → Option (List ℕ) → Counts → Tally →
+    facts.Facts
+asked_facts a encoding steps fault counts tally = record {
   program = codes "fq_prog";
   version = codes "1.2.0";
   inputs = a.inputs;
@@ -45,11 +46,16 @@ run_facts a encoding outcome counts tally = record {
   log = a.log;
   encoding = encoding;
   check_names = a.check_names;
-  steps = a.steps;
-  fault = fault_words outcome;
+  steps = steps;
+  fault = fault;
   counts = counts;
   tally = tally;
 }
+
+-- what was asked for and counted, and how the run ended
+abbrev pub run_facts : Asking → Encoding → Outcome → Counts → Tally → facts.Facts
+run_facts a encoding outcome counts tally =
+    asked_facts a encoding a.steps (fault_words outcome) counts tally
 
 -- the report of these pairs: their counts, their tally, and the fault after them
 abbrev pub report_of : Asking → Choices → Pairs → List ℕ

@@ -35,10 +35,13 @@ known b words reason text e is = ap (explained b words) is
 pub unasked_ending : (a : Asking) (seen : EndingSeen) (o : Outcome) → a.explain ≡ false →
     ending_line_when a seen o ≡ line_when o
 unasked_ending a seen Finished e = refl
-unasked_ending a seen Spawn e = ap line (unasked a.explain (outcome_words Spawn) None e)
-unasked_ending a seen Lane e = ap line (unasked a.explain (outcome_words Lane) None e)
+unasked_ending a seen Spawn e =
+    ap line (unasked a.explain (outcome_words Spawn) (ending_reason a seen Spawn) e)
+unasked_ending a seen Lane e =
+    ap line (unasked a.explain (outcome_words Lane) (ending_reason a seen Lane) e)
 unasked_ending a seen Gate e = ap line (unasked a.explain (outcome_words Gate) None e)
-unasked_ending a seen Memory e = ap line (unasked a.explain (outcome_words Memory) None e)
+unasked_ending a seen Memory e =
+    ap line (unasked a.explain (outcome_words Memory) (ending_reason a seen Memory) e)
 unasked_ending a seen (Write out) e =
     ap line (unasked a.explain (outcome_words (Write out)) (ending_reason a seen (Write out)) e)
 unasked_ending a seen (Read side) e =
@@ -53,10 +56,13 @@ unasked_ending a seen (Input fault) e =
 pub unknown_ending : (a : Asking) (seen : EndingSeen) (o : Outcome) →
     ending_reason a seen o ≡ None → ending_line_when a seen o ≡ line_when o
 unknown_ending a seen Finished none = refl
-unknown_ending a seen Spawn none = ap line (unknown a.explain (outcome_words Spawn) None refl)
-unknown_ending a seen Lane none = ap line (unknown a.explain (outcome_words Lane) None refl)
+unknown_ending a seen Spawn none =
+    ap line (unknown a.explain (outcome_words Spawn) (ending_reason a seen Spawn) none)
+unknown_ending a seen Lane none =
+    ap line (unknown a.explain (outcome_words Lane) (ending_reason a seen Lane) none)
 unknown_ending a seen Gate none = ap line (unknown a.explain (outcome_words Gate) None refl)
-unknown_ending a seen Memory none = ap line (unknown a.explain (outcome_words Memory) None refl)
+unknown_ending a seen Memory none =
+    ap line (unknown a.explain (outcome_words Memory) (ending_reason a seen Memory) none)
 unknown_ending a seen (Write out) none =
     ap line (unknown a.explain (outcome_words (Write out)) (ending_reason a seen (Write out)) none)
 unknown_ending a seen (Read side) none =
@@ -79,10 +85,22 @@ pub record IsAdded (a : Asking) (seen : EndingSeen) (o : Outcome) (text : List �
 pub known_ending : (a : Asking) (seen : EndingSeen) (o : Outcome) (text : List ℕ) →
     a.explain ≡ true → ending_reason a seen o ≡ Some text → IsAdded a seen o text
 known_ending a seen Finished text e is = absurd (cc is)
-known_ending a seen Spawn text e is = absurd (cc is)
-known_ending a seen Lane text e is = absurd (cc is)
+known_ending a seen Spawn text e is = record {
+  plain = refl;
+  whole =
+      sym (ap line (known a.explain (outcome_words Spawn) (ending_reason a seen Spawn) text e is));
+}
+known_ending a seen Lane text e is = record {
+  plain = refl;
+  whole =
+      sym (ap line (known a.explain (outcome_words Lane) (ending_reason a seen Lane) text e is));
+}
 known_ending a seen Gate text e is = absurd (cc is)
-known_ending a seen Memory text e is = absurd (cc is)
+known_ending a seen Memory text e is = record {
+  plain = refl;
+  whole =
+      sym (ap line (known a.explain (outcome_words Memory) (ending_reason a seen Memory) text e is));
+}
 known_ending a seen (Write out) text e is = record {
   plain = refl;
   whole =

@@ -1,5 +1,5 @@
 -- Why a run ended before all pairs were trimmed, in words that say what to look at.
-use Rattle.std.specs.Prelude.{ℕ, ◌==◌, Option, Some, None, List, [], ◌++◌, codes, map, take, unwrap_or, if◌then◌else◌}
+use Rattle.std.specs.Prelude.{ℕ, ◌==◌, Option, Some, None, List, [], ◌++◌, codes, decimal, map, take, unwrap_or, if◌then◌else◌}
 use Rattle.std.specs.Char.{is_ascii_graphic}
 use Rattle.std.specs.Str.{bytes_eq}
 use Rattle.fq_text.specs.declared.fault.TextFault.{TextFault}
@@ -14,7 +14,7 @@ use Rattle.fq_pair.specs.declared.fault.InputFault.TheVariants.{Text, MateMissin
 use Rattle.fq_pair.specs.Mates.{MateNames}
 use Rattle.fq_pair.specs.Forms.{Form, TwoTexts, InterleavedText}
 use Rattle.fq_run_core.specs.declared.outcome.Outcome.{Outcome}
-use Rattle.fq_run_core.specs.declared.outcome.Outcome.TheVariants.{Write, Read, Endless, Input}
+use Rattle.fq_run_core.specs.declared.outcome.Outcome.TheVariants.{Spawn, Lane, Gate, Memory, Write, Read, Endless, Input, Finished}
 use Rattle.fq_cli.specs.Requests.{Asking, InputNames, input_name, output_name}
 use Rattle.fq_files_run.specs.declared.seeing.EndingSeen.{EndingSeen}
 use Rattle.fq_reasons.specs.Causes.{device_words}
@@ -112,6 +112,20 @@ input_reason a seen (Text side fault) =
 input_reason a seen (MateMissing side k) = missing_reason a.inputs a.inputs.form side
 input_reason a seen (NamesDiffer k) = differ_reason a.inputs seen.unmatched
 
+-- the threads that a run starts
+abbrev pub spawn_reason : ℕ → List ℕ
+spawn_reason threads = codes "--threads is " ++ decimal threads
+    ++ codes ", and one more thread reads"
+
+-- what was known when memory was refused in a run
+abbrev pub memory_reason : List ℕ
+memory_reason =
+    codes "it was refused while pairs were trimmed; smaller --threads, --block or --depth take less"
+
+-- what a lane that is not confirmed means for the outputs
+abbrev pub lane_reason : List ℕ
+lane_reason = codes "the outputs may lack pairs"
+
 -- why the run ended so, for what can be said of the outcome
 abbrev pub ending_reason : Asking → EndingSeen → Outcome → Option (List ℕ)
 ending_reason a seen (Write out) =
@@ -121,4 +135,8 @@ ending_reason a seen (Read side) = Some (file_reason (input_name a.inputs side)
 ending_reason a seen (Endless side) = Some (file_reason (input_name a.inputs side)
     (codes "it has not ended after 1099511627776 read calls"))
 ending_reason a seen (Input fault) = Some (input_reason a seen fault)
-ending_reason a seen _ = None
+ending_reason a seen Spawn = Some (spawn_reason a.threads)
+ending_reason a seen Memory = Some memory_reason
+ending_reason a seen Lane = Some lane_reason
+ending_reason a seen Gate = None
+ending_reason a seen Finished = None

@@ -6,7 +6,7 @@ use Rattle.fq_text.specs.declared.seen.SystemError.{SystemError}
 use Rattle.fq_run_core.specs.declared.outcome.Outcome.{Outcome}
 use Rattle.fq_run_core.specs.declared.outcome.Outcome.TheVariants.{Finished}
 use Rattle.fq_cli.specs.Requests.{Asking}
-use Rattle.fq_files_run.specs.Faults.{settled, outcome_words, outcome_line}
+use Rattle.fq_files_run.specs.Faults.{settled, memory_words, outcome_words, outcome_line}
 use Rattle.fq_files_run.specs.Refusals.{words_of}
 use Rattle.fq_files_run.specs.declared.refusal.Refusal.{Refusal}
 use Rattle.fq_files_run.specs.declared.seeing.EndingSeen.{EndingSeen}
@@ -46,3 +46,11 @@ report_reason a error = written_reason (unwrap_or a.report []) error
 abbrev pub report_line : Asking → Option (Option SystemError) → List ℕ
 report_line a said =
     line (explained a.explain (codes "write failed: report") (option_map (report_reason a) said))
+
+-- what was known when memory for the report was refused
+abbrev pub report_memory_reason : List ℕ
+report_memory_reason = codes "it was refused for the report; the outputs are written"
+
+-- the line of a report for which memory was refused
+abbrev pub report_memory_line : Asking → List ℕ
+report_memory_line a = line (explained a.explain memory_words (Some report_memory_reason))

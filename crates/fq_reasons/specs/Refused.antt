@@ -113,4 +113,4 @@ refusal_reason a (Source side cause) = Some (source_reason cause)
 refusal_reason a (Target out cause) = Some (target_reason a.inputs cause)
 refusal_reason a SameReport = Some (codes "it is an input and the report")
 refusal_reason a (Report cause) = Some (target_reason a.inputs cause)
-refusal_reason a (Memory refused) = None
+refusal_reason a (Memory refused) = Some (codes "it was refused before a pair was trimmed")

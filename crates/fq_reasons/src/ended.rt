@@ -4,7 +4,7 @@ ghost use Rattle.std.specs.Prelude.{◌≡◌, ◌<◌, ◌++◌, IfOk, Some, co
 ghost use Rattle.std.specs.Option.{option_map};
 ghost use Rattle.std.specs.String.{string_bytes};
 ghost use Rattle.fq_cli.specs.Requests.{asking_of, names_of};
-ghost use Rattle.fq_reasons.specs.Ended.{file_reason, written_reason, record_reason, missing_reason, names_reason, unmatched_reason, differ_reason, shown_name, shown_byte, other_side, title_reason, look_words, input_reason, ending_reason};
+ghost use Rattle.fq_reasons.specs.Ended.{file_reason, written_reason, record_reason, missing_reason, names_reason, unmatched_reason, differ_reason, shown_name, shown_byte, title_reason, look_words, input_reason, spawn_reason, ending_reason};
 
 use crate::causes::device_words;
 use fq_cli::{Inputs, Request};
@@ -13,6 +13,10 @@ use fq_pair::{InputFault, Side, UnmatchedNames};
 use fq_run_core::Outcome;
 use fq_text::{Look, OutOfMemory, SystemError, TextFault};
 use std::alloc::Global;
+
+// What was known when memory was refused in a run.
+const MEMORY_REASON: &str =
+    "it was refused while pairs were trimmed; smaller --threads, --block or --depth take less";
 
 /// Why the run ended so. `seen` is what can be said of the outcome.
 pub(crate) fn ending_reason(
@@ -38,10 +42,18 @@ pub(crate) fn ending_reason(
             Ok(Some(file_reason(alloc, request.input_name(side), words)?))
         }
         Outcome::Input(fault) => Ok(Some(input_reason(alloc, request, seen, fault)?)),
-        Outcome::Spawn | Outcome::Lane | Outcome::Gate | Outcome::Memory | Outcome::Finished => {
-            Ok(None)
-        }
+        Outcome::Spawn => Ok(Some(spawn_reason(alloc, request.threads)?)),
+        Outcome::Memory => Ok(Some(String::from_str(alloc, MEMORY_REASON)?)),
+        Outcome::Lane => Ok(Some(String::from_str(alloc, "the outputs may lack pairs")?)),
+        Outcome::Gate | Outcome::Finished => Ok(None),
     }
+}
+
+// The threads that a run starts.
+fn spawn_reason(alloc: Global, threads: u64) -> Result<String, OutOfMemory>
+    ensures { IfOk result (λ text. string_bytes text ≡ spawn_reason threads) }
+{
+    format!(in alloc; "--threads is {threads}, and one more thread reads")
 }
 
 /// Why a file was not written.

@@ -11,4 +11,6 @@ mod ended;
 mod lines;
 mod refused;
 
-pub use lines::{REPORT_LINE, ending_line, explained_refusal, report_line};
+pub use lines::{
+    REPORT_LINE, ending_line, explained_refusal, lane_line, report_line, report_memory_line,
+};

@@ -5,12 +5,12 @@ ghost use Rattle.std.specs.String.{string_bytes};
 ghost use Rattle.fq_text.specs.Written.{line};
 ghost use Rattle.fq_cli.specs.Requests.{asking_of};
 ghost use Rattle.fq_files_run.specs.Refusals.{words_of};
-ghost use Rattle.fq_reasons.specs.Lines.{line_of, ending_line, report_line};
+ghost use Rattle.fq_reasons.specs.Lines.{line_of, ending_line, report_line, report_memory_line};
 
 use crate::ended::{ending_reason, written_reason};
 use crate::refused::refusal_reason;
 use fq_cli::Request;
-use fq_files_run::{EndingSeen, Refusal, fault_line, settled, without_end};
+use fq_files_run::{EndingSeen, LANE_LINE, MEMORY_LINE, Refusal, fault_line, settled, without_end};
 use fq_run_core::Outcome;
 use fq_text::{OutOfMemory, SystemError};
 use std::alloc::Global;
@@ -74,6 +74,31 @@ pub fn report_line(
     }
     let reason = written_reason(alloc, request.report.unwrap_or(""), error)?;
     explained(alloc, "write failed: report", reason.as_str())
+}
+
+/// The line of a lane that is not confirmed, with its line end and, if it is asked for, the reason.
+/// It takes no memory.
+pub fn lane_line(request: &Request<'_>) -> &'static str
+    ensures { (seen : EndingSeen)
+        → result.now ≡ ending_line (asking_of request.now) seen Outcome.Lane }
+{
+    if request.explain {
+        "lane not confirmed: the outputs may lack pairs\n"
+    } else {
+        LANE_LINE
+    }
+}
+
+/// The line of a report for which memory was refused, with its line end and, if it is asked for,
+/// the reason. It takes no memory.
+pub fn report_memory_line(request: &Request<'_>) -> &'static str
+    ensures { result.now ≡ report_memory_line (asking_of request.now) }
+{
+    if request.explain {
+        "out of memory: it was refused for the report; the outputs are written\n"
+    } else {
+        MEMORY_LINE
+    }
 }
 
 // A line with this reason after its words.

@@ -43,7 +43,9 @@ pub(crate) fn refusal_reason(
         Refusal::Target(_, cause) | Refusal::Report(cause) => {
             Ok(Some(target_reason(alloc, request.inputs, cause)?))
         }
-        Refusal::Memory(_) => Ok(None),
+        Refusal::Memory(_) => {
+            Ok(Some(String::from_str(alloc, "it was refused before a pair was trimmed")?))
+        }
     }
 }
 

@@ -202,6 +202,17 @@ fn put_files(files: &MemoryFiles, answers: &mut Answers) -> Result<()> {
     Ok(())
 }
 
+// The keys that a `do: call` row may have.
+const CALL_KEYS: &[&str] = &[
+    "call",
+    "trouble",
+    "error",
+    "print fails at",
+    "file f",
+    "file r",
+    "file i",
+];
+
 /// Puts the answers to a `do: call` row.
 pub fn answer<R: Threads + Wait + Copy + Send + 'static>(
     rt: &R,
@@ -209,15 +220,7 @@ pub fn answer<R: Threads + Wait + Copy + Send + 'static>(
     given: &Given<'_>,
     answers: &mut Answers,
 ) -> Result<()> {
-    given.allow(&[
-        "call",
-        "trouble",
-        "error",
-        "print fails at",
-        "file f",
-        "file r",
-        "file i",
-    ])?;
+    given.allow(CALL_KEYS)?;
     let words: Vec<&str> = given.text("call")?.split(' ').collect(alloc)?;
     let error = SystemError {
         number: u32::try_from(given.number("error", 0)?)?,

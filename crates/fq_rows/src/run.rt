@@ -176,6 +176,30 @@ fn put_front(
     Ok(())
 }
 
+// The keys that a `do: run` row may have.
+const RUN_KEYS: &[&str] = &[
+    "forward",
+    "reverse",
+    "interleaved",
+    "encoding",
+    "steps",
+    "workers",
+    "block",
+    "depth",
+    "chunk",
+    "max reads",
+    "gate turns",
+    "gate refuses",
+    "names",
+    "tally",
+    "without log",
+    "cut",
+    "fails at read",
+    "reverse fails at read",
+    "fails at write",
+    "fails at flush",
+];
+
 /// Puts the answers to a `do: run` row.
 pub fn answer<R: Threads + Wait + Copy + Send + 'static>(
     rt: &R,
@@ -183,28 +207,7 @@ pub fn answer<R: Threads + Wait + Copy + Send + 'static>(
     given: &Given<'_>,
     answers: &mut Answers,
 ) -> Result<()> {
-    given.allow(&[
-        "forward",
-        "reverse",
-        "interleaved",
-        "encoding",
-        "steps",
-        "workers",
-        "block",
-        "depth",
-        "chunk",
-        "max reads",
-        "gate turns",
-        "gate refuses",
-        "names",
-        "tally",
-        "without log",
-        "cut",
-        "fails at read",
-        "reverse fails at read",
-        "fails at write",
-        "fails at flush",
-    ])?;
+    given.allow(RUN_KEYS)?;
     let steps = Steps::parse(&words_of(alloc, given.text("steps")?)?)?;
     let mut run = plain_run(given, steps);
     put_settings(given, &mut run)?;

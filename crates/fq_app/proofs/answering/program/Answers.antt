@@ -33,9 +33,9 @@ returns-in-Ok-Pairs-clause-spared g c = λ a asked.
     (g.T.Files.state c.args.files.now) (g.T.Files.state c.trim_pairs.new.files) in
     subst P same c.trim_pairs.ensures.spared
 
--- for the request that was read, the files are in step at status 0 and 3
-pub returns-in-Ok-Pairs-clause-in_step : goal.returns-in-Ok-Pairs-clause-in_step
-returns-in-Ok-Pairs-clause-in_step g c = λ a asked.
+-- for the request that was read, the call ends as it must
+pub returns-in-Ok-Pairs-clause-pairs : goal.returns-in-Ok-Pairs-clause-pairs
+returns-in-Ok-Pairs-clause-pairs g c = λ a asked.
     let shape : asked_pairs c.in-Ok-Pairs.field-0 ≡ Some (asking_of c.in-Ok-Pairs.request) =
     rw c.in-Ok-Pairs.field-0-is refl in
     let same = asks_this _ _ _ a c.in-Ok-Pairs.ensures.ok.ask shape asked in
@@ -43,21 +43,17 @@ returns-in-Ok-Pairs-clause-in_step g c = λ a asked.
     (g.T.Files.state c.args.files.now) (g.T.Files.state c.trim_pairs.new.files)
     (device_of g.O.Outlet.state c.args.out.now c.trim_pairs.new.out)
     (device_of g.E.Outlet.state c.args.err.now c.trim_pairs.new.err) c.trim_pairs.result in
-    let answered = subst P same c.trim_pairs.ensures.pairs in
-    λ ends told. whole_files a _ _ _ _ _ (answered.whole ends told)
+    subst P same c.trim_pairs.ensures.pairs
 
--- for the request that was read, the files are untrimmed or in step, except at status 6
+-- so the files are in step at status 0 and 3
+pub returns-in-Ok-Pairs-clause-in_step : goal.returns-in-Ok-Pairs-clause-in_step
+returns-in-Ok-Pairs-clause-in_step g c = λ a asked ends told.
+    whole_files a _ _ _ _ _ ((returns-in-Ok-Pairs-clause-pairs g c a asked).whole ends told)
+
+-- and the files are untrimmed or in step, except at status 6
 pub returns-in-Ok-Pairs-clause-left_in_step : goal.returns-in-Ok-Pairs-clause-left_in_step
-returns-in-Ok-Pairs-clause-left_in_step g c = λ a asked.
-    let shape : asked_pairs c.in-Ok-Pairs.field-0 ≡ Some (asking_of c.in-Ok-Pairs.request) =
-    rw c.in-Ok-Pairs.field-0-is refl in
-    let same = asks_this _ _ _ a c.in-Ok-Pairs.ensures.ok.ask shape asked in
-    let P : Asking → Type 0 = λ x. PairsAnswered x
-    (g.T.Files.state c.args.files.now) (g.T.Files.state c.trim_pairs.new.files)
-    (device_of g.O.Outlet.state c.args.out.now c.trim_pairs.new.out)
-    (device_of g.E.Outlet.state c.args.err.now c.trim_pairs.new.err) c.trim_pairs.result in
-    let answered = subst P same c.trim_pairs.ensures.pairs in
-    λ threads told. files_left a _ _ (answered.left threads told)
+returns-in-Ok-Pairs-clause-left_in_step g c = λ a asked threads told.
+    files_left a _ _ ((returns-in-Ok-Pairs-clause-pairs g c a asked).left threads told)
 
 -- if a valid request was not read, memory was refused, and it is answered so
 pub returns-in-Err-clause-pairs : goal.returns-in-Err-clause-pairs

@@ -1,7 +1,14 @@
-use Rattle.std.proofs.Common.{inl, inr}
+use Rattle.std.proofs.Common.{refl, inl, inr}
+use Rattle.fq_cli.specs.Requests.{asking_of}
+use Rattle.fq_app.proofs.AnswerLemmas.{memory_took}
 use Rattle.fq_app.proofs.answering.tell.Goals as goal
 
 -- a report that was not written has status 4, and standard error took the line for it
 pub returns-in-Failed-clause-line : goal.returns-in-Failed-clause-line
 returns-in-Failed-clause-line g c =
     λ some. inr (inl (c.in-Failed.is, c.cannot_report.ensures.status, c.cannot_report.ensures.told))
+
+-- memory for the report was refused, and standard error took the line for it
+pub returns-in-OutOfMemory-clause-memory : goal.returns-in-OutOfMemory-clause-memory
+returns-in-OutOfMemory-clause-memory g c =
+    λ five. (refl, memory_took (asking_of c.args.request.now).explain _ _ c.lacks_report.ensures.told)

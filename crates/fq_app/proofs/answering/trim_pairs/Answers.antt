@@ -1,11 +1,11 @@
-use Rattle.std.proofs.Common.{◌≡◌, ◌≢◌, ◌⊎◌, IsTrue, inl, ap, subst, sym, arith}
+use Rattle.std.proofs.Common.{◌≡◌, ◌≢◌, ◌⊎◌, IsTrue, refl, inl, ap, subst, sym, arith}
 use Rattle.fq_files.specs.States.{FilesState}
 use Rattle.fq_files_run.specs.Faults.{outcome_status}
 use Rattle.fq_app.specs.Answers.{device_of, TookLine, EndsWhole}
 use Rattle.fq_cli.specs.Requests.{asking_of}
 use Rattle.fq_files_run.specs.Judging.{wrong_with}
 use Rattle.fq_files_run.proofs.EndingLemmas.{ends_so}
-use Rattle.fq_app.proofs.AnswerLemmas.{IsRun, failed_device, is_held, is_left, left_so, not_failed, refused_answer, refused_device, refuses_fails, some_in, told_line}
+use Rattle.fq_app.proofs.AnswerLemmas.{IsRun, failed_device, is_held, is_left, left_so, not_failed, refused_answer, refused_device, refuses_fails, refuses_memory, some_in, told_line}
 use Rattle.fq_app.proofs.answering.trim_pairs.Goals as goal
 
 -- a run that was made answers the request
@@ -129,3 +129,11 @@ pub returns-in-Err-clause-wrong : goal.returns-in-Err-clause-wrong
 returns-in-Err-clause-wrong g c = λ wrong.
     let why = some_in (wrong_with (asking_of c.args.request.now)) wrong in
     (c.in-Err.ensures.wrong why.0 why.1).1
+
+-- at status 5 standard error took the line for refused memory
+pub returns-in-Err-clause-memory : goal.returns-in-Err-clause-memory
+returns-in-Err-clause-memory g c =
+    λ five. (
+      refl,
+      refuses_memory (asking_of c.args.request.now) c.in-Err.refusal _ _ c.refuse.ensures five,
+    )
