@@ -84,6 +84,15 @@ impl Left {
     }
 }
 
+// What a run takes beside its feeds and outlets.
+#[derive(Drop)]
+struct Means<'r, R, H> {
+    rt: &'r R,
+    alloc: Global,
+    settings: &'r Settings,
+    gate: Arc<H>,
+}
+
 impl<'a> MemoryRun<'a> {
     /// A run on one thread over these texts by these steps. Its settings are those of most tests,
     /// and no device fails.
@@ -219,13 +228,19 @@ impl<'a> MemoryRun<'a> {
         let Ok(gate) = Arc::new(alloc, gate) else {
             return Ok(None);
         };
+        let means = Means {
+            rt,
+            alloc,
+            settings: &settings,
+            gate,
+        };
         let Some(text) = self.reverse else {
-            return Ok(Some(self.end_interleaved(rt, alloc, &settings, gate, forward, outlets)));
+            return Ok(Some(self.end_interleaved(means, forward, outlets)));
         };
         let Some(reverse) = self.feed(alloc, text, self.reverse_fails_at_read) else {
             return Ok(None);
         };
-        Ok(Some(self.end_apart(rt, alloc, &settings, gate, forward, reverse, outlets)))
+        Ok(Some(self.end_apart(means, forward, reverse, outlets)))
     }
 
     // Runs over two texts.
@@ -236,10 +251,7 @@ impl<'a> MemoryRun<'a> {
         H: Gate + 'static,
     >(
         &self,
-        rt: &R,
-        alloc: Global,
-        settings: &Settings,
-        gate: Arc<H>,
+        means: Means<'_, R, H>,
         forward: F,
         reverse: ScriptFeed,
         outlets: &mut Outlets<O>,
@@ -248,6 +260,12 @@ impl<'a> MemoryRun<'a> {
         requires reverse { reverse.failures ≡ 0 }
         requires outlets { AreHealthy (outlet_states O.state outlets.old) }
     {
+        let Means {
+            rt,
+            alloc,
+            settings,
+            gate,
+        } = means;
         if self.workers > 0 {
             left_apart(
                 alloc,
@@ -267,18 +285,16 @@ impl<'a> MemoryRun<'a> {
         F: Feed + Drop + Send + 'static,
         O: Outlet,
         H: Gate + 'static,
-    >(
-        &self,
-        rt: &R,
-        alloc: Global,
-        settings: &Settings,
-        gate: Arc<H>,
-        text: F,
-        outlets: &mut Outlets<O>,
-    ) -> Left
+    >(&self, means: Means<'_, R, H>, text: F, outlets: &mut Outlets<O>) -> Left
         requires text { (F.state text).failures ≡ 0 }
         requires outlets { AreHealthy (outlet_states O.state outlets.old) }
     {
+        let Means {
+            rt,
+            alloc,
+            settings,
+            gate,
+        } = means;
         if self.workers > 0 {
             left_interleaved(
                 alloc,
