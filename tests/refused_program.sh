@@ -1,10 +1,10 @@
 #!/usr/bin/env bash
 # Refuses each memory growth of the built program in turn, until a run meets no refusal: of PE, also
-# with a report and with reasons, of IL, of EXAMPLE, of --help, and of an argument that is not UTF-8. A run that met
-# a refusal must report that memory was refused (status 5) or that a thread was refused for lack of
-# memory (status 6), and print nothing. At most one growth in each call may be refused without any
-# effect: one that the program can do without. With a report there are more, and the report is the
-# one of a run in which nothing was refused.
+# with a report, and with a report and reasons, of IL, of EXAMPLE, of --help, and of an argument that
+# is not UTF-8. A run that met a refusal must report that memory was refused (status 5) or that a
+# thread was refused for lack of memory (status 6), and print nothing. At most one growth in each
+# call may be refused without any effect: one that the program can do without. With a report there
+# are more, and the report is the one of a run in which nothing was refused.
 #
 # Then it counts how often a run over many pairs asks for memory. Once its buffers have grown, no
 # pair does, whether its reads are lent as they lie in the buffer or their lines are joined. There
@@ -24,13 +24,15 @@ printf '@p1/2\nTTTT\n+\nIIII\n@p2/2\nAAAA\n+\n!!!"\n' > r
 printf '@p1/1\nACGT\n+\n#!II\n@p1/2\nTTTT\n+\nIIII\n' > i
 
 # sweep WORDS..: refuses each growth of this call in turn. At most one refusal may go unseen: the
-# call then ends as ENDING says, or with status 0 and no line if ENDING is not set.
+# call then ends as ENDING says, or with status 0 and no line if ENDING is not set. REASONS is a
+# pattern for lines with reasons.
 sweep() {
   local number said status unseen=0 ending=${ENDING:-0 }
   for number in $(seq 10000); do
     said=$(timeout 60 env REFUSED_GROWTH="$number" LD_PRELOAD="$room/refuse.so" "$program" "$@" 9> refused 2> err)
     status=$?
     [ -s refused ] || break
+    # shellcheck disable=SC2254  # REASONS is a pattern
     case "$status $(cat err)" in
       '5 out of memory' | '6 cannot start a thread' | ${REASONS:-without reasons})
         [ -z "$said" ] || wrong "$number" "$1" "printed '$said'"
@@ -75,14 +77,17 @@ sweep PE --threads 2 --block 1 --trimlog log f r fp fu rp ru LEADING:3
 # unseen, and the report is the same.
 "$program" PE --threads 2 --block 1 --report wanted f r fp fu rp ru LEADING:3 MINLEN:2 > summary || wrong 0 PE 'the run without a refusal'
 WANTED=wanted sweep PE --threads 2 --block 1 --report report f r fp fu rp ru LEADING:3 MINLEN:2
-REASONS='@(5 out of memory|6 cannot start a thread): *' WANTED=wanted sweep PE --explain --threads 2 --block 1 --report report f r fp fu rp ru LEADING:3 MINLEN:2
-for line in \
-  'out of memory: it was refused before a pair was trimmed' \
-  'out of memory: it was refused while pairs were trimmed; smaller --threads, --block or --depth take less' \
-  'out of memory: it was refused for the report; the outputs are written' \
-  'cannot start a thread: --threads is 2, and one more thread reads'; do
-  grep -qxF "$line" lines || wrong any PE "no call printed '$line'"
-done
+# With reasons, each of these lines is printed, and no other.
+cat > reasons << 'END'
+out of memory
+out of memory: it was refused before a pair was trimmed
+out of memory: it was refused while pairs were trimmed; smaller --threads, --block or --depth take less
+out of memory: it was refused for the report; the outputs are written
+cannot start a thread: --threads is 2, and one more thread reads
+END
+: > lines
+REASONS='[56] *: *' WANTED=wanted sweep PE --explain --threads 2 --block 1 --report report f r fp fu rp ru LEADING:3 MINLEN:2
+diff <(sort -u reasons) <(sort -u lines) || wrong any PE 'other lines with reasons'
 sweep IL --threads 2 --block 1 --trimlog log i fp fu rp ru LEADING:3
 sweep EXAMPLE
 sweep --help
