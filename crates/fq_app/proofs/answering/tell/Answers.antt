@@ -1,4 +1,4 @@
-use Rattle.std.proofs.Common.{refl, inl, inr}
+use Rattle.std.proofs.Common.{Some, None, refl, inl, inr, ⊎_elim}
 use Rattle.fq_cli.specs.Requests.{asking_of}
 use Rattle.fq_app.proofs.AnswerLemmas.{memory_took}
 use Rattle.fq_app.proofs.answering.tell.Goals as goal
@@ -6,7 +6,12 @@ use Rattle.fq_app.proofs.answering.tell.Goals as goal
 -- a report that was not written has status 4, and standard error took the line for it
 pub returns-in-Failed-clause-line : goal.returns-in-Failed-clause-line
 returns-in-Failed-clause-line g c =
-    λ some. inr (inl (c.in-Failed.is, c.cannot_report.ensures.status, c.cannot_report.ensures.told))
+    λ some. inr (inl (
+      c.in-Failed.is,
+      c.cannot_report.ensures.status,
+      ⊎_elim (λ took. (Some c.args.completed.now.report_error, took)) (λ took. (None, took))
+          c.cannot_report.ensures.told,
+    ))
 
 -- memory for the report was refused, and standard error took the line for it
 pub returns-in-OutOfMemory-clause-memory : goal.returns-in-OutOfMemory-clause-memory
