@@ -99,7 +99,8 @@ known_ending a seen Gate text e is = absurd (cc is)
 known_ending a seen Memory text e is = record {
   plain = refl;
   whole =
-      sym (ap line (known a.explain (outcome_words Memory) (ending_reason a seen Memory) text e is));
+      sym (ap line (known a.explain (outcome_words Memory) (ending_reason a seen Memory) text e
+      is));
 }
 known_ending a seen (Write out) text e is = record {
   plain = refl;

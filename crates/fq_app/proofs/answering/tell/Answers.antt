@@ -16,4 +16,7 @@ returns-in-Failed-clause-line g c =
 -- memory for the report was refused, and standard error took the line for it
 pub returns-in-OutOfMemory-clause-memory : goal.returns-in-OutOfMemory-clause-memory
 returns-in-OutOfMemory-clause-memory g c =
-    λ five. (refl, memory_took (asking_of c.args.request.now).explain _ _ c.lacks_report.ensures.told)
+    λ five. (
+      refl,
+      memory_took (asking_of c.args.request.now).explain _ _ c.lacks_report.ensures.told,
+    )
