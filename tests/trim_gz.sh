@@ -449,10 +449,15 @@ stopped() {
 }
 
 row='Ctrl-C'
-# A script's background jobs ignore SIGINT, and so would the run. SIGINT is bit 2 of the first
-# number of SigIgn.
-ignored=$(sed -n 's/^SigIgn:[[:space:]]*//p' /proc/self/status)
-if ((0x${ignored: -1} & 2)); then
+# ignores SIGNAL: this shell was started with the signal ignored, as background jobs of a script are
+# with SIGINT and SIGQUIT, and what nohup starts with SIGHUP. So would the run be.
+ignores() {
+  local ignored
+  ignored=$(sed -n 's/^SigIgn:[[:space:]]*//p' /proc/self/status)
+  ((16#$ignored >> ($(kill -l "$1") - 1) & 1))
+}
+
+if ignores INT; then
   echo 'trim_gz: skipped: Ctrl-C, as SIGINT is ignored here (run in the foreground)'
 else
   stopped INT 130 -
@@ -466,7 +471,13 @@ around=(unshare -m -p -f --mount-proc)
 if ! "${around[@]}" true 2> /dev/null; then
   echo "trim_gz: skipped: $row, as unshare is refused here"
 elif has pgrep procps; then
-  for each in TERM:143 HUP:129 QUIT:131 USR1:138; do stopped "${each%:*}" "${each#*:}" ''; done
+  for each in TERM:143 HUP:129 QUIT:131 USR1:138; do
+    if ignores "${each%:*}"; then
+      echo "trim_gz: skipped: $row, as SIG${each%:*} is ignored here"
+    else
+      stopped "${each%:*}" "${each#*:}" ''
+    fi
+  done
 fi
 around=()
 
