@@ -19,7 +19,7 @@ fi
 # too, but proved by then. 'after:CRATE' waits until the chain has proved that crate.
 chain=(fq_text fq_trim fq_pair fq_tally fq_lane fq_run_core fq_block fq_work fq_run fq_cli fq_files fq_report fq_in_step fq_files_run fq_reasons fq_app)
 threads=(fq_lane after:fq_text fq_files after:fq_pair fq_cli fq_block after:fq_tally fq_work)
-reports=(after:fq_tally fq_report fq_in_step after:fq_run_core fq_files_run fq_reasons)
+reports=(after:fq_tally fq_report after:fq_run_core fq_files_run fq_reasons)
 processors=$(nproc)
 jobs=(--jobs "${JOBS:-$processors}")
 if [ "$(awk '/^MemTotal:/ { print $2 }' /proc/meminfo)" -lt $((15 * 1048576)) ]; then jobs=(${JOBS:+--jobs "$JOBS"}); fi
@@ -82,11 +82,12 @@ beside() {
 }
 
 echo "Proves ${#chain[@]} libraries and the program: some 20 minutes on four processors, if nothing is kept of earlier builds."
+# From fq_tally on, what is beside takes as long as the chain does up to fq_run.
 if [ "$processors" -ge 4 ]; then
-  beside 1 "${threads[@]}"
-  beside 2 "${reports[@]}"
+  beside 1 "${threads[@]}" fq_in_step
+  beside $((processors - 1)) "${reports[@]}"
 else
-  beside 1 "${threads[@]}" "${reports[@]}"
+  beside 1 "${threads[@]}" "${reports[@]}" fq_in_step
 fi
 for crate in "${chain[@]}"; do
   prove "$PWD" "$crate" rt lib "${jobs[@]}" || exit 1

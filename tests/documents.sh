@@ -10,7 +10,7 @@
 # - What is made of the help and of the schema of a report is as packaging/made.py makes it.
 # - The version and its day are those of CHANGELOG.md everywhere (packaging/version.sh).
 # - README.md has at most 200 lines, and each time and size in it is one of bench/README.md. The
-#   counts of wrong bodies and of rows are those of the tree, and documents name one kit.
+#   counts of wrong bodies, rows and definitions are those of the tree, and documents name one kit.
 # - Each file, and each heading, that a document links to exists.
 # - Every line of a document, outside tables and code, is at most 100 columns wide (DOCUMENTS_WIDTH
 #   sets another width, 0 none), and so are comments, clauses, definitions and proofs in crates/. No
@@ -230,6 +230,20 @@ compare_numbers() {
   [ "$count" -le 1 ] || fail "documents name $count kits"
 }
 
+# docs/PROMISE.md says how many definitions its contracts rest on, to the nearest ten.
+count_definitions() {
+  local run=crates/fq_run/src/two_texts.rt:run_threads contracts said
+  if ! command -v python3 > /dev/null; then
+    echo 'documents: the number of definitions: skipped: needs python3'
+    return
+  fi
+  for contracts in "$run.whole" "$run crates/fq_app/src/answering.rt:program"; do
+    # shellcheck disable=SC2086  # each contract is a word
+    said=$(python3 tests/documents/definitions.py $contracts | awk '{ printf "some %d in %d files", int($1 / 10 + 0.5) * 10, $2 }')
+    tr '\n' ' ' < docs/PROMISE.md | grep -qF -- "$said" || fail "docs/PROMISE.md doesn't say that $contracts rests on $said"
+  done
+}
+
 # The targets of the links of a document, without those to the Internet.
 links() { grep -oE '\]\([^) ]+\)' "$1" | sed 's/^](//; s/)$//' | grep -vE '^[a-z]+:'; }
 
@@ -341,6 +355,7 @@ compare_crates
 compare_proved
 call_library
 compare_numbers
+count_definitions
 follow_links
 if [ "$width" -gt 0 ]; then
   measure_width

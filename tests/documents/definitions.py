@@ -1,0 +1,106 @@
+#!/usr/bin/env python3
+"""Counts the definitions of this repository that a contract rests on.
+
+usage: tests/documents/definitions.py [-v] FILE:FUNCTION[.CLAUSE]..
+
+Prints how many definitions in crates/*/specs/ these contracts name, or such a definition names, and
+in how many files they are; with -v also each of them. A clause is one of `ensures`. Types of the
+code, and what the kit defines, aren't counted, and a constructor counts as its type. Run it in the
+root of the repository.
+"""
+import re
+import sys
+from functools import cache
+from pathlib import Path
+
+WORD = r"[^\W\d][\w'-]*"
+IMPORT = re.compile(r"\buse Rattle\.([\w.]+?)(?:\.\{([^}]*)\}| as (\w+))")
+HEAD = re.compile(rf"(?:abbrev |unfoldable )?(?:pub )?(data |record )?({WORD})\b[^=|]* : ")
+CONSTRUCTOR = re.compile(rf"  (?:pub |\| )?({WORD}) :")
+
+
+def path_of(module):
+    """The file of a module such as fq_text.specs.Grammar, or None if no crate here has it."""
+    path = Path("crates", *module.split(".")).with_suffix(".antt")
+    return path if path.is_file() and "/specs/declared/" not in str(path) else None
+
+
+def imports_of(text):
+    """Each imported name, with its file and its name there, and the file of each alias."""
+    names, aliases = {}, {}
+    for module, listed, alias in IMPORT.findall(text):
+        path = path_of(module)
+        if path and alias:
+            aliases[alias] = path
+        for entry in listed.split(",") if path and listed else []:
+            there, _, here = entry.strip().partition(" as ")
+            names[here or there] = (path, there)
+    return names, aliases
+
+
+@cache
+def definitions_of(path):
+    """The text of each definition of a file, the definition of each name, and what is imported."""
+    whole = path.read_text(encoding="utf-8")
+    texts, owners, name = {}, {}, None
+    for line in whole.splitlines():
+        if line.startswith(("use ", "pub use ", "--", "module ")):
+            name = None
+            continue
+        if head := HEAD.match(line):
+            name = owners[head[2]] = head[2]
+            texts.setdefault(name, head[1] or "")
+        if name:
+            texts[name] += line.partition(" -- ")[0] + "\n"
+            inner = texts[name].startswith("data ") and CONSTRUCTOR.match(line)
+            if inner:
+                owners[inner[1]] = name
+    return texts, owners, imports_of(whole)
+
+
+def named_in(text, names, aliases):
+    """The file and name of each definition that a text names."""
+    whole = {(aliases[alias], word) for alias, word in re.findall(rf"\b(\w+)\.({WORD})", text) if alias in aliases}
+    return whole | {names[word] for word in re.findall(WORD, text) if word in names}
+
+
+def contract_of(source, function, clause):
+    """The clauses of a function, or the one of this name."""
+    text = source.read_text(encoding="utf-8")
+    start = re.search(rf"\bfn {function}\b", text).start()
+    lines = [line for line in text[start : text.index("\n{", start)].splitlines() if "//" not in line]
+    clauses = re.split(r"\n(?=    (?:requires|ensures)\b)", "\n".join(lines))[1:]
+    return "\n".join(it for it in clauses if not clause or it.startswith(f"    ensures {clause} "))
+
+
+def reached_from(contracts):
+    """The file and name of each definition that a contract rests on."""
+    reached, ahead = set(), set()
+    for contract in contracts:
+        file, _, function = contract.partition(":")
+        function, _, clause = function.partition(".")
+        names, aliases = imports_of(Path(file).read_text(encoding="utf-8"))
+        ahead |= named_in(contract_of(Path(file), function, clause), names, aliases)
+    while ahead:
+        path, word = ahead.pop()
+        texts, owners, (names, aliases) = definitions_of(path)
+        if word not in owners:  # the file exports it again
+            ahead.add(names[word])
+            continue
+        here = (path, owners[word])
+        if here not in reached:
+            reached.add(here)
+            local = {name: (path, name) for name in owners}
+            ahead |= named_in(texts[here[1]], {**names, **local}, aliases)
+    return reached
+
+
+def main():
+    words = sys.argv[1:]
+    reached = reached_from(word for word in words if word != "-v")
+    print(len(reached), len({path for path, _ in reached}))
+    if "-v" in words:
+        print(*sorted(f"{path} {name}" for path, name in reached), sep="\n")
+
+
+main()
