@@ -17,8 +17,9 @@ fi
 
 # In each list a crate comes after those that it depends on. What is beside the chain is in the chain
 # too, but proved by then. 'after:CRATE' waits until the chain has proved that crate.
-chain=(fq_text fq_trim fq_pair fq_tally fq_lane fq_run_core fq_block fq_work fq_run fq_cli fq_files fq_report fq_in_step fq_files_run fq_reasons fq_app)
+chain=(fq_text fq_trim fq_pair fq_read_tally fq_tally fq_lane fq_run_core fq_block fq_work fq_run fq_cli fq_files fq_report fq_in_step fq_files_run fq_reasons fq_app)
 threads=(fq_lane after:fq_text fq_files after:fq_pair fq_cli fq_block after:fq_tally fq_work)
+reads=(after:fq_trim fq_read_tally)
 reports=(after:fq_tally fq_report after:fq_run_core fq_files_run fq_reasons)
 processors=$(nproc)
 jobs=(--jobs "${JOBS:-$processors}")
@@ -85,6 +86,7 @@ echo "Proves ${#chain[@]} libraries and the program: some 20 minutes on four pro
 # From fq_tally on, what is beside takes as long as the chain does up to fq_run.
 if [ "$processors" -ge 4 ]; then
   beside 1 "${threads[@]}" fq_in_step
+  beside 2 "${reads[@]}"
   beside $((processors - 1)) "${reports[@]}"
 else
   beside 1 "${threads[@]}" "${reports[@]}" fq_in_step

@@ -7,8 +7,8 @@ use Rattle.fq_text.specs.Written.{line}
 use Rattle.fq_files.specs.Holding.{Holding}
 use Rattle.fq_pair.specs.Pairing.{Pairs}
 use Rattle.fq_pair.specs.Outputs.{counts_of}
+use Rattle.fq_read_tally.specs.Courses.{alone}
 use Rattle.fq_tally.specs.declared.tally.Tally.{Tally}
-use Rattle.fq_tally.specs.Courses.{alone}
 use Rattle.fq_tally.specs.Tallies.{tally_of}
 use Rattle.fq_tally.specs.Results.{tally_if}
 use Rattle.fq_run_core.specs.Choices.{Choices}

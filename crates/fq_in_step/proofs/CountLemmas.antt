@@ -1,8 +1,9 @@
 -- Each pair goes one way and is counted once.
 use Rattle.std.proofs.Common.{◌≡◌, ℕ, ◌+◌, Bool, true, false, not, ◌&&◌, cond, List, [], ◌∷◌, length, filter, count_by, refl, arith}
 use Rattle.fq_trim.specs.declared.step.Step.{Step}
+use Rattle.fq_trim.specs.KeptPlaces.{survives}
 use Rattle.fq_pair.specs.Mates.{Mates}
-use Rattle.fq_pair.specs.Outputs.{survives, both_survive, forward_alone, reverse_alone, none_survive, counts_of}
+use Rattle.fq_pair.specs.Outputs.{both_survive, forward_alone, reverse_alone, none_survive, counts_of}
 use Rattle.fq_in_step.specs.InStep.{PairsGoOneWay}
 
 -- 1 for true, and 0 for false

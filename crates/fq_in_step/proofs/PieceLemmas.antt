@@ -11,9 +11,10 @@ use Rattle.fq_text.specs.Written.{as_written, written_quality, line}
 use Rattle.fq_trim.specs.declared.step.Step.{Step}
 use Rattle.fq_trim.specs.declared.step.Step.TheVariants.{Leading, Trailing, Crop, HeadCrop, SlidingWindow, AverageQuality, MinLen, ToPhred33}
 use Rattle.fq_trim.specs.Keeping.{scores, places, keeps, kept_of, recodes, IsBetween, is_good_end, is_good_window}
+use Rattle.fq_trim.specs.KeptPlaces.{kept_places, bytes_at, is_empty}
 use Rattle.fq_trim.proofs.PlaceLemmas.{scores_at, step_keeps}
 use Rattle.fq_pair.specs.Mates.{name_of}
-use Rattle.fq_pair.specs.Outputs.{kept_places, bytes_at, is_empty, log_numbers, log_line, field}
+use Rattle.fq_pair.specs.Outputs.{log_numbers, log_line, field}
 use Rattle.fq_pair.proofs.TextLemmas.{log_numbers-places}
 use Rattle.fq_in_step.specs.Pieces.{left_of, quality_out, piece_numbers, ReadsStayInOnePiece}
 

@@ -14,9 +14,10 @@ use Rattle.fq_text.specs.Written.{as_written, CanRecode}
 use Rattle.fq_text.proofs.WrittenLemmas.{reads_back}
 use Rattle.fq_trim.specs.declared.step.Step.{Step}
 use Rattle.fq_trim.specs.Keeping.{scores, places, select, keeps, kept_of, recodes}
+use Rattle.fq_trim.specs.KeptPlaces.{kept_places, bytes_at}
 use Rattle.fq_trim.proofs.PlaceLemmas.{length-places}
-use Rattle.fq_pair.specs.Outputs.{kept_places, bytes_at, record_text}
-use Rattle.fq_pair.proofs.KeptLemmas.{Below, kept_below, places_below}
+use Rattle.fq_trim.proofs.KeptLemmas.{Below, kept_below, places_below}
+use Rattle.fq_pair.specs.Outputs.{record_text}
 use Rattle.fq_in_step.specs.Pieces.{left_of, trimmed, encoding_out, IsPlain, is_letter, LettersArePlain}
 use Rattle.fq_in_step.specs.InStep.{IsReadIn}
 

@@ -8,17 +8,18 @@ use Rattle.fq_text.specs.Grammar.{Read}
 use Rattle.fq_text.specs.Scores.{value_of}
 use Rattle.fq_trim.specs.declared.step.Step.{Step}
 use Rattle.fq_trim.specs.Keeping.{scores, places, kept, kept_of}
+use Rattle.fq_trim.specs.KeptPlaces as of_steps
+use Rattle.fq_trim.specs.KeptPlaces.{is_empty, kept_places}
+use Rattle.fq_trim.proofs.KeptLemmas.{Below, kept_below, places_below}
 use Rattle.fq_pair.specs.Mates.{Mates}
-use Rattle.fq_pair.specs.Outputs as outputs
-use Rattle.fq_pair.specs.Outputs.{is_empty, kept_places, log_numbers}
-use Rattle.fq_pair.proofs.KeptLemmas.{Below, kept_below, places_below}
-use Rattle.fq_tally.specs.declared.side.SideTally.{SideTally}
+use Rattle.fq_pair.specs.Outputs.{log_numbers}
+use Rattle.fq_read_tally.specs.declared.side.SideTally.{SideTally}
+use Rattle.fq_read_tally.specs.Courses.{Part, whole, Course, after, alone, one_list, course_of, course, part_at, survives}
+use Rattle.fq_read_tally.specs.Rows.{counted, counted_if, counted_all}
+use Rattle.fq_read_tally.specs.SideTallies.{behind_of, with_read}
+use Rattle.fq_read_tally.proofs.LeftLaws.{at, alone_are_all, kept_within, kept_append, left_as_kept, survives_as_kept}
 use Rattle.fq_tally.specs.declared.tally.Tally.{Tally}
-use Rattle.fq_tally.specs.Laws.{one_list}
-use Rattle.fq_tally.specs.Rows.{counted, counted_if, counted_all}
-use Rattle.fq_tally.specs.Courses.{Part, whole, Course, after, alone, course_of, course, part_at, survives}
-use Rattle.fq_tally.specs.Tallies.{behind_of, with_read, with_pair, no_tally}
-use Rattle.fq_tally.proofs.LeftLaws.{at, alone_are_all, kept_within, kept_append, left_as_kept, survives_as_kept}
+use Rattle.fq_tally.specs.Tallies.{with_pair, no_tally}
 use Rattle.fq_in_step.specs.InStep.{IsPairIn, forward_reads, reverse_reads}
 use Rattle.fq_in_step.specs.ReportLists.{logged, BasesAreRemovedAsLogged}
 use Rattle.fq_in_step.proofs.PieceLemmas.{spans}
@@ -140,7 +141,7 @@ some_kept [] is = absurd cc
 some_kept (p ∷ ps) is = omega arith
 
 module _ (steps : List Step) (read : Read) (same : length read.qual ≡ length read.seq)
-    (survived : outputs.survives steps read ≡ true) where
+    (survived : of_steps.survives steps read ≡ true) where
   abbrev places_kept : List ℕ
   places_kept = kept_places steps read
 
@@ -198,11 +199,11 @@ one_more : (steps : List Step) (read : Read) (reads : List Read) (m : Bool) (t e
     IsCounted steps (read ∷ reads) t end
 one_more steps read reads m t end same rest =
     let c = course (alone steps) read in
-    let s = outputs.survives steps read in
+    let s = of_steps.survives steps read in
     let is = survives_as_kept steps read same in
     let number : ℕ → Read → ℕ = λ place r. get_or (log_numbers (length r.seq) (kept_places steps r))
     place 0 in
-    let others = filter (outputs.survives steps) reads in
+    let others = filter (of_steps.survives steps) reads in
     let front = counted_same (survives c.left) s c.front (number 1 read) t.removed_front is
     (front_logged steps read same) in
     let behind = counted_same (survives c.left) s (behind_of read c.left c.front) (number 3 read)

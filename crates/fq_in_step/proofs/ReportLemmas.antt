@@ -7,19 +7,21 @@ use Rattle.fq_text.specs.declared.encoding.Encoding.{Encoding}
 use Rattle.fq_text.specs.Grammar.{Read}
 use Rattle.fq_trim.specs.declared.step.Step.{Step}
 use Rattle.fq_trim.specs.Keeping.{kept, places, scores}
+use Rattle.fq_trim.specs.Sums.{capped_sum}
+use Rattle.fq_trim.specs.KeptPlaces as of_steps
+use Rattle.fq_trim.specs.KeptPlaces.{is_empty}
 use Rattle.fq_pair.specs.Mates.{Mates}
-use Rattle.fq_pair.specs.Summaries.{capped_sum}
-use Rattle.fq_pair.specs.Outputs as outputs
-use Rattle.fq_pair.specs.Outputs.{is_empty, both_survive, forward_alone, reverse_alone}
-use Rattle.fq_tally.specs.declared.reads.ReadsTally.{ReadsTally}
-use Rattle.fq_tally.specs.declared.side.SideTally.{SideTally}
+use Rattle.fq_pair.specs.Outputs.{both_survive, forward_alone, reverse_alone}
+use Rattle.fq_read_tally.specs.declared.reads.ReadsTally.{ReadsTally}
+use Rattle.fq_read_tally.specs.declared.side.SideTally.{SideTally}
+use Rattle.fq_read_tally.specs.Rows.{with_one, row_of, counted_all}
+use Rattle.fq_read_tally.specs.Courses.{Part, whole, Course, after, alone, course_of, course, part_at, survives}
+use Rattle.fq_read_tally.specs.SideTallies.{with_part, with_read, no_side}
+use Rattle.fq_read_tally.proofs.CourseLemmas.{alone_length}
+use Rattle.fq_read_tally.proofs.LeftLaws.{not_empty, survives_as_kept}
+use Rattle.fq_read_tally.proofs.RowLemmas.{length-with_one}
 use Rattle.fq_tally.specs.declared.tally.Tally.{Tally}
-use Rattle.fq_tally.specs.Rows.{with_one, row_of, counted_all}
-use Rattle.fq_tally.specs.Courses.{Part, whole, Course, after, alone, course_of, course, part_at, survives}
-use Rattle.fq_tally.specs.Tallies.{with_part, with_read, with_pair, no_side, no_tally}
-use Rattle.fq_tally.proofs.CourseLemmas.{alone_length}
-use Rattle.fq_tally.proofs.LeftLaws.{not_empty, survives_as_kept}
-use Rattle.fq_tally.proofs.RowLemmas.{length-with_one}
+use Rattle.fq_tally.specs.Tallies.{with_pair, no_tally}
 use Rattle.fq_in_step.specs.InStep.{IsPairIn}
 use Rattle.fq_in_step.specs.Reports.{AddsUp, ReportsAddUp, ReadsAreDroppedOnce}
 use Rattle.fq_in_step.proofs.CountLemmas.{bit, one_more}
@@ -231,7 +233,7 @@ module _ (steps : List Step) (t : SideTally) (all both only gone : ℕ)
   -- one more read is counted under these steps, if it is known whether its mate survives
   read_counted : (read : Read) (mate with_mate : Bool) → 0 < length steps →
       length read.qual ≡ length read.seq → all < 18446744073709551615 → mate ≡ with_mate →
-      let s = outputs.survives steps read in
+      let s = of_steps.survives steps read in
       Counts steps (with_read read (course (alone steps) read) mate t) (1 + all)
       (bit (s && with_mate) + both) (bit (s && not with_mate) + only) (bit (not s) + gone)
   read_counted read mate with_mate some same few is =
@@ -280,8 +282,8 @@ pair_counted : (steps : List Step) (t : Tally) (a b f r : ℕ) (m : Mates) → 0
     (bit (forward_alone steps m) + f) (bit (reverse_alone steps m) + r)
 pair_counted steps t a b f r m some same_f same_r few sides =
     let lists = alone steps in
-    let sf = outputs.survives steps m.forward in
-    let sr = outputs.survives steps m.reverse in
+    let sf = of_steps.survives steps m.forward in
+    let sr = of_steps.survives steps m.reverse in
     let front = read_counted steps t.forward a b f sides.forward_gone sides.forward m.forward
     (survives (course lists m.reverse).left) sr some same_f few
     (survives_as_kept steps m.reverse same_r) in

@@ -7,21 +7,22 @@ use Rattle.fq_text.specs.declared.encoding.Encoding.{Encoding}
 use Rattle.fq_text.specs.Grammar.{Read}
 use Rattle.fq_trim.specs.declared.step.Step.{Step}
 use Rattle.fq_trim.specs.Keeping.{scores}
+use Rattle.fq_trim.specs.Sums.{capped_sum}
+use Rattle.fq_trim.specs.KeptPlaces.{kept_places}
 use Rattle.fq_pair.specs.Mates.{Mates}
-use Rattle.fq_pair.specs.Summaries.{capped_sum}
-use Rattle.fq_pair.specs.Outputs.{kept_places}
-use Rattle.fq_tally.specs.declared.columns.Columns.{Columns}
-use Rattle.fq_tally.specs.declared.reads.ReadsTally.{ReadsTally}
-use Rattle.fq_tally.specs.declared.side.SideTally.{SideTally}
+use Rattle.fq_read_tally.specs.declared.columns.Columns.{Columns}
+use Rattle.fq_read_tally.specs.declared.reads.ReadsTally.{ReadsTally}
+use Rattle.fq_read_tally.specs.declared.side.SideTally.{SideTally}
+use Rattle.fq_read_tally.specs.Letters.{is_a, is_c, is_g, is_t, is_n, is_gc}
+use Rattle.fq_read_tally.specs.Rows.{with_one, row_of, rows_plus}
+use Rattle.fq_read_tally.specs.Columns.{by_position, one_if, no_columns, columns_of, columns_plus}
+use Rattle.fq_read_tally.specs.Courses.{Part, whole, alone, course, survives}
+use Rattle.fq_read_tally.specs.SideTallies.{with_part, with_read, no_reads}
+use Rattle.fq_read_tally.specs.SideColumns.{SideColumns, with_before, with_after}
+use Rattle.fq_read_tally.proofs.LeftLaws.{left_as_kept}
+use Rattle.fq_read_tally.proofs.RowLemmas.{length-rows_plus}
 use Rattle.fq_tally.specs.declared.tally.Tally.{Tally}
-use Rattle.fq_tally.specs.Letters.{is_a, is_c, is_g, is_t, is_n, is_gc}
-use Rattle.fq_tally.specs.Rows.{with_one, row_of, rows_plus}
-use Rattle.fq_tally.specs.Columns.{by_position, one_if, no_columns, columns_of, columns_plus}
-use Rattle.fq_tally.specs.Courses.{Part, whole, alone, course, survives}
-use Rattle.fq_tally.specs.Tallies.{with_part, with_read, with_pair, no_reads, no_tally}
-use Rattle.fq_tally.specs.SideColumns.{SideColumns, with_before, with_after}
-use Rattle.fq_tally.proofs.LeftLaws.{left_as_kept}
-use Rattle.fq_tally.proofs.RowLemmas.{length-rows_plus}
+use Rattle.fq_tally.specs.Tallies.{with_pair, no_tally}
 use Rattle.fq_in_step.specs.InStep.{IsPairIn}
 use Rattle.fq_in_step.specs.ReportLists.{AddUpTo, ListsAddUp, AreAsLong, SideListsAddUp, SideListsAreAsLong, ReportListsAddUp, ReportListsAreAsLong}
 use Rattle.fq_in_step.proofs.ReportLemmas.{sum_one}

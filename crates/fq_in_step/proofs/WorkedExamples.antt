@@ -9,14 +9,15 @@ use Rattle.fq_text.specs.Grammar.{Read}
 use Rattle.fq_text.specs.Records.{records}
 use Rattle.fq_trim.specs.declared.step.Step.{Step}
 use Rattle.fq_trim.specs.declared.step.Step.TheVariants.{Leading, HeadCrop, ToPhred33}
+use Rattle.fq_trim.specs.KeptPlaces.{kept_places}
 use Rattle.fq_pair.specs.declared.side.Side.TheVariants.{Reverse}
 use Rattle.fq_pair.specs.declared.fault.InputFault.TheVariants.{MateMissing}
 use Rattle.fq_pair.specs.Mates.{Mates}
 use Rattle.fq_pair.specs.Interleaved.{interleaved_pairs}
 use Rattle.fq_pair.specs.Pairing.{pairs, fault_following}
-use Rattle.fq_pair.specs.Outputs.{texts_of, counts_of, record_text, kept_places, log_numbers, both_survive, forward_alone}
-use Rattle.fq_tally.specs.declared.side.SideTally.{SideTally}
-use Rattle.fq_tally.specs.Courses.{alone}
+use Rattle.fq_pair.specs.Outputs.{texts_of, counts_of, record_text, log_numbers, both_survive, forward_alone}
+use Rattle.fq_read_tally.specs.declared.side.SideTally.{SideTally}
+use Rattle.fq_read_tally.specs.Courses.{alone}
 use Rattle.fq_tally.specs.Tallies.{tally_of}
 use Rattle.fq_in_step.specs.Pieces.{IsPlain, trimmed}
 use Rattle.fq_in_step.specs.InStep.{forward_reads, reverse_reads}

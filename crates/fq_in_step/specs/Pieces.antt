@@ -9,9 +9,10 @@ use Rattle.fq_text.specs.Grammar.{Read, at_sign, plus_sign, begins_with}
 use Rattle.fq_text.specs.Written.{as_written, written_quality, line}
 use Rattle.fq_trim.specs.declared.step.Step.{Step}
 use Rattle.fq_trim.specs.Keeping.{recodes}
+use Rattle.fq_trim.specs.KeptPlaces.{kept_places, survives, bytes_at}
 use Rattle.fq_pair.specs.declared.side.Side.{Side}
 use Rattle.fq_pair.specs.Mates.{name_of}
-use Rattle.fq_pair.specs.Outputs.{kept_places, survives, bytes_at, field, log_line}
+use Rattle.fq_pair.specs.Outputs.{field, log_line}
 
 -- what the steps leave of a read: its title, and the bases and quality bytes at the places that
 -- they keep

@@ -4,13 +4,14 @@ use Rattle.std.specs.List.{All}
 use Rattle.fq_text.specs.declared.encoding.Encoding.{Encoding}
 use Rattle.fq_text.specs.Grammar.{Read}
 use Rattle.fq_trim.specs.declared.step.Step.{Step}
+use Rattle.fq_trim.specs.KeptPlaces.{kept_places, survives}
 use Rattle.fq_pair.specs.Mates.{Mates}
-use Rattle.fq_pair.specs.Outputs.{kept_places, survives, log_numbers}
-use Rattle.fq_tally.specs.declared.columns.Columns.{Columns}
-use Rattle.fq_tally.specs.declared.reads.ReadsTally.{ReadsTally}
-use Rattle.fq_tally.specs.declared.side.SideTally.{SideTally}
-use Rattle.fq_tally.specs.Rows.{counted_all}
-use Rattle.fq_tally.specs.Courses.{alone}
+use Rattle.fq_pair.specs.Outputs.{log_numbers}
+use Rattle.fq_read_tally.specs.declared.columns.Columns.{Columns}
+use Rattle.fq_read_tally.specs.declared.reads.ReadsTally.{ReadsTally}
+use Rattle.fq_read_tally.specs.declared.side.SideTally.{SideTally}
+use Rattle.fq_read_tally.specs.Rows.{counted_all}
+use Rattle.fq_read_tally.specs.Courses.{alone}
 use Rattle.fq_tally.specs.Tallies.{tally_of}
 use Rattle.fq_in_step.specs.InStep.{IsPairIn, forward_reads, reverse_reads}
 

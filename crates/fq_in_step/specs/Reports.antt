@@ -5,11 +5,12 @@ use Rattle.fq_text.specs.declared.encoding.Encoding.{Encoding}
 use Rattle.fq_text.specs.Grammar.{Read}
 use Rattle.fq_trim.specs.declared.step.Step.{Step}
 use Rattle.fq_trim.specs.Keeping.{places}
+use Rattle.fq_trim.specs.KeptPlaces.{survives}
 use Rattle.fq_pair.specs.Mates.{Mates}
-use Rattle.fq_pair.specs.Outputs.{survives, counts_of}
-use Rattle.fq_tally.specs.declared.side.SideTally.{SideTally}
-use Rattle.fq_tally.specs.declared.steps.StepsTally.{StepsTally}
-use Rattle.fq_tally.specs.Courses.{alone, course}
+use Rattle.fq_pair.specs.Outputs.{counts_of}
+use Rattle.fq_read_tally.specs.declared.side.SideTally.{SideTally}
+use Rattle.fq_read_tally.specs.declared.steps.StepsTally.{StepsTally}
+use Rattle.fq_read_tally.specs.Courses.{alone, course}
 use Rattle.fq_tally.specs.Tallies.{tally_of}
 use Rattle.fq_in_step.specs.InStep.{IsPairIn}
 

@@ -1,30 +1,16 @@
 -- The texts of one pair after others.
-use Rattle.std.proofs.Common.{◌≡◌, ℕ, zero, suc, ◌+◌, ◌-◌, ◌<◌, Bool, true, false, Option, Some, None, List, [], ◌∷◌, ◌++◌, length, filter, flat_map, append_assoc, add-zero, refl, ap, sym, ◌∙◌, arith}
+use Rattle.std.proofs.Common.{◌≡◌, ℕ, ◌+◌, Bool, true, false, Option, Some, List, [], ◌∷◌, ◌++◌, length, filter, flat_map, append_assoc, add-zero, ap, sym, ◌∙◌}
 use Rattle.std.proofs.lemmas.List.{append-nil}
 use Rattle.std.proofs.lemmas.Bool.{cond-true, cond-false}
 use Rattle.fq_trim.specs.declared.step.Step.{Step}
 use Rattle.fq_trim.specs.declared.trimming.Kept.{Kept}
-use Rattle.fq_trim.specs.Keeping.{places, recodes}
+use Rattle.fq_trim.specs.Keeping.{recodes}
 use Rattle.fq_text.specs.Grammar.{Read}
+use Rattle.fq_trim.specs.KeptPlaces.{kept_places, is_empty, places_of}
 use Rattle.fq_pair.specs.declared.side.Side.{Side}
 use Rattle.fq_pair.specs.declared.side.Side.TheVariants.{Forward, Reverse}
 use Rattle.fq_pair.specs.Mates.{Mates, name_of}
-use Rattle.fq_pair.specs.Outputs.{Outputs, kept_places, is_empty, both_survive, forward_alone, reverse_alone, none_survive, record_at, record_text, log_line_of, log_line, log_lines, texts_of, joined, places_of}
-
-some_places : (start n : ℕ) → 0 < n → is_empty (places start n) ≡ false
-some_places start zero some = absurd (omega arith)
-some_places start (suc n) some = refl
-
--- bases of the read are kept
-pub kept_survives : (at : List ℕ) (o : Option Kept) (k : Kept) → at ≡ places_of o → o ≡ Some k →
-    is_empty at ≡ false
-kept_survives at o k is some_is = let some = k.some in ap is_empty (is ∙ ap places_of some_is)
-    ∙ some_places k.start (k.stop - k.start) (omega arith)
-
--- no bases of the read are kept
-pub dropped_is_gone : (at : List ℕ) (o : Option Kept) → at ≡ places_of o → o ≡ None →
-    is_empty at ≡ true
-dropped_is_gone at o is none_is = ap is_empty (is ∙ ap places_of none_is)
+use Rattle.fq_pair.specs.Outputs.{Outputs, both_survive, forward_alone, reverse_alone, none_survive, record_at, record_text, log_line_of, log_line, log_lines, texts_of, joined}
 
 passed : (test : Mates → Bool) (text : Mates → List ℕ) (m : Mates) → test m ≡ true →
     (flat_map text (filter test (m ∷ [])) ≡ text m) × (length (filter test (m ∷ [])) ≡ 1)

@@ -12,4 +12,3 @@ pub mod WholeLemmas
 pub mod SideLemmas
 pub mod AskLemmas
 pub mod InterleavedLemmas
-pub mod KeptLemmas

@@ -7,7 +7,8 @@ use Rattle.fq_trim.proofs.PlaceLemmas.{length-places, scores_at, all_taken, all_
 use Rattle.fq_text.specs.Scores.{is_scored}
 use Rattle.fq_text.specs.Grammar.{Read, IsLawful}
 use Rattle.fq_text.specs.Written.{written, written_quality, CanRecode}
-use Rattle.fq_pair.specs.Outputs.{log_numbers, bytes_at, places_of, IsWithin, record_at}
+use Rattle.fq_trim.specs.KeptPlaces.{bytes_at, places_of, IsWithin}
+use Rattle.fq_pair.specs.Outputs.{log_numbers, record_at}
 
 -- the numbers of a log line of n bases of which m, one or more, are kept from start on
 pub log_numbers-places : (n start m : ℕ) → 0 < m →

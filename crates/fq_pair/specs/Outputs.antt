@@ -1,30 +1,18 @@
 -- What is written for a list of pairs: four texts of records, a log, and counts, as in the
 -- paired-end mode of the Trimmomatic manual.
-use Rattle.std.specs.Prelude.{ℕ, ◌+◌, ◌-◌, ◌≤◌, Bool, true, false, not, ◌&&◌, Option, Some, None, List, [], ◌∷◌, ◌++◌, length, map, filter, flat_map, slice_index, decimal}
+use Rattle.std.specs.Prelude.{ℕ, ◌+◌, ◌-◌, Bool, not, ◌&&◌, List, [], ◌∷◌, ◌++◌, length, filter, flat_map, decimal}
 use Rattle.std.specs.Bool.{then_some}
 use Rattle.fq_text.specs.Grammar.{Read}
 use Rattle.fq_text.specs.Written.{written, written_quality, line}
 use Rattle.fq_trim.specs.declared.step.Step.{Step}
-use Rattle.fq_trim.specs.declared.trimming.Kept.{Kept}
-use Rattle.fq_trim.specs.Keeping.{scores, kept, recodes, places}
+use Rattle.fq_trim.specs.Keeping.{recodes}
+use Rattle.fq_trim.specs.KeptPlaces.{kept_places, survives, bytes_at}
 use Rattle.fq_pair.specs.declared.side.Side.{Side}
 use Rattle.fq_pair.specs.declared.side.Side.TheVariants.{Forward, Reverse}
 use Rattle.fq_pair.specs.declared.counts.Counts.{Counts}
 use Rattle.fq_pair.specs.declared.out.Out.{Out}
 use Rattle.fq_pair.specs.declared.out.Out.TheVariants.{ForwardPaired, ForwardUnpaired, ReversePaired, ReverseUnpaired, Log}
 use Rattle.fq_pair.specs.Mates.{Mates, name_of}
-
--- the places of a read that are kept, in rising order
-abbrev pub kept_places : List Step → Read → List ℕ
-kept_places steps read = kept steps (scores read.encoding read.qual)
-
-abbrev pub is_empty : List ℕ → Bool
-is_empty [] = true
-is_empty (p ∷ ps) = false
-
--- whether a base of the read is kept
-abbrev pub survives : List Step → Read → Bool
-survives steps read = not (is_empty (kept_places steps read))
 
 -- Where a pair goes.
 
@@ -41,10 +29,6 @@ abbrev pub none_survive : List Step → Mates → Bool
 none_survive steps m = not (survives steps m.forward) && not (survives steps m.reverse)
 
 -- What is written for a pair.
-
--- the bytes at these places
-abbrev pub bytes_at : List ℕ → List ℕ → List ℕ
-bytes_at at bytes = map (slice_index bytes) at
 
 -- the record of a read's bases at these places
 abbrev pub record_at : Bool → List ℕ → Read → List ℕ
@@ -159,15 +143,3 @@ text_of ForwardUnpaired texts = texts.forward_unpaired
 text_of ReversePaired texts = texts.reverse_paired
 text_of ReverseUnpaired texts = texts.reverse_unpaired
 text_of Log texts = texts.log
-
--- What is left of a read.
-
--- the places of a read that are kept
-abbrev pub places_of : Option Kept → List ℕ
-places_of None = []
-places_of (Some k) = places k.start (k.stop - k.start)
-
--- the kept places are places of n bases
-abbrev pub IsWithin : ℕ → Option Kept → Type 0
-IsWithin n None = Unit {0}
-IsWithin n (Some k) = k.stop ≤ n

@@ -1,15 +1,12 @@
 -- Sums of counts, and counts in words.
-use Rattle.std.specs.Prelude.{ℕ, ◌+◌, List, ◌++◌, codes, decimal, min}
+use Rattle.std.specs.Prelude.{ℕ, List, ◌++◌, codes, decimal}
 use Rattle.fq_text.specs.Written.{line}
+use Rattle.fq_trim.specs.Sums.{capped_sum}
 use Rattle.fq_pair.specs.declared.counts.Counts.{Counts}
 use Rattle.fq_pair.specs.declared.out.Out.{Out}
 use Rattle.fq_pair.specs.declared.out.Out.TheVariants.{ForwardPaired, ForwardUnpaired, ReversePaired, ReverseUnpaired, Log}
 use Rattle.fq_pair.specs.declared.side.Side.{Side}
 use Rattle.fq_pair.specs.declared.side.Side.TheVariants.{Forward, Reverse}
-
--- a sum, saturated at the largest count
-abbrev pub capped_sum : ℕ → ℕ → ℕ
-capped_sum a b = min (a + b) 18446744073709551615
 
 abbrev pub capped : Counts → Counts → Counts
 capped a b = record {

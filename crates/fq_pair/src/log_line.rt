@@ -1,7 +1,8 @@
 //! The lines of the trim log.
 
 ghost use Rattle.std.specs.Prelude.{◌≡◌, ◌+◌, ◌≤◌, ◌++◌, length, drop, flat_map, vec_len, vec_capacity};
-ghost use Rattle.fq_pair.specs.Outputs.{places_of, IsWithin, log_numbers, log_line_of, field};
+ghost use Rattle.fq_trim.specs.KeptPlaces.{places_of, IsWithin};
+ghost use Rattle.fq_pair.specs.Outputs.{log_numbers, log_line_of, field};
 
 use fq_trim::Kept;
 use itoa::write_digits;

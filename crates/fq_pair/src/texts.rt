@@ -2,8 +2,9 @@
 
 ghost use Rattle.std.specs.Prelude.{◌≡◌, ◌+◌, ◌-◌, ◌*◌, ◌<◌, ◌≤◌, ◌++◌, ◌∷◌, [], Some, length, OnOk, OnErr, vec_len, vec_capacity};
 ghost use Rattle.fq_text.specs.Grammar.{IsLawful};
+ghost use Rattle.fq_trim.specs.KeptPlaces.{kept_places, places_of, IsWithin};
 ghost use Rattle.fq_pair.specs.Mates.{mates_in, name_lengths};
-ghost use Rattle.fq_pair.specs.Outputs.{kept_places, places_of, IsWithin, record_at};
+ghost use Rattle.fq_pair.specs.Outputs.{record_at};
 
 use crate::counts::Counts;
 use crate::log_line::{line_room, put_line};

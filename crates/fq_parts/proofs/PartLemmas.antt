@@ -10,7 +10,7 @@ use Rattle.fq_pair.specs.Forms.{Form, TwoTexts, InterleavedText, pairs_in}
 use Rattle.fq_pair.specs.Outputs.{texts_of}
 use Rattle.fq_pair.proofs.PairLaws.{records_of}
 use Rattle.fq_pair.proofs.OutputLaws.{texts_of-append}
-use Rattle.fq_tally.specs.Courses.{alone}
+use Rattle.fq_read_tally.specs.Courses.{alone}
 use Rattle.fq_tally.specs.Tallies.{tally_of}
 use Rattle.fq_tally.proofs.PlusLaws.{tally_of-append}
 use Rattle.fq_parts.specs.Parts.{PairsAreJoined, PartsAreTrimmedApart}

@@ -12,7 +12,7 @@ use Rattle.fq_pair.specs.declared.fault.InputFault.TheVariants.{Text, MateMissin
 use Rattle.fq_pair.specs.Mates.{Mates}
 use Rattle.fq_pair.specs.Forms.{TwoTexts, InterleavedText, pairs_in}
 use Rattle.fq_pair.specs.Outputs.{texts_of}
-use Rattle.fq_tally.specs.Courses.{alone}
+use Rattle.fq_read_tally.specs.Courses.{alone}
 use Rattle.fq_tally.specs.Tallies.{tally_of}
 use Rattle.fq_parts.specs.Parts.{IsPart}
 

@@ -8,7 +8,7 @@ use Rattle.fq_trim.specs.declared.step.Step.{Step}
 use Rattle.fq_pair.specs.Pairing.{Pairs}
 use Rattle.fq_pair.specs.Forms.{Form, pairs_in}
 use Rattle.fq_pair.specs.Outputs.{texts_of, joined}
-use Rattle.fq_tally.specs.Courses.{alone}
+use Rattle.fq_read_tally.specs.Courses.{alone}
 use Rattle.fq_tally.specs.Tallies.{tally_of, plus}
 
 -- pairs, and after them others with the fault that ends those

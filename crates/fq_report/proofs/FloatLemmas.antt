@@ -3,9 +3,9 @@ use Rattle.std.proofs.Common.{◌≡◌, ℕ, suc, Bool, true, false, ◌==◌, 
 use Rattle.fq_pair.specs.declared.counts.Counts.{Counts}
 use Rattle.fq_pair.specs.Forms.{Form, TwoTexts, InterleavedText}
 use Rattle.fq_pair.specs.Inputs.{InputNames}
-use Rattle.fq_tally.specs.declared.columns.Columns.{Columns}
-use Rattle.fq_tally.specs.declared.reads.ReadsTally.{ReadsTally}
-use Rattle.fq_tally.specs.declared.side.SideTally.{SideTally}
+use Rattle.fq_read_tally.specs.declared.columns.Columns.{Columns}
+use Rattle.fq_read_tally.specs.declared.reads.ReadsTally.{ReadsTally}
+use Rattle.fq_read_tally.specs.declared.side.SideTally.{SideTally}
 use Rattle.fq_tally.specs.declared.tally.Tally.{Tally}
 use Rattle.serde_json.specs.Data.{Data, null}
 use Rattle.serde_json.specs.View.{items_of}

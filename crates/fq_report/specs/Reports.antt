@@ -7,10 +7,10 @@ use Rattle.fq_text.specs.Written.{line}
 use Rattle.fq_pair.specs.declared.counts.Counts.{Counts}
 use Rattle.fq_pair.specs.Forms.{Form, TwoTexts, InterleavedText}
 use Rattle.fq_pair.specs.Inputs.{InputNames}
-use Rattle.fq_tally.specs.declared.columns.Columns.{Columns}
-use Rattle.fq_tally.specs.declared.reads.ReadsTally.{ReadsTally}
-use Rattle.fq_tally.specs.declared.steps.StepsTally.{StepsTally}
-use Rattle.fq_tally.specs.declared.side.SideTally.{SideTally}
+use Rattle.fq_read_tally.specs.declared.columns.Columns.{Columns}
+use Rattle.fq_read_tally.specs.declared.reads.ReadsTally.{ReadsTally}
+use Rattle.fq_read_tally.specs.declared.steps.StepsTally.{StepsTally}
+use Rattle.fq_read_tally.specs.declared.side.SideTally.{SideTally}
 use Rattle.fq_tally.specs.declared.tally.Tally.{Tally}
 use Rattle.serde_json.specs.Data.{Data, null, boolean, string}
 use Rattle.serde_json.specs.Written.{compact_text}

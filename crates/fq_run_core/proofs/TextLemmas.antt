@@ -3,11 +3,12 @@ use Rattle.std.proofs.Common.{◌≡◌, ℕ, ◌+◌, ◌<◌, ◌≤◌, ◌^�
 use Rattle.std.proofs.Math.Nat.{min-eq_left}
 use Rattle.std.proofs.lemmas.Bool.{cond-true, cond-false, cases_Bool}
 use Rattle.fq_trim.specs.declared.step.Step.{Step}
+use Rattle.fq_trim.specs.Sums.{capped_sum}
 use Rattle.fq_pair.specs.declared.counts.Counts.{Counts}
 use Rattle.fq_pair.specs.declared.out.Out.{Out}
 use Rattle.fq_pair.specs.declared.out.Out.TheVariants.{ForwardPaired, ForwardUnpaired, ReversePaired, ReverseUnpaired, Log}
 use Rattle.fq_pair.specs.Mates.{Mates}
-use Rattle.fq_pair.specs.Summaries.{capped_sum, capped}
+use Rattle.fq_pair.specs.Summaries.{capped}
 use Rattle.fq_pair.specs.Outputs.{Outputs, texts_of, text_of, counts_of, sum_of, both_survive, forward_alone, reverse_alone, none_survive}
 use Rattle.fq_pair.proofs.OutputLaws.{texts_of-append}
 

@@ -4,8 +4,8 @@ use Rattle.fq_trim.specs.declared.step.Step.{Step}
 use Rattle.fq_pair.specs.declared.counts.Counts.{Counts}
 use Rattle.fq_pair.specs.Mates.{Mates}
 use Rattle.fq_pair.specs.Outputs.{Outputs, texts_of, counts_of}
+use Rattle.fq_read_tally.specs.Courses.{alone}
 use Rattle.fq_tally.specs.declared.tally.Tally.{Tally}
-use Rattle.fq_tally.specs.Courses.{alone}
 use Rattle.fq_tally.proofs.PlusLaws.{tally_of-append}
 use Rattle.fq_tally.specs.declared.done.Done.{Done}
 use Rattle.fq_tally.specs.Results.{tally_if}

@@ -1,16 +1,4 @@
-pub mod RowLemmas
-pub mod ColumnLemmas
-pub mod FewLemmas
-pub mod LaneLemmas
-pub mod ColumnExamples
-pub mod VectorLemmas
-pub mod CourseLemmas
 pub mod ResultLemmas
 pub mod PlusLaws
 pub mod WorkedExamples
-pub mod LeftLaws
-pub mod SideLemmas
-pub mod SideColumnSums
-pub mod SideColumnLemmas
-pub mod PackedLemmas
 pub mod PackingLemmas

@@ -6,9 +6,9 @@ use Rattle.fq_trim.specs.declared.step.Step.{Step}
 use Rattle.fq_pair.specs.Mates.{Mates}
 use Rattle.fq_pair.specs.Outputs.{Outputs, texts_of}
 use Rattle.fq_pair.proofs.OutputLaws.{texts_of-append}
+use Rattle.fq_read_tally.specs.Courses.{alone}
 use Rattle.fq_tally.specs.declared.done.Done.{Done}
 use Rattle.fq_tally.specs.declared.tally.Tally.{Tally}
-use Rattle.fq_tally.specs.Courses.{alone}
 use Rattle.fq_tally.specs.Tallies.{no_tally, with_pair}
 use Rattle.fq_tally.specs.Results.{tally_if, made_of, with_mates}
 

@@ -1,15 +1,10 @@
 -- What ties a tally to what is written of the same pairs.
-use Rattle.std.specs.Prelude.{◌≡◌, List, [], ◌∷◌, ◌++◌, length}
+use Rattle.std.specs.Prelude.{◌≡◌, List, length}
 use Rattle.fq_text.specs.Grammar.{Read}
 use Rattle.fq_trim.specs.declared.step.Step.{Step}
-use Rattle.fq_pair.specs.Outputs as outputs
-use Rattle.fq_pair.specs.Outputs.{kept_places}
-use Rattle.fq_tally.specs.Courses.{alone, part_at, whole, course, survives}
-
--- lists of steps, one after the other
-abbrev pub one_list : List (List Step) → List Step
-one_list [] = []
-one_list (steps ∷ others) = steps ++ one_list others
+use Rattle.fq_trim.specs.KeptPlaces as of_steps
+use Rattle.fq_trim.specs.KeptPlaces.{kept_places}
+use Rattle.fq_read_tally.specs.Courses.{one_list, alone, part_at, whole, course, survives}
 
 -- steps, each in a list of its own, are these steps
 abbrev pub AloneAreAll : Type 0
@@ -23,4 +18,4 @@ LeavesTheSame = (lists : List (List Step)) (read : Read) → length read.qual �
 -- and a read survives them in turn if and only if it survives them as one list
 abbrev pub SurvivesTheSame : Type 0
 SurvivesTheSame = (lists : List (List Step)) (read : Read) → length read.qual ≡ length read.seq →
-    survives (course lists read).left ≡ outputs.survives (one_list lists) read
+    survives (course lists read).left ≡ of_steps.survives (one_list lists) read

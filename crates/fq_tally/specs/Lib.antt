@@ -1,14 +1,4 @@
-pub mod Rows
-pub mod Letters
-pub mod Courses
-pub mod Columns
-pub mod Counting
-pub mod SideColumns
-pub mod Vectors
 pub mod Tallies
 pub mod Laws
-pub mod Parts
 pub mod Results
 pub mod Packing
-pub mod Packed
-pub mod Unreads

@@ -4,9 +4,9 @@ use Rattle.std.specs.Option.{option_map}
 use Rattle.fq_trim.specs.declared.step.Step.{Step}
 use Rattle.fq_pair.specs.Mates.{Mates}
 use Rattle.fq_pair.specs.Outputs.{no_texts, texts_of, joined}
+use Rattle.fq_read_tally.specs.Courses.{alone}
 use Rattle.fq_tally.specs.declared.done.Done.{Done}
 use Rattle.fq_tally.specs.declared.tally.Tally.{Tally}
-use Rattle.fq_tally.specs.Courses.{alone}
 use Rattle.fq_tally.specs.Tallies.{no_tally, with_pair, tally_of}
 
 -- the tally of pairs, step by step, if one is asked for

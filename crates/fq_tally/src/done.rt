@@ -3,12 +3,12 @@
 ghost use Rattle.std.specs.Prelude.{◌≡◌, ◌<◌, ◌∷◌, [], OnOk, OnErr};
 ghost use Rattle.fq_pair.specs.Mates.{mates_in, name_lengths};
 ghost use Rattle.fq_pair.specs.Outputs.{joined, texts_of};
-ghost use Rattle.fq_tally.specs.Courses.{alone};
+ghost use Rattle.fq_read_tally.specs.Courses.{alone};
 ghost use Rattle.fq_tally.specs.Tallies.{with_pair};
 
 use crate::tally::Tally;
-use crate::trimmed::Trimmed;
 use fq_pair::{NameLengths, PairView, Texts};
+use fq_read_tally::Trimmed;
 use fq_text::{OutOfMemory, ReadView};
 use fq_trim::Steps;
 use std::alloc::Global;

@@ -3,10 +3,9 @@
 ghost use Rattle.std.specs.Prelude.{◌≡◌, IfOk, OnOk};
 
 use crate::done::Done;
-use crate::tables::Tables;
 use crate::tally::Tally;
-use crate::unread::Unread;
 use fq_pair::Texts;
+use fq_read_tally::{Tables, Unread};
 use fq_text::OutOfMemory;
 use std::alloc::Global;
 use std::marker::Model;

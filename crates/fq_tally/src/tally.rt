@@ -4,11 +4,8 @@ ghost use Rattle.std.specs.Prelude.{◌≡◌, List, ◌++◌, IfOk, OnOk};
 ghost use Rattle.fq_trim.specs.declared.step.Step.{Step};
 ghost use Rattle.fq_pair.specs.Mates.{Mates, mates_in};
 
-use crate::side_counts::SideCounts;
-use crate::tables::Tables;
-use crate::trimmed::Trimmed;
-use crate::unread::Unread;
 use fq_pair::PairView;
+use fq_read_tally::{SideCounts, Tables, Trimmed, Unread};
 use fq_text::OutOfMemory;
 use fq_trim::Steps;
 use std::alloc::Global;
@@ -23,7 +20,7 @@ pub struct Tally {
 }
 
 impl Tally {
-    ghost use Rattle.fq_tally.specs.Courses.{alone, passage};
+    ghost use Rattle.fq_read_tally.specs.Courses.{alone, passage};
     ghost use Rattle.fq_tally.specs.Tallies.{no_tally, with_pair, tally_of, plus};
     ghost use Rattle.fq_tally.specs.Packing.{tally_tables, tally_in};
 

@@ -4,3 +4,4 @@ pub mod ParseLemmas
 pub mod WorkedExamples
 pub mod WindowLemmas
 pub mod LowEndLemmas
+pub mod KeptLemmas

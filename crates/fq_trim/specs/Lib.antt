@@ -2,3 +2,5 @@ pub mod Keeping
 pub mod Words
 pub mod Steps
 pub mod Windows
+pub mod KeptPlaces
+pub mod Sums

@@ -1,6 +1,7 @@
 use Rattle.std.proofs.Common.{◌≡◌, ℕ, ◌+◌, ◌-◌, ◌∷◌, [], Option, Some, arith, sym, ap, subst, ◌∙◌}
 use Rattle.fq_trim.specs.declared.trimming.Kept.{Kept}
-use Rattle.fq_pair.specs.Outputs.{IsWithin, places_of, log_numbers}
+use Rattle.fq_trim.specs.KeptPlaces.{IsWithin, places_of}
+use Rattle.fq_pair.specs.Outputs.{log_numbers}
 use Rattle.fq_pair.proofs.TextLemmas.{log_numbers-places}
 use Rattle.fq_pair.proofs.log_line.kept_numbers.Goals as goal
 

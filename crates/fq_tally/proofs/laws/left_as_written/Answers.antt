@@ -1,5 +1,5 @@
-use Rattle.fq_tally.specs.Courses.{whole}
-use Rattle.fq_tally.proofs.LeftLaws.{alone_are_all, left_in_turn, survives_in_turn}
+use Rattle.fq_read_tally.specs.Courses.{whole}
+use Rattle.fq_read_tally.proofs.LeftLaws.{alone_are_all, left_in_turn, survives_in_turn}
 use Rattle.fq_tally.proofs.laws.left_as_written.Goals as goal
 
 -- steps, each in a list of its own, are the same steps as one list

@@ -1,15 +1,16 @@
 use Rattle.std.proofs.Common.{length, take, ◌+◌, refl, ap, sym, subst, ◌∙◌}
+use Rattle.fq_trim.specs.KeptPlaces.{IsWithin}
+use Rattle.fq_trim.proofs.KeptLemmas.{kept_survives, dropped_is_gone, kept_within_read}
 use Rattle.fq_pair.specs.declared.counts.Counts.{Counts}
 use Rattle.fq_pair.specs.declared.name.NameLengths.{NameLengths}
 use Rattle.fq_pair.specs.declared.side.Side.TheVariants.{Forward, Reverse}
 use Rattle.fq_pair.specs.declared.texts.Texts.TheInside.{Inside}
 use Rattle.fq_pair.specs.Mates.{mates_in}
-use Rattle.fq_pair.specs.Outputs.{Outputs, IsWithin}
-use Rattle.fq_pair.proofs.AddLemmas.{kept_survives, dropped_is_gone, same_outputs, text_with, log_with, with_lines, both_added, forward_added, reverse_added, none_added}
-use Rattle.fq_pair.proofs.KeptLemmas.{kept_within_read}
+use Rattle.fq_pair.specs.Outputs.{Outputs}
 use Rattle.fq_pair.proofs.NameLemmas.{named}
 use Rattle.fq_pair.proofs.texts.Texts.add_kept.Goals as goal
 use Rattle.fq_pair.proofs.texts.Texts.add_kept.Goals.{in-Some-Some+in_ok-make_room-in-Some-Some+in_ok-make_room-in-Some-Some-2, in-Some-None+in_ok-make_room-in-Some-None, in-None-Some+in_ok-make_room-in-None-Some, in-None-None}
+use Rattle.fq_pair.proofs.AddLemmas.{same_outputs, text_with, log_with, with_lines, both_added, forward_added, reverse_added, none_added}
 
 abbrev one_more : Counts → Counts
 one_more n = record n { pairs = n.pairs + 1 }

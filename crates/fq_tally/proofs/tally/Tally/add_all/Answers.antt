@@ -1,7 +1,8 @@
 use Rattle.std.proofs.Common.{ap, sym, ◌∙◌}
-use Rattle.fq_tally.specs.declared.side.SideTally.{SideTally}
+use Rattle.fq_read_tally.specs.declared.side.SideTally.{SideTally}
+use Rattle.fq_read_tally.specs.SideTallies.{side_plus}
 use Rattle.fq_tally.specs.declared.tally.Tally.{Tally}
-use Rattle.fq_tally.specs.Tallies.{side_plus, tally_of, plus}
+use Rattle.fq_tally.specs.Tallies.{tally_of, plus}
 use Rattle.fq_tally.proofs.PlusLaws.{tally_of-append}
 use Rattle.fq_tally.proofs.tally.Tally.add_all.Goals as goal
 

@@ -1,12 +1,12 @@
 use Rattle.std.proofs.Common.{◌≡◌, Bool, not, length, List, ap, sym, ◌∙◌}
 use Rattle.fq_text.specs.Grammar.{Read}
 use Rattle.fq_trim.specs.declared.step.Step.{Step}
-use Rattle.fq_pair.specs.Outputs.{is_empty}
-use Rattle.fq_tally.specs.declared.side.SideTally.{SideTally}
+use Rattle.fq_trim.specs.KeptPlaces.{is_empty}
+use Rattle.fq_read_tally.specs.declared.side.SideTally.{SideTally}
+use Rattle.fq_read_tally.specs.Courses.{Passage, alone, course, passage, survives}
+use Rattle.fq_read_tally.specs.SideTallies.{with_read}
+use Rattle.fq_read_tally.proofs.LeftLaws.{survives_as_kept}
 use Rattle.fq_tally.specs.declared.tally.Tally.{Tally}
-use Rattle.fq_tally.specs.Courses.{Passage, alone, course, passage, survives}
-use Rattle.fq_tally.specs.Tallies.{with_read}
-use Rattle.fq_tally.proofs.LeftLaws.{survives_as_kept}
 use Rattle.fq_tally.proofs.tally.Tally.add_trimmed.Goals as goal
 
 -- whether a mate was found to survive

@@ -1,0 +1,12 @@
+pub mod Rows
+pub mod Letters
+pub mod Courses
+pub mod Columns
+pub mod Counting
+pub mod SideColumns
+pub mod Vectors
+pub mod SideTallies
+pub mod Parts
+pub mod Packing
+pub mod Packed
+pub mod Unreads

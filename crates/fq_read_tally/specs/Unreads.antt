@@ -1,0 +1,10 @@
+-- Packed tables as they are read.
+use Rattle.std.specs.Prelude.{ℕ, List}
+use Rattle.fq_read_tally.specs.declared.unread.Table.{Table}
+use Rattle.fq_read_tally.specs.declared.unread.Table.TheVariants.{Bytes, Words, Longs}
+
+-- the counts of a table
+abbrev pub counts_of : Table → List ℕ
+counts_of (Bytes counts) = counts.now
+counts_of (Words counts) = counts.now
+counts_of (Longs counts) = counts.now

@@ -1,0 +1,97 @@
+//! Counts of the reads of one side, on the heap.
+
+ghost use Rattle.std.specs.Prelude.{◌≡◌, ◌++◌, IfOk, OnOk};
+ghost use Rattle.fq_text.specs.Grammar.{IsLawful};
+ghost use Rattle.fq_read_tally.specs.Courses.{alone, course, passage};
+
+use crate::side::SideTally;
+use crate::tables::Tables;
+use crate::trimmed::Trimmed;
+use crate::unread::Unread;
+use fq_text::{OutOfMemory, ReadView};
+use fq_trim::Steps;
+use std::alloc::Global;
+use std::marker::Model;
+
+/// Counts of the reads of one side, as [`counts`](SideCounts::counts) lends them. They are on the
+/// heap, so that a tally has few parts: the proof of a function that moves one goes through all of
+/// them.
+#[derive(Drop)]
+pub struct SideCounts {
+    inside: Box<SideTally>,
+}
+
+impl Model for SideCounts {
+    ghost use Rattle.fq_read_tally.specs.declared.side.SideTally.{SideTally};
+
+    ghost Value = { SideTally };
+
+    ghost view = { λ s. s.inside.value };
+}
+
+impl SideCounts {
+    ghost use Rattle.fq_read_tally.specs.SideTallies.{no_side, with_read, side_plus};
+    ghost use Rattle.fq_read_tally.specs.Packing.{side_tables, side_in, side_table_count, later};
+
+    /// The counts of no reads. Takes the memory that counting can't do without, which may be
+    /// refused.
+    pub fn new(alloc: Global) -> Result<SideCounts, OutOfMemory>
+        ensures { IfOk result (λ t. t ≡ no_side) }
+    {
+        let counts = SideTally::new(alloc)?;
+        let inside = Box::new(alloc, counts)?;
+        Ok(SideCounts { inside })
+    }
+
+    /// The counts.
+    pub fn counts(&self) -> &SideTally
+        ensures { result.now ≡ self.now }
+    {
+        &self.inside
+    }
+
+    /// Counts one more read and what the steps do to it.
+    pub fn add(
+        &mut self,
+        read: &ReadView<'_>,
+        steps: &Steps,
+        trimmed: &Trimmed,
+        mate_survives: bool,
+    )
+        requires { trimmed.now ≡ passage steps.now read.now }
+        ensures added { self.new
+            ≡ with_read read.now (course (alone steps.now) read.now) mate_survives self.old }
+        ensures lawful { IsLawful read.now }
+    {
+        self.inside.add(read, steps, trimmed, mate_survives);
+    }
+
+    /// Adds the counts of other reads.
+    pub fn add_all(&mut self, other: &SideCounts)
+        ensures { self.new ≡ side_plus self.old other.now }
+    {
+        self.inside.add_all(&other.inside);
+    }
+
+    /// Packs the counts as the next tables. Nothing is said of what is left.
+    pub fn pack(&mut self, tables: &mut Tables) -> Result<(), OutOfMemory>
+        ensures { OnOk result (tables.new ≡ tables.old ++ side_tables self.old) }
+    {
+        self.inside.pack(tables)
+    }
+
+    /// Adds the counts of the next tables.
+    pub fn add_unread(&mut self, unread: &mut Unread<'_>)
+        ensures added { self.new ≡ side_plus self.old (side_in unread.old) }
+        ensures rest { unread.new ≡ later side_table_count unread.old }
+    {
+        self.inside.add_unread(unread);
+    }
+
+    /// Sets all counts to those of no reads, and keeps their memory.
+    pub fn clear(&mut self)
+        ensures { self.new ≡ no_side }
+    {
+        self.inside.clear();
+    }
+}
