@@ -19,11 +19,14 @@ fi
 # too, but proved by then. 'after:CRATE' waits until the chain has proved that crate.
 chain=(fq_text fq_trim fq_pair fq_read_tally fq_tally fq_lane fq_run_core fq_block fq_work fq_run fq_cli fq_files fq_report fq_in_step fq_files_run fq_reasons fq_app)
 threads=(fq_lane after:fq_text fq_files after:fq_pair fq_cli fq_block after:fq_tally fq_work)
-reads=(after:fq_trim fq_read_tally)
-reports=(after:fq_tally fq_report after:fq_run_core fq_files_run fq_reasons)
+reports=(after:fq_trim fq_read_tally after:fq_tally fq_report after:fq_run_core fq_files_run fq_reasons)
 processors=$(nproc)
 jobs=(--jobs "${JOBS:-$processors}")
-if [ "$(awk '/^MemTotal:/ { print $2 }' /proc/meminfo)" -lt $((15 * 1048576)) ]; then jobs=(${JOBS:+--jobs "$JOBS"}); fi
+report_jobs=$((processors - 1))
+if [ "$(awk '/^MemTotal:/ { print $2 }' /proc/meminfo)" -lt $((15 * 1048576)) ]; then
+  jobs=(${JOBS:+--jobs "$JOBS"})
+  report_jobs=1
+fi
 
 # Each command runs in a process group of its own, so that nothing of it goes on after a signal.
 set -m
@@ -83,11 +86,10 @@ beside() {
 }
 
 echo "Proves ${#chain[@]} libraries and the program: some 20 minutes on four processors, if nothing is kept of earlier builds."
-# From fq_tally on, what is beside takes as long as the chain does up to fq_run.
+# What reports need takes as long as what the chain proves at the same time.
 if [ "$processors" -ge 4 ]; then
   beside 1 "${threads[@]}" fq_in_step
-  beside 2 "${reads[@]}"
-  beside $((processors - 1)) "${reports[@]}"
+  beside "$report_jobs" "${reports[@]}"
 else
   beside 1 "${threads[@]}" "${reports[@]}" fq_in_step
 fi
