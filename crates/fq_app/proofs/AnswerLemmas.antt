@@ -23,13 +23,12 @@ use Rattle.fq_files_run.specs.Trimming.{IsNoOutput, TrimsFiles}
 use Rattle.fq_files_run.specs.Leaving.{RefusalLeaves, ReportLeft, HoldFirstPairs, AreLeft, TellsInputs}
 use Rattle.fq_files_run.proofs.EndingLemmas.{done_is_whole, ends_so}
 use Rattle.fq_files_run.proofs.LeavingLemmas.{refusal_untrimmed, report_untrimmed, whole_first}
-use Rattle.fq_files_run.specs.Refusals.{status_of}
+use Rattle.fq_files_run.specs.Refusals.{status_of, IsRefusable}
 use Rattle.fq_app.specs.Answers.{Device, EndsWhole, IsRefusal, IsEnding, IsUnprinted, IsUntold, IsUnreported, IsReportLeft, IsReportUncut, LacksMemory, TookMemoryLine, TookText, NamesRefused, NamesDevice, PairsAnswered, Refuses, Reports, Tells, TookLine, memory_line, print_line}
 use Rattle.fq_files_run.specs.declared.refusal.Refusal.{Refusal}
 use Rattle.fq_files_run.specs.declared.seeing.EndingSeen.{EndingSeen}
 use Rattle.fq_files_run.specs.declared.reporting.Reported.{Reported}
 use Rattle.fq_files_run.specs.declared.reporting.Reported.TheVariants as report
-use Rattle.fq_files_run.specs.Opening.{IsRefusable}
 use Rattle.fq_files_run.specs.Completing.{HasFailed, ReportFailed}
 use Rattle.fq_files_run.specs.Reporting.{HoldsReport, ReportHeld}
 use Rattle.fq_files_run.specs.declared.refusal.Refusal.TheVariants as why

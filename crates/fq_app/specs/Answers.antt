@@ -18,12 +18,11 @@ use Rattle.clap.specs.declared.error.kind.ErrorKind.TheVariants.{DisplayHelp, Di
 use Rattle.fq_files_run.specs.declared.refusal.Refusal.{Refusal}
 use Rattle.fq_cli.specs.Requests.{Asking, input_name}
 use Rattle.fq_files_run.specs.Judging.{wrong_with}
-use Rattle.fq_files_run.specs.Refusals.{status_of}
+use Rattle.fq_files_run.specs.Refusals.{status_of, IsRefusable}
 use Rattle.fq_files_run.specs.Faults.{memory_words, settled, outcome_status, outcome_line}
 use Rattle.fq_reasons.specs.Lines.{line_of, ending_line, report_line, report_memory_line}
 use Rattle.fq_files_run.specs.Trimming.{IsNoOutput, TrimsFiles}
 use Rattle.fq_files_run.specs.Leaving.{RefusalLeaves, ReportLeft, HoldFirstPairs, AreLeft, TellsInputs}
-use Rattle.fq_files_run.specs.Opening.{IsRefusable}
 use Rattle.fq_files_run.specs.Completing.{HasFailed, ReportFailed}
 use Rattle.fq_files_run.specs.Reporting.{HoldsReport, BeginsReport}
 use Rattle.fq_files_run.specs.declared.seeing.EndingSeen.{EndingSeen}

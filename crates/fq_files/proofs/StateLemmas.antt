@@ -2,7 +2,7 @@
 -- call says what it leaves, such as `OnlyWrites`.
 use Rattle.std.proofs.Common.{◌≡◌, ◌∙◌, IsTrue, sym, ap, subst}
 use Rattle.fq_files.specs.Holding.{IsUnchanged}
-use Rattle.fq_files.specs.States.{FilesState, OnlyFails, OnlyStores}
+use Rattle.fq_files.specs.States.{FilesState, OnlyFails, OnlyStores, OnlyWrites}
 
 -- files whose bytes are known to the proof are still such files
 pub told_as : (old new : FilesState) → new ≡ old → IsTrue old.tells → IsTrue new.tells
@@ -34,3 +34,9 @@ then_store old mid new one two =
       has_failed = new.has_failed;
       is_unflushed = new.is_unflushed;
     }) one
+
+-- two calls that only write
+pub then_write : (old mid new : FilesState) → OnlyWrites old mid → OnlyWrites mid new →
+    OnlyWrites old new
+then_write old mid new one two =
+    two ∙ ap (λ (files : FilesState). record files { bytes = new.bytes }) one

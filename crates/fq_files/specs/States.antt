@@ -1,6 +1,6 @@
 -- Files as contracts see them, and what a call leaves as it was.
 use Rattle.std.specs.Prelude.{◌≡◌, ◌⊎◌, ℕ, Bool, IsTrue, List}
-use Rattle.fq_files.specs.Holding.{Holding}
+use Rattle.fq_files.specs.Holding.{Holding, KeepsNames}
 
 -- some names
 abbrev pub Names : Type 0
@@ -51,3 +51,11 @@ OnlyStores old new = new ≡ record old {
 -- since then no device has failed, and each target that was handed back was flushed
 abbrev pub IsSound : FilesState → FilesState → Type 0
 IsSound old new = new ≡ record old { bytes = new.bytes; is_open = new.is_open }
+
+-- no name is removed, if the bytes are known to the proof
+abbrev pub StillHeld : FilesState → FilesState → Type 0
+StillHeld old new = IsTrue old.tells → KeepsNames old.bytes new.bytes
+
+-- a name whose device had failed before still counts as failed
+abbrev pub KeepsFailed : FilesState → FilesState → Type 0
+KeepsFailed old new = (name : List ℕ) → IsTrue (old.has_failed name) → IsTrue (new.has_failed name)

@@ -2,8 +2,8 @@
 
 ghost use Rattle.std.specs.Prelude.{◌≡◌, ◌≢◌, ◌<◌, ◌⊎◌, ℕ, List, false, Some, None, Err, [], IsTrue, IsSome, IfOk, OnOk, OnErr};
 ghost use Rattle.fq_text.specs.Looks.{look_of};
-ghost use Rattle.fq_files.specs.Holding.{KeepsOthers, KeepsNames};
-ghost use Rattle.fq_files.specs.States.{FilesState, MayRefuse, OnlyOpens, OnlyFails, OnlyWrites, OnlyStores};
+ghost use Rattle.fq_files.specs.Holding.{KeepsOthers};
+ghost use Rattle.fq_files.specs.States.{FilesState, KeepsFailed, MayRefuse, OnlyOpens, OnlyFails, OnlyWrites, OnlyStores, StillHeld};
 
 use fq_text::{Feed, OutOfMemory, Outlet, Seen, SystemError};
 use thiserror::Error;
@@ -94,8 +94,7 @@ pub trait Files {
         ensures failed { 0 < (Self.In.state feed).failures
             → IsTrue ((state self.new).has_failed name.now) }
         ensures sound { (Self.In.state feed).failures ≡ 0 → state self.new ≡ state self.old }
-        ensures still { (other : List ℕ) → IsTrue ((state self.old).has_failed other)
-            → IsTrue ((state self.new).has_failed other) };
+        ensures still { KeepsFailed (state self.old) (state self.new) };
 
     /// Whether this name leads to a file that was opened as an input, also under another name (such
     /// as a link). Nothing changes.
@@ -129,8 +128,7 @@ pub trait Files {
         ensures refused { OnErr result (IsTrue (state self.old).tells
             → ((state self.new).bytes name.now ≡ (state self.old).bytes name.now)
             ⊎ ((state self.new).bytes name.now ≡ Some [])) }
-        ensures held { IsTrue (state self.old).tells
-            → KeepsNames (state self.old).bytes (state self.new).bytes }
+        ensures held { StillHeld (state self.old) (state self.new) }
         ensures others { IsTrue (state self.old).tells
             → KeepsOthers (state self.old).bytes (state self.new).bytes name.now }
         ensures kept { OnlyWrites (state self.old) (state self.new) }
@@ -144,8 +142,7 @@ pub trait Files {
         requires { IsTrue (state self.old).tells → IsSome ((state self.old).bytes name.now) }
         ensures stored { IsTrue (state self.old).tells → IsTrue (Self.Target.state target).tells
             → (state self.new).bytes name.now ≡ Some (Self.Target.state target).taken }
-        ensures held { IsTrue (state self.old).tells
-            → KeepsNames (state self.old).bytes (state self.new).bytes }
+        ensures held { StillHeld (state self.old) (state self.new) }
         ensures others { IsTrue (state self.old).tells
             → KeepsOthers (state self.old).bytes (state self.new).bytes name.now }
         ensures kept { OnlyStores (state self.old) (state self.new) }
@@ -154,8 +151,7 @@ pub trait Files {
             → IsTrue ((state self.new).has_failed name.now) }
         ensures sound { (Self.Target.state target).failures ≡ 0
             → (state self.new).has_failed ≡ (state self.old).has_failed }
-        ensures still { (other : List ℕ) → IsTrue ((state self.old).has_failed other)
-            → IsTrue ((state self.new).has_failed other) }
+        ensures still { KeepsFailed (state self.old) (state self.new) }
         ensures unflushed { (Self.Target.state target).is_flushed ≡ false
             → IsTrue ((state self.new).is_unflushed name.now) }
         ensures flushed { IsTrue (Self.Target.state target).is_flushed

@@ -1,12 +1,12 @@
 -- Outlets that were handed back, and their failures.
 use Rattle.std.proofs.Common.{◌≡◌, ℕ, suc, ◌<◌, IsTrue, Option, Some, IfSome, List, refl, sym, ap, subst, ◌∙◌, arith, ⊎_elim}
 use Rattle.fq_text.specs.Devices.{OutletState}
-use Rattle.fq_files.specs.States.{FilesState}
+use Rattle.fq_files.specs.States.{FilesState, KeepsFailed}
 use Rattle.fq_pair.specs.declared.out.Out.{Out}
 use Rattle.fq_pair.specs.declared.out.Out.TheVariants.{ForwardPaired, ForwardUnpaired, ReversePaired, ReverseUnpaired, Log}
 use Rattle.fq_run_core.specs.Devices.{OutletStates, AreHealthy, outlet_at, place}
 use Rattle.fq_cli.specs.Requests.{Asking, output_name}
-use Rattle.fq_files_run.specs.Completing.{KeepsFailed, AreCounted}
+use Rattle.fq_files_run.specs.Making.{AreCounted}
 use Rattle.fq_files_run.proofs.StoreLemmas.{same_place, below_next}
 
 healthy_at : (states : OutletStates) → AreHealthy states → (out : Out) (outlet : OutletState) →

@@ -3,7 +3,7 @@ use Rattle.std.proofs.Common.{◌≡◌, ◌≢◌, ◌++◌, ℕ, zero, suc, �
 use Rattle.std.specs.Prelude.{take_while}
 use Rattle.std.proofs.lemmas.List.{length-take}
 use Rattle.fq_files.specs.Holding.{Holding}
-use Rattle.fq_files.specs.States.{FilesState}
+use Rattle.fq_files.specs.States.{FilesState, KeepsFailed}
 use Rattle.fq_text.specs.declared.encoding.Encoding.{Encoding}
 use Rattle.fq_text.specs.Devices.{FeedState, OutletState}
 use Rattle.fq_text.specs.Grammar as grammar
@@ -29,7 +29,8 @@ use Rattle.fq_cli.specs.Requests.{Asking, input_name, output_name}
 use Rattle.fq_files_run.specs.Faults.{settled}
 use Rattle.fq_files_run.specs.Judging.{settings_of}
 use Rattle.fq_files_run.specs.Trimming.{Opened, AreFed}
-use Rattle.fq_files_run.specs.Completing.{HasFailed, KeepsFailed, AreFeedsCounted, AreCounted}
+use Rattle.fq_files_run.specs.Completing.{HasFailed, AreFeedsCounted}
+use Rattle.fq_files_run.specs.Making.{AreCounted}
 
 -- ---- outlets that failed
 

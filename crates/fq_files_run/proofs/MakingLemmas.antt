@@ -1,5 +1,5 @@
 -- Outputs that are made one after the other.
-use Rattle.std.proofs.Common.{◌≡◌, ◌≢◌, ℕ, suc, ◌<◌, ◌≤◌, true, false, IsTrue, IsSome, Option, Some, None, List, [], refl, sym, ap, subst, ◌∙◌, arith, inl, inr, ◌⊎◌, ⊎_elim}
+use Rattle.std.proofs.Common.{◌≡◌, ◌≢◌, ℕ, suc, ◌<◌, ◌≤◌, true, false, IsTrue, IsSome, IfSome, Option, Some, None, List, [], refl, sym, ap, subst, ◌∙◌, arith, inl, inr, ◌⊎◌, ⊎_elim}
 use Rattle.std.proofs.lemmas.Bool.{cases_Bool}
 use Rattle.std.proofs.lemmas.Slice.Eq.{bytes_eq-Decides}
 use Rattle.std.specs.Str.{bytes_eq}
@@ -7,11 +7,12 @@ use Rattle.fq_pair.specs.declared.out.Out.{Out}
 use Rattle.fq_pair.specs.declared.out.Out.TheVariants.{ForwardPaired, ForwardUnpaired, ReversePaired, ReverseUnpaired, Log}
 use Rattle.fq_files.specs.Holding.{Holding, KeepsOthers}
 use Rattle.fq_files.specs.States.{FilesState, OnlyWrites}
-use Rattle.fq_run_core.specs.Devices.{place}
+use Rattle.fq_text.specs.Devices.{OutletState}
+use Rattle.fq_run_core.specs.Devices.{OutletStates, place}
 use Rattle.fq_files_run.specs.Refusals.{IsMemory, IsTarget, IsReport}
 use Rattle.fq_files_run.specs.declared.refusal.Refusal.{Refusal}
 use Rattle.fq_cli.specs.Requests.{Asking, output_name}
-use Rattle.fq_files_run.specs.Trimming.{IsNoOutput, KeepsRest, AreHeld}
+use Rattle.fq_files_run.specs.Trimming.{IsNoOutput, KeepsRest, AreEmpty, AreHeld, IsEmptyOutlet}
 use Rattle.fq_files_run.specs.Leaving.{AreUntrimmed, StopsAt, RefusalLeaves}
 use Rattle.fq_files_run.specs.Making.{AreMade, Made, Unmade}
 use Rattle.fq_files_run.proofs.StoreLemmas.{same_place, below_next}
@@ -300,3 +301,18 @@ report_unmade a refusal old new is empty =
     let P : Refusal → Type 0 = λ r. RefusalLeaves a r old new in
     ⊎_elim (λ report. subst P (sym report.1) (inl empty))
     (λ memory. subst P (sym memory.1) (λ out name named. inr (empty out name named))) is
+
+-- outlets that are each empty are all empty
+pub all_empty : (o : OutletStates) → IsEmptyOutlet o.forward_paired →
+    IsEmptyOutlet o.forward_unpaired → IsEmptyOutlet o.reverse_paired →
+    IsEmptyOutlet o.reverse_unpaired → IfSome o.log IsEmptyOutlet → AreEmpty o
+all_empty o one two three four log ForwardPaired outlet at =
+    let is : o.forward_paired ≡ outlet = cc in subst IsEmptyOutlet is one
+all_empty o one two three four log ForwardUnpaired outlet at =
+    let is : o.forward_unpaired ≡ outlet = cc in subst IsEmptyOutlet is two
+all_empty o one two three four log ReversePaired outlet at =
+    let is : o.reverse_paired ≡ outlet = cc in subst IsEmptyOutlet is three
+all_empty o one two three four log ReverseUnpaired outlet at =
+    let is : o.reverse_unpaired ≡ outlet = cc in subst IsEmptyOutlet is four
+all_empty o one two three four log Log outlet at =
+    let P : Option OutletState → Type 0 = λ o. IfSome o IsEmptyOutlet in subst P at log

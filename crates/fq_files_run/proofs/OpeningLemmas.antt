@@ -4,13 +4,17 @@ use Rattle.std.specs.Prelude.{IfSome, if◌then◌else◌, unwrap_or}
 use Rattle.fq_text.specs.Devices.{OutletState}
 use Rattle.fq_text.specs.Scores.{encoding_of}
 use Rattle.fq_files.specs.Holding.{Holding, KeepsNames}
-use Rattle.fq_files.specs.States.{FilesState, Names, MayRefuse, OnlyOpens}
+use Rattle.fq_files.specs.States.{FilesState, Names, MayRefuse, OnlyOpens, OnlyWrites}
+use Rattle.fq_files.specs.declared.files.Cause.{Cause}
+use Rattle.fq_files.specs.declared.files.FileFault.{FileFault}
+use Rattle.fq_files.specs.declared.files.FileFault.TheVariants.{Refused}
 use Rattle.fq_files.proofs.StateLemmas.{same_as}
 use Rattle.fq_pair.specs.declared.out.Out.{Out}
 use Rattle.fq_pair.specs.declared.out.Out.TheVariants.{ForwardPaired, ForwardUnpaired, ReversePaired, ReverseUnpaired, Log}
 use Rattle.fq_pair.specs.declared.side.Side.{Side}
 use Rattle.fq_pair.specs.declared.side.Side.TheVariants.{Forward, Reverse}
 use Rattle.fq_text.specs.declared.encoding.Encoding.{Encoding}
+use Rattle.fq_run_core.specs.Devices.{place}
 use Rattle.fq_trim.specs.declared.step.Step.{Step}
 use Rattle.fq_trim.specs.declared.fault.StepFault.{StepFault}
 use Rattle.fq_trim.specs.Words.{steps_of}
@@ -19,11 +23,12 @@ use Rattle.fq_run_core.specs.declared.settings.BadSetting.{BadSetting}
 use Rattle.fq_cli.specs.Requests.{Asking, InputNames, input_name, is_input, output_name, same_log, same_name, report_is_input}
 use Rattle.fq_files_run.specs.declared.refusal.Refusal.{Refusal}
 use Rattle.fq_files_run.specs.declared.refusal.Refusal.TheVariants as why
-use Rattle.fq_files_run.specs.Refusals.{status_of, IsMemory, IsSource, IsReport}
+use Rattle.fq_files_run.specs.Refusals.{status_of, IsMemory, IsRefusable, IsSource, IsTarget, IsReport}
 use Rattle.fq_files_run.specs.Judging.{choices_of, judged, with_steps, with_encoding, settings_of, wrong_among, wrong_with}
 use Rattle.fq_files_run.specs.Trimming.{Opened, IsNoOutput, KeepsUnnamed, AreFed, IsEmptyOutlet}
 use Rattle.fq_files_run.specs.Leaving.{AreThere, TellsInputs, RefusalLeaves, ReportLeft, is_late}
-use Rattle.fq_files_run.specs.Opening.{IsMade, IsRefusable, IsRefused, IsUnopened, MayLead}
+use Rattle.fq_files_run.specs.Making.{Made, AreOutputsRefused, IsOutputRefused}
+use Rattle.fq_files_run.specs.Opening.{IsMade, IsRefused, IsUnopened, MayLead}
 use Rattle.fq_files_run.proofs.LeavingLemmas.{tells_late}
 use Rattle.fq_files_run.proofs.MakingLemmas.{this_or_other}
 
@@ -78,6 +83,23 @@ pub report_late : (refusal : Refusal) → IsReport refusal ⊎ IsMemory refusal 
 report_late refusal is = let P : Refusal → Type 0 = λ r. IsTrue (is_late r) in
     ⊎_elim (λ report. subst P (sym report.1) refl) (λ memory. subst P (sym memory.1) refl) is
 
+-- an output is refused under its name, if it is not memory for it that was refused
+pub output_refused : (a : Asking) (out : Out) (name : List ℕ) → output_name a out ≡ Some name →
+    (P : List ℕ → Type 0) (fault : FileFault) (refusal : Refusal) →
+    ((cause : Cause) → fault ≡ Refused cause → P name) →
+    ((cause : Cause) × (fault ≡ Refused cause) × (refusal ≡ why.Target out cause))
+    ⊎ IsMemory refusal → IsRefusable a P refusal
+output_refused a out name named P fault refusal so is =
+    let R : Refusal → Type 0 = λ r. IsRefusable a P r in
+    ⊎_elim (λ target. subst R (sym target.2) (name, named, so target.0 target.1))
+    (λ memory. subst R (sym memory.1) tt) is
+
+-- and its refusal comes after the inputs
+pub output_late : (out : Out) (refusal : Refusal) → IsTarget out refusal ⊎ IsMemory refusal →
+    IsTrue (is_late refusal)
+output_late out refusal is = let P : Refusal → Type 0 = λ r. IsTrue (is_late r) in
+    ⊎_elim (λ target. subst P (sym target.1) refl) (λ memory. subst P (sym memory.1) refl) is
+
 -- a refusal that can come once both inputs are opened doesn't have exit status 2
 pub late_status : (refusal : Refusal) → IsTrue (is_late refusal) → status_of refusal ≢ 2
 late_status (why.Target out cause) late e = absurd (cc e)
@@ -89,6 +111,18 @@ late_status (why.Setting bad) late e = absurd (cc late)
 late_status (why.SameName out) late e = absurd (cc late)
 late_status (why.Source side cause) late e = absurd (cc late)
 late_status why.SameReport late e = absurd (cc late)
+
+-- outputs that were made before change nothing of what the refusal of the next one says
+pub outputs_refused : (a : Asking) (refusal : Refusal) (out : Out) (old mid new : FilesState) →
+    OnlyWrites old mid → Made a old.bytes (place out) mid →
+    IsOutputRefused a out refusal mid new → AreOutputsRefused a refusal old new
+outputs_refused a refusal out old mid new kept made refused = record {
+  unmade = refused.unmade old.bytes made;
+  refused = subst (λ (files : FilesState). IsRefusable a (MayRefuse files) refusal) kept
+      refused.refused;
+  behind = refused.behind;
+  late = late_status refusal refused.behind;
+}
 
 -- ---- before the first file is opened
 
@@ -342,18 +376,6 @@ pub empty_map : {X : Type 0} (state : X → OutletState) (o : Option X) →
     IfSome (option_map state o) IsEmptyOutlet
 empty_map state None tells taken = tells
 empty_map state (Some x) tells taken = record { tells = tells; taken = taken }
-
--- an outlet with an empty state, if there is one, tells its bytes
-pub tells_unmap : {X : Type 0} (state : X → OutletState) (o : Option X) →
-    IfSome (option_map state o) IsEmptyOutlet → IfSome o (λ x. IsTrue (state x).tells)
-tells_unmap state None empty = empty
-tells_unmap state (Some x) empty = empty.tells
-
--- an outlet with an empty state, if there is one, has taken no bytes
-pub taken_unmap : {X : Type 0} (state : X → OutletState) (o : Option X) →
-    IfSome (option_map state o) IsEmptyOutlet → IfSome o (λ x. (state x).taken ≡ [])
-taken_unmap state None empty = empty
-taken_unmap state (Some x) empty = empty.taken
 
 -- ---- the reverse input
 

@@ -1,29 +1,24 @@
 -- What is known after a run, about its files, its devices and its report.
-use Rattle.std.specs.Prelude.{◌≡◌, ◌≢◌, ◌⊎◌, ◌<◌, ◌≤◌, ℕ, IsTrue, IsSome, Option, Some, Ok, List, length}
-use Rattle.fq_files.specs.States.{FilesState}
+use Rattle.std.specs.Prelude.{◌≡◌, ◌≢◌, ◌⊎◌, ◌<◌, ◌≤◌, ℕ, IsTrue, IsSome, IfSome, Option, Some, Ok, List, [], length}
+use Rattle.fq_files.specs.States.{FilesState, KeepsFailed}
+use Rattle.fq_text.specs.declared.encoding.Encoding.{Encoding}
 use Rattle.fq_text.specs.Devices.{FeedState, OutletState}
-use Rattle.fq_pair.specs.declared.out.Out.{Out}
 use Rattle.fq_pair.specs.declared.side.Side.{Side}
 use Rattle.fq_pair.specs.declared.side.Side.TheVariants.{Forward, Reverse}
 use Rattle.fq_pair.specs.declared.counts.Counts.{Counts}
 use Rattle.fq_run_core.specs.Choices.{Choices}
 use Rattle.fq_run_core.specs.declared.outcome.Outcome.{Outcome}
 use Rattle.fq_run_core.specs.declared.outcome.Outcome.TheVariants.{Lane, Memory, Write, Read, Endless}
-use Rattle.fq_run_core.specs.Devices.{OutletStates, AreHealthy, outlet_at, place}
 use Rattle.fq_run_core.specs.Endings.{ends_whole, failures_in}
 use Rattle.fq_cli.specs.Requests.{Asking, InputNames, input_name, output_name}
-use Rattle.fq_files_run.specs.Faults.{settled, outcome_status}
+use Rattle.fq_files_run.specs.Faults.{settled}
 use Rattle.fq_files_run.specs.Judging.{settings_of}
-use Rattle.fq_files_run.specs.Trimming.{KeepsUnnamed, TrimsFiles}
+use Rattle.fq_files_run.specs.Trimming.{IsEmptyOutlet, KeepsUnnamed, TrimsFiles}
 use Rattle.fq_files_run.specs.Leaving.{HoldFirstPairs}
-use Rattle.fq_files_run.specs.Reporting.{ReportHeld}
+use Rattle.fq_files_run.specs.Reporting.{IsDue, IsNotDue, KeepsOutputs, ReportHeld, TookReport}
 use Rattle.fq_files_run.specs.declared.account.Account.{Account}
 use Rattle.fq_files_run.specs.declared.reporting.Reported.{Reported}
 use Rattle.fq_files_run.specs.declared.reporting.Reported.TheVariants as became
-
--- a name whose device had failed before still counts as failed
-abbrev pub KeepsFailed : FilesState → FilesState → Type 0
-KeepsFailed old new = (name : List ℕ) → IsTrue (old.has_failed name) → IsTrue (new.has_failed name)
 
 -- the feed of this name was handed back, if the run returned it
 pub record IsFeedCounted (name : List ℕ)
@@ -39,15 +34,6 @@ pub record AreFeedsCounted (inputs : InputNames)
       IsTrue (new.has_failed (input_name inputs side))
   pub sound : failures_in (left Forward) ≡ 0 → failures_in (left Reverse) ≡ 0 →
       new.has_failed ≡ old.has_failed
-  pub still : KeepsFailed old new
-
--- the first n outlets of the outputs were handed back
-pub record AreCounted (a : Asking)
-    (states : OutletStates) (n : ℕ) (old new : FilesState) : Type 0 where
-  pub failed : (out : Out) (name : List ℕ) (outlet : OutletState) → place out < n →
-      output_name a out ≡ Some name → outlet_at out states ≡ Some outlet →
-      0 < outlet.failures → IsTrue (new.has_failed name)
-  pub sound : AreHealthy states → new.has_failed ≡ old.has_failed
   pub still : KeepsFailed old new
 
 -- The failure that is reported is one of the device that the message names: the device of that
@@ -72,6 +58,24 @@ pub record IsWitnessed (account : Account) : Type 0 where
 abbrev pub ReportFailed : Asking → FilesState → Type 0
 ReportFailed a files = (name : List ℕ) × (a.report ≡ Some name) × IsTrue (files.has_failed name)
 
+-- The report's outlet was handed back. Given are what was asked for, the run, the outlet before the
+-- report was written, what became of the report, and the files before and after.
+pub record IsReportStored (a : Asking) (encoding : Encoding) (account : Account)
+    (outlet : Option OutletState) (reported : Reported) (old new : FilesState) : Type 0 where
+  pub due : reported ≢ became.NotDue → IsDue account.outcome
+  pub not_due : reported ≡ became.NotDue → IsSome a.report → IsNotDue account.outcome
+  pub took : IsTrue old.tells → IfSome outlet IsEmptyOutlet →
+      (name : List ℕ) → a.report ≡ Some name → (bytes : List ℕ)
+      × (new.bytes name ≡ Some bytes) × TookReport reported a encoding account [] bytes
+  pub others : KeepsOutputs a old new
+  pub failed : reported ≡ became.Failed → ReportFailed a new
+  pub sound : reported ≢ became.Failed → new.has_failed ≡ old.has_failed
+  pub still : KeepsFailed old new
+  -- If the run ended whole, a report that is written is flushed.
+  pub flushed : IsDue account.outcome →
+      (reported ≡ became.NotDue) ⊎ (reported ≡ became.Written) →
+      new.is_unflushed ≡ old.is_unflushed
+
 -- A run was made. Given are the files before and after it, its outcome, its counts and what became
 -- of its report.
 pub record IsCompleted (a : Asking) (old new : FilesState)
@@ -86,9 +90,8 @@ pub record IsCompleted (a : Asking) (old new : FilesState)
   pub rest : IsTrue old.tells → KeepsUnnamed a old.bytes new.bytes
   -- If the run ended whole, the report covers the pairs of the inputs; at other endings its file is
   -- empty.
-  pub due : reported ≢ became.NotDue → (outcome_status outcome ≡ 0) ⊎ (outcome_status outcome ≡ 3)
-  pub not_due : reported ≡ became.NotDue → IsSome a.report →
-      (outcome_status outcome ≢ 0) × (outcome_status outcome ≢ 3)
+  pub due : reported ≢ became.NotDue → IsDue outcome
+  pub not_due : reported ≡ became.NotDue → IsSome a.report → IsNotDue outcome
   pub report : IsTrue old.tells → (name : List ℕ) →
       a.report ≡ Some name → ReportHeld reported a old.bytes new.bytes name
   -- A failure that is reported is one of the device that the message names. If no failure is
@@ -99,6 +102,5 @@ pub record IsCompleted (a : Asking) (old new : FilesState)
   pub sound : IsTrue (ends_whole outcome) → reported ≢ became.Failed →
       new.has_failed ≡ old.has_failed
   -- If it ended whole, each output was flushed, and so was the report if it was written.
-  pub flushed : (outcome_status outcome ≡ 0) ⊎ (outcome_status outcome ≡ 3) →
-      (reported ≡ became.NotDue) ⊎ (reported ≡ became.Written) →
+  pub flushed : IsDue outcome → (reported ≡ became.NotDue) ⊎ (reported ≡ became.Written) →
       new.is_unflushed ≡ old.is_unflushed

@@ -1,17 +1,57 @@
 -- Inputs that are opened, and outputs that are made, before a pair is read.
-use Rattle.std.specs.Prelude.{◌≡◌, ◌≢◌, ◌⊎◌, ℕ, false, IsTrue, IsSome, IfSome, is_some, Option, Some, None, List}
+use Rattle.std.specs.Prelude.{◌≡◌, ◌≢◌, ◌⊎◌, ℕ, false, IsTrue, IfSome, is_some, Option, Some, None, List, []}
 use Rattle.fq_files.specs.Holding.{IsUnchanged}
 use Rattle.fq_files.specs.States.{FilesState, MayRefuse}
 use Rattle.fq_pair.specs.declared.out.Out.{Out}
-use Rattle.fq_text.specs.Devices.{OutletState}
+use Rattle.fq_text.specs.Devices.{FeedState, OutletState}
 use Rattle.fq_pair.specs.declared.side.Side.{Side}
 use Rattle.fq_run_core.specs.Devices.{OutletStates, AreHealthy}
 use Rattle.fq_cli.specs.Requests.{Asking, InputNames, input_name, is_input, output_name}
 use Rattle.fq_files_run.specs.declared.refusal.Refusal.{Refusal}
-use Rattle.fq_files_run.specs.declared.refusal.Refusal.TheVariants as why
-use Rattle.fq_files_run.specs.Refusals.{status_of}
-use Rattle.fq_files_run.specs.Trimming.{Opened, IsNoOutput, KeepsUnnamed, AreFresh, AreFed, AreEmpty, IsEmptyOutlet, AreHeld}
-use Rattle.fq_files_run.specs.Leaving.{AreThere, TellsInputs, RefusalLeaves, ReportLeft}
+use Rattle.fq_files_run.specs.Refusals.{status_of, IsMemory, IsRefusable, IsReport, IsSource}
+use Rattle.fq_files_run.specs.Trimming.{Opened, IsNoOutput, KeepsUnnamed, IsFed, AreFresh, AreFed, AreEmpty, IsEmptyOutlet, AreHeld}
+use Rattle.fq_files_run.specs.Leaving.{AreThere, TellsInputs, RefusalLeaves, ReportLeft, is_early}
+use Rattle.fq_files_run.specs.Reporting.{IsReportOpen}
+
+-- An input was opened: its feed has the bytes of the file of this name, and has not failed.
+pub record IsInputOpened (name : List ℕ) (old : FilesState) (feed : FeedState) : Type 0 where
+  pub fresh : feed.failures ≡ 0
+  pub fed : IsTrue old.tells → IsFed feed.tells feed.to_come (old.bytes name)
+
+-- An input or memory for it was refused. A file that is refused is not there, or leads to an input.
+pub record IsInputRefused (names : InputNames)
+    (side : Side) (why : Refusal) (old : FilesState) : Type 0 where
+  pub missing : IsMemory why ⊎ (IsSource side why × (IsTrue old.tells →
+      (old.bytes (input_name names side) ≡ None)
+      ⊎ IsTrue (old.is_open (input_name names side))))
+  pub early : IsTrue (is_early why)
+  pub late : status_of why ≢ 2
+
+-- All inputs were opened: their feeds have the bytes of their files, and none has failed.
+pub record AreInputsOpened (names : InputNames) (old : FilesState) (inputs : Opened) : Type 0 where
+  pub form : inputs.form ≡ names.form
+  pub fresh : AreFresh inputs
+  pub fed : IsTrue old.tells → AreFed inputs names old.bytes
+
+-- One of the inputs or memory for it was refused.
+pub record AreInputsRefused (names : InputNames) (why : Refusal) (old : FilesState) : Type 0 where
+  pub inputs : IsTrue old.tells → TellsInputs names why old
+  pub early : IsTrue (is_early why)
+  pub late : status_of why ≢ 2
+
+-- The report's file was made, if a report was asked for: its outlet has not failed and has taken
+-- nothing.
+pub record IsReportMade (a : Asking)
+    (files : FilesState) (report : Option OutletState) : Type 0 where
+  pub opened : IsReportOpen a files report
+  pub empty : IsTrue files.tells → IfSome report IsEmptyOutlet
+
+-- The report's file or memory for it was refused: the file holds what it held, or nothing.
+pub record IsReportRefused (a : Asking) (why : Refusal) (old new : FilesState) : Type 0 where
+  pub why_is : IsReport why ⊎ IsMemory why
+  pub refused : IsRefusable a (MayRefuse old) why
+  pub left : IsTrue old.tells → (name : List ℕ) → a.report ≡ Some name →
+      (new.bytes name ≡ old.bytes name) ⊎ (new.bytes name ≡ Some [])
 
 -- Everything that a run needs is open: no device has failed and the names exist. If the bytes of
 -- the files are known to the proof, those of the outlets are too, and the outlets are empty.
@@ -24,11 +64,7 @@ pub record AreReady (a : Asking) (files : FilesState)
   pub empty : IsTrue files.tells → AreEmpty outlets
   pub there : IsTrue files.tells → AreThere a.inputs files.bytes
   pub held : IsTrue files.tells → AreHeld a files.bytes
-  pub report_there : is_some report ≡ is_some a.report
-  pub report_fresh : IfSome report (λ outlet. outlet.failures ≡ 0)
-  pub report_empty : IsTrue files.tells → IfSome report IsEmptyOutlet
-  pub report_held : IsTrue files.tells → (name : List ℕ) →
-      a.report ≡ Some name → IsSome (files.bytes name)
+  pub report_made : IsReportMade a files report
 
 -- The devices are ready, the feeds have the bytes of the inputs, and no other file has changed.
 pub record AreOpened (a : Asking) (old new : FilesState)
@@ -36,12 +72,6 @@ pub record AreOpened (a : Asking) (old new : FilesState)
   pub ready : AreReady a new inputs outlets report
   pub fed : IsTrue old.tells → AreFed inputs a.inputs old.bytes
   pub rest : IsTrue old.tells → KeepsUnnamed a old.bytes new.bytes
-
--- an output or the report is refused only under a name of which this holds
-abbrev pub IsRefusable : Asking → (List ℕ → Type 0) → Refusal → Type 0
-IsRefusable a P (why.Target out cause) = (name : List ℕ) × (output_name a out ≡ Some name) × P name
-IsRefusable a P (why.Report cause) = (name : List ℕ) × (a.report ≡ Some name) × P name
-IsRefusable a P _ = Unit {0}
 
 -- A name that leads to an input once these inputs are opened: it is the name of one, it led to an
 -- input before, or it may lead to the file of another name.

@@ -1,5 +1,5 @@
 -- The exit status and the line on standard error for each refusal.
-use Rattle.std.specs.Prelude.{◌≡◌, ℕ, List, [], ◌++◌, codes, decimal, unwrap_or}
+use Rattle.std.specs.Prelude.{◌≡◌, ℕ, Some, List, [], ◌++◌, codes, decimal, unwrap_or}
 use Rattle.fq_text.specs.declared.memory.MemoryRefused.{MemoryRefused}
 use Rattle.fq_files.specs.declared.files.Cause.{Cause}
 use Rattle.fq_pair.specs.declared.out.Out.{Out}
@@ -38,6 +38,12 @@ IsTarget out refusal = (cause : Cause) × (refusal ≡ Target out cause)
 
 abbrev pub IsReport : Refusal → Type 0
 IsReport refusal = (cause : Cause) × (refusal ≡ Report cause)
+
+-- an output or the report is refused only under a name of which this holds
+abbrev pub IsRefusable : Asking → (List ℕ → Type 0) → Refusal → Type 0
+IsRefusable a P (Target out cause) = (name : List ℕ) × (output_name a out ≡ Some name) × P name
+IsRefusable a P (Report cause) = (name : List ℕ) × (a.report ≡ Some name) × P name
+IsRefusable a P _ = Unit {0}
 
 abbrev pub step_fault_name : StepFaultKind → List ℕ
 step_fault_name step.NoSteps = codes "NoSteps"

@@ -1,6 +1,7 @@
 -- The report of a run: what it says, and what its file holds.
-use Rattle.std.specs.Prelude.{◌≡◌, ℕ, Option, Some, None, Ok, List, [], ◌++◌, codes, take}
+use Rattle.std.specs.Prelude.{◌≡◌, ◌≢◌, ◌⊎◌, ℕ, IsTrue, IsSome, IfSome, is_some, Option, Some, None, Ok, List, [], ◌++◌, codes, take}
 use Rattle.fq_text.specs.declared.encoding.Encoding.{Encoding}
+use Rattle.fq_text.specs.Devices.{OutletState}
 use Rattle.fq_pair.specs.declared.counts.Counts.{Counts}
 use Rattle.fq_pair.specs.Pairing.{Pairs}
 use Rattle.fq_pair.specs.Outputs.{counts_of}
@@ -12,15 +13,16 @@ use Rattle.fq_run_core.specs.declared.outcome.Outcome.{Outcome}
 use Rattle.fq_run_core.specs.declared.outcome.Outcome.TheVariants.{Input}
 use Rattle.fq_run_core.specs.Endings.{trimmed_outcome}
 use Rattle.fq_files.specs.Holding.{Holding}
+use Rattle.fq_files.specs.States.{FilesState}
 use Rattle.fq_report.specs.Facts as facts
 use Rattle.fq_report.specs.Reports.{text_of}
 use Rattle.fq_cli.specs.Requests.{Asking}
-use Rattle.fq_files_run.specs.Faults.{settled, input_words}
+use Rattle.fq_files_run.specs.Faults.{settled, outcome_status, input_words}
 use Rattle.fq_files_run.specs.Judging.{settings_of}
 use Rattle.fq_files_run.specs.Trimming.{pairs_of}
 use Rattle.fq_files_run.specs.declared.account.Account.{Account}
 use Rattle.fq_files_run.specs.declared.reporting.Reported.{Reported}
-use Rattle.fq_files_run.specs.declared.reporting.Reported.TheVariants.{Written, Failed}
+use Rattle.fq_files_run.specs.declared.reporting.Reported.TheVariants.{NotDue, Written, Failed}
 
 -- What the report says.
 
@@ -95,6 +97,19 @@ ReportHeld _ a old new name = new name ≡ Some []
 
 -- How the report is written.
 
+-- The report's outlet, if a report was asked for: its file exists, and it has not failed.
+pub record IsReportOpen (a : Asking)
+    (files : FilesState) (report : Option OutletState) : Type 0 where
+  pub there : is_some report ≡ is_some a.report
+  pub fresh : IfSome report (λ outlet. outlet.failures ≡ 0)
+  pub held : IsTrue files.tells → (name : List ℕ) →
+      a.report ≡ Some name → IsSome (files.bytes name)
+
+-- each name that is not the report's holds what it held before
+abbrev pub KeepsOutputs : Asking → FilesState → FilesState → Type 0
+KeepsOutputs a old new = IsTrue old.tells → (name : List ℕ) →
+    a.report ≢ Some name → new.bytes name ≡ old.bytes name
+
 -- the text of the report of a run that has a tally
 pub record IsTextOf (a : Asking) (encoding : Encoding)
     (account : Account) (text : List ℕ) : Type 0 where
@@ -120,3 +135,35 @@ abbrev pub TookReport : Reported → Asking → Encoding → Account → List �
 TookReport Written a encoding account old new = TookWhole a encoding account old new
 TookReport Failed a encoding account old new = TookStart a encoding account old new
 TookReport _ a encoding account old new = new ≡ old
+
+-- the run reached the end of its inputs or a fault in them, so a report is due
+abbrev pub IsDue : Outcome → Type 0
+IsDue outcome = (outcome_status outcome ≡ 0) ⊎ (outcome_status outcome ≡ 3)
+
+-- it did not
+abbrev pub IsNotDue : Outcome → Type 0
+IsNotDue outcome = (outcome_status outcome ≢ 0) × (outcome_status outcome ≢ 3)
+
+-- What became of the report, and what its outlet has taken, given before and after.
+pub record IsReportWritten (a : Asking) (encoding : Encoding) (account : Account)
+    (reported : Reported) (old new : OutletState) : Type 0 where
+  pub due : reported ≢ NotDue → IsDue account.outcome
+  pub not_due : reported ≡ NotDue → IsNotDue account.outcome
+  pub took : IsTrue old.tells → TookReport reported a encoding account old.taken new.taken
+  pub sound : reported ≢ Failed → new.failures ≡ 0
+  pub failed : reported ≡ Failed → new.failures ≢ 0
+  pub flushed : reported ≡ Written → IsTrue new.is_flushed
+  pub told : new.tells ≡ old.tells
+
+-- an outlet has taken this text, and was flushed
+pub record IsSent (text : List ℕ) (old new : OutletState) : Type 0 where
+  pub taken : IsTrue old.tells → new.taken ≡ old.taken ++ text
+  pub sound : new.failures ≡ 0
+  pub flushed : IsTrue new.is_flushed
+  pub told : new.tells ≡ old.tells
+
+-- an outlet has failed, and has taken a first part of this text
+pub record IsSentInPart (text : List ℕ) (old new : OutletState) : Type 0 where
+  pub taken : IsTrue old.tells → (count : ℕ) × (new.taken ≡ old.taken ++ take count text)
+  pub failed : new.failures ≢ 0
+  pub told : new.tells ≡ old.tells

@@ -1,13 +1,12 @@
 //! Opens the inputs, and hands their feeds back after the run.
 
-ghost use Rattle.std.specs.Prelude.{◌≡◌, ◌≢◌, ◌⊎◌, ℕ, List, None, IsTrue, IfOk, IfErr};
+ghost use Rattle.std.specs.Prelude.{◌≡◌, ◌≢◌, ℕ, List, IsTrue, IfOk, IfErr};
 ghost use Rattle.std.specs.Option.{option_map};
 ghost use Rattle.fq_files.specs.States.{MayRefuse, OnlyFails, OnlyOpens};
 ghost use Rattle.fq_cli.specs.Requests.{asking_of, input_name};
-ghost use Rattle.fq_files_run.specs.Refusals.{status_of, IsMemory, IsSource};
-ghost use Rattle.fq_files_run.specs.Trimming.{IsFed, opened_of, left_of, form_of, AreFresh, AreFed};
-ghost use Rattle.fq_files_run.specs.Leaving.{AreThere, TellsInputs, is_early};
-ghost use Rattle.fq_files_run.specs.Opening.{MayLead};
+ghost use Rattle.fq_files_run.specs.Trimming.{opened_of, left_of, form_of};
+ghost use Rattle.fq_files_run.specs.Leaving.{AreThere};
+ghost use Rattle.fq_files_run.specs.Opening.{AreInputsOpened, AreInputsRefused, IsInputOpened, IsInputRefused, MayLead};
 ghost use Rattle.fq_files_run.specs.Completing.{IsFeedCounted, AreFeedsCounted};
 
 use crate::refusal::{Refusal, source_refused};
@@ -40,19 +39,13 @@ pub(crate) fn inputs<T: Files>(
     request: &Request<'_>,
     files: &mut T,
 ) -> Result<Feeds<T::In>, Refusal>
-    ensures fresh { IfOk result (λ feeds. AreFresh (opened_of T.In.state feeds)) }
-    ensures form { IfOk result (λ feeds. (opened_of T.In.state feeds).form
-        ≡ (asking_of request.now).inputs.form) }
-    ensures fed { IfOk result (λ feeds. IsTrue (T.state files.old).tells
-        → AreFed (opened_of T.In.state feeds)
-        (asking_of request.now).inputs (T.state files.old).bytes) }
+    ensures opened { IfOk result (λ feeds. AreInputsOpened (asking_of request.now).inputs
+        (T.state files.old) (opened_of T.In.state feeds)) }
+    ensures refused { IfErr result (λ why.
+        AreInputsRefused (asking_of request.now).inputs why (T.state files.old)) }
     ensures kept { OnlyOpens (T.state files.old) (T.state files.new) }
     ensures linked { (name : List ℕ) → IsTrue ((T.state files.new).is_open name)
         → MayLead (asking_of request.now).inputs (T.state files.old) name }
-    ensures inputs { IfErr result (λ why. IsTrue (T.state files.old).tells
-        → TellsInputs (asking_of request.now).inputs why (T.state files.old)) }
-    ensures early { IfErr result (λ why. IsTrue (is_early why)) }
-    ensures late { IfErr result (λ why. status_of why ≢ 2) }
 {
     let feeds = match request.inputs {
         Inputs::Apart { .. } => {
@@ -70,19 +63,13 @@ pub(crate) fn inputs<T: Files>(
 
 // Opens the input of a side.
 fn input<T: Files>(request: &Request<'_>, files: &mut T, side: Side) -> Result<T::In, Refusal>
-    ensures fresh { IfOk result (λ feed. (T.In.state feed).failures ≡ 0) }
-    ensures fed { IfOk result (λ feed. IsTrue (T.state files.old).tells
-        → IsFed (T.In.state feed).tells (T.In.state feed).to_come
-        ((T.state files.old).bytes (input_name (asking_of request.now).inputs side))) }
+    ensures opened { IfOk result (λ feed. IsInputOpened
+        (input_name (asking_of request.now).inputs side) (T.state files.old) (T.In.state feed)) }
+    ensures refused { IfErr result (λ why.
+        IsInputRefused (asking_of request.now).inputs side why (T.state files.old)) }
     ensures kept { OnlyOpens (T.state files.old) (T.state files.new) }
     ensures linked { (other : List ℕ) → other ≢ input_name (asking_of request.now).inputs side
         → IsTrue ((T.state files.new).is_open other) → MayRefuse (T.state files.old) other }
-    ensures missing { let name = input_name (asking_of request.now).inputs side in
-        IfErr result (λ why. IsMemory why
-        ⊎ (IsSource side why × (IsTrue (T.state files.old).tells
-        → ((T.state files.old).bytes name ≡ None) ⊎ IsTrue ((T.state files.old).is_open name)))) }
-    ensures early { IfErr result (λ why. IsTrue (is_early why)) }
-    ensures late { IfErr result (λ why. status_of why ≢ 2) }
 {
     files
         .source(request.input_name(side))

@@ -6,7 +6,8 @@ ghost use Rattle.fq_files.specs.States.{IsSound};
 ghost use Rattle.fq_run_core.specs.Devices.{outlet_states};
 ghost use Rattle.fq_cli.specs.Requests.{asking_of};
 ghost use Rattle.fq_files_run.specs.Trimming.{opened_of};
-ghost use Rattle.fq_files_run.specs.Opening.{AreApart, AreOpened, IsRefusable, IsUnopened, SparesInputs};
+ghost use Rattle.fq_files_run.specs.Refusals.{IsRefusable};
+ghost use Rattle.fq_files_run.specs.Opening.{AreApart, AreOpened, IsUnopened, SparesInputs};
 
 use crate::feeds::{Feeds, inputs};
 use crate::outputs::outputs;

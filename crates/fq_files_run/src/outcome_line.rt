@@ -3,7 +3,7 @@
 ghost use Rattle.std.specs.Prelude.{◌≡◌, ◌++◌, OnOk, OnErr, IfOk, codes, decimal};
 ghost use Rattle.std.specs.String.{string_bytes};
 ghost use Rattle.fq_text.specs.Written.{line};
-ghost use Rattle.fq_files_run.specs.Faults.{settled, status_when, outcome_status, at_record, input_words, line_when, outcome_line};
+ghost use Rattle.fq_files_run.specs.Faults.{settled, outcome_status, at_record, line_when, outcome_line};
 
 use fq_pair::{InputFault, Side};
 use fq_run_core::{Outcome, end_outcome};

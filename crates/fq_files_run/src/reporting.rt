@@ -1,17 +1,14 @@
 //! Writes the report of a run. Its file is made after all outputs, and is written once, at the end.
 
-ghost use Rattle.std.specs.Prelude.{◌≡◌, ◌≢◌, ◌⊎◌, ◌++◌, ℕ, List, true, false, Some, None, [], take, is_some, option_map, IsTrue, IsSome, IfOk, IfSome, OnOk, OnErr, IfErr};
+ghost use Rattle.std.specs.Prelude.{◌≡◌, ℕ, List, Some, None, [], option_map, IfOk, OnOk, OnErr, IfErr};
 ghost use Rattle.std.specs.String.{string_bytes};
-ghost use Rattle.fq_files.specs.Holding.{KeepsNames};
-ghost use Rattle.fq_files.specs.States.{MayRefuse, OnlyStores, OnlyWrites};
+ghost use Rattle.fq_files.specs.States.{OnlyStores, OnlyWrites, StillHeld};
 ghost use Rattle.fq_text.specs.Written.{line};
 ghost use Rattle.fq_report.specs.Reports.{text_of};
 ghost use Rattle.fq_cli.specs.Requests.{asking_of};
-ghost use Rattle.fq_files_run.specs.Faults.{outcome_status};
-ghost use Rattle.fq_files_run.specs.Refusals.{IsMemory, IsReport};
-ghost use Rattle.fq_files_run.specs.Reporting.{run_facts, IsTextOf, TookReport};
-ghost use Rattle.fq_files_run.specs.Opening.{IsRefusable};
-ghost use Rattle.fq_files_run.specs.Completing.{KeepsFailed, ReportFailed};
+ghost use Rattle.fq_files_run.specs.Reporting.{run_facts, IsDue, IsReportOpen, IsReportWritten, IsSent, IsSentInPart, KeepsOutputs};
+ghost use Rattle.fq_files_run.specs.Opening.{IsReportMade, IsReportRefused};
+ghost use Rattle.fq_files_run.specs.Completing.{IsReportStored};
 
 use crate::account::Account;
 use crate::outcome_line::{fault_line, status_of};
@@ -42,28 +39,12 @@ pub(crate) fn report_target<T: Files>(
     request: &Request<'_>,
     files: &mut T,
 ) -> Result<Option<T::Target>, Refusal>
-    ensures there { IfOk result (λ target. is_some target
-        ≡ is_some (asking_of request.now).report) }
-    ensures fresh { IfOk result (λ target. IfSome target (λ t. (T.Target.state t).failures ≡ 0)) }
-    ensures telling { IfOk result (λ target. IsTrue (T.state files.old).tells
-        → IfSome target (λ t. IsTrue (T.Target.state t).tells)) }
-    ensures nothing { IfOk result (λ target. IsTrue (T.state files.old).tells
-        → IfSome target (λ t. (T.Target.state t).taken ≡ [])) }
-    ensures made { OnOk result (IsTrue (T.state files.old).tells
-        → (name : List ℕ) → (asking_of request.now).report ≡ Some name
-        → IsSome ((T.state files.new).bytes name)) }
-    ensures why { IfErr result (λ why. IsReport why ⊎ IsMemory why) }
-    ensures left { IfErr result (λ why. IsTrue (T.state files.old).tells
-        → (name : List ℕ) → (asking_of request.now).report ≡ Some name
-        → ((T.state files.new).bytes name ≡ (T.state files.old).bytes name)
-        ⊎ ((T.state files.new).bytes name ≡ Some [])) }
-    ensures held { IsTrue (T.state files.old).tells
-        → KeepsNames (T.state files.old).bytes (T.state files.new).bytes }
-    ensures others { IsTrue (T.state files.old).tells
-        → (name : List ℕ) → (asking_of request.now).report ≢ Some name
-        → (T.state files.new).bytes name ≡ (T.state files.old).bytes name }
-    ensures refused { IfErr result (λ why. IsRefusable (asking_of request.now)
-        (MayRefuse (T.state files.old)) why) }
+    ensures made { IfOk result (λ target. IsReportMade (asking_of request.now)
+        (T.state files.new) (option_map T.Target.state target)) }
+    ensures refused { IfErr result (λ why.
+        IsReportRefused (asking_of request.now) why (T.state files.old) (T.state files.new)) }
+    ensures held { StillHeld (T.state files.old) (T.state files.new) }
+    ensures others { KeepsOutputs (asking_of request.now) (T.state files.old) (T.state files.new) }
     ensures kept { OnlyWrites (T.state files.old) (T.state files.new) }
 {
     let Some(name) = request.report else {
@@ -83,35 +64,11 @@ pub fn store_report<T: Files>(
     account: &Account,
     target: Option<T::Target>,
 ) -> (Reported, Option<SystemError>)
-    requires there { is_some target ≡ is_some (asking_of request.now).report }
-    requires fresh { IfSome target (λ t. (T.Target.state t).failures ≡ 0) }
-    requires held { IsTrue (T.state files.old).tells
-        → (name : List ℕ) → (asking_of request.now).report ≡ Some name
-        → IsSome ((T.state files.old).bytes name) }
-    ensures due { result.0 ≢ Reported.NotDue
-        → (outcome_status account.now.outcome ≡ 0) ⊎ (outcome_status account.now.outcome ≡ 3) }
-    ensures not_due { result.0 ≡ Reported.NotDue → IsSome (asking_of request.now).report
-        → (outcome_status account.now.outcome ≢ 0) × (outcome_status account.now.outcome ≢ 3) }
-    ensures took { IsTrue (T.state files.old).tells
-        → IfSome target (λ t. IsTrue (T.Target.state t).tells)
-        → IfSome target (λ t. (T.Target.state t).taken ≡ [])
-        → (name : List ℕ) → (asking_of request.now).report ≡ Some name
-        → (bytes : List ℕ) × ((T.state files.new).bytes name ≡ Some bytes)
-        × TookReport result.0 (asking_of request.now) encoding account.now [] bytes }
-    ensures others { IsTrue (T.state files.old).tells
-        → (name : List ℕ) → (asking_of request.now).report ≢ Some name
-        → (T.state files.new).bytes name ≡ (T.state files.old).bytes name }
+    requires { IsReportOpen (asking_of request.now)
+        (T.state files.old) (option_map T.Target.state target) }
+    ensures stored { IsReportStored (asking_of request.now) encoding account.now
+        (option_map T.Target.state target) result.0 (T.state files.old) (T.state files.new) }
     ensures kept { OnlyStores (T.state files.old) (T.state files.new) }
-    ensures failed { result.0 ≡ Reported.Failed
-        → ReportFailed (asking_of request.now) (T.state files.new) }
-    ensures sound { result.0 ≢ Reported.Failed
-        → (T.state files.new).has_failed ≡ (T.state files.old).has_failed }
-    ensures still { KeepsFailed (T.state files.old) (T.state files.new) }
-    // If the run ended whole, a report that is written is flushed.
-    ensures flushed { (outcome_status account.now.outcome ≡ 0)
-        ⊎ (outcome_status account.now.outcome ≡ 3)
-        → (result.0 ≡ Reported.NotDue) ⊎ (result.0 ≡ Reported.Written)
-        → (T.state files.new).is_unflushed ≡ (T.state files.old).is_unflushed }
 {
     match (request.report, target) {
         (Some(name), Some(mut target)) => {
@@ -132,17 +89,8 @@ fn write_report<O: Outlet>(
     target: &mut O,
 ) -> Reported
     requires { (O.state target.old).failures ≡ 0 }
-    ensures due { result ≢ Reported.NotDue
-        → (outcome_status account.now.outcome ≡ 0) ⊎ (outcome_status account.now.outcome ≡ 3) }
-    ensures not_due { result ≡ Reported.NotDue
-        → (outcome_status account.now.outcome ≢ 0) × (outcome_status account.now.outcome ≢ 3) }
-    ensures took { IsTrue (O.state target.old).tells
-        → TookReport result (asking_of request.now)
-        encoding account.now (O.state target.old).taken (O.state target.new).taken }
-    ensures sound { result ≢ Reported.Failed → (O.state target.new).failures ≡ 0 }
-    ensures failed { result ≡ Reported.Failed → (O.state target.new).failures ≢ 0 }
-    ensures flushed { result ≡ Reported.Written → IsTrue (O.state target.new).is_flushed }
-    ensures told { (O.state target.new).tells ≡ (O.state target.old).tells }
+    ensures { IsReportWritten (asking_of request.now)
+        encoding account.now result (O.state target.old) (O.state target.new) }
 {
     let status = status_of(account.outcome);
     if status != 0 && status != 3 {
@@ -165,15 +113,8 @@ fn write_report<O: Outlet>(
 // Sends a text to the outlet and flushes the outlet.
 fn put_text<O: Outlet>(target: &mut O, text: &[u8]) -> Result<(), OutletFailed>
     requires { (O.state target.old).failures ≡ 0 }
-    ensures whole { OnOk result (IsTrue (O.state target.old).tells
-        → (O.state target.new).taken ≡ (O.state target.old).taken ++ text.now) }
-    ensures part { OnErr result (IsTrue (O.state target.old).tells
-        → (count : ℕ)
-        × ((O.state target.new).taken ≡ (O.state target.old).taken ++ take count text.now)) }
-    ensures sent { OnOk result ((O.state target.new).failures ≡ 0) }
-    ensures failed { OnErr result ((O.state target.new).failures ≢ 0) }
-    ensures flushed { OnOk result (IsTrue (O.state target.new).is_flushed) }
-    ensures told { (O.state target.new).tells ≡ (O.state target.old).tells }
+    ensures ok { OnOk result (IsSent text.now (O.state target.old) (O.state target.new)) }
+    ensures err { OnErr result (IsSentInPart text.now (O.state target.old) (O.state target.new)) }
 {
     if send(target, text).is_err() {
         return Err(OutletFailed);
@@ -189,7 +130,7 @@ fn run_text<'a>(
     account: &Account,
     tally: &'a Tally,
 ) -> Result<String, OutOfMemory>
-    requires { (outcome_status account.now.outcome ≡ 0) ⊎ (outcome_status account.now.outcome ≡ 3) }
+    requires { IsDue account.now.outcome }
     ensures { IfOk result (λ text. string_bytes text
         ≡ text_of (run_facts (asking_of request.now)
         encoding account.now.outcome account.now.counts tally.now)) }

@@ -2,7 +2,6 @@
 use Rattle.std.specs.Prelude.{ℕ, ◌-◌, ◌==◌, ◌||◌, Bool, true, false, nat_eq, Option, Some, None, List, [], ◌++◌, codes, decimal, length, slice_index_or, if◌then◌else◌}
 use Rattle.std.specs.List.{before_first, ends_with, list_any}
 use Rattle.std.specs.Str.{bytes_eq}
-use Rattle.fq_trim.specs.declared.fault.StepFault.{StepFault}
 use Rattle.fq_trim.specs.declared.fault.StepFaultKind.{StepFaultKind}
 use Rattle.fq_trim.specs.declared.fault.StepFaultKind.TheVariants as step
 use Rattle.fq_pair.specs.declared.out.Out.{Out}

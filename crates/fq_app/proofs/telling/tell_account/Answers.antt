@@ -1,4 +1,4 @@
-use Rattle.std.proofs.Common.{rules, ◌≡◌, ◌∙◌, Option, List, ℕ, inl, ap, sym, subst}
+use Rattle.std.proofs.Common.{rules, ◌∙◌, Option, List, ℕ, inl, ap, sym, subst}
 use Rattle.std.specs.Option.{option_map}
 use Rattle.fq_cli.specs.Requests.{Asking, asking_of}
 use Rattle.fq_files_run.specs.Faults.{outcome_status}

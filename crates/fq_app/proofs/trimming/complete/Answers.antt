@@ -9,7 +9,6 @@ use Rattle.fq_files.proofs.StateLemmas.{same_as, store_fail, then_store, told_as
 use Rattle.fq_files_run.proofs.StoreLemmas.{all_hold}
 use Rattle.fq_files_run.proofs.EndingLemmas.{ends_so}
 use Rattle.fq_files_run.proofs.FailureLemmas.{as_it_is, fails_as_told, feed_sound, not_lane, outlets_flushed, outlets_sound}
-use Rattle.fq_files_run.proofs.OpeningLemmas.{taken_unmap, tells_unmap}
 use Rattle.fq_files_run.proofs.CompletingLemmas.{IsHeld, first_pairs, report_of_run, sides_in, trims_files}
 use Rattle.fq_app.proofs.trimming.complete.Goals as goal
 
@@ -46,7 +45,8 @@ returns g c = record {
       let run = run_in inputs before after left account in
       let done = c.inputs_done-inputs.ensures in
       let stored = c.store-errors.ensures in
-      let reported = c.store_report-reported.ensures in
+      let outputs = stored.stored in
+      let reported = c.store_report-reported.ensures.stored in
       let same = same_as _ _ done.kept in
       let are_told : IsTrue start.tells → AreTold run =
       λ told. record {
@@ -68,7 +68,7 @@ returns g c = record {
         log = opened.ready.log;
         empty = opened.ready.empty told_0;
         hold = λ out name outlet own at tells. reported.others told_2 name own.report
-            ∙ all_hold a after _ (stored.stored told_2).hold out name outlet own at tells;
+            ∙ all_hold a after _ (outputs.stored told_2).hold out name outlet own at tells;
       } in
       record {
         trims = λ told whole. trims_files a choices _ _ run (held told)
@@ -79,16 +79,14 @@ returns g c = record {
             let told_0 = told_as _ _ since told in
             let told_2 = told_as _ _ stored.kept (told_as _ _ done.kept told_0) in
             reported.others told_2 name other
-            ∙ ((stored.stored told_2).rest name free
+            ∙ ((outputs.stored told_2).rest name free
             ∙ (same name ∙ opened.rest told name free other));
         due = reported.due;
         not_due = reported.not_due;
         report = λ told name named.
             let told_0 = told_as _ _ since told in
             let told_2 = told_as _ _ stored.kept (told_as _ _ done.kept told_0) in
-            let empty = opened.ready.report_empty told_0 in
-            let took = reported.took told_2 (tells_unmap state c.args.devices.report empty)
-            (taken_unmap state c.args.devices.report empty) name named in
+            let took = reported.took told_2 (opened.ready.report_made.empty told_0) name named in
             report_of_run a choices _ _ run account _ _ name took.0 settings opened.ready.form
             (opened.fed told).forward.bytes_are (opened.fed told).reverse.bytes_are
             refl refl refl (λ whole. c.run-account.ensures.whole whole (are_told told))
@@ -96,7 +94,7 @@ returns g c = record {
         failed = λ other. fails_as_told a start choices inputs run left _ _ _
             (files c.store_report-reported.new.files) settings refl
             refl opened.ready.log (sides_in inputs before after left account) opened.fed
-            (c.run-account.ensures.every other) done.counted stored.counted reported.still;
+            (c.run-account.ensures.every other) done.counted outputs.counted reported.still;
         as_it_is =
             λ told. as_it_is choices run (λ whole. c.run-account.ensures.whole whole
             (are_told told));
@@ -104,7 +102,7 @@ returns g c = record {
         sound = λ whole written.
             let every = c.run-account.ensures.every (not_lane account.outcome whole) in
             reported.sound written
-            ∙ (stored.counted.sound (outlets_sound choices run every whole opened.ready.healthy)
+            ∙ (outputs.counted.sound (outlets_sound choices run every whole opened.ready.healthy)
             ∙ (done.counted.sound (feed_sound choices run every whole Forward)
             (feed_sound choices run every whole Reverse)
             ∙ ap (λ (state : FilesState). state.has_failed) since));
@@ -112,7 +110,7 @@ returns g c = record {
             let whole = ends_so account.outcome _ refl ends in
             let every = c.run-account.ensures.every (not_lane account.outcome whole) in
             reported.flushed ends written
-            ∙ (stored.flushed (outlets_flushed choices run every whole)
+            ∙ (outputs.flushed (outlets_flushed choices run every whole)
             ∙ (ap (λ (state : FilesState). state.is_unflushed) done.kept
             ∙ ap (λ (state : FilesState). state.is_unflushed) since));
       };

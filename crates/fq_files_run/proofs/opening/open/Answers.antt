@@ -6,7 +6,7 @@ use Rattle.fq_cli.specs.Requests.{asking_of}
 use Rattle.fq_files_run.specs.Trimming.{opened_of}
 use Rattle.fq_files_run.proofs.LeavingLemmas.{leaves_since, report_behind, report_refused, unchanged_or_nothing}
 use Rattle.fq_files_run.proofs.MakingLemmas.{five_empty, five_held, report_unmade, rest_made, still_empty}
-use Rattle.fq_files_run.proofs.OpeningLemmas.{leads_nowhere, empty_map, fresh_map, is_some_map, late_status, refusable_since, refused_late, report_late, still_there}
+use Rattle.fq_files_run.proofs.OpeningLemmas.{leads_nowhere, late_status, refusable_since, refused_late, report_late, still_there}
 use Rattle.fq_files_run.proofs.opening.open.Goals as goal
 
 -- a refused output: what its refusal says is true, and the files hold what it leaves
@@ -19,19 +19,19 @@ returns-in_err-outlets-clause-unopened g c =
     let outputs = c.in_err-outlets.ensures in
     let same = same_as _ _ inputs.kept in
     rw (p.1, p.2) (refused_late a _ _ _ (opened_of g.T.In.Feed.state c.in_ok-feeds.feeds)
-    outputs.opened outputs.late
+    outputs.refused.behind outputs.refused.late
     (refusable_since a (g.T.Files.state c.args.files.now) _ _ _
     (ap (λ (files : FilesState). files.refuses) inputs.kept) inputs.linked
-    outputs.refused) inputs.fed
+    outputs.refused.refused) inputs.opened.fed
     (λ told.
     let told_2 = told_as _ _ outputs.kept (told_as _ _ inputs.kept told) in
-    leaves_since a _ _ _ _ same (outputs.unmade told_2).leaves)
+    leaves_since a _ _ _ _ same (outputs.refused.unmade told_2).leaves)
     (λ told name named free.
     let told_2 = told_as _ _ outputs.kept (told_as _ _ inputs.kept told) in
-    report_behind _ _ _ ((outputs.unmade told_2).rest name free ∙ same name))
+    report_behind _ _ _ ((outputs.refused.unmade told_2).rest name free ∙ same name))
     (λ told name free other.
     let told_2 = told_as _ _ outputs.kept (told_as _ _ inputs.kept told) in
-    (outputs.unmade told_2).rest name free ∙ same name))
+    (outputs.refused.unmade told_2).rest name free ∙ same name))
 
 -- a refused report: what its refusal says is true, and the files hold what it leaves
 pub returns-in_err-report-clause-unopened : goal.returns-in_err-report-clause-unopened
@@ -42,7 +42,7 @@ returns-in_err-report-clause-unopened g c =
     let inputs = c.in_ok-feeds.ensures in
     let outputs = c.in_ok-outlets.ensures in
     let report = c.in_err-report.ensures in
-    let behind = report_late _ report.why in
+    let behind = report_late _ report.refused.why_is in
     let same = same_as _ _ inputs.kept in
     rw (p.1, p.2) (refused_late a _ _ _ (opened_of g.T.In.Feed.state c.in_ok-feeds.feeds)
     behind (late_status _ behind)
@@ -51,19 +51,20 @@ returns-in_err-report-clause-unopened g c =
     ∙ ap (λ (files : FilesState). files.refuses) inputs.kept)
     (λ name leads. inputs.linked name
     (subst (λ (files : FilesState). IsTrue (files.is_open name)) outputs.kept leads))
-    report.refused) inputs.fed
+    report.refused.refused) inputs.opened.fed
     (λ told.
     let told_2 = told_as _ _ outputs.kept (told_as _ _ inputs.kept told) in
-    report_unmade a _ _ _ report.why (still_empty a _ _ (five_empty _ _ _ (outputs.made told_2))
-    (report.left told_2) (report.others told_2)))
+    report_unmade a _ _ _ report.refused.why_is
+    (still_empty a _ _ (five_empty _ _ _ (outputs.made.made told_2))
+    (report.refused.left told_2) (report.others told_2)))
     (λ told name named free.
     let told_2 = told_as _ _ outputs.kept (told_as _ _ inputs.kept told) in
-    let kept = rest_made _ _ _ _ (outputs.made told_2) name free ∙ same name in
-    report_refused _ _ _ report.why (unchanged_or_nothing _ _ _ kept (report.left told_2 name
-    named)))
+    let kept = rest_made _ _ _ _ (outputs.made.made told_2) name free ∙ same name in
+    report_refused _ _ _ report.refused.why_is
+    (unchanged_or_nothing _ _ _ kept (report.refused.left told_2 name named)))
     (λ told name free other.
     let told_2 = told_as _ _ outputs.kept (told_as _ _ inputs.kept told) in
-    report.others told_2 name other ∙ (rest_made _ _ _ _ (outputs.made told_2) name free
+    report.others told_2 name other ∙ (rest_made _ _ _ _ (outputs.made.made told_2) name free
     ∙ same name)))
 
 -- if an output is refused as it is made, no output and no report leads to an input
@@ -107,34 +108,29 @@ returns-clause-opened g c =
     let same = same_as _ _ inputs.kept in
     record {
       ready = record {
-        form = inputs.form;
-        fresh = inputs.fresh;
-        healthy = outputs.healthy;
-        log = is_some_map _ _ ∙ outputs.log;
+        form = inputs.opened.form;
+        fresh = inputs.opened.fresh;
+        healthy = outputs.made.healthy;
+        log = outputs.made.log;
         empty = λ told.
             let told_2 = told_before _ _ report.kept told in
-            outputs.empty (told_before _ _ outputs.kept told_2);
+            outputs.made.empty (told_before _ _ outputs.kept told_2);
         there = λ told.
             let told_2 = told_before _ _ report.kept told in
             let told_1 = told_before _ _ outputs.kept told_2 in
-            still_there _ a.inputs _ _ (inputs.fed (told_before _ _ inputs.kept told_1))
+            still_there _ a.inputs _ _ (inputs.opened.fed (told_before _ _ inputs.kept told_1))
             (λ name some.
             let P : Option (List ℕ) → Type 0 = λ bytes. IsSome bytes in
             report.held told_2 name
             (outputs.names told_1 name (subst P (sym (same name)) some)));
         held = λ told out name named.
             let told_2 = told_before _ _ report.kept told in
-            report.held told_2 name (five_held _ _ _ (outputs.made told_2) out name named);
-        report_there = is_some_map _ _ ∙ report.there;
-        report_fresh = fresh_map _ _ report.fresh;
-        report_empty = λ told.
-            let told_2 = told_before _ _ report.kept told in
-            empty_map _ _ (report.telling told_2) (report.nothing told_2);
-        report_held = λ told. report.made (told_before _ _ report.kept told);
+            report.held told_2 name (five_held _ _ _ (outputs.made.made told_2) out name named);
+        report_made = report.made;
       };
-      fed = inputs.fed;
+      fed = inputs.opened.fed;
       rest = λ told name free other.
           let told_2 = told_as _ _ outputs.kept (told_as _ _ inputs.kept told) in
-          report.others told_2 name other ∙ (rest_made _ _ _ _ (outputs.made told_2) name free
+          report.others told_2 name other ∙ (rest_made _ _ _ _ (outputs.made.made told_2) name free
           ∙ same name);
     }

@@ -17,20 +17,18 @@ returns-clause-held g c = λ told out name named.
     let before = told_before _ _ c.done.ensures.kept told in
     c.done.ensures.held before name (c.requires.held before out name named)
 
--- one more output's file holds what its outlet has taken
+-- one more output's file holds what its outlet has taken, and what is known of the outlet
 pub returns-clause-stored : goal.returns-clause-stored
-returns-clause-stored g c = λ start states at first.
+returns-clause-stored g c =
     let outlet = g.T.Target.Outlet.state c.args.outlet in
     let named = sym c.output_name.ensures ∙ ap (option_map (λ name. name.now)) c.in-Some.is in
-    one_stored (asking_of c.args.request.now) start states c.args.out c.in-Some.name.now outlet
-    (g.T.Files.state c.args.files.now) (g.T.Files.state c.done.new.self) named at
-    c.done.ensures.kept c.done.ensures.stored c.done.ensures.others first
-
--- the failures of one more outlet are known
-pub returns-clause-counted : goal.returns-clause-counted
-returns-clause-counted g c = λ start states at first.
-    let outlet = g.T.Target.Outlet.state c.args.outlet in
-    let named = sym c.output_name.ensures ∙ ap (option_map (λ name. name.now)) c.in-Some.is in
-    one_counted (asking_of c.args.request.now) states c.args.out c.in-Some.name.now outlet start _ _
-    named at
-    c.done.ensures.failed c.done.ensures.sound c.done.ensures.still first
+    record {
+      stored = λ start states at first. one_stored (asking_of c.args.request.now) start states
+          c.args.out c.in-Some.name.now outlet
+          (g.T.Files.state c.args.files.now) (g.T.Files.state c.done.new.self) named at
+          c.done.ensures.kept c.done.ensures.stored c.done.ensures.others first;
+      counted = λ start states at first. one_counted (asking_of c.args.request.now) states
+          c.args.out c.in-Some.name.now outlet start _ _ named at
+          c.done.ensures.failed c.done.ensures.sound c.done.ensures.still first;
+      flushed = c.done.ensures.flushed;
+    }
