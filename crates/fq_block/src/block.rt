@@ -43,7 +43,7 @@ impl Model for Block {
 impl Block {
     ghost use Rattle.std.specs.Prelude.{◌==◌};
     ghost use Rattle.fq_block.specs.Packing.{packed_pairs};
-    ghost use Rattle.fq_block.specs.Blocks.{most_pairs, Numbered, IsOf};
+    ghost use Rattle.fq_block.specs.Blocks.{most_pairs, IsOf};
 
     /// Makes a block with this number and no pairs. It allocates nothing until a pair is pushed.
     pub fn new(alloc: Global, number: u64, encoding: Encoding) -> Block

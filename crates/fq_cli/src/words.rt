@@ -1,8 +1,7 @@
 //! Parses the command line.
 
-ghost use Rattle.std.specs.Prelude.{◌≡◌, List, [], IfOk, IfErr, map, false, codes, option_map, unwrap_or};
+ghost use Rattle.std.specs.Prelude.{◌≡◌, List, [], IfOk, IfErr, map, codes, option_map, unwrap_or};
 ghost use Rattle.clap.specs.Words.{Rule, all_of, app_of, found_of, rows_of, HasKind};
-ghost use Rattle.clap.specs.declared.builder.command.Command.TheViews.{out-Command as fields_of};
 ghost use Rattle.fq_cli.specs.Requests.{asking_of, names_of};
 ghost use Rattle.fq_cli.specs.Words.{default_rule, file_rule, flag_rule, number_rule, option_rule, option_rules, output_rules, steps_rule, trimming_app, pairs_app, interleaved_app, program_app, text_in, number_in, flag_in, is_own_name, is_own_call, explains, inputs_in, asking_in, asked_of, words_fault, asked_pairs, IsArg, IsCommand, AreArgs, AskedFor};
 

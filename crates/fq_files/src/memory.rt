@@ -32,7 +32,7 @@ pub struct MemoryFiles {
 }
 
 impl MemoryFiles {
-    ghost use Rattle.std.specs.Prelude.{◌≡◌, ◌≢◌, ℕ, true, false, Some, None, List, IsTrue, OnOk, OnErr};
+    ghost use Rattle.std.specs.Prelude.{◌≡◌, ◌≢◌, ℕ, false, Some, None, List, IsTrue, OnOk, OnErr};
     ghost use Rattle.std.specs.Option.{option_map};
     ghost use Rattle.fq_files.specs.Holding.{KeepsOthers, KeepsNames, IsUnchanged};
     ghost use Rattle.fq_files.specs.Memory.{bytes_in, state_of};
@@ -92,7 +92,7 @@ impl MemoryFiles {
 }
 
 impl Files for MemoryFiles {
-    ghost use Rattle.std.specs.Prelude.{◌≡◌, ◌≢◌, ◌⊎◌, ℕ, true, false, Some, None, Err, List, IsTrue, IfOk, OnOk, OnErr};
+    ghost use Rattle.std.specs.Prelude.{◌≡◌, ◌≢◌, ◌⊎◌, ℕ, Some, None, Err, List, IsTrue, IfOk, OnOk, OnErr};
     ghost use Rattle.fq_files.specs.Memory.{bytes_in, state_of};
     ghost use Rattle.fq_files.specs.States.{MayRefuse, OnlyOpens};
 

@@ -1,6 +1,6 @@
 //! What both forms of a source of pairs do in each call.
 
-ghost use Rattle.std.specs.Prelude.{◌≡◌, ◌+◌, ◌≤◌, ◌^◌, true, false, Some, None, Ok, Err, IfErr, IsSome, MatchOption};
+ghost use Rattle.std.specs.Prelude.{◌≡◌, ◌+◌, ◌≤◌, true, false, Some, None, Ok, Err, IfErr, IsSome, MatchOption};
 ghost use Rattle.fq_text.specs.Reading.{text_limit};
 ghost use Rattle.fq_text.specs.Sources.{KeepsCount, GivesRecord, EndsText, StopsText, failed_in};
 ghost use Rattle.fq_pair.specs.PairSources.{IsBounded};

@@ -1,6 +1,6 @@
 //! Counts of surviving pairs, and the summary of a run.
 
-ghost use Rattle.std.specs.Prelude.{◌≡◌, ◌++◌, IfOk, OnOk, codes, decimal};
+ghost use Rattle.std.specs.Prelude.{◌≡◌, ◌++◌, IfOk, OnOk};
 ghost use Rattle.std.specs.String.{string_bytes};
 ghost use Rattle.fq_pair.specs.Summaries.{entry, summary_of};
 

@@ -1,6 +1,6 @@
 //! Reads pairs from one interleaved feed, in which mates alternate.
 
-ghost use Rattle.std.specs.Prelude.{◌≡◌, ◌↔◌, Bool, ℕ, ◌+◌, ◌*◌, ◌≤◌, ◌^◌, true, false, Some, None, Ok, Err, IfOk, IfErr, IfSome, IsSome, IsTrue, MatchOption, is_some};
+ghost use Rattle.std.specs.Prelude.{◌≡◌, ◌↔◌, Bool, ◌+◌, ◌*◌, ◌≤◌, true, false, Some, None, Ok, Err, IfOk, IfErr, IfSome, IsSome, IsTrue, MatchOption, is_some};
 ghost use Rattle.std.specs.Option.{IsSomeAnd};
 ghost use Rattle.std.specs.Result.{result_and};
 ghost use Rattle.fq_text.specs.Reading.{text_limit};
@@ -40,7 +40,7 @@ pub struct MixedSource<F: Feed> {
 }
 
 impl<F: Feed> Model for MixedSource<F> {
-    ghost use Rattle.std.specs.Prelude.{◌≡◌, ◌*◌, ◌≤◌, ◌^◌, Some, None, is_some};
+    ghost use Rattle.std.specs.Prelude.{◌≡◌, ◌*◌, ◌≤◌, Some, None, is_some};
     ghost use Rattle.fq_text.specs.Reading.{text_limit};
     ghost use Rattle.fq_pair.specs.PairSources.{IsBounded, pair_of, HasNames, KeepsUnmatched};
     ghost use Rattle.fq_pair.specs.InterleavedSources.{InterleavedSourced, IsReady};
@@ -67,7 +67,7 @@ impl<F: Feed> Model for MixedSource<F> {
 impl<F: Feed> MixedSource<F> {
     ghost use Rattle.fq_pair.specs.Mates.{mates_in, name_lengths};
     ghost use Rattle.fq_pair.specs.PairSources.{IsUnasked};
-    ghost use Rattle.fq_pair.specs.InterleavedSources.{InterleavedSourced, KeepsCounts};
+    ghost use Rattle.fq_pair.specs.InterleavedSources.{KeepsCounts};
 
     /// Makes a source of pairs from a source of records that has not been read from yet.
     pub fn new(source: Source<F>, check_names: bool) -> MixedSource<F>

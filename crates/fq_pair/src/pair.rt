@@ -27,8 +27,6 @@ impl Model for Pair {
 }
 
 impl Pair {
-    ghost use Rattle.fq_pair.specs.Mates.{Mates};
-
     /// Makes a pair of two mates in the same encoding.
     pub fn new(forward: FastqRecord, reverse: FastqRecord) -> Pair
         requires { forward.encoding ≡ reverse.encoding }

@@ -1,6 +1,6 @@
 //! Reads pairs from two feeds.
 
-ghost use Rattle.std.specs.Prelude.{◌≡◌, ◌↔◌, Bool, ℕ, suc, ◌+◌, ◌*◌, ◌≤◌, ◌^◌, true, false, Some, None, Ok, IfOk, Err, IfErr, IfSome, IsSome, IsTrue, MatchOption, is_some};
+ghost use Rattle.std.specs.Prelude.{◌≡◌, ◌↔◌, Bool, ◌+◌, ◌≤◌, true, false, Some, None, Ok, IfOk, Err, IfErr, IfSome, IsSome, IsTrue, MatchOption, is_some};
 ghost use Rattle.std.specs.Option.{IsSomeAnd};
 ghost use Rattle.std.specs.Result.{result_and};
 ghost use Rattle.fq_text.specs.Reading.{text_limit};
@@ -37,7 +37,7 @@ pub struct PairSource<F: Feed, G: Feed> {
 }
 
 impl<F: Feed, G: Feed> Model for PairSource<F, G> {
-    ghost use Rattle.std.specs.Prelude.{◌≡◌, ◌≤◌, ◌^◌, None, is_some};
+    ghost use Rattle.std.specs.Prelude.{◌≡◌, ◌≤◌, None, is_some};
     ghost use Rattle.fq_text.specs.Reading.{text_limit};
     ghost use Rattle.fq_pair.specs.PairSources.{PairSourced, pair_of, IsBounded, IsReady, HasNames, KeepsUnmatched};
 
@@ -65,7 +65,7 @@ impl<F: Feed, G: Feed> Model for PairSource<F, G> {
 
 impl<F: Feed, G: Feed> PairSource<F, G> {
     ghost use Rattle.fq_pair.specs.Mates.{mates_in, name_lengths};
-    ghost use Rattle.fq_pair.specs.PairSources.{PairSourced, IsUnasked, KeepsCounts};
+    ghost use Rattle.fq_pair.specs.PairSources.{IsUnasked, KeepsCounts};
 
     /// Makes a source of pairs from two sources of records in the same encoding, which have not
     /// been read from yet.

@@ -49,7 +49,7 @@ impl Model for Texts {
 }
 
 impl Texts {
-    ghost use Rattle.fq_pair.specs.Outputs.{Outputs, no_texts, joined, texts_of, text_of};
+    ghost use Rattle.fq_pair.specs.Outputs.{no_texts, joined, texts_of, text_of};
 
     /// Makes empty texts, and counts of 0. It allocates nothing.
     pub fn new(alloc: Global) -> Texts

@@ -1,6 +1,6 @@
 //! Counts of bases and of their scores.
 
-ghost use Rattle.std.specs.Prelude.{◌≡◌, ◌≤◌, ℕ, true, ◌+◌, ◌-◌, ◌++◌, length, take, drop};
+ghost use Rattle.std.specs.Prelude.{◌≡◌, ◌≤◌, true, ◌-◌, ◌++◌, length, take, drop};
 ghost use Rattle.std.specs.Prelude.{sum, OnOk};
 ghost use Rattle.std.specs.List.{list_all};
 ghost use Rattle.fq_text.specs.Grammar.{limit};

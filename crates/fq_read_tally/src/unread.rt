@@ -13,7 +13,7 @@ pub(crate) enum Table<'a> {
 }
 
 impl<'a> Table<'a> {
-    ghost use Rattle.std.specs.Prelude.{◌≡◌, ◌≤◌, ◌<◌, ℕ, length, get_or};
+    ghost use Rattle.std.specs.Prelude.{◌≡◌, ◌<◌, length, get_or};
     ghost use Rattle.fq_read_tally.specs.Unreads.{counts_of};
 
     // How many rows it has.

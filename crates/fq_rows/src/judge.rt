@@ -10,7 +10,7 @@
 //!
 //! `do: judge` does so by the words of `way`. Answer: `whole`, whether the run ended whole.
 
-ghost use Rattle.std.specs.Prelude.{◌≡◌, ◌<◌, ◌^◌, false, [], IfSome};
+ghost use Rattle.std.specs.Prelude.{◌≡◌, false, [], IfSome};
 ghost use Rattle.fq_run.specs.Devices.{outlet_states, AreHealthy};
 
 use anyhow::{Result, bail};

@@ -29,7 +29,7 @@ pub(crate) struct Lanes {
 
 impl Lanes {
     ghost use Rattle.std.specs.Prelude.{◌≡◌, IfOk};
-    ghost use Rattle.fq_run.specs.Threads.{AreLaidOut, IsReady};
+    ghost use Rattle.fq_run.specs.Threads.{AreLaidOut};
     ghost use Rattle.fq_run_core.specs.Totals.{no_total};
 
     /// Makes all lanes, and allocates the total.

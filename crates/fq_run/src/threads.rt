@@ -1,6 +1,6 @@
 //! A run on several threads, over any source of pairs.
 
-ghost use Rattle.std.specs.Prelude.{◌≡◌, ◌≤◌, ◌^◌, true, IfOk, vec_len};
+ghost use Rattle.std.specs.Prelude.{◌≡◌, ◌≤◌, true, IfOk};
 ghost use Rattle.fq_text.specs.Reading.{text_limit};
 ghost use Rattle.fq_run.specs.Confirming.{CanConfirm};
 ghost use Rattle.fq_run_core.specs.Totals.{no_total};

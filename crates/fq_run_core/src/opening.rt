@@ -1,6 +1,6 @@
 //! Opens the sources of the pairs of a run.
 
-ghost use Rattle.std.specs.Prelude.{◌≡◌, ◌≤◌, ◌*◌, ◌^◌, [], false, None, IfOk, IfErr};
+ghost use Rattle.std.specs.Prelude.{◌≡◌, ◌≤◌, ◌*◌, [], false, None, IfOk, IfErr};
 ghost use Rattle.fq_text.specs.Reading.{text_limit};
 ghost use Rattle.fq_pair.specs.Forms.{TwoTexts, InterleavedText};
 ghost use Rattle.fq_pair.specs.Walks.{source_state, interleaved_state};

@@ -23,7 +23,7 @@ pub struct Outlets<O> {
 }
 
 impl<O: Outlet> Outlets<O> {
-    ghost use Rattle.std.specs.Prelude.{◌≡◌, ◌<◌, None};
+    ghost use Rattle.std.specs.Prelude.{◌≡◌, None};
     ghost use Rattle.fq_run_core.specs.Devices.{outlet_states, AreHealthy};
     ghost use Rattle.fq_run_core.specs.Sending.{Sends, Flushes};
     ghost use Rattle.fq_run_core.specs.Writing.{FlushesAfter};

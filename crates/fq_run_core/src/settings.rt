@@ -59,7 +59,6 @@ pub struct Settings {
 }
 
 impl Model for Settings {
-    ghost use Rattle.std.specs.Prelude.{◌≤◌, ◌^◌};
     ghost use Rattle.fq_run_core.specs.Choices.{Choices, AreInRange};
 
     ghost Value = { Choices };
@@ -95,7 +94,7 @@ impl Model for Settings {
 }
 
 impl Settings {
-    ghost use Rattle.fq_run_core.specs.Choices.{Choices, AreInRange, checked, tallying, usual};
+    ghost use Rattle.fq_run_core.specs.Choices.{checked, tallying, usual};
 
     /// The program's default settings, to change and then to [`build`](SettingsBuilder::build):
     /// names are compared; 4 workers, blocks of 1,024 pairs, lanes of 4 blocks, and read calls of

@@ -44,7 +44,7 @@ impl Model for SettingsBuilder {
 
 impl SettingsBuilder {
     ghost use Rattle.std.specs.Prelude.{◌≡◌};
-    ghost use Rattle.fq_run_core.specs.Choices.{Choices, checked, usual};
+    ghost use Rattle.fq_run_core.specs.Choices.{checked, usual};
 
     // The program's default settings, with this encoding and these steps.
     pub(crate) fn new(encoding: Encoding, steps: Steps) -> SettingsBuilder

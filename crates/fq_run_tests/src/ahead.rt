@@ -1,6 +1,6 @@
 //! How far a run reads ahead.
 
-ghost use Rattle.std.specs.Prelude.{◌≡◌, ◌+◌, ◌<◌, ◌^◌, false, []};
+ghost use Rattle.std.specs.Prelude.{false, []};
 
 use super::frame::{SEVEN_COUNTS, assert_ended, forward_feed, outlets, seven_pairs};
 use fq_run::Outcome;

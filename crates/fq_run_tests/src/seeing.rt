@@ -1,6 +1,6 @@
 //! Threads that must see each other.
 
-ghost use Rattle.std.specs.Prelude.{◌≡◌, ◌<◌, ◌+◌, ◌^◌, false, [], IfOk};
+ghost use Rattle.std.specs.Prelude.{◌≡◌, false, [], IfOk};
 ghost use Rattle.fq_run_core.specs.Devices.{outlet_states, AreHealthy};
 
 use super::frame::{

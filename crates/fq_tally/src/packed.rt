@@ -1,6 +1,6 @@
 //! A tally and the result of the work on a block, packed to wait in a lane.
 
-ghost use Rattle.std.specs.Prelude.{◌≡◌, IfOk, OnOk};
+ghost use Rattle.std.specs.Prelude.{◌≡◌, OnOk};
 
 use crate::done::Done;
 use crate::tally::Tally;

@@ -1,6 +1,6 @@
 //! The buffer of bytes that were read and not used yet.
 
-ghost use Rattle.std.specs.Prelude.{◌≡◌, ℕ, ◌+◌, ◌-◌, ◌<◌, ◌≤◌, [], length, take, drop, IfOk, OnOk, MatchResult};
+ghost use Rattle.std.specs.Prelude.{◌≡◌, ◌+◌, ◌-◌, ◌<◌, ◌≤◌, [], length, take, drop, IfOk, OnOk, MatchResult};
 ghost use Rattle.fq_text.specs.Lines.{without_cr};
 ghost use Rattle.fq_text.specs.Reading.{chunk_limit, Moved, MovesOr, fails};
 
@@ -89,8 +89,6 @@ impl Model for Buffer {
 }
 
 impl Buffer {
-    ghost use Rattle.fq_text.specs.Reading.{Buffered};
-
     /// A buffer with no bytes in hand and room for a chunk.
     pub(crate) fn new(alloc: Global, chunk: usize) -> Result<Buffer, AllocError>
         ensures { IfOk result (λ b. b ≡ record { line = []; in_hand = [] }) }

@@ -60,7 +60,7 @@ pub struct ScriptFeed {
 }
 
 impl Model for ScriptFeed {
-    ghost use Rattle.std.specs.Prelude.{◌<◌, ◌≤◌, ◌^◌, drop, length};
+    ghost use Rattle.std.specs.Prelude.{◌<◌, ◌≤◌, drop, length};
     ghost use Rattle.fq_text.specs.Devices.{Coming};
 
     ghost Value = { Coming };

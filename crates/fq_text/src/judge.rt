@@ -1,6 +1,6 @@
 //! Checks of one line of a record. The length of the line is checked where it is read.
 
-ghost use Rattle.std.specs.Prelude.{◌≡◌, ◌+◌, ◌<◌, ◌≤◌, ℕ, true, length};
+ghost use Rattle.std.specs.Prelude.{◌≡◌, ◌≤◌, true, length};
 ghost use Rattle.std.specs.List.{list_all};
 ghost use Rattle.fq_text.specs.Grammar.{limit, plus_sign, is_base, begins_with as begins, title_fault as fault_of_title, sequence_fault as fault_of_sequence, plus_fault as fault_of_plus, quality_fault as fault_of_quality};
 

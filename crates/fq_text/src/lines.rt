@@ -1,9 +1,9 @@
 //! The lines of a feed, read as they are needed.
 
-ghost use Rattle.std.specs.Prelude.{◌≡◌, ℕ, ◌+◌, ◌-◌, ◌*◌, ◌<◌, ◌≤◌, Bool, true, false, List, [], ◌∷◌, ◌++◌, length, take, drop, slice_index, IsTrue, Ok, Err, IfOk, IfErr, IfSome, OnOk, OnErr, is_ok, if◌then◌else◌, MatchResult};
+ghost use Rattle.std.specs.Prelude.{◌≡◌, ◌+◌, ◌*◌, ◌<◌, ◌≤◌, true, false, [], length, take, drop, IsTrue, IfOk, IfErr, IfSome, MatchResult};
 ghost use Rattle.fq_text.specs.Lines.{without_cr};
 ghost use Rattle.fq_text.specs.Grammar.{limit};
-ghost use Rattle.fq_text.specs.Reading.{chunk_limit, Lined, IsSound, Reads, Advances, Halts, fails};
+ghost use Rattle.fq_text.specs.Reading.{chunk_limit, Lined, IsSound, Advances, Halts, fails};
 
 use crate::buffer::Buffer;
 use crate::fault::{Fault, ReadError};
@@ -49,7 +49,7 @@ impl<F: Feed> Model for LineReader<F> {
 
 impl<F: Feed> LineReader<F> {
     ghost use Rattle.std.specs.Prelude.{◌^◌};
-    ghost use Rattle.fq_text.specs.Reading.{LacksLine, Fills, NoLf, IsLineEnd};
+    ghost use Rattle.fq_text.specs.Reading.{Fills, NoLf, IsLineEnd};
     ghost use Rattle.fq_text.specs.declared.fault.Fault.TheVariants.{TooLong};
 
     pub(crate) fn new(feed: F, buffer: Buffer, chunk: usize, max_reads: u64) -> LineReader<F>

@@ -1,6 +1,6 @@
 //! Where texts go: a device that takes bytes, and the sending of a whole text to it.
 
-ghost use Rattle.std.specs.Prelude.{◌≡◌, ◌≢◌, ◌+◌, ◌-◌, ◌<◌, ◌≤◌, min, true, [], ◌++◌, length, take, drop, false, IsTrue, IsErr, IfOk, IfErr, OnOk, OnErr, is_ok, is_err, if◌then◌else◌};
+ghost use Rattle.std.specs.Prelude.{◌≡◌, ◌≢◌, ◌+◌, ◌-◌, ◌<◌, ◌≤◌, min, true, [], ◌++◌, length, take, false, IsTrue, IsErr, IfOk, IfErr, OnOk, OnErr, is_ok, is_err, if◌then◌else◌};
 ghost use Rattle.fq_text.specs.Devices.{OutletState};
 
 use std::alloc::Global;

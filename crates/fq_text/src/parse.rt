@@ -1,12 +1,12 @@
 //! Reads a record: as a whole if it is in hand as four unwrapped lines, otherwise line by line.
 
-ghost use Rattle.std.specs.Prelude.{◌≡◌, ◌+◌, ◌*◌, ◌<◌, ◌≤◌, ℕ, true, List, [], ◌∷◌, length, drop, MatchResult, IfOk, IfSome, Ok, Some, None};
-ghost use Rattle.fq_text.specs.Grammar.{limit, begins_with, front, Read, Found};
+ghost use Rattle.std.specs.Prelude.{◌≡◌, ◌+◌, ◌<◌, ◌≤◌, [], length, drop, MatchResult, IfOk, IfSome, Ok, Some, None};
+ghost use Rattle.fq_text.specs.Grammar.{limit, front, Found};
 ghost use Rattle.fq_text.specs.Reading.{IsSound, fails};
 ghost use Rattle.fq_text.specs.Unwrapped.{unwrapped, lines_len, BeginsWithRecord};
 ghost use Rattle.fq_text.specs.declared.parse.Place.TheVariants.{Joined};
 ghost use Rattle.fq_text.specs.declared.unwrapped.Shape.{Shape};
-ghost use Rattle.fq_text.specs.Phases.{in_sequence, at_plus, in_quality, Goes, Ends, Stops, FindsTitle, FindsPlus, FindsRecord, FindsRest};
+ghost use Rattle.fq_text.specs.Phases.{in_sequence, in_quality, Goes, Stops, FindsTitle, FindsPlus, FindsRecord, FindsRest};
 ghost use Rattle.fq_text.specs.Phases.{FindsNext, current_at, IsPlace};
 
 use crate::encoding::Encoding;

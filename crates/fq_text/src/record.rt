@@ -35,7 +35,7 @@ impl Model for Parts {
 }
 
 impl Parts {
-    ghost use Rattle.fq_text.specs.Grammar.{Read, IsLawful};
+    ghost use Rattle.fq_text.specs.Grammar.{IsLawful};
 
     /// Empty parts.
     pub(crate) fn new(alloc: Global, encoding: Encoding) -> Parts
@@ -156,7 +156,7 @@ impl Model for FastqRecord {
 }
 
 impl FastqRecord {
-    ghost use Rattle.fq_text.specs.Grammar.{Read, IsLawful};
+    ghost use Rattle.fq_text.specs.Grammar.{IsLawful};
 
     /// A record whose parts are all empty, for [`copy_from`](FastqRecord::copy_from). It asks for
     /// no memory.

@@ -1,6 +1,6 @@
 //! Reads the records of a feed.
 
-ghost use Rattle.std.specs.Prelude.{◌≡◌, ℕ, ◌+◌, ◌-◌, ◌*◌, ◌<◌, ◌≤◌, ◌^◌, [], true, false, Some, None, Ok, Err, IfOk, IfErr, IfSome, IsSome, MatchOption};
+ghost use Rattle.std.specs.Prelude.{◌≡◌, ◌+◌, ◌-◌, ◌*◌, ◌<◌, ◌≤◌, ◌^◌, [], true, false, Some, None, Ok, Err, IfOk, IfErr, IfSome, IsSome, MatchOption};
 
 use crate::buffer::Buffer;
 use crate::encoding::Encoding;
@@ -40,7 +40,7 @@ pub struct Source<F: Feed> {
 }
 
 impl<F: Feed> Model for Source<F> {
-    ghost use Rattle.std.specs.Prelude.{◌≡◌, ◌+◌, ◌*◌, ◌<◌, ◌≤◌, ◌^◌, length, None, IfSome};
+    ghost use Rattle.std.specs.Prelude.{◌≡◌, ◌+◌, ◌<◌, ◌≤◌, ◌^◌, length, None, IfSome};
     ghost use Rattle.fq_text.specs.Sources.{Sourced};
     ghost use Rattle.fq_text.specs.Grammar.{IsLawful};
     ghost use Rattle.fq_text.specs.Reading.{chunk_limit, IsSound};
@@ -74,7 +74,7 @@ impl<F: Feed> Source<F> {
     ghost use Rattle.fq_text.specs.Reading.{chunk_limit, text_limit};
     ghost use Rattle.fq_text.specs.Grammar.{IsLawful};
     ghost use Rattle.fq_text.specs.declared.fault.TextFault.TheVariants.{OutOfMemory};
-    ghost use Rattle.fq_text.specs.Sources.{Sourced, answer_of, more_of, KeepsCount, GivesRecord, EndsText, StopsText, failed_in};
+    ghost use Rattle.fq_text.specs.Sources.{answer_of, more_of, KeepsCount, GivesRecord, EndsText, StopsText, failed_in};
 
     /// A source of the records of a feed's text. It makes at most `max_reads` read calls, each for
     /// at most `chunk` bytes.

@@ -1,7 +1,7 @@
 //! Finds a record of four unwrapped lines that is whole in hand. Most files hold no other records,
 //! and such a record is borrowed from the buffer without a copy.
 
-ghost use Rattle.std.specs.Prelude.{◌≡◌, ◌↔◌, ◌+◌, ◌*◌, ◌-◌, ◌≤◌, ◌⊎◌, ℕ, None, take, drop, length, slice_index, IsTrue, IfSome};
+ghost use Rattle.std.specs.Prelude.{◌≡◌, ◌↔◌, ◌+◌, ◌≤◌, ℕ, None, take, drop, length, IsTrue, IfSome};
 ghost use Rattle.fq_text.specs.Grammar.{limit, IsLawful};
 ghost use Rattle.fq_text.specs.Reading.{NoLf, IsLineEnd};
 ghost use Rattle.fq_text.specs.Unwrapped.{unwrapped, lines_len, plus_place, EndsAt, IsFirstLine, DoLinesEnd, IsFourLines, IsShape, BeginsWithRecord};

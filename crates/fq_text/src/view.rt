@@ -74,7 +74,7 @@ impl<'a> Model for ReadView<'a> {
 }
 
 impl<'a> ReadView<'a> {
-    ghost use Rattle.fq_text.specs.Grammar.{Read, IsLawful};
+    ghost use Rattle.fq_text.specs.Grammar.{IsLawful};
 
     /// A read of these parts. They must be valid, which [`is_lawful`] tests.
     pub fn new(encoding: Encoding, title: &'a [u8], seq: &'a [u8], qual: &'a [u8]) -> ReadView<'a>

@@ -1,6 +1,6 @@
 //! Which bases a step keeps.
 
-ghost use Rattle.std.specs.Prelude.{true, ◌≡◌, ℕ, ◌+◌, ◌-◌, ◌<◌, ◌≤◌, ◌^◌, nat_le, length, sum, take, drop, slice_index};
+ghost use Rattle.std.specs.Prelude.{true, ◌≡◌, ◌<◌, length};
 ghost use Rattle.std.specs.List.{list_all};
 ghost use Rattle.fq_text.specs.Scores.{is_scored};
 ghost use Rattle.fq_trim.specs.Keeping.{scores, keeps, IsBetween, is_in_range};

@@ -1,6 +1,6 @@
 //! Low scores at the end of a read.
 
-ghost use Rattle.std.specs.Prelude.{true, ◌≡◌, ℕ, ◌+◌, ◌-◌, ◌<◌, ◌≤◌, length, slice_index};
+ghost use Rattle.std.specs.Prelude.{true, ◌≡◌, ℕ, ◌-◌, ◌<◌, ◌≤◌, length, slice_index};
 ghost use Rattle.std.specs.List.{list_all};
 ghost use Rattle.fq_text.specs.Scores.{is_scored};
 ghost use Rattle.fq_trim.specs.Keeping.{scores};

@@ -26,7 +26,7 @@ pub struct Steps {
 }
 
 impl Model for Steps {
-    ghost use Rattle.std.specs.Prelude.{List, ◌≡◌, ◌++◌, ◌-◌, length, take, replicate};
+    ghost use Rattle.std.specs.Prelude.{List, ◌++◌, ◌-◌, length, take, replicate};
     ghost use Rattle.fq_trim.specs.declared.step.Step.{Step};
     ghost use Rattle.fq_trim.specs.declared.step.Step.TheVariants.{ToPhred33};
 

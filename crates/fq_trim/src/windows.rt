@@ -1,7 +1,7 @@
 //! The windows of a read, and where the first bad one ends. A window is bad if its scores sum to
 //! less than its width times the score asked for; otherwise it is good.
 
-ghost use Rattle.std.specs.Prelude.{true, ◌≡◌, ℕ, ◌+◌, ◌-◌, ◌*◌, ◌<◌, ◌≤◌, ◌^◌, nat_le, length, map, min, sum, take, drop, slice_index, IfSome, IfOk, IfErr};
+ghost use Rattle.std.specs.Prelude.{true, ◌≡◌, ℕ, ◌+◌, ◌-◌, ◌*◌, ◌<◌, ◌≤◌, ◌^◌, nat_le, length, min, sum, take, drop, slice_index, IfOk, IfErr};
 ghost use Rattle.std.specs.List.{list_all};
 ghost use Rattle.fq_text.specs.Scores.{is_scored};
 ghost use lib.Lanes.{zip2};

@@ -1,6 +1,6 @@
 //! The worker of a threaded run.
 
-ghost use Rattle.std.specs.Prelude.{◌≡◌, ◌⊎◌, Some, Err, true, false, IsTrue, IfOk, OnOk};
+ghost use Rattle.std.specs.Prelude.{◌≡◌, ◌⊎◌, Some, Err, false, IsTrue, IfOk, OnOk};
 ghost use Rattle.std.specs.Arc.{arc_value};
 ghost use Rattle.fq_lane.specs.History.{with_item};
 ghost use Rattle.fq_work.specs.Replies.{done_of, reply_to};

@@ -9,7 +9,7 @@
 //! `number`, the number of pairs; `summary`; `failures`, how often each feed failed; `cleared`, the
 //! counts after the texts are cleared.
 
-ghost use Rattle.std.specs.Prelude.{◌≡◌, ◌<◌, ◌≤◌, ◌^◌, true, Ok, IfOk, IsSome};
+ghost use Rattle.std.specs.Prelude.{◌≡◌, true, Ok, IfOk, IsSome};
 ghost use Rattle.fq_pair.specs.PairSources.{IsUnasked};
 
 use crate::answers::Answers;

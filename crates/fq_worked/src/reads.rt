@@ -10,7 +10,7 @@
 //! `do: copy` copies the first record of `text`, which is lent, and goes on to the second. Answers:
 //! `kept`, the copy into a record that exists already, and `copy`, the copy into a new one.
 
-ghost use Rattle.std.specs.Prelude.{◌≡◌, ◌<◌, ◌≤◌, ◌^◌, false, [], IfOk};
+ghost use Rattle.std.specs.Prelude.{◌≡◌, false, [], IfOk};
 
 use crate::answers::Answers;
 use crate::encoding_in;

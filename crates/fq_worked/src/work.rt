@@ -17,7 +17,7 @@
 //! its `counts`, and `tallied`, the number of forward reads that were tallied; `used blocks`, the
 //! numbers of those that came back; `used texts taken`; `asked`, how often the gate was asked.
 
-ghost use Rattle.std.specs.Prelude.{◌≡◌, ◌≤◌, true, IfOk, OnOk};
+ghost use Rattle.std.specs.Prelude.{◌≡◌, true, IfOk, OnOk};
 
 use crate::answers::Answers;
 use crate::blocks::{pairs_in, push_next, push_row};

@@ -1,6 +1,6 @@
 //! The lanes of all workers, before the threads start.
 
-ghost use Rattle.std.specs.Prelude.{◌≡◌, ◌≤◌, IfOk};
+ghost use Rattle.std.specs.Prelude.{◌≤◌, IfOk};
 ghost use Rattle.fq_run.specs.lanes.Laying.{IsLaid, AreFor};
 
 use crate::collector::ends::CollectorEnds;
@@ -47,7 +47,7 @@ pub(crate) fn lay(alloc: Global, workers: usize, depth: usize) -> Result<Seats, 
 }
 
 impl Seats {
-    ghost use Rattle.std.specs.Prelude.{◌≡◌, ◌≤◌, ◌<◌, ◌+◌, IfOk, OnOk, vec_len};
+    ghost use Rattle.std.specs.Prelude.{◌≤◌, ◌+◌, IfOk, OnOk, vec_len};
     ghost use Rattle.fq_run.specs.lanes.Laying.{IsLaid, AreFor, HaveRoom, KeepRoom};
 
     // No lanes yet, but room for those of this number of workers.
