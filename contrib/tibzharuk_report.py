@@ -18,7 +18,9 @@ Form = Callable[[Any, str], None]  # takes a value and the name of its place, an
 SIDES = ("forward", "reverse")
 PAIRS = ("both_surviving", "forward_only_surviving", "reverse_only_surviving", "dropped")
 COUNTS = ("reads", "bases", "q20_bases", "q30_bases", "score_sum", "gc_bases", "n_bases")
+# (made by packaging/made.py: names-of-positions)
 POSITIONS = ("bases", "score_sum", "q30_bases", "a", "c", "g", "t", "n")
+# (end of names-of-positions)
 LAST = 10_001  # means this many or more, in lengths, positions and removed bases
 ROWS = {"lengths": LAST, "mean_scores": 255, "gc_percents": 100}
 NEWEST_SCHEMA = 2

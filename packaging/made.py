@@ -1,7 +1,7 @@
 #!/usr/bin/env python3
-"""Makes the parts of files that follow from what fq_prog prints with --help and from
-docs/report.schema.json: of the manual page, the completions, the description for CWL, and the
-tables of docs/FORMAT.md. A part lies between the lines 'made by packaging/made.py: NAME' and
+"""Makes the parts of files that follow from what fq_prog does and from docs/report.schema.json: of
+the manual page, the completions, the description for CWL, docs/FORMAT.md and what reads reports. A
+part lies between the lines 'made by packaging/made.py: NAME' and
 'end of NAME', which are comments of the file."""
 
 import argparse
@@ -10,14 +10,16 @@ import json
 import re
 import subprocess
 import sys
+import tempfile
 from pathlib import Path
-from typing import Any, Callable, Dict, Iterator, List, NamedTuple, Tuple
+from typing import Any, Callable, Dict, Iterable, Iterator, List, NamedTuple, Tuple
 
 from man_page import plain, sentences
 
 TREE = Path(__file__).resolve().parent.parent
 FILES = ['man/fq_prog.1', 'completions/fq_prog.bash', 'completions/fq_prog.fish',
-         'completions/_fq_prog', 'workflow/cwl/trim_gz.cwl', 'docs/FORMAT.md']
+         'completions/_fq_prog', 'workflow/cwl/trim_gz.cwl', 'docs/FORMAT.md',
+         'contrib/tibzharuk_report.py']
 PART = re.compile(r'(?ms)^([^\n]*made by packaging/made\.py: ([a-z-]+)[^\n]*\n)'
                   r'.*?^([^\n]*end of \2\b[^\n]*)$')
 
@@ -282,6 +284,54 @@ def field_table(properties: Dict[str, Any]) -> Iterator[str]:
     yield ''
 
 
+# ---- Reports
+
+# The pairs of the example: the bases and the quality of each mate.
+EXAMPLE = (('GcANn', '#5?>I'), ('ACG', 'III')), (('gTC', '#4~'), ('TTTT', 'IIII'))
+
+
+def example_report(program: str) -> Any:
+    """The report of the example's pairs under LEADING:3 MINLEN:3."""
+    with tempfile.TemporaryDirectory() as room:
+        for name, mates in zip(('r1.fq', 'r2.fq'), EXAMPLE):
+            Path(room, name).write_text(''.join(
+                f'@p{number}\n{seq}\n+\n{qual}\n' for number, (seq, qual) in enumerate(mates)))
+        subprocess.run([program, 'PE', '--trimlog', 'trim.log', '--report', 'report', 'r1.fq', 'r2.fq',
+                        'fp.fq', 'fu.fq', 'rp.fq', 'ru.fq', 'LEADING:3', 'MINLEN:3'],
+                       cwd=room, check=True, stdout=subprocess.DEVNULL)
+        return json.loads(Path(room, 'report').read_text())
+
+
+def laid_out(value: Any, room: int) -> List[str]:
+    """JSON in lines of at most `room` characters, with a line for each field that needs several."""
+    flat = json.dumps(value)
+    if len(flat) <= room or not isinstance(value, dict):
+        return [flat]
+    lines: List[str] = []
+    full = True
+    for name, field in value.items():
+        short = f'{json.dumps(name)}: {json.dumps(field)},'
+        if len(short) >= room:
+            lines += [f' {json.dumps(name)}:', *(f'  {line}' for line in laid_out(field, room - 3))]
+            lines[-1] += ','
+        elif full or len(lines[-1]) + 1 + len(short) > room:
+            lines.append(f' {short}')
+        else:
+            lines[-1] += f' {short}'
+        full = len(short) >= room
+    return ['{' + lines[0][1:], *lines[1:-1], lines[-1][:-1] + '}']
+
+
+def indented(lines: List[str]) -> List[str]:
+    """A block of code of a document."""
+    return ['', *(f'    {line}' for line in lines), '']
+
+
+def tuple_of(name: str, words: Iterable[str]) -> List[str]:
+    """A tuple of words in Python."""
+    return [f'{name} = ({", ".join(json.dumps(word) for word in words)})']
+
+
 # ---- All parts
 
 def makers(program: str) -> Makers:
@@ -313,6 +363,8 @@ def makers(program: str) -> Makers:
         'fields-of-a-side': lambda: list(field_table(inner['side']['properties'])),
         'fields-of-reads': lambda: list(field_table(inner['reads']['properties'])),
         'lists-of-positions': lambda: list(field_table(inner['positions']['properties'])),
+        'names-of-positions': lambda: tuple_of('POSITIONS', inner['positions']['properties']),
+        'example-of-a-report': lambda: indented(laid_out(example_report(program), 96)),
     }
 
 

@@ -6,7 +6,7 @@ import os
 import re
 
 TREE = os.path.dirname(os.path.dirname(os.path.dirname(os.path.abspath(__file__))))
-EXAMPLE = re.compile(r"\n\n(The report of two pairs .*?)\n\n((?:    .*\n)+)", re.DOTALL)
+EXAMPLE = re.compile(r"\n\n(The report of two pairs .*?)\n\n((?:    [^\n]*\n)+)", re.DOTALL)
 
 
 def main():

@@ -7,7 +7,7 @@ use Rattle.std.proofs.lemmas.List.Sums.{sum_by-cons, sum_by-append}
 use Rattle.fq_trim.specs.Sums.{capped_sum}
 use Rattle.fq_read_tally.specs.Letters.{is_c, is_g, is_gc}
 use Rattle.fq_read_tally.specs.Rows.{rows_plus}
-use Rattle.fq_read_tally.specs.Columns.{by_position, one_if}
+use Rattle.fq_read_tally.specs.Counting.{by_position, one_if}
 use Rattle.fq_in_step.specs.ReportLists.{AddUpTo, most}
 use Rattle.fq_in_step.proofs.ReportLemmas.{sum-cons}
 

@@ -2,7 +2,7 @@
 use Rattle.std.proofs.Common.{◌≡◌, ◌+◌, ℕ, Bool, true, false, not, ◌&&◌, cond, List, [], ◌∷◌, length, map, sum, count_by, fold, min, max, nat_le, refl, sym, subst, ◌∙◌, arith}
 use Rattle.std.specs.List.{All}
 use Rattle.std.proofs.lemmas.List.{length-map}
-use Rattle.std.proofs.lemmas.List.Elements.{All-head, All-tail, All-nil, All-cons}
+use Rattle.std.proofs.lemmas.List.Elements.{All-head, All-tail}
 use Rattle.fq_text.specs.declared.encoding.Encoding.{Encoding}
 use Rattle.fq_text.specs.Grammar.{Read}
 use Rattle.fq_trim.specs.declared.step.Step.{Step}
@@ -13,12 +13,14 @@ use Rattle.fq_pair.specs.Mates.{Mates}
 use Rattle.fq_read_tally.specs.declared.columns.Columns.{Columns}
 use Rattle.fq_read_tally.specs.declared.reads.ReadsTally.{ReadsTally}
 use Rattle.fq_read_tally.specs.declared.side.SideTally.{SideTally}
-use Rattle.fq_read_tally.specs.Letters.{is_a, is_c, is_g, is_t, is_n, is_gc}
+use Rattle.fq_read_tally.specs.Letters.{is_c, is_g, is_n, is_gc}
 use Rattle.fq_read_tally.specs.Rows.{with_one, row_of, rows_plus}
-use Rattle.fq_read_tally.specs.Columns.{by_position, one_if, no_columns, columns_of, columns_plus}
+use Rattle.fq_read_tally.specs.Counting.{by_position, one_if}
+use Rattle.fq_read_tally.specs.Columns.{no_columns, columns_of, columns_plus}
 use Rattle.fq_read_tally.specs.Courses.{Part, whole, alone, course, survives}
 use Rattle.fq_read_tally.specs.SideTallies.{with_part, with_read, no_reads}
 use Rattle.fq_read_tally.specs.SideColumns.{SideColumns, with_before, with_after}
+use Rattle.fq_read_tally.proofs.ColumnLemmas.{OfEach, each_of_none, each_with_read, each_listed}
 use Rattle.fq_read_tally.proofs.LeftLaws.{left_as_kept}
 use Rattle.fq_read_tally.proofs.RowLemmas.{length-rows_plus}
 use Rattle.fq_tally.specs.declared.tally.Tally.{Tally}
@@ -75,51 +77,16 @@ list_longer longest n xs ns is size =
     let placed = length_placed ns in
     omega arith
 
--- the eight lists, one by one
-record Lengths (longest : ℕ) (cs : Columns) : Type 0 where
-  bases : length cs.bases ≡ min longest 10001
-  score_sum : length cs.score_sum ≡ min longest 10001
-  q30_bases : length cs.q30_bases ≡ min longest 10001
-  a : length cs.a ≡ min longest 10001
-  c : length cs.c ≡ min longest 10001
-  g : length cs.g ≡ min longest 10001
-  t : length cs.t ≡ min longest 10001
-  n : length cs.n ≡ min longest 10001
+-- each list by position is as long as the longest read, but has at most 10,001 items
+abbrev Lengths : ℕ → Columns → Type 0
+Lengths longest cs = OfEach (λ list. length list ≡ min longest 10001) cs
 
 lengths_more : (part : Part) (t : ReadsTally) (cs : Columns) → Matches part → Lengths t.longest cs →
     Lengths (max t.longest (length part.seq)) (columns_plus cs (columns_of part))
 lengths_more part t cs same are =
-    let seq = part.seq in
-    let q = scores part.encoding part.qual in
-    let more : (xs ns : List ℕ) → length xs ≡ min t.longest 10001 → length ns ≡ length seq →
-    length (rows_plus xs (by_position ns)) ≡ min (max t.longest (length seq)) 10001 =
-    λ xs ns is size. list_longer t.longest (length seq) xs ns is size in
-    let scored : length q ≡ length seq = length-map part.qual _ ∙ same in
-    record {
-      bases = more cs.bases (map (λ _. 1) seq) are.bases (length-map seq _);
-      score_sum = more cs.score_sum q are.score_sum scored;
-      q30_bases = more cs.q30_bases (map (one_if (nat_le 30)) q) are.q30_bases (length-map q _
-          ∙ scored);
-      a = more cs.a (map (one_if is_a) seq) are.a (length-map seq _);
-      c = more cs.c (map (one_if is_c) seq) are.c (length-map seq _);
-      g = more cs.g (map (one_if is_g) seq) are.g (length-map seq _);
-      t = more cs.t (map (one_if is_t) seq) are.t (length-map seq _);
-      n = more cs.n (map (one_if is_n) seq) are.n (length-map seq _);
-    }
-
-all_lengths : (t : ReadsTally) (cs : Columns) → Lengths t.longest cs → AreAsLong t cs
-all_lengths t cs are =
-    let P : List ℕ → Type 0 = λ list. length list ≡ min t.longest 10001 in
-    let n = All-cons P cs.n [] are.n (All-nil P) in
-    let t = All-cons P cs.t (cs.n ∷ []) are.t n in
-    let g = All-cons P cs.g (cs.t ∷ cs.n ∷ []) are.g t in
-    let c = All-cons P cs.c (cs.g ∷ cs.t ∷ cs.n ∷ []) are.c g in
-    let a = All-cons P cs.a (cs.c ∷ cs.g ∷ cs.t ∷ cs.n ∷ []) are.a c in
-    let q = All-cons P cs.q30_bases (cs.a ∷ cs.c ∷ cs.g ∷ cs.t ∷ cs.n ∷ []) are.q30_bases a in
-    let s = All-cons P cs.score_sum (cs.q30_bases ∷ cs.a ∷ cs.c ∷ cs.g ∷ cs.t ∷ cs.n ∷ [])
-    are.score_sum q in
-    All-cons P cs.bases (cs.score_sum ∷ cs.q30_bases ∷ cs.a ∷ cs.c ∷ cs.g ∷ cs.t ∷ cs.n ∷ [])
-    are.bases s
+    each_with_read (λ list. length list ≡ min t.longest 10001)
+    (λ list. length list ≡ min (max t.longest (length part.seq)) 10001) cs part same
+    (λ xs ns is size. list_longer t.longest (length part.seq) xs ns is size) are
 
 -- One side.
 
@@ -211,17 +178,7 @@ none = record {
     gc_bases = λ small. refl;
     n_bases = λ small. refl;
   };
-  lengths = record {
-    bases = refl;
-    score_sum = refl;
-    q30_bases = refl;
-    a = refl;
-    c = refl;
-    g =
-        refl;
-    t = refl;
-    n = refl;
-  };
+  lengths = each_of_none (λ list. length list ≡ min no_reads.longest 10001) refl;
 }
 
 no_reads_yet : Sides no_tally
@@ -237,11 +194,14 @@ side_sums t side = record {
   unpaired = side.unpaired_both.sums;
 }
 
+listed : (t : ReadsTally) (cs : Columns) → Lengths t.longest cs → AreAsLong t cs
+listed t cs are = each_listed (λ list. length list ≡ min t.longest 10001) cs are
+
 side_lengths : (t : SideTally) → SideOf t → SideListsAreAsLong t
 side_lengths t side = record {
-  before = all_lengths t.before t.positions.before side.before_both.lengths;
-  paired = all_lengths t.paired t.positions.paired side.paired_both.lengths;
-  unpaired = all_lengths t.unpaired t.positions.unpaired side.unpaired_both.lengths;
+  before = listed t.before t.positions.before side.before_both.lengths;
+  paired = listed t.paired t.positions.paired side.paired_both.lengths;
+  unpaired = listed t.unpaired t.positions.unpaired side.unpaired_both.lengths;
 }
 
 -- each list of a report adds up to its total, if that is below the largest number of 64 bits

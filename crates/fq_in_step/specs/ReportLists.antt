@@ -1,5 +1,5 @@
 -- What the lists of a report add up to, how long they are, and what they count of the log.
-use Rattle.std.specs.Prelude.{◌≡◌, ◌<◌, ℕ, ◌+◌, Bool, List, [], ◌∷◌, length, map, filter, sum, min, get_or}
+use Rattle.std.specs.Prelude.{◌≡◌, ◌<◌, ℕ, ◌+◌, Bool, List, [], length, map, filter, sum, min, get_or}
 use Rattle.std.specs.List.{All}
 use Rattle.fq_text.specs.declared.encoding.Encoding.{Encoding}
 use Rattle.fq_text.specs.Grammar.{Read}
@@ -11,6 +11,7 @@ use Rattle.fq_read_tally.specs.declared.columns.Columns.{Columns}
 use Rattle.fq_read_tally.specs.declared.reads.ReadsTally.{ReadsTally}
 use Rattle.fq_read_tally.specs.declared.side.SideTally.{SideTally}
 use Rattle.fq_read_tally.specs.Rows.{counted_all}
+use Rattle.fq_read_tally.specs.Columns.{columns_tables}
 use Rattle.fq_read_tally.specs.Courses.{alone}
 use Rattle.fq_tally.specs.Tallies.{tally_of}
 use Rattle.fq_in_step.specs.InStep.{IsPairIn, forward_reads, reverse_reads}
@@ -32,14 +33,9 @@ pub record ListsAddUp (t : ReadsTally) (columns : Columns) : Type 0 where
   pub gc_bases : AddUpTo t.bases.gc (sum columns.c + sum columns.g)
   pub n_bases : AddUpTo t.bases.n (sum columns.n)
 
--- the eight lists by position
-abbrev pub lists_of : Columns → List (List ℕ)
-lists_of columns = columns.bases ∷ columns.score_sum ∷ columns.q30_bases ∷ columns.a ∷ columns.c
-    ∷ columns.g ∷ columns.t ∷ columns.n ∷ []
-
--- each list has as many items as the longest read has bases, but at most 10,001
+-- each list by position has as many items as the longest read has bases, but at most 10,001
 abbrev pub AreAsLong : ReadsTally → Columns → Type 0
-AreAsLong t columns = All (λ list. length list ≡ min t.longest 10001) (lists_of columns)
+AreAsLong t columns = All (λ list. length list ≡ min t.longest 10001) (columns_tables columns)
 
 -- Reads before trimming, those that survive with their mate, and those that survive alone.
 pub record SideListsAddUp (t : SideTally) : Type 0 where

@@ -1,227 +1,31 @@
--- Columns of bases by position, and their sums.
-use Rattle.std.proofs.Common.{◌≡◌, ℕ, zero, suc, ◌+◌, ◌*◌, ◌<◌, ◌≤◌, Bool, true, false, cond, nat_le, List, [], ◌∷◌, ◌++◌, length, take, drop, map, set, get_or, replicate, sum, min, refl, ap, ap₂, sym, ◌∙◌, arith, ⊎_elim}
-use Rattle.std.specs.List.{list_all}
-use Rattle.std.proofs.lemmas.List.{append_assoc, take_more, length-take-le, length-append, length-replicate, length-map, map-append}
-use Rattle.std.proofs.lemmas.List.Sums.{sum_by-cons, sum_by-append}
-use Rattle.std.proofs.lemmas.List.Folds.{sum_by-replicate}
-use Rattle.std.proofs.lemmas.Bool.{cond-true, cond-false, cases_lt, and_parts, and_from, le-leb, lt-leb}
+-- Facts that name the columns one by one. Those of the rows of one column are in PositionLemmas and
+-- FewLemmas.
+use Rattle.std.proofs.Common.{◌≡◌, ℕ, ◌+◌, ◌*◌, ◌<◌, ◌≤◌, Bool, true, nat_le, List, [], ◌∷◌, ◌++◌, length, take, map, get_or, replicate, min, refl, ap, ap₂, sym, ◌∙◌, arith, max, codes}
+use Rattle.std.specs.List.{All, list_all}
+use Rattle.std.proofs.lemmas.List.{take_more, length-take-le, length-map, map-append}
+use Rattle.std.proofs.lemmas.Bool.{and_from}
+use Rattle.std.proofs.lemmas.List.Elements.{All-cons, All-nil}
 use Rattle.fq_text.specs.declared.encoding.Encoding.{Encoding}
+use Rattle.fq_text.specs.declared.encoding.Encoding.TheVariants.{Sanger, Solexa}
 use Rattle.fq_text.specs.Scores.{is_scored, value_of}
-use Rattle.fq_text.proofs.ScoreLemmas.{value_small, at_place}
+use Rattle.fq_text.proofs.ScoreLemmas.{at_place}
 use Rattle.fq_trim.specs.Keeping.{scores}
-use Rattle.fq_trim.specs.Sums.{capped_sum}
 use Rattle.fq_trim.proofs.PlaceLemmas.{all_taken}
 use Rattle.fq_read_tally.specs.declared.columns.Columns.{Columns}
 use Rattle.fq_read_tally.specs.Rows.{rows_plus}
+use Rattle.fq_read_tally.specs.Courses.{Part}
 use Rattle.fq_read_tally.specs.Letters.{is_a, is_c, is_g, is_t, is_n}
-use Rattle.fq_read_tally.specs.Columns.{by_position, placed, one_if, no_columns, columns_from, columns_plus}
-use Rattle.fq_read_tally.specs.Counting.{empty_rows, one_in}
 use Rattle.fq_read_tally.proofs.RowLemmas.{plus_none}
+use Rattle.fq_read_tally.specs.Counting.{AtMost, IsFew, by_position, lane_score, one_if, placed}
+use Rattle.fq_read_tally.specs.Columns.{AreFew, columns_from, columns_of, columns_plus, columns_tables, each_column, empty_rows, first_rows, lanes_at, no_columns, one_in}
+use Rattle.fq_read_tally.proofs.PositionLemmas.{one_if_small, ones_joined, placed_joined, placed_none, placed_one, rows_assoc, rows_comm, scores_small}
+use Rattle.fq_read_tally.proofs.FewLemmas.{lanes_bases, lanes_scores, mapped_at_most, placed_short, row_behind, row_cut, row_more, row_nothing, row_weaker, scores_at_most, zeros_in_front, zeros_mapped}
 
--- Sums of rows.
-
-capped_assoc : (a b c : ℕ) → capped_sum (capped_sum a b) c ≡ capped_sum a (capped_sum b c)
-capped_assoc a b c = omega arith
-
--- of three lists of rows, it makes no difference which two are added first
-pub rows_assoc : (xs ys zs : List ℕ) → rows_plus (rows_plus xs ys) zs ≡ rows_plus xs
-    (rows_plus ys zs)
-rows_assoc [] ys zs = refl
-rows_assoc (x ∷ xs) [] zs = refl
-rows_assoc (x ∷ xs) (y ∷ ys) [] = refl
-rows_assoc (x ∷ xs) (y ∷ ys) (z ∷ zs) = ap₂ (λ n ns. n ∷ ns) (capped_assoc x y z)
-    (rows_assoc xs ys zs)
-
--- two lists of rows can be added in either order
-pub rows_comm : (xs ys : List ℕ) → rows_plus xs ys ≡ rows_plus ys xs
-rows_comm [] ys = sym (plus_none ys)
-rows_comm (x ∷ xs) [] = refl
-rows_comm (x ∷ xs) (y ∷ ys) = let first : capped_sum x y ≡ capped_sum y x = omega arith in
-    ap₂ (λ n ns. n ∷ ns) first (rows_comm xs ys)
-
--- numbers that a u64 can hold
-abbrev pub Small : List ℕ → Type 0
-Small xs = (k : ℕ) → get_or xs k 0 ≤ 18446744073709551615
-
--- 0 more of a number that a u64 can hold is that number
-pub none_more : (x : ℕ) → x ≤ 18446744073709551615 → capped_sum x 0 ≡ x
-none_more x small = omega arith
-
--- if a u64 can hold each of some numbers, it can hold the first
-pub first_small : (x : ℕ) (xs : List ℕ) → Small (x ∷ xs) → x ≤ 18446744073709551615
-first_small x xs small = small 0
-
--- empty rows after those that are there, and none
-pub grown_behind : (xs : List ℕ) (n m : ℕ) → Small xs → length xs + m ≡ n →
-    xs ++ replicate m 0 ≡ rows_plus xs (replicate n 0)
-grown_behind [] n m small size = ap (λ k. replicate k 0) (omega arith)
-grown_behind (x ∷ xs) zero m small size = absurd (omega arith)
-grown_behind (x ∷ xs) (suc n) m small size =
-    ap₂ (λ y ys. y ∷ ys) (sym (none_more x (first_small x xs small)))
-    (grown_behind xs n m (λ k. small (suc k)) (omega arith))
-
--- growing to no more rows than there are changes nothing
-pub grown_within : (xs : List ℕ) (n : ℕ) → Small xs → n ≤ length xs →
-    xs ≡ rows_plus xs (replicate n 0)
-grown_within xs zero small within = sym (plus_none xs)
-grown_within [] (suc n) small within = absurd (omega arith)
-grown_within (x ∷ xs) (suc n) small within =
-    ap₂ (λ y ys. y ∷ ys) (sym (none_more x (first_small x xs small)))
-    (grown_within xs n (λ k. small (suc k)) (omega arith))
-
--- a number more in a row, which is there
-pub more_at : (xs : List ℕ) (row a : ℕ) → a ≤ 18446744073709551615 →
-    set (rows_plus xs (replicate (suc row) 0)) row
-    (capped_sum (get_or (rows_plus xs (replicate (suc row) 0)) row 0) a)
-    ≡ rows_plus xs (replicate row 0 ++ (a ∷ []))
-more_at [] zero a small = ap (λ n. n ∷ []) (omega arith)
-more_at [] (suc row) a small = ap (λ ns. 0 ∷ ns) (more_at [] row a small)
-more_at (x ∷ xs) zero a small = ap (λ n. n ∷ rows_plus xs []) (omega arith)
-more_at (x ∷ xs) (suc row) a small = ap (λ ns. capped_sum x 0 ∷ ns) (more_at xs row a small)
-
--- Numbers by their positions. All after `most` are added up.
-
-cut_at : ℕ → List ℕ → List ℕ
-cut_at most [] = []
-cut_at zero (n ∷ ns) = sum (n ∷ ns) ∷ []
-cut_at (suc most) (n ∷ ns) = n ∷ cut_at most ns
-
-cut_short : (most : ℕ) (ns : List ℕ) → length ns ≤ most → ns ≡ cut_at most ns
-unfolding cut_at
-cut_short most [] short = refl
-cut_short zero (n ∷ ns) short = absurd (omega arith)
-cut_short (suc most) (n ∷ ns) short = ap (λ ms. n ∷ ms) (cut_short most ns (omega arith))
-
-cut_long : (most : ℕ) (ns : List ℕ) → most < length ns →
-    take most ns ++ (sum (drop most ns) ∷ []) ≡ cut_at most ns
-unfolding cut_at
-cut_long most [] long = absurd (omega arith)
-cut_long zero (n ∷ ns) long = refl
-cut_long (suc most) (n ∷ ns) long = ap (λ ms. n ∷ ms) (cut_long most ns (omega arith))
-
-cut_is : (most : ℕ) (ns : List ℕ) → cond (nat_le (length ns) most) ns
-    (take most ns ++ (sum (drop most ns) ∷ [])) ≡ cut_at most ns
-cut_is most ns = ⊎_elim
-    (λ (long : most < length ns). cond-false (nat_le (length ns) most) _ _
-    (lt-leb (length ns) most long) ∙ cut_long most ns long)
-    (λ (short : length ns ≤ most). cond-true (nat_le (length ns) most) _ _
-    (le-leb (length ns) most short) ∙ cut_short most ns short)
-    (cases_lt most (length ns))
-
--- no number of a list is above its sum
-abbrev Bounded : List ℕ → Type 0
-Bounded ns = sum ns ≤ 18446744073709551615
-
-sum-cons : (n : ℕ) (ns : List ℕ) → sum (n ∷ ns) ≡ n + sum ns
-sum-cons n ns = sum_by-cons (λ (x : ℕ). x) n ns
-
-sum-append : (ms ns : List ℕ) → sum (ms ++ ns) ≡ sum ms + sum ns
-sum-append ms ns = sum_by-append (λ (x : ℕ). x) ms ns
-
-sum-zeros : (k : ℕ) → sum (replicate k 0) ≡ 0
-sum-zeros k = let e = sum_by-replicate (λ (x : ℕ). x) k 0 in omega arith
-
-cut_joined : (most : ℕ) (us vs : List ℕ) → Bounded (us ++ vs) →
-    rows_plus (cut_at most us) (cut_at most (replicate (length us) 0 ++ vs))
-    ≡ cut_at most (us ++ vs)
-unfolding cut_at
-cut_joined most [] vs small = refl
-cut_joined zero (u ∷ us) vs small =
-    let left = sum-cons u us in
-    let right : sum (0 ∷ (replicate (length us) 0 ++ vs)) ≡ sum vs =
-    sum-cons 0 (replicate (length us) 0 ++ vs)
-    ∙ omega (arith, sum-append (replicate (length us) 0) vs, sum-zeros (length us)) in
-    let whole = sum-append (u ∷ us) vs in
-    ap (λ n. n ∷ []) (omega arith)
-cut_joined (suc most) (u ∷ us) vs small =
-    let whole = sum-cons u (us ++ vs) in
-    ap₂ (λ n ns. n ∷ ns) (none_more u (omega arith)) (cut_joined most us vs (omega arith))
-
--- numbers by position, added to those after them at their own positions, are all by position
-pub joined : (us vs : List ℕ) → sum us + sum vs ≤ 18446744073709551615 →
-    rows_plus (by_position us) (by_position (replicate (length us) 0 ++ vs))
-    ≡ by_position (us ++ vs)
-joined us vs small =
-    ap₂ rows_plus (cut_is 10000 us) (cut_is 10000 (replicate (length us) 0 ++ vs))
-    ∙ cut_joined 10000 us vs (omega (arith, sum-append us vs))
-    ∙ sym (cut_is 10000 (us ++ vs))
-
--- the same if the first number has a place
-pub placed_joined : (at k : ℕ) (us vs : List ℕ) → k ≡ at + length us →
-    sum us + sum vs ≤ 18446744073709551615 →
-    rows_plus (placed at us) (placed k vs) ≡ placed at (us ++ vs)
-placed_joined at k us vs behind small =
-    let front : List ℕ = replicate at 0 ++ us in
-    let long : k ≡ length front = behind
-    ∙ omega (arith, length-append (replicate at 0) us, length-replicate {A = ℕ} at 0) in
-    let sums = sum-append (replicate at 0) us in
-    let none = sum-zeros at in
-    ap (λ n. rows_plus (placed at us) (placed n vs)) long
-    ∙ joined front vs (omega arith)
-    ∙ ap by_position (append_assoc (replicate at 0) us vs)
-
-cut_none : (most at : ℕ) → cut_at most (replicate at 0 ++ []) ≡ replicate (min at (suc most)) 0
-unfolding cut_at
-cut_none most zero = let none : 0 ≡ min 0 (suc most) = omega arith in ap (λ n. replicate n 0) none
-cut_none zero (suc at) =
-    let e : sum (0 ∷ (replicate at 0 ++ [])) ≡ 0 = sum-cons 0 (replicate at 0 ++ [])
-    ∙ omega (arith, sum-append (replicate at 0) [], sum-zeros at) in
-    let f : 1 ≡ min (suc at) 1 = omega arith in
-    ap (λ n. n ∷ []) e ∙ ap (λ n. replicate n 0) f
-cut_none (suc most) (suc at) =
-    let f : suc (min at (suc most)) ≡ min (suc at) (suc (suc most)) = omega arith in
-    ap (λ ns. 0 ∷ ns) (cut_none most at) ∙ ap (λ n. replicate n 0) f
-
--- no number, after a place
-pub placed_none : (at rows : ℕ) → rows ≡ min at 10001 → replicate rows 0 ≡ placed at []
-placed_none at rows is = ap (λ n. replicate n 0) is ∙ sym (cut_none 10000 at)
-    ∙ sym (cut_is 10000 (replicate at 0 ++ []))
-
-cut_one : (most at a : ℕ) → cut_at most (replicate at 0 ++ (a ∷ [])) ≡ replicate (min at most)
-    0 ++ (a ∷ [])
-unfolding cut_at
-cut_one zero zero a =
-    let one = sum-cons a [] in
-    let e : sum (a ∷ []) ≡ a = omega arith in
-    let f : 0 ≡ min 0 0 = omega arith in
-    ap (λ n. n ∷ []) e ∙ ap (λ n. replicate n 0 ++ (a ∷ [])) f
-cut_one (suc most) zero a = let f : 0 ≡ min 0 (suc most) = omega arith in
-    ap (λ n. replicate n 0 ++ (a ∷ [])) f
-cut_one zero (suc at) a =
-    let one = sum-cons a [] in
-    let e : sum (0 ∷ (replicate at 0 ++ (a ∷ []))) ≡ a = sum-cons 0 (replicate at 0 ++ (a ∷ []))
-    ∙ omega (arith, sum-append (replicate at 0) (a ∷ []), sum-zeros at) in
-    let f : 0 ≡ min (suc at) 0 = omega arith in
-    ap (λ n. n ∷ []) e ∙ ap (λ n. replicate n 0 ++ (a ∷ [])) f
-cut_one (suc most) (suc at) a =
-    let f : suc (min at most) ≡ min (suc at) (suc most) = omega arith in
-    ap (λ ns. 0 ∷ ns) (cut_one most at a) ∙ ap (λ n. replicate n 0 ++ (a ∷ [])) f
-
--- one number at a place
-pub placed_one : (at row a : ℕ) → row ≡ min at 10000 →
-    replicate row 0 ++ (a ∷ []) ≡ placed at (a ∷ [])
-placed_one at row a is = ap (λ n. replicate n 0 ++ (a ∷ [])) is ∙ sym (cut_one 10000 at a)
-    ∙ sym (cut_is 10000 (replicate at 0 ++ (a ∷ [])))
-
--- Columns that are the same in each part are the same.
-abbrev columns_parts : Columns → Columns
-columns_parts x = record {
-  bases = x.bases;
-  score_sum = x.score_sum;
-  q30_bases = x.q30_bases;
-  a =
-      x.a;
-  c = x.c;
-  g = x.g;
-  t = x.t;
-  n = x.n;
-}
-
--- columns are the same if each of the eight is
+-- columns are the same if each of them is
 pub columns_same : (x y : Columns) → x.bases ≡ y.bases → x.score_sum ≡ y.score_sum →
     x.q30_bases ≡ y.q30_bases → x.a ≡ y.a → x.c ≡ y.c → x.g ≡ y.g → x.t ≡ y.t → x.n ≡ y.n → x ≡ y
 columns_same x y bases score_sum q30_bases a c g t n =
-    let same : columns_parts x ≡ columns_parts y = cc in same
+    let same : each_column (λ rows. rows) x ≡ each_column (λ rows. rows) y = cc in same
 
 -- of three sets of columns, it makes no difference which two are added first
 pub columns_assoc : (x y z : Columns) → columns_plus (columns_plus x y) z ≡ columns_plus x
@@ -264,44 +68,6 @@ pub columns_both : (w x y z : Columns) → columns_plus (columns_plus (columns_p
     ≡ columns_plus (columns_plus w x) (columns_plus y z)
 columns_both w x y z = ap (λ v. columns_plus v x) (columns_assoc w y z)
     ∙ columns_swap w (columns_plus y z) x
-
--- Bases that follow one another.
-
-one_at_most : (b : Bool) → cond b 1 0 ≤ 1
-one_at_most true = omega arith
-one_at_most false = omega arith
-
--- a test counts a number once, or not at all
-pub one_if_small : (p : ℕ → Bool) (x : ℕ) → one_if p x ≤ 1
-one_if_small p x = one_at_most (p x)
-
-ones_small : (f : ℕ → ℕ) → ((x : ℕ) → f x ≤ 1) → (xs : List ℕ) → sum (map f xs) ≤ length xs
-ones_small f small [] = omega arith
-ones_small f small (x ∷ xs) =
-    omega (arith, sum-cons (f x) (map f xs), small x, ones_small f small xs)
-
-ones_joined : (f : ℕ → ℕ) → ((x : ℕ) → f x ≤ 1) → (at k : ℕ) (xs ys : List ℕ) → k ≡ at + length xs →
-    length xs ≤ 1048576 → length ys ≤ 1048576 →
-    rows_plus (placed at (map f xs)) (placed k (map f ys)) ≡ placed at (map f (xs ++ ys))
-ones_joined f small at k xs ys behind few less =
-    let left = ones_small f small xs in
-    let right = ones_small f small ys in
-    let long : k ≡ at + length (map f xs) = omega (arith, length-map xs f) in
-    placed_joined at k (map f xs) (map f ys) long (omega arith)
-    ∙ ap (placed at) (sym (map-append f xs ys))
-
-scores_small : (e : Encoding) (qual : List ℕ) → list_all (is_scored e) qual ≡ true →
-    sum (scores e qual) ≤ 93 * length qual
-scores_small e [] all = omega arith
-scores_small e (b ∷ bs) all =
-    let parts = and_parts (is_scored e b) (list_all (is_scored e) bs) all in
-    omega (
-      arith,
-      sum-cons (value_of e b) (scores e bs),
-      value_small e b parts.0,
-      scores_small e bs
-          parts.1,
-    )
 
 -- The columns of bases are those of the first of them and of the others together.
 pub columns_joined : (at k : ℕ) (e : Encoding) (seq qual others bytes : List ℕ) →
@@ -374,3 +140,252 @@ counted_next start now new at i row score e seq qual so_far row_is score_is with
     (all_taken (is_scored e) qual i scored) one)
     ∙ ap₂ (λ s t. columns_plus start (columns_from at e s t)) (sym (take_more seq i 0 within))
     (sym (take_more qual i 0 long))
+
+-- What is counted of vectors.
+
+-- lanes with a base each, up to position 10,000, count as the columns of these bases
+pub lanes_are_columns : (at : ℕ) (e : Encoding) (s q : List ℕ) → list_all (is_scored e) q ≡ true →
+    length q ≡ length s → at + length s ≤ 10000 →
+    lanes_at at e s q ≡ columns_from at e s q
+lanes_are_columns at e s q all same near =
+    let shift = λ (ns : List ℕ). replicate at 0 ++ ns in
+    let sc = lanes_scores e q all in
+    let letters =
+    λ (p : ℕ → Bool). sym (placed_short at (map (one_if p) s)
+    (omega (arith, length-map s (one_if p)))) in
+    columns_same (lanes_at at e s q) (columns_from at e s q)
+    (ap shift (lanes_bases e q s all same)
+    ∙ sym (placed_short at (map (λ _. 1) s) (omega (arith, length-map {B = ℕ} s (λ _. 1)))))
+    (ap shift sc ∙ sym (placed_short at (scores e q) (omega (arith, length-map q (value_of e)))))
+    (ap (λ ns. shift (map (one_if (nat_le 30)) ns)) sc
+    ∙ sym (placed_short at (map (one_if (nat_le 30)) (scores e q))
+    (omega (arith, length-map (scores e q) (one_if (nat_le 30)), length-map q (value_of e)))))
+    (letters is_a) (letters is_c) (letters is_g) (letters is_t) (letters is_n)
+
+-- lanes after k zeros are the same lanes, k places further on
+pub lanes_moved : (at k : ℕ) (e : Encoding) (s q : List ℕ) →
+    lanes_at at e (replicate k 0 ++ s) (replicate k 0 ++ q) ≡ lanes_at (at + k) e s q
+lanes_moved at k e s q =
+    let letters = λ (p : ℕ → Bool) (none : one_if p 0 ≡ 0). zeros_in_front (one_if p) none at k s in
+    let first = map-append (lane_score e) (replicate k 0) q
+    ∙ ap (λ ns. ns ++ map (lane_score e) q) (zeros_mapped (lane_score e) refl k) in
+    columns_same (lanes_at at e (replicate k 0 ++ s) (replicate k 0 ++ q)) (lanes_at (at + k) e s q)
+    (zeros_in_front (one_if (nat_le 1)) refl at k q)
+    (zeros_in_front (lane_score e) refl at k q)
+    (ap (λ ns. replicate at 0 ++ map (one_if (nat_le 30)) ns) first
+    ∙ zeros_in_front (one_if (nat_le 30)) refl at k (map (lane_score e) q))
+    (letters is_a refl) (letters is_c refl) (letters is_g refl) (letters is_t refl)
+    (letters is_n refl)
+
+-- zeros after the lanes of a vector add nothing to the rows of a few reads
+pub lanes_behind : (x : Columns) (rows len reads at k : ℕ) (e : Encoding) (s q : List ℕ) →
+    AreFew rows len reads x → reads ≤ 254 → length q ≡ length s → at + (length s + k) ≤ rows →
+    columns_plus x (lanes_at at e (s ++ replicate k 0) (q ++ replicate k 0))
+    ≡ columns_plus x (lanes_at at e s q)
+lanes_behind x rows len reads at k e s q few bound same room =
+    let wide : at + (length q + k) ≤ rows = omega arith in
+    let scored : at + (length (map (lane_score e) q) + k) ≤ rows =
+    omega (arith, length-map q (lane_score e)) in
+    let first = map-append (lane_score e) q (replicate k 0)
+    ∙ ap (λ ns. map (lane_score e) q ++ ns) (zeros_mapped (lane_score e) refl k) in
+    columns_same (columns_plus x (lanes_at at e (s ++ replicate k 0) (q ++ replicate k 0)))
+    (columns_plus x (lanes_at at e s q))
+    (row_behind (one_if (nat_le 1)) refl rows len reads at k x.bases q few.bases (omega arith) wide)
+    (row_behind (lane_score e) refl rows len (93 * reads) at k x.score_sum q few.score_sum
+    (omega arith) wide)
+    (ap (λ ns. rows_plus x.q30_bases (replicate at 0 ++ map (one_if (nat_le 30)) ns)) first
+    ∙ row_behind (one_if (nat_le 30)) refl rows len reads at k x.q30_bases
+    (map (lane_score e) q) few.q30_bases (omega arith) scored)
+    (row_behind (one_if is_a) refl rows len reads at k x.a s few.a (omega arith) room)
+    (row_behind (one_if is_c) refl rows len reads at k x.c s few.c (omega arith) room)
+    (row_behind (one_if is_g) refl rows len reads at k x.g s few.g (omega arith) room)
+    (row_behind (one_if is_t) refl rows len reads at k x.t s few.t (omega arith) room)
+    (row_behind (one_if is_n) refl rows len reads at k x.n s few.n (omega arith) room)
+
+-- rows such as some reads can give are such as more reads can give that reach further
+pub few_weaker : (x : Columns) (rows rows' len len' reads reads' : ℕ) → AreFew rows len reads x →
+    rows' ≤ rows → len ≤ len' → reads ≤ reads' → AreFew rows' len' reads' x
+few_weaker x rows rows' len len' reads reads' few less order bound = record {
+  bases = row_weaker rows rows' len len' reads reads' x.bases few.bases less order bound;
+  score_sum = row_weaker rows rows' len len' (93 * reads) (93 * reads') x.score_sum few.score_sum
+      less order (omega arith);
+  q30_bases = row_weaker rows rows' len len' reads reads' x.q30_bases few.q30_bases less order
+      bound;
+  a = row_weaker rows rows' len len' reads reads' x.a few.a less order bound;
+  c = row_weaker rows rows' len len' reads reads' x.c few.c less order bound;
+  g = row_weaker rows rows' len len' reads reads' x.g few.g less order bound;
+  t = row_weaker rows rows' len len' reads reads' x.t few.t less order bound;
+  n = row_weaker rows rows' len len' reads reads' x.n few.n less order bound;
+}
+
+-- no lanes add nothing to the rows of a few reads
+pub lanes_nothing : (x : Columns) (rows len reads at : ℕ) (e : Encoding) → AreFew rows len reads x →
+    reads ≤ 254 → at ≤ rows → x ≡ columns_plus x (lanes_at at e [] [])
+lanes_nothing x rows len reads at e few bound within =
+    columns_same x (columns_plus x (lanes_at at e [] []))
+    (row_nothing rows len reads at x.bases few.bases (omega arith) within)
+    (row_nothing rows len (93 * reads) at x.score_sum few.score_sum (omega arith) within)
+    (row_nothing rows len reads at x.q30_bases few.q30_bases (omega arith) within)
+    (row_nothing rows len reads at x.a few.a (omega arith) within)
+    (row_nothing rows len reads at x.c few.c (omega arith) within)
+    (row_nothing rows len reads at x.g few.g (omega arith) within)
+    (row_nothing rows len reads at x.t few.t (omega arith) within)
+    (row_nothing rows len reads at x.n few.n (omega arith) within)
+
+-- One more read among a few.
+module _ (x : Columns) (rows len len' reads at : ℕ) (e : Encoding) (s q : List ℕ)
+    (few : AreFew rows len reads x) (all : list_all (is_scored e) q ≡ true)
+    (same : length q ≡ length s) where
+  ones : (p : ℕ → Bool) (xs : List ℕ) → AtMost 1 (map (one_if p) xs)
+  ones p xs = mapped_at_most (one_if p) 1 (one_if_small p) xs
+
+  size_q : length (map (lane_score e) q) ≡ length s
+  size_q = length-map q (lane_score e) ∙ same
+
+  -- with the lanes of one more read, the rows are such as one more read can give
+  pub lanes_more : len ≤ len' → at + length s ≤ len' → at + length s ≤ rows →
+      AreFew rows len' (reads + 1) (columns_plus x (lanes_at at e s q))
+  lanes_more order within room =
+      let letter = λ (p : ℕ → Bool) (xs : List ℕ) (old : IsFew rows len reads xs). row_more rows len
+      len' reads 1 (reads + 1) at (length s) xs (map (one_if p) s) old (ones p s)
+      (length-map s (one_if p)) order within room (omega arith) in
+      record {
+        bases = row_more rows len len' reads 1 (reads + 1) at (length s) x.bases
+            (map (one_if (nat_le 1)) q) few.bases (ones (nat_le 1) q)
+            (length-map q (one_if (nat_le 1)) ∙ same) order within room (omega arith);
+        score_sum = row_more rows len len' (93 * reads) 93 (93 * (reads + 1)) at (length s)
+            x.score_sum (map (lane_score e) q) few.score_sum (scores_at_most e q all) size_q order
+            within room (omega arith);
+        q30_bases = row_more rows len len' reads 1 (reads + 1) at (length s) x.q30_bases
+            (map (one_if (nat_le 30)) (map (lane_score e) q)) few.q30_bases
+            (ones (nat_le 30) (map (lane_score e) q))
+            (length-map (map (lane_score e) q) (one_if (nat_le 30))
+            ∙ size_q) order within room (omega arith);
+        a = letter is_a x.a few.a;
+        c = letter is_c x.c few.c;
+        g = letter is_g x.g few.g;
+        t = letter is_t x.t few.t;
+        n = letter is_n x.n few.n;
+      }
+
+  -- lanes can be added before or after the rows are cut to those that were reached
+  pub lanes_cut : len' ≡ max len (at + length s) → len' ≤ rows →
+      first_rows len' (columns_plus x (lanes_at at e s q))
+      ≡ columns_plus (first_rows len x) (lanes_at at e s q)
+  lanes_cut is room =
+      let letter = λ (p : ℕ → Bool) (xs : List ℕ) (old : IsFew rows len reads xs). row_cut rows len
+      len' reads 1 at (length s) xs (map (one_if p) s) old (ones p s) (length-map s (one_if p))
+      (omega arith) is room in
+      columns_same (first_rows len' (columns_plus x (lanes_at at e s q)))
+      (columns_plus (first_rows len x) (lanes_at at e s q))
+      (row_cut rows len len' reads 1 at (length s) x.bases (map (one_if (nat_le 1)) q) few.bases
+      (ones (nat_le 1) q) (length-map q (one_if (nat_le 1)) ∙ same) (omega arith) is room)
+      (row_cut rows len len' (93 * reads) 93 at (length s) x.score_sum (map (lane_score e) q)
+      few.score_sum (scores_at_most e q all) size_q (omega arith) is room)
+      (row_cut rows len len' reads 1 at (length s) x.q30_bases
+      (map (one_if (nat_le 30)) (map (lane_score e) q)) few.q30_bases
+      (ones (nat_le 30) (map (lane_score e) q))
+      (length-map (map (lane_score e) q) (one_if (nat_le 30)) ∙ size_q) (omega arith) is room)
+      (letter is_a x.a few.a) (letter is_c x.c few.c) (letter is_g x.g few.g)
+      (letter is_t x.t few.t) (letter is_n x.n few.n)
+
+-- Packed columns.
+
+-- columns, packed one by one, are their tables
+pub columns_packed : (ts : List (List ℕ)) (t : Columns) →
+    ts ++ (t.bases ∷ []) ++ (t.score_sum ∷ []) ++ (t.q30_bases ∷ []) ++ (t.a ∷ [])
+    ++ (t.c ∷ []) ++ (t.g ∷ []) ++ (t.t ∷ []) ++ (t.n ∷ []) ≡ ts ++ columns_tables t
+columns_packed [] t = refl
+columns_packed (u ∷ ts) t = ap (λ us. u ∷ us) (columns_packed ts t)
+
+-- A property of each column.
+
+pub record OfEach (P : List ℕ → Type 0) (x : Columns) : Type 0 where
+  pub bases : P x.bases
+  pub score_sum : P x.score_sum
+  pub q30_bases : P x.q30_bases
+  pub a : P x.a
+  pub c : P x.c
+  pub g : P x.g
+  pub t : P x.t
+  pub n : P x.n
+
+-- what holds of no rows holds of the columns of no bases
+pub each_of_none : (P : List ℕ → Type 0) → P [] → OfEach P no_columns
+each_of_none P none = record {
+  bases = none;
+  score_sum = none;
+  q30_bases = none;
+  a = none;
+  c = none;
+  g = none;
+  t = none;
+  n = none;
+}
+
+-- if one number for each base of a read turns P into Q in any column, it does in each
+pub each_with_read : (P Q : List ℕ → Type 0) (x : Columns) (part : Part) →
+    length part.qual ≡ length part.seq →
+    ((xs ns : List ℕ) → P xs → length ns ≡ length part.seq → Q (rows_plus xs (by_position ns))) →
+    OfEach P x → OfEach Q (columns_plus x (columns_of part))
+each_with_read P Q x part same more each =
+    let s = part.seq in
+    let q = scores part.encoding part.qual in
+    let scored : length q ≡ length s = length-map part.qual _ ∙ same in
+    record {
+      bases = more x.bases (map (λ _. 1) s) each.bases (length-map s _);
+      score_sum = more x.score_sum q each.score_sum scored;
+      q30_bases = more x.q30_bases (map (one_if (nat_le 30)) q) each.q30_bases
+          (length-map q _ ∙ scored);
+      a = more x.a (map (one_if is_a) s) each.a (length-map s _);
+      c = more x.c (map (one_if is_c) s) each.c (length-map s _);
+      g = more x.g (map (one_if is_g) s) each.g (length-map s _);
+      t = more x.t (map (one_if is_t) s) each.t (length-map s _);
+      n = more x.n (map (one_if is_n) s) each.n (length-map s _);
+    }
+
+-- what holds of each column holds of all their tables
+pub each_listed : (P : List ℕ → Type 0) (x : Columns) → OfEach P x → All P (columns_tables x)
+each_listed P x each =
+    let n = All-cons P x.n [] each.n (All-nil P) in
+    let t = All-cons P x.t (x.n ∷ []) each.t n in
+    let g = All-cons P x.g (x.t ∷ x.n ∷ []) each.g t in
+    let c = All-cons P x.c (x.g ∷ x.t ∷ x.n ∷ []) each.c g in
+    let a = All-cons P x.a (x.c ∷ x.g ∷ x.t ∷ x.n ∷ []) each.a c in
+    let q = All-cons P x.q30_bases (x.a ∷ x.c ∷ x.g ∷ x.t ∷ x.n ∷ []) each.q30_bases a in
+    let s = All-cons P x.score_sum (x.q30_bases ∷ x.a ∷ x.c ∷ x.g ∷ x.t ∷ x.n ∷ []) each.score_sum q
+    in
+    All-cons P x.bases (x.score_sum ∷ x.q30_bases ∷ x.a ∷ x.c ∷ x.g ∷ x.t ∷ x.n ∷ []) each.bases s
+
+-- Worked reads, computed from the definition alone.
+
+-- The scores 30, 29 and 2.
+three_bases : columns_of (record { encoding = Sanger; seq = codes "aGN"; qual = codes "?>#" })
+    ≡ record {
+      bases = 1 ∷ 1 ∷ 1 ∷ [];
+      score_sum = 30 ∷ 29 ∷ 2 ∷ [];
+      q30_bases = 1 ∷ 0 ∷ 0 ∷ [];
+      a = 1 ∷ 0 ∷ 0 ∷ [];
+      c = 0 ∷ 0 ∷ 0 ∷ [];
+      g = 0 ∷ 1 ∷ 0 ∷ [];
+      t = 0 ∷ 0 ∷ 0 ∷ [];
+      n = 0 ∷ 0 ∷ 1 ∷ [];
+    }
+three_bases = refl
+
+-- Byte 59 is the Solexa score -5, the Phred score 1. An S is a base and no letter that is counted.
+third_base : columns_from 2 Solexa (codes "S") (codes ";") ≡ record {
+  bases = 0 ∷ 0 ∷ 1 ∷ [];
+  score_sum = 0 ∷ 0 ∷ 1 ∷ [];
+  q30_bases = 0 ∷ 0 ∷ 0 ∷ [];
+  a = 0 ∷ 0 ∷ 0 ∷ [];
+  c = 0 ∷ 0 ∷ 0 ∷ [];
+  g = 0 ∷ 0 ∷ 0 ∷ [];
+  t = 0 ∷ 0 ∷ 0 ∷ [];
+  n = 0 ∷ 0 ∷ 0 ∷ [];
+}
+third_base = refl
+
+two_reads : (columns_plus (columns_from 0 Sanger (codes "TT") (codes "II"))
+    (columns_from 0 Sanger (codes "t") (codes "!"))).t ≡ 2 ∷ 1 ∷ []
+two_reads = refl

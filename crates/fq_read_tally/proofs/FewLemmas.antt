@@ -1,22 +1,19 @@
 -- Rows of a few reads, of which a vector holds some.
-use Rattle.std.proofs.Common.{◌≡◌, ℕ, zero, suc, ◌+◌, ◌*◌, ◌<◌, ◌≤◌, Bool, true, false, nat_le, eqb, List, [], ◌∷◌, ◌++◌, length, take, map, get_or, replicate, max, Fits, w8, w16, refl, ap, ap₂, sym, subst, ◌∙◌, arith}
+use Rattle.std.proofs.Common.{◌≡◌, ℕ, zero, suc, ◌+◌, ◌<◌, ◌≤◌, true, false, nat_le, List, [], ◌∷◌, ◌++◌, length, take, map, get_or, replicate, sum, refl, ap, ap₂, sym, ◌∙◌, arith, eqb, max, Fits, w8, w16, subst}
 use Rattle.std.specs.List.{list_all}
-use Rattle.std.proofs.lemmas.List.{append_assoc, map-append, get_or_past, length-append, length-replicate, replicate-append-replicate, length-map, map-id}
-use Rattle.std.proofs.lemmas.Bool.{cond-true, cond-false, and_parts, leb-true, le-leb, ne_eqb}
-use Rattle.std.proofs.lemmas.Simd.{Each1-from_get_or, Each1-chunk, Each2-of}
-use lib.Lanes.{Each1, Each2, zip2, chunk, put_chunk}
+use Rattle.std.proofs.lemmas.List.{append_assoc, length-append, length-replicate, length-map, map-append, get_or_past, replicate-append-replicate, map-id, append-nil}
+use Rattle.std.proofs.lemmas.Bool.{cond-true, cond-false, and_parts, le-leb, leb-true, ne_eqb}
 use Rattle.fq_text.specs.declared.encoding.Encoding.{Encoding}
-use Rattle.fq_text.specs.Scores.{lowest, is_scored, value_of}
-use Rattle.fq_text.proofs.ScoreLemmas.{low_base, value_small}
+use Rattle.fq_text.specs.Scores.{is_scored, value_of, lowest}
+use Rattle.fq_text.proofs.ScoreLemmas.{value_small, low_base}
 use Rattle.fq_trim.specs.Keeping.{scores}
 use Rattle.fq_trim.specs.Sums.{capped_sum}
-use Rattle.fq_read_tally.specs.declared.columns.Columns.{Columns}
 use Rattle.fq_read_tally.specs.Rows.{rows_plus}
-use Rattle.fq_read_tally.specs.Letters.{is_a, is_c, is_g, is_t, is_n}
-use Rattle.fq_read_tally.specs.Columns.{placed, one_if, columns_from, columns_plus}
-use Rattle.fq_read_tally.specs.Counting.{AtMost, IsFew, AreFew, lane_score, lanes_at, first_rows}
 use Rattle.fq_read_tally.proofs.RowLemmas.{plus_none, length-rows_plus}
-use Rattle.fq_read_tally.proofs.ColumnLemmas.{Small, grown_within, columns_same, one_if_small}
+use Rattle.std.proofs.lemmas.Simd.{Each1-from_get_or, Each1-chunk, Each2-of}
+use lib.Lanes.{Each1, Each2, zip2, chunk, put_chunk}
+use Rattle.fq_read_tally.specs.Counting.{AtMost, IsFew, lane_score, one_if, placed}
+use Rattle.fq_read_tally.proofs.PositionLemmas.{Small, grown_within}
 
 -- A vector is added from a row on.
 
@@ -110,7 +107,8 @@ length-shifted : (at : ℕ) (ys : List ℕ) → length (replicate at 0 ++ ys) �
 length-shifted at ys = length-append (replicate at 0) ys
     ∙ ap (λ n. n + length ys) (length-replicate {A = ℕ} at 0)
 
-row_more : (rows len len' most more most' at n : ℕ) (xs ys : List ℕ) → IsFew rows len most xs →
+-- with at most `more` added to each of some rows, none is above `most + more`
+pub row_more : (rows len len' most more most' at n : ℕ) (xs ys : List ℕ) → IsFew rows len most xs →
     AtMost more ys → length ys ≡ n → len ≤ len' → at + n ≤ len' → at + n ≤ rows →
     most + more ≤ most' → IsFew rows len' most' (rows_plus xs (replicate at 0 ++ ys))
 row_more rows len len' most more most' at n xs ys few small long order within room bound =
@@ -151,7 +149,8 @@ cut_plus (x ∷ xs) (z ∷ zs) (suc len) (suc len') behind small is room =
     ap (λ ns. capped_sum x z ∷ ns) (cut_plus xs zs len len' (λ k from. behind (suc k) (omega arith))
     (λ k. small (suc k)) (omega arith) (omega arith))
 
-row_cut : (rows len len' most more at n : ℕ) (xs ys : List ℕ) → IsFew rows len most xs →
+-- rows can be added before or after they are cut to those that were reached
+pub row_cut : (rows len len' most more at n : ℕ) (xs ys : List ℕ) → IsFew rows len most xs →
     AtMost more ys → length ys ≡ n → more ≤ 255 → len' ≡ max len (at + n) → len' ≤ rows →
     take len' (rows_plus xs (replicate at 0 ++ ys)) ≡ rows_plus (take len xs) (replicate at 0 ++ ys)
 row_cut rows len len' most more at n xs ys few small long bound is room =
@@ -173,7 +172,9 @@ plus_zeros_behind (x ∷ xs) (y ∷ ys) k small room =
 
 -- What is counted of vectors.
 
-placed_short : (at : ℕ) (ns : List ℕ) → at + length ns ≤ 10000 → placed at ns ≡ replicate at 0 ++ ns
+-- up to position 10,000, numbers by position are the numbers at their places
+pub placed_short : (at : ℕ) (ns : List ℕ) → at + length ns ≤ 10000 →
+    placed at ns ≡ replicate at 0 ++ ns
 placed_short at ns short =
     cond-true (nat_le (length (replicate at 0 ++ ns)) 10000) _ _
     (le-leb (length (replicate at 0 ++ ns)) 10000 (omega (arith, length-shifted at ns)))
@@ -188,7 +189,8 @@ scored_low e b is =
 not_none : (e : Encoding) (b : ℕ) → is_scored e b ≡ true → eqb b 0 ≡ false
 not_none e b is = let low = scored_low e b is in ne_eqb b 0 (λ z. omega arith)
 
-lanes_scores : (e : Encoding) (q : List ℕ) → list_all (is_scored e) q ≡ true →
+-- the scores of lanes with a base each are the scores of these bases
+pub lanes_scores : (e : Encoding) (q : List ℕ) → list_all (is_scored e) q ≡ true →
     map (lane_score e) q ≡ scores e q
 lanes_scores e [] all = refl
 lanes_scores e (b ∷ bs) all =
@@ -196,7 +198,8 @@ lanes_scores e (b ∷ bs) all =
     ap₂ (λ n ns. n ∷ ns) (cond-false (eqb b 0) 0 (value_of e b) (not_none e b parts.0))
     (lanes_scores e bs parts.1)
 
-lanes_bases : (e : Encoding) (q s : List ℕ) → list_all (is_scored e) q ≡ true →
+-- lanes with a base each count 1 for each
+pub lanes_bases : (e : Encoding) (q s : List ℕ) → list_all (is_scored e) q ≡ true →
     length q ≡ length s → map (one_if (nat_le 1)) q ≡ map (λ _. 1) s
 lanes_bases e [] [] all same = refl
 lanes_bases e [] (c ∷ s) all same = absurd (omega arith)
@@ -207,31 +210,13 @@ lanes_bases e (b ∷ q) (c ∷ s) all same =
     ap₂ (λ n ns. n ∷ ns) (cond-true (nat_le 1 b) 1 0 (le-leb 1 b (omega arith)))
     (lanes_bases e q s parts.1 (omega arith))
 
--- lanes with a base each, up to position 10,000, count as the columns of these bases
-pub lanes_are_columns : (at : ℕ) (e : Encoding) (s q : List ℕ) → list_all (is_scored e) q ≡ true →
-    length q ≡ length s → at + length s ≤ 10000 →
-    lanes_at at e s q ≡ columns_from at e s q
-lanes_are_columns at e s q all same near =
-    let shift = λ (ns : List ℕ). replicate at 0 ++ ns in
-    let sc = lanes_scores e q all in
-    let letters =
-    λ (p : ℕ → Bool). sym (placed_short at (map (one_if p) s)
-    (omega (arith, length-map s (one_if p)))) in
-    columns_same (lanes_at at e s q) (columns_from at e s q)
-    (ap shift (lanes_bases e q s all same)
-    ∙ sym (placed_short at (map (λ _. 1) s) (omega (arith, length-map {B = ℕ} s (λ _. 1)))))
-    (ap shift sc ∙ sym (placed_short at (scores e q) (omega (arith, length-map q (value_of e)))))
-    (ap (λ ns. shift (map (one_if (nat_le 30)) ns)) sc
-    ∙ sym (placed_short at (map (one_if (nat_le 30)) (scores e q))
-    (omega (arith, length-map (scores e q) (one_if (nat_le 30)), length-map q (value_of e)))))
-    (letters is_a) (letters is_c) (letters is_g) (letters is_t) (letters is_n)
-
--- a vector that begins with zeros
-zeros_mapped : (f : ℕ → ℕ) → f 0 ≡ 0 → (k : ℕ) → map f (replicate k 0) ≡ replicate k 0
+-- of lanes without a base nothing is counted
+pub zeros_mapped : (f : ℕ → ℕ) → f 0 ≡ 0 → (k : ℕ) → map f (replicate k 0) ≡ replicate k 0
 zeros_mapped f none zero = refl
 zeros_mapped f none (suc k) = ap₂ (λ n ns. n ∷ ns) none (zeros_mapped f none k)
 
-zeros_in_front : (f : ℕ → ℕ) → f 0 ≡ 0 → (at k : ℕ) (xs : List ℕ) →
+-- numbers behind k zeros are the same numbers, k places further on
+pub zeros_in_front : (f : ℕ → ℕ) → f 0 ≡ 0 → (at k : ℕ) (xs : List ℕ) →
     replicate at 0 ++ map f (replicate k 0 ++ xs) ≡ replicate (at + k) 0 ++ map f xs
 zeros_in_front f none at k xs =
     ap (λ ns. replicate at 0 ++ ns) (map-append f (replicate k 0) xs
@@ -239,23 +224,8 @@ zeros_in_front f none at k xs =
     ∙ sym (append_assoc (replicate at 0) (replicate k 0) (map f xs))
     ∙ ap (λ ns. ns ++ map f xs) (replicate-append-replicate at k 0)
 
--- lanes after k zeros are the same lanes, k places further on
-pub lanes_moved : (at k : ℕ) (e : Encoding) (s q : List ℕ) →
-    lanes_at at e (replicate k 0 ++ s) (replicate k 0 ++ q) ≡ lanes_at (at + k) e s q
-lanes_moved at k e s q =
-    let letters = λ (p : ℕ → Bool) (none : one_if p 0 ≡ 0). zeros_in_front (one_if p) none at k s in
-    let first = map-append (lane_score e) (replicate k 0) q
-    ∙ ap (λ ns. ns ++ map (lane_score e) q) (zeros_mapped (lane_score e) refl k) in
-    columns_same (lanes_at at e (replicate k 0 ++ s) (replicate k 0 ++ q)) (lanes_at (at + k) e s q)
-    (zeros_in_front (one_if (nat_le 1)) refl at k q)
-    (zeros_in_front (lane_score e) refl at k q)
-    (ap (λ ns. replicate at 0 ++ map (one_if (nat_le 30)) ns) first
-    ∙ zeros_in_front (one_if (nat_le 30)) refl at k (map (lane_score e) q))
-    (letters is_a refl) (letters is_c refl) (letters is_g refl) (letters is_t refl)
-    (letters is_n refl)
-
--- and one that ends with zeros
-row_behind : (f : ℕ → ℕ) → f 0 ≡ 0 → (rows len most at k : ℕ) (xs ys : List ℕ) →
+-- zeros after some numbers add nothing to a row
+pub row_behind : (f : ℕ → ℕ) → f 0 ≡ 0 → (rows len most at k : ℕ) (xs ys : List ℕ) →
     IsFew rows len most xs → most ≤ 65535 → at + (length ys + k) ≤ rows →
     rows_plus xs (replicate at 0 ++ map f (ys ++ replicate k 0))
     ≡ rows_plus xs (replicate at 0 ++ map f ys)
@@ -268,38 +238,15 @@ row_behind f none rows len most at k xs ys few bound room =
     ∙ plus_zeros_behind xs (replicate at 0 ++ map f ys) k small
     (omega (arith, length-shifted at (map f ys), length-map ys f))
 
--- zeros after the lanes of a vector add nothing to the rows of a few reads
-pub lanes_behind : (x : Columns) (rows len reads at k : ℕ) (e : Encoding) (s q : List ℕ) →
-    AreFew rows len reads x → reads ≤ 254 → length q ≡ length s → at + (length s + k) ≤ rows →
-    columns_plus x (lanes_at at e (s ++ replicate k 0) (q ++ replicate k 0))
-    ≡ columns_plus x (lanes_at at e s q)
-lanes_behind x rows len reads at k e s q few bound same room =
-    let wide : at + (length q + k) ≤ rows = omega arith in
-    let scored : at + (length (map (lane_score e) q) + k) ≤ rows =
-    omega (arith, length-map q (lane_score e)) in
-    let first = map-append (lane_score e) q (replicate k 0)
-    ∙ ap (λ ns. map (lane_score e) q ++ ns) (zeros_mapped (lane_score e) refl k) in
-    columns_same (columns_plus x (lanes_at at e (s ++ replicate k 0) (q ++ replicate k 0)))
-    (columns_plus x (lanes_at at e s q))
-    (row_behind (one_if (nat_le 1)) refl rows len reads at k x.bases q few.bases (omega arith) wide)
-    (row_behind (lane_score e) refl rows len (93 * reads) at k x.score_sum q few.score_sum
-    (omega arith) wide)
-    (ap (λ ns. rows_plus x.q30_bases (replicate at 0 ++ map (one_if (nat_le 30)) ns)) first
-    ∙ row_behind (one_if (nat_le 30)) refl rows len reads at k x.q30_bases
-    (map (lane_score e) q) few.q30_bases (omega arith) scored)
-    (row_behind (one_if is_a) refl rows len reads at k x.a s few.a (omega arith) room)
-    (row_behind (one_if is_c) refl rows len reads at k x.c s few.c (omega arith) room)
-    (row_behind (one_if is_g) refl rows len reads at k x.g s few.g (omega arith) room)
-    (row_behind (one_if is_t) refl rows len reads at k x.t s few.t (omega arith) room)
-    (row_behind (one_if is_n) refl rows len reads at k x.n s few.n (omega arith) room)
-
-mapped_at_most : (f : ℕ → ℕ) (most : ℕ) → ((x : ℕ) → f x ≤ most) → (xs : List ℕ) →
+-- if each number is at most this, so are all of a list
+pub mapped_at_most : (f : ℕ → ℕ) (most : ℕ) → ((x : ℕ) → f x ≤ most) → (xs : List ℕ) →
     AtMost most (map f xs)
 mapped_at_most f most small [] k = let least : 0 ≤ most = omega arith in least
 mapped_at_most f most small (x ∷ xs) zero = small x
 mapped_at_most f most small (x ∷ xs) (suc k) = mapped_at_most f most small xs k
 
-scores_at_most : (e : Encoding) (q : List ℕ) → list_all (is_scored e) q ≡ true →
+-- no score is above 93
+pub scores_at_most : (e : Encoding) (q : List ℕ) → list_all (is_scored e) q ≡ true →
     AtMost 93 (map (lane_score e) q)
 scores_at_most e [] all k = let least : 0 ≤ 93 = omega arith in least
 scores_at_most e (b ∷ bs) all zero =
@@ -310,59 +257,19 @@ scores_at_most e (b ∷ bs) all zero =
 scores_at_most e (b ∷ bs) all (suc k) = scores_at_most e bs
     (and_parts (is_scored e b) (list_all (is_scored e) bs) all).1 k
 
--- One more read among a few.
-module _ (x : Columns) (rows len len' reads at : ℕ) (e : Encoding) (s q : List ℕ)
-    (few : AreFew rows len reads x) (all : list_all (is_scored e) q ≡ true)
-    (same : length q ≡ length s) where
-  ones : (p : ℕ → Bool) (xs : List ℕ) → AtMost 1 (map (one_if p) xs)
-  ones p xs = mapped_at_most (one_if p) 1 (one_if_small p) xs
+-- rows such as some reads can give are such as more reads can give that reach further
+pub row_weaker : (rows rows' len len' most most' : ℕ) (xs : List ℕ) → IsFew rows len most xs →
+    rows' ≤ rows → len ≤ len' → most ≤ most' → IsFew rows' len' most' xs
+row_weaker rows rows' len len' most most' xs few less order bound = record {
+  size = let size = few.size in omega arith;
+  behind = λ k from. few.behind k (omega arith);
+  small = λ k. let one = few.small k in omega arith;
+}
 
-  size_q : length (map (lane_score e) q) ≡ length s
-  size_q = length-map q (lane_score e) ∙ same
-
-  -- with the lanes of one more read, the rows are such as one more read can give
-  pub lanes_more : len ≤ len' → at + length s ≤ len' → at + length s ≤ rows →
-      AreFew rows len' (reads + 1) (columns_plus x (lanes_at at e s q))
-  lanes_more order within room =
-      let letter = λ (p : ℕ → Bool) (xs : List ℕ) (old : IsFew rows len reads xs). row_more rows len
-      len' reads 1 (reads + 1) at (length s) xs (map (one_if p) s) old (ones p s)
-      (length-map s (one_if p)) order within room (omega arith) in
-      record {
-        bases = row_more rows len len' reads 1 (reads + 1) at (length s) x.bases
-            (map (one_if (nat_le 1)) q) few.bases (ones (nat_le 1) q)
-            (length-map q (one_if (nat_le 1)) ∙ same) order within room (omega arith);
-        score_sum = row_more rows len len' (93 * reads) 93 (93 * (reads + 1)) at (length s)
-            x.score_sum (map (lane_score e) q) few.score_sum (scores_at_most e q all) size_q order
-            within room (omega arith);
-        q30_bases = row_more rows len len' reads 1 (reads + 1) at (length s) x.q30_bases
-            (map (one_if (nat_le 30)) (map (lane_score e) q)) few.q30_bases
-            (ones (nat_le 30) (map (lane_score e) q))
-            (length-map (map (lane_score e) q) (one_if (nat_le 30))
-            ∙ size_q) order within room (omega arith);
-        a = letter is_a x.a few.a;
-        c = letter is_c x.c few.c;
-        g = letter is_g x.g few.g;
-        t = letter is_t x.t few.t;
-        n = letter is_n x.n few.n;
-      }
-
-  -- lanes can be added before or after the rows are cut to those that were reached
-  pub lanes_cut : len' ≡ max len (at + length s) → len' ≤ rows →
-      first_rows len' (columns_plus x (lanes_at at e s q))
-      ≡ columns_plus (first_rows len x) (lanes_at at e s q)
-  lanes_cut is room =
-      let letter = λ (p : ℕ → Bool) (xs : List ℕ) (old : IsFew rows len reads xs). row_cut rows len
-      len' reads 1 at (length s) xs (map (one_if p) s) old (ones p s) (length-map s (one_if p))
-      (omega arith) is room in
-      columns_same (first_rows len' (columns_plus x (lanes_at at e s q)))
-      (columns_plus (first_rows len x) (lanes_at at e s q))
-      (row_cut rows len len' reads 1 at (length s) x.bases (map (one_if (nat_le 1)) q) few.bases
-      (ones (nat_le 1) q) (length-map q (one_if (nat_le 1)) ∙ same) (omega arith) is room)
-      (row_cut rows len len' (93 * reads) 93 at (length s) x.score_sum (map (lane_score e) q)
-      few.score_sum (scores_at_most e q all) size_q (omega arith) is room)
-      (row_cut rows len len' reads 1 at (length s) x.q30_bases
-      (map (one_if (nat_le 30)) (map (lane_score e) q)) few.q30_bases
-      (ones (nat_le 30) (map (lane_score e) q))
-      (length-map (map (lane_score e) q) (one_if (nat_le 30)) ∙ size_q) (omega arith) is room)
-      (letter is_a x.a few.a) (letter is_c x.c few.c) (letter is_g x.g few.g)
-      (letter is_t x.t few.t) (letter is_n x.n few.n)
+-- adding no numbers changes nothing
+pub row_nothing : (rows len most at : ℕ) (xs : List ℕ) → IsFew rows len most xs → most ≤ 65535 →
+    at ≤ rows → xs ≡ rows_plus xs (replicate at 0 ++ [])
+row_nothing rows len most at xs few bound within =
+    let size = few.size in
+    let small : Small xs = λ k. let one = few.small k in omega arith in
+    grown_within xs at small (omega arith) ∙ ap (rows_plus xs) (sym (append-nil (replicate at 0)))

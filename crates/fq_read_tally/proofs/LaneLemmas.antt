@@ -1,20 +1,19 @@
 -- Bases that are counted by vectors, one after the other.
-use Rattle.std.proofs.Common.{◌≡◌, ℕ, zero, suc, ◌+◌, ◌-◌, ◌*◌, ◌<◌, ◌≤◌, Bool, true, false, ◌||◌, eqb, List, [], ◌∷◌, ◌++◌, length, map, take, drop, get_or, set, replicate, max, refl, ap, ap₂, sym, subst, ◌∙◌, arith, take-add}
+use Rattle.std.proofs.Common.{◌≡◌, ℕ, zero, suc, ◌+◌, ◌<◌, ◌≤◌, Bool, true, false, List, [], ◌∷◌, ◌++◌, length, take, drop, map, set, get_or, replicate, refl, ap, ap₂, sym, ◌∙◌, arith, eqb, max, subst, ◌-◌, ◌||◌, take-add}
 use Rattle.std.specs.List.{list_all}
-use Rattle.std.proofs.lemmas.List.{append-nil, append_assoc, take-append-drop, take_all, length-map, length-take-le, length-drop, drop-drop, drop_more, get_or_at, set_at, map_more}
+use Rattle.std.proofs.lemmas.List.{append_assoc, length-take-le, length-map, take-append-drop, take_all, length-drop, drop-drop, drop_more, get_or_at, set_at, map_more}
 use Rattle.std.proofs.lemmas.List.Folds.{list_all-append}
 use Rattle.std.proofs.lemmas.Bool.{and_parts, and_from}
-use Rattle.std.proofs.lemmas.Simd.{length-chunk}
-use lib.Lanes.{chunk}
 use Rattle.fq_text.specs.declared.encoding.Encoding.{Encoding}
 use Rattle.fq_text.specs.Scores.{is_scored}
+use Rattle.fq_trim.specs.Keeping.{scores}
 use Rattle.fq_trim.proofs.PlaceLemmas.{all_taken, all_dropped}
 use Rattle.fq_read_tally.specs.declared.columns.Columns.{Columns}
-use Rattle.fq_read_tally.specs.Rows.{rows_plus}
-use Rattle.fq_read_tally.specs.Columns.{columns_from, columns_plus}
-use Rattle.fq_read_tally.specs.Counting.{IsFew, AreFew, HoldsFew, most_reads, is_lane, lanes_at, first_rows}
-use Rattle.fq_read_tally.proofs.ColumnLemmas.{Small, grown_within, columns_same, columns_assoc, columns_joined}
-use Rattle.fq_read_tally.proofs.FewLemmas.{lanes_are_columns, lanes_moved, lanes_behind, lanes_more, lanes_cut}
+use Rattle.std.proofs.lemmas.Simd.{length-chunk}
+use lib.Lanes.{chunk}
+use Rattle.fq_read_tally.specs.Counting.{is_lane, most_reads}
+use Rattle.fq_read_tally.specs.Columns.{AreFew, HoldsFew, columns_from, columns_plus, first_rows, lanes_at}
+use Rattle.fq_read_tally.proofs.ColumnLemmas.{columns_assoc, columns_joined, few_weaker, lanes_are_columns, lanes_behind, lanes_cut, lanes_more, lanes_moved, lanes_nothing}
 
 -- Lanes that hold scored bytes, and zeros beside them.
 
@@ -46,31 +45,6 @@ pub lanes_then_none : (e : Encoding) (k : ℕ) (q : List ℕ) → list_all (is_s
 lanes_then_none e k q all = list_all-append (is_lane e) q (replicate k 0)
     ∙ and_from _ _ (scored_lanes e q all) (no_lanes e k)
 
--- Facts of a few reads that say less.
-row_weaker : (rows rows' len len' most most' : ℕ) (xs : List ℕ) → IsFew rows len most xs →
-    rows' ≤ rows → len ≤ len' → most ≤ most' → IsFew rows' len' most' xs
-row_weaker rows rows' len len' most most' xs few less order bound = record {
-  size = let size = few.size in omega arith;
-  behind = λ k from. few.behind k (omega arith);
-  small = λ k. let one = few.small k in omega arith;
-}
-
--- rows such as some reads can give are such as more reads can give that reach further
-pub few_weaker : (x : Columns) (rows rows' len len' reads reads' : ℕ) → AreFew rows len reads x →
-    rows' ≤ rows → len ≤ len' → reads ≤ reads' → AreFew rows' len' reads' x
-few_weaker x rows rows' len len' reads reads' few less order bound = record {
-  bases = row_weaker rows rows' len len' reads reads' x.bases few.bases less order bound;
-  score_sum = row_weaker rows rows' len len' (93 * reads) (93 * reads') x.score_sum few.score_sum
-      less order (omega arith);
-  q30_bases = row_weaker rows rows' len len' reads reads' x.q30_bases few.q30_bases less order
-      bound;
-  a = row_weaker rows rows' len len' reads reads' x.a few.a less order bound;
-  c = row_weaker rows rows' len len' reads reads' x.c few.c less order bound;
-  g = row_weaker rows rows' len len' reads reads' x.g few.g less order bound;
-  t = row_weaker rows rows' len len' reads reads' x.t few.t less order bound;
-  n = row_weaker rows rows' len len' reads reads' x.n few.n less order bound;
-}
-
 -- After its reads were moved a counter holds none.
 pub emptied : (old new : Columns) (last reached reads : ℕ) → HoldsFew last reached reads old →
     ((rows : ℕ) → AreFew rows reached 254 old → AreFew rows 0 0 new) → HoldsFew last 0 0 new
@@ -85,27 +59,6 @@ emptied old new last reached reads holds none =
       near = holds.near;
       room = omega arith;
     }
-
--- nothing is counted
-row_nothing : (rows len most at : ℕ) (xs : List ℕ) → IsFew rows len most xs → most ≤ 65535 →
-    at ≤ rows → xs ≡ rows_plus xs (replicate at 0 ++ [])
-row_nothing rows len most at xs few bound within =
-    let size = few.size in
-    let small : Small xs = λ k. let one = few.small k in omega arith in
-    grown_within xs at small (omega arith) ∙ ap (rows_plus xs) (sym (append-nil (replicate at 0)))
-
-lanes_nothing : (x : Columns) (rows len reads at : ℕ) (e : Encoding) → AreFew rows len reads x →
-    reads ≤ 254 → at ≤ rows → x ≡ columns_plus x (lanes_at at e [] [])
-lanes_nothing x rows len reads at e few bound within =
-    columns_same x (columns_plus x (lanes_at at e [] []))
-    (row_nothing rows len reads at x.bases few.bases (omega arith) within)
-    (row_nothing rows len (93 * reads) at x.score_sum few.score_sum (omega arith) within)
-    (row_nothing rows len reads at x.q30_bases few.q30_bases (omega arith) within)
-    (row_nothing rows len reads at x.a few.a (omega arith) within)
-    (row_nothing rows len reads at x.c few.c (omega arith) within)
-    (row_nothing rows len reads at x.g few.g (omega arith) within)
-    (row_nothing rows len reads at x.t few.t (omega arith) within)
-    (row_nothing rows len reads at x.n few.n (omega arith) within)
 
 -- counting no bases in the rows of a few reads changes nothing
 pub nothing_counted : (x : Columns) (rows len reads at : ℕ) (e : Encoding) →

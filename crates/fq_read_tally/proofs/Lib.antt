@@ -1,6 +1,7 @@
 pub mod RowLemmas
-pub mod ColumnLemmas
+pub mod PositionLemmas
 pub mod FewLemmas
+pub mod ColumnLemmas
 pub mod LaneLemmas
 pub mod ColumnExamples
 pub mod VectorLemmas

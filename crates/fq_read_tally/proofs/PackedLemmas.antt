@@ -6,7 +6,7 @@ use Rattle.fq_read_tally.specs.declared.tables.Head.{Head}
 use Rattle.fq_read_tally.specs.declared.tables.Width.{Width}
 use Rattle.fq_read_tally.specs.declared.tables.Width.TheVariants.{Bytes, Words, Longs}
 use Rattle.fq_read_tally.specs.Counting.{AtMost}
-use Rattle.fq_read_tally.specs.Packing.{first_table, after_first}
+use Rattle.fq_read_tally.specs.Tables.{first_table, after_first}
 use Rattle.fq_read_tally.specs.Packed.{of_width, bytes_after, words_after, longs_after, tables_in, AreWhole, bytes_of, words_of, longs_of}
 
 -- Lists with more behind them.

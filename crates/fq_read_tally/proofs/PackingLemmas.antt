@@ -1,11 +1,13 @@
 -- Tables behind others, and what they are read as.
 use Rattle.std.proofs.Common.{◌≡◌, ℕ, List, [], ◌∷◌, ◌++◌, refl, ap, ◌∙◌}
-use Rattle.fq_read_tally.specs.declared.bases.BaseTally.{BaseTally}
 use Rattle.fq_read_tally.specs.declared.columns.Columns.{Columns}
+use Rattle.fq_read_tally.specs.declared.bases.BaseTally.{BaseTally}
 use Rattle.fq_read_tally.specs.declared.reads.ReadsTally.{ReadsTally}
 use Rattle.fq_read_tally.specs.declared.side.SideTally.{SideTally}
 use Rattle.fq_read_tally.specs.SideColumns.{SideColumns}
-use Rattle.fq_read_tally.specs.Packing.{bases_tables, reads_tables, columns_tables, side_columns_tables, steps_tables, side_tables, later, side_table_count, side_in}
+use Rattle.fq_read_tally.specs.Columns.{columns_tables}
+use Rattle.fq_read_tally.specs.Tables.{later}
+use Rattle.fq_read_tally.specs.Packing.{bases_tables, reads_tables, side_columns_tables, side_in, side_table_count, side_tables, steps_tables}
 
 -- What is packed piece by piece is packed in one.
 
@@ -16,13 +18,6 @@ pub bases_packed : (ts : List (List ℕ)) (t : BaseTally) →
     ++ ((t.n ∷ []) ∷ []) ≡ ts ++ bases_tables t
 bases_packed [] t = refl
 bases_packed (u ∷ ts) t = ap (λ us. u ∷ us) (bases_packed ts t)
-
--- eight columns, packed one by one, are their tables
-pub columns_packed : (ts : List (List ℕ)) (t : Columns) →
-    ts ++ (t.bases ∷ []) ++ (t.score_sum ∷ []) ++ (t.q30_bases ∷ []) ++ (t.a ∷ [])
-    ++ (t.c ∷ []) ++ (t.g ∷ []) ++ (t.t ∷ []) ++ (t.n ∷ []) ≡ ts ++ columns_tables t
-columns_packed [] t = refl
-columns_packed (u ∷ ts) t = ap (λ us. u ∷ us) (columns_packed ts t)
 
 -- counts of reads, packed piece by piece, are their tables
 pub reads_packed : (ts : List (List ℕ)) (t : ReadsTally) →

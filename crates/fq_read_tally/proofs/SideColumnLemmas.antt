@@ -12,10 +12,10 @@ use Rattle.fq_read_tally.specs.declared.columns.Columns.{Columns}
 use Rattle.fq_read_tally.specs.declared.side_positions.SidePositions.TheInside.{Inside}
 use Rattle.fq_read_tally.specs.Courses.{part_at, whole}
 use Rattle.fq_read_tally.specs.Columns.{no_columns, columns_from, columns_of, columns_plus}
+use Rattle.fq_read_tally.proofs.ColumnLemmas.{columns_assoc, columns_joined}
 use Rattle.fq_read_tally.specs.Parts.{AreBases}
 use Rattle.fq_read_tally.specs.SideColumns.{SideColumns, with_before, with_after, with_columns, side_columns_plus}
 use Rattle.fq_read_tally.proofs.CourseLemmas.{part}
-use Rattle.fq_read_tally.proofs.ColumnLemmas.{columns_assoc, columns_joined}
 use Rattle.fq_read_tally.proofs.SideColumnSums.{columns_swap, columns_four}
 use Rattle.fq_read_tally.proofs.SideLemmas.{kept_is_left, kept_part}
 

@@ -4,8 +4,8 @@ use Rattle.fq_text.specs.Grammar.{Read}
 use Rattle.fq_read_tally.specs.declared.columns.Columns.{Columns}
 use Rattle.fq_read_tally.specs.Courses.{Part, whole, survives}
 use Rattle.fq_read_tally.specs.Columns.{columns_of, columns_plus}
-use Rattle.fq_read_tally.specs.SideColumns.{SideColumns, no_side_columns, with_before, with_after, with_columns, side_columns_plus}
 use Rattle.fq_read_tally.proofs.ColumnLemmas.{columns_assoc, columns_comm, columns_none}
+use Rattle.fq_read_tally.specs.SideColumns.{SideColumns, no_side_columns, with_before, with_after, with_columns, side_columns_plus}
 
 -- the last of three goes into the first two
 pub columns_swap : (a b c : Columns) → columns_plus (columns_plus a b) c ≡ columns_plus

@@ -15,8 +15,7 @@ use lib.Count.{ones}
 use lib.Lanes.{zip2, sel_l, mask_l, top, sum_l, Each1}
 use Rattle.fq_text.proofs.VectorLemmas.{flag, mask_of}
 use Rattle.fq_read_tally.specs.Vectors.{Holds}
-use Rattle.fq_read_tally.specs.Columns.{one_if}
-use Rattle.fq_read_tally.specs.Counting.{AtMost}
+use Rattle.fq_read_tally.specs.Counting.{one_if, AtMost}
 
 -- how many bytes pass, by the bits of their flags
 pub flags_counted : (p : ℕ → Bool) (v : List ℕ) {z : List ℕ} → length v ≤ 64 →

@@ -1,8 +1,9 @@
 pub mod Rows
+pub mod Tables
 pub mod Letters
 pub mod Courses
-pub mod Columns
 pub mod Counting
+pub mod Columns
 pub mod SideColumns
 pub mod Vectors
 pub mod SideTallies

@@ -1,14 +1,12 @@
--- How a tally is packed: as tables, one after the other. A number is a table of one row.
-use Rattle.std.specs.Prelude.{ℕ, zero, suc, ◌+◌, ◌*◌, List, [], ◌∷◌, ◌++◌, get_or}
+-- How a tally is packed: as tables, one after the other.
+use Rattle.std.specs.Prelude.{ℕ, ◌+◌, ◌*◌, List, [], ◌∷◌, ◌++◌}
 use Rattle.fq_read_tally.specs.declared.bases.BaseTally.{BaseTally}
-use Rattle.fq_read_tally.specs.declared.columns.Columns.{Columns}
 use Rattle.fq_read_tally.specs.declared.reads.ReadsTally.{ReadsTally}
 use Rattle.fq_read_tally.specs.declared.side.SideTally.{SideTally}
 use Rattle.fq_read_tally.specs.declared.steps.StepsTally.{StepsTally}
 use Rattle.fq_read_tally.specs.SideColumns.{SideColumns}
-
-abbrev pub number_table : ℕ → List (List ℕ)
-number_table n = (n ∷ []) ∷ []
+use Rattle.fq_read_tally.specs.Tables.{number_table, first_table, later, number_in}
+use Rattle.fq_read_tally.specs.Columns.{columns_tables, column_count, columns_in}
 
 abbrev pub bases_tables : BaseTally → List (List ℕ)
 bases_tables t =
@@ -19,9 +17,6 @@ abbrev pub reads_tables : ReadsTally → List (List ℕ)
 reads_tables t =
     number_table t.reads ++ (bases_tables t.bases
     ++ ((t.shortest ∷ []) ∷ (t.longest ∷ []) ∷ t.lengths ∷ t.mean_scores ∷ t.gc_percents ∷ []))
-
-abbrev pub columns_tables : Columns → List (List ℕ)
-columns_tables t = t.bases ∷ t.score_sum ∷ t.q30_bases ∷ t.a ∷ t.c ∷ t.g ∷ t.t ∷ t.n ∷ []
 
 abbrev pub side_columns_tables : SideColumns → List (List ℕ)
 side_columns_tables t =
@@ -36,28 +31,9 @@ side_tables t =
     ++ (((t.front ∷ []) ∷ (t.behind ∷ []) ∷ t.removed_front ∷ t.removed_behind ∷ [])
     ++ (side_columns_tables t.positions ++ steps_tables t.steps))))
 
--- What tables hold, read in the same order. Where none is left, a table has no rows.
+-- What tables hold, read in the same order.
 
-abbrev pub first_table : List (List ℕ) → List ℕ
-first_table [] = []
-first_table (t ∷ ts) = t
-
-abbrev pub after_first : List (List ℕ) → List (List ℕ)
-after_first [] = []
-after_first (t ∷ ts) = ts
-
--- what is left after so many tables
-abbrev pub later : ℕ → List (List ℕ) → List (List ℕ)
-later zero ts = ts
-later (suc n) ts = after_first (later n ts)
-
-abbrev pub number_in : List (List ℕ) → ℕ
-number_in ts = get_or (first_table ts) 0 0
-
--- how many tables columns are, the columns of a side, and a side
-abbrev pub column_count : ℕ
-column_count = 8
-
+-- how many tables the columns of a side are, and a side
 abbrev pub side_column_count : ℕ
 side_column_count = 3 * column_count
 
@@ -83,18 +59,6 @@ reads_in ts = record {
   lengths = first_table (later 9 ts);
   mean_scores = first_table (later 10 ts);
   gc_percents = first_table (later 11 ts);
-}
-
-abbrev pub columns_in : List (List ℕ) → Columns
-columns_in ts = record {
-  bases = first_table ts;
-  score_sum = first_table (later 1 ts);
-  q30_bases = first_table (later 2 ts);
-  a = first_table (later 3 ts);
-  c = first_table (later 4 ts);
-  g = first_table (later 5 ts);
-  t = first_table (later 6 ts);
-  n = first_table (later 7 ts);
 }
 
 abbrev pub side_columns_in : List (List ℕ) → SideColumns

@@ -35,7 +35,8 @@ pub struct BaseTally {
 impl BaseTally {
     ghost use Rattle.fq_read_tally.specs.Parts.{HasPart, part_between};
     ghost use Rattle.fq_read_tally.specs.SideTallies.{no_bases, bases_of, bases_plus, mean_score, gc_percent};
-    ghost use Rattle.fq_read_tally.specs.Packing.{bases_tables, bases_in, later};
+    ghost use Rattle.fq_read_tally.specs.Tables.{later};
+    ghost use Rattle.fq_read_tally.specs.Packing.{bases_tables, bases_in};
 
     // No bases.
     pub(crate) fn zero() -> BaseTally

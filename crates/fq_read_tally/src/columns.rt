@@ -4,9 +4,9 @@ ghost use Rattle.std.specs.Prelude.{◌≡◌, ◌+◌, ◌≤◌, true, ◌++�
 ghost use Rattle.std.specs.List.{list_all};
 ghost use Rattle.fq_text.specs.Grammar.{limit};
 ghost use Rattle.fq_text.specs.Scores.{is_scored};
-ghost use Rattle.fq_read_tally.specs.Columns.{last_position, no_columns, columns_from, columns_plus};
-ghost use Rattle.fq_read_tally.specs.Counting.{empty_rows, one_in};
-ghost use Rattle.fq_read_tally.specs.Packing.{columns_tables, columns_in, column_count, later};
+ghost use Rattle.fq_read_tally.specs.Counting.{last_position};
+ghost use Rattle.fq_read_tally.specs.Tables.{later};
+ghost use Rattle.fq_read_tally.specs.Columns.{no_columns, columns_from, columns_plus, empty_rows, one_in, columns_tables, columns_in, column_count};
 
 use crate::rows::Rows;
 use crate::tables::Tables;

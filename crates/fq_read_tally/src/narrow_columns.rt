@@ -4,8 +4,8 @@ ghost use Rattle.std.specs.Prelude.{◌≡◌, ◌+◌, ◌-◌, ◌≤◌, ◌<
 ghost use Rattle.std.specs.List.{list_all};
 ghost use Rattle.fq_text.specs.Scores.{is_scored};
 ghost use Rattle.fq_text.specs.declared.encoding.Encoding.TheVariants.{Solexa};
-ghost use Rattle.fq_read_tally.specs.Columns.{last_position, columns_from, columns_plus};
-ghost use Rattle.fq_read_tally.specs.Counting.{first_rows, is_lane, lane_score, lanes_at, most_reads, few_rows, AreFew};
+ghost use Rattle.fq_read_tally.specs.Counting.{last_position, is_lane, lane_score, most_reads, few_rows};
+ghost use Rattle.fq_read_tally.specs.Columns.{columns_from, columns_plus, first_rows, lanes_at, AreFew};
 
 use crate::columns::Columns;
 use crate::narrow_rows::{ByteRows, WordRows};

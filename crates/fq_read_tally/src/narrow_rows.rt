@@ -2,8 +2,7 @@
 
 ghost use Rattle.std.specs.Prelude.{◌≡◌, ◌+◌, ◌≤◌, ℕ, ◌++◌, length, replicate, take, get_or, IfOk};
 ghost use Rattle.fq_read_tally.specs.Rows.{rows_plus};
-ghost use Rattle.fq_read_tally.specs.Columns.{last_position};
-ghost use Rattle.fq_read_tally.specs.Counting.{most_reads, largest_word, word_before_byte, AtMost, IsFew};
+ghost use Rattle.fq_read_tally.specs.Counting.{last_position, most_reads, largest_word, word_before_byte, AtMost, IsFew};
 
 use crate::rows::Rows;
 use crate::unread::Table;

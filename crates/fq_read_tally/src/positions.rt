@@ -4,9 +4,9 @@ ghost use Rattle.std.specs.Prelude.{◌≡◌, ◌+◌, ◌≤◌, ℕ, true, �
 ghost use Rattle.std.specs.List.{list_all};
 ghost use Rattle.fq_text.specs.Grammar.{limit};
 ghost use Rattle.fq_text.specs.Scores.{is_scored};
-ghost use Rattle.fq_read_tally.specs.Columns.{last_position, no_columns, columns_from, columns_plus};
-ghost use Rattle.fq_read_tally.specs.Counting.{first_rows, most_reads, AreFew};
-ghost use Rattle.fq_read_tally.specs.Packing.{columns_tables, columns_in, column_count, later};
+ghost use Rattle.fq_read_tally.specs.Counting.{last_position, most_reads};
+ghost use Rattle.fq_read_tally.specs.Tables.{later};
+ghost use Rattle.fq_read_tally.specs.Columns.{no_columns, columns_from, columns_plus, first_rows, AreFew, columns_tables, columns_in, column_count};
 
 use crate::columns::{Columns, LAST_POSITION};
 use crate::narrow_columns::NarrowColumns;
@@ -42,8 +42,7 @@ pub(crate) struct Positions {
 
 impl Model for Positions {
     ghost use Rattle.fq_read_tally.specs.declared.columns.Columns.{Columns};
-    ghost use Rattle.fq_read_tally.specs.Columns.{columns_plus};
-    ghost use Rattle.fq_read_tally.specs.Counting.{first_rows, HoldsFew};
+    ghost use Rattle.fq_read_tally.specs.Columns.{columns_plus, first_rows, HoldsFew};
 
     ghost Value = { Columns };
 

@@ -34,7 +34,8 @@ pub struct ReadsTally {
 
 impl ReadsTally {
     ghost use Rattle.fq_read_tally.specs.SideTallies.{no_reads, with_bases, reads_plus};
-    ghost use Rattle.fq_read_tally.specs.Packing.{reads_tables, reads_in, later};
+    ghost use Rattle.fq_read_tally.specs.Tables.{later};
+    ghost use Rattle.fq_read_tally.specs.Packing.{reads_tables, reads_in};
 
     // No reads.
     pub(crate) fn new(alloc: Global) -> Result<ReadsTally, OutOfMemory>

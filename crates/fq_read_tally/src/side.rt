@@ -43,7 +43,8 @@ pub struct SideTally {
 
 impl SideTally {
     ghost use Rattle.fq_read_tally.specs.SideTallies.{no_side, with_left, with_read, side_plus};
-    ghost use Rattle.fq_read_tally.specs.Packing.{side_tables, side_in, side_table_count, later};
+    ghost use Rattle.fq_read_tally.specs.Tables.{later};
+    ghost use Rattle.fq_read_tally.specs.Packing.{side_tables, side_in, side_table_count};
 
     // No reads.
     pub(crate) fn new(alloc: Global) -> Result<SideTally, OutOfMemory>

@@ -31,7 +31,8 @@ impl Model for SideCounts {
 
 impl SideCounts {
     ghost use Rattle.fq_read_tally.specs.SideTallies.{no_side, with_read, side_plus};
-    ghost use Rattle.fq_read_tally.specs.Packing.{side_tables, side_in, side_table_count, later};
+    ghost use Rattle.fq_read_tally.specs.Tables.{later};
+    ghost use Rattle.fq_read_tally.specs.Packing.{side_tables, side_in, side_table_count};
 
     /// The counts of no reads. Takes the memory that counting can't do without, which may be
     /// refused.

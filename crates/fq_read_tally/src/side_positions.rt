@@ -45,10 +45,11 @@ impl Model for SidePositions {
 }
 
 impl SidePositions {
+    ghost use Rattle.fq_read_tally.specs.Tables.{later};
     ghost use Rattle.fq_read_tally.specs.Columns.{columns_from};
+    ghost use Rattle.fq_read_tally.specs.Packing.{side_columns_tables, side_columns_in, side_column_count};
     ghost use Rattle.fq_read_tally.specs.SideColumns.{no_side_columns, with_before, with_after, with_columns, side_columns_plus};
     ghost use Rattle.fq_read_tally.specs.Parts.{AreBases};
-    ghost use Rattle.fq_read_tally.specs.Packing.{side_columns_tables, side_columns_in, side_column_count, later};
 
     // No bases.
     pub(crate) fn new(alloc: Global) -> Result<SidePositions, OutOfMemory>

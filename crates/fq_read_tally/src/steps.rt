@@ -2,7 +2,8 @@
 
 ghost use Rattle.std.specs.Prelude.{◌≡◌, ◌++◌, IfOk, OnOk};
 ghost use Rattle.fq_read_tally.specs.Rows.{counted_all};
-ghost use Rattle.fq_read_tally.specs.Packing.{steps_tables, steps_in, later};
+ghost use Rattle.fq_read_tally.specs.Tables.{later};
+ghost use Rattle.fq_read_tally.specs.Packing.{steps_tables, steps_in};
 
 use crate::rows::Rows;
 use crate::tables::Tables;

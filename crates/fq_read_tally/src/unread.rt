@@ -65,7 +65,7 @@ impl<'a> Model for Unread<'a> {
 impl<'a> Unread<'a> {
     ghost use Rattle.std.specs.Prelude.{◌≡◌, ◌≤◌, length};
     ghost use Rattle.fq_read_tally.specs.Rows.{most_rows, rows_plus};
-    ghost use Rattle.fq_read_tally.specs.Packing.{first_table, later, number_in};
+    ghost use Rattle.fq_read_tally.specs.Tables.{first_table, later, number_in};
     ghost use Rattle.fq_read_tally.specs.Unreads.{counts_of};
 
     /// All tables.

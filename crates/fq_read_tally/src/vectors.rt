@@ -4,8 +4,7 @@ ghost use Rattle.std.specs.Prelude.{◌≡◌, ◌+◌, ◌-◌, ◌≤◌, ◌+
 ghost use Rattle.std.specs.Prelude.{count_by, map, nat_le, sum, ◌==◌, ◌||◌};
 ghost use Rattle.fq_read_tally.specs.Vectors.{Holds};
 ghost use Rattle.fq_read_tally.specs.Letters.{is_gc, is_n};
-ghost use Rattle.fq_read_tally.specs.Columns.{one_if};
-ghost use Rattle.fq_read_tally.specs.Counting.{AtMost};
+ghost use Rattle.fq_read_tally.specs.Counting.{one_if, AtMost};
 
 use std::simd::prelude::*;
 

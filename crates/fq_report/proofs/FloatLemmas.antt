@@ -10,9 +10,9 @@ use Rattle.fq_tally.specs.declared.tally.Tally.{Tally}
 use Rattle.serde_json.specs.Data.{Data, null}
 use Rattle.serde_json.specs.View.{items_of}
 use Rattle.serde_json.specs.Written.{has_float, items_have_float}
-use Rattle.fq_report.specs.Values.{count, list, optional_text}
+use Rattle.fq_report.specs.Values.{count, list, fields, optional_text}
 use Rattle.fq_report.specs.Facts.{Facts}
-use Rattle.fq_report.specs.Reports.{inputs_value, outputs_value, pairs_value, length_value, rows_from, counts, positions_value, reads_value, removed_value, side_value, sides_value, done_value, step_value, steps_from, report_value}
+use Rattle.fq_report.specs.Reports.{inputs_value, outputs_value, pairs_value, length_value, rows_from, counts, named_columns, positions_value, reads_value, removed_value, side_value, sides_value, done_value, step_value, steps_from, report_value}
 
 text_no_float : (text : Option (List ℕ)) → has_float (optional_text text) ≡ false
 text_no_float (Some text) = refl
@@ -57,19 +57,14 @@ numbers_no_float : (ns : List ℕ) → items_have_float (items_of (map count ns)
 numbers_no_float [] = refl
 numbers_no_float (n ∷ ns) = numbers_no_float ns
 
+lists_no_float : (named : List (List ℕ × List ℕ)) →
+    has_float (fields (map (λ column. (column.0, counts column.1)) named)) ≡ false
+lists_no_float [] = refl
+lists_no_float (column ∷ columns) = rw (numbers_no_float column.1) (lists_no_float columns)
+
 positions_no_float : (columns : Columns) → has_float (positions_value columns) ≡ false
 unfolding positions_value
-positions_no_float columns =
-    rw (
-      numbers_no_float columns.a,
-      numbers_no_float columns.bases,
-      numbers_no_float columns.c,
-      numbers_no_float columns.g,
-      numbers_no_float columns.n,
-      numbers_no_float columns.q30_bases,
-      numbers_no_float columns.score_sum,
-      numbers_no_float columns.t,
-    ) refl
+positions_no_float columns = lists_no_float (named_columns columns)
 
 reads_no_float : (t : ReadsTally) (columns : Columns) → has_float (reads_value t columns) ≡ false
 unfolding reads_value

@@ -72,16 +72,21 @@ rows_from number (reads ∷ rows) =
 abbrev pub counts : List ℕ → Data
 counts numbers = list (map count numbers)
 
+-- the columns with their names, in the order of these
+abbrev pub named_columns : Columns → List (List ℕ × List ℕ)
+named_columns columns =
+    (codes "a", columns.a)
+    ∷ (codes "bases", columns.bases)
+    ∷ (codes "c", columns.c)
+    ∷ (codes "g", columns.g)
+    ∷ (codes "n", columns.n)
+    ∷ (codes "q30_bases", columns.q30_bases)
+    ∷ (codes "score_sum", columns.score_sum)
+    ∷ (codes "t", columns.t) ∷ []
+
 unfoldable pub positions_value : Columns → Data
-positions_value columns = fields (
-    (codes "a", counts columns.a)
-    ∷ (codes "bases", counts columns.bases)
-    ∷ (codes "c", counts columns.c)
-    ∷ (codes "g", counts columns.g)
-    ∷ (codes "n", counts columns.n)
-    ∷ (codes "q30_bases", counts columns.q30_bases)
-    ∷ (codes "score_sum", counts columns.score_sum)
-    ∷ (codes "t", counts columns.t) ∷ [])
+positions_value columns =
+    fields (map (λ column. (column.0, counts column.1)) (named_columns columns))
 
 -- reads, and their bases by position
 unfoldable pub reads_value : ReadsTally → Columns → Data

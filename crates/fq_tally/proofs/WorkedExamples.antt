@@ -1,5 +1,6 @@
 -- Worked pairs, computed from the definitions alone.
 use Rattle.std.proofs.Common.{◌≡◌, ℕ, ◌*◌, List, [], ◌∷◌, codes, refl}
+use Rattle.fq_text.specs.declared.encoding.Encoding.TheVariants.{Sanger}
 use Rattle.fq_trim.specs.declared.step.Step.{Step}
 use Rattle.fq_trim.specs.declared.step.Step.TheVariants.{Crop}
 use Rattle.fq_pair.specs.Mates.{Mates, mates_in}
@@ -7,7 +8,7 @@ use Rattle.fq_read_tally.specs.declared.bases.BaseTally.{BaseTally}
 use Rattle.fq_read_tally.specs.declared.reads.ReadsTally.{ReadsTally}
 use Rattle.fq_read_tally.specs.declared.columns.Columns.{Columns}
 use Rattle.fq_read_tally.specs.Rows.{with_one}
-use Rattle.fq_read_tally.specs.Columns.{no_columns}
+use Rattle.fq_read_tally.specs.Columns.{no_columns, columns_of, columns_plus}
 use Rattle.fq_read_tally.specs.SideTallies.{no_reads}
 use Rattle.fq_read_tally.proofs.WorkedExamples.{read_of}
 use Rattle.fq_tally.specs.Tallies.{no_tally, tally_of, plus}
@@ -46,20 +47,12 @@ good bases gc = record {
 abbrev score_20 : BaseTally
 score_20 = record { bases = 1; at_least_20 = 1; at_least_30 = 0; score_sum = 20; gc = 0; n = 0 }
 
-abbrev columns_are : List ℕ → List ℕ → List ℕ → List ℕ → List ℕ → List ℕ → List ℕ → List ℕ → Columns
-columns_are bases score_sum q30_bases a c g t n = record {
-  bases = bases;
-  score_sum = score_sum;
-  q30_bases = q30_bases;
-  a = a;
-  c = c;
-  g = g;
-  t = t;
-  n = n;
-}
+-- the columns of a read
+abbrev columns_in : List ℕ → List ℕ → Columns
+columns_in seq qual = columns_of (record { encoding = Sanger; seq = seq; qual = qual })
 
 abbrev one_t : Columns
-one_t = columns_are (1 ∷ []) (20 ∷ []) (0 ∷ []) (0 ∷ []) (0 ∷ []) (0 ∷ []) (1 ∷ []) (0 ∷ [])
+one_t = columns_in (codes "T") (codes "5")
 
 two_pairs : tally_of crop (first ∷ second ∷ []) ≡ record {
   forward = record {
@@ -72,12 +65,10 @@ two_pairs : tally_of crop (first ∷ second ∷ []) ≡ record {
     removed_front = 2 ∷ [];
     removed_behind = 1 ∷ 1 ∷ [];
     positions = record {
-      before = columns_are (2 ∷ 2 ∷ 1 ∷ []) (80 ∷ 80 ∷ 40 ∷ []) (2 ∷ 2 ∷ 1 ∷ []) (1 ∷ 0 ∷ 0 ∷ [])
-          (0 ∷ 1 ∷ 0 ∷ []) (1 ∷ 1 ∷ 1 ∷ []) (0 ∷ 0 ∷ 0 ∷ []) (0 ∷ 0 ∷ 0 ∷ []);
-      paired = columns_are (1 ∷ 1 ∷ []) (40 ∷ 40 ∷ []) (1 ∷ 1 ∷ []) (1 ∷ 0 ∷ []) (0 ∷ 1 ∷ [])
-          (0 ∷ 0 ∷ []) (0 ∷ 0 ∷ []) (0 ∷ 0 ∷ []);
-      unpaired = columns_are (1 ∷ 1 ∷ []) (40 ∷ 40 ∷ []) (1 ∷ 1 ∷ []) (0 ∷ 0 ∷ []) (0 ∷ 0 ∷ [])
-          (1 ∷ 1 ∷ []) (0 ∷ 0 ∷ []) (0 ∷ 0 ∷ []);
+      before = columns_plus (columns_in (codes "ACG") (codes "III"))
+          (columns_in (codes "GG") (codes "II"));
+      paired = columns_in (codes "AC") (codes "II");
+      unpaired = columns_in (codes "GG") (codes "II");
     };
     steps = record { shortened = 1 ∷ []; dropped = [] };
   };

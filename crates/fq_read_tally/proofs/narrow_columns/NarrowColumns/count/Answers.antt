@@ -2,7 +2,8 @@ use Rattle.std.proofs.Common.{◌+◌, length, drop, arith}
 use lib.Lanes.{chunk}
 use Rattle.fq_text.specs.Scores.{is_scored}
 use Rattle.fq_trim.proofs.PlaceLemmas.{all_taken, all_dropped}
-use Rattle.fq_read_tally.proofs.LaneLemmas.{scored_lanes, nothing_counted, vector_next, rest_next, all_counted, still_few, few_weaker}
+use Rattle.fq_read_tally.proofs.ColumnLemmas.{few_weaker}
+use Rattle.fq_read_tally.proofs.LaneLemmas.{scored_lanes, nothing_counted, vector_next, rest_next, all_counted, still_few}
 use Rattle.fq_read_tally.proofs.narrow_columns.NarrowColumns.count.Goals as goal
 
 -- at first no base is counted

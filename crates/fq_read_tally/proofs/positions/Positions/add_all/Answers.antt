@@ -1,6 +1,5 @@
 use Rattle.std.proofs.Common.{◌∙◌, ap, ap₂}
-use Rattle.fq_read_tally.specs.Columns.{columns_plus}
-use Rattle.fq_read_tally.specs.Counting.{first_rows}
+use Rattle.fq_read_tally.specs.Columns.{columns_plus, first_rows}
 use Rattle.fq_read_tally.proofs.ColumnLemmas.{columns_both}
 use Rattle.fq_read_tally.proofs.positions.Positions.add_all.Goals as goal
 

@@ -1,6 +1,5 @@
 use Rattle.std.proofs.Common.{◌∙◌, ap}
-use Rattle.fq_read_tally.specs.Columns.{columns_plus}
-use Rattle.fq_read_tally.specs.Counting.{first_rows}
+use Rattle.fq_read_tally.specs.Columns.{columns_plus, first_rows}
 use Rattle.fq_read_tally.proofs.ColumnLemmas.{columns_assoc}
 use Rattle.fq_read_tally.proofs.positions.Positions.add_to.Goals as goal
 

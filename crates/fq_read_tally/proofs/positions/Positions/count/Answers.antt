@@ -1,6 +1,5 @@
 use Rattle.std.proofs.Common.{ap, ◌∙◌, arith}
-use Rattle.fq_read_tally.specs.Columns.{columns_from, columns_plus}
-use Rattle.fq_read_tally.specs.Counting.{first_rows}
+use Rattle.fq_read_tally.specs.Columns.{columns_from, columns_plus, first_rows}
 use Rattle.fq_read_tally.proofs.ColumnLemmas.{columns_swap, columns_none}
 use Rattle.fq_read_tally.proofs.LaneLemmas.{read_added, read_held, read_full, read_moved}
 use Rattle.fq_read_tally.proofs.positions.Positions.count.Goals as goal

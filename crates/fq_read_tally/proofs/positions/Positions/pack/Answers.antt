@@ -1,6 +1,6 @@
 use Rattle.std.proofs.Common.{◌≡◌, ◌++◌, OnOk, subst, ◌∙◌}
 use Rattle.fq_read_tally.specs.declared.columns.Columns.{Columns}
-use Rattle.fq_read_tally.specs.Packing.{columns_tables}
+use Rattle.fq_read_tally.specs.Columns.{columns_tables}
 use Rattle.fq_read_tally.proofs.LaneLemmas.{emptied}
 use Rattle.fq_read_tally.proofs.positions.Positions.pack.Goals as goal
 

@@ -3,7 +3,7 @@ use Rattle.std.proofs.lemmas.List.{get_or_read}
 use Rattle.fq_trim.specs.Sums.{capped_sum}
 use Rattle.fq_read_tally.specs.Rows.{rows_plus}
 use Rattle.fq_read_tally.proofs.RowLemmas.{grown_row}
-use Rattle.fq_read_tally.proofs.ColumnLemmas.{more_at}
+use Rattle.fq_read_tally.proofs.PositionLemmas.{more_at}
 use Rattle.fq_read_tally.proofs.rows.Rows.add_to.Goals as goal
 
 -- the row can be read, since the rows have grown

@@ -1,7 +1,7 @@
 use Rattle.std.proofs.Common.{◌≡◌, ◌-◌, ◌++◌, length, get_or, take, replicate, ap, ap₂, ◌∙◌, arith}
 use Rattle.std.specs.Vec.{vec_len}
 use Rattle.std.proofs.lemmas.List.{take_all}
-use Rattle.fq_read_tally.proofs.ColumnLemmas.{Small, grown_behind, grown_within}
+use Rattle.fq_read_tally.proofs.PositionLemmas.{Small, grown_behind, grown_within}
 use Rattle.fq_read_tally.proofs.rows.Rows.grow.Goals as goal
 
 -- if there are fewer rows, rows that count 0 are appended

@@ -1,8 +1,9 @@
 use Rattle.std.proofs.Common.{◌≡◌, ◌*◌, ap, ◌∙◌}
 use Rattle.fq_read_tally.specs.declared.columns.Columns.{Columns}
-use Rattle.fq_read_tally.specs.Columns.{columns_plus}
+use Rattle.fq_read_tally.specs.Tables.{later}
+use Rattle.fq_read_tally.specs.Columns.{columns_plus, columns_in, column_count}
+use Rattle.fq_read_tally.specs.Packing.{side_columns_in}
 use Rattle.fq_read_tally.specs.SideColumns.{SideColumns, side_columns_plus}
-use Rattle.fq_read_tally.specs.Packing.{columns_in, column_count, side_columns_in, later}
 use Rattle.fq_read_tally.proofs.SideColumnLemmas.{side_of, side_more}
 use Rattle.fq_read_tally.proofs.side_positions.SidePositions.add_unread.Goals as goal
 

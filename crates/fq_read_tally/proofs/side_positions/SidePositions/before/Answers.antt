@@ -1,8 +1,8 @@
 use Rattle.std.proofs.Common.{ap, ◌∙◌}
 use Rattle.fq_read_tally.specs.declared.columns.Columns.{Columns}
 use Rattle.fq_read_tally.specs.Columns.{columns_plus}
-use Rattle.fq_read_tally.specs.SideColumns.{SideColumns}
 use Rattle.fq_read_tally.proofs.ColumnLemmas.{columns_assoc}
+use Rattle.fq_read_tally.specs.SideColumns.{SideColumns}
 use Rattle.fq_read_tally.proofs.side_positions.SidePositions.before.Goals as goal
 
 -- three counters together are the columns of all bases as they were read

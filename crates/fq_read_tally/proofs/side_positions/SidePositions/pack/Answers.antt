@@ -1,8 +1,8 @@
 use Rattle.std.proofs.Common.{◌≡◌, ap, ap₂, ◌∙◌}
 use Rattle.fq_read_tally.specs.Columns.{columns_plus}
-use Rattle.fq_read_tally.specs.SideColumns.{SideColumns}
 use Rattle.fq_read_tally.proofs.ColumnLemmas.{columns_assoc, columns_comm}
 use Rattle.fq_read_tally.proofs.PackingLemmas.{three_packed}
+use Rattle.fq_read_tally.specs.SideColumns.{SideColumns}
 use Rattle.fq_read_tally.proofs.side_positions.SidePositions.pack.Goals as goal
 
 -- the tables are those of the three sums: as read, left with a mate, left alone
