@@ -40,7 +40,9 @@ need() {
 # unless it is up to date.
 find_program() {
   program=${FQ_PROG:-$tree/crates/fq_prog/out/fq_prog}
-  if [ -z "${FQ_PROG-}" ]; then make -s build > /dev/null || exit 1; fi
+  if [ -n "${FQ_PROG-}" ] || make -q build > /dev/null 2>&1; then return; fi
+  echo "$this: builds the program first, as make build does, unless FQ_PROG names one" >&2
+  make -s build > /dev/null || exit 1
 }
 
 # need_proved PROGRAM..: ends the script as skipped unless these programs, which only a gate leaves,

@@ -17,7 +17,7 @@ use Rattle.fq_read_tally.specs.Courses.{Part}
 use Rattle.fq_read_tally.specs.Letters.{is_a, is_c, is_g, is_t, is_n}
 use Rattle.fq_read_tally.proofs.RowLemmas.{plus_none}
 use Rattle.fq_read_tally.specs.Counting.{AtMost, IsFew, by_position, lane_score, one_if, placed}
-use Rattle.fq_read_tally.specs.Columns.{AreFew, columns_from, columns_of, columns_plus, columns_tables, each_column, empty_rows, first_rows, lanes_at, no_columns, one_in}
+use Rattle.fq_read_tally.specs.Columns.{AreCleared, AreFew, columns_from, columns_of, columns_plus, columns_tables, each_column, empty_rows, first_rows, lanes_at, no_columns, one_in}
 use Rattle.fq_read_tally.proofs.PositionLemmas.{one_if_small, ones_joined, placed_joined, placed_none, placed_one, rows_assoc, rows_comm, scores_small}
 use Rattle.fq_read_tally.proofs.FewLemmas.{lanes_bases, lanes_scores, mapped_at_most, placed_short, row_behind, row_cut, row_more, row_nothing, row_weaker, scores_at_most, zeros_in_front, zeros_mapped}
 
@@ -216,6 +216,20 @@ few_weaker x rows rows' len len' reads reads' few less order bound = record {
   g = row_weaker rows rows' len len' reads reads' x.g few.g less order bound;
   t = row_weaker rows rows' len len' reads reads' x.t few.t less order bound;
   n = row_weaker rows rows' len len' reads reads' x.n few.n less order bound;
+}
+
+-- columns that were cleared hold nothing of a few reads
+pub few_cleared : (x y : Columns) (rows count most : ℕ) → AreCleared x y →
+    AreFew rows count most x → AreFew rows 0 0 y
+few_cleared x y rows count most cleared few = record {
+  bases = cleared.bases rows few.bases.size;
+  score_sum = cleared.score_sum rows few.score_sum.size;
+  q30_bases = cleared.q30_bases rows few.q30_bases.size;
+  a = cleared.a rows few.a.size;
+  c = cleared.c rows few.c.size;
+  g = cleared.g rows few.g.size;
+  t = cleared.t rows few.t.size;
+  n = cleared.n rows few.n.size;
 }
 
 -- no lanes add nothing to the rows of a few reads

@@ -5,7 +5,7 @@ ghost use Rattle.std.specs.List.{list_all};
 ghost use Rattle.fq_text.specs.Scores.{is_scored};
 ghost use Rattle.fq_text.specs.declared.encoding.Encoding.TheVariants.{Solexa};
 ghost use Rattle.fq_read_tally.specs.Counting.{last_position, is_lane, lane_score, most_reads, few_rows};
-ghost use Rattle.fq_read_tally.specs.Columns.{columns_from, columns_plus, first_rows, lanes_at, AreFew};
+ghost use Rattle.fq_read_tally.specs.Columns.{columns_from, columns_plus, first_rows, lanes_at, AreCleared, AreFew};
 
 use crate::columns::Columns;
 use crate::narrow_rows::{ByteRows, WordRows};
@@ -152,6 +152,14 @@ impl NarrowColumns {
     pub(crate) fn clear(&mut self, count: usize)
         requires few { AreFew count count most_reads self.old }
         ensures { (rows : ℕ) → AreFew rows count most_reads self.old → AreFew rows 0 0 self.new }
+    {
+        self.clear_each(count);
+    }
+
+    // Sets all rows of each column to 0.
+    fn clear_each(&mut self, count: usize)
+        requires few { AreFew count count most_reads self.old }
+        ensures { AreCleared self.old self.new }
     {
         self.bases.clear(count);
         self.score_sum.clear(count);
