@@ -303,11 +303,17 @@ def example_report(program: str) -> Any:
 
 
 def laid_out(value: Any, room: int) -> List[str]:
-    """JSON in lines of at most `room` characters, with a line for each field that needs several."""
+    """JSON in lines of at most `room` characters, with a line for each field that needs several, and
+    for each item of a list that does."""
     flat = json.dumps(value)
-    if len(flat) <= room or not isinstance(value, dict):
+    if len(flat) <= room or not isinstance(value, (dict, list)):
         return [flat]
     lines: List[str] = []
+    if isinstance(value, list):
+        for item in value:
+            lines += [f' {line}' for line in laid_out(item, room - 2)]
+            lines[-1] += ','
+        return ['[' + lines[0][1:], *lines[1:-1], lines[-1][:-1] + ']']
     full = True
     for name, field in value.items():
         short = f'{json.dumps(name)}: {json.dumps(field)},'
