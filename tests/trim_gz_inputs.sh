@@ -110,6 +110,31 @@ gzip -dc < "$work/out/P1.GZ" | cmp -s - "$plain/p1.fq" || fail 'out/P1.GZ is not
 gzip -dc < "$work/out/S.Gz" | cmp -s - "$plain/summary" || fail 'out/S.Gz is not compressed'
 damaged data/TEXT.GZ 'not in gzip format' -1 data/TEXT.GZ -2 data/r.gz "${rest[@]}"
 
+row='a decompressor that is not installed'
+mkdir "$work/few"
+ln -s "$(python3 -c 'import sys; print(sys.executable)')" "$work/few/python3"
+for each in sh cat bgzip cutadapt; do
+  if command -v $each > /dev/null; then ln -s "$(command -v $each)" "$work/few/"; fi
+done
+{ cat f.gz && head -c 9 /dev/zero; } > padded.gz # only gzip takes zeros at the end
+made -1 data/padded.gz -2 data/r.gz "${rest[@]}"
+as_plain p1.fq u1.fq p2.fq u2.fq
+tools=$work/few refused 1 'trim_gz: no program gzip, which reads data/padded.gz' -1 data/padded.gz -2 data/r "${rest[@]}"
+row='a decompressor that cannot be started'
+echo '#!/nowhere/sh' > "$work/few/gzip"
+chmod +x "$work/few/gzip"
+plain_out=(--paired1 out/p1.fq --unpaired1 out/u1.fq --paired2 out/p2.fq --unpaired2 out/u2.fq)
+tools=$work/few refused 4 'trim_gz: cannot start gzip: No such file or directory' -1 data/padded.gz -2 data/r "${plain_out[@]}" "${last[@]}"
+earlier
+(cd "$work" && tools=$work/few trimmed -1 data/a1 -1 data/padded.gz -2 data/a2 -2 data/r "${plain_out[@]}" "${last[@]}") > "$work/printed" 2> "$work/told"
+[ $? -eq 4 ] || fail 'in a later lane the status is not 4'
+grep -qx 'trim_gz: cannot read data/padded.gz: .*gzip.*' "$work/told" || fail "of a later lane it says '$(cat "$work/told")'"
+untouched
+if has cutadapt cutadapt; then
+  tools=$work/few refused 4 'trim_gz: cannot read data/padded.gz: cannot start gzip: No such file or directory' \
+    -1 data/padded.gz -2 data/r --adapters truseq "${plain_out[@]}" "${last[@]}"
+fi
+
 row='a program that reads nothing'
 for each in n1.gz:n2.gz none1.gz:none2.gz; do
   program=$(command -v true) refused 4 "trim_gz: $(command -v true) ended before it had read its inputs" -1 "data/${each%:*}" -2 "data/${each#*:}" "${rest[@]}"

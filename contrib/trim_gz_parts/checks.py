@@ -13,6 +13,7 @@ FORMATS = (
 BLOCK_BYTES = 1 << 16   # the most that a block of BGZF can have
 BLOCK_START = b"\x1f\x8b\x08\x04"
 BLOCK_EXTRA = b"\x06\0BC\x02\0"
+END_BLOCK = bytes.fromhex("1f8b08040000000000ff0600424302001b0003000000000000000000")  # of BGZF
 RECORD_BYTES = 1 << 20  # a first record that is longer isn't looked at
 READ_NUMBER = re.compile(rb"@\S*\s+([1-9]):[YN]:")
 PASSED = "(--no-name-check passes them)"

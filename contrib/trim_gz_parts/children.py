@@ -121,6 +121,10 @@ class Child:
         """Whether it ended because nobody reads what it writes."""
         return self.status == -signal.SIGPIPE or b"Broken pipe" in self.said
 
+    def is_not_started(self) -> bool:
+        """Whether a shell, or `whole_lines`, could not start what it was to run."""
+        return self.status in (126, 127)
+
     def was_killed(self) -> bool:
         return self.status is not None and self.status < 0
 

@@ -6,11 +6,12 @@ import gzip
 import io
 import os
 import re
+import shutil
 import stat
 import sys
 from typing import Dict, Iterable, List, Optional, Sequence
 
-from .checks import lacks_end, other_format
+from .checks import END_BLOCK, lacks_end, other_format
 from .faults import Fault, reason, write_all
 
 # A named pipe is opened by a shell, which waits for its writer.
@@ -94,24 +95,43 @@ class Input:
         self.is_done = False
         self.is_packed = False  # a compressed file, not a pipe
 
-    def open(self, decompressor: str) -> List[str]:
-        """The command that writes the text of this file. It reads `fd`, if that is set."""
+    def command(self, decompressor: str) -> List[str]:
+        """The command that writes the text of this file, which it reads from standard input."""
         is_gz = is_gzip_name(self.name)
         if self.size is None:
-            return FROM_PIPE + [self.name] + ([decompressor, "-dc"] if is_gz else ["gzip", "-dcf"])
+            return [decompressor, "-dc"] if is_gz else ["gzip", "-dcf"]
         try:
-            self.fd = os.open(self.name, os.O_RDONLY)
-            head = os.pread(self.fd, 3, 0)
-            tail = os.pread(self.fd, 9, max(self.size - 9, 0))
+            with open(self.name, "rb") as file:
+                head = file.read(3)
+                file.seek(max(self.size - len(END_BLOCK), 0))
+                tail = file.read(len(END_BLOCK))
         except OSError as error:
             raise Fault(4, f"cannot read {self.name}: {reason(error)}")
         if not is_gz and head[:2] != b"\x1f\x8b":
             return ["cat"]
-        self.is_packed = True
         # gzip accepts zeros after the last member, and its message for a file that isn't compressed
         # is clear.
-        needs_gzip = head != b"\x1f\x8b\x08" or tail == bytes(9)
+        has_zeros = tail.endswith(bytes(9)) and tail != END_BLOCK
+        needs_gzip = has_zeros or head != b"\x1f\x8b\x08"
         return ["gzip" if needs_gzip else decompressor, "-dc"]
+
+    def check_tool(self, decompressor: str) -> None:
+        """Refuses the file if what reads it isn't installed."""
+        tool = self.command(decompressor)[0]
+        if not shutil.which(tool):
+            raise Fault(1, f"no program {tool}, which reads {self.name}")
+
+    def open(self, decompressor: str) -> List[str]:
+        """As `command`. It reads `fd`, or opens a pipe by itself."""
+        words = self.command(decompressor)
+        if self.size is None:
+            return FROM_PIPE + [self.name] + words
+        try:
+            self.fd = os.open(self.name, os.O_RDONLY)
+        except OSError as error:
+            raise Fault(4, f"cannot read {self.name}: {reason(error)}")
+        self.is_packed = words != ["cat"]
+        return words
 
     def look(self) -> bool:
         """Refuses a file in another format. Returns whether it lacks its end."""

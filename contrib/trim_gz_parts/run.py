@@ -94,6 +94,7 @@ class Run:
         for each in [each for side in self.sides for each in side.inputs]:
             if each.look():
                 no_end(each.name, arguments.needs_end)
+            each.check_tool(self.tools.decompressor)
         if arguments.checks_names:
             check_lanes(arguments.forward, arguments.reverse)
             check_interleaved(arguments.both)
@@ -218,7 +219,8 @@ class Run:
         os.close(side.pipe)
         side.is_whole = child.status == 0
         if not side.is_whole:
-            side.fault = Fault(3, f"cannot read {last.name}: {child.why(last.name)}")
+            status = 4 if child.is_not_started() else 3
+            side.fault = Fault(status, f"cannot read {last.name}: {child.why(last.name)}")
 
     def end_lane(self, side: Side, child: Child) -> None:
         """Notes whether a pipe lacked its end. That of a file was looked for before."""

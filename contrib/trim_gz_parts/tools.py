@@ -95,13 +95,14 @@ class Tools:
 
 
 def reason_of(text: str, name: str = "") -> str:
-    """Why a tool failed: the first line that it printed, in gzip's words if bgzip printed it, or
-    nothing."""
+    """Why a tool failed: the first line that it printed, in gzip's words if bgzip printed it, the
+    last line of a Python traceback, or nothing."""
     if text.startswith("[E::"):
         for word, meaning in GZIP_WORDS:
             if word in text:
                 return meaning
-    line = next((line for line in text.splitlines() if line), "")
+    lines = [line for line in text.splitlines() if line] or [""]
+    line = lines[-1 if lines[0].startswith("Traceback (") else 0]
     line = re.sub(r"^\[E::\w+\] ", "", line)
     for start in PREFIXES + (f"{name}: ", "stdin: "):
         if line.startswith(start):

@@ -5,7 +5,7 @@ beginning and end, and with a line feed after its last line.
     python3 whole_lines.py             the text is standard input
 
 Ends as the command ends. If the first record isn't of four lines, it ends with status 1 and a line
-on standard error.
+on standard error, and with status 127 and a line if the command can't be started.
 """
 
 import contextlib
@@ -91,7 +91,11 @@ def main(command: List[str]) -> int:
     if not command:
         return 0 if copy(0) else 1
     first = way_to_end_with_us()
-    child = subprocess.Popen(command, stdout=subprocess.PIPE, preexec_fn=first)
+    try:
+        child = subprocess.Popen(command, stdout=subprocess.PIPE, preexec_fn=first)
+    except OSError as error:
+        print(f"cannot start {command[0]}: {error.strerror}", file=sys.stderr)
+        return 127
     assert child.stdout
     source = child.stdout.fileno()
     with contextlib.suppress(OSError):

@@ -172,6 +172,7 @@ class ToolsTest(Pieces):
             ("\ngzip: stdin: not in gzip format\n", "not in gzip format"),
             ("pigz: abort: write error on <stdout> (No space left on device)\n",
              "write error on <stdout> (No space left on device)"),
+            ('Traceback (most recent call last):\n  File "x", line 1\nMemoryError\n', "MemoryError"),
             ("", ""),
         ):
             self.assertEqual(tools.reason_of(text), reason)
@@ -290,6 +291,10 @@ class FilesTest(Pieces):
         magic = b"\x1f\x8b\x08"
         self.assertEqual(self.command("a.gz", magic + b"x" * 30), ["bgzip", "-dc"])
         self.assertEqual(self.command("b.gz", magic + bytes(30)), ["gzip", "-dc"])
+        # The empty block at the end of BGZF, by the specification of SAM/BAM.
+        end = bytes.fromhex("1f8b08040000000000ff0600424302001b0003000000000000000000")
+        self.assertEqual(self.command("g.gz", magic + b"x" * 30 + end), ["bgzip", "-dc"])
+        self.assertEqual(self.command("h.gz", magic + end + bytes(1)), ["gzip", "-dc"])
         self.assertEqual(self.command("c.gz", b""), ["gzip", "-dc"])
         self.assertEqual(self.command("d.gz", b"@r"), ["gzip", "-dc"])
         self.assertEqual(self.command("e", magic + b"x" * 30), ["bgzip", "-dc"])
