@@ -74,10 +74,21 @@ fn put_three(rt: &impl Wait, mut tx: Tx<u64>) {
     }
 }
 
+// Takes by `take` after a nap, and after another one for as long as the sender is late.
+fn take_late<R: Wait + Clock>(rt: &R, rx: &mut Rx<u64>) -> Taken<u64> {
+    for _ in 0..500u64 {
+        nap(rt);
+        match take(rx) {
+            Taken::Empty => {}
+            taken => return taken,
+        }
+    }
+    Taken::Empty
+}
+
 // Takes by `take` and by `take_wait`, each after a nap, and once more.
 fn take_seldom<R: Wait + Clock>(rt: &R, mut rx: Rx<u64>) -> (Taken<u64>, Option<u64>, Option<u64>) {
-    nap(rt);
-    let taken = take(&mut rx);
+    let taken = take_late(rt, &mut rx);
     nap(rt);
     let waited = take_wait(rt, &mut rx);
     (taken, waited, take_wait(rt, &mut rx))
