@@ -16,7 +16,7 @@
 #include <stdlib.h>
 #include <string.h>
 
-enum { MODEL = 150, MOST_BASES = 1000, HIGH = 39, LOW = 2, SHORTEST_INSERT = 30 };
+enum { MODEL = 150, MOST_BASES = 1048576, HIGH = 39, LOW = 2, SHORTEST_INSERT = 30 };
 
 static const char *const adapters[] = {"AGATCGGAAGAGCACACGTCTGAACTCCAGTCA", "AGATCGGAAGAGCGTCGTGTAGGGAAAGAGTGT"};
 
@@ -115,7 +115,7 @@ static void write_read(FILE *out, const struct form *form, const struct read *re
 }
 
 static void write_pair(FILE *forward, FILE *reverse, const struct form *form, long number) {
-    struct read mates[2];
+    static struct read mates[2];
     draw_read(&mates[0], form, 1);
     draw_read(&mates[1], form, 2);
     if (form->has_adapters && number % 4 == 0) {

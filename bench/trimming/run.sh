@@ -12,8 +12,9 @@
 #     --sets           the program and the loop over all data sets, in memory and on the disk: a row for each set
 #     --threads-time   the processor seconds of each of the program's threads
 #     --memory         the program's peak memory at 50,000, 250,000 and 1,000,000 pairs
-#     --block-time     the program's time with --block 1 beside its time with the default
-#     --report-time    the program's time with --report beside its time without
+#     --settings       the program's peak memory with other settings, while an output is blocked
+#     --beside OPTIONS the program's time and memory with these options of it beside those without,
+#                      such as --beside '--block 1' and --beside '--report report.json'
 #
 # Options:
 #     --pairs N        pairs of reads (1000000; with --gz 400000)
@@ -24,7 +25,8 @@
 #     --serial PATH    the run on one thread, as bench/trimming/serial.sh builds it (no row without it)
 #     --ours           no other trimmer
 #     --bases N, --bases LEAST-MOST, --bins, --titles, --crlf
-#                      how the reads are simulated, as bench/trimming/pairs.c says (ignored with --sets)
+#                      how the reads are simulated, as bench/trimming/pairs.c says (ignored with --sets
+#                      and --settings)
 #     --help
 #
 # Needs cc, GNU time, taskset and findmnt; with --gz also gzip, bgzip and Python 3. Files are in
@@ -37,6 +39,7 @@ program=$here/../../crates/fq_prog/out/fq_prog
 serial=
 asked=
 rounds=3
+beside=()
 peers=yes
 mode=all
 place=
@@ -56,7 +59,7 @@ print_help() {
 
 while [ $# -gt 0 ]; do
   case $1 in
-    --gz | --plain | --sets | --threads-time | --memory | --block-time | --report-time)
+    --gz | --plain | --sets | --threads-time | --memory | --settings)
       mode=${1#--}
       shift
       ;;
@@ -83,6 +86,11 @@ while [ $# -gt 0 ]; do
     --ours)
       peers=no
       shift
+      ;;
+    --beside)
+      mode=beside
+      read -r -a beside <<< "${2:?}"
+      shift 2
       ;;
     --bases)
       form+=(--bases "${2:?}")
@@ -481,14 +489,54 @@ measure_memory() {
   done
 }
 
-# measure_beside OPTION..: runs with these options beside runs without them
+# The runs of --settings: pairs, bases, settings.
+blocked=(
+  '1000000|150|'
+  '1000000|150|--threads 1'
+  '1000000|150|--threads 64'
+  '1000000|150|--depth 64'
+  '1000000|150|--block 1'
+  '1000000|150|--block 100'
+  '1000000|150|--block 256'
+  '1000000|150|--report report.json'
+  '1000000|300|'
+  '60|1000000|'
+  '60|1000000|--block 1'
+  '2000000|150|--block 65536'
+  '5000000|150|--threads 64 --depth 64'
+  '120000|150|--threads 64 --depth 64 --block 20'
+  '120000|150|--threads 64 --depth 64 --block 20 --report report.json'
+)
+
+# Peak memory with settings, while an output is blocked, because that fills every block.
+measure_settings() {
+  local run pairs bases settings options drawn=
+  enter "${place:-disk}"
+  echo '| Settings | Pairs | Bases | Peak MB |'
+  echo '|---|---|---|---|'
+  for run in "${blocked[@]}"; do
+    IFS='|' read -r pairs bases settings <<< "$run"
+    if [ "$pairs $bases" != "$drawn" ]; then
+      count=$pairs
+      draw --bases "$bases"
+      drawn="$pairs $bases"
+    fi
+    read -r -a options <<< "$settings"
+    run_ours_blocked "${options[@]}"
+    [ "$pairs_read" = "$count" ] || stop "the program read ${pairs_read:-no} pairs, not $count"
+    awk -v settings="${settings:-the defaults}" -v pairs="$pairs" -v bases="$bases" \
+      '{ printf "| %s | %d | %d | %.0f |\n", settings, pairs, bases, $3 * 1.024 / 1000 }' <<< "$spent"
+  done
+}
+
+# measure_beside OPTION..: runs with these options beside runs with the defaults
 measure_beside() {
   local threads round
   enter "${place:-disk}"
   draw "${form[@]}"
   echo "$count pairs, $((size / 1000000)) MB, $kind; median of $rounds; $(print_machine)"
-  echo "| Threads | Seconds | with $* | ratio | Processor seconds | with $* | ratio |"
-  echo '|---|---|---|---|---|---|---|'
+  echo "| Threads | Seconds | with $* | ratio | Processor seconds | with $* | ratio | Peak MB | with $* |"
+  echo '|---|---|---|---|---|---|---|---|---|'
   for threads in 1 2 4; do
     for ((round = 0; round < rounds; round++)); do
       run_ours_log "$threads"
@@ -497,8 +545,10 @@ measure_beside() {
       echo "$spent" >> "$room/row.$threads.beside"
     done
     awk -v threads="$threads" -v seconds="$(medians 1 "$threads.default" "$threads.beside")" -v spent="$(medians 2 "$threads.default" "$threads.beside")" \
-      'BEGIN { split(seconds, s, " "); split(spent, p, " ")
-                printf "| %d | %.3f | %.3f | %.2f | %.2f | %.2f | %.2f |\n", threads, s[1], s[2], s[2] / s[1], p[1], p[2], p[2] / p[1] }'
+      -v memory="$(medians 3 "$threads.default" "$threads.beside")" \
+      'BEGIN { split(seconds, s, " "); split(spent, p, " "); split(memory, m, " ")
+                printf "| %d | %.3f | %.3f | %.2f | %.2f | %.2f | %.2f | %.1f | %.1f |\n",
+                    threads, s[1], s[2], s[2] / s[1], p[1], p[2], p[2] / p[1], m[1] * 1.024 / 1000, m[2] * 1.024 / 1000 }'
   done
 }
 
@@ -509,6 +559,6 @@ case $mode in
   sets) measure_all_sets ;;
   threads-time) measure_threads ;;
   memory) measure_memory ;;
-  block-time) measure_beside --block 1 ;;
-  report-time) measure_beside --report report.json ;;
+  settings) measure_settings ;;
+  beside) measure_beside "${beside[@]}" ;;
 esac

@@ -75,6 +75,14 @@ run_ours() {
   pairs_read=$(number_in "$room/said" 'Input Read Pairs')
 }
 
+# run_ours_blocked [OPTION]..: one output is a pipe that nobody reads for ten seconds
+run_ours_blocked() {
+  # shellcheck disable=SC2016  # the parameters are those of the inner shell
+  timed sh -c 'mkfifo rp; { sleep 10; exec cat; } < rp > /dev/null & exec "$@"' blocked \
+    "$program" PE "$@" --trimlog log "$forward" "$reverse" fp fu rp ru "${steps[@]}"
+  pairs_read=$(number_in "$room/said" 'Input Read Pairs')
+}
+
 # run_ours_log THREADS [OPTION]..
 run_ours_log() {
   timed "$program" PE --threads "$@" --trimlog log "$forward" "$reverse" fp fu rp ru "${steps[@]}"

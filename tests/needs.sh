@@ -1,0 +1,73 @@
+#!/usr/bin/env bash
+# Whoever can't build here learns why and what to do, before anything is compiled: on another
+# system, without the kit, with a kit of another logic, and without room on the disk. `uname`, `rt`
+# and `df` are stand-ins that come first on the path.
+set -uo pipefail
+. "$(dirname "$0")/common.bash"
+room=$(mktemp -d)
+trap 'rm -rf "$room"' EXIT
+
+# stand_in PROGRAM LINE..: the first on the path prints these lines from now on
+stand_in() {
+  local name=$1
+  shift
+  {
+    echo '#!/bin/sh'
+    printf "echo '%s'\n" "$@"
+  } > "$room/bin/$name"
+  chmod +x "$room/bin/$name"
+}
+
+# says STATUS TEXT COMMAND..: the command ends so and prints the text on standard error
+says() {
+  local want=$1 text=$2 status
+  shift 2
+  PATH=$room/bin:$PATH "$@" > "$room/out" 2> "$room/err"
+  status=$?
+  [ "$status" -eq "$want" ] || fail "status $status, not $want"
+  [ -z "$text" ] || grep -qF -- "$text" "$room/err" || fail "doesn't say '$text': $(cat "$room/out" "$room/err")"
+}
+
+new_stand_ins() {
+  rm -rf "${room:?}/bin"
+  mkdir "$room/bin"
+  stand_in uname 'Linux x86_64'
+  stand_in rt "$(grep -oE -m 1 'rattle-kit-[^ ]+ logic [0-9a-f]+' README.md)"
+  stand_in df 'Filesystem 1024-blocks Used Available Capacity Mounted on' 'disk 1 1 99000000 1% /'
+}
+
+row='all is there'
+new_stand_ins
+says 0 '' bash packaging/needs.sh 1
+[ ! -s "$room/err" ] || fail "says: $(cat "$room/err")"
+
+row='another system'
+stand_in uname 'Darwin arm64'
+says 1 'Tibzharuk needs Linux on x86-64, and this is Darwin arm64.' bash packaging/needs.sh
+
+row='no kit'
+new_stand_ins
+printf '#!/bin/sh\nexit 127\n' > "$room/bin/rt"
+says 1 "The Rattle kit is missing: its command 'rt' must be on the path." bash packaging/needs.sh
+
+row='a kit of another logic'
+new_stand_ins
+stand_in rt 'rattle-kit-9x logic 00ff'
+says 0 'This kit is rattle-kit-9x logic 00ff; the crates were proved with rattle-kit-' bash packaging/needs.sh
+
+row='a full disk'
+new_stand_ins
+stand_in df 'Filesystem 1024-blocks Used Available Capacity Mounted on' 'disk 1 1 12288 1% /'
+says 1 "Only 12 MB are free in $tree, and this needs 1000 GB. Free some, or clone the repository on a larger disk." bash packaging/needs.sh 1000
+
+# In a copy that isn't built each of these ends at once.
+mkdir "$room/copy"
+tar -c --exclude=.git --exclude=out --exclude=dist . | tar -x -C "$room/copy"
+new_stand_ins
+stand_in uname 'Linux aarch64'
+for target in run build test try install; do
+  row="make $target on another system"
+  says 2 'Tibzharuk needs Linux on x86-64, and this is Linux aarch64.' make -C "$room/copy" "$target" PREFIX="$room/prefix"
+  [ -z "$(find "$room/copy/crates" -name out)" ] || fail 'something was compiled'
+done
+finish 'each lack is named, with what to do'
