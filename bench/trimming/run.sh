@@ -535,7 +535,7 @@ measure_beside() {
   enter "${place:-disk}"
   draw "${form[@]}"
   echo "$count pairs, $((size / 1000000)) MB, $kind; median of $rounds; $(print_machine)"
-  echo "| Threads | Seconds | with $* | ratio | Processor seconds | with $* | ratio | Peak MB | with $* |"
+  echo "| Threads | Seconds | with \`$*\` | ratio | Processor seconds | with \`$*\` | ratio | Peak MB | with \`$*\` |"
   echo '|---|---|---|---|---|---|---|---|---|'
   for threads in 1 2 4; do
     for ((round = 0; round < rounds; round++)); do
