@@ -42,7 +42,7 @@ test:
 build: $(PROGRAM)
 
 $(PROGRAM): $(SOURCES)
-	$(NEEDS_KIT) 4
+	$(NEEDS_KIT) 6 5
 	@bash packaging/build.sh
 	@touch $@
 

@@ -4,10 +4,11 @@ set -uo pipefail
 cd "$(dirname "$0")/.." || exit 1
 
 if [ "${1-}" = --help ]; then
-  echo "usage: packaging/needs.sh [GIGABYTES]
+  echo "usage: packaging/needs.sh [GIGABYTES [TEMPORARY]]
 Ends with status 1 and a line on standard error if this machine isn't Linux on x86-64, if the Rattle
-kit is missing, or if fewer than GIGABYTES are free here or in the directory for temporary files.
-If the kit has another logic than the one in README.md, it only prints a line."
+kit is missing, or if fewer than GIGABYTES are free here, or TEMPORARY in the directory for
+temporary files; if both are on one disk, it needs their sum. If the kit has another logic than the
+one in README.md, it only prints a line."
   exit
 fi
 
@@ -25,13 +26,22 @@ proved=$(grep -oE -m 1 'rattle-kit-[^ ]+ logic [0-9a-f]+' README.md)
 [ "${kit##* }" = "${proved##* }" ] ||
   echo "This kit is $kit; the crates were proved with $proved. If something isn't proved here, use that kit." >&2
 
-# What earlier builds left is used again, so it counts as free.
-wanted=$((${1:-0} * 1048576))
-if [ "$wanted" -gt 0 ]; then
-  used=$(find crates -maxdepth 2 -name out -exec du -sk {} + | awk '{ sum += $1 } END { print sum + 0 }')
-  for folder in "$PWD" "${TMPDIR:-/tmp}"; do
-    free=$(df -Pk "$folder" | awk 'NR == 2 { print $4 }')
-    [ $((free + used)) -ge "$wanted" ] ||
-      refuse "Only $((free / 1024)) MB are free in $folder, and this needs $1 GB. Free some, or$([ "$folder" = "$PWD" ] && echo ' clone the repository' || echo ' set TMPDIR to a directory') on a larger disk."
-  done
+# room DIRECTORY MEGABYTES LEFT WHAT-TO-DO: refuses if the disk has less room, with what is LEFT there
+room() {
+  local free=$(($(df -Pm "$1" | awk 'NR == 2 { print $4 }') + $3))
+  [ "$free" -ge "$2" ] ||
+    refuse "Only $free MB are free in $1, and this needs $(($2 / 1024)) GB. Free some, or $4 on a larger disk."
+}
+
+folder=${TMPDIR:-/tmp}
+here=$((1024 * ${1:-0}))
+temporary=$((1024 * ${2:-0}))
+if [ "$(stat -c %d .)" = "$(stat -c %d "$folder")" ]; then
+  here=$((here + temporary))
+  temporary=0
 fi
+if [ "$here" -gt 0 ]; then
+  # What earlier builds left is used again, so it counts as free.
+  room "$PWD" "$here" "$(find crates -maxdepth 2 -name out -exec du -sm {} + | awk '{ sum += $1 } END { print sum + 0 }')" 'clone the repository'
+fi
+if [ "$temporary" -gt 0 ]; then room "$folder" "$temporary" 0 'set TMPDIR to a directory'; fi

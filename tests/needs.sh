@@ -33,7 +33,7 @@ new_stand_ins() {
   mkdir "$room/bin"
   stand_in uname 'Linux x86_64'
   stand_in rt "$(grep -oE -m 1 'rattle-kit-[^ ]+ logic [0-9a-f]+' README.md)"
-  stand_in df 'Filesystem 1024-blocks Used Available Capacity Mounted on' 'disk 1 1 99000000 1% /'
+  stand_in df 'Filesystem 1048576-blocks Used Available Capacity Mounted on' 'disk 1 1 99000 1% /'
 }
 
 row='all is there'
@@ -55,17 +55,24 @@ new_stand_ins
 stand_in rt 'rattle-kit-9x logic 00ff'
 says 0 'This kit is rattle-kit-9x logic 00ff; the crates were proved with rattle-kit-' bash packaging/needs.sh
 
-row='a full disk'
 new_stand_ins
-stand_in df 'Filesystem 1024-blocks Used Available Capacity Mounted on' 'disk 1 1 12288 1% /'
-says 1 "Only 12 MB are free in $tree, and this needs 1000 GB. Free some, or clone the repository on a larger disk." bash packaging/needs.sh 1000
+stand_in df 'Filesystem 1048576-blocks Used Available Capacity Mounted on' 'disk 1 1 12 1% /'
+left=$(find crates -maxdepth 2 -name out -exec du -sm {} + | awk '{ sum += $1 } END { print sum + 0 }')
+row='a full disk'
+says 1 "Only $((12 + left)) MB are free in $tree, and this needs 1000 GB. Free some, or clone the repository on a larger disk." \
+  bash packaging/needs.sh 1000
+row='a full disk that has the temporary files too'
+says 1 "Only $((12 + left)) MB are free in $tree, and this needs 1000 GB." env TMPDIR="$tree" bash packaging/needs.sh 600 400
+row='no room for temporary files'
+says 1 'Only 12 MB are free in /dev/shm, and this needs 1000 GB. Free some, or set TMPDIR to a directory on a larger disk.' \
+  env TMPDIR=/dev/shm bash packaging/needs.sh 0 1000
 
 # In a copy that isn't built each of these ends at once.
 mkdir "$room/copy"
 tar -c --exclude=.git --exclude=out --exclude=dist . | tar -x -C "$room/copy"
 new_stand_ins
 stand_in uname 'Linux aarch64'
-for target in run build test try install; do
+for target in run build try install; do
   row="make $target on another system"
   says 2 'Tibzharuk needs Linux on x86-64, and this is Linux aarch64.' make -C "$room/copy" "$target" PREFIX="$room/prefix"
   [ -z "$(find "$room/copy/crates" -name out)" ] || fail 'something was compiled'
