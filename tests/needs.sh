@@ -64,8 +64,12 @@ says 1 "Only $((12 + left)) MB are free in $tree, and this needs 1000 GB. Free s
 row='a full disk that has the temporary files too'
 says 1 "Only $((12 + left)) MB are free in $tree, and this needs 1000 GB." env TMPDIR="$tree" bash packaging/needs.sh 600 400
 row='no room for temporary files'
-says 1 'Only 12 MB are free in /dev/shm, and this needs 1000 GB. Free some, or set TMPDIR to a directory on a larger disk.' \
-  env TMPDIR=/dev/shm bash packaging/needs.sh 0 1000
+if [ "$(stat -c %d /dev/shm)" = "$(stat -c %d .)" ]; then
+  echo "needs: $row: skipped: /dev/shm is on the disk of this tree"
+else
+  says 1 'Only 12 MB are free in /dev/shm, and this needs 1000 GB. Free some, or set TMPDIR to a directory on a larger disk.' \
+    env TMPDIR=/dev/shm bash packaging/needs.sh 0 1000
+fi
 
 # In a copy that isn't built each of these ends at once.
 mkdir "$room/copy"
