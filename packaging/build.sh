@@ -85,7 +85,7 @@ beside() {
   helpers+=($!)
 }
 
-echo "Proves ${#chain[@]} libraries and the program: 11 to 24 minutes on four processors, if nothing is kept of earlier builds."
+echo "Proves ${#chain[@]} libraries and the program: 11 to 37 minutes on four processors, if nothing is kept of earlier builds."
 # What reports need takes as long as what the chain proves at the same time.
 if [ "$processors" -ge 4 ]; then
   beside 1 "${threads[@]}" fq_in_step

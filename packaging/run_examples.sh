@@ -58,6 +58,6 @@ else
 fi
 if [ -z "$proved" ]; then
   echo "
-This build is NOT PROVED. 'make build' proves the program, in 11 to 24 minutes on four processors.
+This build is NOT PROVED. 'make build' proves the program, in 11 to 37 minutes on four processors.
 'make install' installs only a proved program."
 fi
