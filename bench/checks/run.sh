@@ -102,6 +102,7 @@ measure() {
     tail -n 20 "$room/log" >&2
   fi
 }
+
 git clone -q --bare "$top" "$room/commit"
 echo "$(git -C "$room/commit" log -1 --format=%h), $(rt version), $(date -u +%F), $processors processors:$(sed -nE 's/^model name\s*:/ /p' /proc/cpuinfo | head -n 1 | tr -s ' ')"
 echo
