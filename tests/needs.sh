@@ -55,25 +55,29 @@ new_stand_ins
 stand_in rt 'rattle-kit-9x logic 00ff'
 says 0 'This kit is rattle-kit-9x logic 00ff; the crates were proved with rattle-kit-' bash packaging/needs.sh
 
-new_stand_ins
-stand_in df 'Filesystem 1048576-blocks Used Available Capacity Mounted on' 'disk 1 1 12 1% /'
-left=$(find crates -maxdepth 2 -name out -exec du -sm {} + | awk '{ sum += $1 } END { print sum + 0 }')
-row='a full disk'
-says 1 "Only $((12 + left)) MB are free in $tree, and this needs 1000 GB. Free some, or clone the repository on a larger disk." \
-  bash packaging/needs.sh 1000
-row='a full disk that has the temporary files too'
-says 1 "Only $((12 + left)) MB are free in $tree, and this needs 1000 GB." env TMPDIR="$tree" bash packaging/needs.sh 600 400
-row='no room for temporary files'
-if [ "$(stat -c %d /dev/shm)" = "$(stat -c %d .)" ]; then
-  echo "needs: $row: skipped: /dev/shm is on the disk of this tree"
-else
-  says 1 'Only 12 MB are free in /dev/shm, and this needs 1000 GB. Free some, or set TMPDIR to a directory on a larger disk.' \
-    env TMPDIR=/dev/shm bash packaging/needs.sh 0 1000
-fi
-
-# In a copy that isn't built each of these ends at once.
+# In a copy, since a build beside this script fills the directories of the tree.
 mkdir "$room/copy"
 tar -c --exclude=.git --exclude=out --exclude=dist . | tar -x -C "$room/copy"
+mkdir "$room/copy/crates/fq_text/out"
+head -c 5000000 /dev/urandom > "$room/copy/crates/fq_text/out/built" # counts as 5 MB
+new_stand_ins
+stand_in df 'Filesystem 1048576-blocks Used Available Capacity Mounted on' 'disk 1 1 12 1% /'
+row='a full disk'
+says 1 "Only 17 MB are free in $room/copy, and this needs 1000 GB. Free some, or clone the repository on a larger disk." \
+  bash "$room/copy/packaging/needs.sh" 1000
+row='a full disk that has the temporary files too'
+says 1 "Only 17 MB are free in $room/copy, and this needs 1000 GB." \
+  env TMPDIR="$room" bash "$room/copy/packaging/needs.sh" 600 400
+row='no room for temporary files'
+if [ "$(stat -c %d /dev/shm)" = "$(stat -c %d "$room")" ]; then
+  echo "needs: $row: skipped: /dev/shm is on the disk of TMPDIR"
+else
+  says 1 'Only 12 MB are free in /dev/shm, and this needs 1000 GB. Free some, or set TMPDIR to a directory on a larger disk.' \
+    env TMPDIR=/dev/shm bash "$room/copy/packaging/needs.sh" 0 1000
+fi
+rm -r "$room/copy/crates/fq_text/out"
+
+# In a copy that isn't built each of these ends at once.
 new_stand_ins
 stand_in uname 'Linux aarch64'
 for target in run build try install; do
