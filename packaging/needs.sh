@@ -41,7 +41,9 @@ if [ "$(stat -c %d .)" = "$(stat -c %d "$folder")" ]; then
   temporary=0
 fi
 if [ "$here" -gt 0 ]; then
-  # What earlier builds left is used again, so it counts as free.
-  room "$PWD" "$here" "$(find crates -maxdepth 2 -name out -exec du -sm {} + | awk '{ sum += $1 } END { print sum + 0 }')" 'clone the repository'
+  # What earlier builds left is used again, so it counts as free. A build beside this may remove
+  # files that du is about to read.
+  left=$(find crates -maxdepth 2 -name out -exec du -sm {} + 2> /dev/null | awk '{ sum += $1 } END { print sum + 0 }')
+  room "$PWD" "$here" "$left" 'clone the repository'
 fi
 if [ "$temporary" -gt 0 ]; then room "$folder" "$temporary" 0 'set TMPDIR to a directory'; fi

@@ -36,10 +36,19 @@ new_stand_ins() {
   stand_in df 'Filesystem 1048576-blocks Used Available Capacity Mounted on' 'disk 1 1 99000 1% /'
 }
 
+# says_nothing COMMAND..: the command ends with status 0 and an empty standard error
+says_nothing() {
+  says 0 '' "$@"
+  [ ! -s "$room/err" ] || fail "says: $(cat "$room/err")"
+}
+
+# In a copy, since a build beside this script fills the directories of the tree.
+mkdir "$room/copy"
+tar -c --exclude=.git --exclude=out --exclude=dist . | tar -x -C "$room/copy"
+
 row='all is there'
 new_stand_ins
-says 0 '' bash packaging/needs.sh 1
-[ ! -s "$room/err" ] || fail "says: $(cat "$room/err")"
+says_nothing bash "$room/copy/packaging/needs.sh" 1
 
 row='another system'
 stand_in uname 'Darwin arm64'
@@ -55,11 +64,15 @@ new_stand_ins
 stand_in rt 'rattle-kit-9x logic 00ff'
 says 0 'This kit is rattle-kit-9x logic 00ff; the crates were proved with rattle-kit-' bash packaging/needs.sh
 
-# In a copy, since a build beside this script fills the directories of the tree.
-mkdir "$room/copy"
-tar -c --exclude=.git --exclude=out --exclude=dist . | tar -x -C "$room/copy"
 mkdir "$room/copy/crates/fq_text/out"
+row='a build beside it removes a file that is measured'
+new_stand_ins
+printf '#!/bin/sh\necho 5 crates\necho cannot access >&2\nexit 1\n' > "$room/bin/du"
+chmod +x "$room/bin/du"
+says_nothing bash "$room/copy/packaging/needs.sh" 1
+
 head -c 5000000 /dev/urandom > "$room/copy/crates/fq_text/out/built" # counts as 5 MB
+sync "$room/copy/crates/fq_text/out/built"
 new_stand_ins
 stand_in df 'Filesystem 1048576-blocks Used Available Capacity Mounted on' 'disk 1 1 12 1% /'
 row='a full disk'
