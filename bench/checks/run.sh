@@ -16,7 +16,7 @@
 #     --help
 #
 # Needs git, GNU time and taskset. The clone and the copy are below TMPDIR, which must be on the
-# kit's disk, with 11 GB free. They are removed.
+# kit's disk, with 11 GB free. They are removed; the output of a command that fails is not.
 set -euo pipefail
 export LC_ALL=C
 
@@ -81,7 +81,7 @@ taken_and_all() {
 
 # measure NOTE COMMAND..: runs the command in the clone, and prints its row
 measure() {
-  local note=$1 status=0 before after begun result program=$room/anew/clone/crates/fq_prog/out/fq_prog
+  local note=$1 status=0 before after begun result kept program=$room/anew/clone/crates/fq_prog/out/fq_prog
   shift
   before=$(taken_and_all)
   begun=$(date +%s)
@@ -99,7 +99,10 @@ measure() {
   }'
   if [ "$status" -ne 0 ]; then
     failed=1
-    tail -n 20 "$room/log" >&2
+    kept=$(mktemp)
+    mv "$room/log" "$kept"
+    tail -n 20 "$kept" >&2
+    echo "bench: its whole output is in $kept" >&2
   fi
 }
 
