@@ -4,6 +4,7 @@
 # build. A script counts as one test, and its output is printed when it ends. One that ends with
 # status 77 was skipped, and says what it lacks.
 # With GATE=1 a script that needs the proved test programs of a gate fails without them.
+# What failed is printed once more at the end, where it is found among so much output.
 # The last line is 'N passed, M failed, K skipped'.
 set -uo pipefail
 cd "$(dirname "$0")/.." || exit 1
@@ -85,7 +86,10 @@ read -r passed failed < <(sed -nE '$s/^([0-9]+) passed, ([0-9]+) failed$/\1 \2/p
 : "${passed:=0}" "${failed:=1}" # no such line: the unit tests did not run
 skipped=0
 wrong=()
-[ "$failed" -eq 0 ] || wrong+=('unit tests')
+if [ "$failed" -ne 0 ]; then
+  wrong+=('unit tests')
+  printf '== unit tests that failed, again\n%s\n' "$(grep -v ' passed (nothing proved, ' "$logs/unit_tests")"
+fi
 if [ "$built" -ne 0 ]; then
   wrong+=('the program is not built')
   failed=$((failed + 1))
@@ -98,6 +102,7 @@ for script in "${early[@]}" "${later[@]}" "${in_turn[@]}" "${alone[@]}"; do
       if [ "$built" -eq 0 ] || [ -e "$logs/$script.status" ]; then
         failed=$((failed + 1))
         wrong+=("tests/$script.sh")
+        printf '== tests/%s.sh, again\n%s\n' "$script" "$(cat "$logs/$script.said")"
       fi
       ;;
   esac
