@@ -4,7 +4,7 @@
 # build. A script counts as one test, and its output is printed when it ends. One that ends with
 # status 77 was skipped, and says what it lacks.
 # With GATE=1 a script that needs the proved test programs of a gate fails without them.
-# What failed is printed once more at the end, where it is found among so much output.
+# Scripts and unit tests that failed are shown once more at the end.
 # The last line is 'N passed, M failed, K skipped'.
 set -uo pipefail
 cd "$(dirname "$0")/.." || exit 1
