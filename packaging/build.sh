@@ -36,8 +36,8 @@ running=
 clean_up() {
   local group
   for group in "${helpers[@]}" $running; do
-    kill -- "-$group" 2> /dev/null
-    wait "$group"
+    # bash would print the source of what was stopped.
+    { kill -- "-$group" && wait "$group"; } 2> /dev/null
   done
   rm -rf "$room"
 }
@@ -47,7 +47,7 @@ trap 'exit 143' TERM HUP
 
 # shown LOG: what rt printed, without the lines of what is proved
 shown() {
-  grep -vE '^(fn|struct|enum|impl|trait) .*: proved$|^(statements|by-macro|axioms|logic |crate )' "$1"
+  grep -vE '^(fn|struct|enum|impl|trait) .*: proved(,.*)?$|^(so far:|statements|by-macro|axioms|logic |crate )' "$1"
 }
 
 # prove COPY CRATE COMMAND..: runs the command in the crate of a copy, and says how long it took
@@ -78,11 +78,22 @@ beside() {
     for word; do
       case $word in
         after:*) until [ -e "$room/${word#after:}" ]; do sleep 1; done ;;
-        *) prove "$copy" "$word" rt lib --jobs "$count" || exit ;;
+        *)
+          if ! prove "$copy" "$word" rt lib --jobs "$count"; then
+            echo "$word" > "$room/failed"
+            exit 1
+          fi
+          ;;
       esac
     done
   ) &
   helpers+=($!)
+}
+
+# Ends the build when what is proved beside the chain has failed.
+not_built() {
+  if [ -e "$room/failed" ]; then echo "Not built: $(cat "$room/failed") is NOT PROVED, see above"; fi
+  exit 1
 }
 
 echo "Proves ${#chain[@]} libraries and the program: 11 to 37 minutes on four processors, if nothing is kept of earlier builds."
@@ -94,10 +105,11 @@ else
   beside 1 "${threads[@]}" "${reports[@]}" fq_in_step
 fi
 for crate in "${chain[@]}"; do
+  [ ! -e "$room/failed" ] || not_built
   prove "$PWD" "$crate" rt lib "${jobs[@]}" || exit 1
   : > "$room/$crate"
 done
-for helper in "${helpers[@]}"; do wait "$helper" || exit 1; done
+for helper in "${helpers[@]}"; do wait "$helper" || not_built; done
 helpers=()
 prove "$PWD" fq_prog rt run "${jobs[@]}" -- EXAMPLE || exit 1
 sha256sum crates/fq_prog/out/fq_prog

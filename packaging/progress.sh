@@ -49,7 +49,7 @@ take() {
       end_crate 'nothing to prove'
       if [ "$line" != '== summary' ]; then begin_crate "${line#== }"; fi
       ;;
-    'fn '*': proved' | 'struct '*': proved' | 'enum '*': proved' | 'impl '*': proved' | 'trait '*': proved')
+    'fn '*': proved'* | 'struct '*': proved'* | 'enum '*': proved'* | 'impl '*': proved'* | 'trait '*': proved'*)
       name=${line#* }
       name=${name%%::*}
       if [ "$name" != "$crate" ]; then begin_crate "$name"; fi
@@ -89,7 +89,7 @@ show() {
 status=0
 "$@" 2>&1 | show || status=${PIPESTATUS[0]}
 if [ "$status" -ne 0 ]; then
-  grep -vE '^(fn|struct|enum|impl|trait) .*: proved$|^(statements|by-macro|axioms|logic |crate )' "$log" || true
+  grep -vE '^(fn|struct|enum|impl|trait) .*: proved(,.*)?$|^(so far:|statements|by-macro|axioms|logic |crate )' "$log" || true
   echo "failed with status $status: $*"
 fi
 exit "$status"

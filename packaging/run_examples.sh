@@ -12,6 +12,8 @@ arguments=(PE --trimlog "$out/trim.log" --report "$out/report.json"
   LEADING:3 TRAILING:3 SLIDINGWINDOW:4:15 MINLEN:36)
 log=$(mktemp)
 trap 'rm -f "$log"' EXIT
+trap 'exit 130' INT
+trap 'exit 143' TERM HUP
 
 if "${MAKE:-make}" -q "$program" > /dev/null 2>&1; then
   proved=yes

@@ -10,7 +10,15 @@ set -uo pipefail
 cd "$(dirname "$0")/.." || exit 1
 logs=$(mktemp -d)
 export logs
-trap 'rm -rf "$logs"' EXIT
+groups=() # the process groups of what runs in the background
+clean_up() {
+  local group
+  for group in "${groups[@]}"; do
+    { kill -- "-$group" && wait "$group"; } 2> /dev/null
+  done
+  rm -rf "$logs"
+}
+trap clean_up EXIT
 trap 'exit 130' INT
 trap 'exit 143' TERM HUP
 
@@ -41,14 +49,29 @@ run() {
 }
 export -f run
 
+# beside COMMAND: runs it in the background, in a process group of its own, which ends with this script
+beside() {
+  set -m
+  (
+    set +m
+    "$@"
+  ) < /dev/null &
+  groups+=($!)
+  set +m
+}
+
 # side_by_side: runs the lines of standard input, each with the names of scripts that run in turn
 side_by_side() {
   xargs -d '\n' -P "$processors" -I NAMES bash -c 'run NAMES'
 }
 
 unit_tests() {
-  nice bash packaging/try.sh > "$logs/unit_tests" 2>&1
+  JOBS=$(((processors + 1) / 2)) nice bash packaging/try.sh > "$logs/unit_tests" 2>&1
   flock "$logs" printf '== unit tests\n%s\n' "$(cat "$logs/unit_tests")"
+}
+
+early_scripts() {
+  printf '%s\n' "${early[@]}" | nice xargs -d '\n' -I NAMES bash -c 'run NAMES'
 }
 
 missing=$(bash packaging/missing_packages.sh | paste -sd' ')
@@ -65,8 +88,8 @@ for script in tests/*.sh; do
   esac
 done
 
-JOBS=$(((processors + 1) / 2)) unit_tests &
-printf '%s\n' "${early[@]}" | nice xargs -d '\n' -I NAMES bash -c 'run NAMES' &
+beside unit_tests
+beside early_scripts
 built=0
 make --no-print-directory build || built=1
 # dist.sh links the program's object. A gate may leave none, and then the program is built again: now,
@@ -78,6 +101,7 @@ if [ "$built" -eq 0 ]; then
   printf '%s\n' "${first[@]}" "${in_turn[*]}" "${later[@]:${#first[@]}}" | side_by_side
 fi
 wait
+groups=()
 if [ "$built" -eq 0 ]; then
   run "${alone[@]}"
 fi
