@@ -23,7 +23,7 @@ trap 'exit 130' INT
 trap 'exit 143' TERM HUP
 
 # Scripts that need no program.
-early=(must_not_compile needs scripts trim_gz_pieces pages wrong_bodies rehearsal)
+early=(must_not_compile needs stopped_builds scripts trim_gz_pieces pages wrong_bodies rehearsal)
 # Scripts that take long begin first.
 first=(workflow_slurm workflow workflow_lanes)
 # Scripts that use the same directories of this tree, so each waits for the one before.
