@@ -54,7 +54,8 @@ done
 echo 'They equal those in examples/trimmed/, which another program made.'
 if command -v python3 > /dev/null; then
   contrib/report_to_html --sample 'the example' "$out/report.json" > "$out/report.html" || exit
-  echo "The page of this run, for a browser: file://$out/report.html"
+  address=$(python3 -c 'import pathlib, sys; print(pathlib.Path(sys.argv[1]).as_uri())' "$out/report.html")
+  echo "The page of this run, for a browser: $address"
 else
   echo "A page of this run needs python3: contrib/report_to_html examples/out/report.json > report.html"
 fi
