@@ -1,8 +1,8 @@
 #!/usr/bin/env bash
 # All tests but the proofs: the unit tests of every crate, unproved, and each script of this
-# directory over the proved program, several side by side. What needs no program runs beside the
-# build. A script counts as one test, and its output is printed when it ends. One that ends with
-# status 77 was skipped, and says what it lacks.
+# directory over the proved program, several side by side. If the program must be built, what needs
+# none runs beside the build. A script counts as one test, and its output is printed when it ends.
+# One that ends with status 77 was skipped, and says what it lacks.
 # With GATE=1 a script that needs the proved test programs of a gate fails without them.
 # Scripts and unit tests that failed are shown once more at the end.
 # The last line is 'N passed, M failed, K skipped'.
@@ -22,8 +22,8 @@ trap clean_up EXIT
 trap 'exit 130' INT
 trap 'exit 143' TERM HUP
 
-# Scripts that need no program.
-early=(must_not_compile needs stopped_builds scripts trim_gz_pieces pages wrong_bodies rehearsal)
+# Scripts that need no program, the longest first.
+early=(must_not_compile needs builds scripts trim_gz_pieces pages wrong_bodies rehearsal)
 # Scripts that take long begin first.
 first=(workflow_slurm workflow workflow_lanes)
 # Scripts that use the same directories of this tree, so each waits for the one before.
@@ -31,6 +31,7 @@ in_turn=(dist container examples cwl)
 # Scripts that wait for a thread to sleep or for a disk: without others beside them.
 alone=(late_errors lane_processors)
 processors=$(nproc)
+object=crates/fq_prog/out/fq_prog.o
 
 # run SCRIPT..: runs these scripts of tests/, one after the other
 run() {
@@ -79,6 +80,13 @@ if [ -n "$missing" ]; then
   echo "Tests that lack a package are skipped. To run all: apt-get install --no-install-recommends $missing"
 fi
 
+beside unit_tests
+if make -q build > /dev/null 2>&1 && [ -s "$object" ]; then
+  first=("${early[0]}" "${first[@]}")
+  early=()
+else
+  beside early_scripts
+fi
 later=("${first[@]}")
 for script in tests/*.sh; do
   name=$(basename "$script" .sh)
@@ -88,13 +96,11 @@ for script in tests/*.sh; do
   esac
 done
 
-beside unit_tests
-beside early_scripts
 built=0
 make --no-print-directory build || built=1
 # dist.sh links the program's object. A gate may leave none, and then the program is built again: now,
 # and not beside scripts that run it.
-if [ "$built" -eq 0 ] && [ ! -s crates/fq_prog/out/fq_prog.o ]; then
+if [ "$built" -eq 0 ] && [ ! -s "$object" ]; then
   bash packaging/objects.sh "$logs/objects" || built=1
 fi
 if [ "$built" -eq 0 ]; then
