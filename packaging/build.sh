@@ -32,18 +32,23 @@ fi
 set -m
 room=$(mktemp -d)
 helpers=()
-running=
 clean_up() {
-  local group
-  for group in "${helpers[@]}" $running; do
+  local group groups
+  mapfile -t groups < <(jobs -p)
+  for group in "${groups[@]}"; do
     # bash would print the source of what was stopped.
     { kill -- "-$group" && wait "$group"; } 2> /dev/null
   done
   rm -rf "$room"
 }
+# stopped STATUS: make passes a signal on, so it may come twice
+stopped() {
+  trap '' INT TERM HUP
+  exit "$1"
+}
 trap clean_up EXIT
-trap 'exit 130' INT
-trap 'exit 143' TERM HUP
+trap 'stopped 130' INT
+trap 'stopped 143' TERM HUP
 
 # shown LOG: what rt printed, without the lines of what is proved
 shown() {
@@ -55,13 +60,11 @@ prove() {
   local crate=$2 folder=$1/crates/$2 log=$room/log.$2.${1//\//_} begun=$SECONDS functions
   shift 2
   (cd "$folder" && exec "$@") > "$log" 2>&1 &
-  running=$!
-  if ! wait "$running"; then
+  if ! wait "$!"; then
     echo "$crate: NOT PROVED
 $(shown "$log")"
     return 1
   fi
-  running=
   functions=$(sed -n 's/^logic=proved functions=\([0-9]*\) .*/\1/p' "$log" | tail -n 1)
   # Without a number of functions it was proved before.
   if [ -n "$functions" ]; then echo "$crate: $functions functions proved ($((SECONDS - begun)) s)"; fi

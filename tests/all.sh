@@ -10,17 +10,28 @@ set -uo pipefail
 cd "$(dirname "$0")/.." || exit 1
 logs=$(mktemp -d)
 export logs
-groups=() # the process groups of what runs in the background
 clean_up() {
-  local group
+  local group groups
+  mapfile -t groups < <(jobs -p)
+  for group in "${groups[@]}"; do kill -- "-$group" 2> /dev/null; done
   for group in "${groups[@]}"; do
-    { kill -- "-$group" && wait "$group"; } 2> /dev/null
+    wait "$group" 2> /dev/null
+    # Those below it may still be removing what is temporary.
+    for _ in {1..100}; do
+      kill -0 -- "-$group" 2> /dev/null || break
+      sleep 0.1
+    done
   done
   rm -rf "$logs"
 }
+# stopped STATUS: make passes a signal on, so it may come twice
+stopped() {
+  trap '' INT TERM HUP
+  exit "$1"
+}
 trap clean_up EXIT
-trap 'exit 130' INT
-trap 'exit 143' TERM HUP
+trap 'stopped 130' INT
+trap 'stopped 143' TERM HUP
 
 # Scripts that need no program, the longest first.
 early=(must_not_compile needs builds scripts trim_gz_pieces pages wrong_bodies rehearsal)
@@ -45,10 +56,19 @@ run() {
       0 | 77) ;;
       *) echo "tests/$name.sh: FAILED" >> "$logs/$name.said" ;;
     esac
-    flock "$logs" printf '== tests/%s.sh (%s s)\n%s\n' "$name" "$((SECONDS - begun))" "$(cat "$logs/$name.said")"
+    show "tests/$name.sh ($((SECONDS - begun)) s)" "$logs/$name.said"
   done
 }
-export -f run
+
+# show TITLE FILE: prints the file, and nothing else meanwhile
+show() {
+  {
+    flock 9
+    echo "== $1"
+    awk 1 "$2"
+  } 9< "$logs"
+}
+export -f run show
 
 # beside COMMAND: runs it in the background, in a process group of its own, which ends with this script
 beside() {
@@ -57,18 +77,23 @@ beside() {
     set +m
     "$@"
   ) < /dev/null &
-  groups+=($!)
   set +m
 }
 
-# side_by_side: runs the lines of standard input, each with the names of scripts that run in turn
+# now COMMAND: does the same, and waits for it. This script heeds signals meanwhile.
+now() {
+  beside "$@"
+  wait "$!"
+}
+
+# side_by_side NAMES..: runs scripts. Those that one argument names run in turn.
 side_by_side() {
-  xargs -d '\n' -P "$processors" -I NAMES bash -c 'run NAMES'
+  printf '%s\n' "$@" | xargs -d '\n' -P "$processors" -I NAMES bash -c 'run NAMES'
 }
 
 unit_tests() {
   JOBS=$(((processors + 1) / 2)) nice bash packaging/try.sh > "$logs/unit_tests" 2>&1
-  flock "$logs" printf '== unit tests\n%s\n' "$(cat "$logs/unit_tests")"
+  show 'unit tests' "$logs/unit_tests"
 }
 
 early_scripts() {
@@ -97,19 +122,18 @@ for script in tests/*.sh; do
 done
 
 built=0
-make --no-print-directory build || built=1
+now make --no-print-directory build || built=1
 # dist.sh links the program's object. A gate may leave none, and then the program is built again: now,
 # and not beside scripts that run it.
 if [ "$built" -eq 0 ] && [ ! -s "$object" ]; then
-  bash packaging/objects.sh "$logs/objects" || built=1
+  now bash packaging/objects.sh "$logs/objects" || built=1
 fi
 if [ "$built" -eq 0 ]; then
-  printf '%s\n' "${first[@]}" "${in_turn[*]}" "${later[@]:${#first[@]}}" | side_by_side
+  now side_by_side "${in_turn[*]}" "${later[@]}"
 fi
 wait
-groups=()
 if [ "$built" -eq 0 ]; then
-  run "${alone[@]}"
+  now run "${alone[@]}"
 fi
 
 read -r passed failed < <(sed -nE '$s/^([0-9]+) passed, ([0-9]+) failed$/\1 \2/p' "$logs/unit_tests")

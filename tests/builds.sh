@@ -2,12 +2,13 @@
 # A build that fails says which proof is open, and proves no further crate. `make test` runs the unit
 # tests and each script once, from nothing and over a built program. `make build`, `make test` or
 # `make run` that is interrupted says nothing more, and leaves nothing that runs on and no temporary
-# file. `rt` and the scripts of tests/ are stand-ins, in a copy of the tree.
+# file. `rt`, `df` and the scripts of tests/ are stand-ins, in a copy of the tree.
 set -uo pipefail
 . "$(dirname "$0")/common.bash"
 room=$(mktemp -d)
 trap 'rm -rf "$room"' EXIT
 export STAND_INS_BEGUN=$room/begun
+unset MAKELEVEL MAKEFLAGS MFLAGS # also if this runs in a `make test`
 mkdir "$room/bin" "$room/copy"
 tar -c --exclude=.git --exclude=out --exclude=dist . | tar -x -C "$room/copy"
 
@@ -41,7 +42,8 @@ cat > "$room/script" << 'STAND_IN'
 echo "$$ ${0##*/}" >> "$STAND_INS_BEGUN"
 if [ -n "${SLOW-}" ]; then exec sleep 60; fi
 STAND_IN
-chmod +x "$room/bin/rt"
+printf '#!/bin/sh\necho 99000M\n' > "$room/bin/df"
+chmod +x "$room/bin/rt" "$room/bin/df"
 for script in "$room/copy/tests"/*.sh; do
   [ "${script##*/}" = all.sh ] || cp "$room/script" "$script"
 done
@@ -53,10 +55,11 @@ have_begun() {
 }
 
 # made STATUS COMMAND..: runs it in the copy, and keeps what it prints. It begins from nothing unless
-# `over_build` is set. If there are names in `interrupted`, nothing ends by itself, and the command
-# gets what Ctrl-C sends once these have begun.
+# `over_build` is set. If there are names in `interrupted`, nothing ends by itself. Once these have
+# begun, all processes get what Ctrl-C sends, or the first one alone the signal `stopped_by`.
 interrupted=()
 over_build=
+stopped_by=
 made() {
   local want=$1 group status alive
   shift
@@ -74,7 +77,7 @@ made() {
       sleep 0.05
     done
     have_begun "${interrupted[@]}" || fail "these have begun, and no others: $(cat "$room/begun")"
-    kill -INT -- "-$group"
+    if [ -n "$stopped_by" ]; then kill -s "$stopped_by" "$group"; else kill -INT -- "-$group"; fi
   fi
   wait "$group"
   status=$?
@@ -145,6 +148,9 @@ row='make test is interrupted'
 interrupted=(fq_text fq_lane fq_text_tests must_not_compile.sh)
 made 130 make -C "$room/copy" test
 silent Terminated
+
+row='make test is terminated'
+stopped_by=TERM made 143 make -C "$room/copy" test
 
 row='make run is interrupted'
 interrupted=(fq_prog)

@@ -68,7 +68,7 @@ all_fail() {
 }
 
 disk='' other=''
-for folder in "${TMPDIR:-/tmp}" /var/tmp /dev/shm "$PWD" "$HOME"; do
+for folder in "${TMPDIR:-/tmp}" /var/tmp /dev/shm "$PWD" "${HOME-}"; do
   if ! { [ -d "$folder" ] && [ -w "$folder" ]; }; then continue; fi
   if has_disk "$folder"; then disk=${disk:-$folder}; else other=${other:-$folder}; fi
 done
