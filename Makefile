@@ -103,11 +103,11 @@ image: dist
 # Installs the program as fq_prog and tibzharuk below PREFIX (default: /usr/local), with the scripts
 # that have a command, their manual pages, and their completion for bash, zsh and fish.
 install: build
-	@bash packaging/install.sh $(PROGRAM) $(DESTDIR)$(PREFIX)
+	@bash packaging/install.sh $(PROGRAM) "$(DESTDIR)$(PREFIX)"
 
 # Removes what `make install` with the same PREFIX installed.
 uninstall:
-	@bash packaging/install.sh --remove $(DESTDIR)$(PREFIX)
+	@bash packaging/install.sh --remove "$(DESTDIR)$(PREFIX)"
 
 # Removes what `make run`, `make static` and `make dist` made. What was proved stays, in the crates'
 # out/.

@@ -27,14 +27,20 @@ if [ $# -lt 2 ] || [ $# -gt 3 ]; then
   usage
   exit 1
 fi
-folder=$(realpath -m -- "$2")
+# Not every shell expands the ~ in PREFIX=~/.local.
+# shellcheck disable=SC2088
+case $2 in
+  '~' | '~/'*) folder=$HOME${2#'~'} ;;
+  *) folder=$2 ;;
+esac
+folder=$(realpath -m -- "$folder")
 scripts=${3:-share/tibzharuk/contrib}
 cd "$(dirname "$0")/.."
 
 # The files of the tree below these directories: those that git knows, or all if the tree isn't a
-# clone.
+# clone. Then it may still be below a directory that is one.
 files_of() {
-  if git rev-parse --is-inside-work-tree > /dev/null 2>&1; then
+  if git ls-files --error-unmatch Makefile > /dev/null 2>&1; then
     git ls-files -- "$@"
   else
     find "$@" -name __pycache__ -prune -o -type f -print 2> /dev/null

@@ -28,7 +28,7 @@ proved=$(grep -oE -m 1 'rattle-kit-[^ ]+ logic [0-9a-f]+' README.md)
 
 # room DIRECTORY MEGABYTES LEFT WHAT-TO-DO: refuses if the disk has less room, with what is LEFT there
 room() {
-  local free=$(($(df -Pm "$1" | awk 'NR == 2 { print $4 }') + $3))
+  local free=$(($(df --output=avail -BM "$1" | tail -n 1 | tr -dc 0-9) + $3))
   [ "$free" -ge "$2" ] ||
     refuse "Only $free MB are free in $1, and this needs $(($2 / 1024)) GB. Free some, or $4 on a larger disk."
 }

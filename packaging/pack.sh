@@ -35,9 +35,9 @@ export SOURCE_DATE_EPOCH
 put() { install -D -m "$1" "$2" "$3"; }
 
 # The files of the tree below these directories: those that git knows, or all if the tree isn't a
-# clone.
+# clone. Then it may still be below a directory that is one.
 files_of() {
-  if git rev-parse --is-inside-work-tree > /dev/null 2>&1; then
+  if git ls-files --error-unmatch Makefile > /dev/null 2>&1; then
     git ls-files -- "$@"
   else
     find "$@" -type f 2> /dev/null

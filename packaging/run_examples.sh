@@ -25,11 +25,13 @@ else
   call=(rt try --)
   echo 'Compiles the program without proofs, in about a minute, and trims the reads in examples/:'
 fi
-echo "    tibzharuk ${arguments[*]}" | sed "s|$PWD/||g"
+echo "    tibzharuk ${arguments[*]//"$PWD/"/}"
 echo
 
-rm -rf "$out"
-mkdir -p "$out"
+if ! rm -rf "$out" || ! mkdir -p "$out"; then
+  echo "The outputs can't be written: $out. Clone the repository into a directory of your own." >&2
+  exit 1
+fi
 (cd crates/fq_prog && "${call[@]}" "${arguments[@]}") < /dev/null > "$out/summary.txt" 2> "$log"
 status=$?
 if [ "$status" -ne 0 ]; then

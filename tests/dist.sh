@@ -222,7 +222,7 @@ check_scripts() {
 
 # What is installed runs, and all of its files are removed again; other files stay.
 check_install() {
-  local stage=$work/stage
+  local stage="$work/a stage"
   install -D -m 644 README.md "$stage/usr/bin/other"
   make -s install DESTDIR="$stage" PREFIX=/usr > /dev/null || fail 'make install fails'
   run_example 'the installed program' "$stage/usr/bin/fq_prog"

@@ -33,7 +33,7 @@ new_stand_ins() {
   mkdir "$room/bin"
   stand_in uname 'Linux x86_64'
   stand_in rt "$(grep -oE -m 1 'rattle-kit-[^ ]+ logic [0-9a-f]+' README.md)"
-  stand_in df 'Filesystem 1048576-blocks Used Available Capacity Mounted on' 'disk 1 1 99000 1% /'
+  stand_in df ' Avail' '99000M'
 }
 
 # says_nothing COMMAND..: the command ends with status 0 and an empty standard error
@@ -74,7 +74,7 @@ says_nothing bash "$room/copy/packaging/needs.sh" 1
 head -c 5000000 /dev/urandom > "$room/copy/crates/fq_text/out/built" # counts as 5 MB
 sync "$room/copy/crates/fq_text/out/built"
 new_stand_ins
-stand_in df 'Filesystem 1048576-blocks Used Available Capacity Mounted on' 'disk 1 1 12 1% /'
+stand_in df ' Avail' '12M'
 row='a full disk'
 says 1 "Only 17 MB are free in $room/copy, and this needs 1000 GB. Free some, or clone the repository on a larger disk." \
   bash "$room/copy/packaging/needs.sh" 1000
