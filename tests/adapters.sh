@@ -146,7 +146,10 @@ the adapter in reverse reads alone|2.0 % of the first 1,000 $holds|-1 no_1.fq -2
 adapters after 10,000 pairs||-1 late_1.fq.gz -2 late_2.fq.gz
 only poly-G is named|2.0 % of the first 1,000 $holds|-1 two_1.fq -2 two_2.fq --poly-g
 other adapters are named||-1 two_1.fq -2 two_2.fq --adapters nextera
-cutadapt has options of its own||-1 two_1.fq -2 two_2.fq --cutadapt=-q10
+cutadapt trims by quality alone|2.0 % of the first 1,000 $holds|-1 two_1.fq -2 two_2.fq --cutadapt=-q10
+cutadapt is given an adapter||-1 two_1.fq -2 two_2.fq --cutadapt=-GACGTTGCA
+cutadapt is given an adapter by a long option||-1 two_1.fq -2 two_2.fq --cutadapt=--front=ACGTTGCA
+cutadapt drops every pair|cutadapt removed all pairs|-1 one_1.fq -2 one_2.fq --cutadapt=-m1000
 END
 row='reads from a pipe'
 made '' -1 <(cat two_1.fq) -2 two_2.fq "${outputs[@]}" -- "${steps[@]}"

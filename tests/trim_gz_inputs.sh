@@ -183,5 +183,9 @@ row='a prefix, without unpaired reads and report'
 made "${both[@]}" --out out/s --no-unpaired --no-report --unpaired2 out/u2.fq "${last[@]}"
 [ "$(cd "$work/out" && echo *)" = 's.r1.paired.fastq.gz s.r2.paired.fastq.gz u2.fq' ] || fail "there are $(ls -A "$work/out")"
 as_plain u2.fq
+row='a prefix with a letter that the locale does not have'
+LC_ALL=C PYTHONUTF8=0 PYTHONCOERCECLOCALE=0 made "${both[@]}" --out out/sα "${last[@]}"
+grep -q '<title>sα:' "$work/out/sα.html" || fail 'the page has another title'
+grep -qF '"forward_paired":"out/sα.r1.paired.fastq.gz"' "$work/out/sα.json" || fail 'the report has another name'
 
 finish ok

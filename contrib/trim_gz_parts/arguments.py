@@ -23,6 +23,8 @@ ENDINGS = {
     "html": ".html",
 }
 NOWHERE = "/dev/null"
+# An option of cutadapt that names an adapter, at any end of a read.
+ADAPTER_OPTION = re.compile("-[aAgGbB]|--(adapter|front|anywhere)")
 # Options of cutadapt that trim_gz sets itself, or that write files without a hidden name.
 REFUSED_LETTERS = ("o", "p", "j", "r", "h")
 REFUSED_NAMES = (
@@ -268,6 +270,10 @@ class Arguments:
 
     def uses_cutadapt(self) -> bool:
         return bool(self.adapters or self.cutadapt or self.poly_g)
+
+    def names_adapters(self) -> bool:
+        """Whether adapters are named, also in options of cutadapt."""
+        return bool(self.adapters) or any(map(ADAPTER_OPTION.match, self.cutadapt or []))
 
     def inputs(self) -> List[str]:
         return self.forward + self.reverse + self.both

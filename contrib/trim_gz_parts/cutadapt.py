@@ -146,6 +146,11 @@ class Cutadapt:
         except (ValueError, KeyError, TypeError):
             raise Fault(4, "cutadapt: no report")
 
+    def removed_all(self) -> bool:
+        """Whether it passed on none of the pairs that it read."""
+        pairs = self.counted()["read_counts"]
+        return bool(pairs["input"] and not pairs["output"])
+
     def report(self) -> bytes:
         """What it counted, as JSON, with the names of the user's files."""
         text = self.counts.decode()

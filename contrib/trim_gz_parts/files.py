@@ -52,8 +52,9 @@ def is_gzip_name(name: str) -> bool:
 
 
 def readable(name: str) -> str:
-    """The name of a file as text. Bytes that aren't UTF-8 become a replacement character."""
-    return name.encode("utf-8", "surrogateescape").decode("utf-8", "replace")
+    """The name of a file as text, whatever the locale. Bytes that aren't UTF-8 become a replacement
+    character."""
+    return os.fsencode(name).decode("utf-8", "replace")
 
 
 def with_names(text: str, names: Dict[str, str]) -> str:
@@ -252,8 +253,8 @@ class Output:
         ending = f".trim_gz.{os.urandom(4).hex()}"
         try:
             most = os.pathconf(folder, "PC_NAME_MAX") - len(ending) - len(OLD)
-            start = os.fsencode(f".{name}")[:most].decode("utf-8", "ignore")
-            hidden = os.path.join(folder, start + ending)
+            start = os.fsencode(f".{name}")[:most].decode("utf-8", "ignore").encode()
+            hidden = os.path.join(folder, os.fsdecode(start) + ending)
             self.fd = os.open(hidden, os.O_RDWR | os.O_CREAT | os.O_EXCL, 0o666)
         except OSError as error:
             raise self.fault(reason(error))

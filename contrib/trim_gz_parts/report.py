@@ -89,7 +89,7 @@ class Page:
         """It reads the report and prints the page."""
         self.text, theirs = family.gather()
         reading, writing = family.pipe()
-        words = [self.program, f"--sample={self.sample}", "/dev/stdin"]
+        words = [self.program, os.fsdecode(f"--sample={self.sample}".encode()), "/dev/stdin"]
         family.start("html", words, reading, theirs)
         family.keep(writing)
         family.let_go()

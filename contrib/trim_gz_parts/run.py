@@ -126,7 +126,7 @@ class Run:
     def look_for_adapters(self) -> None:
         """Says if the first pairs hold known adapters, but none are named. The children work
         meanwhile."""
-        if not self.arguments.adapters and not self.arguments.cutadapt:
+        if not self.arguments.names_adapters():
             word = word_on_adapters([side.names[0] for side in self.sides])
             if word:
                 warn(word)
@@ -328,7 +328,9 @@ class Run:
         """Says what may be wrong, although all went well."""
         for name in self.without_end:
             no_end(name, self.arguments.needs_end)
-        if self.pairs_taken() == 0:
+        if self.cutadapt and self.cutadapt.removed_all():
+            warn("cutadapt removed all pairs")
+        elif self.pairs_taken() == 0:
             warn("the inputs have no pairs")
 
     def print_summary(self) -> None:
