@@ -106,6 +106,24 @@ c\t1\tnames/c_R1.fastq\tnames/c_R2.fastq\n'
   listed 'SRR1\t1\tnames/SRR1_1.fastq.gz\tnames/SRR1_2.fastq.gz
 x_S1\t1\tnames/x_S1_1.fq\tnames/x_S1_2.fq
 x_S2\t1\tnames/x_S2_1.fq\tnames/x_S2_2.fq\n'
+  row='links to directories'
+  touched a_R{1,2}.fq
+  mkdir -p far
+  touch far/b_R{1,2}.fq
+  ln -sfn ../far names/c
+  ln -sfn ../far names/d
+  ln -sfn .. names/run2/up
+  listed 'a\t1\tnames/a_R1.fq\tnames/a_R2.fq
+b\t1\tnames/c/b_R1.fq\tnames/c/b_R2.fq\n'
+  row='a directory whose name is no UTF-8'
+  touched x
+  mkdir $'names/M\xfcller'
+  touch $'names/M\xfcller/a_R'{1,2}.fq
+  unlisted "names/M\\udcfcller/a_R1.fq: it has a character that the workflow doesn't take" \
+    "names/M\\udcfcller/a_R2.fq: it has a character that the workflow doesn't take"
+  row='a directory that is not there'
+  rm -rf names
+  unlisted 'names: No such file or directory'
   row='files that do not pair up'
   touched a_R{1,2}.fastq.gz run2/a_R1.fastq b_L001_R2.fq c.fastq.gz '{d}_1.fq' "it's_1.fq"
   unlisted "names/c.fastq.gz: not named as one of a pair (samples_of --help)" \
@@ -156,16 +174,32 @@ page_tells s1 s2 s3 s4
 removed_bases s1 s2 s3 s4
 
 new_lab plain
-row='no trim logs from the start, and a table of nf-core'
+row='no trim logs from the start, a table of nf-core, and a file that may be cut'
 same_from_tables
 cp reads/s4_L001_R2.fq.gz.whole reads/s4_L001_R2.fq.gz
+if command -v bgzip > /dev/null; then
+  gzip -dc reads/s2_L001_R1.fq.gz | bgzip -c | head -c -28 > cut.gz
+  mv cut.gz reads/s2_L001_R1.fq.gz
+fi
 call 0 --profile profiles/local --config trim_logs=False
+if command -v bgzip > /dev/null; then
+  word='reads/s2_L001_R1.fq.gz may be cut: the end block of BGZF is missing (--need-end refuses such a file)'
+  [ "$(grep '^warning:' said)" = "warning: s2: $word" ] || fail "the run warns: $(grep '^warning:' said)"
+  [ "$(grep -o '<li><a href="reports/[^<]*</a>: .*' results/report.html)" = "<li><a href=\"reports/s2.html\">s2</a>: <samp>$word</samp></li>" ] ||
+    fail 'the page does not warn'
+else
+  echo "$this: a file that may be cut: skipped: needs tabix"
+fi
 ran 4
 same_as_direct s1 s2 s3 s4
 page_tells s1 s2 s3 s4
 removed_bases s1 s2 s3 s4
 [ ! -e results/trim_logs ] || fail 'there is a trim log'
 no_cutadapt
+row='trim logs that are wanted later'
+call 0 --profile profiles/local
+ran 4
+same_logs s1 s2 s3 s4
 
 new_lab old
 row='the settings of 1.0.0'

@@ -24,6 +24,7 @@ sys.path.insert(0, str(CONTRIB))
 
 from tibzharuk_report import Refused, read_report  # noqa: E402
 
+WARNING = "trim_gz: warning: "
 SECTION = """<!--
 id: 'tibzharuk_run'
 section_name: 'This run'
@@ -70,6 +71,19 @@ def why_failed(results, logs, sample, lanes):
     return None if reasons == [None] else "; ".join(reasons)
 
 
+def warnings_of(logs, sample, lanes):
+    """What trim_gz warned of when it trimmed a sample, with the names of the lanes if each had a job."""
+    named = {f"lane {lane}: ": logs / "trim" / sample / f"{sample}_{lane}.log" for lane in lanes}
+    found = []
+    for name, log in (named or {"": logs / "trim" / f"{sample}.log"}).items():
+        try:
+            lines = log.read_text(encoding="utf-8", errors="replace").splitlines()
+        except OSError:
+            continue
+        found += [name + line[len(WARNING) :] for line in lines if line.startswith(WARNING)]
+    return found
+
+
 def settings_of(results, samples):
     """The samples that were trimmed by the same program, steps and options, together."""
     groups = {}
@@ -105,6 +119,16 @@ def link(results, sample):
     if page.is_file() and page.stat().st_mtime >= report.stat().st_mtime:
         return f'<a href="reports/{name}.html">{name}</a>'
     return name
+
+
+def warned(results, warnings):
+    """The samples with warnings."""
+    if not warnings:
+        return []
+    parts = [f'<div class="alert alert-warning"><strong>Warnings: {len(warnings)}.</strong><ul>']
+    for sample, lines in warnings.items():
+        parts += [f"<li>{link(results, sample)}: <samp>{html.escape(line)}</samp></li>" for line in lines]
+    return parts + ["</ul></div>"]
 
 
 def sample_pages(results, reports):
@@ -199,7 +223,7 @@ def run_multiqc(room, top):
         raise Refused("multiqc made no page")
 
 
-def make_page(results, trimmed, failed, not_started):
+def make_page(results, trimmed, warnings, failed, not_started):
     """Makes the page in a directory of its own, and moves it to its place at the end."""
     samples = len(trimmed) + len(failed) + len(not_started)
     parts = [SECTION, f"<p><strong>{len(trimmed)} of {samples} samples</strong> are on this page.</p>"]
@@ -208,7 +232,7 @@ def make_page(results, trimmed, failed, not_started):
         room = Path(name)
         (room / "read").mkdir()
         reports = gather(results, trimmed, room / "read")
-        parts += sample_pages(results, reports) + how_trimmed(results, trimmed)
+        parts += warned(results, warnings) + sample_pages(results, reports) + how_trimmed(results, trimmed)
         (room / "read" / "run_mqc.html").write_text("\n".join(parts) + "\n", encoding="utf-8")
         run_multiqc(room, "\n".join(missing_samples(failed, not_started)))
         shutil.rmtree(results / "report_data", ignore_errors=True)
@@ -224,15 +248,20 @@ def main():
     samples = {name: lanes for name, *lanes in (line.split("\t") for line in sys.stdin.read().split("\n")[:-1])}
     parts = ("summaries/{}.summary", "summaries/{}.settings", "reports/{}.json")
     trimmed = {name: lanes for name, lanes in samples.items() if all((words.results / part.format(name)).is_file() for part in parts)}
+    found = {name: warnings_of(words.logs, name, lanes) for name, lanes in trimmed.items()}
+    warnings = {name: lines for name, lines in found.items() if lines}
     reasons = {name: why_failed(words.results, words.logs, name, lanes) for name, lanes in samples.items() if name not in trimmed}
     failed = {name: why for name, why in reasons.items() if why is not None}
     not_started = [name for name, why in reasons.items() if why is None]
     try:
-        make_page(words.results, trimmed, failed, not_started)
+        make_page(words.results, trimmed, warnings, failed, not_started)
     except (Refused, OSError) as why:
         print(f"page: {' '.join(str(why).split())}", file=sys.stderr)
         return 1
     print(f"{words.results / 'report.html'}: {len(trimmed)} of {len(samples)} samples", file=sys.stderr)
+    for name, lines in warnings.items():
+        for line in lines:
+            print(f"warning: {name}: {line}", file=sys.stderr)
     for name, why in failed.items():
         print(f"failed: {name}: {why}", file=sys.stderr)
     for name in not_started:
