@@ -33,22 +33,11 @@ set -m
 room=$(mktemp -d)
 helpers=()
 clean_up() {
-  local group groups
-  mapfile -t groups < <(jobs -p)
-  for group in "${groups[@]}"; do
-    # bash would print the source of what was stopped.
-    { kill -- "-$group" && wait "$group"; } 2> /dev/null
-  done
+  stop_jobs
   rm -rf "$room"
 }
-# stopped STATUS: make passes a signal on, so it may come twice
-stopped() {
-  trap '' INT TERM HUP
-  exit "$1"
-}
 trap clean_up EXIT
-trap 'stopped 130' INT
-trap 'stopped 143' TERM HUP
+. packaging/jobs.bash
 
 # shown LOG: what rt printed, without the lines of what is proved
 shown() {
@@ -113,6 +102,5 @@ for crate in "${chain[@]}"; do
   : > "$room/$crate"
 done
 for helper in "${helpers[@]}"; do wait "$helper" || not_built; done
-helpers=()
 prove "$PWD" fq_prog rt run "${jobs[@]}" -- EXAMPLE || exit 1
 sha256sum crates/fq_prog/out/fq_prog

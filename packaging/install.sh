@@ -31,6 +31,10 @@ fi
 # shellcheck disable=SC2088
 case $2 in
   '~' | '~/'*) folder=$HOME${2#'~'} ;;
+  '~'*)
+    echo "install: give the whole path in place of $2" >&2
+    exit 1
+    ;;
   *) folder=$2 ;;
 esac
 folder=$(realpath -m -- "$folder")

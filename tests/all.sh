@@ -11,27 +11,11 @@ cd "$(dirname "$0")/.." || exit 1
 logs=$(mktemp -d)
 export logs
 clean_up() {
-  local group groups
-  mapfile -t groups < <(jobs -p)
-  for group in "${groups[@]}"; do kill -- "-$group" 2> /dev/null; done
-  for group in "${groups[@]}"; do
-    wait "$group" 2> /dev/null
-    # Those below it may still be removing what is temporary.
-    for _ in {1..100}; do
-      kill -0 -- "-$group" 2> /dev/null || break
-      sleep 0.1
-    done
-  done
+  stop_jobs
   rm -rf "$logs"
 }
-# stopped STATUS: make passes a signal on, so it may come twice
-stopped() {
-  trap '' INT TERM HUP
-  exit "$1"
-}
 trap clean_up EXIT
-trap 'stopped 130' INT
-trap 'stopped 143' TERM HUP
+. packaging/jobs.bash
 
 # Scripts that need no program, the longest first.
 early=(must_not_compile needs builds scripts trim_gz_pieces pages wrong_bodies rehearsal)

@@ -22,7 +22,7 @@ fi
 crate=${PWD##*/}
 echo "$$ $crate" >> "$STAND_INS_BEGUN"
 trap 'exit 130' INT
-if [ -n "${SLOW-}" ]; then sleep 60; fi
+if [ -n "${SLOW-}" ]; then sleep 300; fi
 sleep 0.1
 printf 'so far: 1 of 2 functions checked\nfn %s::f: proved, may wait\n' "$crate"
 if [ "$crate" = "${REFUSED-}" ]; then
@@ -40,7 +40,7 @@ echo 'logic=proved functions=2 in all'
 STAND_IN
 cat > "$room/script" << 'STAND_IN'
 echo "$$ ${0##*/}" >> "$STAND_INS_BEGUN"
-if [ -n "${SLOW-}" ]; then exec sleep 60; fi
+if [ -n "${SLOW-}" ]; then exec sleep 300; fi
 STAND_IN
 printf '#!/bin/sh\necho 99000M\n' > "$room/bin/df"
 chmod +x "$room/bin/rt" "$room/bin/df"
@@ -72,7 +72,7 @@ made() {
   group=$!
   set +m
   if [ "${#interrupted[@]}" -gt 0 ]; then
-    for _ in {1..400}; do
+    for _ in {1..2400}; do
       ! have_begun "${interrupted[@]}" || break
       sleep 0.05
     done

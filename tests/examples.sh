@@ -42,7 +42,7 @@ trims "$tree" 'with the proved program'
 mkdir "$work/not built"
 find . '(' -name .git -o -name out -o -name dist ')' -prune -o -type f -print0 | xargs -0 cp --parents -t "$work/not built"
 trims "$work/not built" 'NOT PROVED'
-grep -qF "file://$work/not%20built/examples/out/report.html" "$work/said" || fail 'make run names the page by an address that no browser takes'
+grep -q ' file:///.*/not%20built/examples/out/report\.html$' "$work/said" || fail 'make run names the page by an address that no browser takes'
 
 PATH=$PWD/crates/fq_prog/out:$PATH contrib/trim_gz -1 examples/reads_1.fq.gz -2 examples/reads_2.fq.gz \
   --paired1 "$work/gz/p1.fq" --unpaired1 "$work/gz/u1.fq" --paired2 "$work/gz/p2.fq" --unpaired2 "$work/gz/u2.fq" \
