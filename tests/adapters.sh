@@ -149,6 +149,8 @@ other adapters are named||-1 two_1.fq -2 two_2.fq --adapters nextera
 cutadapt trims by quality alone|2.0 % of the first 1,000 $holds|-1 two_1.fq -2 two_2.fq --cutadapt=-q10
 cutadapt is given an adapter||-1 two_1.fq -2 two_2.fq --cutadapt=-GACGTTGCA
 cutadapt is given an adapter by a long option||-1 two_1.fq -2 two_2.fq --cutadapt=--front=ACGTTGCA
+cutadapt is given an adapter by a shortened option||-1 two_1.fq -2 two_2.fq --cutadapt=--anyw=ACGTTGCA
+cutadapt is given an adapter beside another option||-1 two_1.fq -2 two_2.fq --cutadapt=-ZbACGTTGCA
 cutadapt drops every pair|cutadapt removed all pairs|-1 one_1.fq -2 one_2.fq --cutadapt=-m1000
 END
 row='reads from a pipe'

@@ -115,6 +115,10 @@ x_S2\t1\tnames/x_S2_1.fq\tnames/x_S2_2.fq\n'
   ln -sfn .. names/run2/up
   listed 'a\t1\tnames/a_R1.fq\tnames/a_R2.fq
 b\t1\tnames/c/b_R1.fq\tnames/c/b_R2.fq\n'
+  row='links that lead nowhere'
+  touched a_R{1,2}.fq
+  ln -s ../gone names/run7
+  unlisted 'names/run7: No such file or directory'
   row='a directory whose name is no UTF-8'
   touched x
   mkdir $'names/M\xfcller'

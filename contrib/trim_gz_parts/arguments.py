@@ -23,8 +23,9 @@ ENDINGS = {
     "html": ".html",
 }
 NOWHERE = "/dev/null"
-# An option of cutadapt that names an adapter, at any end of a read.
-ADAPTER_OPTION = re.compile("-[aAgGbB]|--(adapter|front|anywhere)")
+# Options of cutadapt that name adapters, at any end of a read.
+ADAPTER_LETTERS = ("a", "A", "g", "G", "b", "B")
+ADAPTER_NAMES = ("--adapter", "--front", "--anywhere")
 # Options of cutadapt that trim_gz sets itself, or that write files without a hidden name.
 REFUSED_LETTERS = ("o", "p", "j", "r", "h")
 REFUSED_NAMES = (
@@ -69,13 +70,13 @@ def one_of(option: str, names: Sequence[str]) -> Callable[[str], str]:
     return read
 
 
-def is_refused_by_us(word: str) -> bool:
-    """Whether trim_gz refuses to pass on this option of cutadapt, even if it is shortened, or is in
-    one word with others, as in -Zp."""
+def is_option(word: str, letters: Sequence[str], names: Sequence[str]) -> bool:
+    """Whether it is one of these options of cutadapt, even if it is shortened, or is in one word
+    with others, as in -Zp."""
     if word.startswith("--"):
-        name = word.partition("=")[0]
-        return len(name) > 2 and any(refused.startswith(name) for refused in REFUSED_NAMES)
-    return word.startswith("-") and word[1:].lstrip(LETTERS_WITHOUT_VALUE)[:1] in REFUSED_LETTERS
+        given = word.partition("=")[0]
+        return len(given) > 2 and any(name.startswith(given) for name in names)
+    return word.startswith("-") and word[1:].lstrip(LETTERS_WITHOUT_VALUE)[:1] in letters
 
 
 def cutadapt_options(text: str) -> List[str]:
@@ -85,7 +86,7 @@ def cutadapt_options(text: str) -> List[str]:
     except ValueError as error:
         raise Fault(1, f"--cutadapt: {str(error).lower()}")
     for word in words:
-        if is_refused_by_us(word):
+        if is_option(word, REFUSED_LETTERS, REFUSED_NAMES):
             raise Fault(1, f"--cutadapt: {word} can't be given here")
     return words
 
@@ -273,7 +274,9 @@ class Arguments:
 
     def names_adapters(self) -> bool:
         """Whether adapters are named, also in options of cutadapt."""
-        return bool(self.adapters) or any(map(ADAPTER_OPTION.match, self.cutadapt or []))
+        words = self.cutadapt or []
+        return bool(self.adapters) or any(
+            is_option(word, ADAPTER_LETTERS, ADAPTER_NAMES) for word in words)
 
     def inputs(self) -> List[str]:
         return self.forward + self.reverse + self.both

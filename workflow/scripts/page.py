@@ -247,7 +247,8 @@ def main():
     words = parser.parse_args()
     samples = {name: lanes for name, *lanes in (line.split("\t") for line in sys.stdin.read().split("\n")[:-1])}
     parts = ("summaries/{}.summary", "summaries/{}.settings", "reports/{}.json")
-    trimmed = {name: lanes for name, lanes in samples.items() if all((words.results / part.format(name)).is_file() for part in parts)}
+    files = {name: [part.format(name) for part in parts] + [f"lanes/{name}/{name}_{lane}.json" for lane in lanes] for name, lanes in samples.items()}
+    trimmed = {name: lanes for name, lanes in samples.items() if all((words.results / file).is_file() for file in files[name])}
     found = {name: warnings_of(words.logs, name, lanes) for name, lanes in trimmed.items()}
     warnings = {name: lines for name, lines in found.items() if lines}
     reasons = {name: why_failed(words.results, words.logs, name, lanes) for name, lanes in samples.items() if name not in trimmed}
