@@ -100,8 +100,8 @@ dist: static
 image: dist
 	@bash packaging/image.sh $(VERSION) dist
 
-# Installs the program as fq_prog and tibzharuk below PREFIX (default: /usr/local), with the scripts
-# that have a command, their manual pages, and their completion for bash, zsh and fish.
+# Installs fq_prog and the command tibzharuk below PREFIX (default: /usr/local), with their manual
+# pages, and their completion for bash, zsh and fish.
 install: build
 	@bash packaging/install.sh $(PROGRAM) "$(DESTDIR)$(PREFIX)"
 

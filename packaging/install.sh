@@ -1,18 +1,18 @@
 #!/usr/bin/env bash
-# Puts the program, the scripts that have a command, their manual pages, their completion and the
+# Puts the program and the command with its package, their manual pages, their completion and the
 # plugin of MultiQC below a directory such as /usr/local, or removes them. `make install`, the
-# tarball and the Debian package have all of them by this list.
+# tarball and the Debian package have all of them by this list. Neither pip nor a network is needed.
 set -euo pipefail
 umask 022
 export LC_ALL=C
 
 usage() {
-  echo "usage: packaging/install.sh PROGRAM DIRECTORY [SCRIPTS]
+  echo "usage: packaging/install.sh PROGRAM DIRECTORY [PACKAGE]
        packaging/install.sh --remove DIRECTORY
-Installs PROGRAM as fq_prog and tibzharuk below DIRECTORY, with trim_gz (tibzharuk-gz) and
-report_to_html (tibzharuk-report). The scripts go to DIRECTORY/SCRIPTS (default:
-share/tibzharuk/contrib). MultiQC finds its plugin by DIRECTORY/lib/python3/dist-packages, which is
-on Python's path on Debian if DIRECTORY is /usr. --remove removes all of these files."
+Installs PROGRAM as DIRECTORY/bin/fq_prog, and the command tibzharuk, whose Python package goes to
+DIRECTORY/PACKAGE (default: share/tibzharuk/python) and is compiled if python3 is installed. MultiQC
+finds its plugin by DIRECTORY/lib/python3/dist-packages, which is on Python's path on Debian if
+DIRECTORY is /usr. --remove removes all of these files."
 }
 
 case ${1-} in
@@ -38,7 +38,7 @@ case $2 in
   *) folder=$2 ;;
 esac
 folder=$(realpath -m -- "$folder")
-scripts=${3:-share/tibzharuk/contrib}
+package=${3:-share/tibzharuk/python}
 cd "$(dirname "$0")/.."
 
 # The files of the tree below these directories: those that git knows, or all if the tree isn't a
@@ -51,40 +51,41 @@ files_of() {
   fi | sort
 }
 
-# command_files NAME SECOND: what a command has besides its program: the second name, its page and
-# its completion
+# command_files NAME: the page and the completion of a command
 command_files() {
-  local name=$1 second=$2 completion=share/bash-completion/completions
-  echo "link $name bin/$second"
-  if [ -e "man/$name.1" ]; then
-    echo "file man/$name.1 share/man/man1/$name.1
-link $name.1 share/man/man1/$second.1"
-  fi
+  local name=$1 completion=share/bash-completion/completions
+  if [ -e "man/$name.1" ]; then echo "file man/$name.1 share/man/man1/$name.1"; fi
   if [ -e "completions/$name.bash" ]; then
     echo "file completions/$name.bash $completion/$name
-link $name $completion/$second
 file completions/_$name share/zsh/site-functions/_$name
-file completions/$name.fish share/fish/vendor_completions.d/$name.fish
-link $name.fish share/fish/vendor_completions.d/$second.fish"
+file completions/$name.fish share/fish/vendor_completions.d/$name.fish"
   fi
 }
 
 # Each file or link with what it is made of, and its name below the directory.
 entries() {
-  local file script
+  local file
   echo 'program - bin/fq_prog'
-  command_files fq_prog tibzharuk
-  for file in $(files_of contrib); do echo "file $file $scripts/${file#contrib/}"; done
-  # MultiQC finds its plugin by these two.
-  for file in tibzharuk_multiqc tibzharuk_multiqc.egg-info; do
-    echo "link ../../../$scripts/$file lib/python3/dist-packages/$file"
-  done
-  for script in trim_gz:tibzharuk-gz report_to_html:tibzharuk-report; do
-    file=${script%:*}
-    [ -e "contrib/$file" ] || continue
-    echo "link ../$scripts/$file bin/$file"
-    command_files "$file" "${script#*:}"
-  done
+  for file in $(files_of python/tibzharuk); do echo "file $file $package/${file#python/}"; done
+  echo "link ../$package/tibzharuk/__main__.py bin/tibzharuk"
+  # MultiQC finds its plugin by these.
+  echo "link ../../../$package/tibzharuk lib/python3/dist-packages/tibzharuk
+metadata - $metadata/METADATA
+file python/tibzharuk/entry_points.txt $metadata/entry_points.txt"
+  command_files fq_prog
+  command_files tibzharuk
+}
+
+version=$(sed -n 's/^VERSION = "\(.*\)"$/\1/p' python/tibzharuk/__init__.py)
+metadata=lib/python3/dist-packages/tibzharuk-$version.dist-info
+
+metadata() {
+  echo "Metadata-Version: 2.1
+Name: tibzharuk
+Version: $version"
+  sed -n 's/^description = "\(.*\)"$/Summary: \1/p
+s/^license = .*text = "\(.*\)".*/License: \1/p
+s/^requires-python = "\(.*\)"$/Requires-Python: \1/p' python/pyproject.toml
 }
 
 while read -r kind from name; do
@@ -96,6 +97,7 @@ while read -r kind from name; do
   mkdir -p "${to%/*}"
   case $kind in
     program) install -m 755 "$program" "$to" ;;
+    metadata) metadata > "$to" ;;
     link) ln -sfn "$from" "$to" ;;
     file)
       if [ -x "$from" ]; then install -m 755 "$from" "$to"; else install -m 644 "$from" "$to"; fi
@@ -103,9 +105,18 @@ while read -r kind from name; do
   esac
 done < <(entries)
 
-# What Python keeps beside a script goes with it, and so do directories of the program's own that
-# are empty then.
-if [ -z "$program" ] && [ -d "$folder/share/tibzharuk" ]; then
-  find "$folder/share/tibzharuk" -name __pycache__ -prune -exec rm -rf {} +
-  find "$folder/share/tibzharuk" -depth -type d -empty -delete
+# Compiled files don't have the time of their source, nor the name of this directory: packages are the
+# same bytes each time.
+code=$folder/$package
+if [ -n "$program" ] && command -v python3 > /dev/null; then
+  python3 -m compileall -q --invalidation-mode unchecked-hash -d "/$package" "$code"
+fi
+# What Python keeps beside the package goes with it, and so do directories of its own that are empty
+# then.
+if [ -z "$program" ]; then
+  rm -rf -- "${folder:?}/$metadata"
+  if [ -d "$folder/share/tibzharuk" ]; then
+    find "$folder/share/tibzharuk" -name __pycache__ -prune -exec rm -rf {} +
+    find "$folder/share/tibzharuk" -depth -type d -empty -delete
+  fi
 fi

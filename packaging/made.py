@@ -18,8 +18,8 @@ from man_page import plain, sentences
 
 TREE = Path(__file__).resolve().parent.parent
 FILES = ['man/fq_prog.1', 'completions/fq_prog.bash', 'completions/fq_prog.fish',
-         'completions/_fq_prog', 'workflow/cwl/trim_gz.cwl', 'docs/FORMAT.md',
-         'contrib/tibzharuk_report.py']
+         'completions/_fq_prog', 'workflow/cwl/tibzharuk.cwl', 'docs/FORMAT.md',
+         'python/tibzharuk/report/reading.py']
 PART = re.compile(r'(?ms)^([^\n]*made by packaging/made\.py: ([a-z-]+)[^\n]*\n)'
                   r'.*?^([^\n]*end of \2\b[^\n]*)$')
 

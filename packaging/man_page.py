@@ -1,7 +1,7 @@
 #!/usr/bin/env python3
 """usage: packaging/man_page.py NAME[,NAME..] < HELP > PAGE
 
-Makes the manual page of a script of contrib/ from what the script prints with --help, under the names by which it is installed.
+Makes the manual page of a command from what the script prints with --help, under the names by which it is installed.
 The help has headings in capitals, as trim_gz has them, or is that of Python's argparse. Version and day are the first of
 CHANGELOG.md that has both."""
 

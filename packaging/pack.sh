@@ -69,7 +69,7 @@ put_documents() {
   libraries > "$to/licences/versions"
 }
 
-# The workflow, which finds the scripts of contrib/ by their place.
+# The workflow.
 put_workflow() { put_tree "$1" workflow config profiles; }
 
 # The Debian packages whose files were linked into the program.
@@ -86,7 +86,7 @@ put_objects() {
 
 pack_tarball() {
   local to=$work/$release
-  bash packaging/install.sh "$folder/fq_prog" "$to" contrib
+  bash packaging/install.sh "$folder/fq_prog" "$to" python
   put_documents "$to"
   put_workflow "$to"
   put_objects "$to/relink"
@@ -145,6 +145,10 @@ pack_package() {
   local root=$work/root documents
   documents=$root/usr/share/doc/tibzharuk
   bash packaging/install.sh "$folder/fq_prog" "$root/usr"
+  # Debian's programs run by Debian's Python.
+  sed -i '1s|.*|#!/usr/bin/python3 -IS|' "$root/usr/share/tibzharuk/python/tibzharuk/__main__.py"
+  # Debian compiles what is installed (postinst.sh).
+  find "$root/usr" -name __pycache__ -prune -exec rm -rf {} +
   compress_pages "$root/usr/share/man/man1"
   # zsh looks there for what comes in packages.
   mv "$root/usr/share/zsh/site-functions" "$root/usr/share/zsh/vendor-completions"
@@ -160,6 +164,7 @@ pack_package() {
   put_objects "$root/usr/lib/tibzharuk/relink"
   mkdir "$root/DEBIAN"
   control "$root" > "$root/DEBIAN/control"
+  put 755 packaging/postinst.sh "$root/DEBIAN/postinst"
   put 755 packaging/prerm.sh "$root/DEBIAN/prerm"
   (cd "$root" && find usr -type f -printf '%p\n' | sort | xargs -d '\n' md5sum > DEBIAN/md5sums)
   find "$root" -exec touch -h -d "@$SOURCE_DATE_EPOCH" {} +

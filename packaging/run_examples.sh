@@ -55,11 +55,11 @@ for file in examples/trimmed/*; do
 done
 echo 'They equal those in examples/trimmed/, which another program made.'
 if command -v python3 > /dev/null; then
-  contrib/report_to_html --sample 'the example' "$out/report.json" > "$out/report.html" || exit
+  python/tibzharuk/__main__.py page --sample 'the example' "$out/report.json" > "$out/report.html" || exit
   address=$(python3 -c 'import pathlib, sys; print(pathlib.Path(sys.argv[1]).as_uri())' "$out/report.html")
   echo "The page of this run, for a browser: $address"
 else
-  echo "A page of this run needs python3: contrib/report_to_html examples/out/report.json > report.html"
+  echo "A page of this run needs python3: python/tibzharuk/__main__.py page examples/out/report.json > report.html"
 fi
 if [ -z "$proved" ]; then
   echo "

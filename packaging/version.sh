@@ -34,10 +34,10 @@ docs/GUIDE.md | tibzharuk- | -oci\.tar
 docs/GUIDE.md | Tibzharuk \(fq_prog\) | , with the steps
 packaging/Containerfile | VERSION= | -t tibz
 packaging/Containerfile | -t tibzharuk: | dist
-workflow/cwl/trim_gz.cwl | ^ *version: \[" | "\]$
-workflow/cwl/trim_gz.cwl | ^ *dockerImageId: tibzharuk: | $
+workflow/cwl/tibzharuk.cwl | ^ *version: \[" | "\]$
+workflow/cwl/tibzharuk.cwl | ^ *dockerImageId: tibzharuk: | $
 docs/GUIDE.md | `tibzharuk: | `
-contrib/tibzharuk_multiqc.egg-info/PKG-INFO | ^Version: | $
+python/tibzharuk/__init__.py | ^VERSION = " | "$
 tests/rehearsal/report_field.patch | "version": ?" | "\}$
 CITATION.cff | ^version: | $
 END

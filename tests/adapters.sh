@@ -1,5 +1,5 @@
 #!/usr/bin/env bash
-# Removes adapters with contrib/trim_gz: by name, by sequence and by file. The reads are those that
+# Removes adapters with tibzharuk trim: by name, by sequence and by file. The reads are those that
 # cutadapt and the program make one after the other. Files of adapters that would be taken wrongly
 # are refused. If reads hold a known adapter and none is named, one line says so. Input that is good
 # without adapters is good with them. The report, its page and the log of cutadapt say what was
@@ -10,7 +10,7 @@ set -uo pipefail
 . "$(dirname "$0")/common.bash"
 need cutadapt
 find_program
-script=$tree/contrib/trim_gz
+trim=("$tibzharuk" trim)
 work=$(mktemp -d) || exit 1
 trap 'rm -rf "$work"' EXIT
 cd "$work" || exit 1
@@ -25,7 +25,7 @@ truseq=(AGATCGGAAGAGCACACGTCTGAACTCCAGTCA AGATCGGAAGAGCGTCGTGTAGGGAAAGAGTGT)
 trimmed() {
   rm -rf out
   mkdir out
-  "$script" --program "$program" "$@" > printed 2> told
+  "${trim[@]}" --program "$program" "$@" > printed 2> told
   echo "$?" > status
 }
 
@@ -44,7 +44,7 @@ refused() {
   shift 2
   trimmed "$@"
   [ "$(cat status)" -eq "$status" ] || fail "status $(cat status), not $status"
-  [ "$(cat told)" = "trim_gz: $line" ] || fail "it says '$(cat told)', not '$line'"
+  [ "$(cat told)" = "tibzharuk: $line" ] || fail "it says '$(cat told)', not '$line'"
   [ -z "$(ls -A out)" ] || fail "outputs: $(ls -A out)"
 }
 
@@ -136,7 +136,7 @@ END
 holds='pairs hold an adapter that --adapters truseq removes'
 while IFS='|' read -r row line words; do
   read -ra words <<< "$words"
-  made "${line:+trim_gz: warning: $line}" "${words[@]}" "${outputs[@]}" -- "${steps[@]}"
+  made "${line:+tibzharuk: warning: $line}" "${words[@]}" "${outputs[@]}" -- "${steps[@]}"
 done << END
 2 % of the pairs|2.0 % of the first 1,000 $holds|-1 two_1.fq -2 two_2.fq
 2 % of the pairs, compressed|2.0 % of the first 1,000 $holds|-1 two_1.fq.gz -2 two_2.fq.gz
@@ -211,7 +211,7 @@ while IFS='|' read -r row begin end words; do
   read -ra words <<< "$words"
   trimmed "${words[@]}" "${outputs[@]}" --adapters truseq -- "${steps[@]}"
   [ "$(cat status)" -eq 3 ] || fail "status $(cat status)"
-  [[ $(cat told) == "trim_gz: cutadapt: $begin "*" $end" ]] || fail "it says $(cat told)"
+  [[ $(cat told) == "tibzharuk: cutadapt: $begin "*" $end" ]] || fail "it says $(cat told)"
 done << END
 wrapped records after others|Error in FASTQ file at line|(later_1.fq, truseq_2.fq): $remedy|-1 later_1.fq -2 truseq_2.fq
 mates that are missing|Error in sequence file|(truseq_1.fq, fewer_2.fq)|-1 truseq_1.fq -2 fewer_2.fq
@@ -227,7 +227,7 @@ made '' -1 truseq_1.fq.gz -2 truseq_2.fq.gz "${outputs[@]}" --adapters "${truseq
 as_plain
 python3 "$tree/tests/adapters/check.py" out/liver.json plain/json "$(cutadapt --version)" out/liver.html ||
   fail 'it has other numbers, or its page has'
-"$tree/contrib/report_to_html" out/liver.json | cmp - out/liver.html || fail 'a page of the saved report is another one'
+"$tibzharuk" page out/liver.json | cmp - out/liver.html || fail 'a page of the saved report is another one'
 row='the report of adapters of one side'
 made '' -1 truseq_1.fq -2 truseq_2.fq "${outputs[@]}" --cutadapt "-a ${truseq[0]}" --report out/one.json -- "${steps[@]}"
 grep -q '"reverse":{"bases_removed":0,"pairs_with_adapter":null},"version"' out/one.json || fail "$(head -c 400 out/one.json)"
@@ -247,7 +247,8 @@ END
 row='the samples of MultiQC'
 if command -v multiqc > /dev/null; then
   made '' -1 truseq_1.fq -2 truseq_2.fq "${outputs[@]}" --adapters truseq --report out/liver.json --cutadapt-log out/liver.log -- "${steps[@]}"
-  PYTHONPATH=$tree/contrib PYTHONDONTWRITEBYTECODE=1 multiqc --outdir seen out > multiqc.log 2>&1 || fail "$(cat multiqc.log)"
+  bash "$tree/packaging/install.sh" "$program" installed || fail 'it is not installed'
+  PYTHONPATH=installed/lib/python3/dist-packages multiqc --outdir seen out > multiqc.log 2>&1 || fail "$(cat multiqc.log)"
   for each in cutadapt tibzharuk; do grep -q "$each" multiqc.log || fail "it doesn't find $each: $(cat multiqc.log)"; done
   samples=$(cut -f 1 seen/multiqc_data/multiqc_general_stats.txt)
   [ "$samples" = $'Sample\nliver' ] || fail "they are ${samples//$'\n'/ }"

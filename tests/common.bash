@@ -5,6 +5,7 @@
 if [ -n "${FQ_PROG-}" ]; then FQ_PROG=$(realpath -- "$FQ_PROG"); fi
 cd "$(dirname "${BASH_SOURCE[0]}")/.." || exit 1
 tree=$PWD
+tibzharuk=$tree/python/tibzharuk/__main__.py # the command, as it is installed
 this=$(basename "$0" .sh)
 failed=0 # 1 after the first `fail`
 row=''   # what is being tried, for the lines of `fail`

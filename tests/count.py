@@ -223,7 +223,7 @@ def pairs_of(kind):
 
 
 def adapters(kind, pairs):
-    """What trim_gz says of cutadapt in its report."""
+    """What tibzharuk trim says of cutadapt in its report."""
     forward = {"bases_removed": 1234, "pairs_with_adapter": 17}
     options, removed = ["-a", "ACGT"], 0
     reverse = {"bases_removed": 0, "pairs_with_adapter": None}

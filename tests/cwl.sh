@@ -1,5 +1,5 @@
 #!/usr/bin/env bash
-# The description of trim_gz for engines of the Common Workflow Language, run by cwltool: two lanes
+# The description of tibzharuk trim for engines of the Common Workflow Language, run by cwltool: two lanes
 # of a sample, with each output compared with what the program makes of the plain texts, also if the
 # name of the sample begins with a dash; and a damaged input, which ends as permanentFail and leaves
 # nothing. The terms of EDAM and the licences are those that the description should have. It is not
@@ -14,7 +14,7 @@ work=$(mktemp -d)
 trap 'rm -rf "$work"' EXIT
 mkdir "$work/bin" "$work/home"
 ln -s "$program" "$work/bin/fq_prog"
-ln -s "$tree/contrib/trim_gz" "$work/bin/trim_gz"
+ln -s "$tibzharuk" "$work/bin/tibzharuk"
 export PATH=$work/bin:$PATH HOME=$work/home PYTHONDONTWRITEBYTECODE=1
 steps=(LEADING:3 TRAILING:3 SLIDINGWINDOW:4:15 MINLEN:36)
 cd "$work" || exit 1
@@ -32,7 +32,7 @@ job() {
 # other number for a failure
 run() {
   local got
-  timeout 300 cwltool --no-container --outdir "$1" "$tree/workflow/cwl/trim_gz.cwl" "$1.yaml" > "$1.out" 2> "$1.err"
+  timeout 300 cwltool --no-container --outdir "$1" "$tree/workflow/cwl/tibzharuk.cwl" "$1.yaml" > "$1.out" 2> "$1.err"
   got=$?
   if [ "$2" -eq 0 ] && [ "$got" -ne 0 ] || [ "$2" -ne 0 ] && [ "$got" -eq 0 ]; then fail "$1: status $got, not $2: $(tail -n 5 "$1.err")"; fi
 }
@@ -45,11 +45,11 @@ cat a_1.fq b_1.fq > 1.fq
 cat a_2.fq b_2.fq > 2.fq
 fq_prog PE 1.fq 2.fq r1.paired r1.unpaired r2.paired r2.unpaired "${steps[@]}" > summary || fail 'the program'
 
-cwltool --validate "$tree/workflow/cwl/trim_gz.cwl" > valid 2>&1 || fail "it is not valid: $(cat valid)"
+cwltool --validate "$tree/workflow/cwl/tibzharuk.cwl" > valid 2>&1 || fail "it is not valid: $(cat valid)"
 version=$(fq_prog --version | sed 's/.* //')
-grep -qF "version: [\"$version\"]" "$tree/workflow/cwl/trim_gz.cwl" || fail 'it asks for another version'
-grep -qxF "    dockerImageId: tibzharuk:$version" "$tree/workflow/cwl/trim_gz.cwl" || fail 'it asks for another image'
-cwltool --print-rdf "$tree/workflow/cwl/trim_gz.cwl" > rdf 2> rdf.err || fail "it has no RDF: $(tail -n 3 rdf.err)"
+grep -qF "version: [\"$version\"]" "$tree/workflow/cwl/tibzharuk.cwl" || fail 'it asks for another version'
+grep -qxF "    dockerImageId: tibzharuk:$version" "$tree/workflow/cwl/tibzharuk.cwl" || fail 'it asks for another image'
+cwltool --print-rdf "$tree/workflow/cwl/tibzharuk.cwl" > rdf 2> rdf.err || fail "it has no RDF: $(tail -n 3 rdf.err)"
 for term in http://edamontology.org/operation_3192 https://spdx.org/licenses/MIT https://spdx.org/licenses/Apache-2.0; do
   grep -qF "\"$term\"" rdf || grep -qF "<$term>" rdf || fail "it lacks $term"
 done
@@ -76,6 +76,6 @@ same dash -s
 job s a_2.fq.gz half_2.fq.gz > bad.yaml
 run bad 1
 grep -q permanentFail bad.err || fail "a damaged input is not permanentFail: $(tail -n 5 bad.err)"
-grep -q 'trim_gz: cannot read .*half_2.fq.gz' bad.err || fail 'the damaged input is not named'
+grep -q 'tibzharuk: cannot read .*half_2.fq.gz' bad.err || fail 'the damaged input is not named'
 [ -z "$(find bad -type f 2> /dev/null)" ] || fail "a damaged input leaves $(find bad -type f)"
 finish 'as the program does it'

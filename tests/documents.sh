@@ -109,12 +109,13 @@ first_command() {
     echo 'documents: the first command of README.md: skipped: needs cutadapt'
     return
   fi
-  mkdir "$room"
+  mkdir -p "$room/bin"
+  ln -s "$tibzharuk" "$room/bin/tibzharuk"
   for lane in 1 2; do
     for side in 1 2; do cp "examples/reads_$side.fq.gz" "$room/s_L00${lane}_R$side.fq.gz"; done
   done
-  parts code README.md | awk -v RS='\f\n' '/^trim_gz -1/ && !found { found = 1; print }' > "$room/command"
-  (cd "$room" && PATH=$tree/contrib:${program%/*}:$PATH bash -euo pipefail command) > "$room/said" 2>&1 || fail "the first command of README.md fails: $(cat "$room/said")"
+  parts code README.md | awk -v RS='\f\n' '/^tibzharuk trim -1/ && !found { found = 1; print }' > "$room/command"
+  (cd "$room" && PATH=$room/bin:${program%/*}:$PATH bash -euo pipefail command) > "$room/said" 2>&1 || fail "the first command of README.md fails: $(cat "$room/said")"
   grep -qx 'Input Read Pairs: 2000' "$room/said" || fail "the first command of README.md prints: $(cat "$room/said")"
   for name in r1.paired.fastq.gz r1.unpaired.fastq.gz r2.paired.fastq.gz r2.unpaired.fastq.gz json html; do
     [ -s "$room/s.$name" ] || fail "the first command of README.md makes no s.$name"
@@ -124,14 +125,15 @@ first_command() {
 # Runs the block of docs/GUIDE.md that makes r1.fq and r2.fq and trims them.
 first_run() {
   parts code docs/GUIDE.md > "$work/code"
-  awk -v RS='\f\n' '/printf/ && /> *r1\.fq/ && /tibzharuk PE/ && !found { found = 1; print }' "$work/code" |
+  awk -v RS='\f\n' '/printf/ && /> *r1\.fq/ && /tibzharuk trim/ && !found { found = 1; print }' "$work/code" |
     grep -E '^(\$ )?(printf|tibzharuk|cat|  )' | sed 's/^\$ //' > "$work/commands"
   [ -s "$work/commands" ] || {
     fail 'docs/GUIDE.md has no first run'
     return
   }
   mkdir "$work/run" "$work/bin"
-  ln -s "$program" "$work/bin/tibzharuk"
+  ln -s "$program" "$work/bin/fq_prog"
+  ln -s "$tibzharuk" "$work/bin/tibzharuk"
   (cd "$work/run" && PATH=$work/bin:$PATH bash -euo pipefail "$work/commands") > "$work/printed" || fail 'the first run of docs/GUIDE.md fails'
   shown "$work/printed" 'what its first run prints'
   [ -s "$work/run/trim.log" ] && shown "$work/run/trim.log" 'the log of its first run'
@@ -260,7 +262,7 @@ headings() {
 # The names in a document's backticks that begin with a directory of the tree.
 # shellcheck disable=SC2016  # the backticks are those of the document
 named_files() {
-  grep -oE '`(bench|config|contrib|docs|man|completions|packaging|profiles|tests|workflow)/[A-Za-z0-9_./-]+`' "$1" | tr -d '`'
+  grep -oE '`(bench|config|docs|man|completions|packaging|profiles|python|tests|workflow)/[A-Za-z0-9_./-]+`' "$1" | tr -d '`'
 }
 
 # Links and names lead to a file or a heading. A name may also be that of a file beside the

@@ -1,6 +1,6 @@
 #!/usr/bin/env bash
 # The reads in examples/ are those that examples/draw.py makes, and examples/trimmed/ is what the
-# slow program tests/examples/trim.py makes of them. `make run` and contrib/trim_gz make the same:
+# slow program tests/examples/trim.py makes of them. `make run` and tibzharuk trim make the same:
 # `make run` with the proved program, and in a copy that isn't built by a build without proofs.
 # Status 77, and 'skipped', if a package is missing.
 set -uo pipefail
@@ -44,9 +44,9 @@ find . '(' -name .git -o -name out -o -name dist ')' -prune -o -type f -print0 |
 trims "$work/not built" 'NOT PROVED'
 grep -q ' file:///.*/not%20built/examples/out/report\.html$' "$work/said" || fail 'make run names the page by an address that no browser takes'
 
-PATH=$PWD/crates/fq_prog/out:$PATH contrib/trim_gz -1 examples/reads_1.fq.gz -2 examples/reads_2.fq.gz \
+PATH=$PWD/crates/fq_prog/out:$PATH "$tibzharuk" trim -1 examples/reads_1.fq.gz -2 examples/reads_2.fq.gz \
   --paired1 "$work/gz/p1.fq" --unpaired1 "$work/gz/u1.fq" --paired2 "$work/gz/p2.fq" --unpaired2 "$work/gz/u2.fq" \
-  --trimlog "$work/gz/trim.log" --summary "$work/gz/summary.txt" -- "${steps[@]}" > /dev/null || fail 'trim_gz fails'
-same_files "$work/gz" 'trim_gz gives other files'
+  --trimlog "$work/gz/trim.log" --summary "$work/gz/summary.txt" -- "${steps[@]}" > /dev/null || fail 'tibzharuk trim fails'
+same_files "$work/gz" 'tibzharuk trim gives other files'
 
 finish 'as another program trims them'

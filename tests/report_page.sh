@@ -1,5 +1,5 @@
 #!/usr/bin/env bash
-# Makes pages with contrib/report_to_html and reads them as HTML. Each is well formed, loads
+# Makes pages with tibzharuk page and reads them as HTML. Each is well formed, loads
 # nothing, runs nothing, and has the numbers of its report. The reports are those of the program,
 # and those of a slow count: with no read, with one base, with 150 bases and with more than 10,000,
 # with reads that are all alike, and with other letters than A, C, G, T and N. No text of a report
@@ -14,7 +14,7 @@
 # makes the pages too.
 set -uo pipefail
 . "$(dirname "$0")/common.bash"
-script=$tree/contrib/report_to_html
+page=("$tibzharuk" page)
 find_program
 work=$(mktemp -d) || exit 1
 trap 'rm -rf "$work"' EXIT
@@ -29,17 +29,17 @@ check() { python3 "$tree/tests/report_page/check.py" "$@"; }
 # make the same page
 drawn() {
   row="the page of $1"
-  "$script" "$1.json" > "$1.html" 2> told || fail "status $?: $(cat told)"
+  "${page[@]}" "$1.json" > "$1.html" 2> told || fail "status $?: $(cat told)"
   [ ! -s told ] || fail "it says $(cat told)"
   check page "$1.json" "$1.html" || fail 'it is not that of its report'
-  LC_ALL=C "$script" "$1.json" | cmp - "$1.html" || fail 'another locale makes another page'
-  [ -z "$old" ] || "$old" "$script" "$1.json" | cmp - "$1.html" || fail 'Python 3.6 makes another page'
+  LC_ALL=C "${page[@]}" "$1.json" | cmp - "$1.html" || fail 'another locale makes another page'
+  [ -z "$old" ] || "$old" "${page[@]}" "$1.json" | cmp - "$1.html" || fail 'Python 3.6 makes another page'
 }
 
 # refuses FILE: the script ends with status 1 and one line, and prints no page
 refuses() {
   row="the page of $1"
-  "$script" "$1" > page 2> told
+  "${page[@]}" "$1" > page 2> told
   [ $? -eq 1 ] || fail 'it is not refused'
   if [ -s page ] || [ "$(wc -l < told)" -ne 1 ]; then fail "it has a page, or not one line: $(head -c 300 told)"; fi
 }
@@ -54,14 +54,14 @@ trim() {
 }
 
 row='the syntax of Python 3.6'
-check syntax "$script" "$tree"/contrib/{tibzharuk_report.py,report_to_html_parts/*.py} || fail 'a file has newer syntax'
+check syntax "$tree"/python/tibzharuk/{page.py,report/*.py} || fail 'a file has newer syntax'
 row='a link, and a copy without its parts'
 python3 "$tree/tests/count.py" small small.json || exit 1
 mkdir links
-ln -s "$script" links/tibzharuk-report
-links/tibzharuk-report small.json | cmp - <("$script" small.json) || fail 'a link makes another page'
-cp "$script" links/alone
-[ "$(links/alone small.json 2>&1)" = "report_to_html: there is no directory report_to_html_parts beside $PWD/links/alone (make a link to it, not a copy)" ] ||
+ln -s "$tibzharuk" links/tibzharuk
+links/tibzharuk page small.json | cmp - <("${page[@]}" small.json) || fail 'a link makes another page'
+cp "$tibzharuk" links/alone
+[[ $(links/alone page small.json 2>&1) == "tibzharuk: its package isn't beside $PWD/links/alone (make a link to this file, not a copy): "* ]] ||
   fail 'the copy does not say so'
 
 # (The page of `longest` has mean lengths of five digits. Those of `alike` have one number each.)
@@ -97,13 +97,13 @@ drawn older
 
 row='the page of a sum of lanes'
 python3 "$tree/tests/count.py" lane lane.json || exit 1
-"$tree/contrib/report_sum" plain.json lane.json > lanes.json || fail "status $?"
-"$script" --lane L001 plain.json --lane 'L<2' lane.json lanes.json > lanes.html || fail "status $?"
+"$tibzharuk" sum plain.json lane.json > lanes.json || fail "status $?"
+"${page[@]}" --lane L001 plain.json --lane 'L<2' lane.json lanes.json > lanes.html || fail "status $?"
 check page lanes.json lanes.html || fail 'it is not that of the sum'
 grep -qF '<th scope="row">L&lt;2</th><td>20</td>' lanes.html || fail 'it lacks a lane'
 row='a sum that is larger than a count can be'
 sed 's/"score_sum":[0-9]*,/"score_sum":18446744073709551615,/' plain.json > most.json
-"$tree/contrib/report_sum" most.json lane.json > sum.json || fail "status $?"
+"$tibzharuk" sum most.json lane.json > sum.json || fail "status $?"
 [ "$(grep -oE '"score_sum":[0-9]+' sum.json | head -n 1)" = '"score_sum":18446744073709551615' ] || fail 'it is another number'
 row='reports that do not belong together'
 # apart LINE WORDS..: these words end with status 1 and that line alone
@@ -111,26 +111,26 @@ apart() {
   "${@:2}" > page 2> told
   if [ $? -ne 1 ] || [ -s page ] || ! grep -qx "$1" told; then fail "$(cat told)"; fi
 }
-apart "report_to_html: the lanes don't add up to the report" "$script" --lane L001 plain.json lanes.json
+apart "tibzharuk page: the lanes don't add up to the report" "${page[@]}" --lane L001 plain.json lanes.json
 sed 's/MINLEN:36/MINLEN:37/' plain.json > steps.json
-apart 'report_sum: steps.json: its steps are LEADING:3 TRAILING:6 MINLEN:37, not LEADING:3 TRAILING:6 MINLEN:36' "$tree/contrib/report_sum" plain.json steps.json
-apart 'report_sum: older.json: schema is missing, not 2' "$tree/contrib/report_sum" two.json older.json
-apart 'report_sum: small.json: its adapters were removed in another way' "$tree/contrib/report_sum" plain.json small.json
-apart 'report_sum: fault.json: its run stopped at a fault: input: .*' "$tree/contrib/report_sum" fault.json fault.json
+apart 'tibzharuk sum: steps.json: its steps are LEADING:3 TRAILING:6 MINLEN:37, not LEADING:3 TRAILING:6 MINLEN:36' "$tibzharuk" sum plain.json steps.json
+apart 'tibzharuk sum: older.json: schema is missing, not 2' "$tibzharuk" sum two.json older.json
+apart 'tibzharuk sum: small.json: its adapters were removed in another way' "$tibzharuk" sum plain.json small.json
+apart 'tibzharuk sum: fault.json: its run stopped at a fault: input: .*' "$tibzharuk" sum fault.json fault.json
 
 row='the title of a page'
-"$script" --sample 'liver & 1' two.json | grep -qF '<h1>liver &amp; 1</h1>' || fail 'it is not the name that was given'
+"${page[@]}" --sample 'liver & 1' two.json | grep -qF '<h1>liver &amp; 1</h1>' || fail 'it is not the name that was given'
 grep -qF '<h1>two</h1>' two.html || fail 'it is not the name of the file'
 row='adapters that were removed before'
-"$script" --cutadapt='-a A<C -A GT' two.json > told || fail "status $?"
+"${page[@]}" --cutadapt='-a A<C -A GT' two.json > told || fail "status $?"
 grep -qF 'Adapters were removed with cutadapt (-a A&lt;C -A GT). Read pairs were trimmed' told || fail 'its text does not say so'
 ! grep -q cutadapt two.html || fail 'another page says so'
 row='a list of names'
 grep -qF '<code>s1_L001_R1.fq.gz</code><code>s1_L002_R1.fq.gz</code>' plain.html || fail 'its names are not shown'
 row='a report with a text in the place of each of its texts'
-check hostile "$script" small.json || fail 'a text becomes markup'
+check hostile "${page[@]}" small.json || fail 'a text becomes markup'
 row='a report with a change at each place'
-check changed "$script" small.json || fail 'one is neither drawn nor refused'
+check changed "${page[@]}" small.json || fail 'one is neither drawn nor refused'
 
 # Files that are not reports.
 head -c -3 two.json > torn.json
@@ -148,14 +148,14 @@ for file in {torn,less,below,text,lengths,list,newer,named,positions,deep,bytes}
   refuses "$file"
 done
 row='a report of a later version'
-[ "$("$script" newer.json 2>&1)" = 'report_to_html: newer.json: a report of a later version (its schema is 3, and this program reads 2 and older)' ] ||
+[ "$("${page[@]}" newer.json 2>&1)" = 'tibzharuk page: newer.json: a report of a later version (its schema is 3, and this program reads 2 and older)' ] ||
   fail 'it does not say so'
 row='no argument'
-"$script" 2> told
+"${page[@]}" 2> told
 [ $? -eq 2 ] || fail 'the status is not 2'
 if [ -w /dev/full ]; then
   row='a full disk'
-  "$script" two.json > /dev/full 2> told
+  "${page[@]}" two.json > /dev/full 2> told
   [ $? -eq 1 ] || fail 'the status is not 1'
   [ "$(wc -l < told)" -eq 1 ] || fail "not one line: $(cat told)"
 fi

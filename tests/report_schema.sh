@@ -4,7 +4,7 @@
 # in each encoding, with names that JSON must escape. Each of these runs prints, reports, writes and
 # ends as it does without a report. The schema itself is valid, and refuses reports that were
 # changed. The example of docs/FORMAT.md is what the program makes of its inputs. The reports of
-# contrib/trim_gz conform too, with what cutadapt counted and without.
+# tibzharuk trim conform too, with what cutadapt counted and without.
 #
 # FQ_PROG is the program, crates/fq_prog/out/fq_prog if not set. Status 77, and 'skipped', if a
 # package is missing.
@@ -132,14 +132,14 @@ mv inputs/shown1.fq inputs/r1.fq
 mv inputs/shown2.fq inputs/r2.fq
 run 0 PE --trimlog trim.log r1.fq r2.fq "${outputs[@]}" "${steps[@]}"
 
-# What trim_gz makes of the program's reports.
-row='a report of trim_gz'
+# What tibzharuk trim makes of the program's reports.
+row='a report of tibzharuk trim'
 outputs=(--paired1 fp.fq --unpaired1 fu.fq --paired2 rp.fq --unpaired2 ru.fq)
-"$tree/contrib/trim_gz" --program "$program" -1 inputs/r1.fq -2 inputs/r2.fq "${outputs[@]}" --report plain.json -- MINLEN:3 > told 2>&1 ||
+"$tibzharuk" trim --program "$program" -1 inputs/r1.fq -2 inputs/r2.fq "${outputs[@]}" --report plain.json -- MINLEN:3 > told 2>&1 ||
   fail "$(cat told)"
-row='a report of trim_gz with adapters'
+row='a report of tibzharuk trim with adapters'
 if command -v cutadapt > /dev/null; then
-  "$tree/contrib/trim_gz" --program "$program" -1 inputs/r1.fq -2 inputs/r2.fq "${outputs[@]}" --adapters ACGTACGT,TTTT \
+  "$tibzharuk" trim --program "$program" -1 inputs/r1.fq -2 inputs/r2.fq "${outputs[@]}" --adapters ACGTACGT,TTTT \
     --report adapters.json -- MINLEN:3 > told 2>&1 || fail "$(cat told)"
 else
   echo "report_schema: skipped: $row: cutadapt isn't installed (apt-get install cutadapt)"

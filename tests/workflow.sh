@@ -1,7 +1,7 @@
 #!/usr/bin/env bash
 # Runs the workflow for many samples with the real Snakemake and MultiQC, on this machine: four
 # samples, one of two lanes and one damaged. Compares each output with direct calls of the program,
-# and reads the page's data, and its table in a browser. It also reads tables that samples_of and
+# and reads the page's data, and its table in a browser. It also reads tables that tibzharuk samples and
 # nf-core make, and refuses bad ones.
 #
 # FQ_PROG is the program, crates/fq_prog/out/fq_prog if not set. Status 77, and 'skipped', if a
@@ -73,20 +73,20 @@ touched() {
   (cd names && touch -- "$@")
 }
 
-# listed ROWS: samples_of makes a table with these rows of names/, as printf prints them
+# listed ROWS: tibzharuk samples makes a table with these rows of names/, as printf prints them
 listed() {
   # shellcheck disable=SC2059
   printf "sample\tlane\tr1\tr2\n$1" > wanted
-  contrib/samples_of names > got 2> told || fail "status $?: $(cat told)"
+  "$tibzharuk" samples names > got 2> told || fail "status $?: $(cat told)"
   diff wanted got || fail 'the table is another'
 }
 
-# unlisted LINE..: samples_of refuses names/ with these lines
+# unlisted LINE..: tibzharuk samples refuses names/ with these lines
 unlisted() {
-  contrib/samples_of names > got 2> told
+  "$tibzharuk" samples names > got 2> told
   [ $? -eq 1 ] || fail 'the status is not 1'
   [ ! -s got ] || fail 'a table is printed'
-  printf 'samples_of: %s\n' "$@" | diff - told || fail 'other lines'
+  printf 'tibzharuk samples: %s\n' "$@" | diff - told || fail 'other lines'
 }
 
 names_of_files() {
@@ -130,8 +130,8 @@ b\t1\tnames/c/b_R1.fq\tnames/c/b_R2.fq\n'
   unlisted 'names: No such file or directory'
   row='files that do not pair up'
   touched a_R{1,2}.fastq.gz run2/a_R1.fastq b_L001_R2.fq c.fastq.gz '{d}_1.fq' "it's_1.fq"
-  unlisted "names/c.fastq.gz: not named as one of a pair (samples_of --help)" \
-    "names/it's_1.fq: not named as one of a pair (samples_of --help)" \
+  unlisted "names/c.fastq.gz: not named as one of a pair (tibzharuk samples --help)" \
+    "names/it's_1.fq: not named as one of a pair (tibzharuk samples --help)" \
     "names/{d}_1.fq: it has a character that the workflow doesn't take" \
     'names/run2/a_R1.fastq: sample a, lane 1 is already in names/a_R1.fastq.gz' \
     'names/b_L001_R2.fq: there is no file of its forward mates'
@@ -140,12 +140,12 @@ b\t1\tnames/c/b_R1.fq\tnames/c/b_R2.fq\n'
   unlisted 'names: there are no FASTQ files'
 }
 
-# same_from_tables: samples_of makes the table of this lab's reads, and the samples of an nf-core
+# same_from_tables: tibzharuk samples makes the table of this lab's reads, and the samples of an nf-core
 # table are trimmed as those of ours
 same_from_tables() {
   mv "reads/it's s3.fq.gz" reads/s3_L001_R1.fq.gz
   sed -i "s|it's s3|s3_L001_R1|" config/samples.tsv
-  contrib/samples_of reads | diff - config/samples.tsv || fail 'samples_of makes another table'
+  "$tibzharuk" samples reads | diff - config/samples.tsv || fail 'tibzharuk samples makes another table'
   {
     echo 'sample,fastq_1,fastq_2,strandedness'
     sed '1d; s/\t/,/g; s/,L00.,/,/; s/$/,auto/' config/samples.tsv
@@ -157,7 +157,7 @@ same_from_tables() {
 bad_option() {
   row='an option that the program does not know'
   call 1 --profile profiles/local --config trim_logs=False options=--frob
-  grep -q '^failed: s1: trim_gz: --frob is not an option' said || fail "it is not named, but: $(grep '^failed:' said)"
+  grep -q '^failed: s1: tibzharuk: --frob is not an option' said || fail "it is not named, but: $(grep '^failed:' said)"
 }
 
 new_lab tables

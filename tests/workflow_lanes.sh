@@ -17,7 +17,7 @@ as_module() {
   { echo 'trimming:' && sed 's/^/  /; s/scatter: none/scatter: lanes/' config/config.yaml; } > lab.yaml
   rm config/config.yaml
   mkdir importer
-  mv workflow contrib profiles importer
+  mv workflow python profiles importer
   cat > Snakefile << 'SNAKEFILE'
 configfile: "lab.yaml"
 
@@ -120,7 +120,7 @@ row='a lane that is damaged after its sample was trimmed'
 head -c 3000 "$work/reads/s1_L002_R2.fq.gz" > reads/s1_L002_R2.fq.gz
 call 1 --profile profiles/local
 grep -qx 'results/report.html: 3 of 4 samples' said || fail "the page has $(grep '^results/report' said)"
-grep -qx 'failed: s1: lane L002: trim_gz: cannot read reads/s1_L002_R2.fq.gz: unexpected end of file' said || fail "the lane is not named: $(grep '^failed' said)"
+grep -qx 'failed: s1: lane L002: tibzharuk: cannot read reads/s1_L002_R2.fq.gz: unexpected end of file' said || fail "the lane is not named: $(grep '^failed' said)"
 
 new_lab module
 row='a module of another workflow'

@@ -11,7 +11,7 @@ set -uo pipefail
 export LC_ALL=C
 tree=$(cd "$(dirname "$0")/../.." && pwd)
 program=$(realpath "${1:-$tree/crates/fq_prog/out/fq_prog}")
-script=$tree/contrib/trim_gz
+trim=("$tree/python/tibzharuk/__main__.py" trim)
 work=$(mktemp -d)
 trap 'rm -rf "$work"' EXIT
 cd "$work" || exit 1
@@ -37,7 +37,7 @@ trim() {
   case $1 in
     fq_prog)
       case $r1 in
-        *.gz) "$script" --program "$program" -1 "$r1" -2 "$r2" --paired1 "$out" --unpaired1 u1.fq --paired2 o2.fq --unpaired2 u2.fq -- LEADING:3 MINLEN:36 ;;
+        *.gz) "${trim[@]}" --program "$program" -1 "$r1" -2 "$r2" --paired1 "$out" --unpaired1 u1.fq --paired2 o2.fq --unpaired2 u2.fq -- LEADING:3 MINLEN:36 ;;
         *) "$program" PE "$r1" "$r2" "$out" u1.fq o2.fq u2.fq LEADING:3 MINLEN:36 ;;
       esac
       ;;

@@ -94,14 +94,14 @@ draw() {
 
 way_of_workflow() {
   cat << 'END'
-contrib/samples_of reads > config/samples.tsv
+tibzharuk samples reads > config/samples.tsv
 snakemake --profile profiles/local --cores 4
 END
 }
 
 way_of_lanes() {
   cat << 'END'
-contrib/samples_of reads > config/samples.tsv
+tibzharuk samples reads > config/samples.tsv
 sed -i 's/^scatter: .*/scatter: lanes/' config/config.yaml
 snakemake --profile profiles/local --cores 4
 END
@@ -167,7 +167,7 @@ new_lab() {
   ln -s "$room/reads" "$room/lab/reads"
   case $1 in
     workflow | lanes)
-      cp -r "$tree/workflow" "$tree/config" "$tree/profiles" "$tree/contrib" "$room/lab"
+      cp -r "$tree/workflow" "$tree/config" "$tree/profiles" "$tree/python" "$room/lab"
       [ -z "$job_threads" ] || sed -i "s/^  threads: .*/  threads: $job_threads/" "$room/lab/config/config.yaml"
       ;;
     *) echo 'no_version_check: true' > "$room/lab/multiqc_config.yaml" ;; # as in the workflow

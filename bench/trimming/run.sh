@@ -1,5 +1,5 @@
 #!/usr/bin/env bash
-# Times the built program on simulated pairs, beside the trimmers that are installed: trim_gz over
+# Times the built program on simulated pairs, beside the trimmers that are installed: tibzharuk over
 # compressed files, and the program over plain ones, also beside a loop that only copies lines,
 # threads that only pass pairs on, and cat. bench/README.md says what is measured.
 #
@@ -111,7 +111,7 @@ done
 count=${asked:-1000000}
 [ -x "$program" ] || stop "no program $program (make build makes it)"
 program=$(realpath "$program")
-# trim_gz is run by the system's Python, as Debian's cutadapt is. A version manager's python3 may be
+# tibzharuk is run by the system's Python, as Debian's cutadapt is. A version manager's python3 may be
 # a script that takes 0.1 s.
 python=$(type -P /usr/bin/python3 || type -P python3) || stop "no python3"
 export python
@@ -312,11 +312,11 @@ print_versions() {
 list_gz_rows() {
   local how="$*" label=''
   [ $# -eq 0 ] || label=$(printf ', %s' "$@")
-  row "trim_gz$label" 4 "gz_ours $how"
+  row "tibzharuk$label" 4 "gz_ours $how"
   [ "$peers" = yes ] || return 0
   peer fastp "fastp$label" "gz_fastp $how" 4
   peer cutadapt "cutadapt$label" "gz_cutadapt $how" 4
-  [[ $how != *adapters* ]] || peer cutadapt "cutadapt -Z, then trim_gz$label" "gz_two_passes $how" 4
+  [[ $how != *adapters* ]] || peer cutadapt "cutadapt -Z, then tibzharuk$label" "gz_two_passes $how" 4
   [[ $how == *fast* ]] || peer TrimmomaticPE "trimmomatic$label" "gz_trimmomatic $how" 4
   peer bbduk.sh "bbduk$label" "gz_bbduk $how" 4
   peer AdapterRemoval "AdapterRemoval$label" "gz_adapterremoval $how" 4
@@ -344,19 +344,19 @@ print_gz_rows() {
 # measure_gz_data TITLE WORDS: both tables over reads that are simulated with these options: each
 # tool's own level, and its fastest
 measure_gz_data() {
-  # `next` is the level after trim_gz's own one.
+  # `next` is the level after tibzharuk's own one.
   local slow word=$2 next=5
   [ -z "$word" ] || next=4 # its own level is 3 beside cutadapt, and 4 else
   rows=()
   draw "${form[@]}" ${word:+"--$word"}
   pack_inputs
   list_gz_rows ${word:+"$word"}
-  row "trim_gz --level $next${word:+, $word}" 4 "gz_ours level$next $word"
-  row "trim_gz --interleaved -${word:+, $word}" 4 "gz_stream $word"
+  row "tibzharuk --level $next${word:+, $word}" 4 "gz_ours level$next $word"
+  row "tibzharuk --interleaved -${word:+, $word}" 4 "gz_stream $word"
   slow=${#rows[@]}
   list_gz_rows fast ${word:+"$word"}
-  row "trim_gz --level 2${word:+, $word}" 4 "gz_ours level2 $word"
-  row "trim_gz --compressor igzip${word:+, $word}" 4 "gz_ours igzip $word"
+  row "tibzharuk --level 2${word:+, $word}" 4 "gz_ours level2 $word"
+  row "tibzharuk --compressor igzip${word:+, $word}" 4 "gz_ours igzip $word"
   type -P igzip > "$built/found" || unset 'rows[-1]'
   run_rows
   print_gz_rows "$1, each at its own level of compression:" 0 $((slow - 1))
@@ -365,7 +365,7 @@ measure_gz_data() {
 }
 
 # print_same_reads [adapters]: what the reads that fastp keeps take if they are compressed as
-# trim_gz does it. The tools don't keep the same reads, so this alone compares how well they
+# tibzharuk does it. The tools don't keep the same reads, so this alone compares how well they
 # compress.
 print_same_reads() {
   local file bytes=0 level=4
@@ -379,14 +379,14 @@ print_same_reads() {
   done
   echo
   awk -v bytes="$bytes" -v theirs="$(cat "$out"/*.gz | wc -c)" \
-    'BEGIN { printf "The reads that fastp keeps: %.1f MB as it compresses them, %.1f MB as trim_gz does (%.3f)\n", theirs / 1e6, bytes / 1e6, bytes / theirs }'
+    'BEGIN { printf "The reads that fastp keeps: %.1f MB as it compresses them, %.1f MB as tibzharuk does (%.3f)\n", theirs / 1e6, bytes / 1e6, bytes / theirs }'
 }
 
 measure_gz() {
   count=${asked:-400000}
   enter "${place:-memory}"
   echo "From .gz to .gz: $count pairs, $kind; 4 threads; median of $rounds; $(print_machine)"
-  echo "trim_gz is run by $("$python" --version), $python"
+  echo "tibzharuk is run by $("$python" --version), $python"
   measure_gz_data 'Without adapters' ''
   measure_gz_data 'With adapters in a quarter of the pairs' adapters
   print_versions tabix isal trimmomatic fastp cutadapt bbmap adapterremoval

@@ -167,7 +167,7 @@ gz_ours() {
   [[ ${2-} != level* ]] || more+=(--level "${2#level}")
   ! given igzip "$@" || more+=(--compressor igzip)
   ! given adapters "$@" || more+=(--adapters "${adapters[0]},${adapters[1]}")
-  timed "$python" "$here/../../contrib/trim_gz" --program "$program" "${more[@]}" -1 "$forward.gz" -2 "$reverse.gz" \
+  timed "$python" "$here/../../python/tibzharuk/__main__.py" trim --program "$program" "${more[@]}" -1 "$forward.gz" -2 "$reverse.gz" \
     --paired1 fp.gz --unpaired1 fu.gz --paired2 rp.gz --unpaired2 ru.gz -- "${steps[@]}"
   pairs_read=$(number_in "$room/said" 'Input Read Pairs')
 }
@@ -177,7 +177,7 @@ gz_ours() {
 gz_stream() {
   local more=(--threads "$1")
   ! given adapters "$@" || more+=(--adapters "${adapters[0]},${adapters[1]}")
-  timed bash -c 'set -o pipefail; "$@" | cat > /dev/null' bash "$python" "$here/../../contrib/trim_gz" --program "$program" "${more[@]}" \
+  timed bash -c 'set -o pipefail; "$@" | cat > /dev/null' bash "$python" "$here/../../python/tibzharuk/__main__.py" trim --program "$program" "${more[@]}" \
     -1 "$forward.gz" -2 "$reverse.gz" --interleaved - --no-unpaired -- "${steps[@]}"
   pairs_read=$(number_in "$room/told" 'Input Read Pairs')
   number_in "$room/told" 'Both Surviving' > "$out/kept"
@@ -210,9 +210,9 @@ gz_two_passes() {
   # shellcheck disable=SC2016  # they are the shell's that is started
   timed sh -c 'cutadapt --cores "$1" -a "$2" -A "$3" -Z -o "$4.1.fq.gz" -p "$4.2.fq.gz" "$5" "$6" >/dev/null && shift 3 &&
         script=$4 program=$5 threads=$6 level=$7 between=$1 && shift 7 &&
-        exec "$python" "$script" --program "$program" --threads "$threads" --level "$level" -1 "$between.1.fq.gz" -2 "$between.2.fq.gz" \
+        exec "$python" "$script" trim --program "$program" --threads "$threads" --level "$level" -1 "$between.1.fq.gz" -2 "$between.2.fq.gz" \
             --paired1 fp.gz --unpaired1 fu.gz --paired2 rp.gz --unpaired2 ru.gz -- "$@"' two_passes \
-    "$1" "${adapters[@]}" "$room/between" "$forward.gz" "$reverse.gz" "$here/../../contrib/trim_gz" "$program" "$1" "$level" "${steps[@]}"
+    "$1" "${adapters[@]}" "$room/between" "$forward.gz" "$reverse.gz" "$here/../../python/tibzharuk/__main__.py" "$program" "$1" "$level" "${steps[@]}"
   pairs_read=$(number_in "$room/said" 'Input Read Pairs')
 }
 

@@ -1,4 +1,4 @@
-"""Reads pages of contrib/report_to_html as HTML, and compares them with their reports.
+"""Reads pages of tibzharuk page as HTML, and compares them with their reports.
 
     check.py page REPORT PAGE   the page has the numbers of its report, and loads and runs nothing
     check.py hostile SCRIPT REPORT   no text of a report becomes markup
@@ -369,7 +369,7 @@ def loaded(script):
     """The function that makes a page, and the module that checks reports, beside the script."""
     sys.dont_write_bytecode = True
     sys.path.insert(0, os.path.dirname(script))
-    return importlib.import_module("report_to_html_parts.page").page, importlib.import_module("tibzharuk_report")
+    return importlib.import_module("tibzharuk.report.page").page, importlib.import_module("tibzharuk.report.reading")
 
 
 def places(value, before=()):

@@ -31,7 +31,7 @@ with open("liver1_R1.fq", "w") as forward, open("liver1_R2.fq", "w") as reverse:
 END
 "$program" PE --report liver1.json liver1_R1.fq liver1_R2.fq liver1.r1.paired.fq liver1.r1.unpaired.fq liver1.r2.paired.fq \
   liver1.r2.unpaired.fq LEADING:3 TRAILING:3 SLIDINGWINDOW:4:15 MINLEN:36 > summary
-"$tree/contrib/report_to_html" liver1.json > page.html
+"$tree/python/tibzharuk/__main__.py" page liver1.json > page.html
 chromium --headless --no-sandbox --disable-gpu --hide-scrollbars --user-data-dir="$work/profile" --window-size=1140,1975 \
   --screenshot="$work/page.png" "file://$work/page.html" 2> told || {
   cat told >&2

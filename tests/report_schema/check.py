@@ -5,7 +5,7 @@ and the schema with reports that were changed at one place.
 
 VERSION is what the program prints for --version. A report is reports/N.json, beside the words of
 its call (.words), what it printed (.printed) and its line (.told). That of EXAMPLE is the one in
-the file `shown`. plain.json and adapters.json are reports of trim_gz, if they are there.
+the file `shown`. plain.json and adapters.json are reports of tibzharuk trim, if they are there.
 """
 
 import copy
@@ -137,8 +137,8 @@ def changed(report):
         yield {**report, field: value}, f"{field}: {value}"
 
 
-def of_trim_gz(report):
-    """A report that names several files for each name, as trim_gz writes it."""
+def of_command(report):
+    """A report that names several files for each name, as tibzharuk trim writes it."""
     several = copy.deepcopy(report)
     for part in "inputs", "outputs":
         several[part] = {name: [value, f"more {value}"] for name, value in several[part].items()}
@@ -154,7 +154,7 @@ def of_trim_gz(report):
     return several
 
 
-def check_trim_gz(schema):
+def check_command(schema):
     for path, has_adapters in ("plain.json", False), ("adapters.json", True):
         if os.path.exists(path):
             report = json_of(path)
@@ -184,9 +184,9 @@ def main(version, example):
     reports = {path: check(path, schema, version) for path in paths}
     if reports[example] != json_of("shown"):
         wrong.append("the example of docs/FORMAT.md is not what the program makes of its inputs")
-    several = of_trim_gz(reports["reports/2"])
+    several = of_command(reports["reports/2"])
     conforms(schema, several, "a report of several files")
-    check_trim_gz(schema)
+    check_command(schema)
     fault = next(path for path in paths if reports[path]["fault"])
     some = [reports[path] for path in ("reports/2", "reports/4", fault)]
     refused = check_refusals(schema, [*some, several])

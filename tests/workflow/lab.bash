@@ -63,7 +63,7 @@ trim_directly() {
 new_lab() {
   mkdir "$work/$1"
   cd "$work/$1" || exit 1
-  cp -r "$tree/workflow" "$tree/config" "$tree/profiles" "$tree/contrib" .
+  cp -r "$tree/workflow" "$tree/config" "$tree/profiles" "$tree/python" .
   cp -r "$work/reads" reads
   {
     printf 'sample\tlane\tr1\tr2\n'
@@ -114,7 +114,7 @@ same_as_direct() {
   done
 }
 
-# counted REPORT: a report without the names of its files, and without the field by which trim_gz says
+# counted REPORT: a report without the names of its files, and without the field by which tibzharuk trim says
 # that no adapters were looked for
 counted() { sed 's/^{"adapters":null,/{/; s/"inputs":{[^}]*}//; s/"outputs":{[^}]*}//' "$1"; }
 
@@ -233,7 +233,7 @@ by_lane() {
   ran 3 2 0
   same_as_direct s2 s3 s4
   page_tells s2 s3 s4
-  grep -qx 'failed: s1: lane L002: trim_gz: cannot read reads/s1_L002_R2.fq.gz: unexpected end of file' said || fail "the lane is not named: $(grep '^failed' said)"
+  grep -qx 'failed: s1: lane L002: tibzharuk: cannot read reads/s1_L002_R2.fq.gz: unexpected end of file' said || fail "the lane is not named: $(grep '^failed' said)"
   above_table | grep -q '<strong>s1</strong>: <samp>lane L002: [^<]*reads/s1_L002_R2.fq.gz' || fail 'the page does not name s1 and its lane above its tables'
   [ -z "$(find results -name 's1*' ! -path 'results/lanes/*')" ] || fail 'there are outputs of s1'
   made > before

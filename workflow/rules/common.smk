@@ -38,16 +38,14 @@ SCATTERED = {
 }
 
 ADAPTERS = config["adapters"]
-CONTRIB = HERE.parent / "contrib"
+PYTHON = HERE.parent / "python"
 # What rules use and what doesn't change the trimmed reads. Snakemake runs a job again if one of its parameters changes, but
 # it compares only texts, numbers and lists. So a rule that has this object as a parameter isn't run again if it changes.
 SETUP = SimpleNamespace(
     program=config["program"],
     adapters=ADAPTERS,
     trim_logs=config["trim_logs"],
-    trim_gz=str(CONTRIB / "trim_gz"),
-    report_sum=str(CONTRIB / "report_sum"),
-    report_to_html=str(CONTRIB / "report_to_html"),
+    tibzharuk=str(PYTHON / "tibzharuk" / "__main__.py"),
 )
 RESULTS = config["results"]
 READS = [(read, kind) for read in ("r1", "r2") for kind in ("paired", "unpaired")]
@@ -95,12 +93,12 @@ def parts(ending):
 
 
 def inputs_as_options(wildcards, input):
-    """The lanes as trim_gz takes them: -1 FILE for each forward file, -2 FILE for each reverse one."""
+    """The lanes as tibzharuk trim takes them: -1 FILE for each forward file, -2 FILE for each reverse one."""
     return quoted(word for flag, files in (("-1", input.r1), ("-2", input.r2)) for name in files for word in (flag, name))
 
 
 def lanes_as_options(wildcards, input):
-    """The lanes as report_to_html takes them: --lane NAME REPORT for each."""
+    """The lanes as tibzharuk page takes them: --lane NAME REPORT for each."""
     return quoted(word for name, report in zip(SCATTERED.get(wildcards.sample, []), input.lanes) for word in ("--lane", name, report))
 
 

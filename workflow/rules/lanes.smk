@@ -70,7 +70,7 @@ rule join_lanes:
         cat {input.unpaired1:q} > {output.unpaired1:q}
         cat {input.paired2:q} > {output.paired2:q}
         cat {input.unpaired2:q} > {output.unpaired2:q}
-        {params.setup.report_sum:q} --paired1 {output.paired1:q} --unpaired1 {output.unpaired1:q} \\
+        {params.setup.tibzharuk:q} sum --paired1 {output.paired1:q} --unpaired1 {output.unpaired1:q} \\
             --paired2 {output.paired2:q} --unpaired2 {output.unpaired2:q} "${{more[@]}}" \\
             --summary {output.summary:q} {input.reports:q} > {output.report:q}
         cp {input.settings[0]:q} {output.settings:q}

@@ -19,4 +19,4 @@ rule sample_page:
         setup=SETUP,
     threads: 1
     shell:
-        "{params.setup.report_to_html:q} --sample {wildcards.sample:q} {params.cutadapt} {params.lanes} {input.report:q} > {output:q} 2> {log:q}"
+        "{params.setup.tibzharuk:q} page --sample {wildcards.sample:q} {params.cutadapt} {params.lanes} {input.report:q} > {output:q} 2> {log:q}"

@@ -1,4 +1,4 @@
-# Trims samples: all lanes of one in one call of trim_gz, which removes adapters too if there are any in the settings.
+# Trims samples: all lanes of one in one call of tibzharuk trim, which removes adapters too if there are any in the settings.
 
 # What a job does, for a sample or for a lane. Snakemake trims again if this text changes, so it is the same for all settings.
 TRIM = """
@@ -7,7 +7,7 @@ TRIM = """
     more=({params.adapters})
     if [ "${{#more[@]}}" -gt 0 ]; then more+=(--cutadapt-report {params.cutadapt:q}.json --cutadapt-log {params.cutadapt:q}.log); fi
     if [ {params.setup.trim_logs} = True ]; then more+=(--trimlog {params.trimlog:q}); fi
-    {params.setup.trim_gz:q} {params.inputs} \\
+    {params.setup.tibzharuk:q} trim {params.inputs} \\
         --paired1 {output.paired1:q} --unpaired1 {output.unpaired1:q} \\
         --paired2 {output.paired2:q} --unpaired2 {output.unpaired2:q} \\
         --summary {output.summary:q} --report {output.report:q} "${{more[@]}}" --program {params.setup.program:q} \\

@@ -18,13 +18,13 @@ import tempfile
 from pathlib import Path
 
 HERE = Path(__file__).resolve().parent
-CONTRIB = HERE.parent.parent / "contrib"  # which has the module that MultiQC loads
+PYTHON = HERE.parent.parent / "python"  # which has the module that MultiQC loads
 sys.dont_write_bytecode = True
-sys.path.insert(0, str(CONTRIB))
+sys.path.insert(0, str(PYTHON))
 
-from tibzharuk_report import Refused, read_report  # noqa: E402
+from tibzharuk.report.reading import Refused, read_report  # noqa: E402
 
-WARNING = "trim_gz: warning: "
+WARNING = "tibzharuk: warning: "
 SECTION = """<!--
 id: 'tibzharuk_run'
 section_name: 'This run'
@@ -72,7 +72,7 @@ def why_failed(results, logs, sample, lanes):
 
 
 def warnings_of(logs, sample, lanes):
-    """What trim_gz warned of when it trimmed a sample, with the names of the lanes if each had a job."""
+    """What tibzharuk trim warned of when it trimmed a sample, with the names of the lanes if each had a job."""
     named = {f"lane {lane}: ": logs / "trim" / sample / f"{sample}_{lane}.log" for lane in lanes}
     found = []
     for name, log in (named or {"": logs / "trim" / f"{sample}.log"}).items():
@@ -210,11 +210,20 @@ def gather(results, trimmed, folder):
     return reports
 
 
+def plugin(room):
+    """A directory by which MultiQC finds its plugin: what an installed package has beside its code."""
+    data = room / "plugin" / "tibzharuk-0.dist-info"
+    data.mkdir(parents=True)
+    (data / "METADATA").write_text("Metadata-Version: 2.1\nName: tibzharuk\nVersion: 0\n", encoding="utf-8")
+    shutil.copyfile(PYTHON / "tibzharuk" / "entry_points.txt", data / "entry_points.txt")
+    return data.parent
+
+
 def run_multiqc(room, top):
     """Has MultiQC make the page of what is in `room`/read in `room`/written, with this text above its tables."""
     config = room / "top.json"  # JSON is YAML, too
     config.write_text(json.dumps({"report_comment": top}), encoding="utf-8")
-    paths = [str(CONTRIB), os.environ.get("PYTHONPATH", "")]
+    paths = [str(plugin(room)), str(PYTHON), os.environ.get("PYTHONPATH", "")]
     environment = dict(os.environ, PYTHONPATH=os.pathsep.join(filter(None, paths)), PYTHONDONTWRITEBYTECODE="1")
     settings = ["--config", str(HERE.parent / "multiqc.yaml"), "--config", str(config)]
     said = call(["multiqc", "--force", *settings, "--filename", "report.html", "--outdir", str(room / "written"), str(room / "read")], environment)

@@ -9,8 +9,8 @@ from pathlib import Path
 import jsonschema
 import yaml
 
-sys.path.insert(0, str(Path(__file__).resolve().parents[2] / "contrib"))
-from trim_gz_parts.known_adapters import known_adapters, names_of_known
+sys.path.insert(0, str(Path(__file__).resolve().parents[2] / "python"))
+from tibzharuk.trim.known_adapters import known_adapters, names_of_known
 
 COLUMNS = ["sample", "lane", "r1", "r2"]
 # The columns of nf-core's tables that are read, by ours. Without `lane`, lanes are numbered.

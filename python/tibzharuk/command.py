@@ -1,0 +1,91 @@
+"""NAME
+    tibzharuk - trims paired-end FASTQ files, and shows what was done
+
+SYNOPSIS
+    tibzharuk trim -1 FILE.. -2 FILE.. --out PREFIX [OPTIONS] STEPS..
+    tibzharuk PE [OPTIONS] F R FP FU RP RU STEPS..
+    tibzharuk page REPORT > PAGE
+    tibzharuk sum REPORT.. > REPORT
+    tibzharuk samples DIRECTORY.. > TABLE
+
+COMMANDS
+    trim       trims plain or compressed files, removes adapters, and makes all
+               outputs or none
+    PE         the same by a line of Trimmomatic's paired-end mode, as it is
+    page       makes a page for the browser from a report
+    sum        adds up reports, such as those of the lanes of a sample
+    samples    prints the table of samples that the workflow reads
+
+    tibzharuk COMMAND --help says more of each.
+
+OPTIONS
+    -h, --help       this text
+    -V, --version    the versions of this command and of fq_prog, which trims
+"""
+
+import importlib
+import os
+import signal
+import sys
+from typing import Callable, List, Optional, Sequence
+
+# The module of each command, whose `main` gets the words after it.
+COMMANDS = {
+    "trim": "tibzharuk.trim.command",
+    "PE": "tibzharuk.pe",
+    "page": "tibzharuk.page",
+    "sum": "tibzharuk.sum",
+    "samples": "tibzharuk.samples",
+}
+PROGRAM = "fq_prog"
+
+
+def ready_for_signals() -> None:
+    """What a signal does until a run handles signals itself. The first process of a container isn't
+    ended by a signal that it doesn't handle. And Ctrl-C needs no traceback."""
+    if os.getpid() == 1:
+        for each in (signal.SIGTERM, signal.SIGHUP, signal.SIGQUIT, signal.SIGINT):
+            signal.signal(each, lambda number, _: os._exit(128 + number))
+    elif signal.getsignal(signal.SIGINT) is signal.default_int_handler:
+        signal.signal(signal.SIGINT, signal.SIG_DFL)
+
+
+def refuse(line: str) -> int:
+    sys.stderr.write(f"tibzharuk: {line} (tibzharuk --help)\n")
+    return 1
+
+
+def show_version() -> int:
+    """The version of this package, and then that of the program, which prints it itself."""
+    from tibzharuk import VERSION
+    sys.stdout.write(f"tibzharuk {VERSION}\n")
+    sys.stdout.flush()
+    try:
+        os.execvp(PROGRAM, [PROGRAM, "--version"])
+    except OSError as error:
+        return refuse(f"no program {PROGRAM}: {error.strerror}")
+
+
+def near(word: str) -> str:
+    """What is said of a word that is no command."""
+    import difflib
+    known = {name.lower(): name for name in COMMANDS}
+    found = difflib.get_close_matches(word.lower(), known, 1, 0.6)
+    return f"{word} is not a command" + (f"; did you mean {known[found[0]]}?" if found else "")
+
+
+def main(words: Optional[Sequence[str]] = None) -> int:
+    """Returns the status."""
+    ready_for_signals()
+    said: List[str] = list(sys.argv[1:] if words is None else words)
+    if not said:
+        return refuse(f"a command is missing: {', '.join(COMMANDS)}")
+    if said[0] in ("-h", "--help", "help"):
+        sys.stdout.write(__doc__ or "")
+        return 0
+    if said[0] in ("-V", "--version"):
+        return show_version()
+    if said[0] not in COMMANDS:
+        return refuse(near(said[0]))
+    run: Callable[[Sequence[str]], int] = importlib.import_module(COMMANDS[said[0]]).main
+    return run(said[1:])

@@ -1,0 +1,79 @@
+"""NAME
+    tibzharuk PE - trims by a line of Trimmomatic's paired-end mode, as it is
+
+SYNOPSIS
+    tibzharuk PE [-threads N] [-phred33 | -phred64] [-trimlog FILE]
+                 [-summary FILE] [-quiet] [-validatePairs]
+                 [-basein FILE | F R] [-baseout FILE | FP FU RP RU] STEPS..
+
+DESCRIPTION
+    Runs a line of Trimmomatic 0.39. Files whose names end in .gz are
+    compressed. All outputs are made, or none. Options with two dashes are those
+    of tibzharuk trim, so a line of fq_prog PE runs too.
+
+    ILLUMINACLIP is done before all other steps. cutadapt removes the adapters
+    of its file, not the rule of Trimmomatic, and both mates of a pair that
+    reads through are kept. A file without a directory is also looked for where
+    packages of Trimmomatic have theirs. The steps MAXINFO, BASECOUNT, MAXLEN,
+    TAILCROP and TOPHRED64 are refused.
+
+    Names of mates must match (--no-name-check passes others). Without -phred33
+    and -phred64 qualities are taken as Phred+33, and a warning says if they
+    seem to be Phred+64.
+
+    The counts are printed on standard error, as Trimmomatic prints them, unless
+    there is -quiet. So MultiQC finds them there, and in a log of it.
+
+EXIT STATUS
+    As of tibzharuk trim.
+
+EXAMPLE
+    tibzharuk PE -threads 4 -phred33 s_R1.fq.gz s_R2.fq.gz \\
+        s_1P.fq.gz s_1U.fq.gz s_2P.fq.gz s_2U.fq.gz \\
+        ILLUMINACLIP:TruSeq3-PE.fa:2:30:10 LEADING:3 MINLEN:36
+"""
+
+import sys
+from typing import Sequence, Tuple
+
+from .trim import faults
+from .trim.arguments import Arguments
+from .trim.faults import say
+from .trim.run import run
+from .trimmomatic import Line, file_of, line_of, translated
+
+# MultiQC takes the name of the sample from the line after this one.
+STARTED = "tibzharuk, in place of TrimmomaticPE: Started with arguments:\n "
+
+
+def arguments_of(line: Line) -> Arguments:
+    """The arguments of the run, whose summary has Trimmomatic's forms."""
+    arguments = Arguments(line.words)
+
+    def forms(summary: str) -> Tuple[bytes, bytes]:
+        printed = "" if line.is_quiet else line_of(summary)
+        return printed.encode(), file_of(summary).encode()
+    arguments.forms = forms
+    arguments.read_too += line.files
+    return arguments
+
+
+def main(words: Sequence[str]) -> int:
+    """Returns the status."""
+    if any(word in ("-h", "--help", "-help") for word in words) or not words:
+        (sys.stdout if words else sys.stderr).write(__doc__ or "")
+        return 0 if words else 1
+    if "-version" in words:
+        from .command import show_version
+        return show_version()
+    faults.keep_streams()
+
+    def by_line() -> None:
+        line = translated(words)
+        arguments = arguments_of(line)
+        if not line.is_quiet:
+            say(" ".join(words), STARTED)
+        for note in line.notes:
+            say(note)
+        run(arguments)
+    return faults.status_of(by_line)

@@ -1,0 +1,405 @@
+"""One run, from its start to its end: it starts what `plan` says, follows it, and ends as `verdict`
+says."""
+
+import os
+import re
+import shutil
+import signal
+import time
+from typing import Dict, List, NoReturn, Optional, Sequence, Tuple
+
+from . import faults
+from .arguments import Arguments, HelpAsked
+from .checks import check_interleaved, check_lanes, no_end
+from .children import Ended, Family, Pipes
+from .cutadapt import KEEPS_BUFFERS, Cutadapt
+from .faults import Fault, Stopped, reason, say, signal_name, warn, write_all
+from .files import Output, Side, check_inputs, give_names, readable, take_names_back
+from .known_adapters import word_on_adapters, word_on_scores
+from .plan import (COUNTED, CUTADAPT_COUNTED, CUTADAPT_PRINTED, KEPT, PRINTED, TRIMMED, End, Lane,
+                   Made, Start, Stream, Word, lane, plan, shown)
+from .progress import Progress
+from .report import counts_of, of_call, page_of, sample_name
+from .tools import Tools
+from .verdict import CutadaptEnd, Ends, SideEnd, needs_more, verdict
+
+SECONDS_TO_READ_ON = 5
+NO_END = b"EOF marker is absent"    # what bgzip prints
+
+
+class Run:
+    """A run of the program over compressed files."""
+
+    def __init__(self, arguments: Arguments) -> None:
+        self.arguments = arguments
+        self.tools = Tools(arguments)
+        self.sample = sample_name(arguments.outputs)
+        self.cutadapt: Optional[Cutadapt] = None
+        if arguments.uses_cutadapt():
+            self.cutadapt = Cutadapt(arguments, self.sample)
+        self.sides: List[Side] = []
+        self.outputs: Dict[str, Output] = {}    # by their roles
+        self.look_at_files()
+        inputs = [each for side in self.sides for each in side.inputs]
+        self.progress = Progress(arguments.progress, inputs)
+        # How the program and cutadapt ended, by their roles.
+        self.ends: Dict[str, Ended] = {}
+        self.without_end: List[str] = []        # inputs that may be cut
+
+    def go(self) -> None:
+        """Makes all outputs, or none."""
+        if self.progress.is_terminal and self.tools.is_slow and self.has_gz_outputs():
+            say("bgzip isn't installed, so this takes several times as long (Debian: tabix)")
+        self.family = Family(self.tick, 0.5 if self.progress.is_on or self.cutadapt else 5)
+        self.pipes = Pipes(self.family)
+        try:
+            self.start_all()
+            self.look_at_reads()
+            self.follow()
+            self.judge()
+            self.finish()
+        except Stopped:
+            self.clean()
+            self.stop(self.family.first_signal or signal.SIGTERM)
+        finally:
+            self.clean()
+
+    def tick(self) -> None:
+        """Called each time that something happens, and at least every few seconds."""
+        self.progress.tick()
+        child = self.family.find("cutadapt")
+        if child and self.cutadapt:
+            self.cutadapt.watch(child)
+
+    # Before the start.
+
+    def has_gz_outputs(self) -> bool:
+        return any(output.is_compressed for output in self.outputs.values())
+
+    def look_at_files(self) -> None:
+        """Refuses inputs and outputs that can't be those of a run, and warns of what may be
+        wrong."""
+        arguments = self.arguments
+        check_inputs(arguments.inputs())
+        self.sides = [Side("forward", arguments.both or arguments.forward)]
+        if not arguments.both:
+            self.sides.append(Side("reverse", arguments.reverse))
+        for role, name in arguments.outputs_in_order():
+            output = Output(role, name)
+            output.check(arguments.files_that_are_read(), self.outputs.values())
+            self.outputs[role] = output
+        for each in [each for side in self.sides for each in side.inputs]:
+            if each.look():
+                no_end(each.name, arguments.needs_end)
+            each.check_tool(self.tools.decompressor)
+        if arguments.checks_names:
+            check_lanes(arguments.forward, arguments.reverse)
+            check_interleaved(arguments.both)
+
+    def plan(self) -> List[Start]:
+        options = self.cutadapt.options if self.cutadapt else None
+        return plan(self.arguments, self.tools, self.sides, self.outputs, options)
+
+    # The start.
+
+    def start_all(self) -> None:
+        """`next_end` has the order of the plan."""
+        for output in self.outputs.values():
+            output.hide()
+        for side in self.sides:
+            self.pipes.make(side.name, True, True)
+            side.current().open()
+        if self.cutadapt:
+            self.pipes.make(TRIMMED, False, True)
+        for name in KEPT:
+            self.pipes.keep_text(name)
+        for start in self.plan():
+            self.start(start)
+        self.pipes.let_go()
+
+    def start(self, start: Start) -> None:
+        passed = [self.pipes.fd(*word) for word in start.words if isinstance(word, End)]
+        words = [self.text(word) for word in start.words]
+        usual = KEEPS_BUFFERS.items() if start.role == "cutadapt" else ()
+        self.family.start(
+            start.role, words, self.fd(start.stdin), self.fd(start.stdout), passed, usual)
+
+    def text(self, word: Word) -> str:
+        """A word as the process gets it."""
+        if isinstance(word, End):
+            return f"/dev/fd/{self.pipes.fd(*word)}"
+        return self.outputs[word.role].written() if isinstance(word, Made) else word
+
+    def fd(self, stream: Stream) -> Optional[int]:
+        if isinstance(stream, End):
+            return self.pipes.fd(*stream)
+        if isinstance(stream, Made):
+            return self.outputs[stream.role].fd
+        if isinstance(stream, Lane):
+            return next(side.current().fd for side in self.sides
+                        if side.current().name == stream.name)
+        return None
+
+    def names(self) -> Dict[str, str]:
+        """The user's names, by those that the program gets."""
+        files = [side.files() for side in self.sides]
+        sources = [self.pipes.name(side.name, False) for side in self.sides]
+        if self.cutadapt:
+            sources, files = [self.pipes.name(TRIMMED, False)], [", ".join(files)]
+        found = dict(zip(sources, files))
+        for role, output in self.outputs.items():
+            found[self.pipes.name(role, True) or output.written()] = output.name
+        report = self.outputs.get("report") or self.outputs.get("html")
+        if report:
+            found[self.pipes.name(COUNTED, True)] = report.name
+        return found
+
+    def names_for_cutadapt(self) -> Dict[str, str]:
+        """The same of cutadapt."""
+        found = {self.pipes.name(side.name, False): readable(side.files()) for side in self.sides}
+        found.update((self.pipes.name(each, True), "-") for each in (CUTADAPT_COUNTED, TRIMMED))
+        return found
+
+    def look_at_reads(self) -> None:
+        """Says if the first pairs hold known adapters, but none are named, or if their scores are
+        those of another encoding. The children work meanwhile."""
+        first = [side.names[0] for side in self.sides]
+        words = [] if self.arguments.names_adapters() else [word_on_adapters(first)]
+        words += [] if self.arguments.encoding else [word_on_scores(first)]
+        for word in words:
+            if word:
+                warn(word)
+
+    # The end of each child.
+
+    def follow(self) -> None:
+        """Follows the children until the program has ended. Ends the run at once if a compressor
+        fails."""
+        while "program" not in self.ends:
+            child = self.family.next_end()
+            self.note_end(child.name, child.ended())
+
+    def note_end(self, role: str, end: Ended) -> None:
+        side = next((side for side in self.sides if side.name == role), None)
+        if side and end.status == 0 and side.place + 1 < len(side.inputs):
+            self.end_lane(side, end)
+            side.place += 1
+            side.current().open()
+            self.start(lane(side, side.place, self.tools.decompressor, self.cutadapt is not None))
+        elif side:
+            self.end_side(side, end)
+        elif role in self.outputs:
+            self.end_writer(self.outputs[role], end)
+        else:
+            self.ends[role] = end
+            if role == "cutadapt":
+                # Only now: the status of cutadapt is known before the program sees the end.
+                self.pipes.close(TRIMMED, True)
+
+    def end_side(self, side: Side, end: Ended) -> None:
+        """Closes the pipe of a side, only now that its decompressor has ended. So it is known
+        whether the text is complete before another program can see its end."""
+        last = side.current()
+        self.end_lane(side, end)
+        self.pipes.close(side.name, True)
+        side.is_whole = end.status == 0
+        if not side.is_whole:
+            status = 4 if end.is_not_started() else 3
+            side.fault = Fault(status, f"cannot read {last.name}: {end.why(last.name)}")
+
+    def end_lane(self, side: Side, end: Ended) -> None:
+        """Notes whether a pipe lacked its end. That of a file was looked for before."""
+        each = side.current()
+        each.close()
+        if each.size is None and NO_END in end.said:
+            self.without_end.append(each.name)
+
+    def end_writer(self, output: Output, end: Ended) -> None:
+        if end.status == 0:
+            return
+        if output.is_device and end.met_closed_pipe():
+            raise output.fault("its reader has ended")
+        if self.is_through(output) and end.said.count(b"\n") > 1:
+            self.progress.wipe()
+            write_all(2, end.said)
+        raise output.fault(end.why())
+
+    def is_through(self, output: Output) -> bool:
+        """Whether the user's command writes it."""
+        return output.role == "interleaved" and self.arguments.through is not None
+
+    # The verdict.
+
+    def judge(self) -> None:
+        """Ends the run if it failed."""
+        if needs_more(self.all_ends()):
+            self.read_on()
+        ends = self.all_ends()
+        fault = verdict(ends)
+        if fault and ends.program.status == 1:
+            self.progress.wipe()
+            write_all(2, ends.program.said)
+        if fault:
+            raise fault
+
+    def all_ends(self) -> Ends:
+        cutadapt = None
+        if self.cutadapt:
+            child = self.ends.get("cutadapt")
+            self.cutadapt.hear(self.names_for_cutadapt(), [side.files() for side in self.sides],
+                               self.pipes.text(CUTADAPT_COUNTED), self.pipes.text(CUTADAPT_PRINTED))
+            cutadapt = CutadaptEnd(child, self.cutadapt.fault(child), self.cutadapt.passed())
+        sides = [SideEnd(side.is_whole, side.fault) for side in self.sides]
+        return Ends(self.ends["program"], self.arguments.program, sides, self.pairs_taken(),
+                    cutadapt, self.names())
+
+    def pairs_taken(self) -> Optional[int]:
+        """How many pairs the program read, as its summary says."""
+        found = re.match(rb"Input Read Pairs: (\d+)", self.pipes.text(PRINTED))
+        return int(found.group(1)) if found else None
+
+    def read_on(self) -> None:
+        """Decompresses the files for some seconds more after a fault in a text."""
+        until = time.monotonic() + SECONDS_TO_READ_ON
+        self.family.pause = 0.1
+        left = {side.name: side for side in self.sides
+                if side.current().is_packed and self.family.find(side.name)}
+        for name in left:
+            self.family.discard(self.pipes.fd(name, False))
+        while any(self.family.find(name) for name in left):
+            child = self.family.next_end_until(until)
+            if child is None:
+                return
+            side = next((side for side in self.sides if side.name == child.name), None)
+            if side:
+                self.end_side(side, child.ended())
+
+    # The end, if all is well.
+
+    def finish(self) -> None:
+        """Waits until all bytes are on the disk, gives the files their final names, and prints the
+        summary. If it can't be printed, the names are taken back."""
+        while any(self.family.find(role) for role in self.outputs):
+            child = self.family.next_end()
+            if child.name in self.outputs:
+                self.end_writer(self.outputs[child.name], child.ended())
+        texts = self.own_texts()
+        with self.family.heeding_signals():
+            for role, text in texts.items():
+                self.write(self.outputs[role], text)
+            for output in self.outputs.values():
+                output.sync()
+        self.progress.wipe()
+        self.warn()
+        named = give_names(self.outputs.values())
+        try:
+            with self.family.heeding_signals():
+                self.print_summary()
+        except BaseException:
+            take_names_back(named)
+            raise
+        faults.ignore_signals()
+
+    def warn(self) -> None:
+        """Says what may be wrong, although all went well."""
+        for name in self.without_end:
+            no_end(name, self.arguments.needs_end)
+        if self.cutadapt and self.cutadapt.removed_all():
+            warn("cutadapt removed all pairs")
+        elif self.pairs_taken() == 0:
+            warn("the inputs have no pairs")
+        elif re.search(rb"\nDropped: %d\n" % (self.pairs_taken() or 0), self.pipes.text(PRINTED)):
+            warn("all pairs were dropped")
+
+    def summary(self) -> Tuple[bytes, bytes]:
+        """The summary as it is printed, and as it is in its file."""
+        printed = self.pipes.text(PRINTED)
+        if self.arguments.forms is None:
+            return printed, printed
+        return self.arguments.forms(printed.decode())
+
+    def print_summary(self) -> None:
+        """On standard error if an output is on standard output, and nowhere if the summary also
+        gets a file then."""
+        is_taken = any(output.is_stdout for output in self.outputs.values())
+        if is_taken and "summary" in self.outputs and self.arguments.forms is None:
+            return
+        is_error = is_taken or self.arguments.forms is not None
+        try:
+            write_all(2 if is_error else 1, self.summary()[0])
+        except OSError as error:
+            raise Fault(4, f"cannot print: {reason(error)}")
+
+    def own_texts(self) -> Dict[str, bytes]:
+        """What this process writes, by its role."""
+        texts = {"summary": self.summary()[1]}
+        if "report" in self.outputs or "html" in self.outputs:
+            adapters = self.cutadapt.summary() if self.cutadapt else None
+            counts = counts_of(self.pipes.text(COUNTED))
+            texts["report"] = of_call(counts, self.arguments, adapters)
+        if "html" in self.outputs:
+            texts["html"] = page_of(texts["report"], self.sample)
+        if self.cutadapt:
+            texts["cutadapt-report"] = self.cutadapt.report()
+            texts["cutadapt-log"] = self.cutadapt.log()
+        return {role: text for role, text in texts.items() if role in self.outputs}
+
+    def write(self, output: Output, text: bytes) -> None:
+        try:
+            output.write(text, self.tools.level)
+        except OSError as error:
+            raise output.fault(reason(error))
+
+    def clean(self) -> None:
+        """Ends the children and removes the hidden files."""
+        faults.ignore_signals()
+        self.progress.wipe()
+        self.family.end_all()
+        for output in self.outputs.values():
+            output.forget()
+
+    def stop(self, number: int) -> NoReturn:
+        """Ends this process by the same signal. The first process of a container isn't ended by a
+        signal that it sends to itself, and ends with the status that a shell would show."""
+        self.progress.wipe()
+        say(f"stopped by {signal_name(number)}, {self.what_is_left()}")
+        signal.signal(number, signal.SIG_DFL)
+        os.kill(os.getpid(), number)
+        os._exit(128 + number)
+
+    def what_is_left(self) -> str:
+        """What became of the outputs after a stop or a fault. A stream can't be taken back."""
+        streams = [each.name for each in self.outputs.values()
+                   if each.is_device and each.name != os.devnull]
+        if not streams:
+            return "no output was made"
+        return f"what was written to {' and '.join(streams)} is incomplete: discard what uses it"
+
+
+def run(arguments: Arguments) -> None:
+    """Does what these arguments ask for."""
+    if not shutil.which(arguments.program):
+        raise Fault(1, f"no program {arguments.program} (--program PATH)")
+    if arguments.asks_version:
+        os.execvp(arguments.program, [arguments.program, "--version"])
+    arguments.check()
+    one = Run(arguments)
+    if arguments.dry_run:
+        lines = [shown(start, one.outputs) + "\n" for start in one.plan()]
+        write_all(1, "".join(lines).encode("utf-8", "surrogateescape"))
+        return
+    one.go()
+
+
+def main(words: Sequence[str], manual: str) -> int:
+    """Returns the status."""
+    faults.keep_streams()
+
+    def by_words() -> None:
+        try:
+            arguments = Arguments(words)
+        except HelpAsked:
+            write_all(1, manual.encode())
+            return
+        run(arguments)
+    return faults.status_of(by_words)
