@@ -10,7 +10,7 @@
 # wider than the window, too small or too pale, nothing is printed on the console, and nothing is
 # requested. This part is skipped if chromium isn't installed.
 #
-# FQ_PROG is the program, crates/fq_prog/out/fq_prog if not set. If python3.6 is on the path, it
+# FQ_PROG is the program, crates/fq_prog/out/fq_prog if not set. If python3.8 is on the path, it
 # makes the pages too.
 set -uo pipefail
 . "$(dirname "$0")/common.bash"
@@ -21,7 +21,7 @@ trap 'rm -rf "$work"' EXIT
 cd "$work" || exit 1
 export PYTHONDONTWRITEBYTECODE=1
 # A name that leads to no Python is not used.
-old=$(command -v python3.6) && "$old" -c '' 2> /dev/null || old=''
+old=$(command -v python3.8) && "$old" -c '' 2> /dev/null || old=''
 
 check() { python3 "$tree/tests/report_page/check.py" "$@"; }
 
@@ -33,7 +33,7 @@ drawn() {
   [ ! -s told ] || fail "it says $(cat told)"
   check page "$1.json" "$1.html" || fail 'it is not that of its report'
   LC_ALL=C "${page[@]}" "$1.json" | cmp - "$1.html" || fail 'another locale makes another page'
-  [ -z "$old" ] || "$old" "${page[@]}" "$1.json" | cmp - "$1.html" || fail 'Python 3.6 makes another page'
+  [ -z "$old" ] || "$old" "${page[@]}" "$1.json" | cmp - "$1.html" || fail 'Python 3.8 makes another page'
 }
 
 # refuses FILE: the script ends with status 1 and one line, and prints no page
@@ -53,7 +53,7 @@ trim() {
   [ $? -eq "$wanted" ] || fail "status is not $wanted: $(cat told)"
 }
 
-row='the syntax of Python 3.6'
+row='the syntax of Python 3.8'
 check syntax "$tree"/python/tibzharuk/{page.py,report/*.py} || fail 'a file has newer syntax'
 row='a link, and a copy without its parts'
 python3 "$tree/tests/count.py" small small.json || exit 1
@@ -128,9 +128,9 @@ grep -qF 'Adapters were removed with cutadapt (-a A&lt;C -A GT). Read pairs were
 row='a list of names'
 grep -qF '<code>s1_L001_R1.fq.gz</code><code>s1_L002_R1.fq.gz</code>' plain.html || fail 'its names are not shown'
 row='a report with a text in the place of each of its texts'
-check hostile "${page[@]}" small.json || fail 'a text becomes markup'
+check hostile "$tree/python/tibzharuk" small.json || fail 'a text becomes markup'
 row='a report with a change at each place'
-check changed "${page[@]}" small.json || fail 'one is neither drawn nor refused'
+check changed "$tree/python/tibzharuk" small.json || fail 'one is neither drawn nor refused'
 
 # Files that are not reports.
 head -c -3 two.json > torn.json

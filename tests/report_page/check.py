@@ -4,7 +4,7 @@
     check.py hostile SCRIPT REPORT   no text of a report becomes markup
     check.py changed SCRIPT REPORT   each change at one place gives a page or a refusal
     check.py positions REPORT   the report counts 10,001 positions, the most that are counted
-    check.py syntax FILE..   the files are programs of Python 3.6
+    check.py syntax FILE..   the files are programs of Python 3.8
 """
 
 import ast
@@ -365,10 +365,10 @@ def check_page(report_path, page_path):
 # Reports that are changed.
 
 
-def loaded(script):
-    """The function that makes a page, and the module that checks reports, beside the script."""
+def loaded(package):
+    """The function that makes a page, and the module that checks reports, of the package."""
     sys.dont_write_bytecode = True
-    sys.path.insert(0, os.path.dirname(script))
+    sys.path.insert(0, os.path.dirname(package))
     return importlib.import_module("tibzharuk.report.page").page, importlib.import_module("tibzharuk.report.reading")
 
 
@@ -388,8 +388,8 @@ def copied(report, way):
     return one, holder
 
 
-def check_hostile(script, report):
-    page, checks = loaded(script)
+def check_hostile(package, report):
+    page, checks = loaded(package)
     plain = parsed(page(report, "x")).structure()
     changed = 0
     for way in places(report):
@@ -412,9 +412,9 @@ def check_hostile(script, report):
     assert changed >= 10, changed
 
 
-def check_changed(script, report):
+def check_changed(package, report):
     """Makes some of the changes at each place, others at the next one: all would take too long."""
-    page, checks = loaded(script)
+    page, checks = loaded(package)
     refused = drawn = 0
     changes = [
         lambda holder, key: holder.pop(key),
@@ -446,7 +446,7 @@ def check_positions(report):
 def check_syntax(*paths):
     for path in paths:
         with open(path, encoding="utf-8") as file:
-            ast.parse(file.read(), path, feature_version=(3, 6))
+            ast.parse(file.read(), path, feature_version=(3, 8))
 
 
 def main(what, *words):
