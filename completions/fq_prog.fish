@@ -69,7 +69,6 @@ for name in fq_prog tibzharuk
     complete -c $name -n '__fq_prog_wants trimming' -l sync -d 'waits until the outputs are on disk'
     complete -c $name -n '__fq_prog_wants trimming' -l report -rF -d 'writes counts of pairs, reads, bases and steps as JSON'
     complete -c $name -n '__fq_prog_wants trimming' -l explain -d 'gives the reason for an error in its line'
-    complete -c $name -n '__fq_prog_wants trimming' -l no-explain -d 'gives no reason, even if called as tibzharuk'
     # end of offers-for-fish
     complete -c $name -s h -l help -d 'print help'
     complete -c $name -s V -l version -d 'print version'

@@ -1,13 +1,11 @@
 #!/usr/bin/env bash
-# Usual mistakes, and the line on standard error for each: by the name fq_prog without a reason, with
-# --explain and by the name tibzharuk with one, and with tibzharuk --no-explain without.
+# Usual mistakes, and the line on standard error for each, without a reason and with --explain.
 set -uo pipefail
 . "$(dirname "$0")/common.bash"
 find_program
 work=$(mktemp -d)
 trap 'rm -rf "$work"' EXIT
 cd "$work" || exit 1
-ln -s "$program" tibzharuk
 outs=(p1 u1 p2 u2)
 many=(CROP:1 CROP:1 CROP:1 CROP:1 CROP:1 CROP:1 CROP:1 CROP:1 CROP:1 CROP:1 CROP:1 CROP:1 CROP:1)
 many+=("${many[@]}" "${many[@]}" "${many[@]}" "${many[@]}")
@@ -54,8 +52,6 @@ both() {
   shift 4
   line "$status" "$plain" "$program" "$command" "$@"
   line "$status" "$reason" "$program" "$command" --explain "$@"
-  line "$status" "$reason" ./tibzharuk "$command" "$@"
-  line "$status" "$plain" "$work/tibzharuk" "$command" --no-explain "$@"
 }
 
 row='options'
@@ -119,7 +115,7 @@ both 4 'write failed: forward paired' "/dev/full: $full" PE r1.fq r2.fq /dev/ful
 both 4 'write failed: trim log' "/dev/full: $full" IL --trimlog /dev/full --no-name-check r1.fq "${outs[@]}" CROP:1
 
 row='no mistake'
-line 0 '' ./tibzharuk PE r1.fq r2.fq "${outs[@]}" CROP:1
+line 0 '' "$program" PE --explain r1.fq r2.fq "${outs[@]}" CROP:1
 
 both 4 'write failed: report' "/dev/full: $full" PE --report /dev/full r1.fq r2.fq "${outs[@]}" CROP:1
 
@@ -139,7 +135,7 @@ closed() {
   chmod 755 d
 }
 if [ "$(id -u)" -ne 0 ] || command -v setpriv > /dev/null; then
-  cp -L tibzharuk reachable && chmod 755 reachable
+  cp "$program" reachable && chmod 755 reachable
   closed 4 'cannot read r1.fq' ./reachable PE r1.fq r2.fq "${outs[@]}" CROP:1
   closed 4 "cannot read r1.fq: $rights" ./reachable PE --explain r1.fq r2.fq "${outs[@]}" CROP:1
   closed 4 "cannot write d/p1: $rights" ./reachable PE --explain r2.fq both.fq d/p1 u1 p2 u2 CROP:1
@@ -147,7 +143,7 @@ fi
 
 row='the report has the line without the reason'
 make_files
-./tibzharuk PE --report json r1.fq first.fq "${outs[@]}" CROP:1 > out 2> err
+"$program" PE --explain --report json r1.fq first.fq "${outs[@]}" CROP:1 > out 2> err
 grep -q '"fault":"input: reverse record 2: MateMissing",' json || fail "it has $(grep -o '"fault":[^,]*' json)"
 
 finish 'lines with reasons and without'

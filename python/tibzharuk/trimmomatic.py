@@ -36,7 +36,7 @@ WITHOUT_VALUE = ("phred33", "phred64", "quiet", "validatePairs", "version")
 LONG_WITHOUT_VALUE = ("--no-name-check", "--sync", "--progress", "--no-progress", "--need-end",
                       "--poly-g", "--dry-run")
 NO_STEP = "MINLEN:1"    # does nothing: a read without bases is dropped in any case
-DROPPED = ("--explain", "--no-explain")     # a reason is always given
+DROPPED = ("--explain",)     # a reason is always given
 OUTPUTS = ("paired1", "unpaired1", "paired2", "unpaired2")
 # As Trimmomatic takes them off a name, one after the other.
 ENDINGS = (".gz", ".bz2", ".zip", ".fq", ".fastq", ".txt")

@@ -1,12 +1,12 @@
 -- What `IL I FP FU RP RU STEPS..` asks for.
-use Rattle.std.proofs.Common.{◌≡◌, ◌≤◌, ℕ, Bool, false, Option, Some, None, List, [], ◌∷◌, ◌++◌, length, fold, codes, refl, ap, ap₂, ◌∙◌, inl}
+use Rattle.std.proofs.Common.{◌≡◌, ◌≤◌, ℕ, false, Option, Some, None, List, [], ◌∷◌, ◌++◌, length, fold, codes, refl, ap, ap₂, ◌∙◌, inl}
 use Rattle.std.specs.List.{All}
 use Rattle.clap.specs.Kinds.{or_else}
 use Rattle.clap.specs.Walk.{Text, Row, Walk, value, settled, walk_from, walk, nothing_held, finished, is_pending}
 use Rattle.clap.specs.Faults.{settle_fault, step_fault, walk_fault, defaults_fault, check_fault, level_fault}
 use Rattle.clap.proofs.OnLiterals.{clap_on_literals}
 use Rattle.fq_cli.specs.Requests.{Asking, interleaved_file}
-use Rattle.fq_cli.specs.Words.{most, is_own_name, asked_in, asking_in, pairs_asked, AskedFor}
+use Rattle.fq_cli.specs.Words.{most, asked_in, asking_in, pairs_asked, AskedFor}
 use Rattle.fq_cli.specs.CommandLines.{IsPlain, FitsIfGiven, Options, option_words, asking_with, ArePlain, MixedPairsAreAskedFor}
 use Rattle.fq_cli.proofs.PlainWordLemmas.{IsOpen, value_walk, value_faults, values_walked, value_faults_are, faults_then}
 use Rattle.fq_cli.proofs.OptionLemmas.{mixed_input, mixed_others, mixed_leaf, opened, after_options, options_sound, options_read, options_faultless}
@@ -99,8 +99,8 @@ module _ (f fp fu rp ru step : Text) where
   mixed_end_sound steps (Some x) (Some y) (Some z) (Some n) = refl
 
   -- what is asked for with these options
-  abbrev mixed_asking : Bool → List Text → Options → Asking
-  mixed_asking own steps o = asking_with own o (interleaved_file f) (record {
+  abbrev mixed_asking : List Text → Options → Asking
+  mixed_asking steps o = asking_with o (interleaved_file f) (record {
     forward_paired = fp;
     forward_unpaired = fu;
     reverse_paired = rp;
@@ -108,41 +108,40 @@ module _ (f fp fu rp ru step : Text) where
   }) (step ∷ steps)
 
   -- the same, where the number of threads is read from its digits
-  mixed_digits_found : (own : Bool) (steps : List Text) (a b c : Option Text) (d : Option ℕ) →
-      asked_in own (Some (
+  mixed_digits_found : (steps : List Text) (a b c : Option Text) (d : Option ℕ) →
+      asked_in (Some (
         codes "IL",
         finished mixed_leaf.rules
             (stepping 6 (mixed_rows (options_of a b c d)) 0 (step ∷ steps)).held,
       ))
-      ≡ Some (mixed_asking own steps (options_of a b c (as_read d)))
+      ≡ Some (mixed_asking steps (options_of a b c (as_read d)))
   unfolding clap_on_literals asking_in
-  mixed_digits_found own steps None None None None = refl
-  mixed_digits_found own steps None None None (Some n) = refl
-  mixed_digits_found own steps None None (Some z) None = refl
-  mixed_digits_found own steps None None (Some z) (Some n) = refl
-  mixed_digits_found own steps None (Some y) None None = refl
-  mixed_digits_found own steps None (Some y) None (Some n) = refl
-  mixed_digits_found own steps None (Some y) (Some z) None = refl
-  mixed_digits_found own steps None (Some y) (Some z) (Some n) = refl
-  mixed_digits_found own steps (Some x) None None None = refl
-  mixed_digits_found own steps (Some x) None None (Some n) = refl
-  mixed_digits_found own steps (Some x) None (Some z) None = refl
-  mixed_digits_found own steps (Some x) None (Some z) (Some n) = refl
-  mixed_digits_found own steps (Some x) (Some y) None None = refl
-  mixed_digits_found own steps (Some x) (Some y) None (Some n) = refl
-  mixed_digits_found own steps (Some x) (Some y) (Some z) None = refl
-  mixed_digits_found own steps (Some x) (Some y) (Some z) (Some n) = refl
+  mixed_digits_found steps None None None None = refl
+  mixed_digits_found steps None None None (Some n) = refl
+  mixed_digits_found steps None None (Some z) None = refl
+  mixed_digits_found steps None None (Some z) (Some n) = refl
+  mixed_digits_found steps None (Some y) None None = refl
+  mixed_digits_found steps None (Some y) None (Some n) = refl
+  mixed_digits_found steps None (Some y) (Some z) None = refl
+  mixed_digits_found steps None (Some y) (Some z) (Some n) = refl
+  mixed_digits_found steps (Some x) None None None = refl
+  mixed_digits_found steps (Some x) None None (Some n) = refl
+  mixed_digits_found steps (Some x) None (Some z) None = refl
+  mixed_digits_found steps (Some x) None (Some z) (Some n) = refl
+  mixed_digits_found steps (Some x) (Some y) None None = refl
+  mixed_digits_found steps (Some x) (Some y) None (Some n) = refl
+  mixed_digits_found steps (Some x) (Some y) (Some z) None = refl
+  mixed_digits_found steps (Some x) (Some y) (Some z) (Some n) = refl
 
-  mixed_found : (own : Bool) (steps : List Text) (o : Options) → FitsIfGiven o.threads →
-      asked_in own (Some (
+  mixed_found : (steps : List Text) (o : Options) → FitsIfGiven o.threads →
+      asked_in (Some (
         codes "IL",
         finished mixed_leaf.rules (stepping 6 (mixed_rows o) 0 (step ∷ steps)).held,
       ))
-      ≡ Some (mixed_asking own steps o)
-  mixed_found own steps o fits =
-      mixed_digits_found own steps o.log o.report o.encoding o.threads
-      ∙ ap (λ (d : Option ℕ).
-      Some (mixed_asking own steps (options_of o.log o.report o.encoding d)))
+      ≡ Some (mixed_asking steps o)
+  mixed_found steps o fits =
+      mixed_digits_found steps o.log o.report o.encoding o.threads
+      ∙ ap (λ (d : Option ℕ). Some (mixed_asking steps (options_of o.log o.report o.encoding d)))
       (threads_read o.threads fits)
 
 module _ (f fp fu rp ru : Text) (o : Options) (plain : ArePlain o) (step : Text) (steps : List Text)
@@ -196,7 +195,7 @@ module _ (f fp fu rp ru : Text) (o : Options) (plain : ArePlain o) (step : Text)
 
   mixed_ask : (program : Text) →
       AskedFor (program ∷ codes "IL" ∷ (option_words o ++ mixed_words))
-      (Some (asking_with (is_own_name program) o (interleaved_file f) (record {
+      (Some (asking_with o (interleaved_file f) (record {
         forward_paired = fp;
         forward_unpaired = fu;
         reverse_paired = rp;
@@ -205,11 +204,10 @@ module _ (f fp fu rp ru : Text) (o : Options) (plain : ArePlain o) (step : Text)
   unfolding pairs_asked
   mixed_ask program = record {
     parse = mixed_parse program (option_words o ++ mixed_words) mixed_level;
-    ask = ap (asked_in (is_own_name program))
-        (mixed_entered program (option_words o ++ mixed_words))
-        ∙ ap (λ (w : Walk). asked_in (is_own_name program)
-        (Some (codes "IL", finished mixed_leaf.rules w.held))) mixed_walk
-        ∙ mixed_found f fp fu rp ru step (is_own_name program) steps o plain.threads;
+    ask = ap asked_in (mixed_entered program (option_words o ++ mixed_words))
+        ∙ ap (λ (w : Walk). asked_in (Some (codes "IL", finished mixed_leaf.rules w.held)))
+        mixed_walk
+        ∙ mixed_found f fp fu rp ru step steps o plain.threads;
   }
 
 -- `IL [options] I FP FU RP RU STEPS..` asks for these names, steps and values

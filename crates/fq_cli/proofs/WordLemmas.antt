@@ -20,7 +20,7 @@ use Rattle.clap.proofs.OnLiterals.{clap_on_literals}
 use Rattle.clap.specs.Built.{AddsArg, AddsInTurn, AddsSubcommand}
 use Rattle.clap.specs.declared.builder.arg.Arg.{Arg}
 use Rattle.clap.specs.declared.builder.command.Command.{Command}
-use Rattle.fq_cli.specs.Words.{AreArgs, IsArg, IsCommand, asked_in, asked_of, interleaved_app, is_own_call, most, number_of, pairs_app, pairs_asked, program_app, with_rules, words_fault}
+use Rattle.fq_cli.specs.Words.{AreArgs, IsArg, IsCommand, asked_in, asked_of, interleaved_app, most, number_of, pairs_app, pairs_asked, program_app, with_rules, words_fault}
 
 -- a command with one more argument
 one_more : (old new : Command) (arg : Arg) (app : App) (rule : Rule) → AddsArg old arg new →
@@ -69,10 +69,9 @@ is_free = refl
 
 -- the matches are those of the program's commands
 pub found_in : (app : App) (words : List Text) (m : ArgMatches) → app ≡ program_app →
-    HasMatchesOf app words m → pairs_asked words ≡ asked_in (is_own_call words)
-    (subcommand_rows_of m)
+    HasMatchesOf app words m → pairs_asked words ≡ asked_in (subcommand_rows_of m)
 unfolding pairs_asked
-found_in app words m is matches = ap (asked_in (is_own_call words))
+found_in app words m is matches = ap asked_in
     (sym ((matches (ap is_simple is ∙ is_readable)).1 ∙ ap (λ a. subcommand_of a words) is))
 
 -- and so are the faults
@@ -101,20 +100,20 @@ name_met m = go (out-ArgMatches m).subcommand
     go (Some b) = refl
 
 -- the subcommand that was found, by its name and its rows
-pub met_is : (own : Bool) (found : Option (Text × List Row)) (name : Text) (rows : List Row) →
+pub met_is : (found : Option (Text × List Row)) (name : Text) (rows : List Row) →
     Some name ≡ option_map (λ p. p.0) found → Some rows ≡ option_map (λ p. p.1) found
-    → asked_in own found ≡ asked_of own name rows
-met_is own (Some found) name rows named has =
+    → asked_in found ≡ asked_of name rows
+met_is (Some found) name rows named has =
     let name_is : found.0 ≡ name = cc in
     let rows_are : found.1 ≡ rows = cc in
-    ap₂ (asked_of own) name_is rows_are
-met_is own None name rows named has = absurd cc
+    ap₂ asked_of name_is rows_are
+met_is None name rows named has = absurd cc
 
 -- no subcommand was found
-pub not_met : (own : Bool) (found : Option (Text × List Row)) → None ≡ option_map (λ p. p.0) found →
-    asked_in own found ≡ None
-not_met own None none = refl
-not_met own (Some found) none = absurd cc
+pub not_met : (found : Option (Text × List Row)) → None ≡ option_map (λ p. p.0) found →
+    asked_in found ≡ None
+not_met None none = refl
+not_met (Some found) none = absurd cc
 
 -- a value that is there
 pub some_is : {X : Type 0} (o : Option X) (x : X) → IsSomeAnd o (λ y. y ≡ x) → o ≡ Some x

@@ -74,37 +74,24 @@ late_asked : pairs_asked late_words
 unfolding clap_on_literals program_app pairs_app interleaved_app asked pairs_asked asking_in
 late_asked = refl
 
--- `PATH PE FLAG f r fp fu rp ru LEADING:3`
-abbrev flag_words : List ℕ → List ℕ → List (List ℕ)
-flag_words path flag = path ∷ codes "PE" ∷ flag ∷ codes "f" ∷ codes "r" ∷ codes "fp" ∷ codes
+-- `fq PE FLAG f r fp fu rp ru LEADING:3`
+abbrev flag_words : List ℕ → List (List ℕ)
+flag_words flag = codes "fq" ∷ codes "PE" ∷ flag ∷ codes "f" ∷ codes "r" ∷ codes "fp" ∷ codes
     "fu" ∷ codes "rp" ∷ codes "ru" ∷ codes "LEADING:3" ∷ []
 
--- what they ask for, with a line of an error that says why or doesn't
-abbrev flag_asked : Bool → Asking
-flag_asked explain = record (asked 4 1024 true true None (two_files (codes "f") (codes "r")))
+-- what they ask for, with a wait for the disk and with a reason, or without
+abbrev flag_asked : Bool → Bool → Asking
+flag_asked sync explain = record (asked 4 1024 true sync None (two_files (codes "f") (codes "r")))
     { log = None; explain = explain }
 
--- by the name `fq_prog` no reason is given, unless it is asked for
-unexplained_asked : pairs_asked (flag_words (codes "/usr/bin/fq_prog") (codes "--sync"))
-    ≡ Some (flag_asked false)
+-- no reason is given, unless it is asked for
+unexplained_asked : pairs_asked (flag_words (codes "--sync")) ≡ Some (flag_asked true false)
 unfolding clap_on_literals program_app pairs_app interleaved_app asked pairs_asked asking_in
 unexplained_asked = refl
 
-explained_asked : pairs_asked (flag_words (codes "fq_prog") (codes "--explain"))
-    ≡ Some (record (flag_asked true) { sync = false })
+explained_asked : pairs_asked (flag_words (codes "--explain")) ≡ Some (flag_asked false true)
 unfolding clap_on_literals program_app pairs_app interleaved_app asked pairs_asked asking_in
 explained_asked = refl
-
--- by the name `tibzharuk` one is given, unless it is not asked for
-own_path_asked : pairs_asked (flag_words (codes "/usr/bin/tibzharuk") (codes "--sync"))
-    ≡ Some (flag_asked true)
-unfolding clap_on_literals program_app pairs_app interleaved_app asked pairs_asked asking_in
-own_path_asked = refl
-
-own_name_asked : pairs_asked (flag_words (codes "tibzharuk") (codes "--no-explain"))
-    ≡ Some (record (flag_asked false) { sync = false })
-unfolding clap_on_literals program_app pairs_app interleaved_app asked pairs_asked asking_in
-own_name_asked = refl
 
 -- too few files
 few_words : words_fault (codes "fq" ∷ codes "PE" ∷ codes "f" ∷ []) ≡ MissingRequiredArgument ∷ []

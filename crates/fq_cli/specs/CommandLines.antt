@@ -1,12 +1,12 @@
 -- What usual command lines ask for, in words of their own.
-use Rattle.std.specs.Prelude.{◌≡◌, ◌≢◌, ℕ, ◌≤◌, Bool, true, false, decimal, unwrap_or}
+use Rattle.std.specs.Prelude.{◌≡◌, ◌≢◌, ℕ, ◌≤◌, true, false, decimal, unwrap_or}
 use Rattle.std.specs.Prelude.{Option, Some, None, List, [], ◌∷◌, ◌++◌, codes, length}
 use Rattle.std.specs.List.{All}
 use Rattle.std.specs.Option.{option_map}
 use Rattle.clap.specs.Words.{Text}
 use Rattle.fq_text.specs.Grammar.{begins_with}
 use Rattle.fq_cli.specs.Requests.{Asking, InputNames, two_files, interleaved_file}
-use Rattle.fq_cli.specs.Words.{most, is_own_name, AskedFor}
+use Rattle.fq_cli.specs.Words.{most, AskedFor}
 
 abbrev pub hyphen : ℕ
 hyphen = 45
@@ -60,10 +60,9 @@ abbrev pub output_words : OutputNames → List Text
 output_words names = names.forward_paired ∷ names.forward_unpaired
     ∷ names.reverse_paired ∷ names.reverse_unpaired ∷ []
 
--- what is asked for: what is given, and the defaults of the rest, in a call by the program's own
--- name or another
-abbrev pub asking_with : Bool → Options → InputNames → OutputNames → List Text → Asking
-asking_with own o inputs names steps = record {
+-- what is asked for: what is given, and the defaults of the rest
+abbrev pub asking_with : Options → InputNames → OutputNames → List Text → Asking
+asking_with o inputs names steps = record {
   encoding = unwrap_or o.encoding (codes "sanger");
   threads = unwrap_or o.threads 4;
   block = 1024;
@@ -71,7 +70,7 @@ asking_with own o inputs names steps = record {
   chunk = 65536;
   check_names = true;
   sync = false;
-  explain = own;
+  explain = false;
   inputs = inputs;
   forward_paired = names.forward_paired;
   forward_unpaired = names.forward_unpaired;
@@ -95,7 +94,7 @@ PairsAreAskedFor = (program forward reverse : Text) (o : Options) (names : Outpu
     All IsPlain (forward ∷ reverse ∷ (output_words names ++ steps)) →
     AskedFor (program ∷ codes "PE"
     ∷ (option_words o ++ (forward ∷ reverse ∷ (output_words names ++ steps))))
-    (Some (asking_with (is_own_name program) o (two_files forward reverse) names steps))
+    (Some (asking_with o (two_files forward reverse) names steps))
 
 -- `IL [options] I FP FU RP RU STEPS..`
 abbrev pub MixedPairsAreAskedFor : Type 0
@@ -104,4 +103,4 @@ MixedPairsAreAskedFor = (program both : Text) (o : Options) (names : OutputNames
     All IsPlain (both ∷ (output_words names ++ steps)) →
     AskedFor (program ∷ codes "IL"
     ∷ (option_words o ++ (both ∷ (output_words names ++ steps))))
-    (Some (asking_with (is_own_name program) o (interleaved_file both) names steps))
+    (Some (asking_with o (interleaved_file both) names steps))

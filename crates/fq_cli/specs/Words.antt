@@ -1,8 +1,7 @@
 -- What a command line asks for: the commands of the program, as `clap` parses them, and what it
 -- finds in the arguments.
-use Rattle.std.specs.Prelude.{◌≡◌, ℕ, Bool, true, false, not, ◌&&◌, ◌||◌, nat_eq, Option, Some, None, List, [], ◌∷◌, codes, unwrap_or, if◌then◌else◌}
+use Rattle.std.specs.Prelude.{◌≡◌, ℕ, Bool, true, false, not, Option, Some, None, List, [], ◌∷◌, codes, unwrap_or, if◌then◌else◌}
 use Rattle.std.specs.Option.{option_map}
-use Rattle.std.specs.List.{ends_with}
 use Rattle.std.specs.Str.{bytes_eq}
 use Rattle.std.specs.Str.Parse.{digits_value, without_leading_plus}
 use Rattle.clap.specs.Lexer.{usize_max}
@@ -61,8 +60,7 @@ option_rules = number_rule (codes "threads") (codes "4")
     ∷ flag_rule (codes "no-name-check")
     ∷ flag_rule (codes "sync")
     ∷ option_rule (codes "report")
-    ∷ flag_rule (codes "explain")
-    ∷ flag_rule (codes "no-explain") ∷ []
+    ∷ flag_rule (codes "explain") ∷ []
 
 -- the output files and the steps
 abbrev pub output_rules : List Rule
@@ -135,21 +133,6 @@ number_in rows id = number_of (unwrap_or (one_of id rows) [])
 abbrev pub flag_in : List Row → Text → Bool
 flag_in rows id = bytes_eq (unwrap_or (one_of id rows) []) (codes "true")
 
--- the last component of the path by which the program was called is its own name, `tibzharuk`
-abbrev pub is_own_name : Text → Bool
-is_own_name path =
-    bytes_eq path (codes "tibzharuk") || ends_with nat_eq path (codes "/tibzharuk")
-
--- the command line begins with the program's own name
-abbrev pub is_own_call : List Text → Bool
-is_own_call [] = false
-is_own_call (path ∷ words) = is_own_name path
-
--- lines on standard error say why: if that is asked for, or by default in a call by the own name
-abbrev pub explains : Bool → List Row → Bool
-explains own rows =
-    not (flag_in rows (codes "no-explain")) && (flag_in rows (codes "explain") || own)
-
 -- the inputs of the command with this name, if it trims
 abbrev pub inputs_in : Text → List Row → Option InputNames
 inputs_in name rows =
@@ -158,9 +141,9 @@ inputs_in name rows =
     else (if bytes_eq name (codes "IL") then Some (interleaved_file (text_in rows (codes "I")))
     else None)
 
--- what the arguments ask to trim, with these inputs, in a call by the own name or another
-unfoldable pub asking_in : Bool → InputNames → List Row → Asking
-asking_in own inputs rows = record {
+-- what the arguments ask to trim, with these inputs
+unfoldable pub asking_in : InputNames → List Row → Asking
+asking_in inputs rows = record {
   encoding = text_in rows (codes "encoding");
   threads = number_in rows (codes "threads");
   block = number_in rows (codes "block");
@@ -168,7 +151,7 @@ asking_in own inputs rows = record {
   chunk = number_in rows (codes "chunk");
   check_names = not (flag_in rows (codes "no-name-check"));
   sync = flag_in rows (codes "sync");
-  explain = explains own rows;
+  explain = flag_in rows (codes "explain");
   inputs = inputs;
   forward_paired = text_in rows (codes "FP");
   forward_unpaired = text_in rows (codes "FU");
@@ -180,16 +163,16 @@ asking_in own inputs rows = record {
 }
 
 -- what the command with this name asks to trim, if it trims
-abbrev pub asked_of : Bool → Text → List Row → Option Asking
-asked_of own name rows = option_map (λ inputs. asking_in own inputs rows) (inputs_in name rows)
+abbrev pub asked_of : Text → List Row → Option Asking
+asked_of name rows = option_map (λ inputs. asking_in inputs rows) (inputs_in name rows)
 
-abbrev pub asked_in : Bool → Option (Text × List Row) → Option Asking
-asked_in own (Some found) = asked_of own found.0 found.1
-asked_in own None = None
+abbrev pub asked_in : Option (Text × List Row) → Option Asking
+asked_in (Some found) = asked_of found.0 found.1
+asked_in None = None
 
 -- what the command line asks to trim, if it names `PE` or `IL`
 unfoldable pub pairs_asked : List Text → Option Asking
-pairs_asked words = asked_in (is_own_call words) (subcommand_of program_app words)
+pairs_asked words = asked_in (subcommand_of program_app words)
 
 -- why the command line does not parse: the kinds of its first fault, help and the version among
 -- them, or none if it parses

@@ -24,8 +24,7 @@ pub struct Request<'a> {
     /// Whether the run waits at its end until the outputs are on their disk, whatever disk that is
     /// (`--sync`).
     pub sync: bool,
-    /// Whether a line on standard error says why (`--explain`). If the program is called
-    /// `tibzharuk` it does, unless `--no-explain` is given.
+    /// Whether a line on standard error says why (`--explain`).
     pub explain: bool,
     /// The input files.
     pub inputs: Inputs<'a>,

@@ -3,7 +3,7 @@
 ghost use Rattle.std.specs.Prelude.{◌≡◌, List, [], IfOk, IfErr, map, codes, option_map, unwrap_or};
 ghost use Rattle.clap.specs.Words.{Rule, all_of, app_of, found_of, rows_of, HasKind};
 ghost use Rattle.fq_cli.specs.Requests.{asking_of, names_of};
-ghost use Rattle.fq_cli.specs.Words.{default_rule, file_rule, flag_rule, number_rule, option_rule, option_rules, output_rules, steps_rule, trimming_app, pairs_app, interleaved_app, program_app, text_in, number_in, flag_in, is_own_name, is_own_call, explains, inputs_in, asking_in, asked_of, words_fault, asked_pairs, IsArg, IsCommand, AreArgs, AskedFor};
+ghost use Rattle.fq_cli.specs.Words.{default_rule, file_rule, flag_rule, number_rule, option_rule, option_rules, output_rules, steps_rule, trimming_app, pairs_app, interleaved_app, program_app, text_in, number_in, flag_in, inputs_in, asking_in, asked_of, words_fault, asked_pairs, IsArg, IsCommand, AreArgs, AskedFor};
 
 use crate::help;
 use crate::request::Request;
@@ -31,44 +31,20 @@ pub fn read_words<'a>(alloc: Global, words: &'a [&'a str]) -> Result<Asked<'a>, 
         (λ asked. AskedFor (map (λ word. word.now) words.entry.now) (asked_pairs asked)) }
     ensures err { IfErr result (HasKind (words_fault (map (λ word. word.now) words.entry.now))) }
 {
-    let own = is_own_call(words);
     let matches = command(alloc)?.try_get_matches_from(words)?;
     let Some((name, found)) = matches.subcommand() else {
         return Ok(Asked::Example);
     };
-    Ok(asked_of(alloc, own, name, found)?)
+    Ok(asked_of(alloc, name, found)?)
 }
 
-// Whether the command line begins with the program's own name, `tibzharuk`, and not with `fq_prog`
-// or another.
-fn is_own_call(words: &[&str]) -> bool
-    ensures { result ≡ is_own_call (map (λ word. word.now) words.now) }
-{
-    match words.first() {
-        Some(path) => is_own_name(path),
-        None => false,
-    }
-}
-
-// Whether this is the path of a program with that name.
-fn is_own_name(path: &str) -> bool
-    ensures { result ≡ is_own_name path.now }
-{
-    path == "tibzharuk" || path.as_bytes().ends_with(b"/tibzharuk")
-}
-
-// What the command with this name asks for, in a call by the program's own name or another.
-fn asked_of<'a>(
-    alloc: Global,
-    own: bool,
-    name: &str,
-    found: &ArgMatches<'a>,
-) -> Result<Asked<'a>, AllocError>
+// What the command with this name asks for.
+fn asked_of<'a>(alloc: Global, name: &str, found: &ArgMatches<'a>) -> Result<Asked<'a>, AllocError>
     ensures { IfOk result
-        (λ asked. asked_of own name.now (rows_of (found_of found.now)) ≡ asked_pairs asked) }
+        (λ asked. asked_of name.now (rows_of (found_of found.now)) ≡ asked_pairs asked) }
 {
     match inputs_of(name, found) {
-        Some(inputs) => Ok(Asked::Pairs(request(alloc, own, found, inputs)?)),
+        Some(inputs) => Ok(Asked::Pairs(request(alloc, found, inputs)?)),
         None => Ok(Asked::Example),
     }
 }
@@ -183,19 +159,8 @@ fn options<'a>(alloc: Global) -> Result<Vec<Arg<'a>>, AllocError>
     let sync = sync(alloc);
     let report = report(alloc);
     let explain = explain(alloc);
-    let unexplained = unexplained(alloc);
     Ok(vec![in alloc;
-        threads,
-        block,
-        depth,
-        chunk,
-        encoding,
-        log,
-        unchecked,
-        sync,
-        report,
-        explain,
-        unexplained,
+        threads, block, depth, chunk, encoding, log, unchecked, sync, report, explain,
     ]?)
 }
 
@@ -263,17 +228,7 @@ fn explain<'a>(alloc: Global) -> Arg<'a>
     Arg::new(alloc, "explain")
         .long("explain")
         .action(ArgAction::SetTrue)
-        .help("Gives the reason for an error in its line\n[default: only if called as tibzharuk]")
-}
-
-// The flag `--no-explain`.
-fn unexplained<'a>(alloc: Global) -> Arg<'a>
-    ensures { IsArg (flag_rule (codes "no-explain")) result }
-{
-    Arg::new(alloc, "no-explain")
-        .long("no-explain")
-        .action(ArgAction::SetTrue)
-        .help("Gives no reason, even if called as tibzharuk")
+        .help("Gives the reason for an error in its line\n[default: no reason]")
 }
 
 // An option that takes a number.
@@ -322,16 +277,14 @@ fn file<'a>(alloc: Global, id: &'a str, help: &'a str) -> Arg<'a>
     Arg::new(alloc, id).required(true).help(help)
 }
 
-// The request that the parsed arguments make with these inputs, in a call by the program's own name
-// or another.
+// The request that the parsed arguments make with these inputs.
 fn request<'a>(
     alloc: Global,
-    own: bool,
     found: &ArgMatches<'a>,
     inputs: Inputs<'a>,
 ) -> Result<Request<'a>, AllocError>
     ensures { IfOk result (λ request. asking_of request
-        ≡ asking_in own (names_of inputs.entry) (rows_of (found_of found.now))) }
+        ≡ asking_in (names_of inputs.entry) (rows_of (found_of found.now))) }
 {
     let encoding = text_of(found, "encoding");
     let threads = number_of(found, "threads");
@@ -340,7 +293,7 @@ fn request<'a>(
     let chunk = number_of(found, "chunk");
     let unchecked = flag_of(found, "no-name-check");
     let sync = flag_of(found, "sync");
-    let explain = explains(own, found);
+    let explain = flag_of(found, "explain");
     let forward_paired = text_of(found, "FP");
     let forward_unpaired = text_of(found, "FU");
     let reverse_paired = text_of(found, "RP");
@@ -392,13 +345,6 @@ fn number_of(found: &ArgMatches<'_>, id: &str) -> u64
     ensures { result ≡ number_in (rows_of (found_of found.now)) id.now }
 {
     found.get_one::<u64>(id).unwrap_or(0)
-}
-
-// Whether a line of an error says why.
-fn explains(own: bool, found: &ArgMatches<'_>) -> bool
-    ensures { result ≡ explains own (rows_of (found_of found.now)) }
-{
-    !flag_of(found, "no-explain") && (flag_of(found, "explain") || own)
 }
 
 // Whether a flag is given. `clap` writes it as `true` or `false`.

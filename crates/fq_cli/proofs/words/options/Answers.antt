@@ -22,10 +22,7 @@ returns c = subst (AreArgs option_rules) (sym c.in_ok-vec.ensures.items) (
                 c.sync-sync.ensures,
                 (
                   c.report-report.ensures,
-                  (
-                    c.explain-explain.ensures,
-                    (c.unexplained-unexplained.ensures, tt),
-                  ),
+                  (c.explain-explain.ensures, tt),
                 ),
               ),
             ),

@@ -1,8 +1,8 @@
-use Rattle.std.proofs.Common.{◌≡◌, ◌∙◌, ap, map, sym}
+use Rattle.std.proofs.Common.{◌∙◌, map}
 use Rattle.clap.specs.Words.{HasKind, found_of, rows_of, subcommand_rows_of}
 use Rattle.clap.specs.declared.error.Error.{Error}
 use Rattle.clap.proofs.TakesLemmas.{passed_up}
-use Rattle.fq_cli.specs.Words.{asked_of, is_own_call, words_fault}
+use Rattle.fq_cli.specs.Words.{words_fault}
 use Rattle.fq_cli.specs.declared.words.Asked.{Asked}
 use Rattle.fq_cli.proofs.WordLemmas.{found_in, parses_if, fails_by, name_met, met_is, not_met}
 use Rattle.fq_cli.proofs.words.read_words.Goals as goal
@@ -22,11 +22,10 @@ pub returns-in_default-clause-ok : goal.returns-in_default-clause-ok
 returns-in_default-clause-ok c =
     let words = map (λ word. word.now) c.args.words.now in
     let m = c.in_ok-matches.matches in
-    let own = is_own_call words in
     record {
       parse = parses_if _ words c.in_ok-command.ensures c.in_ok-matches.ensures.kinds;
       ask = found_in _ words m c.in_ok-command.ensures c.in_ok-matches.ensures.matches
-          ∙ not_met own (subcommand_rows_of m) (c.in_default.ensures.name ∙ name_met m);
+          ∙ not_met (subcommand_rows_of m) (c.in_default.ensures.name ∙ name_met m);
     }
 
 -- if a subcommand was found, the words parse, and ask for what it asks for
@@ -34,13 +33,11 @@ pub returns-clause-ok : goal.returns-clause-ok
 returns-clause-ok c =
     let words = map (λ word. word.now) c.args.words.now in
     let m = c.in_ok-matches.matches in
-    let own : is_own_call words ≡ c.is_own_call-own.result = sym c.is_own_call-own.ensures in
-    let met = met_is (is_own_call words) (subcommand_rows_of m) c.in-Some.name.now
+    let met = met_is (subcommand_rows_of m) c.in-Some.name.now
     (rows_of (found_of c.in-Some.found.now)) (c.in-Some.ensures.name
     ∙ name_met m) c.in-Some.ensures.rows in
     record {
       parse = parses_if _ words c.in_ok-command.ensures c.in_ok-matches.ensures.kinds;
       ask = found_in _ words m c.in_ok-command.ensures c.in_ok-matches.ensures.matches
-          ∙ (met ∙ ap (λ b. asked_of b c.in-Some.name.now (rows_of (found_of c.in-Some.found.now)))
-          own ∙ c.in_ok-asked_of.ensures);
+          ∙ (met ∙ c.in_ok-asked_of.ensures);
     }
