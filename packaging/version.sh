@@ -38,7 +38,8 @@ workflow/cwl/tibzharuk.cwl | ^ *version: \[" | "\]$
 workflow/cwl/tibzharuk.cwl | ^ *dockerImageId: tibzharuk: | $
 docs/GUIDE.md | `tibzharuk: | `
 python/tibzharuk/__init__.py | ^VERSION = " | "$
-tests/rehearsal/report_field.patch | "version": ?" | "\}$
+tests/rehearsal/column.patch | ^ let run reported [0-9]+: "version":" | "\}$
+tests/rehearsal/report_field.patch | ^ let run reported [0-9]+: "version":" | "\}$
 CITATION.cff | ^version: | $
 END
   while IFS= read -r file; do
@@ -50,7 +51,6 @@ END
 # The same of the day.
 days() {
   local name
-  printf 'CITATION.cff\t^date-released: \t$\n'
   for name in man/*.1; do printf '%s\t^\\.TH [A-Z_]+ 1 \t "Tibzharuk\n' "$name"; done
 }
 

@@ -99,7 +99,6 @@ check_version() {
   grep -qF "\"Tibzharuk $version\"" man/fq_prog.1 || fail "the manual page has another version than $version"
   grep -qx "Version: $version" contrib/tibzharuk_multiqc.egg-info/PKG-INFO || fail "the plugin of MultiQC has another version than $version"
   grep -qx "version: $version" CITATION.cff || fail "CITATION.cff has another version than $version"
-  grep -qx "## $version ($(sed -n 's/^date-released: //p' CITATION.cff))" CHANGELOG.md || fail 'CITATION.cff has another day than CHANGELOG.md'
   [ "$(dpkg-deb -f "$package" Maintainer)" = "${DEBFULLNAME:-Tibzharuk maintainers} <${DEBEMAIL:-root@localhost}>" ] || fail 'the package names another maintainer'
 }
 

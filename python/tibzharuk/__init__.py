@@ -14,4 +14,4 @@ Only the standard library is used, of Python 3.8 or later. What a subcommand nee
 it is called, since the import takes most of the time of a short run.
 """
 
-VERSION = "1.2.0"
+VERSION = "2.0.0"

@@ -18,11 +18,11 @@ baseCommand: [tibzharuk, trim]
 hints:
   # The image of `make image`, after it was loaded. It is in no registry.
   DockerRequirement:
-    dockerImageId: tibzharuk:1.2.0
+    dockerImageId: tibzharuk:2.0.0
   SoftwareRequirement:
     packages:
       tibzharuk:
-        version: ["1.2.0"]
+        version: ["2.0.0"]
   ResourceRequirement:
     coresMin: $(inputs.threads)
     ramMin: 1000

@@ -12,7 +12,7 @@ use fq_pair::Inputs;
 use std::alloc::{AllocError, Global};
 
 /// The program's version.
-pub const VERSION: &str = "1.2.0";
+pub const VERSION: &str = "2.0.0";
 
 /// What the command line asks for.
 #[derive(Drop)]

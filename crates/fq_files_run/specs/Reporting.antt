@@ -39,7 +39,7 @@ abbrev pub asked_facts : Asking → Encoding → List (List ℕ) → Option (Lis
     facts.Facts
 asked_facts a encoding steps fault counts tally = record {
   program = codes "fq_prog";
-  version = codes "1.2.0";
+  version = codes "2.0.0";
   inputs = a.inputs;
   forward_paired = a.forward_paired;
   forward_unpaired = a.forward_unpaired;
