@@ -6,7 +6,7 @@
 # - The first command of README.md runs, the first run of docs/GUIDE.md prints and writes what it
 #   shows, and the program of docs/LIBRARY.md runs.
 # - docs/ARCHITECTURE.md lists the crates and what they depend on as crates.txt does, and each name
-#   in docs/PROVED.md is in the code.
+#   in docs/PROVED.md is in the code. What the proof of the program rests on is what its check said.
 # - What is made of the help and of the schema of a report is as packaging/made.py makes it.
 # - The version and its day are those of CHANGELOG.md everywhere (packaging/version.sh).
 # - README.md has at most 200 lines, and each time and size in it is one of bench/README.md. The
@@ -209,6 +209,20 @@ compare_proved() {
   done < "$work/names"
 }
 
+# docs/PROVED.md has the count of axioms, and what the prover computes by its own routines, that the
+# check of the program printed when `make build` proved it.
+compare_trusted() {
+  local said=crates/fq_prog/out/proof
+  if [ ! -s "$said" ]; then
+    echo 'documents: what is trusted: skipped: make build has not proved the program here'
+    return
+  fi
+  grep -oE '\b(axioms|native)=[^ ]+' "$said" | sort > "$work/trusted"
+  sed -n '/^\*\*Trusted\*\*/,/^$/p' docs/PROVED.md | grep -oE '\b(axioms|native)=[a-z0-9,]*[a-z0-9]' | sort > "$work/named"
+  [ "$(wc -l < "$work/trusted")" -eq 2 ] || fail "the check of the program says: $(cat "$said")"
+  alike 'docs/PROVED.md trusts something else than the check of the program' "$work/trusted" "$work/named"
+}
+
 documents() {
   git ls-files --cached --others --exclude-standard -- '*.md' 2> /dev/null || find . -name '*.md' -not -path '*/out/*' -printf '%P\n'
 }
@@ -358,6 +372,7 @@ first_command
 first_run
 compare_crates
 compare_proved
+compare_trusted
 call_library
 compare_numbers
 count_definitions
