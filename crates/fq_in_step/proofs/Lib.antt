@@ -9,3 +9,4 @@ pub mod ReportListLemmas
 pub mod RemovedLemmas
 pub mod EverythingLemmas
 pub mod WorkedExamples
+pub mod FourLineLemmas

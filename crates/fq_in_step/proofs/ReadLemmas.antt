@@ -29,7 +29,8 @@ holds_at p [] i lt all = absurd (omega arith)
 holds_at p (x ∷ xs) zero lt all = (and_parts _ _ all).0
 holds_at p (x ∷ xs) (suc i) lt all = holds_at p xs i (omega arith) (and_parts _ _ all).1
 
-hold_at : (p : ℕ → Bool) (xs is : List ℕ) → Below (length xs) is → list_all p xs ≡ true →
+-- what holds of all bytes holds of those at some places of them
+pub hold_at : (p : ℕ → Bool) (xs is : List ℕ) → Below (length xs) is → list_all p xs ≡ true →
     list_all p (bytes_at is xs) ≡ true
 hold_at p xs [] below all = refl
 hold_at p xs (i ∷ is) below all = and_from _ _ (holds_at p xs i below.0 all)
@@ -59,7 +60,8 @@ few_kept (step ∷ steps) q ps =
 -- One read.
 
 module _ (steps : List Step) (read : Read) where
-  kept_below_read : length read.qual ≡ length read.seq →
+  -- the places that steps keep of a read are places of its bases
+  pub kept_below_read : length read.qual ≡ length read.seq →
       Below (length read.seq) (kept_places steps read)
   kept_below_read same =
       let q = scores read.encoding read.qual in

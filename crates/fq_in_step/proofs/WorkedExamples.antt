@@ -5,6 +5,7 @@ use Rattle.std.specs.List.{All}
 use Rattle.std.proofs.lemmas.List.Elements.{All-nil, All-cons}
 use Rattle.fq_text.specs.declared.encoding.Encoding.TheVariants.{Sanger, Illumina13}
 use Rattle.fq_text.specs.declared.fault.TextFault.TheVariants.{BadSequence}
+use Rattle.fq_text.specs.Lines.{pieces}
 use Rattle.fq_text.specs.Grammar.{Read}
 use Rattle.fq_text.specs.Records.{records}
 use Rattle.fq_trim.specs.declared.step.Step.{Step}
@@ -210,7 +211,18 @@ cut_to_a_mark : fault_following 1 (records Sanger (record_text (HeadCrop 1 ∷ [
     (read (codes "m") (codes "A@C") (codes "III")))) ≡ Some (BadSequence 1)
 cut_to_a_mark = refl
 
+-- it has four lines
+four_lines_of_it : pieces (record_text (HeadCrop 1 ∷ [])
+    (read (codes "m") (codes "A@C") (codes "III")))
+    ≡ codes "@m" ∷ codes "@C" ∷ codes "+" ∷ codes "II" ∷ []
+four_lines_of_it = refl
+
 -- a title that ends in CR loses it
 title_with_cr : records Sanger (record_text steps (read (codes "r\r") (codes "AC") (codes "II")))
     ≡ record { reads = read (codes "r") (codes "AC") (codes "II") ∷ []; fault = None }
 title_with_cr = refl
+
+-- it is in the first of its lines
+four_lines_with_cr : pieces (record_text steps (read (codes "r\r") (codes "AC") (codes "II")))
+    ≡ codes "@r\r" ∷ codes "AC" ∷ codes "+" ∷ codes "II" ∷ []
+four_lines_with_cr = refl

@@ -3,3 +3,4 @@ pub mod InStep
 pub mod Everything
 pub mod Reports
 pub mod ReportLists
+pub mod FourLines

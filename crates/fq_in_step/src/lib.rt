@@ -16,6 +16,9 @@ mod reads;
 mod reports;
 
 pub use everything::nothing_is_lost;
-pub use outputs::{inputs_give_pairs, mates_stay_in_step, pairs_go_one_way, texts_are_joined};
+pub use outputs::{
+    inputs_give_pairs, mates_stay_in_step, outputs_have_four_lines_each, pairs_go_one_way,
+    texts_are_joined,
+};
 pub use reads::{letters_are_plain, reads_stay_in_one_piece};
 pub use reports::{removed_bases_are_logged, report_lists_add_up, reports_add_up};

@@ -1,5 +1,6 @@
 //! Laws of the texts that are written for pairs.
 
+ghost use Rattle.fq_in_step.specs.FourLines.{OutputsAreFourLinesEach};
 ghost use Rattle.fq_in_step.specs.InStep.{InputsGivePairs, TextsAreInStep, PairsGoOneWay, TextsAreJoined, JoinedInAnyGroups};
 
 /// Mates stay in step.
@@ -33,4 +34,14 @@ pub fn pairs_go_one_way()
 pub fn texts_are_joined()
     ensures texts { TextsAreJoined }
     ensures groups { JoinedInAnyGroups }
+{}
+
+/// Each of the four outputs has four lines for each of its trimmed reads, in the order of the
+/// input, and no other line. So a program that takes four lines for a record gets exactly these
+/// reads, whatever their bases are.
+///
+/// The pairs must come from inputs ([`inputs_give_pairs`]). A CR at the end of a title is a part of
+/// its line.
+pub fn outputs_have_four_lines_each()
+    ensures { OutputsAreFourLinesEach }
 {}
