@@ -24,7 +24,7 @@ use Rattle.fq_files_run.specs.Leaving.{RefusalLeaves, ReportLeft, HoldFirstPairs
 use Rattle.fq_files_run.proofs.EndingLemmas.{done_is_whole, ends_so}
 use Rattle.fq_files_run.proofs.LeavingLemmas.{refusal_untrimmed, report_untrimmed, whole_first}
 use Rattle.fq_files_run.specs.Refusals.{status_of, IsRefusable}
-use Rattle.fq_app.specs.Answers.{Device, EndsWhole, IsRefusal, IsEnding, IsUnprinted, IsUntold, IsUnreported, IsReportLeft, IsReportUncut, LacksMemory, TookMemoryLine, TookText, NamesRefused, NamesDevice, PairsAnswered, Refuses, Reports, Tells, TookLine, memory_line, print_line}
+use Rattle.fq_app.specs.Answers.{Device, EndsWhole, IsRefusal, IsEnding, IsUnprinted, IsUntold, IsUnreported, IsReportLeft, IsReportUncut, LacksMemory, TookMemoryLine, TookText, NamesRefused, NamesDevice, PairsAnswered, Refuses, Tells, TookLine, memory_line, print_line}
 use Rattle.fq_files_run.specs.declared.refusal.Refusal.{Refusal}
 use Rattle.fq_files_run.specs.declared.seeing.EndingSeen.{EndingSeen}
 use Rattle.fq_files_run.specs.declared.reporting.Reported.{Reported}
@@ -550,13 +550,3 @@ pub told_memory : (asked : Option Asking) (seen : EndingSeen) (outcome : Outcome
 told_memory (Some a) seen outcome err five took =
     ending_memory a seen (settled outcome) err five took
 told_memory None seen outcome err five took = plain_memory (settled outcome) err five took
-
--- at an outcome of status 6, status 5 is that of refused memory for its line
-pub reports_lack : (text : List ℕ) (outcome : Outcome) (out err : Device) (status : ℕ) →
-    outcome_status outcome ≡ 6 → Reports text outcome out err status → status ≡ 5 →
-    LacksMemory err status
-reports_lack text outcome out err status six (inl told) five =
-    absurd (omega (arith, told.0, six, five))
-reports_lack text outcome out err status six (inr (inl unprinted)) five =
-    absurd (omega (arith, unprinted.1.1, five))
-reports_lack text outcome out err status six (inr (inr untold)) five = untold.1

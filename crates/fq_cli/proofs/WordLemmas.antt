@@ -1,6 +1,6 @@
 -- What `clap` finds in arguments, and the commands by which it parses them.
 use Rattle.std.proofs.Common.{◌≡◌, ◌≢◌, ◌∙◌, ◌&&◌, ◌||◌, ◌<◌, ◌^◌, ℕ, Bool, true, false, true≢false, refl, sym, ap, ap₂, subst, arith, List, [], ◌∷◌, length, Option, Some, None, Result, Ok, Err, codes, nat_lt, nat_le, lt-ltb, ltb-true, if◌then◌else◌}
-use Rattle.std.specs.Prelude.{unwrap_or, option_map, IsSomeAnd, Box}
+use Rattle.std.specs.Prelude.{unwrap_or, option_map, Box}
 use Rattle.std.specs.List.{list_all}
 use Rattle.std.specs.Result.{result_unwrap_or}
 use Rattle.std.specs.Char.{digit_value}
@@ -114,11 +114,6 @@ pub not_met : (found : Option (Text × List Row)) → None ≡ option_map (λ p.
     asked_in found ≡ None
 not_met None none = refl
 not_met (Some found) none = absurd cc
-
--- a value that is there
-pub some_is : {X : Type 0} (o : Option X) (x : X) → IsSomeAnd o (λ y. y ≡ x) → o ≡ Some x
-some_is (Some y) x e = ap Some e
-some_is None x e = absurd e
 
 -- ---- numbers
 

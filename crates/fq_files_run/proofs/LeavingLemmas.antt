@@ -20,7 +20,7 @@ use Rattle.fq_files_run.specs.declared.refusal.Refusal.{Refusal}
 use Rattle.fq_files_run.specs.declared.refusal.Refusal.TheVariants as why
 use Rattle.fq_cli.specs.Requests.{Asking, InputNames}
 use Rattle.fq_files_run.specs.Trimming.{IsNoOutput, TrimsFiles, pairs_of}
-use Rattle.fq_files_run.specs.Leaving.{AreUntrimmed, RefusalLeaves, ReportLeft, TellsInputs, is_early, is_late, IsTold, HoldFirstPairs}
+use Rattle.fq_files_run.specs.Leaving.{AreUntrimmed, RefusalLeaves, ReportLeft, TellsInputs, is_late, IsTold, HoldFirstPairs}
 use Rattle.fq_files_run.proofs.MakingLemmas.{output_or_none, stops_untrimmed}
 
 -- The outlets took the texts of the first pairs, whose block was written whole. If a write failed
@@ -54,32 +54,6 @@ first_of c run every told = record {
 }
 
 -- ---- refusals
-
--- a refusal before the outputs are made leaves the files unchanged
-pub leaves_unchanged : (a : Asking) (refusal : Refusal) (old new : Holding) →
-    IsTrue (is_early refusal) → IsUnchanged old new → RefusalLeaves a refusal old new
-leaves_unchanged a why.Encoding old new early same = same
-leaves_unchanged a (why.Step fault) old new early same = same
-leaves_unchanged a (why.Setting bad) old new early same = same
-leaves_unchanged a (why.SameName out) old new early same = same
-leaves_unchanged a (why.Source side cause) old new early same = same
-leaves_unchanged a (why.Target out cause) old new early same = absurd (cc early)
-leaves_unchanged a why.SameReport old new early same = same
-leaves_unchanged a (why.Report cause) old new early same = absurd (cc early)
-leaves_unchanged a (why.Memory lacked) old new early same = λ out name named. inl (same name)
-
--- an output or the report that leads to an input is refused, and the files are unchanged
-pub spares_all : (a : Asking) (refusal : Refusal) (old new : Holding) → IsTrue (is_late refusal) →
-    IsUnchanged old new → RefusalLeaves a refusal old new
-spares_all a (why.Target out cause) old new late same = inr same
-spares_all a (why.Report cause) old new late same = inr same
-spares_all a (why.Memory lacked) old new late same = λ out name named. inl (same name)
-spares_all a why.Encoding old new late same = absurd (cc late)
-spares_all a (why.Step fault) old new late same = absurd (cc late)
-spares_all a (why.Setting bad) old new late same = absurd (cc late)
-spares_all a (why.SameName out) old new late same = absurd (cc late)
-spares_all a (why.Source side cause) old new late same = absurd (cc late)
-spares_all a why.SameReport old new late same = absurd (cc late)
 
 -- a refusal after the inputs are opened says only that both inputs exist
 pub tells_late : (inputs : InputNames) (refusal : Refusal) (old : FilesState)

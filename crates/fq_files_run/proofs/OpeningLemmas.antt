@@ -1,7 +1,6 @@
 -- What a refusal leaves, in the order in which inputs are opened and outputs are made.
-use Rattle.std.proofs.Common.{◌≡◌, ◌≢◌, ◌⊎◌, ◌∙◌, ℕ, Bool, true, false, IsTrue, IsSome, Option, Some, None, is_some, option_map, Ok, Err, Result, List, [], refl, sym, ap, subst, inl, inr, ⊎_elim}
-use Rattle.std.specs.Prelude.{IfSome, if◌then◌else◌, unwrap_or}
-use Rattle.fq_text.specs.Devices.{OutletState}
+use Rattle.std.proofs.Common.{◌≡◌, ◌≢◌, ◌⊎◌, ◌∙◌, ℕ, Bool, true, false, IsTrue, IsSome, Option, Some, None, option_map, Ok, Err, Result, List, refl, sym, ap, subst, inl, inr, ⊎_elim}
+use Rattle.std.specs.Prelude.{if◌then◌else◌, unwrap_or}
 use Rattle.fq_text.specs.Scores.{encoding_of}
 use Rattle.fq_files.specs.Holding.{Holding, KeepsNames}
 use Rattle.fq_files.specs.States.{FilesState, Names, MayRefuse, OnlyOpens, OnlyWrites}
@@ -25,7 +24,7 @@ use Rattle.fq_files_run.specs.declared.refusal.Refusal.{Refusal}
 use Rattle.fq_files_run.specs.declared.refusal.Refusal.TheVariants as why
 use Rattle.fq_files_run.specs.Refusals.{status_of, IsMemory, IsRefusable, IsSource, IsTarget, IsReport}
 use Rattle.fq_files_run.specs.Judging.{choices_of, judged, with_steps, with_encoding, settings_of, wrong_among, wrong_with}
-use Rattle.fq_files_run.specs.Trimming.{Opened, IsNoOutput, KeepsUnnamed, AreFed, IsEmptyOutlet}
+use Rattle.fq_files_run.specs.Trimming.{Opened, IsNoOutput, KeepsUnnamed, AreFed}
 use Rattle.fq_files_run.specs.Leaving.{AreThere, TellsInputs, RefusalLeaves, ReportLeft, is_late}
 use Rattle.fq_files_run.specs.Making.{Made, AreOutputsRefused, IsOutputRefused}
 use Rattle.fq_files_run.specs.Opening.{IsMade, IsRefused, IsUnopened, MayLead}
@@ -357,25 +356,6 @@ leads_nowhere a before after same outputs report name made leads =
     (λ named. clash (before name) led (report name named)) made
 
 -- ---- which files exist
-
--- what is made of an optional value is there just if the value is
-pub is_some_map : {X Y : Type 0} (f : X → Y) (o : Option X) → is_some (option_map f o) ≡ is_some o
-is_some_map f None = refl
-is_some_map f (Some x) = refl
-
--- an outlet that has not failed, if there is one, has a state without failures
-pub fresh_map : {X : Type 0} (state : X → OutletState) (o : Option X) →
-    IfSome o (λ x. (state x).failures ≡ 0) →
-    IfSome (option_map state o) (λ outlet. outlet.failures ≡ 0)
-fresh_map state None fresh = fresh
-fresh_map state (Some x) fresh = fresh
-
--- an outlet that tells its bytes and has taken none, if there is one, has an empty state
-pub empty_map : {X : Type 0} (state : X → OutletState) (o : Option X) →
-    IfSome o (λ x. IsTrue (state x).tells) → IfSome o (λ x. (state x).taken ≡ []) →
-    IfSome (option_map state o) IsEmptyOutlet
-empty_map state None tells taken = tells
-empty_map state (Some x) tells taken = record { tells = tells; taken = taken }
 
 -- ---- the reverse input
 

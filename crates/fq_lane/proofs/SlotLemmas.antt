@@ -24,11 +24,6 @@ module _ {T : Type 0} where
   slots-mark [] = refl
   slots-mark (y ∷ xs) = ap (λ ss. Item y ∷ ss) (slots-mark xs)
 
-  items-slots : (xs : List T) (b : Bool) → items_of (slots_of xs b) ≡ xs
-  items-slots [] false = refl
-  items-slots [] true = refl
-  items-slots (x ∷ xs) b = ap (λ ys. x ∷ ys) (items-slots xs b)
-
   -- one more item
   pub item_items : (ss ts : List (Slot T)) (x : T) → IsHistory ss false → ts ≡ ss ++ Item x ∷ [] →
       items_of ts ≡ items_of ss ++ x ∷ []

@@ -1,10 +1,8 @@
 -- The end of a mate's name in its title.
-use Rattle.std.proofs.Common.{◌≡◌, ℕ, zero, suc, ◌+◌, ◌-◌, ◌<◌, ◌≤◌, true, false, eqb, nat_eq, Option, Some, None, unwrap_or, MatchOption, List, [], ◌∷◌, length, take, drop, get_or, zero-le, refl, ap, sym, ◌∙◌, arith, inl, inr, ⊎_elim}
-use Rattle.std.specs.Borrow.{Bor}
+use Rattle.std.proofs.Common.{◌≡◌, ℕ, zero, suc, ◌-◌, ◌<◌, ◌≤◌, true, false, eqb, nat_eq, Option, Some, None, unwrap_or, List, [], ◌∷◌, length, take, get_or, zero-le, refl, ap, sym, ◌∙◌, arith, inl, inr}
 use Rattle.std.specs.List.{before_first, position_or_len, ends_with}
-use Rattle.std.specs.Cmp.Lexicographic.{pointwise}
 use Rattle.std.specs.Str.{bytes_eq}
-use Rattle.std.proofs.lemmas.Bool.{cond-true, cond-false, cond_both, cases_Bool, cases_lt, eqb-true, eq-eqb, false_from_ne_true}
+use Rattle.std.proofs.lemmas.Bool.{cond_both, cases_lt, false_from_ne_true}
 use Rattle.std.proofs.lemmas.Bool.Decides.{same_from_decides, Decides-eqb, Decides-like}
 use Rattle.std.proofs.lemmas.Grind.{same_number_lists}
 use Rattle.std.proofs.lemmas.List.{length-take, get_or-take, take-take}
@@ -77,34 +75,6 @@ word_beside title word is some within like last end =
     ])
     end))
 
-eqb_sym : (a b : ℕ) → eqb a b ≡ eqb b a
-eqb_sym a b = ⊎_elim
-    (λ same. same ∙ sym (eq-eqb b a (sym (eqb-true a b same))))
-    (λ other. other
-    ∙ sym (false_from_ne_true (eqb b a) (λ same. absurd (let h =
-    eq-eqb a b (sym (eqb-true b a same)) in cc))))
-    (cases_Bool (eqb a b))
-
-pointwise_sym : (xs ys : List ℕ) → pointwise nat_eq xs ys ≡ pointwise nat_eq ys xs
-pointwise_sym [] [] = refl
-pointwise_sym [] (y ∷ ys) = refl
-pointwise_sym (x ∷ xs) [] = refl
-pointwise_sym (x ∷ xs) (y ∷ ys) = let a = eqb_sym x y in let b = pointwise_sym xs ys in cc
-
--- what is left after a suffix is removed
-pub stripped : (mark word : List ℕ) (r : Option (Bor (List ℕ))) (d : Bor (List ℕ)) → d.now ≡ word →
-    MatchOption r (pointwise nat_eq (drop (length word - length mark) word) mark ≡ false)
-    (λ x. (pointwise nat_eq (drop (length word - length mark) word) mark ≡ true)
-    × (x.now ≡ take (length word - length mark) word)
-    × (length x.now + length mark ≡ length word)) →
-    (unwrap_or r d).now ≡ without_end mark word
-stripped mark word None d is cases =
-    is ∙ sym (cond-false _ (take (length word - length mark) word) word (pointwise_sym mark
-    (drop (length word - length mark) word) ∙ cases))
-stripped mark word (Some x) d is cases =
-    cases.1 ∙ sym (cond-true _ (take (length word - length mark) word) word (pointwise_sym mark
-    (drop (length word - length mark) word) ∙ cases.0))
-
 -- A word without an ending is a prefix of it.
 get_or-without_end : (ending word : List ℕ) (k : ℕ) → k < length (without_end ending word) →
     get_or (without_end ending word) k 0 ≡ get_or word k 0
@@ -136,12 +106,6 @@ without_end_front ending word =
     ≡ name)
     (λ ends. take_front (length word - length ending) word)
     (λ other. take-length word)
-
--- a name is not longer than its title
-pub length-name : (side : Side) (title : List ℕ) → length (name_of side title) ≤ length title
-length-name side title =
-    let n = position_or_len is_gap title in
-    omega (arith, length-without_end (mark_of side) (take n title), length-take n title)
 
 -- the first bytes of a title, as many as its name has, are the name
 pub name_front : (side : Side) (title : List ℕ) →

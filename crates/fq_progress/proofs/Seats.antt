@@ -19,11 +19,6 @@ pub changed_each : (P : ℕ → Seat → Type 0) (j : ℕ) (q : Seat) (seats : �
     ((i : ℕ) → (i ≡ j → ⊥) → P i (seats i)) → (i : ℕ) → P i (changed j q seats i)
 changed_each P j q seats here away i = each_by P j q seats i (i == j) refl here (away i)
 
--- what holds of the changed seat, and of each old one, holds at each number
-pub changed_all : (P : ℕ → Seat → Type 0) (j : ℕ) (q : Seat) (seats : ℕ → Seat) → P j q →
-    ((i : ℕ) → P i (seats i)) → (i : ℕ) → P i (changed j q seats i)
-changed_all P j q seats here all = changed_each P j q seats here (λ i other. all i)
-
 changed_here : (j : ℕ) (q : Seat) (seats : ℕ → Seat) → changed j q seats j ≡ q
 changed_here j q seats = ap (λ b. cond b q (seats j)) (same_number j)
 

@@ -1,12 +1,11 @@
 -- Facts that name the columns one by one. Those of the rows of one column are in PositionLemmas and
 -- FewLemmas.
-use Rattle.std.proofs.Common.{◌≡◌, ℕ, ◌+◌, ◌*◌, ◌<◌, ◌≤◌, Bool, true, nat_le, List, [], ◌∷◌, ◌++◌, length, take, map, get_or, replicate, min, refl, ap, ap₂, sym, ◌∙◌, arith, max, codes}
+use Rattle.std.proofs.Common.{◌≡◌, ℕ, ◌+◌, ◌*◌, ◌<◌, ◌≤◌, Bool, true, nat_le, List, [], ◌∷◌, ◌++◌, length, take, map, get_or, replicate, min, refl, ap, ap₂, sym, ◌∙◌, arith, max}
 use Rattle.std.specs.List.{All, list_all}
 use Rattle.std.proofs.lemmas.List.{take_more, length-take-le, length-map, map-append}
 use Rattle.std.proofs.lemmas.Bool.{and_from}
 use Rattle.std.proofs.lemmas.List.Elements.{All-cons, All-nil}
 use Rattle.fq_text.specs.declared.encoding.Encoding.{Encoding}
-use Rattle.fq_text.specs.declared.encoding.Encoding.TheVariants.{Sanger, Solexa}
 use Rattle.fq_text.specs.Scores.{is_scored, value_of}
 use Rattle.fq_text.proofs.ScoreLemmas.{at_place}
 use Rattle.fq_trim.specs.Keeping.{scores}
@@ -52,10 +51,6 @@ columns_none x =
     columns_same (columns_plus x no_columns) x
     (plus_none x.bases) (plus_none x.score_sum) (plus_none x.q30_bases) (plus_none x.a)
     (plus_none x.c) (plus_none x.g) (plus_none x.t) (plus_none x.n)
-
--- columns added to those of no bases are the same columns
-pub none_columns : (x : Columns) → columns_plus no_columns x ≡ x
-none_columns x = columns_same (columns_plus no_columns x) x refl refl refl refl refl refl refl refl
 
 -- Sums in another order.
 pub columns_swap : (x y z : Columns) → columns_plus (columns_plus x y) z ≡ columns_plus
@@ -305,13 +300,6 @@ module _ (x : Columns) (rows len len' reads at : ℕ) (e : Encoding) (s q : List
 
 -- Packed columns.
 
--- columns, packed one by one, are their tables
-pub columns_packed : (ts : List (List ℕ)) (t : Columns) →
-    ts ++ (t.bases ∷ []) ++ (t.score_sum ∷ []) ++ (t.q30_bases ∷ []) ++ (t.a ∷ [])
-    ++ (t.c ∷ []) ++ (t.g ∷ []) ++ (t.t ∷ []) ++ (t.n ∷ []) ≡ ts ++ columns_tables t
-columns_packed [] t = refl
-columns_packed (u ∷ ts) t = ap (λ us. u ∷ us) (columns_packed ts t)
-
 -- A property of each column.
 
 pub record OfEach (P : List ℕ → Type 0) (x : Columns) : Type 0 where
@@ -370,36 +358,3 @@ each_listed P x each =
     let s = All-cons P x.score_sum (x.q30_bases ∷ x.a ∷ x.c ∷ x.g ∷ x.t ∷ x.n ∷ []) each.score_sum q
     in
     All-cons P x.bases (x.score_sum ∷ x.q30_bases ∷ x.a ∷ x.c ∷ x.g ∷ x.t ∷ x.n ∷ []) each.bases s
-
--- Worked reads, computed from the definition alone.
-
--- The scores 30, 29 and 2.
-three_bases : columns_of (record { encoding = Sanger; seq = codes "aGN"; qual = codes "?>#" })
-    ≡ record {
-      bases = 1 ∷ 1 ∷ 1 ∷ [];
-      score_sum = 30 ∷ 29 ∷ 2 ∷ [];
-      q30_bases = 1 ∷ 0 ∷ 0 ∷ [];
-      a = 1 ∷ 0 ∷ 0 ∷ [];
-      c = 0 ∷ 0 ∷ 0 ∷ [];
-      g = 0 ∷ 1 ∷ 0 ∷ [];
-      t = 0 ∷ 0 ∷ 0 ∷ [];
-      n = 0 ∷ 0 ∷ 1 ∷ [];
-    }
-three_bases = refl
-
--- Byte 59 is the Solexa score -5, the Phred score 1. An S is a base and no letter that is counted.
-third_base : columns_from 2 Solexa (codes "S") (codes ";") ≡ record {
-  bases = 0 ∷ 0 ∷ 1 ∷ [];
-  score_sum = 0 ∷ 0 ∷ 1 ∷ [];
-  q30_bases = 0 ∷ 0 ∷ 0 ∷ [];
-  a = 0 ∷ 0 ∷ 0 ∷ [];
-  c = 0 ∷ 0 ∷ 0 ∷ [];
-  g = 0 ∷ 0 ∷ 0 ∷ [];
-  t = 0 ∷ 0 ∷ 0 ∷ [];
-  n = 0 ∷ 0 ∷ 0 ∷ [];
-}
-third_base = refl
-
-two_reads : (columns_plus (columns_from 0 Sanger (codes "TT") (codes "II"))
-    (columns_from 0 Sanger (codes "t") (codes "!"))).t ≡ 2 ∷ 1 ∷ []
-two_reads = refl

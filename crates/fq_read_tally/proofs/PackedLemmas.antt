@@ -1,12 +1,11 @@
 -- Tables in lists, one after the other.
-use Rattle.std.proofs.Common.{◌≡◌, ℕ, zero, suc, ◌+◌, ◌<◌, ◌≤◌, List, [], ◌∷◌, ◌++◌, length, take, drop, set, get_or, refl, ap, ap₂, sym, subst, ◌∙◌, arith, add-one, ⊎_elim}
-use Rattle.std.proofs.lemmas.List.{append-nil, length-append, take-append-le, drop-append-le, take_all, drop_all, get_or_past}
+use Rattle.std.proofs.Common.{◌≡◌, ℕ, ◌+◌, ◌<◌, ◌≤◌, List, [], ◌∷◌, ◌++◌, length, take, drop, get_or, refl, ap, ap₂, ◌∙◌, arith, ⊎_elim}
+use Rattle.std.proofs.lemmas.List.{length-append, take-append-le, drop-append-le, take_all, drop_all, get_or_past}
 use Rattle.std.proofs.lemmas.Bool.{cases_lt}
 use Rattle.fq_read_tally.specs.declared.tables.Head.{Head}
 use Rattle.fq_read_tally.specs.declared.tables.Width.{Width}
 use Rattle.fq_read_tally.specs.declared.tables.Width.TheVariants.{Bytes, Words, Longs}
 use Rattle.fq_read_tally.specs.Counting.{AtMost}
-use Rattle.fq_read_tally.specs.Tables.{first_table, after_first}
 use Rattle.fq_read_tally.specs.Packed.{of_width, bytes_after, words_after, longs_after, tables_in, AreWhole, bytes_of, words_of, longs_of}
 
 -- Lists with more behind them.
@@ -99,67 +98,6 @@ pub one_table : (v : Width) (n : ℕ) (counts : List ℕ) → n ≡ length count
 one_table Bytes n counts is = ap (λ t. t ∷ []) (take_all n counts (omega arith))
 one_table Words n counts is = ap (λ t. t ∷ []) (take_all n counts (omega arith))
 one_table Longs n counts is = ap (λ t. t ∷ []) (take_all n counts (omega arith))
-
--- One count more is written.
-written : (old counts : List ℕ) (i x : ℕ) → length old ≡ length counts → i < length counts →
-    x ≡ get_or counts i x →
-    set (take i counts ++ drop i old) i x ≡ take (suc i) counts ++ drop (suc i) old
-written [] [] i x same below read = absurd (omega arith)
-written [] (c ∷ cs) i x same below read = absurd (omega arith)
-written (o ∷ os) [] i x same below read = absurd (omega arith)
-written (o ∷ os) (c ∷ cs) zero x same below read = ap (λ y. y ∷ os) read
-written (o ∷ os) (c ∷ cs) (suc i) x same below read =
-    ap (λ ys. c ∷ ys) (written os cs i x (omega arith) (omega arith) read)
-
--- after count i is written, the first i + 1 are
-pub written_next : (old counts now : List ℕ) (i x : ℕ) → length old ≡ length counts →
-    i < length counts → now ≡ take i counts ++ drop i old → x ≡ get_or counts i x →
-    set now i x ≡ take (i + 1) counts ++ drop (i + 1) old
-written_next old counts now i x same below so_far read =
-    ap (λ ys. set ys i x) so_far ∙ written old counts i x same below read
-    ∙ ap (λ n. take n counts ++ drop n old) (sym (add-one i))
-
--- once all counts are written, nothing is left of what was there before
-pub written_all : (old counts : List ℕ) → length old ≡ length counts → (n : ℕ) → n ≡ length counts →
-    take n counts ++ drop n old ≡ counts
-written_all old counts same n is =
-    ap₂ (λ xs ys. xs ++ ys) (take_all n counts (omega arith)) (drop_all n old (omega arith))
-    ∙ append-nil counts
-
--- The first table is read, which has this width.
-pub record Reads (h : Head) (rest : List Head) (v : Width) (b w l : List ℕ)
-    (ts : List (List ℕ)) : Type 0 where
-  -- it has no more rows than a histogram
-  pub few : h.rows ≤ 10002
-  -- the list of its width has all of its rows
-  pub room : h.rows ≤ length (of_width v b w l)
-  -- they are the first table
-  pub table : take h.rows (of_width v b w l) ≡ first_table ts
-  -- the other heads hold the tables after it
-  pub left : tables_in rest (bytes_after v h.rows b) (words_after v h.rows w)
-      (longs_after v h.rows l) ≡ after_first ts
-  -- the lists hold all rows of those, and no more
-  pub whole : AreWhole rest (bytes_after v h.rows b) (words_after v h.rows w)
-      (longs_after v h.rows l)
-
-first_reads : (rest : List Head) (h : Head) (b w l : List ℕ) → AreWhole (h ∷ rest) b w l →
-    Reads h rest h.width b w l (tables_in (h ∷ rest) b w l)
-first_reads rest h b w l whole = record {
-  few = whole.0;
-  room = whole.1;
-  table = refl;
-  left =
-      refl;
-  whole = whole.2;
-}
-
--- the first head, if it has this width, is read as the first table
-pub reads_first : (hs rest : List Head) (h : Head) (v : Width) (b w l : List ℕ) → hs ≡ h ∷ rest →
-    h.width ≡ v → AreWhole hs b w l → Reads h rest v b w l (tables_in hs b w l)
-reads_first hs rest h v b w l is width whole =
-    subst (λ (u : Width). Reads h rest u b w l (tables_in hs b w l)) width
-    (subst (λ (gs : List Head). AreWhole gs b w l →
-    Reads h rest h.width b w l (tables_in gs b w l)) (sym is) (first_reads rest h b w l) whole)
 
 -- No count is above the largest.
 pub all_at_most : (counts : List ℕ) (n most limit : ℕ) → length counts ≤ n → most ≤ limit →

@@ -1,5 +1,5 @@
 -- Lines with a reason, and lines without.
-use Rattle.std.proofs.Common.{◌≡◌, ◌∙◌, ◌++◌, ℕ, Bool, true, false, Option, Some, None, List, codes, refl, ap, sym}
+use Rattle.std.proofs.Common.{◌≡◌, ◌∙◌, ◌++◌, ℕ, Bool, true, Option, Some, List, codes, refl, ap, sym}
 use Rattle.fq_text.specs.Written.{line}
 use Rattle.fq_run_core.specs.declared.outcome.Outcome.{Outcome}
 use Rattle.fq_run_core.specs.declared.outcome.Outcome.TheVariants.{Spawn, Lane, Gate, Memory, Write, Read, Endless, Input, Finished}
@@ -9,20 +9,6 @@ use Rattle.fq_files_run.specs.declared.seeing.EndingSeen.{EndingSeen}
 use Rattle.fq_reasons.specs.Ended.{ending_reason}
 use Rattle.fq_reasons.specs.Lines.{explained, ending_line_when}
 
--- if no reason is asked for, none is added to the words
-pub unasked : (b : Bool) (words : List ℕ) (reason : Option (List ℕ)) → b ≡ false →
-    explained b words reason ≡ words
-unasked b words reason e = ap (λ (x : Bool). explained x words reason) e
-
--- if no reason is known, none is added to the words
-pub unknown : (b : Bool) (words : List ℕ) (reason : Option (List ℕ)) → reason ≡ None →
-    explained b words reason ≡ words
-unknown b words reason none = ap (explained b words) none ∙ go b
-  where
-    go : (x : Bool) → explained x words None ≡ words
-    go true = refl
-    go false = refl
-
 -- a reason that is asked for and known is added to the words
 pub known : (b : Bool) (words : List ℕ) (reason : Option (List ℕ)) (text : List ℕ) → b ≡ true →
     reason ≡ Some text → explained b words reason ≡ words ++ codes ": " ++ text
@@ -30,49 +16,6 @@ known b words reason text e is = ap (explained b words) is
     ∙ ap (λ (x : Bool). explained x words (Some text)) e
 
 -- The line of an outcome.
-
--- if no reason is asked for, the line of an outcome has none
-pub unasked_ending : (a : Asking) (seen : EndingSeen) (o : Outcome) → a.explain ≡ false →
-    ending_line_when a seen o ≡ line_when o
-unasked_ending a seen Finished e = refl
-unasked_ending a seen Spawn e =
-    ap line (unasked a.explain (outcome_words Spawn) (ending_reason a seen Spawn) e)
-unasked_ending a seen Lane e =
-    ap line (unasked a.explain (outcome_words Lane) (ending_reason a seen Lane) e)
-unasked_ending a seen Gate e = ap line (unasked a.explain (outcome_words Gate) None e)
-unasked_ending a seen Memory e =
-    ap line (unasked a.explain (outcome_words Memory) (ending_reason a seen Memory) e)
-unasked_ending a seen (Write out) e =
-    ap line (unasked a.explain (outcome_words (Write out)) (ending_reason a seen (Write out)) e)
-unasked_ending a seen (Read side) e =
-    ap line (unasked a.explain (outcome_words (Read side)) (ending_reason a seen (Read side)) e)
-unasked_ending a seen (Endless side) e =
-    ap line (unasked a.explain (outcome_words (Endless side)) (ending_reason a seen (Endless side))
-    e)
-unasked_ending a seen (Input fault) e =
-    ap line (unasked a.explain (outcome_words (Input fault)) (ending_reason a seen (Input fault)) e)
-
--- if no reason is known, the line of an outcome has none
-pub unknown_ending : (a : Asking) (seen : EndingSeen) (o : Outcome) →
-    ending_reason a seen o ≡ None → ending_line_when a seen o ≡ line_when o
-unknown_ending a seen Finished none = refl
-unknown_ending a seen Spawn none =
-    ap line (unknown a.explain (outcome_words Spawn) (ending_reason a seen Spawn) none)
-unknown_ending a seen Lane none =
-    ap line (unknown a.explain (outcome_words Lane) (ending_reason a seen Lane) none)
-unknown_ending a seen Gate none = ap line (unknown a.explain (outcome_words Gate) None refl)
-unknown_ending a seen Memory none =
-    ap line (unknown a.explain (outcome_words Memory) (ending_reason a seen Memory) none)
-unknown_ending a seen (Write out) none =
-    ap line (unknown a.explain (outcome_words (Write out)) (ending_reason a seen (Write out)) none)
-unknown_ending a seen (Read side) none =
-    ap line (unknown a.explain (outcome_words (Read side)) (ending_reason a seen (Read side)) none)
-unknown_ending a seen (Endless side) none =
-    ap line (unknown a.explain (outcome_words (Endless side)) (ending_reason a seen (Endless side))
-    none)
-unknown_ending a seen (Input fault) none =
-    ap line (unknown a.explain (outcome_words (Input fault)) (ending_reason a seen (Input fault))
-    none)
 
 -- an outcome that has a reason has a line, to which the reason is added
 pub record IsAdded (a : Asking) (seen : EndingSeen) (o : Outcome) (text : List ℕ) : Type 0 where

@@ -83,9 +83,6 @@ module _ (c : Choices) (f : FeedState) (s : SideState) (n : ℕ)
 -- Both sides.
 
 module _ (form : Form) (c : Choices) (f r : FeedState) where
-  abbrev fresh : SourceState
-  fresh = fresh_source form c f r
-
   -- all pairs
   abbrev pub all_of : Pairs
   all_of = pairs_in form c.check_names c.encoding 0 f.to_come r.to_come

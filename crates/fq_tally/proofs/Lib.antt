@@ -1,4 +1,3 @@
 pub mod ResultLemmas
 pub mod PlusLaws
 pub mod WorkedExamples
-pub mod PackingLemmas

@@ -9,7 +9,7 @@ use Rattle.std.proofs.lemmas.Bool.{cond-true, cond-false, cases_Bool, cases_lt, 
 use Rattle.fq_text.specs.declared.encoding.Encoding.{Encoding}
 use Rattle.fq_text.specs.declared.encoding.Encoding.TheVariants.{Sanger, Illumina13, Solexa}
 use Rattle.fq_text.specs.declared.encoding.TheConstants.{PHRED_OF_SOLEXA}
-use Rattle.fq_text.specs.Scores.{lowest, offset, is_scored, low_solexa, phred_of_solexa, value_at, value_of, recoded, encoding_name, encoding_of, NamesAreInverse}
+use Rattle.fq_text.specs.Scores.{lowest, is_scored, low_solexa, phred_of_solexa, value_of, recoded, encoding_name, encoding_of, NamesAreInverse}
 
 -- what holds of each member holds of the one at an index
 pub at_place : (p : ℕ → Bool) (xs : List ℕ) (i : ℕ) → list_all p xs ≡ true → i < length xs →
@@ -67,14 +67,6 @@ table_at k b is place =
     let byte : k + 59 ≡ b = omega arith in
     eqb-true _ _ (agree_below_at in_table (λ k. true) 68 k table_below (omega arith))
     ∙ ap phred_of_solexa byte
-
--- a byte is its score and the offset
-pub with_offset : (e : Encoding) (added b : ℕ) → Some added ≡ offset e → added ≤ lowest e →
-    is_scored e b ≡ true → value_of e b + added ≡ b
-with_offset e added b is low scored =
-    let least = leb-true (lowest e) b (and_parts _ _ scored).0 in
-    let value : value_of e b ≡ b - added = ap (λ o. value_at o b) (sym is) in
-    omega arith
 
 -- a score at offset 33 is one of Sanger's encoding
 pub recoded_scored : (e : Encoding) (b : ℕ) → is_scored e b ≡ true →

@@ -1,4 +1,4 @@
-use Rattle.std.proofs.Common.{◌≡◌, ℕ, ◌+◌, ◌-◌, Bool, not, cond, Some, List, length, min, ap, ap₂, sym, ◌∙◌, arith}
+use Rattle.std.proofs.Common.{◌≡◌, ℕ, ◌+◌, ◌-◌, Bool, not, cond, Some, length, min, ap, ap₂, sym, ◌∙◌, arith}
 use Rattle.fq_trim.specs.KeptPlaces.{places_of}
 use Rattle.fq_trim.specs.Sums.{capped_sum}
 use Rattle.fq_read_tally.specs.declared.bases.BaseTally.{BaseTally}
@@ -19,11 +19,6 @@ front_is old start is sum_is = omega arith
 behind_is : {now size sum : ℕ} (old stop length : ℕ) → now ≡ old → size ≡ length →
     sum ≡ min (now + (size - stop)) 18446744073709551615 → sum ≡ capped_sum old (length - stop)
 behind_is old stop length is size_is sum_is = omega arith
-
--- a row counted in a histogram that is the old one
-row_is : {now new : List ℕ} {number : ℕ} (old : List ℕ) (counted_number : ℕ) → now ≡ old →
-    number ≡ counted_number → new ≡ counted number now → new ≡ counted counted_number old
-row_is old counted_number is number_is new_is = cc
 
 -- the whole read has no more bases than a valid read can have
 pub add-requires-clause-few : goal.add-requires-clause-few
