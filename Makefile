@@ -78,8 +78,8 @@ gate:
 	$(NEEDS_KIT)
 	@bash .ci/run
 
-# Tries the wrong bodies in wrong-bodies/ too, of every crate, and the recipes of CONTRIBUTING.md;
-# with CRATE=fq_trim the wrong bodies of that crate alone.
+# Tries the wrong bodies in wrong-bodies/ too, and those that `rt plant` makes, of every crate, and
+# the recipes of CONTRIBUTING.md; with CRATE=fq_trim the wrong bodies of that crate alone.
 deep:
 	$(NEEDS_KIT)
 	@bash packaging/deep.sh $(CRATE)

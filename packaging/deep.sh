@@ -1,13 +1,16 @@
 #!/usr/bin/env bash
 # Tries the wrong bodies that aren't part of the gate, crates/NAME/wrong-bodies/*.edit: the prover
-# must refuse each.
+# must refuse each. Then `rt plant` makes others, and those that it lets through must be those of
+# tests/wrong_bodies/survivors.tsv.
 set -euo pipefail
 cd "$(dirname "$0")/.."
 
 if [ "${1-}" = --help ]; then
   echo "usage: packaging/deep.sh [CRATE..]
 Copies the crates, moves crates/CRATE/wrong-bodies/*.edit into crates/CRATE/must-fail/ of the copy,
-and runs 'rt ci CRATE..' there. Without CRATE it tries the edits of every crate, and the recipes of
+and runs 'rt ci CRATE..' there. Then it runs 'rt plant' in each crate, for at most PLANT_MINUTES
+(default: 60), and compares what the contracts let through with tests/wrong_bodies/survivors.tsv.
+Without CRATE it does so for every crate that has such edits, and tries the recipes of
 CONTRIBUTING.md (tests/rehearsal.sh --try). The last line is 'N wrong bodies refused, M not'.
 From kit 13f on, 'rt ci' doesn't prove again what it proved before in any checkout on this machine.
 So after a gate only the edits take time (docs/GATE.md says how much). Each refused edit is kept at
@@ -65,6 +68,25 @@ fi
 status=0
 (cd "$room" && "${try[@]}") | tee "$room/log" || status=$?
 
+# planted CRATE: the table lists each wrong body that rt plant makes, also of private functions, and
+# that the contracts of this crate let through: its file, function and body
+planted() {
+  local said=$room/plant.$1
+  if ! (cd "$room/crates/$1" && rt plant --only .rt --max 10000 --minutes "${PLANT_MINUTES:-60}") > "$said"; then
+    echo "deep: rt plant fails in $1"
+    return 1
+  fi
+  tail -n 1 "$said"
+  sed -nE 's/^(proves|no-ensures) +([^ :]+):[0-9]+ /\2 /p' "$said" | sort > "$said.found"
+  awk -F'\t' -v crate="$1" '$1 == crate { print $2 }' tests/wrong_bodies/survivors.tsv | sort > "$said.listed"
+  if grep -q ' not-run=0$' "$said"; then
+    comm -13 "$said.found" "$said.listed" | sed "s|^|deep: $1 lets this no longer through: |"
+  else
+    echo "deep: $1: more PLANT_MINUTES would try every plant"
+  fi
+  ! comm -23 "$said.found" "$said.listed" | sed "s|^|deep: $1 LETS THROUGH: |" | grep .
+}
+
 refused=0
 for edit in "${wanted[@]}"; do
   if grep -qF "must-fail $edit: refused, as it must be" "$room/log"; then
@@ -76,6 +98,7 @@ done
 if [ "$status" -ne 0 ]; then
   echo "deep: '${try[*]}' ended with status $status"
 fi
+for crate; do planted "$crate" || status=1; done
 if [ "$crates_given" -eq 0 ]; then
   bash tests/rehearsal.sh --try || status=1
 fi
