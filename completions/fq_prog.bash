@@ -1,4 +1,4 @@
-# Completion of fq_prog and tibzharuk for bash: commands, options, encodings, file names, and after
+# Completion of fq_prog for bash: commands, options, encodings, file names, and after
 # the files the steps.
 
 # Sets what the program's help names, in variables of the caller. `files` are those of `command`.
@@ -78,4 +78,4 @@ _fq_prog() {
   fi
 }
 
-complete -F _fq_prog fq_prog tibzharuk
+complete -F _fq_prog fq_prog

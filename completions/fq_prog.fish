@@ -1,4 +1,4 @@
-# Completion of fq_prog and tibzharuk for fish: commands, options, encodings, file names, and after
+# Completion of fq_prog for fish: commands, options, encodings, file names, and after
 # the files the steps.
 
 # made by packaging/made.py: words-for-fish
@@ -52,25 +52,23 @@ function __fq_prog_wants
     end
 end
 
-for name in fq_prog tibzharuk
-    complete -c $name -f
-    # made by packaging/made.py: offers-for-fish
-    complete -c $name -n '__fq_prog_wants command' -a PE -d 'trims the pairs of two FASTQ files, and prints a summary'
-    complete -c $name -n '__fq_prog_wants command' -a IL -d 'trims the pairs of one interleaved FASTQ file, and prints a summary'
-    complete -c $name -n '__fq_prog_wants command' -a EXAMPLE -d 'prints what becomes of two built-in pairs under LEADING'
-    complete -c $name -n '__fq_prog_wants step' -a 'LEADING: TRAILING: SLIDINGWINDOW: CROP: HEADCROP: AVGQUAL: MINLEN: TOPHRED33'
-    complete -c $name -n '__fq_prog_wants trimming' -l threads -x -d 'threads that trim, 1 to 64'
-    complete -c $name -n '__fq_prog_wants trimming' -l block -x -d 'pairs trimmed and written at a time, 1 to 65536'
-    complete -c $name -n '__fq_prog_wants trimming' -l depth -x -d 'blocks that may wait for each thread, 1 to 64'
-    complete -c $name -n '__fq_prog_wants trimming' -l chunk -x -d 'bytes read at a time, 1 to 1048576'
-    complete -c $name -n '__fq_prog_wants trimming' -l encoding -x -a 'sanger illumina13 solexa' -d 'what a quality byte is'
-    complete -c $name -n '__fq_prog_wants trimming' -l trimlog -rF -d 'writes a line for each read'
-    complete -c $name -n '__fq_prog_wants trimming' -l no-name-check -d 'pairs mates whatever their names'
-    complete -c $name -n '__fq_prog_wants trimming' -l sync -d 'waits until the outputs are on disk'
-    complete -c $name -n '__fq_prog_wants trimming' -l report -rF -d 'writes counts of pairs, reads, bases and steps as JSON'
-    complete -c $name -n '__fq_prog_wants trimming' -l explain -d 'gives the reason for an error in its line'
-    # end of offers-for-fish
-    complete -c $name -s h -l help -d 'print help'
-    complete -c $name -s V -l version -d 'print version'
-    complete -c $name -n '__fq_prog_wants file' -F
-end
+complete -c fq_prog -f
+# made by packaging/made.py: offers-for-fish
+complete -c fq_prog -n '__fq_prog_wants command' -a PE -d 'trims the pairs of two FASTQ files, and prints a summary'
+complete -c fq_prog -n '__fq_prog_wants command' -a IL -d 'trims the pairs of one interleaved FASTQ file, and prints a summary'
+complete -c fq_prog -n '__fq_prog_wants command' -a EXAMPLE -d 'prints what becomes of two built-in pairs under LEADING'
+complete -c fq_prog -n '__fq_prog_wants step' -a 'LEADING: TRAILING: SLIDINGWINDOW: CROP: HEADCROP: AVGQUAL: MINLEN: TOPHRED33'
+complete -c fq_prog -n '__fq_prog_wants trimming' -l threads -x -d 'threads that trim, 1 to 64'
+complete -c fq_prog -n '__fq_prog_wants trimming' -l block -x -d 'pairs trimmed and written at a time, 1 to 65536'
+complete -c fq_prog -n '__fq_prog_wants trimming' -l depth -x -d 'blocks that may wait for each thread, 1 to 64'
+complete -c fq_prog -n '__fq_prog_wants trimming' -l chunk -x -d 'bytes read at a time, 1 to 1048576'
+complete -c fq_prog -n '__fq_prog_wants trimming' -l encoding -x -a 'sanger illumina13 solexa' -d 'what a quality byte is'
+complete -c fq_prog -n '__fq_prog_wants trimming' -l trimlog -rF -d 'writes a line for each read'
+complete -c fq_prog -n '__fq_prog_wants trimming' -l no-name-check -d 'pairs mates whatever their names'
+complete -c fq_prog -n '__fq_prog_wants trimming' -l sync -d 'waits until the outputs are on disk'
+complete -c fq_prog -n '__fq_prog_wants trimming' -l report -rF -d 'writes counts of pairs, reads, bases and steps as JSON'
+complete -c fq_prog -n '__fq_prog_wants trimming' -l explain -d 'gives the reason for an error in its line'
+# end of offers-for-fish
+complete -c fq_prog -s h -l help -d 'print help'
+complete -c fq_prog -s V -l version -d 'print version'
+complete -c fq_prog -n '__fq_prog_wants file' -F

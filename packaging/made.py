@@ -1,8 +1,8 @@
 #!/usr/bin/env python3
-"""Makes the parts of files that follow from what fq_prog does and from docs/report.schema.json: of
-the manual page, the completions, the description for CWL, docs/FORMAT.md and what reads reports. A
-part lies between the lines 'made by packaging/made.py: NAME' and
-'end of NAME', which are comments of the file."""
+"""Makes the parts of files that follow from what fq_prog does, from the help of tibzharuk and from
+docs/report.schema.json: of the manual page of fq_prog, the completions, the description for CWL,
+docs/FORMAT.md and what reads reports. A part lies between the lines 'made by packaging/made.py: NAME'
+and 'end of NAME', which are comments of the file."""
 
 import argparse
 import difflib
@@ -14,11 +14,14 @@ import tempfile
 from pathlib import Path
 from typing import Any, Callable, Dict, Iterable, Iterator, List, NamedTuple, Tuple
 
+import offers
 from man_page import plain, sentences
+from offers import brief, fish_text, lower, zsh_text
 
 TREE = Path(__file__).resolve().parent.parent
 FILES = ['man/fq_prog.1', 'completions/fq_prog.bash', 'completions/fq_prog.fish',
-         'completions/_fq_prog', 'workflow/cwl/tibzharuk.cwl', 'docs/FORMAT.md',
+         'completions/_fq_prog', 'completions/tibzharuk.bash', 'completions/tibzharuk.fish',
+         'completions/_tibzharuk', 'workflow/cwl/tibzharuk.cwl', 'docs/FORMAT.md',
          'python/tibzharuk/report/reading.py']
 PART = re.compile(r'(?ms)^([^\n]*made by packaging/made\.py: ([a-z-]+)[^\n]*\n)'
                   r'.*?^([^\n]*end of \2\b[^\n]*)$')
@@ -103,15 +106,6 @@ def encodings(options: List[Option]) -> List[str]:
     """The names that the help of --encoding explains, as `sanger (score + 33)`."""
     text = next(option.text for option in options if option.name == '--encoding')
     return re.findall(r'\b([a-z][a-z0-9]*) \((?=[^)]*score)', text)
-
-
-def lower(text: str) -> str:
-    return text[:1].lower() + text[1:]
-
-
-def brief(text: str) -> str:
-    """The first part of a help text, as completions show it."""
-    return lower(re.split(r'[:;]| \(FASTQ\)|\. ', text)[0])
 
 
 # ---- The manual page
@@ -204,25 +198,18 @@ def fish_lists(pairs: Help, interleaved: Help) -> List[str]:
 
 
 def fish_lines(commands: List[Tuple[str, str]], pairs: Help) -> Iterator[str]:
-    def quoted(text: str) -> str:
-        return "'" + text.replace('\\', '\\\\').replace("'", "\\'") + "'"
-    start = '    complete -c $name -n'
+    start = 'complete -c fq_prog -n'
     for name, text in commands:
-        yield f"{start} '__fq_prog_wants command' -a {name} -d {quoted(brief(text))}"
-    yield f"{start} '__fq_prog_wants step' -a {quoted(' '.join(step_words(pairs)))}"
+        yield f"{start} '__fq_prog_wants command' -a {name} -d {fish_text(brief(text))}"
+    yield f"{start} '__fq_prog_wants step' -a {fish_text(' '.join(step_words(pairs)))}"
     for option in pairs.options:
         if option.name in ('--help', '--version'):  # these go with every command
             continue
         takes = {'': '', 'FILE': ' -rF'}.get(option.value, ' -x')
         if option.name == '--encoding':
-            takes += f" -a {quoted(' '.join(encodings(pairs.options)))}"
+            takes += f" -a {fish_text(' '.join(encodings(pairs.options)))}"
         yield (f"{start} '__fq_prog_wants trimming' -l {option.name[2:]}{takes}"
-               f' -d {quoted(brief(option.text))}')
-
-
-def zsh_text(text: str) -> str:
-    """Text in single quotes, where brackets and colons have a meaning."""
-    return re.sub(r'([\[\]:\\])', r'\\\1', brief(text)).replace("'", "'\\''")
+               f' -d {fish_text(brief(option.text))}')
 
 
 def zsh_options(options: List[Option]) -> Iterator[str]:
@@ -362,6 +349,7 @@ def makers(program: str) -> Makers:
         'inputs-of-il-for-zsh': lambda: list(zsh_files(interleaved.inputs)),
         'outputs-for-zsh': lambda: list(zsh_files(pairs.outputs)),
         'commands-for-zsh': lambda: zsh_commands(commands),
+        **offers.makers(step_words(pairs)),
         'encodings': lambda: [f'        symbols: [{", ".join(encodings(pairs.options))}]'],
         'options': lambda: list(option_table(pairs.options)),
         'fields': lambda: list(field_table(schema['properties'])),

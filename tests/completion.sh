@@ -1,7 +1,7 @@
 #!/usr/bin/env bash
-# What bash, zsh and fish offer for a command line of fq_prog, tibzharuk, trim_gz and tibzharuk-gz:
-# the options that the help names, the values of each option, and after each option with its value
-# the files and the steps at their places. bash and zsh are asked on a terminal, as a user asks.
+# What bash, zsh and fish offer for a command line of fq_prog, and of each command of tibzharuk: the
+# options that the help names, the values of each option, and after each option with its value the
+# files and the steps at their places. bash and zsh are asked on a terminal, as a user asks.
 # `completion.sh SHARE` tests what is installed in the directory SHARE; otherwise the files of this
 # tree are laid out in a new one.
 # A shell that isn't installed is reported as skipped. Status 77 if python3 is missing.
@@ -13,18 +13,17 @@ work=$(mktemp -d)
 trap 'rm -rf "$work"' EXIT
 share=${1:-$work/share}
 encodings='illumina13 sanger solexa'
+adapters='nextera smallrna truseq'
 files='one.fq two.fq'
 
 # The steps that the help names. One that takes a number is offered with its colon.
 steps=$("$program" PE --help | sed -nE 's/^  ([A-Z0-9]+)(:[a-z])* {2,}.*/\1\2/p' | sed 's/:.*/:/' | sort | paste -sd ' ')
 [ "$(wc -w <<< "$steps")" -ge 8 ] || fail 'help lists no steps'
 
-# lay_out NAME SECOND: the three files of a command, and the name by which it is also called
+# lay_out NAME: the three files of a command
 lay_out() {
   install -D -m 644 "completions/$1.bash" "$share/bash-completion/completions/$1"
-  ln -s "$1" "$share/bash-completion/completions/$2"
   install -D -m 644 "completions/$1.fish" "$share/fish/vendor_completions.d/$1.fish"
-  ln -s "$1.fish" "$share/fish/vendor_completions.d/$2.fish"
   install -D -m 644 "completions/_$1" "$share/zsh/site-functions/_$1"
 }
 
@@ -32,12 +31,18 @@ lay_out() {
 # value.
 options_of_program() { "$program" "$1" --help | sed -nE 's/^ *(-[a-zA-Z], )?(--[a-z][a-z-]*)( <([A-Z]+)>)?( .*)?$/\2 \4/p' | sort -u; }
 
-# The options of trim_gz: its own, and those that it passes to the program. It gives reasons of its
-# own, and doesn't take --explain.
-options_of_script() {
+# The options that tibzharuk COMMAND --help lists, in the same form.
+options_of_command() {
+  COLUMNS=80 "$tree/python/tibzharuk/__main__.py" "$1" --help |
+    sed -nE "s/^  (  )?(-[-0-9a-zV]+( [A-Z.']+)?(, -[-0-9a-z]+( [A-Z.']+)?)*)(  .*)?\$/\2/p; s/^  (--lane) NAME LANE .*/\1 NAME/p" |
+    sed "s/, /\n/g; s/[.']//g" | awk '!seen[$1]++ { print $1, $2 }'
+}
+
+# The options of PE: those of its synopsis, and the long ones of trim but for names of reads.
+options_of_pe() {
   {
-    "$tree/contrib/trim_gz" --help | sed -nE "s/^    (-[-0-9a-zV]+( [A-Z.']+)?(, -[-0-9a-z]+( [A-Z.']+)?)*)  .*/\1/p" | sed "s/, /\n/g; s/[.']//g"
-    options_of_program PE | grep -v -- '-explain '
+    "$tree/python/tibzharuk/__main__.py" PE --help | sed -n '/^SYNOPSIS/,/^$/p' | grep -oE -- '-[a-zA-Z0-9]+( [A-Z]+)?'
+    options_of_command trim | grep '^--' | grep -vE -- '^--(paired1|unpaired1|paired2|unpaired2|no-unpaired|interleaved|through) ?'
   } | awk '!seen[$1]++ { print $1, $2 }'
 }
 
@@ -48,15 +53,15 @@ want() { printf '%s\t%s\n' "$2" "$1" >> "$work/wanted"; }
 words_for() {
   case $1,$2 in
     --encoding,*) echo "$encodings" ;;
-    --adapters,*) echo "$files nextera smallrna truseq" ;;
+    --adapters,*) echo "$files $adapters" ;;
     --compressor,*) echo 'bgzip gzip igzip pigz' ;;
     --decompressor,*) echo 'bgzip gzip' ;;
-    *,FILE | *,OUT | *,PATH | *,PREFIX | *,WHAT) echo "$files" ;;
+    *,FILE | *,OUT | *,PATH | *,PREFIX) echo "$files" ;;
   esac
 }
 
 want_program() {
-  local name=$1 command=$2 some=$3 option value
+  local name=fq_prog command=$1 some=$2 option value
   want "$(options_of_program "$command" | cut -d ' ' -f 1 | paste -sd ' ')" "$name $command --"
   want "$files" "$name $command $some"
   want "$steps" "$name $command ${some}last "
@@ -71,21 +76,57 @@ want_program() {
   done < <(options_of_program "$command")
 }
 
-want_script() {
-  local name=$1 option value
-  want "$({
-    options_of_script
-    echo --
-  } | cut -d ' ' -f 1 | grep '^--' | paste -sd ' ')" "$name --"
+# Steps follow the options of trim, with or without --, and the files of PE.
+want_trim() {
+  local option value
+  want "$(options_of_command trim | cut -d ' ' -f 1 | grep '^--' | paste -sd ' ')" 'tibzharuk trim --'
+  want "$steps" 'tibzharuk trim '
+  want "$steps" 'tibzharuk trim -1 one.fq -2 two.fq --out x '
+  want "$files" 'tibzharuk trim -1 one.fq '
   while read -r option value; do
     [ -n "$value" ] || continue
-    want "$(words_for "$option" "$value")" "$name $option "
-    want '' "$name $option 7 L"
-    case $option in -[12i]) want "$files" "$name $option 7 8 " ;; esac
-    want "$steps" "$name $option 7 -- "
-    want "$steps" "$name $option 7 -- LEADING:3 "
-    want 'LEADING:' "$name $option 7 -- L"
-  done < <(options_of_script)
+    want "$(words_for "$option" "$value")" "tibzharuk trim $option "
+    case $option in
+      -[12i]) want "$files" "tibzharuk trim $option 7 8 " ;;
+      *) want 'LEADING:' "tibzharuk trim $option 7 L" ;;
+    esac
+    want "$steps" "tibzharuk trim $option 7 -- "
+    want "$steps" "tibzharuk trim $option 7 LEADING:3 "
+    want "$steps" "tibzharuk trim $option 7 -- LEADING:3 "
+    want 'LEADING:' "tibzharuk trim $option 7 -- L"
+  done < <(options_of_command trim)
+}
+
+want_pe() {
+  local option value all="ILLUMINACLIP: $steps"
+  want "$(options_of_pe | cut -d ' ' -f 1 | grep '^--' | paste -sd ' ')" 'tibzharuk PE --'
+  want "$(options_of_pe | cut -d ' ' -f 1 | paste -sd ' ')" 'tibzharuk PE -'
+  want "$files" 'tibzharuk PE f r fp fu rp '
+  want "$all" 'tibzharuk PE f r fp fu rp ru '
+  want "$all" 'tibzharuk PE f r fp fu rp ru ILLUMINACLIP:a.fa:2:30:10 '
+  want "$files" 'tibzharuk PE -basein f fp fu rp '
+  want "$all" 'tibzharuk PE -basein f fp fu rp ru '
+  want "$files" 'tibzharuk PE f -baseout o '
+  want "$all" 'tibzharuk PE f r -baseout o '
+  want "$all" 'tibzharuk PE -basein f -baseout o '
+  while read -r option value; do
+    if [ -n "$value" ]; then want "$(words_for "$option" "$value")" "tibzharuk PE $option "; fi
+    case $option in
+      -base*) ;;
+      *) want 'ILLUMINACLIP:' "tibzharuk PE $option${value:+ 7} f r fp fu rp ru I" ;;
+    esac
+  done < <(options_of_pe)
+}
+
+# The other commands take options and files.
+want_files() {
+  local command=$1 option value
+  want "$files" "tibzharuk $command "
+  want "$files" "tibzharuk $command one.fq "
+  want "$(options_of_command "$command" | cut -d ' ' -f 1 | grep '^--' | paste -sd ' ')" "tibzharuk $command --"
+  while read -r option value; do
+    if [ -n "$value" ]; then want "$(words_for "$option" "$value")" "tibzharuk $command $option "; fi
+  done < <(options_of_command "$command")
 }
 
 # in_fish < LINES: as typed.py does for the other shells; fish lists its offers without a terminal
@@ -129,22 +170,28 @@ check() {
 }
 
 mkdir "$work/bin" "$work/files" "$work/home"
-for name in fq_prog:tibzharuk trim_gz:tibzharuk-gz; do
-  if [ $# -eq 0 ]; then lay_out "${name%:*}" "${name#*:}"; fi
-done
-for name in fq_prog tibzharuk; do ln -s "$program" "$work/bin/$name"; done
-for name in trim_gz tibzharuk-gz; do ln -s "$tree/contrib/trim_gz" "$work/bin/$name"; done
+if [ $# -eq 0 ]; then
+  lay_out fq_prog
+  lay_out tibzharuk
+fi
+ln -s "$program" "$work/bin/fq_prog"
+ln -s "$tree/python/tibzharuk/__main__.py" "$work/bin/tibzharuk"
 touch "$work/files/one.fq" "$work/files/two.fq"
 
-for name in fq_prog tibzharuk; do
-  want PE "$name P"
-  want "$encodings" "$name IL --encoding "
-  want solexa "$name IL --encoding so"
-  want '' "$name EXAMPLE L"
-  want_program "$name" PE 'f r fp fu rp '
-  want_program "$name" IL 'i fp fu rp '
-done
-for name in trim_gz tibzharuk-gz; do want_script "$name"; done
+want PE 'fq_prog P'
+want "$encodings" 'fq_prog IL --encoding '
+want solexa 'fq_prog IL --encoding so'
+want '' 'fq_prog EXAMPLE L'
+want_program PE 'f r fp fu rp '
+want_program IL 'i fp fu rp '
+want 'PE page samples sum trim' 'tibzharuk '
+want 'page' 'tibzharuk pa'
+want '--help --version' 'tibzharuk --'
+want 'truseq' 'tibzharuk trim --adapters tr'
+want 'two.fq' 'tibzharuk trim --adapters tw'
+want_trim
+want_pe
+for name in page sum samples; do want_files "$name"; done
 [ "$(grep -c -- --report "$work/wanted")" -gt 20 ] || fail 'help names no options with a value'
 
 shells=''
