@@ -1,18 +1,17 @@
 #!/usr/bin/env python3
-"""usage: packaging/man_page.py NAME[,NAME..] < HELP > PAGE
+"""Makes the manual pages of tibzharuk and its commands, man/tibzharuk*.1, from what each prints with
+--help. The help has headings in capitals, or is that of Python's argparse. Version and day are the
+first of CHANGELOG.md that has both."""
 
-Makes the manual page of a command from what the script prints with --help, under the names by which it is installed.
-The help has headings in capitals, as trim_gz has them, or is that of Python's argparse. Version and day are the first of
-CHANGELOG.md that has both."""
-
+import argparse
+import difflib
 import re
 import sys
-from pathlib import Path
+
+from offers import COMMANDS, TREE, help_of
 
 VERBATIM = ('SYNOPSIS', 'EXAMPLE', 'EXAMPLES')
-SEE_ALSO = r'''.SH SEE ALSO
-.BR fq_prog (1)
-and the project's
+SEE_ALSO = r'''and the project's
 .IR docs/GUIDE.md ,
 which with the Debian package is in
 .IR /usr/share/doc/tibzharuk .
@@ -113,33 +112,57 @@ def of_argparse(text, name):
         else:
             about += [*block, '']
     first = re.match(r'(.*?)\.(?:\s|$)', ' '.join(about), re.S)[1].strip()
-    script = re.match(r'usage: (\S+)', usage[0])[1]
-    return {'NAME': [f'{script} - {first[0].lower()}{first[1:]}'],
+    return {'NAME': [f'{name} - {first[0].lower()}{first[1:]}'],
             'SYNOPSIS': [line[7:] for line in ['usage: ' + usage[0][7:], *usage[1:]]],
             'DESCRIPTION': about, 'OPTIONS': groups}
 
 
-def main():
-    if len(sys.argv) != 2 or sys.argv[1].startswith('-'):
-        sys.exit(__doc__)
-    names = sys.argv[1].split(',')
-    text = sys.stdin.read()
-    sections = of_argparse(text, names[0]) if text.startswith('usage:') else of_headings(text)
-    changes = (Path(__file__).resolve().parent.parent / 'CHANGELOG.md').read_text()
+def see_also(name, names):
+    """The other pages of the command, and that of the program."""
+    return [f'.BR {plain(each)} (1){"," * (each != "fq_prog")}'
+            for each in [*names, 'fq_prog'] if each != name]
+
+
+def page(name, names, text):
+    """The page of this name, one of several, from the help of its command."""
+    sections = of_argparse(text, name) if text.startswith('usage:') else of_headings(text)
+    changes = (TREE / 'CHANGELOG.md').read_text()
     version, day = re.search(r'^## ([0-9.]+) \(([0-9-]+)\)$', changes, re.M).groups()
-    print(f'.\\" Made by packaging/man_page.py from what {names[0]} prints with --help.')
-    print(f'.TH {names[0].upper()} 1 {day} "Tibzharuk {version}" "User Commands"')
+    out = [f'.\\" Made by packaging/man_page.py from what {name.replace("-", " ")} prints with --help.',
+           f'.TH {name.upper()} 1 {day} "Tibzharuk {version}" "User Commands"']
     for heading, lines in sections.items():
-        print('.SH', heading)
+        out.append(f'.SH {heading}')
         if heading == 'NAME':
-            print(plain(', '.join(names)) + ' \\- ' + plain(' '.join(' '.join(lines).split(' - ', 1)[1].split())))
+            about = ' '.join(' '.join(lines).split(' - ', 1)[1].split())
+            out.append(f'{plain(name)} \\- {plain(about)}')
         elif heading in VERBATIM:
-            print('\n'.join(['.nf', *(plain(line) for line in '\n'.join(lines).strip('\n').split('\n')), '.fi']))
+            code = '\n'.join(lines).strip('\n').split('\n')
+            out += ['.nf', *(plain(line) for line in code), '.fi']
         else:
-            print('\n'.join(body(lines)))
-    print(SEE_ALSO, end='')
-    print(ENDING, end='')
+            out += body(lines)
+    out += ['.SH SEE ALSO', *see_also(name, names)]
+    return '\n'.join(out) + '\n' + SEE_ALSO + ENDING
+
+
+def main():
+    parser = argparse.ArgumentParser(description=__doc__)
+    parser.add_argument('--check', action='store_true', help='change nothing, print what differs, and '
+                        'end with status 1 if a page does')
+    is_check = parser.parse_args().check
+    calls = {'tibzharuk': [], **{f'tibzharuk-{name}': [name] for name in COMMANDS}}
+    different = 0
+    for name, words in calls.items():
+        path = TREE / 'man' / f'{name}.1'
+        before = path.read_text() if path.exists() else ''
+        made = page(name, list(calls), help_of(*words))
+        if made != before and is_check:
+            sys.stdout.writelines(difflib.unified_diff(
+                before.splitlines(True), made.splitlines(True), f'man/{name}.1', 'made', n=0))
+            different = 1
+        elif made != before:
+            path.write_text(made)
+    return different
 
 
 if __name__ == '__main__':
-    main()
+    sys.exit(main())

@@ -51,7 +51,7 @@ END
 # The same of the day.
 days() {
   local name
-  for name in man/*.1; do printf '%s\t^\\.TH [A-Z_]+ 1 \t "Tibzharuk\n' "$name"; done
+  for name in man/*.1; do printf '%s\t^\\.TH [A-Z_-]+ 1 \t "Tibzharuk\n' "$name"; done
 }
 
 # set_to VALUE PATTERN: sets what matches the pattern in each place of standard input
