@@ -14,13 +14,13 @@ import glob
 import math
 import os
 import re
-import shutil
 from typing import Dict, Iterator, List, NamedTuple, Sequence
 
 from .trim.adapters import PALINDROME
 from .trim.fasta import other_strand, read_fasta
 from .trim.faults import Fault
 from .trim.steps import CLIP, STEPS, WITHOUT, is_step, name_of
+from .trim.tools import which
 
 HELP = "(tibzharuk PE --help)"
 # How cutadapt finds adapters, chosen by measuring beside Trimmomatic: so many bases of one are
@@ -65,7 +65,7 @@ def places(name: str) -> Iterator[str]:
         folder = os.path.expandvars(place)
         if "$" not in folder:
             yield from sorted(glob.glob(os.path.join(folder, name)))
-    program = shutil.which("trimmomatic")
+    program = which("trimmomatic")
     if program:
         yield os.path.join(os.path.dirname(os.path.realpath(program)), "adapters", name)
 

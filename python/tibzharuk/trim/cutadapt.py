@@ -1,8 +1,6 @@
 """Adapters, removed by cutadapt in the same pass, before the program trims."""
 
-import json
 import re
-import shutil
 import time
 from typing import Any, Dict, List, Optional
 
@@ -11,6 +9,7 @@ from .arguments import Arguments
 from .children import Child, Ended
 from .faults import Fault, signal_name
 from .files import readable, with_names
+from .tools import which
 
 SECONDS_TO_NOTICE = 3
 # Otherwise the C library returns cutadapt's buffers of some MB to the system after each use, and
@@ -50,7 +49,7 @@ class Cutadapt:
         self.options += arguments.cutadapt or []
         self.checks_names = arguments.checks_names
         self.sample = sample
-        if not shutil.which("cutadapt"):
+        if not which("cutadapt"):
             raise Fault(1, "no program cutadapt (--adapters, --cutadapt)")
         self.names: Dict[str, str] = {}     # the user's files, by the names of their pipes
         self.files: List[str] = []          # those of each side
@@ -117,6 +116,7 @@ class Cutadapt:
 
     def counted(self) -> Dict[str, Any]:
         """What it counted."""
+        import json
         try:
             counted: Dict[str, Any] = json.loads(self.counts.decode())
             return {name: counted[name]
@@ -131,6 +131,7 @@ class Cutadapt:
 
     def report(self) -> bytes:
         """What it counted, as JSON, with the names of the user's files."""
+        import json
         text = self.counts.decode()
         for pipe, name in self.names.items():
             text = text.replace(json.dumps(pipe), json.dumps(name))

@@ -1,8 +1,7 @@
 """FASTA files of adapters."""
 
-import gzip
 import os
-from typing import List, NamedTuple
+from typing import BinaryIO, List, NamedTuple, cast
 
 from .faults import Fault
 
@@ -22,6 +21,11 @@ def other_strand(sequence: str) -> str:
     return sequence.translate(OTHER_STRAND)[::-1]
 
 
+def opened_gz(name: str) -> BinaryIO:
+    import gzip
+    return cast(BinaryIO, gzip.open(name))
+
+
 def read_text(name: str) -> str:
     """The text of a file, as cutadapt sees it. A file that is too large for adapters is cut."""
     if os.path.exists(name) and not os.path.isfile(name):
@@ -29,8 +33,7 @@ def read_text(name: str) -> str:
     try:
         with open(name, "rb") as file:
             is_gz = file.read(2) == b"\x1f\x8b"
-        opened = gzip.open(name) if is_gz else open(name, "rb")
-        with opened:
+        with opened_gz(name) if is_gz else open(name, "rb") as opened:
             return opened.read(MOST_BYTES).decode("utf-8", "replace")
     except (OSError, EOFError) as error:
         raise Fault(4, f"cannot read {name}: {getattr(error, 'strerror', None) or error}")

@@ -2,17 +2,16 @@
 
 import contextlib
 import errno
-import gzip
 import io
 import os
 import re
-import shutil
 import stat
 import sys
 from typing import Dict, Iterable, List, Optional, Sequence
 
 from .checks import END_BLOCK, lacks_end, other_format
 from .faults import Fault, reason, write_all
+from .tools import which
 
 # A named pipe is opened by a shell, which waits for its writer.
 FROM_PIPE = ["sh", "-c", 'exec "$@" < "$0"']
@@ -132,7 +131,7 @@ class Input:
     def check_tool(self, decompressor: str) -> None:
         """Refuses the file if what reads it isn't installed."""
         tool = self.command(decompressor)[0]
-        if not shutil.which(tool):
+        if not which(tool):
             raise Fault(1, f"no program {tool}, which reads {self.name}")
 
     def open(self) -> None:
@@ -317,6 +316,7 @@ class Output:
 
 def compressed(data: bytes, level: int) -> bytes:
     """The same bytes for the same data, whatever the time."""
+    import gzip
     text = io.BytesIO()
     with gzip.GzipFile(
             filename="", mode="wb", compresslevel=level, fileobj=text, mtime=0) as member:

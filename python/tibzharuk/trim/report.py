@@ -1,6 +1,5 @@
 """The program's report, with the names of the user's files, and the page of it."""
 
-import json
 import os
 from typing import Any, Dict, List, Optional, Sequence, Union
 
@@ -31,6 +30,7 @@ def one_or_all(names: Sequence[str]) -> Union[str, List[str]]:
 
 def counts_of(data: bytes) -> Dict[str, Any]:
     """The program's report."""
+    import json
     try:
         report: Dict[str, Any] = json.loads(data.decode())
         return report
@@ -42,6 +42,7 @@ def of_call(counts: Dict[str, Any], arguments: Arguments,
             adapters: Optional[Dict[str, Any]]) -> bytes:
     """The program's report as that of the user's call, with what cutadapt removed before: the
     program has read and written pipes and hidden files."""
+    import json
     report: Dict[str, Any] = {"adapters": adapters, **counts}
     if arguments.both:
         report["command"] = "IL"
@@ -80,6 +81,8 @@ def sample_name(outputs: Dict[str, str]) -> str:
 
 def page_of(report: bytes, sample: str) -> bytes:
     """The page of a report. The sample's name is text, whatever the locale."""
+    import json
+
     from ..report.page import page
     from ..report.reading import Refused, check
     try:

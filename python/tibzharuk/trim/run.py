@@ -3,7 +3,6 @@ says."""
 
 import os
 import re
-import shutil
 import signal
 import time
 from typing import Dict, List, NoReturn, Optional, Sequence, Tuple
@@ -20,7 +19,7 @@ from .plan import (COUNTED, CUTADAPT_COUNTED, CUTADAPT_PRINTED, KEPT, PRINTED, T
                    Made, Start, Stream, Word, lane, plan, shown)
 from .progress import Progress
 from .report import counts_of, of_call, page_of, sample_name
-from .tools import Tools
+from .tools import Tools, which
 from .verdict import CutadaptEnd, Ends, SideEnd, needs_more, verdict
 
 SECONDS_TO_READ_ON = 5
@@ -378,7 +377,7 @@ class Run:
 
 def run(arguments: Arguments) -> None:
     """Does what these arguments ask for."""
-    if not shutil.which(arguments.program):
+    if not which(arguments.program):
         raise Fault(1, f"no program {arguments.program} (--program PATH)")
     if arguments.asks_version:
         os.execvp(arguments.program, [arguments.program, "--version"])

@@ -8,8 +8,7 @@ compresses into a pipe, and cat writes the file.
 
 import os
 import re
-import shutil
-from typing import TYPE_CHECKING, Callable, Dict, List, Tuple
+from typing import TYPE_CHECKING, Callable, Dict, List, Optional, Tuple
 
 from .faults import Fault
 
@@ -59,6 +58,14 @@ def processors() -> int:
     return min(count, max(1, -(-time // max(1, period))))
 
 
+def which(name: str) -> Optional[str]:
+    """The program of this name on the search path. (The import of shutil, which has the same, takes
+    longer than all that is done before a run.)"""
+    places = [""] if os.path.dirname(name) else os.get_exec_path()
+    paths = [os.path.join(place, name) for place in places]
+    return next((each for each in paths if os.path.isfile(each) and os.access(each, os.X_OK)), None)
+
+
 class Tools:
     """The compressor and the decompressor of a run, and their threads."""
 
@@ -77,16 +84,16 @@ class Tools:
     @staticmethod
     def choose_compressor(name: str) -> str:
         if name == "auto":
-            return next((name for name in ("bgzip", "pigz") if shutil.which(name)), "gzip")
-        if not shutil.which(name):
+            return next((name for name in ("bgzip", "pigz") if which(name)), "gzip")
+        if not which(name):
             raise Fault(1, f"no program {name} (--compressor)")
         return name
 
     @staticmethod
     def choose_decompressor(name: str) -> str:
         if name == "auto":
-            return "bgzip" if shutil.which("bgzip") else "gzip"
-        if not shutil.which(name):
+            return "bgzip" if which("bgzip") else "gzip"
+        if not which(name):
             raise Fault(1, f"no program {name} (--decompressor)")
         return name
 
