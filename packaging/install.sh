@@ -1,6 +1,6 @@
 #!/usr/bin/env bash
-# Puts the program and the command with its package, their manual pages, their completion and the
-# plugin of MultiQC below a directory such as /usr/local, or removes them. `make install`, the
+# Puts the program and the command with its Python package, their manual pages, their completion and
+# the plugin of MultiQC below a directory such as /usr/local, or removes them. `make install`, the
 # tarball and the Debian package have all of them by this list. Neither pip nor a network is needed.
 set -euo pipefail
 umask 022
@@ -10,9 +10,10 @@ usage() {
   echo "usage: packaging/install.sh PROGRAM DIRECTORY [PACKAGE]
        packaging/install.sh --remove DIRECTORY
 Installs PROGRAM as DIRECTORY/bin/fq_prog, and the command tibzharuk, whose Python package goes to
-DIRECTORY/PACKAGE (default: share/tibzharuk/python) and is compiled if python3 is installed. MultiQC
-finds its plugin by DIRECTORY/lib/python3/dist-packages, which is on Python's path on Debian if
-DIRECTORY is /usr. --remove removes all of these files."
+DIRECTORY/PACKAGE (default: share/tibzharuk/python) and is compiled if python3 is installed.
+tibzharuk --version then names the Rattle kit that is installed here, as 'rt version' prints it.
+MultiQC finds its plugin by DIRECTORY/lib/python3/dist-packages, which is on Python's path on Debian
+if DIRECTORY is /usr. --remove removes all of these files."
 }
 
 case ${1-} in
@@ -51,29 +52,23 @@ files_of() {
   fi | sort
 }
 
-# command_files NAME: the page and the completion of a command
-command_files() {
-  local name=$1 completion=share/bash-completion/completions
-  if [ -e "man/$name.1" ]; then echo "file man/$name.1 share/man/man1/$name.1"; fi
-  if [ -e "completions/$name.bash" ]; then
-    echo "file completions/$name.bash $completion/$name
-file completions/_$name share/zsh/site-functions/_$name
-file completions/$name.fish share/fish/vendor_completions.d/$name.fish"
-  fi
-}
-
 # Each file or link with what it is made of, and its name below the directory.
 entries() {
-  local file
+  local file name
   echo 'program - bin/fq_prog'
   for file in $(files_of python/tibzharuk); do echo "file $file $package/${file#python/}"; done
-  echo "link ../$package/tibzharuk/__main__.py bin/tibzharuk"
+  echo "kit - $package/tibzharuk/kit
+link ../$package/tibzharuk/__main__.py bin/tibzharuk"
   # MultiQC finds its plugin by these.
   echo "link ../../../$package/tibzharuk lib/python3/dist-packages/tibzharuk
 metadata - $metadata/METADATA
 file python/tibzharuk/entry_points.txt $metadata/entry_points.txt"
-  command_files fq_prog
-  command_files tibzharuk
+  for file in $(files_of man); do echo "file $file share/man/man1/${file#man/}"; done
+  for name in fq_prog tibzharuk; do
+    echo "file completions/$name.bash share/bash-completion/completions/$name
+file completions/_$name share/zsh/site-functions/_$name
+file completions/$name.fish share/fish/vendor_completions.d/$name.fish"
+  done
 }
 
 version=$(sed -n 's/^VERSION = "\(.*\)"$/\1/p' python/tibzharuk/__init__.py)
@@ -88,6 +83,8 @@ s/^license = .*text = "\(.*\)".*/License: \1/p
 s/^requires-python = "\(.*\)"$/Requires-Python: \1/p' python/pyproject.toml
 }
 
+# What is there of another version goes, too.
+rm -rf -- "${folder:?}/$package/tibzharuk" "$folder"/lib/python3/dist-packages/tibzharuk-*.dist-info
 while read -r kind from name; do
   to=$folder/$name
   if [ -z "$program" ]; then
@@ -97,6 +94,7 @@ while read -r kind from name; do
   mkdir -p "${to%/*}"
   case $kind in
     program) install -m 755 "$program" "$to" ;;
+    kit) if command -v rt > /dev/null; then rt version > "$to"; fi ;;
     metadata) metadata > "$to" ;;
     link) ln -sfn "$from" "$to" ;;
     file)
@@ -105,18 +103,11 @@ while read -r kind from name; do
   esac
 done < <(entries)
 
-# Compiled files don't have the time of their source, nor the name of this directory: packages are the
-# same bytes each time.
-code=$folder/$package
+# Compiled files don't have the time of their source, nor the name of this directory: packages are
+# the same bytes each time.
 if [ -n "$program" ] && command -v python3 > /dev/null; then
-  python3 -m compileall -q --invalidation-mode unchecked-hash -d "/$package" "$code"
+  python3 -m compileall -q --invalidation-mode unchecked-hash -d "/$package" "$folder/$package"
 fi
-# What Python keeps beside the package goes with it, and so do directories of its own that are empty
-# then.
-if [ -z "$program" ]; then
-  rm -rf -- "${folder:?}/$metadata"
-  if [ -d "$folder/share/tibzharuk" ]; then
-    find "$folder/share/tibzharuk" -name __pycache__ -prune -exec rm -rf {} +
-    find "$folder/share/tibzharuk" -depth -type d -empty -delete
-  fi
+if [ -z "$program" ] && [ -d "$folder/share/tibzharuk" ]; then
+  find "$folder/share/tibzharuk" -depth -type d -empty -delete
 fi

@@ -20,7 +20,8 @@ COMMANDS
 
 OPTIONS
     -h, --help       this text
-    -V, --version    the versions of this command and of fq_prog, which trims
+    -V, --version    the versions of this command and of fq_prog, which trims,
+                     and the kit that fq_prog was proved and built with
 """
 
 import importlib
@@ -55,15 +56,35 @@ def refuse(line: str) -> int:
     return 1
 
 
+def kit_of(program: str) -> str:
+    """The kit that built the program, as packaging/install.sh notes it beside this package. Nothing
+    if the program isn't the one that was installed with the package."""
+    try:
+        with open(os.path.join(os.path.dirname(__file__), "kit")) as file:
+            kit = file.read()
+        beside = os.path.join(os.path.dirname(sys.argv[0]), PROGRAM)
+        return kit if os.path.samefile(program, beside) else ""
+    except OSError:
+        return ""
+
+
 def show_version() -> int:
-    """The version of this package, and then that of the program, which prints it itself."""
-    from tibzharuk import VERSION
+    """The version of this package, that of the program, which prints it itself, and its kit."""
+    from . import VERSION
+    from .trim.tools import which
     sys.stdout.write(f"tibzharuk {VERSION}\n")
     sys.stdout.flush()
+    program = which(PROGRAM)
+    if program is None:
+        return refuse(f"no program {PROGRAM} on the search path")
     try:
-        os.execvp(PROGRAM, [PROGRAM, "--version"])
+        child = os.posix_spawn(program, [PROGRAM, "--version"], os.environ)
     except OSError as error:
-        return refuse(f"no program {PROGRAM}: {error.strerror}")
+        return refuse(f"cannot start {program}: {error.strerror}")
+    if os.waitpid(child, 0)[1] != 0:
+        return refuse(f"{program} doesn't print its version")
+    sys.stdout.write(kit_of(program))
+    return 0
 
 
 def near(word: str) -> str:
