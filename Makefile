@@ -12,7 +12,7 @@ SHOW = bash packaging/progress.sh
 NEEDS_KIT = @bash packaging/needs.sh
 .DEFAULT_GOAL := help
 
-.PHONY: help run test build try check gate deep static dist image install uninstall clean \
+.PHONY: help run setup test build try check gate deep static dist image install uninstall clean \
   bench bench-reading bench-lane bench-waiting
 
 # Lists the targets, each with the comment above it.
@@ -25,10 +25,14 @@ help:
 	    print line } \
 	  { said = "" }' Makefile
 
-# Trims the reads in examples/, within two minutes of a clone, and shows what comes out: with the
-# proved program if it is built, else with a build that isn't proved.
+# Trims the reads in examples/ to compressed files, a report and its page, within two minutes of a
+# clone: with the proved program if it is built, else with a build that isn't proved.
 run:
 	@bash packaging/run_examples.sh
+
+# Installs the Debian packages that the tests need (tests/packages), by sudo if you aren't root.
+setup:
+	@bash packaging/setup.sh
 
 # Builds the program and runs all tests except the proofs of tests: unit tests of every crate,
 # unproved, and the scripts in tests/, several side by side.

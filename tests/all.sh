@@ -86,7 +86,7 @@ early_scripts() {
 
 missing=$(bash packaging/missing_packages.sh | paste -sd' ')
 if [ -n "$missing" ]; then
-  echo "Tests that lack a package are skipped. To run all: apt-get install --no-install-recommends $missing"
+  echo "Tests that lack a package are skipped. make setup installs these: $missing"
 fi
 
 beside unit_tests

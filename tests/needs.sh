@@ -1,7 +1,8 @@
 #!/usr/bin/env bash
 # Whoever can't build here learns why and what to do, before anything is compiled: on another
-# system, without the kit, with a kit of another logic, and without room on the disk. `uname`, `rt`
-# and `df` are stand-ins that come first on the path.
+# system, without the kit, with a kit of another logic, and without room on the disk. `make setup`
+# installs the packages that tests need, and names those that it can't. `uname`, `rt`, `df` and what
+# installs are stand-ins that come first on the path.
 set -uo pipefail
 . "$(dirname "$0")/common.bash"
 room=$(mktemp -d)
@@ -98,4 +99,20 @@ for target in run build try install; do
   says 2 'Tibzharuk needs Linux on x86-64, and this is Linux aarch64.' make -C "$room/copy" "$target" PREFIX="$room/prefix"
   [ -z "$(find "$room/copy/crates" -name out)" ] || fail 'something was compiled'
 done
+row='packages for a user'
+new_stand_ins
+stand_in id 1000
+printf '#!/bin/sh\n[ ! -e "%s/installed" ] || echo installed\n' "$room" > "$room/bin/dpkg-query"
+printf '#!/bin/sh\necho "$*" >> "%s/sudo"\ncase $* in *" install "*) touch "%s/installed" ;; esac\n' "$room" "$room" > "$room/bin/sudo"
+chmod +x "$room/bin/dpkg-query" "$room/bin/sudo"
+says_nothing make -C "$room/copy" setup
+grep -qF "Installs $(paste -sd ' ' tests/packages)" "$room/out" || fail "doesn't say what it installs: $(cat "$room/out")"
+[ "$(grep -c 'apt-get .* install -y .* zsh$' "$room/sudo")" = 1 ] || fail "sudo was called for $(cat "$room/sudo")"
+says_nothing make -C "$room/copy" setup
+grep -qF 'All packages of tests/packages are installed.' "$room/out" || fail "another call says $(cat "$room/out")"
+
+row='packages that are not known'
+rm "$room/installed"
+printf '#!/bin/sh\ncase $* in *" install "*) exit 100 ;; esac\n' > "$room/bin/sudo"
+says 2 "setup: these are not installed: $(paste -sd ' ' tests/packages)" make -C "$room/copy" setup
 finish 'each lack is named, with what to do'
