@@ -8,18 +8,28 @@ SYNOPSIS
 
 DESCRIPTION
     Runs a line of Trimmomatic 0.39. Files whose names end in .gz are
-    compressed. All outputs are made, or none. Options with two dashes are those
-    of tibzharuk trim, so a line of fq_prog PE runs too.
+    compressed. All outputs are made, or none. Options may be anywhere, and
+    those with two dashes are those of tibzharuk trim, so a line of fq_prog PE
+    runs too.
 
     ILLUMINACLIP is done before all other steps. cutadapt removes the adapters
     of its file, not the rule of Trimmomatic, and both mates of a pair that
     reads through are kept. A file without a directory is also looked for where
     packages of Trimmomatic have theirs. The steps MAXINFO, BASECOUNT, MAXLEN,
-    TAILCROP and TOPHRED64 are refused.
+    TAILCROP and TOPHRED64 are refused, and a line says what to do instead.
 
-    Names of mates must match (--no-name-check passes others). Without -phred33
-    and -phred64 qualities are taken as Phred+33, and a warning says if they
-    seem to be Phred+64.
+    Names of mates must match, with or without -validatePairs (--no-name-check
+    passes others). Without -phred33 and -phred64 the encoding is told by the
+    first 10,000 reads of both files, by the rule of Trimmomatic. A line says
+    which it is. If they don't show it, or an input is a pipe, qualities are
+    taken as Phred+33.
+
+    The log of -trimlog has the numbers of Trimmomatic's. Names in it end at the
+    first space, without /1 and /2; the two lines of a pair follow each other,
+    forward first. What ILLUMINACLIP removes isn't counted there.
+
+    A log, a summary or a report doesn't write over a file that holds reads, and
+    no file has the name of a step, unless that is ./LEADING:3.
 
     The counts are printed on standard error, as Trimmomatic prints them, unless
     there is -quiet. So MultiQC finds them there, and in a log of it.
@@ -44,6 +54,7 @@ from .trimmomatic import Line, file_of, line_of, translated
 
 # MultiQC takes the name of the sample from the line after this one.
 STARTED = "tibzharuk, in place of TrimmomaticPE: Started with arguments:\n "
+COMPLETED = "tibzharuk, in place of TrimmomaticPE: Completed successfully\n"
 
 
 def arguments_of(line: Line) -> Arguments:
@@ -51,7 +62,7 @@ def arguments_of(line: Line) -> Arguments:
     arguments = Arguments(line.words)
 
     def forms(summary: str) -> Tuple[bytes, bytes]:
-        printed = "" if line.is_quiet else line_of(summary)
+        printed = "" if line.is_quiet else line_of(summary) + COMPLETED
         return printed.encode(), file_of(summary).encode()
     arguments.forms = forms
     arguments.read_too += line.files
@@ -63,7 +74,7 @@ def main(words: Sequence[str]) -> int:
     if any(word in ("-h", "--help", "-help") for word in words) or not words:
         (sys.stdout if words else sys.stderr).write(__doc__ or "")
         return 0 if words else 1
-    if "-version" in words:
+    if any(word in ("-version", "--version", "-V") for word in words):
         from .command import show_version
         return show_version()
     faults.keep_streams()
@@ -73,6 +84,8 @@ def main(words: Sequence[str]) -> int:
         arguments = arguments_of(line)
         if not line.is_quiet:
             say(" ".join(words), STARTED)
+            if line.encoding:
+                say(line.encoding, "")
         for note in line.notes:
             say(note)
         run(arguments)

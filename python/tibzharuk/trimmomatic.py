@@ -4,7 +4,7 @@ Trimmomatic's form.
     [-threads N] [-phred33 | -phred64] [-trimlog FILE] [-summary FILE] [-quiet] [-validatePairs]
     [-basein FILE | F R] [-baseout FILE | FP FU RP RU] STEP..
 
-Options with two dashes are those of `trim`. Of the steps, ILLUMINACLIP becomes options of cutadapt:
+Options may be anywhere. Those with two dashes are those of `trim`. Of the steps, ILLUMINACLIP becomes options of cutadapt:
 the sequences of its file are searched for as 3' adapters. A pair of sequences whose names begin
 with Prefix and end in /1 and /2 are the primers of both sides; what a read runs into is the reverse
 complement of the other side's.
@@ -14,30 +14,33 @@ import glob
 import math
 import os
 import re
-from typing import Dict, Iterator, List, NamedTuple, Sequence
+from typing import Dict, Iterator, List, NamedTuple, Optional, Sequence, Tuple
 
-from .trim.adapters import PALINDROME
+from .trim.adapters import LETTERS, PALINDROME
+from .trim.arguments import Parser
 from .trim.fasta import other_strand, read_fasta
 from .trim.faults import Fault
+from .trim.files import holds_reads
+from .trim.known_adapters import first_reads
 from .trim.steps import CLIP, STEPS, WITHOUT, is_step, name_of
 from .trim.tools import which
 
 HELP = "(tibzharuk PE --help)"
 # How cutadapt finds adapters, chosen by measuring beside Trimmomatic: so many bases of one are
 # needed, of which at most 10 % are wrong.
-ERRORS = ["-e", "0.1"]
+ERRORS = "-e 0.1"
 # Those of a pair of primers, of which Trimmomatic needs 8 bases unless its step says otherwise.
 OF_PAIR = 8
 FEWEST = 3      # fewer are found by chance
 SCORE = 0.6     # of a base that matches, in Trimmomatic's rule for a sequence alone
 WITH_VALUE = ("threads", "trimlog", "summary", "basein", "baseout")
 WITHOUT_VALUE = ("phred33", "phred64", "quiet", "validatePairs", "version")
-# The options of fq_prog and of `trim` that have no value.
-LONG_WITHOUT_VALUE = ("--no-name-check", "--sync", "--progress", "--no-progress", "--need-end",
-                      "--poly-g", "--dry-run")
 NO_STEP = "MINLEN:1"    # does nothing: a read without bases is dropped in any case
 DROPPED = ("--explain",)     # a reason is always given
-OUTPUTS = ("paired1", "unpaired1", "paired2", "unpaired2")
+TEXTS = ("trimlog", "summary", "report", "html", "cutadapt-report", "cutadapt-log")
+MOST_THREADS = 64
+INPUTS = ("F", "R")
+OUTPUTS = {"FP": "paired1", "FU": "unpaired1", "RP": "paired2", "RU": "unpaired2"}
 # As Trimmomatic takes them off a name, one after the other.
 ENDINGS = (".gz", ".bz2", ".zip", ".fq", ".fastq", ".txt")
 # How the names of both sides differ, in the order in which Trimmomatic tries them.
@@ -45,6 +48,12 @@ MATES = (("_R1_", "_R2_"), ("_f", "_r"), (".f", ".r"), ("_1", "_2"), (".1", ".2"
 # Where packages of Trimmomatic have its files of adapters: Debian, conda, EasyBuild.
 PLACES = ("/usr/share/trimmomatic", "$CONDA_PREFIX/share/trimmomatic*/adapters",
           "$EBROOTTRIMMOMATIC/adapters")
+# What --adapters has for files of Trimmomatic.
+KNOWN = {"TruSeq3-PE.fa": "truseq", "TruSeq3-PE-2.fa": "truseq", "NexteraPE-PE.fa": "nextera"}
+# Trimmomatic tells the encoding by the qualities of so many first reads of each side: by these
+# bytes, of which each encoding lacks one kind.
+FIRST_READS = 10_000
+LOW, HIGH = bytes(range(33, 59)), bytes(range(80, 105))
 
 
 class Line(NamedTuple):
@@ -53,7 +62,196 @@ class Line(NamedTuple):
     words: List[str]            # those of `trim`
     is_quiet: bool
     files: List[str]            # those of ILLUMINACLIP
+    encoding: str               # what Trimmomatic says of it, if anything
     notes: List[str]            # what differs from what Trimmomatic does
+
+
+# The words.
+
+
+class Words:
+    """The words of a line: options, which may be anywhere, and the others by their places."""
+
+    def __init__(self, line: Sequence[str]) -> None:
+        self.given: Dict[str, str] = {}     # Trimmomatic's options
+        self.long: List[str] = []           # options with two dashes
+        self.cutadapt: List[str] = []       # the value of one of them
+        self.others: List[str] = []
+        self.parser = Parser()
+        left = list(line)
+        while left:
+            word = left.pop(0)
+            if word == "--":
+                self.others += left
+                break
+            if word.startswith("--"):
+                self.read_long(word, left)
+            elif word.startswith("-") and word != "-":
+                self.read_option(word[1:], left)
+            else:
+                self.others.append(word)
+
+    def read_long(self, word: str, left: List[str]) -> None:
+        name, is_joined, value = word.partition("=")
+        if word in DROPPED:
+            return
+        if name not in self.parser.takes_value:
+            raise self.parser.astray(word)
+        if name == "--cutadapt":            # its value may begin with a dash
+            self.cutadapt.append(value if is_joined or not left else left.pop(0))
+            return
+        if self.parser.takes_value[name] and not is_joined:
+            value = value_of(name, left)
+            word = f"{name}={value}"
+        if name[2:] in TEXTS:
+            check_place(name, value)
+        self.long.append(word)
+
+    def read_option(self, name: str, left: List[str]) -> None:
+        if name in WITH_VALUE:
+            value = value_of(f"-{name}", left)
+        elif name in WITHOUT_VALUE:
+            value = ""
+        else:
+            raise Fault(1, f"-{name} is not an option {HELP}")
+        if self.given.setdefault(name, value) != value:
+            raise Fault(1, f"-{name} is given twice")
+        if name in TEXTS:
+            check_place(f"-{name}", value)
+
+    def split(self) -> Tuple[List[str], List[str], List[str]]:
+        """The inputs, the outputs and the steps."""
+        places = [] if "basein" in self.given else list(INPUTS)
+        places += [] if "baseout" in self.given else list(OUTPUTS)
+        files, steps = self.others[:len(places)], self.others[len(places):]
+        check_files(places, files)
+        check_steps(places, steps)
+        if "basein" in self.given:
+            inputs = [self.given["basein"], base_in(self.given["basein"])]
+        else:
+            inputs, files = files[:2], files[2:]
+        return inputs, base_out(self.given["baseout"]) if "baseout" in self.given else files, steps
+
+
+def value_of(option: str, left: List[str]) -> str:
+    if not left or left[0].startswith("-") and len(left[0]) > 1 or is_step(left[0]):
+        raise Fault(1, f"{option} has no value {HELP}")
+    return left.pop(0)
+
+
+def check_files(places: Sequence[str], files: Sequence[str]) -> None:
+    """Refuses a line that lacks a file, also if a step is in its place."""
+    needed = f"{' '.join(places)} come before the steps"
+    for place, name in zip(places, files):
+        if is_step(name):
+            raise Fault(1, f"{name} is in the place of {place}: {needed}; a file of that name is "
+                           f"./{name} {HELP}")
+    if len(files) < len(places):
+        raise Fault(1, f"no {places[len(files)]}: {needed} {HELP}")
+
+
+def check_steps(places: Sequence[str], steps: Sequence[str]) -> None:
+    """Refuses steps that can't be done here."""
+    if not steps:
+        raise Fault(1, f"no steps, such as MINLEN:36 {HELP}")
+    for step in steps:
+        if name_of(step) in WITHOUT:
+            raise Fault(2, f"{step} is not among the steps here: {WITHOUT[name_of(step)]}")
+        if not is_step(step):
+            before = f"; before the steps are {' '.join(places)}" if places else ""
+            raise Fault(2, f"{step} is not a step: {', '.join(STEPS)}{before} {HELP}")
+
+
+def check_place(option: str, name: str) -> None:
+    """Refuses reads as the place of a text: a log without its name would write over the input."""
+    if holds_reads(name):
+        raise Fault(2, f"{option} {name}: this file holds reads, or is compressed; is the name of "
+                       f"{option} missing?")
+
+
+def threads_of(text: str) -> List[str]:
+    """The option for -threads. With 0 Trimmomatic chooses, and so does `trim` without the
+    option."""
+    if not re.match("[0-9]{1,9}$", text):
+        raise Fault(1, f"-threads must be a number, not {text}")
+    return [f"--threads={min(int(text), MOST_THREADS)}"] if int(text) else []
+
+
+def stem_of(name: str) -> str:
+    """A name without the endings of files of reads."""
+    while True:
+        ending = next((each for each in ENDINGS if name.endswith(each)), None)
+        if ending is None:
+            return name
+        name = name[:-len(ending)]
+
+
+def base_in(forward: str) -> str:
+    """The reverse file of -basein."""
+    folder, name = os.path.split(forward)
+    stem = stem_of(name)
+    for one, two in MATES:
+        start, is_found, end = stem.rpartition(one)
+        other = os.path.join(folder, start + two + end + name[len(stem):])
+        if is_found and os.path.exists(other):
+            return other
+    raise Fault(4, f"-basein {forward}: no reverse file beside it")
+
+
+def base_out(base: str) -> List[str]:
+    """The four outputs of -baseout: d/a.b.fq.gz gives d/a.b_1P.fq.gz and so on."""
+    folder, name = os.path.split(base)
+    stem = stem_of(name)
+    return [os.path.join(folder, f"{stem}_{each}{name[len(stem):]}")
+            for each in ("1P", "1U", "2P", "2U")]
+
+
+def with_place(name: str) -> str:
+    """A file whose name isn't that of an option."""
+    return f"./{name}" if name.startswith("-") and name != "-" else name
+
+
+# The encoding.
+
+
+def offset_of(qualities: bytes) -> Optional[int]:
+    """33 or 64, as Trimmomatic tells them, or None if it can't."""
+    has_low, has_high = (len(qualities.translate(None, kind)) < len(qualities)
+                         for kind in (LOW, HIGH))
+    return None if has_low == has_high else 33 if has_low else 64
+
+
+def offset_in(files: Sequence[str]) -> Optional[int]:
+    """That of the first reads of both sides, if these are files, and agree."""
+    if not all(os.path.isfile(name) for name in files):
+        return None
+    found = {offset_of(b"".join(first_reads(name, FIRST_READS, math.inf, 3))) for name in files}
+    return found.pop() if len(found) == 1 else None
+
+
+class Encoding(NamedTuple):
+    """The encoding of a run."""
+
+    options: List[str]
+    line: str               # Trimmomatic's own
+    notes: List[str]
+
+
+def encoding_of(words: Words, inputs: Sequence[str]) -> Encoding:
+    """As it is given, or as Trimmomatic would tell it, or Phred+33."""
+    if "phred33" in words.given and "phred64" in words.given:
+        raise Fault(1, "either -phred33 or -phred64")
+    if "phred33" in words.given or any(word.startswith("--encoding=") for word in words.long):
+        return Encoding([], "", [])
+    offset = 64 if "phred64" in words.given else offset_in(inputs)
+    line = "" if "phred64" in words.given else f"Quality encoding detected as phred{offset}"
+    if offset is None:
+        return Encoding([], "", ["the first reads don't show their encoding, so qualities are "
+                                 "taken as Phred+33 (-phred33 or -phred64)"])
+    return Encoding(["--encoding=illumina13"] if offset == 64 else [], line, [])
+
+
+# Adapters.
 
 
 def places(name: str) -> Iterator[str]:
@@ -74,174 +272,34 @@ def found_file(name: str) -> str:
     for path in places(name):
         if os.path.exists(path):
             return path
-    raise Fault(4, f"{CLIP}: cannot read {name}: it is neither here nor where packages of "
-                   "Trimmomatic have such files")
+    known = KNOWN.get(os.path.basename(name))
+    instead = f"; in place of the step, --adapters {known} removes these" if known else ""
+    where = "" if os.path.dirname(name) else ", nor where packages of Trimmomatic have such files"
+    raise Fault(4, f"{CLIP}: cannot read {name}: it isn't there{where}{instead}")
 
 
 def adapters_of(name: str, alone: int, of_pair: int) -> List[str]:
     """cutadapt's options for a file of adapters, as Trimmomatic reads it. So many bases of a
     sequence alone are needed, and so many of the primers of a pair."""
-    forward: Dict[str, int] = {}
-    reverse: Dict[str, int] = {}
+    found: Dict[str, Dict[str, int]] = {"-a": {}, "-A": {}}
     primers: Dict[str, Dict[str, str]] = {}
     for each in read_fasta(name):
         start, end = each.name[:-2], each.name[-2:]
+        if not re.match(f"{LETTERS}+$", each.sequence, re.I):
+            raise Fault(2, f"{CLIP}: {name} has no sequence for {each.name or 'an adapter'}")
         if each.name.startswith(PALINDROME) and end in ("/1", "/2"):
             primers.setdefault(start, {})[end] = each.sequence
         else:
-            forward.update({each.sequence: alone} if end != "/2" else {})
-            reverse.update({each.sequence: alone} if end != "/1" else {})
+            found["-a"].update({each.sequence: alone} if end != "/2" else {})
+            found["-A"].update({each.sequence: alone} if end != "/1" else {})
     for both in primers.values():
-        if len(both) == 2:
-            forward[other_strand(both["/2"])] = of_pair
-            reverse[other_strand(both["/1"])] = of_pair
-    return [word for option, sequences in (("-a", forward), ("-A", reverse))
-            for sequence, bases in sequences.items()
+        for option, own, other in ("-a", "/1", "/2"), ("-A", "/2", "/1"):
+            if len(both) == 2:
+                found[option][other_strand(both[other])] = of_pair
+            elif own in both:       # Trimmomatic takes one without its mate as a sequence alone
+                found[option][both[own]] = alone
+    return [word for option, sequences in found.items() for sequence, bases in sequences.items()
             for word in (option, f"{sequence};min_overlap={bases}")]
-
-
-def base_in(forward: str) -> str:
-    """The reverse file of -basein."""
-    folder, name = os.path.split(forward)
-    for one, two in MATES:
-        place = name.rfind(one)
-        other = os.path.join(folder, name[:place] + two + name[place + len(one):])
-        if place >= 0 and os.path.exists(other):
-            return other
-    raise Fault(4, f"-basein {forward}: no reverse file beside it")
-
-
-def base_out(base: str) -> List[str]:
-    """The four outputs of -baseout: d/a.b.fq.gz gives d/a.b_1P.fq.gz and so on."""
-    folder, stem = os.path.split(base)
-    ending = ""
-    while True:
-        last = next((each for each in ENDINGS if stem.endswith(each)), None)
-        if last is None:
-            break
-        stem, ending = stem[:-len(last)], last + ending
-    return [os.path.join(folder, f"{stem}_{each}{ending}") for each in ("1P", "1U", "2P", "2U")]
-
-
-class Words:
-    """The words before the steps."""
-
-    def __init__(self) -> None:
-        self.given: Dict[str, str] = {}     # Trimmomatic's options
-        self.long: List[str] = []           # options with two dashes
-        self.files: List[str] = []
-
-    def read(self, line: Sequence[str]) -> List[str]:
-        """Reads a line, and returns its steps."""
-        left = list(line)
-        while left and not is_step(left[0]):
-            word = left.pop(0)
-            if word == "--":
-                self.files += [left.pop(0) for _ in range(len(left)) if not is_step(left[0])]
-            elif word.startswith("--"):
-                self.read_long(word, left)
-            elif word.startswith("-") and word != "-":
-                self.read_option(word[1:], left)
-            else:
-                self.files.append(word)
-        return left
-
-    def read_long(self, word: str, left: List[str]) -> None:
-        if word in DROPPED:
-            return
-        self.long.append(word)
-        if "=" not in word and word not in LONG_WITHOUT_VALUE:
-            self.long.append(value_of(word, left))
-
-    def read_option(self, name: str, left: List[str]) -> None:
-        if name in self.given:
-            raise Fault(1, f"-{name} is given twice")
-        if name in WITH_VALUE:
-            self.given[name] = value_of(f"-{name}", left)
-        elif name in WITHOUT_VALUE:
-            self.given[name] = ""
-        else:
-            raise Fault(1, f"-{name} is not an option {HELP}")
-
-    def inputs(self) -> List[str]:
-        if "basein" in self.given:
-            return [self.given["basein"], base_in(self.given["basein"])]
-        return [self.files.pop(0) for _ in range(min(2, len(self.files)))]
-
-    def outputs(self) -> List[str]:
-        if "baseout" in self.given:
-            return base_out(self.given["baseout"])
-        return [self.files.pop(0) for _ in range(min(4, len(self.files)))]
-
-
-def value_of(option: str, left: List[str]) -> str:
-    if not left or left[0].startswith("-") and len(left[0]) > 1 or is_step(left[0]):
-        raise Fault(1, f"{option} has no value {HELP}")
-    return left.pop(0)
-
-
-def check_steps(steps: Sequence[str]) -> None:
-    """Refuses steps that can't be done here."""
-    for step in steps:
-        name = name_of(step)
-        if name in WITHOUT:
-            raise Fault(2, f"{step} is not among the steps here: {WITHOUT[name]}")
-        if step.startswith("-"):
-            raise Fault(1, f"{step} comes after the steps; options come before them {HELP}")
-        if not is_step(step):
-            raise Fault(2, f"{step} is not a step: {', '.join(STEPS)} {HELP}")
-
-
-def check_place(option: str, name: str) -> None:
-    """Refuses reads as the place of a text: a log without its name would write over the input."""
-    try:
-        with open(name, "rb") as file:
-            head = file.read(2)
-    except OSError:
-        return
-    if os.path.isfile(name) and (head[:1] == b"@" or head == b"\x1f\x8b"):
-        raise Fault(2, f"-{option} {name}: this file holds reads, or is compressed; is the name of "
-                       f"-{option} missing?")
-
-
-def translated(line: Sequence[str]) -> Line:
-    """The words of `trim` for the words of Trimmomatic after PE."""
-    words = Words()
-    steps = words.read(line)
-    check_steps(steps)
-    for option in "trimlog", "summary":
-        if option in words.given:
-            check_place(option, words.given[option])
-    inputs, outputs = words.inputs(), words.outputs()
-    if len(inputs) != 2 or len(outputs) != 4:
-        raise Fault(1, "two inputs and four outputs are needed before the steps: F R FP FU RP RU "
-                       f"{HELP}")
-    if words.files:
-        raise Fault(1, f"{words.files[0]} is one file too many, or a step that isn't known {HELP}")
-    if not steps:
-        raise Fault(1, f"no steps, such as MINLEN:36 {HELP}")
-    said = list(words.long)
-    for option in "threads", "trimlog", "summary":
-        said += [f"--{option}={words.given[option]}"] if option in words.given else []
-    said += ["--encoding=illumina13"] if "phred64" in words.given else []
-    clips = [step for step in steps if name_of(step) == CLIP]
-    others = [step for step in steps if step not in clips]
-    read = [clipped(step) for step in clips]
-    notes = [note for each in read for note in each.notes]
-    if read:
-        options = [word for each in read for word in each.options]
-        said.append(f"--cutadapt={' '.join(options + ERRORS)}")
-    if clips and steps[0] not in clips:
-        notes.append(f"{CLIP} is done before all other steps, though it comes after {steps[0]}")
-    said += ["-1", with_place(inputs[0]), "-2", with_place(inputs[1])]
-    said += [f"--{role}={name}" for role, name in zip(OUTPUTS, outputs)]
-    files = [each.file for each in read]
-    return Line(said + ["--"] + (others or [NO_STEP]), "quiet" in words.given, files, notes)
-
-
-def with_place(name: str) -> str:
-    """A file whose name isn't that of an option."""
-    return f"./{name}" if name.startswith("-") and name != "-" else name
 
 
 class Clip(NamedTuple):
@@ -249,23 +307,49 @@ class Clip(NamedTuple):
 
     file: str
     options: List[str]      # of cutadapt
-    notes: List[str]        # what differs
+    note: str               # what differs
 
 
 def clipped(step: str) -> Clip:
-    given = step.split(":")
-    if len(given) < 5 or not all(re.match("[0-9]+$", each) for each in given[2:5]):
+    given = step.rstrip(":").split(":")
+    if not 5 <= len(given) <= 7 or not all(re.match("[0-9]+$", each) for each in given[2:6]):
         raise Fault(2, f"{step}: its form is {CLIP}:FILE:2:30:10 (and :8:true)")
     name = found_file(given[1])
     alone = math.ceil(int(given[4]) / SCORE) + 1
-    of_pair = int(given[5]) if given[5:] and given[5].isdigit() else OF_PAIR
+    of_pair = int(given[5]) if given[5:] else OF_PAIR
     adapters = adapters_of(name, alone, max(of_pair, FEWEST))
     if not adapters:
         raise Fault(2, f"{CLIP}: {name} has no adapters")
-    notes = [f"{CLIP}: cutadapt removes the adapters of {name}, not the rule of Trimmomatic"]
-    if given[6:7] != ["true"]:
-        notes[0] += "; both mates of a pair that reads through are kept"
-    return Clip(name, adapters, notes)
+    note = f"{CLIP}: cutadapt removes the adapters of {name}, not the rule of Trimmomatic"
+    keeps_both = given[6:] and given[6].lower() == "true"
+    return Clip(name, adapters, note if keeps_both else
+                f"{note}; both mates of a pair that reads through are kept")
+
+
+# The line.
+
+
+def translated(line: Sequence[str]) -> Line:
+    """The words of `trim` for the words of Trimmomatic after PE."""
+    words = Words(line)
+    inputs, outputs, steps = words.split()
+    encoding = encoding_of(words, inputs)
+    said = words.long + threads_of(words.given.get("threads", "0"))
+    said += [f"--{name}={words.given[name]}" for name in TEXTS if name in words.given]
+    said += encoding.options
+    clips = [clipped(step) for step in steps if name_of(step) == CLIP]
+    others = [step for step in steps if name_of(step) != CLIP]
+    cutadapt = [word for each in clips for word in each.options] + [ERRORS] * bool(clips)
+    cutadapt += words.cutadapt
+    said += [f"--cutadapt={' '.join(cutadapt)}"] if cutadapt else []
+    notes = encoding.notes + [each.note for each in clips]
+    if clips and name_of(steps[0]) != CLIP:
+        notes.append(f"{CLIP} is done before all other steps, though it comes after {steps[0]}")
+    said += ["-1", with_place(inputs[0]), "-2", with_place(inputs[1])]
+    said += [f"--{role}={name}" for role, name in zip(OUTPUTS.values(), outputs)]
+    files = [each.file for each in clips]
+    said += ["--"] + (others or [NO_STEP])
+    return Line(said, "quiet" in words.given, files, encoding.line, notes)
 
 
 # Counts, in Trimmomatic's form.

@@ -8,7 +8,8 @@ from .fasta import Entry, other_strand, read_fasta
 from .faults import Fault
 from .known_adapters import KnownAdapter, known_adapters, names_of_known
 
-SEQUENCES = "[ACGTUNRYSWKMBDHVI]+(,[ACGTUNRYSWKMBDHVI]+)?$"
+LETTERS = "[ACGTUNRYSWKMBDHVI]"
+SEQUENCES = f"{LETTERS}+(,{LETTERS}+)?$"
 # The names of Trimmomatic's palindrome entries begin so, and end in /1 and /2.
 PALINDROME = "Prefix"
 

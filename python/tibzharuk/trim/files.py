@@ -9,7 +9,8 @@ import stat
 import sys
 from typing import Dict, Iterable, List, Optional, Sequence
 
-from .checks import END_BLOCK, lacks_end, other_format
+from .arguments import READS
+from .checks import END_BLOCK, beginning, lacks_end, other_format
 from .faults import Fault, reason, write_all
 from .tools import which
 
@@ -61,6 +62,17 @@ def with_names(text: str, names: Dict[str, str]) -> str:
     keys."""
     given = "|".join(map(re.escape, names))
     return re.sub(rf"({given})(?!\w)", lambda found: names[found.group()], text)
+
+
+def holds_reads(name: str) -> bool:
+    """Whether a file begins as FASTQ, or is gzip under the name of a plain one: a text in its place
+    would destroy reads."""
+    if not os.path.isfile(name):
+        return False
+    with contextlib.suppress(OSError), open(name, "rb") as file:
+        is_packed = file.read(2) == b"\x1f\x8b"
+        return is_packed and not is_gzip_name(name) or beginning(name).startswith(b"@")
+    return False
 
 
 def why_not_opened(name: str, flags: int) -> str:
@@ -219,6 +231,9 @@ class Output:
         self.check_place()
         if any(is_same(self.name, name) for name in inputs):
             raise Fault(2, f"{self.name} is an input and an output")
+        if self.role not in (*READS, "interleaved") and holds_reads(self.target):
+            raise Fault(2, f"{self.name} holds reads, or is compressed: --{self.role} doesn't "
+                           "write over it")
         if any(self.target == other.target or is_same(self.name, other.target) for other in others):
             raise Fault(2, f"{self.name} is given for two outputs")
 

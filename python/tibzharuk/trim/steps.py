@@ -7,9 +7,9 @@ STEPS = ("LEADING", "TRAILING", "SLIDINGWINDOW", "CROP", "HEADCROP", "AVGQUAL", 
 # Steps of Trimmomatic that have no equal here, and what to do instead.
 WITHOUT = {
     "MAXINFO": "SLIDINGWINDOW trims by quality, and MINLEN drops short reads",
-    "BASECOUNT": "no step counts bases",
-    "TAILCROP": "CROP keeps a number of bases from the start",
-    "MAXLEN": "no step drops long reads",
+    "BASECOUNT": "--cutadapt '--max-n 5' drops pairs with more than 5 N",
+    "TAILCROP": "--cutadapt '-u -5 -U -5' removes the last 5 bases",
+    "MAXLEN": "--cutadapt '-M 300' drops pairs with reads of more than 300 bases",
     "TOPHRED64": "TOPHRED33 writes Phred+33, and without it qualities stay as they are",
 }
 CLIP = "ILLUMINACLIP"
