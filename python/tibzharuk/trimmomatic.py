@@ -4,10 +4,10 @@ Trimmomatic's form.
     [-threads N] [-phred33 | -phred64] [-trimlog FILE] [-summary FILE] [-quiet] [-validatePairs]
     [-basein FILE | F R] [-baseout FILE | FP FU RP RU] STEP..
 
-Options may be anywhere. Those with two dashes are those of `trim`. Of the steps, ILLUMINACLIP becomes options of cutadapt:
-the sequences of its file are searched for as 3' adapters. A pair of sequences whose names begin
-with Prefix and end in /1 and /2 are the primers of both sides; what a read runs into is the reverse
-complement of the other side's.
+Options may be anywhere. Those with two dashes are those of `trim`. Of the steps, ILLUMINACLIP
+becomes options of cutadapt: the sequences of its file are searched for as 3' adapters. A pair of
+sequences whose names begin with Prefix and end in /1 and /2 are the primers of both sides; what a
+read runs into is the reverse complement of the other side's.
 """
 
 import glob
@@ -29,9 +29,10 @@ HELP = "(tibzharuk PE --help)"
 # How cutadapt finds adapters, chosen by measuring beside Trimmomatic: so many bases of one are
 # needed, of which at most 10 % are wrong.
 ERRORS = "-e 0.1"
-# Those of a pair of primers, of which Trimmomatic needs 8 bases unless its step says otherwise.
+# Those of a pair of primers, of which Trimmomatic needs 8 bases unless its step says otherwise. It
+# compares the mates as well; cutadapt, which doesn't, finds fewer than 5 bases mostly by chance.
 OF_PAIR = 8
-FEWEST = 3      # fewer are found by chance
+FEWEST = 5
 SCORE = 0.6     # of a base that matches, in Trimmomatic's rule for a sequence alone
 WITH_VALUE = ("threads", "trimlog", "summary", "basein", "baseout")
 WITHOUT_VALUE = ("phred33", "phred64", "quiet", "validatePairs", "version")
