@@ -62,10 +62,18 @@ if [ -e reads/real_f.fq.gz ]; then
 fi
 
 row='what differs is said'
-has 11/ours/said 'tibzharuk: ILLUMINACLIP: cutadapt removes the adapters of /usr/share/trimmomatic/TruSeq3-PE.fa, not the rule of Trimmomatic; both mates of a pair that reads through are kept$'
+has 11/ours/said "tibzharuk: ILLUMINACLIP: the adapters of /usr/share/trimmomatic/TruSeq3-PE.fa are removed by cutadapt, not by Trimmomatic's rule; both mates of a pair that reads through are kept\$"
 has 14/ours/said 'tibzharuk: ILLUMINACLIP is done before all other steps, though it comes after SLIDINGWINDOW:4:20$'
-has 16/ours/said 'tibzharuk: ILLUMINACLIP: cutadapt removes the adapters of /usr/share/trimmomatic/NexteraPE-PE.fa, not the rule of Trimmomatic$'
+has 16/ours/said "tibzharuk: ILLUMINACLIP: the adapters of /usr/share/trimmomatic/NexteraPE-PE.fa are removed by cutadapt, not by Trimmomatic's rule\$"
 [ ! -s 5/ours/said ] || fail "it isn't quiet: $(cat 5/ours/said)"
+
+row='a log whose name is missing'
+cp reads/plain_1.fq.gz reads/plain_2.fq.gz .
+"$command" PE -trimlog plain_{1,2}.fq.gz p1.fq u1.fq p2.fq u2.fq MINLEN:36 > said 2>&1
+[ $? -eq 2 ] || fail "PE takes the reads for a log: $(tail -n 1 said)"
+"$command" trim -1 plain_1.fq.gz -2 plain_2.fq.gz --out s --trimlog reads/nextera_1.fq.gz MINLEN:36 > said 2>&1
+[ $? -eq 2 ] || fail "trim takes the reads for a log: $(tail -n 1 said)"
+cmp reads/plain_1.fq.gz plain_1.fq.gz || fail 'the reads are lost'
 
 row='a line of fq_prog PE'
 number=plain

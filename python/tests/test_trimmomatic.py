@@ -189,9 +189,10 @@ MATES_KEPT = "; both mates of a pair that reads through are kept"
 @pytest.mark.parametrize("steps, ends", (
     ("CROP:9", []),
     ("ILLUMINACLIP:own.fa:2:30:10 CROP:9", [MATES_KEPT]),
-    ("ILLUMINACLIP:own.fa:2:30:10:8:true CROP:9", ["not the rule of Trimmomatic"]),
-    ("ILLUMINACLIP:own.fa:2:30:10:2:True CROP:9", ["not the rule of Trimmomatic"]),
+    ("ILLUMINACLIP:own.fa:2:30:10:8:true CROP:9", ["not by Trimmomatic's rule"]),
+    ("ILLUMINACLIP:own.fa:2:30:10:2:True CROP:9", ["not by Trimmomatic's rule"]),
     ("ILLUMINACLIP:own.fa:2:30:10:2:keepBothReads CROP:9", [MATES_KEPT]),
+    ("ILLUMINACLIP:own.fa:2:30:10:8:true ILLUMINACLIP:half.fa:2:30:10:8", [MATES_KEPT]),
     ("CROP:9 ILLUMINACLIP:own.fa:2:30:10", [MATES_KEPT, "though it comes after CROP:9"]),
 ))
 def test_notes(steps, ends):

@@ -12,9 +12,9 @@ DESCRIPTION
     those with two dashes are those of tibzharuk trim, so a line of fq_prog PE
     runs too.
 
-    ILLUMINACLIP is done before all other steps. cutadapt removes the adapters
-    of its file, not the rule of Trimmomatic, and both mates of a pair that
-    reads through are kept. A file without a directory is also looked for where
+    ILLUMINACLIP is done before all other steps. The adapters of its file are
+    removed by cutadapt, not by Trimmomatic's rule, and both mates of a pair
+    that reads through are kept. A file without a directory is also looked for where
     packages of Trimmomatic have theirs. The steps MAXINFO, BASECOUNT, MAXLEN,
     TAILCROP and TOPHRED64 are refused, and a line says what to do instead.
 

@@ -308,7 +308,7 @@ class Clip(NamedTuple):
 
     file: str
     options: List[str]      # of cutadapt
-    note: str               # what differs
+    keeps_both: bool        # whether the step asks for both mates of a pair that reads through
 
 
 def clipped(step: str) -> Clip:
@@ -318,13 +318,23 @@ def clipped(step: str) -> Clip:
     name = found_file(given[1])
     alone = math.ceil(int(given[4]) / SCORE) + 1
     of_pair = int(given[5]) if given[5:] else OF_PAIR
-    adapters = adapters_of(name, alone, max(of_pair, FEWEST))
-    if not adapters:
+    options = adapters_of(name, alone, max(of_pair, FEWEST))
+    if not options:
         raise Fault(2, f"{CLIP}: {name} has no adapters")
-    note = f"{CLIP}: cutadapt removes the adapters of {name}, not the rule of Trimmomatic"
-    keeps_both = given[6:] and given[6].lower() == "true"
-    return Clip(name, adapters, note if keeps_both else
-                f"{note}; both mates of a pair that reads through are kept")
+    return Clip(name, options, given[6:] != [] and given[6].lower() == "true")
+
+
+def notes_on(clips: Sequence[Clip], first: str) -> List[str]:
+    """What is said of these steps, in a line whose first step is this one."""
+    if not clips:
+        return []
+    files = " and ".join(each.file for each in clips)
+    note = f"{CLIP}: the adapters of {files} are removed by cutadapt, not by Trimmomatic's rule"
+    if not all(each.keeps_both for each in clips):
+        note += "; both mates of a pair that reads through are kept"
+    is_first = name_of(first) == CLIP
+    return [note] if is_first else [
+        note, f"{CLIP} is done before all other steps, though it comes after {first}"]
 
 
 # The line.
@@ -343,9 +353,7 @@ def translated(line: Sequence[str]) -> Line:
     cutadapt = [word for each in clips for word in each.options] + [ERRORS] * bool(clips)
     cutadapt += words.cutadapt
     said += [f"--cutadapt={' '.join(cutadapt)}"] if cutadapt else []
-    notes = encoding.notes + [each.note for each in clips]
-    if clips and name_of(steps[0]) != CLIP:
-        notes.append(f"{CLIP} is done before all other steps, though it comes after {steps[0]}")
+    notes = encoding.notes + notes_on(clips, steps[0])
     said += ["-1", with_place(inputs[0]), "-2", with_place(inputs[1])]
     said += [f"--{role}={name}" for role, name in zip(OUTPUTS.values(), outputs)]
     files = [each.file for each in clips]
