@@ -14,9 +14,10 @@ DESCRIPTION
 
     ILLUMINACLIP is done before all other steps. The adapters of its file are
     removed by cutadapt, not by Trimmomatic's rule, and both mates of a pair
-    that reads through are kept. A file without a directory is also looked for where
-    packages of Trimmomatic have theirs. The steps MAXINFO, BASECOUNT, MAXLEN,
-    TAILCROP and TOPHRED64 are refused, and a line says what to do instead.
+    that reads through are kept. A file without a directory is also looked for
+    where packages of Trimmomatic have theirs. The steps MAXINFO, BASECOUNT,
+    MAXLEN, TAILCROP and TOPHRED64 are refused, and a line says what to do
+    instead.
 
     Names of mates must match, with or without -validatePairs (--no-name-check
     passes others). Without -phred33 and -phred64 the encoding is told by the

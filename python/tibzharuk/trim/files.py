@@ -231,11 +231,11 @@ class Output:
         self.check_place()
         if any(is_same(self.name, name) for name in inputs):
             raise Fault(2, f"{self.name} is an input and an output")
+        if any(self.target == other.target or is_same(self.name, other.target) for other in others):
+            raise Fault(2, f"{self.name} is given for two outputs")
         if self.role not in (*READS, "interleaved") and holds_reads(self.target):
             raise Fault(2, f"{self.name} holds reads, or is compressed: --{self.role} doesn't "
                            "write over it")
-        if any(self.target == other.target or is_same(self.name, other.target) for other in others):
-            raise Fault(2, f"{self.name} is given for two outputs")
 
     def check_streams(self) -> None:
         """Refuses it if what is printed would be in the same file."""
