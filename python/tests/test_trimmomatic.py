@@ -48,7 +48,7 @@ def folder(tmp_path, monkeypatch):
      ["--trimlog=log", "--summary=s", "--encoding=illumina13", *IN, *OUT, "--", "TOPHRED33"]),
     (f"--threads 2 --sync --explain --report=r.json {FILES} CROP:9",
      ["--threads=2", "--sync", "--report=r.json", *IN, *OUT, "--", "CROP:9"]),
-    (f"{FILES} CROP:9 --trimlog log.gz --no-explain",
+    (f"{FILES} CROP:9 --trimlog log.gz --explain",
      ["--trimlog=log.gz", *IN, *OUT, "--", "CROP:9"]),
     (f"--sync -- {FILES} CROP:9", ["--sync", *IN, *OUT, "--", "CROP:9"]),
     ("-- -a.gz b.gz p1 u1 p2 u2 CROP:9", ["-1", "./-a.gz", *IN[2:], *OUT, "--", "CROP:9"]),
