@@ -8,7 +8,7 @@ simulated, trimmed and counted without the program. KIND is `plain` (500 pairs o
 `small` (20 pairs of 40 bases), `lane` (the same pairs), `one` (20 pairs of one base), `alike` (20
 pairs of 40 times C with the score 35), `other` (20 pairs of 40 bases, of which some are R or Y) or
 `none` (no pair). cutadapt removed adapters before `plain`, `lane` and `small`, in another way before
-`small`.
+`small`. These runs warned of something.
 """
 
 import collections
@@ -241,10 +241,19 @@ def adapters(kind, pairs):
     }
 
 
+WARNINGS = {
+    "plain": ["s1_L001_R1.fq.gz may be cut: the end block of BGZF is missing"],
+    "small": ["all pairs were dropped"],
+    "lane": ["a<b>.gz & c.gz: the first reads of both sides have the number 1",
+             "s1_L001_R1.fq.gz may be cut: the end block of BGZF is missing"],
+}
+
+
 def main(kind, path):
     made = report(pairs_of(kind), 1 if kind == "one" else 36)
     if kind in ("plain", "lane", "small"):
         made["adapters"] = adapters(kind, made["pairs"]["input"])
+        made["warnings"] = WARNINGS[kind]
     elif kind == "none":
         made["adapters"] = None
     with open(path, "w", encoding="utf-8") as file:

@@ -101,6 +101,9 @@ python3 "$tree/tests/count.py" lane lane.json || exit 1
 "${page[@]}" --lane L001 plain.json --lane 'L<2' lane.json lanes.json > lanes.html || fail "status $?"
 check page lanes.json lanes.html || fail 'it is not that of the sum'
 grep -qF '<th scope="row">L&lt;2</th><td>20</td>' lanes.html || fail 'it lacks a lane'
+row='the warnings of a sum'
+[ "$(python3 -c 'import json; print(*json.load(open("lanes.json"))["warnings"], sep="\n")')" = "s1_L001_R1.fq.gz may be cut: the end block of BGZF is missing
+a<b>.gz & c.gz: the first reads of both sides have the number 1" ] || fail 'they are others'
 row='a sum that is larger than a count can be'
 sed 's/"score_sum":[0-9]*,/"score_sum":18446744073709551615,/' plain.json > most.json
 "$tibzharuk" sum most.json lane.json > sum.json || fail "status $?"

@@ -3,7 +3,6 @@
 import gzip
 import os
 import threading
-import time
 
 import pytest
 
@@ -56,7 +55,7 @@ class TestFasta(Files):
 
 class TestKnownAdapters(Files):
     def known(self, *names):
-        return known_adapters.word_on_adapters([self.put(*each) if isinstance(each, tuple) else each for each in names])
+        return known_adapters.word_on_adapters([[self.put(*each) if isinstance(each, tuple) else each for each in names]])
 
     @pytest.mark.parametrize("number, wanted", ((0, None), (1, None), (2, "2.0 % of the first 100 pairs"), (50, "50 % of the first 100 pairs")))
     def test_the_share_of_pairs(self, number, wanted):
@@ -71,12 +70,24 @@ class TestKnownAdapters(Files):
     def test_what_is_not_looked_at_too(self):
         assert self.known("/dev/null") is None
 
-    def test_members_and_time(self):
-        text = 5000 * READ
-        packed = self.put("f.gz", b"".join(gzip.compress(text[start:start + 999]) for start in range(0, len(text), 999)))
-        assert known_adapters.first_reads(packed, 4000, time.monotonic() + 60) == 4000 * [b"ACGT"]
-        assert known_adapters.first_reads(packed, 9000, time.monotonic() + 60) == 5000 * [b"ACGT"]
-        assert len(known_adapters.first_reads(packed, 9000, 0)) < 100
+    @pytest.mark.parametrize("size", (999, 1 << 16, 1 << 20))
+    def test_members_of_a_file(self, size):
+        text = b"\n\n" + 5000 * READ.replace(b"r", 50 * b"r")
+        packed = self.put("f.gz", b"".join(gzip.compress(text[start:start + size], 0) for start in range(0, len(text), size)) + bytes(9))
+        for name in packed, self.put("f", text), self.put("g", text[:-1]):
+            assert known_adapters.first_reads(name, 4000) == 4000 * [b"ACGT"]
+            assert known_adapters.first_reads(name, 9000) == 5000 * [b"ACGT"]
+
+    @pytest.mark.parametrize("most, reads", ((len(READ) - 1, 0), (len(READ), 1), (3 * len(READ) - 1, 2), (3 * len(READ), 3)))
+    def test_the_most_bytes_of_a_text(self, most, reads, monkeypatch):
+        monkeypatch.setattr(known_adapters, "MOST_BYTES", most)
+        assert known_adapters.first_reads(self.put("f", 9 * READ), 9) == reads * [b"ACGT"]
+
+    def test_lanes(self):
+        one, other = self.put("a", 3 * READ), self.put("b", 4 * READ)
+        mates = (b"ACGT", b"ACGT")
+        for lanes, pairs in (([[one, one], [other, other]], 7), ([[one, other]], 3), ([[one], [other]], 3), ([], 0)):
+            assert known_adapters.first_pairs(lanes) == pairs * [mates]
 
 
 class TestWholeLines:

@@ -305,8 +305,8 @@ class TestReport(Pieces):
         assert got["inputs"] == {"forward": ["a", "b"], "reverse": ["c", "d"]}
         wanted = dict(zip(report.OUTPUTS, ("p1", "u1", "p2", "u2", None)))
         assert got["outputs"] == wanted
-        assert list(got) == ["adapters", "command", "inputs", "outputs", "pairs"]
-        assert got["adapters"] is None
+        assert list(got) == ["adapters", "command", "inputs", "outputs", "pairs", "warnings"]
+        assert (got["adapters"], got["warnings"]) == (None, [])
         got = self.names(["-i", "\udcff.gz", "--trimlog", "log", "--interleaved", "-"] + unpaired)
         assert (got["command"], got["inputs"]) == ("IL", {"interleaved": "\ufffd.gz"})
         wanted = dict(zip(report.OUTPUTS, ("-", "u1", "-", "u2", "log")))

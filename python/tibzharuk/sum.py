@@ -5,8 +5,8 @@
 If each lane of a sample is trimmed by itself, and the outputs of the lanes are
 joined in order, they have the reads of one run over all lanes. The sum has the
 counts that the report of that run would have. It names the inputs of all
-REPORTs, in their order. It names the outputs that are given here, or otherwise
-those of all REPORTs.
+REPORTs, in their order, and has the warnings of all, each once. It names the
+outputs that are given here, or otherwise those of all REPORTs.
 
 The REPORTs must be of the same version, steps and settings, and of runs that
 read their inputs to the end. Otherwise nothing is printed, and one line on
@@ -40,7 +40,8 @@ OUTPUTS = {
 }
 # What must be the same in all reports. `schema` isn't in the first form of a report.
 SAME = ("schema", "program", "version", "command", "encoding", "name_check")
-ADDED = ("adapters", "inputs", "outputs", "outcome", "fault", "pairs", "reads", "steps")
+ADDED = (
+    "adapters", "inputs", "outputs", "outcome", "fault", "pairs", "reads", "steps", "warnings")
 SUMMARY = {
     "input": "Input Read Pairs",
     "both_surviving": "Both Surviving",
@@ -119,12 +120,15 @@ def added(first: Report, second: Report) -> Report:
         dict(one, **{side: added_counts(one[side], two[side]) for side in SIDES})
         for one, two in zip(first["steps"], second["steps"])
     ]
-    adapters = {}
+    of_trim: Dict[str, Any] = {}    # what only reports of tibzharuk trim have
     if "adapters" in first:
-        adapters["adapters"] = added_adapters(first["adapters"], second["adapters"])
+        of_trim["adapters"] = added_adapters(first["adapters"], second["adapters"])
+    if "warnings" in first or "warnings" in second:
+        told = first.get("warnings", []) + second.get("warnings", [])
+        of_trim["warnings"] = list(dict.fromkeys(told))
     return dict(
         first,
-        **adapters,
+        **of_trim,
         inputs=added_names(first["inputs"], second["inputs"]),
         outputs=added_names(first["outputs"], second["outputs"]),
         pairs=added_counts(first["pairs"], second["pairs"]),

@@ -319,6 +319,15 @@ def check_adapters(page, report):
         near(share, removed, removed + report["reads"][side]["before"]["bases"])
 
 
+def check_warnings(page, report):
+    """All that the run warned of is shown, and before everything but the title and the steps."""
+    warnings, text = report.get("warnings", []), page.text()
+    assert ("Warnings" in text) == bool(warnings)
+    assert not warnings or page.classes.index("note") < page.classes.index("cards")
+    for one in warnings:
+        assert one in text, one
+
+
 def check_page(report_path, page_path):
     with open(report_path, encoding="utf-8") as file:
         report = json.load(file)
@@ -348,6 +357,7 @@ def check_page(report_path, page_path):
             check_histogram(page, report, side, "% G and C", "reads with {} % G and C", "gc_percents")
         if "removed_front" in report["reads"][side]:
             check_removed(page, report, side)
+    check_warnings(page, report)
     high = any(report["reads"][side]["before"]["score_sum"] > 50 * report["reads"][side]["before"]["bases"] for side in SIDES)
     wanted = report["fault"] is not None or high
     assert ("fault" in page.classes) == wanted, "the warning at the top"

@@ -20,6 +20,7 @@ TREE = os.path.dirname(os.path.dirname(os.path.dirname(os.path.abspath(__file__)
 READS = ("forward_paired", "forward_unpaired", "reverse_paired", "reverse_unpaired")
 PAIRS = ("input", "both_surviving", "forward_only_surviving", "reverse_only_surviving", "dropped")
 PARTS = ("before", "paired", "unpaired")
+OPTIONAL = ({"adapters"}, {"warnings"})
 wrong = []
 
 
@@ -142,6 +143,7 @@ def of_command(report):
     several = copy.deepcopy(report)
     for part in "inputs", "outputs":
         several[part] = {name: [value, f"more {value}"] for name, value in several[part].items()}
+    several["warnings"] = ["f may be cut", "all pairs were dropped"]
     several["adapters"] = {
         "program": "cutadapt",
         "version": "4.2",
@@ -161,6 +163,8 @@ def check_command(schema):
             conforms(schema, report, path)
             if (report["adapters"] is not None) != has_adapters:
                 wrong.append(f"{path}: adapters is {report['adapters']}")
+            if report["warnings"]:
+                wrong.append(f"{path}: warnings is {report['warnings']}")
 
 
 def check_refusals(schema, reports):
@@ -168,8 +172,8 @@ def check_refusals(schema, reports):
     refused = 0
     for report in reports:
         for one, what in changed(report):
-            if set(report) - set(one) == {"adapters"}:
-                continue    # a report of fq_prog
+            if set(report) - set(one) in OPTIONAL:
+                continue    # such as a report of fq_prog
             refused += 1
             if schema.is_valid(one):
                 wrong.append(f"the schema takes a report that was changed: {what}")

@@ -180,7 +180,7 @@ REPORT = fields(
         "reads": fields({side: SIDE for side in SIDES}),
         "steps": each(fields({"step": text, "forward": DONE, "reverse": DONE})),
     },
-    {"schema": count, "adapters": or_null(ADAPTERS)},
+    {"schema": count, "adapters": or_null(ADAPTERS), "warnings": each(text)},
 )
 
 

@@ -38,6 +38,8 @@ def warnings(report: Report, before: Sides) -> str:
             said += " The qualities are probably Phred+64. If they are, trim again with "
             said += "<code>--encoding illumina13</code>."
         found.append(("fault", "The scores are too high", said))
+    if report.get("warnings"):
+        found.append(("note", "Warnings", "</p><p>".join(map(shown, report["warnings"]))))
     if not report["pairs"]["input"] and report["outcome"] == "finished":
         found.append(("note", "There are no pairs", "The inputs have no reads."))
     return "".join(

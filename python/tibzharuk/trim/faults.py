@@ -3,7 +3,7 @@
 import contextlib
 import os
 import signal
-from typing import Callable
+from typing import Callable, List
 
 # What ends a process, unless it is handled. Batch systems send SIGUSR1, SIGUSR2, SIGXCPU or SIGALRM
 # some time before they kill.
@@ -36,8 +36,12 @@ def say(text: str, start: str = "tibzharuk: ") -> None:
         write_all(2, f"{start}{text}\n".encode("utf-8", "surrogateescape"))
 
 
+warned: List[str] = []  # what this run warned of, for its report
+
+
 def warn(text: str) -> None:
     """Prints a line about what may be wrong, although the run goes on."""
+    warned.append(text)
     say(text, "tibzharuk: warning: ")
 
 

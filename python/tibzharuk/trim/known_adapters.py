@@ -1,9 +1,10 @@
 """Adapters that many libraries have: their names, and whether reads hold them."""
 
+import contextlib
+import itertools
 import os
-import time
 import zlib
-from typing import Dict, Iterator, List, NamedTuple, Optional, Tuple
+from typing import Dict, Iterator, List, NamedTuple, Optional, Sequence, Tuple
 
 from .fasta import read_fasta
 
@@ -11,12 +12,13 @@ from .fasta import read_fasta
 FILE = os.path.join(os.path.dirname(os.path.abspath(__file__)), "illumina_adapters.fa")
 MOST_PAIRS = 10_000
 FEW_READS = 2_000
-SECONDS = 0.1
+MOST_BYTES = 1 << 24    # of the text of a file
 MOST_PERCENT = 1
 # So many bases of an adapter are looked for. By chance they are in one of 100,000 reads of 150.
 BASES = 12
 PIECE = 1 << 16
-Pairs = List[Tuple[bytes, bytes]]     # the bases of both mates
+Pairs = List[Tuple[bytes, bytes]]       # the bases of both mates
+Lanes = Sequence[Sequence[str]]         # the files of each lane: one that is interleaved, or two
 
 
 class KnownAdapter(NamedTuple):
@@ -52,26 +54,33 @@ def pieces(name: str) -> Iterator[bytes]:
         member = zlib.decompressobj(31)
         while data:
             yield member.decompress(data)
-            data = member.unused_data if member.eof else file.read(PIECE)
+            data = member.unused_data or file.read(PIECE)
             if member.eof:
                 member = zlib.decompressobj(31)
 
 
-def first_reads(name: str, most: int, until: float, line: int = 1) -> List[bytes]:
-    """The bases of the first reads of a file, or their qualities (line 3), as many as can be read
-    by then. None, if its records aren't of four lines, or if it can't be read: the run will say
-    so."""
-    found, line_feeds = [], 0
-    try:
+def first_text(name: str, lines: int) -> bytes:
+    """The beginning of a file's text, with at least so many lines if it has them within MOST_BYTES,
+    and without empty lines before them. It ends at damage, of which the run will say more."""
+    text, left = bytearray(), lines
+    with contextlib.suppress(OSError, zlib.error):
         for piece in pieces(name):
-            found.append(piece)
-            line_feeds += piece.count(b"\n")
-            if line_feeds >= 4 * most or time.monotonic() > until:
+            piece = piece if text else piece.lstrip(b"\r\n")
+            text += piece
+            left -= piece.count(b"\n")
+            if left <= 0 or len(text) >= MOST_BYTES:
                 break
-    except (OSError, zlib.error):
-        return []
-    lines = b"".join(found).split(b"\n")
-    reads = min(line_feeds // 4, most)
+        else:
+            text += b"\n"   # a last line needs none
+    return bytes(text[:MOST_BYTES])
+
+
+def first_reads(name: str, most: int, line: int = 1) -> List[bytes]:
+    """The bases of the first reads of a file, or their qualities (line 3). The list is empty if its
+    records aren't of four lines."""
+    text = first_text(name, 4 * most)
+    lines = text.split(b"\n")
+    reads = min(text.count(b"\n") // 4, most)
     if not all(line.startswith(b"@") for line in lines[:4 * reads:4]):
         return []
     if not all(line.startswith(b"+") for line in lines[2:4 * reads:4]):
@@ -79,57 +88,75 @@ def first_reads(name: str, most: int, until: float, line: int = 1) -> List[bytes
     return lines[line:4 * reads:4]
 
 
-def first_pairs(files: List[str]) -> Pairs:
-    """The bases of the first pairs, of one interleaved file or of two files."""
-    begun = time.monotonic()
-    if len(files) == 1:
-        reads = first_reads(files[0], 2 * MOST_PAIRS, begun + SECONDS)
-        return list(zip(reads[::2], reads[1::2]))
-    forward = first_reads(files[0], MOST_PAIRS, begun + SECONDS / 2)
-    return list(zip(forward, first_reads(files[1], MOST_PAIRS, begun + SECONDS)))
+def first_pairs(lanes: Lanes) -> Pairs:
+    """The bases of the first pairs of all lanes."""
+    pairs: Pairs = []
+    for files in lanes:
+        most = MOST_PAIRS - len(pairs)
+        if most and len(files) == 1:
+            reads = first_reads(files[0], 2 * most)
+            pairs += zip(reads[::2], reads[1::2])
+        elif most:
+            pairs += zip(first_reads(files[0], most), first_reads(files[1], most))
+    return pairs
 
 
-def word_on_scores(files: List[str]) -> Optional[str]:
+def word_on_scores(files: Sequence[str]) -> Optional[str]:
     """A line if the qualities of the first reads are those of Phred+64: none is below 26 as Sanger
     reads them, and one is above 50, which no sequencer gives. `files` are the first of each
     side."""
-    until = time.monotonic() + SECONDS / 2
     for name in files:
         if not os.path.isfile(name):
             continue
-        scores = b"".join(first_reads(name, FEW_READS, until, 3)).replace(b"\r", b"")
+        scores = b"".join(first_reads(name, FEW_READS, 3)).replace(b"\r", b"")
         if scores and min(scores) >= 59 and max(scores) > 83:
             return (f"the scores of {name} go up to {max(scores) - 33}, so its qualities are "
                     "probably Phred+64: use --encoding illumina13")
     return None
 
 
-def is_many(count: int, pairs: Pairs) -> bool:
-    return 100 * count > MOST_PERCENT * len(pairs)
+class Share(NamedTuple):
+    """Known adapters, and how many of the first pairs hold one of them."""
+
+    name: str
+    found: int
+    pairs: int
+
+    def is_large(self) -> bool:
+        return 100 * self.found > MOST_PERCENT * self.pairs
+
+    def __str__(self) -> str:
+        percent = 100 * self.found / self.pairs
+        return f"{percent:.0f} %" if percent >= 10 else f"{percent:.1f} %"
 
 
-def pairs_with(known: KnownAdapter, pairs: Pairs) -> int:
-    """How many pairs hold an adapter, or, if these are few, how often the adapter is found, which
-    is counted in half of the time."""
+def share_of(known: KnownAdapter, pairs: Pairs, texts: Sequence[bytes]) -> Share:
+    """How many pairs hold known adapters, exactly if it is a large share. `texts` are the joined
+    reads of each side, in which they are counted in half of the time."""
     forward, reverse = (known[place][:BASES].encode() for place in (1, 2))
-    found = sum(b"\n".join(reads).count(sequence)
-                for reads, sequence in zip(zip(*pairs), (forward, reverse)))
-    if not is_many(found, pairs):
-        return found
-    return sum(forward in one or reverse in other for one, other in pairs)
+    found = sum(text.count(bases) for text, bases in zip(texts, (forward, reverse)))
+    share = Share(known.name, found, len(pairs))
+    if not share.is_large():
+        return share
+    holding = sum(forward in one or reverse in other for one, other in pairs)
+    return share._replace(found=holding)
 
 
-def word_on_adapters(files: List[str]) -> Optional[str]:
-    """A line if many of the first pairs hold a known adapter. `files` are the first of each
-    side."""
-    if not all(os.path.isfile(name) for name in files):
+def largest_share(pairs: Pairs) -> Share:
+    """The known adapters that most of these pairs hold."""
+    texts = [b"\n".join(reads) for reads in zip(*pairs)]
+    shares = [share_of(known, pairs, texts) for known in known_adapters().values()]
+    return max(shares, key=lambda share: share.found)
+
+
+def word_on_adapters(lanes: Lanes) -> Optional[str]:
+    """A line if many of the first pairs hold a known adapter. Pipes aren't looked into."""
+    share = largest_share(first_pairs(list(itertools.takewhile(are_files, lanes))))
+    if not share.is_large():
         return None
-    pairs = first_pairs(files)
-    counts = {known.name: pairs_with(known, pairs) for known in known_adapters().values()}
-    name = max(counts, key=lambda each: counts[each])
-    if not is_many(counts[name], pairs):
-        return None
-    percent = 100 * counts[name] / len(pairs)
-    share = f"{percent:.0f}" if percent >= 10 else f"{percent:.1f}"
-    return (f"{share} % of the first {len(pairs):,} pairs hold an adapter that "
-            f"--adapters {name} removes")
+    return (f"{share} of the first {share.pairs:,} pairs hold an adapter that "
+            f"--adapters {share.name} removes")
+
+
+def are_files(names: Sequence[str]) -> bool:
+    return all(map(os.path.isfile, names))

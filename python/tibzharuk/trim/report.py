@@ -4,7 +4,7 @@ import os
 from typing import Any, Dict, List, Optional, Sequence, Union
 
 from .arguments import Arguments
-from .faults import Fault
+from .faults import Fault, warned
 from .files import readable
 
 OUTPUTS = {
@@ -40,10 +40,11 @@ def counts_of(data: bytes) -> Dict[str, Any]:
 
 def of_call(counts: Dict[str, Any], arguments: Arguments,
             adapters: Optional[Dict[str, Any]]) -> bytes:
-    """The program's report as that of the user's call, with what cutadapt removed before: the
-    program has read and written pipes and hidden files."""
+    """The program's report as that of the user's call, with what cutadapt removed before, and what
+    was warned of: the program has read and written pipes and hidden files."""
     import json
-    report: Dict[str, Any] = {"adapters": adapters, **counts}
+    told = [readable(text) for text in warned]
+    report: Dict[str, Any] = {"adapters": adapters, "warnings": told, **counts}
     if arguments.both:
         report["command"] = "IL"
         report["inputs"] = {"interleaved": one_or_all(arguments.both)}
@@ -56,7 +57,8 @@ def of_call(counts: Dict[str, Any], arguments: Arguments,
     for field, role in OUTPUTS.items():
         name = arguments.outputs.get(arguments.written_as(role))
         report["outputs"][field] = None if name is None else readable(name)
-    return (json.dumps(report, ensure_ascii=False, separators=(",", ":")) + "\n").encode()
+    text = json.dumps(report, ensure_ascii=False, sort_keys=True, separators=(",", ":"))
+    return (text + "\n").encode()
 
 
 def stem(name: str, endings: Sequence[str]) -> str:

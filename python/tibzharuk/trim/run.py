@@ -162,9 +162,9 @@ class Run:
     def look_at_reads(self) -> None:
         """Says if the first pairs hold known adapters, but none are named, or if their scores are
         those of another encoding. The children work meanwhile."""
-        first = [side.names[0] for side in self.sides]
-        words = [] if self.arguments.names_adapters() else [word_on_adapters(first)]
-        words += [] if self.arguments.encoding else [word_on_scores(first)]
+        lanes = list(zip(*(side.names for side in self.sides)))
+        words = [] if self.arguments.names_adapters() else [word_on_adapters(lanes)]
+        words += [] if self.arguments.encoding else [word_on_scores(lanes[0])]
         for word in words:
             if word:
                 warn(word)
@@ -282,14 +282,14 @@ class Run:
             child = self.family.next_end()
             if child.name in self.outputs:
                 self.end_writer(self.outputs[child.name], child.ended())
+        self.progress.wipe()
+        self.warn()
         texts = self.own_texts()
         with self.family.heeding_signals():
             for role, text in texts.items():
                 self.write(self.outputs[role], text)
             for output in self.outputs.values():
                 output.sync()
-        self.progress.wipe()
-        self.warn()
         named = give_names(self.outputs.values())
         try:
             with self.family.heeding_signals():
@@ -301,8 +301,9 @@ class Run:
 
     def warn(self) -> None:
         """Says what may be wrong, although all went well."""
-        for name in self.without_end:
-            no_end(name, self.arguments.needs_end)
+        for name in self.arguments.inputs():
+            if name in self.without_end:
+                no_end(name, self.arguments.needs_end)
         if self.cutadapt and self.cutadapt.removed_all():
             warn("cutadapt removed all pairs")
         elif self.pairs_taken() == 0:
